@@ -1,0 +1,4 @@
+pub mod CallRow
+pub mod Check
+pub mod InputValue
+pub mod Status

@@ -1,0 +1,71 @@
+// Which call it is.
+ghost use Rattle.std.specs.Prelude.{◌≡◌};
+ghost use Rattle.hv_abi.specs.CallRow.{row_of, kind_of, fits_registers, input_len, output_len};
+
+use crate::call_row::{CallRow, GET_MEMORY_BALANCE, GET_PARTITION_ID};
+
+/// A hypercall of the profile, under the TLFS's name without its prefix `Hv`.
+#[derive(Clone, Copy, PartialEq, Eq, Debug)]
+pub enum CallKind {
+    GetPartitionId,
+    GetMemoryBalance,
+}
+
+/// Every call of the profile, by rising code.
+pub const ALL_CALLS: [CallKind; 2] = [CallKind::GetPartitionId, CallKind::GetMemoryBalance];
+
+impl CallKind {
+    /// The call with this code, or `None` where the profile has none.
+    pub fn of(code: u16) -> Option<CallKind>
+        ensures kind { result ≡ kind_of code }
+        ensures every { (call : CallKind) → (row_of call).code ≡ code → result ≡ Some call }
+    {
+        ALL_CALLS.into_iter().find(|kind| kind.code() == code)
+    }
+
+    /// The call's row in the table.
+    pub fn row(self) -> CallRow
+        ensures { result ≡ row_of self }
+    {
+        match self {
+            CallKind::GetPartitionId => GET_PARTITION_ID,
+            CallKind::GetMemoryBalance => GET_MEMORY_BALANCE,
+        }
+    }
+
+    /// The call code, bits 15:0 of an input value.
+    pub fn code(self) -> u16
+        ensures { result ≡ (row_of self).code }
+    {
+        self.row().code
+    }
+
+    /// Whether it is a rep call, one element of whose lists is served at a time.
+    pub fn is_rep(self) -> bool
+        ensures { result ≡ (row_of self).rep }
+    {
+        self.row().rep
+    }
+
+    /// Whether it accepts the fast bit, with its input in RDX and R8.
+    pub fn accepts_fast(self) -> bool
+        ensures row { result ≡ (row_of self).fast }
+        ensures rule { result ≡ fits_registers (row_of self) }
+    {
+        self.row().fast
+    }
+
+    /// How many bytes the input list has, header and elements. A simple call's rep count is 0.
+    pub fn input_len(self, reps: u16) -> u32
+        ensures { result ≡ input_len (row_of self) reps }
+    {
+        self.row().input_len(reps)
+    }
+
+    /// How many bytes the output list has. A simple call's rep count is 0.
+    pub fn output_len(self, reps: u16) -> u32
+        ensures { result ≡ output_len (row_of self) reps }
+    {
+        self.row().output_len(reps)
+    }
+}

@@ -1,0 +1,155 @@
+// Frames and their check.
+ghost use Rattle.std.specs.Prelude.{◌≡◌, ◌<◌, IfOk, IfErr, slice_index};
+ghost use Rattle.hv_abi.specs.Check.{is_input_valid, is_placed};
+ghost use Rattle.hv_abi.specs.InputValue.{input_value, restarted};
+
+use crate::bytes::Bytes;
+use crate::call_kind::CallKind;
+use crate::call_row::CallRow;
+use crate::input_value::InputValue;
+use hv_defs::PAGE_SIZE;
+use std::alloc::{AllocError, Allocator};
+
+/// What a guest hands over with one hypercall: three registers and the bytes of its input list (TLFS 4.0,
+/// "Hypercall Interface").
+#[derive(Drop)]
+pub struct Frame<A: Allocator> {
+    /// The input value.
+    pub rcx: u64,
+    /// The guest physical address of the input list; of a fast call the first 8 bytes of input.
+    pub rdx: u64,
+    /// The guest physical address of the output list; of a fast call the second 8 bytes of input.
+    pub r8: u64,
+    /// The bytes at the input list's address. Those that are missing at the end read as zero, and those
+    /// of a fast call aren't read.
+    pub input: Bytes<A>,
+}
+
+/// What the input value of an accepted frame says.
+#[derive(Clone, Copy, PartialEq, Eq, Debug)]
+pub struct Shape {
+    pub kind: CallKind,
+    /// Whether the input stands in RDX and R8.
+    pub fast: bool,
+    /// The rep count, from 1 to 4,095, and 0 for a simple call.
+    pub reps: u16,
+    /// The rep start index, below the rep count, and 0 for a simple call.
+    pub start: u16,
+}
+
+/// What is wrong with a frame first. The faults are looked for in the order of the variants.
+#[derive(Clone, Copy, PartialEq, Eq, Debug)]
+pub enum AbiFault {
+    /// Rule P4: no call of the profile has this code.
+    UnknownCode,
+    /// Rule P5: a reserved bit is set, the fast bit is set on a call that doesn't accept it, a simple call
+    /// has a rep count or start index, or a rep call has no reps or starts at or past their count.
+    Input,
+    /// Rule P6: the call isn't fast, and a list that isn't empty stands at an address that is no multiple
+    /// of 8, or crosses a page.
+    Alignment,
+}
+
+impl<A: Allocator> Frame<A> {
+    ghost use Rattle.hv_abi.specs.Check.{IsShape, are_lists_placed, first_fault, input_of};
+
+    /// Accepts a frame of a call, or names its first fault.
+    pub fn check(&self) -> Result<Shape, AbiFault>
+        ensures shape { IfOk result (IsShape self.now) }
+        ensures only { (s : Shape) → IsShape self.now s → result ≡ Ok s }
+        ensures fault { IfErr result (λ e. first_fault self.now ≡ Some e) }
+    {
+        let value = InputValue::read(self.rcx);
+        let Some(kind) = CallKind::of(value.call) else {
+            return Err(AbiFault::UnknownCode);
+        };
+        let row = kind.row();
+        if !takes_input(row, self.rcx) {
+            return Err(AbiFault::Input);
+        }
+        if !self.places_lists(row) {
+            return Err(AbiFault::Alignment);
+        }
+        Ok(Shape {
+            kind,
+            fast: value.fast,
+            reps: value.reps,
+            start: value.start,
+        })
+    }
+
+    // Whether the lists of a call with this row may stand at their addresses.
+    fn places_lists(&self, row: CallRow) -> bool
+        ensures { result ≡ are_lists_placed row self.now }
+    {
+        let InputValue { fast, reps, .. } = InputValue::read(self.rcx);
+        fast || may_stand(self.rdx, row.input_len(reps)) && may_stand(self.r8, row.output_len(reps))
+    }
+
+    /// The input's byte at a place counted from 0, or 0 past its end. The input of a fast frame is RDX
+    /// and then R8, little-endian. The shape is to be this frame's, from [`Frame::check`].
+    pub fn byte(&self, shape: &Shape, at: usize) -> u8
+        ensures { result ≡ slice_index (input_of self.now shape.now.fast) at }
+    {
+        if !shape.fast {
+            return self.input.byte(at);
+        }
+        match at {
+            0..8 => self.rdx.to_le_bytes()[at],
+            8..16 => self.r8.to_le_bytes()[at - 8],
+            _ => 0,
+        }
+    }
+
+    /// The same frame with another rep start index, below 4,096.
+    pub fn with_start(self, start: u16) -> Frame<A>
+        requires { start < 4096 }
+        ensures frame { result ≡ record self { rcx = restarted self.rcx start } }
+        ensures fields { input_value result.rcx ≡ record (input_value self.rcx) { start = start } }
+    {
+        Frame {
+            rcx: (self.rcx & LOW_48_BITS) + (u64::from(start) << 48) + (self.rcx >> 60 << 60),
+            rdx: self.rdx,
+            r8: self.r8,
+            input: self.input,
+        }
+    }
+}
+
+// The bits of an input value below its rep start index.
+const LOW_48_BITS: u64 = 0xFFFF_FFFF_FFFF;
+
+impl<A: Allocator + Clone> Frame<A> {
+    /// A second frame that is equal, on the same allocator.
+    pub fn copy(&self) -> Result<Frame<A>, AllocError>
+        ensures { IfOk result (λ f. f ≡ self.now) }
+    {
+        let input = self.input.copy()?;
+        Ok(Frame {
+            rcx: self.rcx,
+            rdx: self.rdx,
+            r8: self.r8,
+            input,
+        })
+    }
+}
+
+// Whether a call with this row takes the input value.
+fn takes_input(row: CallRow, rcx: u64) -> bool
+    ensures { result ≡ is_input_valid row rcx }
+{
+    let value = InputValue::read(rcx);
+    let reps_valid = if row.rep {
+        value.reps >= 1 && value.start < value.reps
+    } else {
+        value.reps == 0 && value.start == 0
+    };
+    value.reserved_zero && (!value.fast || row.fast) && reps_valid
+}
+
+// Whether a list of `len` bytes may stand at an address: anywhere if it is empty.
+fn may_stand(address: u64, len: u32) -> bool
+    ensures { result ≡ is_placed address len }
+{
+    len == 0 || address % 8 == 0 && address % PAGE_SIZE + u64::from(len) <= PAGE_SIZE
+}

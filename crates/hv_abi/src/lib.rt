@@ -1,0 +1,25 @@
+//! The binary interface of hypercalls (TLFS 4.0, "Hypercall Interface"): input and result values, status
+//! values, the calls' codes and list lengths, and frames.
+//!
+//! A frame is what a guest hands over with one hypercall. [`Frame::check`] accepts exactly the frames
+//! whose input value and list addresses are those of a call, and names the first fault of every other.
+//! No call here takes memory but [`Frame::copy`] and [`Bytes::copy`].
+#![tactic(auto)]
+
+mod bytes;
+mod call_kind;
+mod call_row;
+mod frame;
+mod input_value;
+mod result_value;
+mod status;
+#[cfg(test)]
+mod tests;
+
+pub use bytes::Bytes;
+pub use call_kind::{ALL_CALLS, CallKind};
+pub use call_row::CallRow;
+pub use frame::{AbiFault, Frame, Shape};
+pub use input_value::InputValue;
+pub use result_value::ResultValue;
+pub use status::Status;

@@ -1,0 +1,20 @@
+//! The words that several crates of the partition manager name alike: life states, kinds of ports,
+//! the sizes and charges of the profile, and the registers of a virtual processor.
+//!
+//! The definitions of `specs/` that more than one crate cites stand here too: a little-endian field
+//! of a block of bytes, bits of a register value, and the registers with which a processor starts.
+//! The crate has no logic.
+#![tactic(auto)]
+
+mod life;
+mod port_kind;
+mod registers;
+mod sizes;
+
+pub use life::Life;
+pub use port_kind::PortKind;
+pub use registers::{REGISTERS, RegisterRow, VP_INDEX};
+pub use sizes::{
+    CONNECTION_CHARGE, CPU_CAP_START, CPU_RESERVE_START, CPU_WEIGHT_START, FIRST_CHILD_ID,
+    MAX_PAGES, MAX_VPS, PAGE_SIZE, PARTITION_CHARGE, PORT_CHARGE, ROOT_ID, SELF_ID, VP_CHARGE,
+};

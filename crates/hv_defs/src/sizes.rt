@@ -1,0 +1,40 @@
+// The numbers of the profile.
+
+/// Bytes of a page. A page is named by its number, counted from 0.
+pub const PAGE_SIZE: u64 = 4096;
+
+/// Most pages that boot may give.
+pub const MAX_PAGES: u32 = 65_536;
+
+/// Most virtual processors of a partition. Their indexes are below this.
+pub const MAX_VPS: u32 = 64;
+
+/// The id by which a caller names its own partition (HV_PARTITION_ID_SELF).
+pub const SELF_ID: u64 = u64::MAX;
+
+/// The root partition's id.
+pub const ROOT_ID: u64 = 1;
+
+/// The id of the first partition that is made after boot. Ids rise by 1 and are never used again.
+pub const FIRST_CHILD_ID: u64 = 2;
+
+/// Pages of its parent's pool that a partition uses. The charges are this project's own.
+pub const PARTITION_CHARGE: u64 = 2;
+
+/// Pages of its partition's pool that a virtual processor uses.
+pub const VP_CHARGE: u64 = 4;
+
+/// Pages of its partition's pool that a port uses.
+pub const PORT_CHARGE: u64 = 1;
+
+/// Pages of its partition's pool that a connection uses.
+pub const CONNECTION_CHARGE: u64 = 1;
+
+/// The CPU reserve with which a partition starts, of 65,536.
+pub const CPU_RESERVE_START: u64 = 0;
+
+/// The CPU cap with which a partition starts, of 65,536.
+pub const CPU_CAP_START: u64 = 65_536;
+
+/// The CPU weight with which a partition starts, of 1 to 10,000.
+pub const CPU_WEIGHT_START: u64 = 100;

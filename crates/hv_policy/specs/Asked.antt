@@ -1,0 +1,34 @@
+-- Which rules are asked of an event, and in which order.
+use Rattle.std.specs.Prelude.{List, [], ◌∷◌, ◌++◌, Option, None, Some}
+use Rattle.hv_abi.specs.declared.call_kind.CallKind.{CallKind}
+use Rattle.hv_policy.specs.declared.event.Action.{Action}
+use Rattle.hv_policy.specs.declared.event.Action.TheVariants.{Hypercall}
+use Rattle.hv_policy.specs.declared.event.Event.{Event}
+use Rattle.hv_policy.specs.declared.rule.Rule.{Rule}
+use Rattle.hv_policy.specs.declared.rule.Rule.TheVariants.{CallerExists, CallerActive, CallerVpExists, CallCode, InputValue, Alignment, Parameters, Privilege, TargetExists, Kinship}
+use Rattle.hv_policy.specs.Call.{served_call}
+use Rattle.hv_policy.specs.Needs.{further_rules}
+
+-- P1 to P3, which every event is asked
+abbrev pub caller_rules : List Rule
+caller_rules = CallerExists ∷ CallerActive ∷ CallerVpExists ∷ []
+
+-- P4 to P7, which look at a call's frame alone
+abbrev pub frame_rules : List Rule
+frame_rules = CallCode ∷ InputValue ∷ Alignment ∷ Parameters ∷ []
+
+-- P8 to P10, which ask whether the caller may call it on this target
+abbrev pub right_rules : List Rule
+right_rules = Privilege ∷ TargetExists ∷ Kinship ∷ []
+
+-- the rules of a call: of one that isn't served P4 alone
+abbrev pub call_rules : Option CallKind → List Rule
+call_rules None = CallCode ∷ []
+call_rules (Some call) = frame_rules ++ (right_rules ++ further_rules call)
+
+abbrev pub action_rules : {A : Type 0} → Action A → List Rule
+action_rules (Hypercall frame) = call_rules (served_call frame)
+
+-- the rules that are asked of an event, rising
+abbrev pub asked : {A : Type 0} → Event A → List Rule
+asked event = caller_rules ++ action_rules event.what

@@ -1,0 +1,77 @@
+-- The flat state: finite maps of rows, without trees, queues or sizes kept.
+use Rattle.std.specs.Prelude.{ℕ, Bool, List, Option}
+use Rattle.std.specs.Ordering.{nat_cmp, ordering_then}
+use Rattle.std.specs.declared.cmp.Ordering.{Ordering}
+use Rattle.std.specs.FinMap.{FinMap}
+use Rattle.std.specs.FinSet.{FinSet}
+use Rattle.hv_defs.specs.declared.life.Life.{Life}
+use Rattle.hv_defs.specs.declared.port_kind.PortKind.{PortKind}
+use Rattle.hv_privs.specs.declared.Privileges.{Privileges}
+
+-- pairs in order, as (partition, number)
+abbrev pub pair_cmp : ℕ × ℕ → ℕ × ℕ → Ordering
+pair_cmp a b = ordering_then (nat_cmp a.0 b.0) (nat_cmp a.1 b.1)
+
+-- a partition: its parent, none for the root, its life state, its mask and its CPU properties
+pub record PartRow : Type 0 where
+  pub parent : Option ℕ
+  pub life : Life
+  pub mask : Privileges
+  pub reserve : ℕ
+  pub cap : ℕ
+  pub weight : ℕ
+
+-- a page: the partition that holds it, and whether it is pooled there or loose
+pub record PageRow : Type 0 where
+  pub owner : ℕ
+  pub pooled : Bool
+
+-- a virtual processor: its registers by name, the event flags that are set, as (SINT, flag), and the
+-- vectors that are pending
+pub record VpRow : Type 0 where
+  pub registers : FinMap nat_cmp ℕ
+  pub flags : FinSet pair_cmp
+  pub pending : FinSet nat_cmp
+
+-- a port: what it takes, the partition that may connect, the SINT and the processor it aims at, the first
+-- of its event flags and their count, and the count of served events that its making gave
+pub record PortRow : Type 0 where
+  pub kind : PortKind
+  pub peer : ℕ
+  pub sint : ℕ
+  pub vp : ℕ
+  pub base : ℕ
+  pub count : ℕ
+  pub born : ℕ
+
+-- a connection: the partition and id of its port, and the port's kind and birth when it was made
+pub record ConnRow : Type 0 where
+  pub part : ℕ
+  pub port : ℕ
+  pub kind : PortKind
+  pub born : ℕ
+
+-- a message that stands at a SINT of a processor: the port and birth through which it came, its type and
+-- payload, and whether it is shown in the slot or waits
+pub record MailRow : Type 0 where
+  pub part : ℕ
+  pub vp : ℕ
+  pub sint : ℕ
+  pub port : ℕ
+  pub born : ℕ
+  pub type : ℕ
+  pub payload : List ℕ
+  pub shown : Bool
+
+-- partitions by id, pages by number, processors by (partition, index), ports by (partition, id),
+-- connections by (partition, id), messages in order of posting, the id that the next partition gets, and
+-- how many events were served
+pub record Flat : Type 0 where
+  pub part : FinMap nat_cmp PartRow
+  pub page : FinMap nat_cmp PageRow
+  pub vp : FinMap pair_cmp VpRow
+  pub port : FinMap pair_cmp PortRow
+  pub conn : FinMap pair_cmp ConnRow
+  pub mail : List MailRow
+  pub next : ℕ
+  pub served : ℕ

@@ -1,0 +1,12 @@
+pub mod Answer
+pub mod Asked
+pub mod Boot
+pub mod Call
+pub mod Count
+pub mod Effect
+pub mod Flat
+pub mod Met
+pub mod Needs
+pub mod Result
+pub mod Rule
+pub mod Step

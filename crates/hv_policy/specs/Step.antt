@@ -1,0 +1,53 @@
+-- The flat machine.
+use Rattle.std.specs.Prelude.{not, List, [], ◌∷◌, Option, None, Some, find}
+use Rattle.hv_abi.specs.declared.status.Status.{Status}
+use Rattle.hv_abi.specs.declared.frame.Frame.{Frame}
+use Rattle.hv_policy.specs.declared.config.Config.{Config}
+use Rattle.hv_policy.specs.declared.event.Action.{Action}
+use Rattle.hv_policy.specs.declared.event.Action.TheVariants.{Hypercall}
+use Rattle.hv_policy.specs.declared.event.Event.{Event}
+use Rattle.hv_policy.specs.declared.reply.Reply.{Reply}
+use Rattle.hv_policy.specs.declared.reply.Reply.TheVariants.{Denied, Fault}
+use Rattle.hv_policy.specs.declared.rule.Rule.{Rule}
+use Rattle.hv_policy.specs.Answer.{answer}
+use Rattle.hv_policy.specs.Asked.{asked}
+use Rattle.hv_policy.specs.Boot.{boot}
+use Rattle.hv_policy.specs.Call.{served_call}
+use Rattle.hv_policy.specs.Effect.{effect}
+use Rattle.hv_policy.specs.Flat.{Flat}
+use Rattle.hv_policy.specs.Met.{met}
+use Rattle.hv_policy.specs.Result.{refused_reps}
+use Rattle.hv_policy.specs.Rule.{rule_status}
+
+-- the first of these rules that isn't met, if there is one
+abbrev pub first_unmet : {A : Type 0} → Flat → Event A → List Rule → Option Rule
+first_unmet f event rules = find (λ rule. not (met rule f event)) rules
+
+-- the first rule that is asked and isn't met
+abbrev pub unmet : {A : Type 0} → Flat → Event A → Option Rule
+unmet f event = first_unmet f event (asked event)
+
+abbrev pub denied_with : {A : Type 0} → Frame A → Rule → Option Status → Reply
+denied_with frame rule None = Fault rule
+denied_with frame rule (Some status) = Denied rule status (refused_reps frame)
+
+-- the reply to an event that a rule refuses: a call is denied with the rule's status
+abbrev pub refusal : {A : Type 0} → Action A → Rule → Reply
+refusal (Hypercall frame) rule = denied_with frame rule (rule_status rule (served_call frame))
+
+abbrev pub step_by : {A : Type 0} → Flat → Event A → Option Rule → Flat × Reply
+step_by f event None = (effect f event, answer f event)
+step_by f event (Some rule) = (f, refusal event.what rule)
+
+-- one event: served where all its rules are met, else refused by the first unmet one, with nothing changed
+abbrev pub step : {A : Type 0} → Flat → Event A → Flat × Reply
+step f event = step_by f event (unmet f event)
+
+abbrev pub run_from : {A : Type 0} → Flat → List (Event A) → Flat × List Reply
+run_from f [] = (f, [])
+run_from f (event ∷ events) =
+    ((run_from (step f event).0 events).0, (step f event).1 ∷ (run_from (step f event).0 events).1)
+
+-- the events one after another from boot, with the list of replies
+abbrev pub run : {A : Type 0} → Config → List (Event A) → Flat × List Reply
+run config events = run_from (boot config) events

@@ -1,0 +1,16 @@
+// What boot gives.
+
+use hv_privs::Privileges;
+
+/// What the root partition is given at boot.
+#[derive(Clone, Copy, PartialEq, Eq, Debug)]
+pub struct Config {
+    /// How many pages there are, 1 to 65,536. Their numbers count from 0.
+    pub pages: u32,
+    /// How many of them, from page 0 on, are the root's pool. The others are its loose pages.
+    pub pool: u32,
+    /// How many virtual processors the root has, 1 to 64. Their indexes count from 0.
+    pub vps: u32,
+    /// The root's privilege mask.
+    pub mask: Privileges,
+}

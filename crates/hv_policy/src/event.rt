@@ -1,0 +1,25 @@
+// What happens, one at a time.
+
+use hv_abi::Frame;
+use std::alloc::Allocator;
+
+/// The virtual processor that asks: its partition's id, and its index there.
+#[derive(Clone, Copy, PartialEq, Eq, Debug)]
+pub struct Caller {
+    pub part: u64,
+    pub vp: u32,
+}
+
+/// What a virtual processor asks for.
+#[derive(Drop)]
+pub enum Action<A: Allocator> {
+    /// One simple hypercall, or the element of a rep hypercall at its start index.
+    Hypercall(Frame<A>),
+}
+
+/// One event: a simple hypercall, or one element of a rep hypercall.
+#[derive(Drop)]
+pub struct Event<A: Allocator> {
+    pub by: Caller,
+    pub what: Action<A>,
+}

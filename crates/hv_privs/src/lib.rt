@@ -1,0 +1,167 @@
+//! A partition's privileges: the mask of 64 bits that says what the partition may ask of the hypervisor.
+//!
+//! The bits and their names are those of HV_PARTITION_PRIVILEGE_MASK (TLFS 4.0, "Partition Privilege
+//! Flags", in the chapter on partition properties). Which hypercall or register needs which privilege
+//! is not said here.
+//!
+//! Every function takes every mask, and keeps the bits that have no name. A comparison or an intersection
+//! is stated twice: as a test or a mask that computes, and bit by bit.
+#![tactic(auto)]
+
+ghost use Rattle.std.specs.Prelude.{⊤, ℕ, ◌≡◌, ◌↔◌, IsTrue, [], ◌∷◌, codes};
+
+use bitflags::{Flag, Flags, bitflag_items};
+
+/// A set of privileges. Only the named bits give any right; a mask holds the others as they came.
+#[derive(Clone, Copy, PartialEq, Eq, Debug)]
+pub struct Privileges(u64);
+
+bitflag_items! {
+    impl Privileges: u64 {
+        const ACCESS_SYNIC_REGS = 1 << 2;
+        const ACCESS_VP_INDEX = 1 << 6;
+        const CREATE_PARTITIONS = 1 << 32;
+        const ACCESS_PARTITION_ID = 1 << 33;
+        const ACCESS_MEMORY_POOL = 1 << 34;
+        const POST_MESSAGES = 1 << 36;
+        const SIGNAL_EVENTS = 1 << 37;
+        const CREATE_PORT = 1 << 38;
+        const CONNECT_PORT = 1 << 39;
+    }
+}
+
+impl Privileges {
+    /// What a new partition can have of its creator's privileges: enough to use its own processors, to
+    /// post messages and to signal events, and no more. This project's own choice.
+    pub const NEW_PARTITION: Privileges = Privileges(
+        Self::ACCESS_SYNIC_REGS.0
+            | Self::ACCESS_VP_INDEX.0
+            | Self::POST_MESSAGES.0
+            | Self::SIGNAL_EVENTS.0,
+    );
+}
+
+// The number by which scripts and tables know that mask.
+const _: () = prove!(Privileges::NEW_PARTITION.0 == 0x0000_0030_0000_0044);
+
+impl Privileges {
+    ghost use Rattle.hv_privs.specs.Privileges.{bits_of, of, HasBit, IsSubset, contains, restrict};
+
+    /// The mask with exactly these bits, named or not.
+    pub fn of(bits: u64) -> Privileges
+        ensures { result ≡ of bits }
+    {
+        Privileges::from_bits_retain(bits)
+    }
+
+    /// The mask as the 64 bits of a property or a register.
+    pub fn bits(self) -> u64
+        ensures { result ≡ bits_of self }
+    {
+        Flags::bits(&self)
+    }
+
+    /// Whether each bit of `other` is set here too.
+    pub fn contains(self, other: Privileges) -> bool
+        ensures test { result ≡ contains self other }
+        ensures bits { IsTrue result ↔ IsSubset other self }
+    {
+        Flags::contains(&self, other)
+    }
+
+    /// Whether each bit that is set here is set in `other` too.
+    pub fn is_within(self, other: Privileges) -> bool
+        ensures test { result ≡ contains other self }
+        ensures bits { IsTrue result ↔ IsSubset self other }
+    {
+        other.contains(self)
+    }
+
+    /// The bits that are set both here and in `to`.
+    pub fn restrict(self, to: Privileges) -> Privileges
+        ensures mask { result ≡ restrict self to }
+        ensures bits { (k : ℕ) → HasBit result k ↔ (HasBit self k × HasBit to k) }
+    {
+        self.intersection(to)
+    }
+}
+
+impl Flags for Privileges {
+    ghost use Rattle.hv_privs.specs.Privileges.{bits_of};
+    ghost use Rattle.hv_privs.specs.declared.TheConstants.Privileges as privilege;
+
+    type Bits = u64;
+
+    ghost exact = { ⊤ };
+
+    ghost table = { (codes "ACCESS_SYNIC_REGS", bits_of privilege.ACCESS_SYNIC_REGS)
+        ∷ (codes "ACCESS_VP_INDEX", bits_of privilege.ACCESS_VP_INDEX)
+        ∷ (codes "CREATE_PARTITIONS", bits_of privilege.CREATE_PARTITIONS)
+        ∷ (codes "ACCESS_PARTITION_ID", bits_of privilege.ACCESS_PARTITION_ID)
+        ∷ (codes "ACCESS_MEMORY_POOL", bits_of privilege.ACCESS_MEMORY_POOL)
+        ∷ (codes "POST_MESSAGES", bits_of privilege.POST_MESSAGES)
+        ∷ (codes "SIGNAL_EVENTS", bits_of privilege.SIGNAL_EVENTS)
+        ∷ (codes "CREATE_PORT", bits_of privilege.CREATE_PORT)
+        ∷ (codes "CONNECT_PORT", bits_of privilege.CONNECT_PORT)
+        ∷ [] };
+
+    ghost set_of = { bits_of };
+
+    fn flags<'a>() -> &'a [Flag<Privileges>] {
+        Privileges::FLAGS
+    }
+
+    fn bits(&self) -> u64 {
+        self.0
+    }
+
+    fn from_bits_retain(bits: u64) -> Privileges {
+        Privileges(bits)
+    }
+}
+
+#[cfg(test)]
+mod tests {
+    use super::*;
+
+    /// The mask that a root partition usually has: each named privilege.
+    const ROOT: Privileges = Privileges(0x0000_00f7_0000_0044);
+
+    #[test]
+    fn masks_beside_the_root(rt: HostRuntime) {
+        // a mask, whether the root's holds it, and what it keeps when restricted to the root's
+        let rows: [(u64, bool, u64); 5] = [
+            (0, true, 0),
+            (0x0000_0030_0000_0044, true, 0x0000_0030_0000_0044),
+            (0x0000_0001_0000_0000, true, 0x0000_0001_0000_0000),
+            (0x8000_0000_0000_0001, false, 0),
+            (0xffff_ffff_ffff_ffff, false, 0x0000_00f7_0000_0044),
+        ];
+        for (bits, held, kept) in rows {
+            let mask = Privileges::of(bits);
+            assert_eq!(rt; mask.bits(), bits);
+            assert_eq!(rt; ROOT.contains(mask), held);
+            assert_eq!(rt; mask.is_within(ROOT), held);
+            assert_eq!(rt; mask.restrict(ROOT).bits(), kept);
+        }
+    }
+
+    #[test]
+    fn names_stand_at_their_bits(rt: HostRuntime) {
+        let rows = [
+            ("ACCESS_SYNIC_REGS", 0x0000_0000_0000_0004),
+            ("ACCESS_VP_INDEX", 0x0000_0000_0000_0040),
+            ("CREATE_PARTITIONS", 0x0000_0001_0000_0000),
+            ("ACCESS_PARTITION_ID", 0x0000_0002_0000_0000),
+            ("ACCESS_MEMORY_POOL", 0x0000_0004_0000_0000),
+            ("POST_MESSAGES", 0x0000_0010_0000_0000),
+            ("SIGNAL_EVENTS", 0x0000_0020_0000_0000),
+            ("CREATE_PORT", 0x0000_0040_0000_0000),
+            ("CONNECT_PORT", 0x0000_0080_0000_0000),
+        ];
+        for (name, bits) in rows {
+            assert_eq!(rt; Privileges::from_name(name), Some(Privileges::of(bits)));
+        }
+        assert_eq!(rt; Privileges::all(), ROOT);
+    }
+}

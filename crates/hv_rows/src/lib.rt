@@ -1,0 +1,7 @@
+//! Worked rows: calls and what the machine answers them, with values from outside the code. Tests only.
+#![tactic(auto)]
+
+#[cfg(test)]
+mod first_calls;
+#[cfg(test)]
+mod rows;
