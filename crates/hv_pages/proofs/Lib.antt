@@ -1,0 +1,6 @@
+pub mod Changes
+pub mod FallingLists
+pub mod Lowest
+pub mod Members
+pub mod Merging
+pub mod Searched

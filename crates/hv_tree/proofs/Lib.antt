@@ -1,0 +1,14 @@
+pub mod Lists
+pub mod Lines
+pub mod Kids
+pub mod Child
+pub mod Gone
+pub mod Ids
+pub mod Search
+pub mod Sorted
+pub mod Seen
+pub mod Got
+pub mod Lent
+pub mod Grown
+pub mod Shrunk
+pub mod Kin

@@ -1,0 +1,49 @@
+use Rattle.std.proofs.Common.{◌≡◌, ◌<◌, suc, Some, ◌∙◌, true, false, sym, ap, refl, length, get_or, take, arith}
+use Rattle.std.specs.Option.{option_map, option_or}
+use Rattle.std.proofs.lemmas.Bool.{ne_eqb}
+use Rattle.hv_tree.specs.Nest.{has_row}
+use Rattle.hv_tree.specs.Below.{below}
+use Rattle.hv_tree.proofs.Lines.{has-shift, look-none}
+use Rattle.hv_tree.proofs.Child.{none-more, none-all, found_has, missed_has, parent-row, AreDistinct-child, HasDepthIn-child, length-child}
+use Rattle.hv_tree.proofs.node.Node.+place.Goals as goal
+
+pub returns-in-Some-clause-parent : goal.returns-in-Some-clause-parent
+returns-in-Some-clause-parent g t c =
+    let ks = c.self.inside.children.items in
+    let k = c.child-item.result in
+    let lt : c.loop-child.child-index < length ks = rw (← c.deref-child-items.ensures.value) c.loop-child-test.true in
+    let is : k ≡ get_or ks c.loop-child.child-index k = rw (← c.deref-child-items.ensures.value) c.child-item.is in
+    let none : has_row c.args.id (below c.self.inside.id (take c.loop-child.child-index ks)) ≡ false = rw (← c.deref-child-items.ensures.value) (has-shift c.args.id c.self.inside.id 0 (take c.loop-child.child-index c.deref-child-items.result.now) ∙ c.loop-child.invariant) in
+    let found = rw (c.in-Some.is, c.deref.ensures) at c.place.ensures.parent in
+    let has : has_row c.args.id k.value ≡ true = found_has c.args.id k.value (λ r. r.0) _ found in
+    rw (← c.self.view_is, c.or.ensures) (ap (option_map (λ a. option_or a (Some c.self.inside.id))) found ∙ sym (parent-row c.self.inside.id ks c.loop-child.child-index k lt is c.args.id none c.self.inside.content (ne_eqb _ _ c.if-id-self.false) has))
+
+pub returns-in-Some-clause-depth : goal.returns-in-Some-clause-depth
+returns-in-Some-clause-depth g t c =
+    let ks = c.self.inside.children.items in
+    let k = c.child-item.result in
+    let lt : c.loop-child.child-index < length ks = rw (← c.deref-child-items.ensures.value) c.loop-child-test.true in
+    let is : k ≡ get_or ks c.loop-child.child-index k = rw (← c.deref-child-items.ensures.value) c.child-item.is in
+    let deep = rw (c.in-Some.is, c.deref.ensures) at c.place.ensures.depth in
+    rw (← c.self.view_is) (λ d low.
+    let more : c.saturating_add.result ≡ suc c.in-Some.place.depth = omega (arith, c.saturating_add.ensures, low) in
+    rw more (HasDepthIn-child c.self.inside.id ks c.loop-child.child-index k lt is c.self.inside.content d c.in-Some.place.depth c.args.id
+    (deep (AreDistinct-child c.self.inside.id ks c.loop-child.child-index k lt is c.self.inside.content d) (omega (arith, more, low)))))
+
+pub returns-in-Some-clause-within : goal.returns-in-Some-clause-within
+returns-in-Some-clause-within g t c =
+    let ks = c.self.inside.children.items in
+    let k = c.child-item.result in
+    let lt : c.loop-child.child-index < length ks = rw (← c.deref-child-items.ensures.value) c.loop-child-test.true in
+    let is : k ≡ get_or ks c.loop-child.child-index k = rw (← c.deref-child-items.ensures.value) c.child-item.is in
+    let low = rw (c.in-Some.is, c.deref.ensures) at c.place.ensures.within in
+    rw (← c.self.view_is) (omega (arith, c.saturating_add.ensures, low, length-child c.self.inside.id ks c.loop-child.child-index k lt is))
+
+pub loop-child-preserved : goal.loop-child-preserved
+loop-child-preserved g t c = none-more 0 c.deref-child-items.result.now c.loop-child.child-index c.child-item.result c.loop-child-test.true c.child-item.is c.args.id c.loop-child.invariant
+    (missed_has c.args.id c.child-item.result.value (λ r. r.0) (rw (← c.deref.ensures) (rw c.in_default.is at c.place.ensures.parent)))
+
+pub returns-clause-parent : goal.returns-clause-parent
+returns-clause-parent g t c =
+    let gone : has_row c.args.id (below c.self.inside.id c.self.inside.children.items) ≡ false = rw (← c.deref-child-items.ensures.value) (has-shift c.args.id c.self.inside.id 0 c.deref-child-items.result.now ∙ none-all c.args.id 0 c.deref-child-items.result.now c.loop-child.child-index c.loop-child-test.false c.loop-child.invariant) in
+    rw (← c.self.view_is, ne_eqb _ _ c.if-id-self.false, look-none c.args.id (below c.self.inside.id c.self.inside.children.items) gone) refl

@@ -1,0 +1,280 @@
+//! The tree, seen as its rows.
+ghost use Rattle.std.specs.Prelude.{◌≡◌, ◌<◌, ◌↔◌, [], ◌∷◌, None, Some, true, false, length, is_some, IsSome, IfSome, IfNone, OnSome, IfOk, IfErr, OnOk, OnErr};
+ghost use Rattle.std.specs.Option.{option_copied, option_copied_mut, option_map};
+ghost use Rattle.std.specs.Borrow.{LendsIf, sem};
+ghost use Rattle.std.specs.FinMap as map;
+ghost use Rattle.hv_tree.specs.contracts.tree.IdTree.{the_row};
+ghost use Rattle.hv_tree.specs.Rows.{change, content, parent, children, is_leaf, HasDepth, IsLeastAbove, IsTree};
+ghost use Rattle.hv_tree.specs.Full.{settled};
+ghost use Rattle.hv_tree.specs.Nest.{first_content, IsNest};
+ghost use Rattle.hv_tree.specs.Refused.{Refuses};
+
+use crate::node::{Node, Present};
+use crate::refused::{InsertRefused, ReserveRefused};
+use std::alloc::{AllocError, AllocFailed, Allocator};
+use std::marker::Model;
+
+/// A tree whose nodes have ids of their own, each with a content. One node, the root, has no parent.
+///
+/// A search visits each node at most once, and finds a child among its siblings in logarithmic time.
+#[derive(Drop)]
+pub struct IdTree<T, A: Allocator> {
+    root: Node<T, A>,
+    // How many nodes there are.
+    count: u64,
+    // The content that was lent last, with its node's id. It goes back at the next loan: the nodes never move.
+    lent: Option<(u64, T)>,
+    alloc: A,
+}
+
+impl<T, A: Allocator> Model for IdTree<T, A> {
+    ghost use Rattle.std.specs.Coded.{coded_ℕ, coded_option, coded×};
+    ghost use Rattle.std.specs.FinMap as map;
+    ghost use Rattle.hv_tree.specs.Rows.{Rows};
+
+    ghost Value = { Rows T };
+
+    ghost coded = { map.code coded_ℕ (coded× (coded_option coded_ℕ) T.code) };
+
+    ghost use Rattle.hv_tree.specs.Full.{full, IsSound};
+
+    ghost view = { λ a. map.from_entries (full a.lent a.root) };
+
+    ghost invariant = { λ a. IsSound a.lent a.root a.count };
+}
+
+impl<T, A: Allocator> IdTree<T, A> {
+    /// The content of a node.
+    pub fn get(&self, id: u64) -> Option<&T>
+        ensures { option_copied result ≡ content self.now id }
+    {
+        match self.root.find(id)?.content() {
+            Some(content) => Some(content),
+            None => match &self.lent {
+                None => None,
+                Some((_, content)) => Some(content),
+            },
+        }
+    }
+
+    /// The id of a node's parent. There is none for the root, and none where no node has the id.
+    pub fn parent_of(&self, id: u64) -> Option<u64>
+        ensures value { result ≡ parent self.now id }
+        ensures tree { IsTree self.now }
+    {
+        self.root.place(id)?.parent
+    }
+
+    /// How many nodes are above a node: 0 for the root, and `None` where no node has the id.
+    pub fn depth_of(&self, id: u64) -> Option<u64>
+        ensures found { is_some result ≡ map.contains_key self.now id }
+        ensures depth { IfSome result (HasDepth self.now id) }
+        ensures tree { IsTree self.now }
+    {
+        match self.root.place(id) {
+            None => None,
+            Some(place) => Some(place.depth),
+        }
+    }
+
+    /// How many children a node has, or `None` where no node has the id.
+    pub fn children_of(&self, id: u64) -> Option<u32>
+        ensures value { result
+            ≡ option_map (λ _. length (children self.now id)) (map.get self.now id) }
+        ensures none { IfNone result (children self.now id ≡ []) }
+        ensures tree { IsTree self.now }
+    {
+        match self.root.find(id) {
+            None => None,
+            Some(node) => Some(node.child_count() as u32),
+        }
+    }
+
+    /// The least id above `previous` among the children of `parent`.
+    /// From 0, each answer passed back in turn, it walks over all children but one with the id 0.
+    pub fn child_after(&self, parent: u64, previous: u64) -> Option<u64>
+        ensures value { IsLeastAbove previous (children self.now parent) result }
+        ensures tree { IsTree self.now }
+    {
+        self.root.find(parent)?.child_after(previous)
+    }
+
+    /// Makes room for one more child of `parent`. The next insert there needs memory for the node alone.
+    pub fn reserve_child(&mut self, parent: u64) -> Result<(), ReserveRefused>
+        ensures rows { self.new ≡ self.old }
+        ensures no_parent { (result ≡ Err ReserveRefused.NoParent)
+            ↔ (map.contains_key self.old parent ≡ false) }
+    {
+        match self.root.reserve(parent) {
+            None => Err(ReserveRefused::NoParent),
+            Some(Err(_)) => Err(ReserveRefused::Memory),
+            Some(Ok(())) => Ok(()),
+        }
+    }
+
+    fn present(&self, parent: u64, id: u64) -> Present
+        ensures parent { result.parent ≡ map.contains_key self.now parent }
+        ensures id { result.id ≡ map.contains_key self.now id }
+    {
+        self.root.present(parent, id)
+    }
+}
+
+impl<T, A: Allocator + Clone> IdTree<T, A> {
+    /// The ids of all nodes, rising.
+    pub fn ids(&self) -> Result<Vec<u64, A>, AllocError>
+        ensures { IfOk result (λ v. v.items ≡ map.keys self.now) }
+    {
+        let mut ids = Vec::with_capacity(self.alloc.clone()?, self.count as usize)?;
+        self.root.push_ids(&mut ids)?;
+        ids.sort_unstable();
+        Ok(ids)
+    }
+}
+
+impl<T: Drop, A: Allocator> IdTree<T, A> {
+    /// The content of a node, to be changed in place. It takes no memory.
+    pub fn get_mut(&mut self, id: u64) -> Option<&mut T>
+        ensures* writes_back { sem 𝓛 (LendsIf (the_row T.row A.row A.Allocator) T.row self.entry result
+            (λ w. change self.old id (λ _. w)) self.old) }
+        ensures value { option_copied_mut result ≡ content self.old id }
+    {
+        settle(&mut self.root, &mut self.lent);
+        let mut slot = None;
+        self.root.exchange(id, &mut slot);
+        let Some(content) = slot else {
+            return None;
+        };
+        self.lent = Some((id, content));
+        match &mut self.lent {
+            None => None,
+            Some(pair) => Some(&mut pair.1),
+        }
+    }
+
+    /// Takes a node out that has a parent and no children, and hands back its content. It takes no memory.
+    /// `None` where no node has the id, for the root, and for a node with children.
+    pub fn remove_leaf(&mut self, id: u64) -> Option<T>
+        ensures leaf { is_some result ≡ is_leaf self.old id }
+        ensures content { IfSome result (λ c. content self.old id ≡ Some c) }
+        ensures removed { OnSome result (self.new ≡ map.remove self.old id) }
+        ensures unchanged { IfNone result (self.new ≡ self.old) }
+    {
+        let content = self.root.remove(id)?;
+        self.count -= 1;
+        match content {
+            Some(content) => Some(content),
+            None => take_lent(&mut self.lent),
+        }
+    }
+}
+
+impl<T: Drop, A: Allocator + Clone> IdTree<T, A> {
+    /// A tree of one node, or the content again where memory is short.
+    pub fn new(alloc: A, id: u64, content: T) -> Result<IdTree<T, A>, T>
+        ensures ok { IfOk result (λ t. t ≡ map.insert map.empty id (None, content)) }
+        ensures err { IfErr result (λ c. c ≡ content) }
+    {
+        let Ok(own) = alloc.clone() else {
+            return Err(content);
+        };
+        Ok(IdTree {
+            root: Node::leaf(own, id, content),
+            count: 1,
+            lent: None,
+            alloc,
+        })
+    }
+
+    /// Puts a new node below `parent`, or hands its content back and leaves the tree as it was.
+    pub fn insert_child(&mut self, parent: u64, id: u64, content: T) -> Result<(), InsertRefused<T>>
+        requires { length (children self.old parent) < u32.MAX }
+        ensures ok { OnOk result (self.new ≡ map.insert self.old id (Some parent, content)) }
+        ensures had_parent { OnOk result (map.contains_key self.old parent ≡ true) }
+        ensures was_free { OnOk result (map.contains_key self.old id ≡ false) }
+        ensures refused { IfErr result (Refuses self.old parent id content) }
+        ensures unchanged { OnErr result (self.new ≡ self.old) }
+    {
+        let present = self.present(parent, id);
+        if !present.parent {
+            return Err(InsertRefused::NoParent(content));
+        }
+        if present.id {
+            return Err(InsertRefused::IdTaken(content));
+        }
+        // No memory holds so many nodes.
+        let Some(count) = self.count.checked_add(1) else {
+            return Err(InsertRefused::Memory(content));
+        };
+        let node = match make(&self.alloc, id, content) {
+            Ok(node) => node,
+            Err(content) => return Err(InsertRefused::Memory(content)),
+        };
+        if let Err(node) = self.root.graft(parent, node) {
+            return Err(InsertRefused::Memory(unmake(node)));
+        }
+        self.count = count;
+        Ok(())
+    }
+}
+
+// A node with nothing below it, or its content again.
+fn make<T: Drop, A: Allocator + Clone>(
+    alloc: &A,
+    id: u64,
+    content: T,
+) -> Result<Box<Node<T, A>, A>, T>
+    ensures ok { IfOk result (λ n. n.value ≡ (id, (None, Some content)) ∷ []) }
+    ensures err { IfErr result (λ c. c ≡ content) }
+{
+    let Ok(own) = alloc.clone() else {
+        return Err(content);
+    };
+    let Ok(below) = alloc.clone() else {
+        return Err(content);
+    };
+    match Box::new(own, Node::leaf(below, id, content)) {
+        Ok(node) => Ok(node),
+        Err(failed) => {
+            let AllocFailed { value } = failed;
+            match value.into_content() {
+                Some(content) => Err(content),
+                None => unreachable!(),
+            }
+        }
+    }
+}
+
+// The content of a node that was made and not used.
+fn unmake<T: Drop, A: Allocator>(node: Box<Node<T, A>, A>) -> T
+    requires { IsSome (first_content node.value) }
+    ensures { first_content node.value ≡ Some result }
+{
+    match Box::into_inner(node).into_content() {
+        Some(content) => content,
+        None => unreachable!(),
+    }
+}
+
+// Puts the content that was lent back into its node.
+fn settle<T: Drop, A: Allocator>(root: &mut Node<T, A>, lent: &mut Option<(u64, T)>)
+    ensures root { root.new ≡ settled lent.old root.old }
+    ensures lent { lent.new ≡ None }
+    ensures nest { IsNest root.old → IsNest root.new }
+{
+    if let Some((id, content)) = lent.take() {
+        let mut slot = Some(content);
+        root.exchange(id, &mut slot);
+    }
+}
+
+// The content that was lent, whose node is gone.
+fn take_lent<T>(lent: &mut Option<(u64, T)>) -> Option<T>
+    ensures content { result ≡ option_map (λ e. e.1) lent.old }
+    ensures lent { lent.new ≡ None }
+{
+    match lent.take() {
+        None => None,
+        Some((_, content)) => Some(content),
+    }
+}

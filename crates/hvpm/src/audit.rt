@@ -1,0 +1,56 @@
+// The audit: a line for each event, and how many there are.
+
+use crate::history::{Answer, Entry, History};
+use std::io;
+use std::io::Write;
+
+const HEX_DIGITS: &[u8; 16] = b"0123456789abcdef";
+
+/// Prints the audit of a history and flushes it. It stops at the first write that fails.
+pub fn print<W: Write>(history: &History, out: &mut W) -> io::Result<()> {
+    let mut outputs = history.outputs();
+    let mut number = 0u64;
+    for entry in history.entries() {
+        number = number.saturating_add(1);
+        let (output, rest) = outputs.split_at(entry.output_len.min(outputs.len()));
+        print_entry(out, number, entry, output)?;
+        outputs = rest;
+    }
+    writeln!(out, "events {number}")?;
+    out.flush()
+}
+
+fn print_entry<W: Write>(out: &mut W, number: u64, entry: &Entry, output: &[u8]) -> io::Result<()> {
+    let part = entry.by.part;
+    let vp = entry.by.vp;
+    let rcx = entry.rcx;
+    write!(out, "{number} {part}.{vp} call {rcx:016x} ")?;
+    let answer = match entry.answer {
+        Answer::Served => "ok",
+        Answer::More => "more",
+        Answer::Denied(_) => "denied",
+        Answer::Fault(_) => "fault",
+    };
+    write!(out, "{answer}")?;
+    if let Some(result) = entry.result {
+        write!(out, " {result:016x}")?;
+    }
+    match entry.answer {
+        Answer::Served | Answer::More => print_output(out, output)?,
+        Answer::Denied(rule) | Answer::Fault(rule) => write!(out, " {}", rule.name())?,
+    }
+    out.write_all(b"\n")
+}
+
+fn print_output<W: Write>(out: &mut W, output: &[u8]) -> io::Result<()> {
+    if output.is_empty() {
+        return out.write_all(b" -");
+    }
+    out.write_all(b" ")?;
+    for byte in output {
+        let high = HEX_DIGITS[usize::from(*byte >> 4)];
+        let low = HEX_DIGITS[usize::from(*byte & 15)];
+        out.write_all(&[high, low])?;
+    }
+    Ok(())
+}

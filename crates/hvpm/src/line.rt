@@ -1,0 +1,113 @@
+// One line of a script.
+
+use crate::failure::FaultKind;
+use crate::number;
+use hv_abi::{Bytes, Frame};
+use hv_machine::{Caller, Config};
+use hv_privs::Privileges;
+use std::alloc::Global;
+
+// The most words that a line has.
+const MOST_WORDS: usize = 6;
+
+/// What a script's `boot` line says.
+#[derive(Clone, Copy, Debug)]
+pub struct Boot {
+    pub config: Config,
+    /// The most events that the history keeps.
+    pub limit: u32,
+}
+
+/// A line of a processor: its hypercall.
+#[derive(Drop)]
+pub struct Call {
+    pub by: Caller,
+    pub frame: Frame<Global>,
+}
+
+/// The words of a line, which stand between spaces.
+#[derive(Clone, Copy)]
+pub struct Words<'a> {
+    // The first words.
+    first: [&'a [u8]; MOST_WORDS],
+    // How many words the line has, first and others.
+    count: usize,
+}
+
+impl<'a> Words<'a> {
+    pub fn of(line: &'a [u8]) -> Words<'a> {
+        let none: &'a [u8] = &[];
+        let mut first = [none; MOST_WORDS];
+        let mut count = 0usize;
+        for word in line.split(|byte| *byte == b' ') {
+            if word.is_empty() {
+                continue;
+            }
+            if let Some(place) = first.get_mut(count) {
+                *place = word;
+            }
+            count = count.saturating_add(1);
+        }
+        Words { first, count }
+    }
+
+    /// Whether the line is skipped: it has no words, or is a comment.
+    pub fn are_skipped(&self) -> bool {
+        match self.first[0].first() {
+            Some(byte) => *byte == b'#',
+            None => true,
+        }
+    }
+
+    /// Whether the line is a `boot` line, right or not.
+    pub fn are_boot(&self) -> bool {
+        self.first[0] == b"boot".as_slice()
+    }
+
+    /// Reads a `boot` line.
+    pub fn boot(&self) -> Result<Boot, FaultKind> {
+        if self.count != MOST_WORDS {
+            return Err(FaultKind::Count);
+        }
+        let [_, pages, pool, vps, mask, limit] = self.first;
+        Ok(Boot {
+            config: Config {
+                pages: number::number_32(pages).ok_or(FaultKind::Number)?,
+                pool: number::number_32(pool).ok_or(FaultKind::Number)?,
+                vps: number::number_32(vps).ok_or(FaultKind::Number)?,
+                mask: Privileges::of(number::number(mask).ok_or(FaultKind::Number)?),
+            },
+            limit: number::number_32(limit).ok_or(FaultKind::Number)?,
+        })
+    }
+
+    /// Reads a processor's line.
+    pub fn call(&self, alloc: Global) -> Result<Call, FaultKind> {
+        let [by, kind, rcx, rdx, r8, input] = self.first;
+        let by = processor(by).ok_or(FaultKind::Processor)?;
+        if kind != b"call".as_slice() {
+            return Err(FaultKind::Word);
+        }
+        if self.count != MOST_WORDS {
+            return Err(FaultKind::Count);
+        }
+        Ok(Call {
+            by,
+            frame: Frame {
+                rcx: number::number(rcx).ok_or(FaultKind::Number)?,
+                rdx: number::number(rdx).ok_or(FaultKind::Number)?,
+                r8: number::number(r8).ok_or(FaultKind::Number)?,
+                input: Bytes::from_vec(number::bytes(alloc, input)?),
+            },
+        })
+    }
+}
+
+// The processor `ID.VP`, of a 64-bit and a 32-bit number, both decimal.
+fn processor(word: &[u8]) -> Option<Caller> {
+    let dot = word.iter().position(|byte| *byte == b'.')?;
+    let part = number::decimal(&word[..dot])?;
+    let vp = number::decimal(&word[dot + 1..])?;
+    let vp = u32::try_from(vp).ok()?;
+    Some(Caller { part, vp })
+}

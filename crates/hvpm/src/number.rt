@@ -1,0 +1,69 @@
+// Numbers and bytes, as words of a script.
+ghost use Rattle.std.specs.Prelude.{◌≡◌, ◌^◌, ◌<◌, ◌≤◌, ◌*◌, ◌+◌, IfSome, IfOk, vec_len, length};
+ghost use Rattle.std.specs.Option.{SomeIff};
+ghost use Rattle.std.specs.Str.Parse.{IsNumeral, digits_value};
+ghost use Rattle.hvpm.specs.Number.{IsNumber, number_of};
+
+use crate::failure::FaultKind;
+use std::alloc::Global;
+
+// The most digits that a word for bytes has.
+const MOST_DIGITS: usize = 8192;
+
+/// A number in decimal digits, with any number of leading zeros.
+pub fn decimal(word: &[u8]) -> Option<u64>
+    ensures { SomeIff result (IsNumeral 10 word.now × (digits_value 10 word.now < 2 ^ 64)) (digits_value 10 word.now) }
+{
+    digits(word, 10)
+}
+
+/// A number in decimal digits, or `0x` and 1 to 16 hexadecimal digits of either case.
+pub fn number(word: &[u8]) -> Option<u64>
+    ensures { SomeIff result (IsNumber word.now) (number_of word.now) }
+{
+    match word.strip_prefix(b"0x".as_slice()) {
+        Some(hex) if hex.len() <= 16 => digits(hex, 16),
+        Some(_) => None,
+        None => digits(word, 10),
+    }
+}
+
+/// The same, where the number fits 32 bits.
+pub fn number_32(word: &[u8]) -> Option<u32>
+    ensures { IfSome result (λ n. n ≡ number_of word.now) }
+{
+    u32::try_from(number(word)?).ok()
+}
+
+/// Bytes as an even number of hexadecimal digits of either case, at most 8,192, or `-` for none.
+pub fn bytes(alloc: Global, word: &[u8]) -> Result<Vec<u8>, FaultKind> {
+    if word == b"-".as_slice() {
+        return Ok(Vec::new(alloc));
+    }
+    if word.len() % 2 != 0 || word.len() > MOST_DIGITS {
+        return Err(FaultKind::Hex);
+    }
+    let mut bytes = Vec::with_capacity(alloc, word.len() / 2).map_err(|_| FaultKind::Memory)?;
+    for pair in word.chunks_exact(2) {
+        let byte = digits(pair, 16).ok_or(FaultKind::Hex)?;
+        bytes.push(byte as u8).map_err(|_| FaultKind::Memory)?;
+    }
+    Ok(bytes)
+}
+
+// The number that digits in a base write, where it fits 64 bits.
+fn digits(word: &[u8], base: u64) -> Option<u64>
+    requires least { 2 ≤ base }
+    requires most { base ≤ 36 }
+    ensures { SomeIff result (IsNumeral base word.now × (digits_value base word.now < 2 ^ 64)) (digits_value base word.now) }
+{
+    if word.is_empty() {
+        return None;
+    }
+    let mut value = 0u64;
+    for byte in word {
+        let digit = char::from(*byte).to_digit(base as u32)?;
+        value = value.checked_mul(base)?.checked_add(u64::from(digit))?;
+    }
+    Some(value)
+}

@@ -1,0 +1,85 @@
+// Scripts.
+ghost use Rattle.std.specs.Prelude.{◌≡◌, ◌<◌, length, IsErr};
+
+use crate::failure::{Failure, FaultKind};
+use crate::line::{Boot, Call, Words};
+use crate::processors::Processors;
+use std::alloc::Global;
+
+/// The most bytes that a script has.
+pub const MOST_BYTES: usize = 1_048_576;
+
+/// A script that has no fault.
+#[derive(Drop)]
+pub struct Script {
+    pub boot: Boot,
+    /// The lines of its processors, in the text's order.
+    pub calls: Vec<Call>,
+    pub processors: Processors,
+}
+
+/// Reads a script, or finds its first fault. Lines end at a line feed or at the end of the text.
+pub fn parse(alloc: Global, text: &[u8]) -> Result<Script, Failure>
+    ensures long { 1048576 < length text.now → result ≡ Err (Failure.Fault 0 FaultKind.Long) }
+{
+    if text.len() > MOST_BYTES {
+        return Err(Failure::of_line(0, FaultKind::Long));
+    }
+    let mut reader = Reader {
+        boot: None,
+        calls: Vec::new(alloc),
+        processors: Processors::new(alloc),
+    };
+    let mut number = 0usize;
+    for line in text.split(|byte| *byte == b'\n') {
+        number = number.saturating_add(1);
+        reader
+            .read(alloc, line)
+            .map_err(|kind| Failure::of_line(number, kind))?;
+    }
+    let Reader {
+        boot,
+        calls,
+        processors,
+    } = reader;
+    let boot = boot.ok_or(Failure::of_line(0, FaultKind::NoBoot))?;
+    Ok(Script {
+        boot,
+        calls,
+        processors,
+    })
+}
+
+// What was read of a script so far.
+#[derive(Drop)]
+struct Reader {
+    boot: Option<Boot>,
+    calls: Vec<Call>,
+    processors: Processors,
+}
+
+impl Reader {
+    fn read(&mut self, alloc: Global, line: &[u8]) -> Result<(), FaultKind> {
+        let words = Words::of(line);
+        if words.are_skipped() {
+            return Ok(());
+        }
+        if !line.iter().all(|byte| matches!(*byte, 0x20..=0x7E)) {
+            return Err(FaultKind::Byte);
+        }
+        match (self.boot.is_some(), words.are_boot()) {
+            (false, false) => Err(FaultKind::NoBoot),
+            (true, true) => Err(FaultKind::BootTwice),
+            (false, true) => {
+                self.boot = Some(words.boot()?);
+                Ok(())
+            }
+            (true, false) => self.read_call(words.call(alloc)?),
+        }
+    }
+
+    fn read_call(&mut self, call: Call) -> Result<(), FaultKind> {
+        self.processors.add(call.by)?;
+        self.calls.push(call).map_err(|_| FaultKind::Memory)
+    }
+}
