@@ -1,5 +1,5 @@
 // What happened, in its order.
-ghost use Rattle.std.specs.Prelude.{◌≡◌, ◌+◌, ◌≤◌, ◌<◌, ◌++◌, ◌∷◌, [], IfOk, OnErr, vec_len, vec_capacity};
+ghost use Rattle.std.specs.Prelude.{◌≡◌, ◌≢◌, ◌+◌, ◌≤◌, ◌<◌, ◌++◌, ◌∷◌, [], IfOk, OnErr, vec_len, vec_capacity};
 
 use crate::failure::Stop;
 use hv_abi::Frame;
@@ -79,6 +79,7 @@ impl History {
             × (self.new.entries.items ≡ self.old.entries.items ++ entry ∷ [])) }
         ensures refused { OnErr result (self.new.entries.items ≡ self.old.entries.items) }
         ensures full { self.old.limit ≤ vec_len self.old.entries → result ≡ Err Stop.HistoryFull }
+        ensures not_full { vec_len self.old.entries < self.old.limit → machine.old.served < 4294967295 → result ≢ Err Stop.HistoryFull }
         ensures not_asked { self.old.limit ≤ vec_len self.old.entries → machine.new ≡ machine.old }
     {
         if self.entries.len() >= self.limit as usize || machine.served() >= MOST_SERVED {

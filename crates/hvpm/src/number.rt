@@ -1,5 +1,5 @@
 // Numbers and bytes, as words of a script.
-ghost use Rattle.std.specs.Prelude.{◌≡◌, ◌^◌, ◌<◌, ◌≤◌, ◌*◌, ◌+◌, IfSome, IfOk, vec_len, length};
+ghost use Rattle.std.specs.Prelude.{◌≡◌, ◌^◌, ◌<◌, ◌≤◌, ◌*◌, ◌+◌};
 ghost use Rattle.std.specs.Option.{SomeIff};
 ghost use Rattle.std.specs.Str.Parse.{IsNumeral, digits_value};
 ghost use Rattle.hvpm.specs.Number.{IsNumber, number_of};
@@ -30,7 +30,7 @@ pub fn number(word: &[u8]) -> Option<u64>
 
 /// The same, where the number fits 32 bits.
 pub fn number_32(word: &[u8]) -> Option<u32>
-    ensures { IfSome result (λ n. n ≡ number_of word.now) }
+    ensures { SomeIff result (IsNumber word.now × (number_of word.now < 2 ^ 32)) (number_of word.now) }
 {
     u32::try_from(number(word)?).ok()
 }

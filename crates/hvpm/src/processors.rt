@@ -1,5 +1,5 @@
 // The processors of a script.
-ghost use Rattle.std.specs.Prelude.{◌≡◌, ◌≤◌, vec_len};
+ghost use Rattle.std.specs.Prelude.{◌≡◌, ◌≤◌, Any, OnOk, vec_len};
 
 use crate::failure::{FaultKind, Stop};
 use hv_machine::Caller;
@@ -31,6 +31,7 @@ impl Processors {
 
     /// Adds a processor, unless it is there already.
     pub fn add(&mut self, by: Caller) -> Result<(), FaultKind>
+        ensures added { OnOk result (Any (λ row. row.by ≡ by) self.new.rows.items) }
         ensures too_many { result ≡ Err FaultKind.TooMany → vec_len self.old.rows ≡ 64 }
     {
         if self.rows.iter().any(|row| row.by == by) {

@@ -1,5 +1,5 @@
 // Scripts.
-ghost use Rattle.std.specs.Prelude.{◌≡◌, ◌<◌, length, IsErr};
+ghost use Rattle.std.specs.Prelude.{◌≡◌, ◌≢◌, ◌<◌, ◌≤◌, length};
 
 use crate::failure::{Failure, FaultKind};
 use crate::line::{Boot, Call, Words};
@@ -21,6 +21,7 @@ pub struct Script {
 /// Reads a script, or finds its first fault. Lines end at a line feed or at the end of the text.
 pub fn parse(alloc: Global, text: &[u8]) -> Result<Script, Failure>
     ensures long { 1048576 < length text.now → result ≡ Err (Failure.Fault 0 FaultKind.Long) }
+    ensures short { length text.now ≤ 1048576 → result ≢ Err (Failure.Fault 0 FaultKind.Long) }
 {
     if text.len() > MOST_BYTES {
         return Err(Failure::of_line(0, FaultKind::Long));
