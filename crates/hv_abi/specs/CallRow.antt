@@ -2,15 +2,34 @@
 -- its lists.
 use Rattle.std.specs.Prelude.{ℕ, ◌+◌, ◌*◌, ◌==◌, ◌&&◌, Bool, not, nat_le, Option, find}
 use Rattle.hv_abi.specs.declared.call_row.CallRow.{CallRow}
-use Rattle.hv_abi.specs.declared.call_row.TheConstants.{GET_PARTITION_ID, GET_MEMORY_BALANCE}
+use Rattle.hv_abi.specs.declared.call_row.TheConstants.{CREATE_PARTITION, INITIALIZE_PARTITION, FINALIZE_PARTITION, DELETE_PARTITION, GET_PARTITION_PROPERTY, SET_PARTITION_PROPERTY, GET_PARTITION_ID, GET_NEXT_CHILD_PARTITION, DEPOSIT_MEMORY, WITHDRAW_MEMORY, GET_MEMORY_BALANCE, CREATE_VP, DELETE_VP, GET_VP_REGISTERS, SET_VP_REGISTERS, DELETE_PORT, DISCONNECT_PORT, POST_MESSAGE, SIGNAL_EVENT, CREATE_PORT, CONNECT_PORT}
 use Rattle.hv_abi.specs.declared.call_kind.CallKind.{CallKind}
-use Rattle.hv_abi.specs.declared.call_kind.CallKind.TheVariants.{GetPartitionId, GetMemoryBalance}
+use Rattle.hv_abi.specs.declared.call_kind.CallKind.TheVariants.{CreatePartition, InitializePartition, FinalizePartition, DeletePartition, GetPartitionProperty, SetPartitionProperty, GetPartitionId, GetNextChildPartition, DepositMemory, WithdrawMemory, GetMemoryBalance, CreateVp, DeleteVp, GetVpRegisters, SetVpRegisters, DeletePort, DisconnectPort, PostMessage, SignalEvent, CreatePort, ConnectPort}
 use Rattle.hv_abi.specs.declared.call_kind.TheConstants.{ALL_CALLS}
 
 -- the row of a call in the table
 abbrev pub row_of : CallKind → CallRow
+row_of CreatePartition = CREATE_PARTITION
+row_of InitializePartition = INITIALIZE_PARTITION
+row_of FinalizePartition = FINALIZE_PARTITION
+row_of DeletePartition = DELETE_PARTITION
+row_of GetPartitionProperty = GET_PARTITION_PROPERTY
+row_of SetPartitionProperty = SET_PARTITION_PROPERTY
 row_of GetPartitionId = GET_PARTITION_ID
+row_of GetNextChildPartition = GET_NEXT_CHILD_PARTITION
+row_of DepositMemory = DEPOSIT_MEMORY
+row_of WithdrawMemory = WITHDRAW_MEMORY
 row_of GetMemoryBalance = GET_MEMORY_BALANCE
+row_of CreateVp = CREATE_VP
+row_of DeleteVp = DELETE_VP
+row_of GetVpRegisters = GET_VP_REGISTERS
+row_of SetVpRegisters = SET_VP_REGISTERS
+row_of DeletePort = DELETE_PORT
+row_of DisconnectPort = DISCONNECT_PORT
+row_of PostMessage = POST_MESSAGE
+row_of SignalEvent = SIGNAL_EVENT
+row_of CreatePort = CREATE_PORT
+row_of ConnectPort = CONNECT_PORT
 
 -- the call with this code, if the profile has one
 abbrev pub kind_of : ℕ → Option CallKind

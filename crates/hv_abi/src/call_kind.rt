@@ -2,17 +2,64 @@
 ghost use Rattle.std.specs.Prelude.{◌≡◌};
 ghost use Rattle.hv_abi.specs.CallRow.{row_of, kind_of, fits_registers, input_len, output_len};
 
-use crate::call_row::{CallRow, GET_MEMORY_BALANCE, GET_PARTITION_ID};
+use crate::call_row::{
+    CONNECT_PORT, CREATE_PARTITION, CREATE_PORT, CREATE_VP, CallRow, DELETE_PARTITION, DELETE_PORT,
+    DELETE_VP, DEPOSIT_MEMORY, DISCONNECT_PORT, FINALIZE_PARTITION, GET_MEMORY_BALANCE,
+    GET_NEXT_CHILD_PARTITION, GET_PARTITION_ID, GET_PARTITION_PROPERTY, GET_VP_REGISTERS,
+    INITIALIZE_PARTITION, POST_MESSAGE, SET_PARTITION_PROPERTY, SET_VP_REGISTERS, SIGNAL_EVENT,
+    WITHDRAW_MEMORY,
+};
 
 /// A hypercall of the profile, under the TLFS's name without its prefix `Hv`.
 #[derive(Clone, Copy, PartialEq, Eq, Debug)]
 pub enum CallKind {
+    CreatePartition,
+    InitializePartition,
+    FinalizePartition,
+    DeletePartition,
+    GetPartitionProperty,
+    SetPartitionProperty,
     GetPartitionId,
+    GetNextChildPartition,
+    DepositMemory,
+    WithdrawMemory,
     GetMemoryBalance,
+    CreateVp,
+    DeleteVp,
+    GetVpRegisters,
+    SetVpRegisters,
+    DeletePort,
+    DisconnectPort,
+    PostMessage,
+    SignalEvent,
+    CreatePort,
+    ConnectPort,
 }
 
 /// Every call of the profile, by rising code.
-pub const ALL_CALLS: [CallKind; 2] = [CallKind::GetPartitionId, CallKind::GetMemoryBalance];
+pub const ALL_CALLS: [CallKind; 21] = [
+    CallKind::CreatePartition,
+    CallKind::InitializePartition,
+    CallKind::FinalizePartition,
+    CallKind::DeletePartition,
+    CallKind::GetPartitionProperty,
+    CallKind::SetPartitionProperty,
+    CallKind::GetPartitionId,
+    CallKind::GetNextChildPartition,
+    CallKind::DepositMemory,
+    CallKind::WithdrawMemory,
+    CallKind::GetMemoryBalance,
+    CallKind::CreateVp,
+    CallKind::DeleteVp,
+    CallKind::GetVpRegisters,
+    CallKind::SetVpRegisters,
+    CallKind::DeletePort,
+    CallKind::DisconnectPort,
+    CallKind::PostMessage,
+    CallKind::SignalEvent,
+    CallKind::CreatePort,
+    CallKind::ConnectPort,
+];
 
 impl CallKind {
     /// The call with this code, or `None` where the profile has none.
@@ -28,8 +75,27 @@ impl CallKind {
         ensures { result ≡ row_of self }
     {
         match self {
+            CallKind::CreatePartition => CREATE_PARTITION,
+            CallKind::InitializePartition => INITIALIZE_PARTITION,
+            CallKind::FinalizePartition => FINALIZE_PARTITION,
+            CallKind::DeletePartition => DELETE_PARTITION,
+            CallKind::GetPartitionProperty => GET_PARTITION_PROPERTY,
+            CallKind::SetPartitionProperty => SET_PARTITION_PROPERTY,
             CallKind::GetPartitionId => GET_PARTITION_ID,
+            CallKind::GetNextChildPartition => GET_NEXT_CHILD_PARTITION,
+            CallKind::DepositMemory => DEPOSIT_MEMORY,
+            CallKind::WithdrawMemory => WITHDRAW_MEMORY,
             CallKind::GetMemoryBalance => GET_MEMORY_BALANCE,
+            CallKind::CreateVp => CREATE_VP,
+            CallKind::DeleteVp => DELETE_VP,
+            CallKind::GetVpRegisters => GET_VP_REGISTERS,
+            CallKind::SetVpRegisters => SET_VP_REGISTERS,
+            CallKind::DeletePort => DELETE_PORT,
+            CallKind::DisconnectPort => DISCONNECT_PORT,
+            CallKind::PostMessage => POST_MESSAGE,
+            CallKind::SignalEvent => SIGNAL_EVENT,
+            CallKind::CreatePort => CREATE_PORT,
+            CallKind::ConnectPort => CONNECT_PORT,
         }
     }
 

@@ -1,18 +1,108 @@
 // Worked frames and values, and what the table of calls keeps.
-use crate::{ALL_CALLS, AbiFault, Bytes, CallKind, Frame, InputValue, ResultValue, Shape, Status};
+use crate::{
+    ALL_CALLS, AbiFault, Bytes, CallKind, CallRow, Frame, InputValue, ResultValue, Shape, Status,
+};
+use std::alloc::Allocator;
 use std::test::Fail;
 
+// The forms of a call: whether it is a rep call, and whether it accepts the fast bit.
+const SIMPLE: (bool, bool) = (false, false);
+
+const FAST: (bool, bool) = (false, true);
+
+const REP: (bool, bool) = (true, false);
+
+// The calls by rising code: the code, the form, and the lengths of the input list's header and element
+// and of the output list's.
+const TABLE: [(CallKind, u16, (bool, bool), [u16; 4]); 21] = [
+    (CallKind::CreatePartition, 0x40, SIMPLE, [8, 0, 8, 0]),
+    (CallKind::InitializePartition, 0x41, FAST, [8, 0, 0, 0]),
+    (CallKind::FinalizePartition, 0x42, FAST, [8, 0, 0, 0]),
+    (CallKind::DeletePartition, 0x43, FAST, [8, 0, 0, 0]),
+    (CallKind::GetPartitionProperty, 0x44, SIMPLE, [16, 0, 8, 0]),
+    (CallKind::SetPartitionProperty, 0x45, SIMPLE, [24, 0, 0, 0]),
+    (CallKind::GetPartitionId, 0x46, SIMPLE, [0, 0, 8, 0]),
+    (CallKind::GetNextChildPartition, 0x47, SIMPLE, [16, 0, 8, 0]),
+    (CallKind::DepositMemory, 0x48, REP, [8, 8, 0, 0]),
+    (CallKind::WithdrawMemory, 0x49, REP, [8, 0, 0, 8]),
+    (CallKind::GetMemoryBalance, 0x4A, SIMPLE, [8, 0, 16, 0]),
+    (CallKind::CreateVp, 0x4E, FAST, [16, 0, 0, 0]),
+    (CallKind::DeleteVp, 0x4F, FAST, [16, 0, 0, 0]),
+    (CallKind::GetVpRegisters, 0x50, REP, [16, 4, 0, 16]),
+    (CallKind::SetVpRegisters, 0x51, REP, [16, 32, 0, 0]),
+    (CallKind::DeletePort, 0x58, FAST, [16, 0, 0, 0]),
+    (CallKind::DisconnectPort, 0x5B, FAST, [16, 0, 0, 0]),
+    (CallKind::PostMessage, 0x5C, SIMPLE, [256, 0, 0, 0]),
+    (CallKind::SignalEvent, 0x5D, FAST, [8, 0, 0, 0]),
+    (CallKind::CreatePort, 0x95, SIMPLE, [48, 0, 0, 0]),
+    (CallKind::ConnectPort, 0x96, SIMPLE, [48, 0, 0, 0]),
+];
+
 #[test]
-fn frames(rt: HostRuntime) {
+fn table_of_calls(rt: HostRuntime) {
+    for (kind, code, (rep, fast), [input, input_element, output, output_element]) in TABLE {
+        let row = CallRow {
+            code,
+            rep,
+            fast,
+            input,
+            input_element,
+            output,
+            output_element,
+        };
+        assert_eq!(rt; CallKind::of(code), Some(kind));
+        assert_eq!(rt; kind.row(), row, "{kind:?}");
+        assert_eq!(rt;
+            (kind.is_rep(), kind.accepts_fast()),
+            (rep, fast),
+            "{kind:?}"
+        );
+    }
+}
+
+#[test]
+fn all_calls(rt: HostRuntime) {
+    let mut last = 0;
+    for kind in ALL_CALLS {
+        let row = kind.row();
+        let has_elements = row.input_element > 0 || row.output_element > 0;
+        assert!(rt; last < kind.code(), "{kind:?} by rising code");
+        assert_eq!(rt; kind.is_rep(), has_elements, "{kind:?}");
+        last = kind.code();
+    }
+}
+
+#[test]
+fn lists(rt: HostRuntime) {
+    let rows = [
+        (CallKind::GetPartitionId, 0, 0, 8),
+        (CallKind::DepositMemory, 0, 8, 0),
+        (CallKind::DepositMemory, 511, 4096, 0),
+        (CallKind::WithdrawMemory, 4095, 8, 32_760),
+        (CallKind::GetVpRegisters, 3, 28, 48),
+        (CallKind::SetVpRegisters, 4095, 131_056, 0),
+    ];
+    for (kind, reps, input, output) in rows {
+        assert_eq!(rt;
+            (kind.input_len(reps), kind.output_len(reps)),
+            (input, output),
+            "{kind:?} of {reps}"
+        );
+    }
+}
+
+#[test]
+fn frames_of_simple_calls(rt: HostRuntime) {
     let id = Ok(simple(CallKind::GetPartitionId));
     let balance = Ok(simple(CallKind::GetMemoryBalance));
+    let property = Ok(simple(CallKind::GetPartitionProperty));
     let rows = [
         (0x46, 0, 0, id),
         // An address is not looked at where its list is empty.
         (0x46, 3, 0, id),
         (0x0000_0001_0000_0046, 0, 0, Err(AbiFault::Input)),
         (0x0001_0000_0000_0046, 0, 0, Err(AbiFault::Input)),
-        (0x1_0046, 0, 0, Err(AbiFault::Input)),
+        (0x0000_0001_0000_0045, 0, 0, Err(AbiFault::Input)),
         (0x0000_0001_0000_7FFF, 0, 0, Err(AbiFault::UnknownCode)),
         (0x0000_0001_0000_004A, 4, 0, Err(AbiFault::Input)),
         (0x4A, 4, 0, Err(AbiFault::Alignment)),
@@ -21,34 +111,68 @@ fn frames(rt: HostRuntime) {
         (0x4A, 0xFFFF_FFFF_FFFF_FFF8, 0, balance),
         (0x4A, 0, 0xFF0, balance),
         (0x4A, 0, 0xFF8, Err(AbiFault::Alignment)),
+        (0x44, 0xFF0, 0, property),
+        (0x44, 0xFF8, 0, Err(AbiFault::Alignment)),
+        (0x44, 0xFFC, 0, Err(AbiFault::Alignment)),
     ];
     for (rcx, rdx, r8, want) in rows {
-        let frame = Frame {
-            rcx,
-            rdx,
-            r8,
-            input: Bytes::from_vec(Vec::new(rt.alloc())),
-        };
+        let frame = frame_at(rt.alloc(), rcx, rdx, r8);
         assert_eq!(rt; frame.check(), want, "{rcx:#x} with {rdx:#x} and {r8:#x}");
     }
 }
 
-// Bits 3:0 are left out, since each turns 0x46 into the code of another call of the TLFS.
+#[test]
+fn frames_of_rep_calls(rt: HostRuntime) {
+    let deposit = CallKind::DepositMemory;
+    let registers = CallKind::GetVpRegisters;
+    let rows = [
+        (0x0001_0003_0000_0048, Ok(rep(deposit, 3, 1))),
+        (0x0003_0003_0000_0048, Err(AbiFault::Input)),
+        (0x0000_0000_0000_0048, Err(AbiFault::Input)),
+        (0x0000_0001_0001_0048, Err(AbiFault::Input)),
+        // Input lists of 4,096 and 4,104 bytes.
+        (0x0000_01FF_0000_0048, Ok(rep(deposit, 511, 0))),
+        (0x0000_0200_0000_0048, Err(AbiFault::Alignment)),
+        // Output lists of 4,096 and 4,112 bytes.
+        (0x0000_0100_0000_0050, Ok(rep(registers, 256, 0))),
+        (0x0000_0101_0000_0050, Err(AbiFault::Alignment)),
+    ];
+    for (rcx, want) in rows {
+        let frame = frame_at(rt.alloc(), rcx, 0, 0);
+        assert_eq!(rt; frame.check(), want, "{rcx:#x}");
+    }
+}
+
+#[test]
+fn fast_frames(rt: HostRuntime) {
+    let rows = [
+        (0x1_0041, 3, 0, Ok(fast(CallKind::InitializePartition))),
+        (0x1_005B, 3, 5, Ok(fast(CallKind::DisconnectPort))),
+        (0x1_0040, 0, 0, Err(AbiFault::Input)),
+        (0x1_0045, 0, 0, Err(AbiFault::Input)),
+        (0x1_0046, 0, 0, Err(AbiFault::Input)),
+        (0x1_005C, 0, 0, Err(AbiFault::Input)),
+    ];
+    for (rcx, rdx, r8, want) in rows {
+        let frame = frame_at(rt.alloc(), rcx, rdx, r8);
+        assert_eq!(rt; frame.check(), want, "{rcx:#x}");
+    }
+}
+
+// Each of bits 3:0 turns 0x46 into the code of another call, and each of bits 15:4 into that of none.
 #[test]
 fn flipped_bits(rt: HostRuntime) {
-    for bit in 4..64_u32 {
-        let frame = Frame {
-            rcx: 0x46 ^ 1 << bit,
-            rdx: 0,
-            r8: 0,
-            input: Bytes::from_vec(Vec::new(rt.alloc())),
+    for bit in 0..64_u32 {
+        let want = match bit {
+            0 => Ok(simple(CallKind::GetNextChildPartition)),
+            1 => Ok(simple(CallKind::GetPartitionProperty)),
+            2 => Ok(simple(CallKind::FinalizePartition)),
+            3 => Ok(simple(CallKind::CreateVp)),
+            4..16 => Err(AbiFault::UnknownCode),
+            _ => Err(AbiFault::Input),
         };
-        let want = if bit < 16 {
-            AbiFault::UnknownCode
-        } else {
-            AbiFault::Input
-        };
-        assert_eq!(rt; frame.check(), Err(want), "bit {bit}");
+        let frame = frame_at(rt.alloc(), 0x46 ^ 1 << bit, 0, 0);
+        assert_eq!(rt; frame.check(), want, "bit {bit}");
     }
 }
 
@@ -75,16 +199,13 @@ fn input_values(rt: HostRuntime) {
 #[test]
 fn input_bytes(rt: HostRuntime) -> Result<(), Fail> {
     let frame = Frame {
-        rcx: 0x4A,
+        rcx: 0x5B,
         rdx: 0x1817_1615_1413_1211,
         r8: 0x2827_2625_2423_2221,
         input: Bytes::from_vec([1, 2, 3].to_vec(rt.alloc())?),
     };
-    let listed = simple(CallKind::GetMemoryBalance);
-    let fast = Shape {
-        fast: true,
-        ..listed
-    };
+    let listed = simple(CallKind::DisconnectPort);
+    let fast = fast(CallKind::DisconnectPort);
     let rows = [
         (0, 1, 0x11),
         (2, 3, 0x13),
@@ -110,13 +231,7 @@ fn another_start(rt: HostRuntime) {
         (0, 4095, 0x0FFF_0000_0000_0000),
     ];
     for (rcx, start, want) in rows {
-        let frame = Frame {
-            rcx,
-            rdx: 8,
-            r8: 16,
-            input: Bytes::from_vec(Vec::new(rt.alloc())),
-        };
-        let frame = frame.with_start(start);
+        let frame = frame_at(rt.alloc(), rcx, 8, 16).with_start(start);
         assert_eq!(rt; (frame.rcx, frame.rdx, frame.r8), (want, 8, 16));
     }
 }
@@ -167,32 +282,13 @@ fn statuses(rt: HostRuntime) {
     }
 }
 
-#[test]
-fn lists(rt: HostRuntime) {
-    let rows = [
-        (CallKind::GetPartitionId, 0x46, 0, 8),
-        (CallKind::GetMemoryBalance, 0x4A, 8, 16),
-    ];
-    for (kind, code, input, output) in rows {
-        assert_eq!(rt; CallKind::of(code), Some(kind));
-        assert_eq!(rt;
-            (kind.input_len(0), kind.output_len(0)),
-            (input, output),
-            "{kind:?}"
-        );
-        assert!(rt; !kind.accepts_fast(), "{kind:?}");
-    }
-}
-
-#[test]
-fn all_calls(rt: HostRuntime) {
-    let mut last = 0;
-    for kind in ALL_CALLS {
-        let row = kind.row();
-        let has_elements = row.input_element > 0 || row.output_element > 0;
-        assert!(rt; last < kind.code(), "{kind:?} by rising code");
-        assert_eq!(rt; kind.is_rep(), has_elements, "{kind:?}");
-        last = kind.code();
+// A frame without bytes of input.
+fn frame_at<A: Allocator>(alloc: A, rcx: u64, rdx: u64, r8: u64) -> Frame<A> {
+    Frame {
+        rcx,
+        rdx,
+        r8,
+        input: Bytes::from_vec(Vec::new(alloc)),
     }
 }
 
@@ -203,5 +299,23 @@ fn simple(kind: CallKind) -> Shape {
         fast: false,
         reps: 0,
         start: 0,
+    }
+}
+
+// What a fast frame says.
+fn fast(kind: CallKind) -> Shape {
+    Shape {
+        fast: true,
+        ..simple(kind)
+    }
+}
+
+// What a frame of a rep call says.
+fn rep(kind: CallKind, reps: u16, start: u16) -> Shape {
+    Shape {
+        kind,
+        fast: false,
+        reps,
+        start,
     }
 }

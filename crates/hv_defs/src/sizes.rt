@@ -15,6 +15,9 @@ pub const SELF_ID: u64 = u64::MAX;
 /// The root partition's id.
 pub const ROOT_ID: u64 = 1;
 
+/// Most partitions that may stand above one: the root's depth is 0.
+pub const MAX_DEPTH: u64 = 7;
+
 /// The id of the first partition that is made after boot. Ids rise by 1 and are never used again.
 pub const FIRST_CHILD_ID: u64 = 2;
 

@@ -1,46 +1,53 @@
--- How the machine's state and the flat state of the policy belong together, key by key.
-use Rattle.std.specs.Prelude.{◌≡◌, ℕ, ◌==◌, Bool, true, false, if◌then◌else◌, List, [], Option, Some, None}
-use Rattle.std.specs.List.{list_any}
+-- How the machine's state and the flat state of the policy belong together, key by key: what the flat maps have
+-- under a partition's id is what the tree's row of that partition holds.
+use Rattle.std.specs.Prelude.{◌≡◌, ℕ, ◌==◌, ◌&&◌, Bool, true, false, not, if◌then◌else◌, [], Option, Some, None}
 use Rattle.std.specs.Option.{option_map}
 use Rattle.std.specs.FinMap.{get}
-use Rattle.hv_defs.specs.declared.life.Life.TheVariants.{Active}
-use Rattle.hv_defs.specs.declared.sizes.TheConstants.{ROOT_ID, CPU_RESERVE_START, CPU_CAP_START, CPU_WEIGHT_START}
+use Rattle.std.specs.FinSet as set
+use Rattle.hv_partition.specs.Partition.{PartitionState}
 use Rattle.hv_policy.specs.Boot.{start_vp}
 use Rattle.hv_policy.specs.Flat.{Flat, PartRow, PageRow, VpRow}
-use Rattle.hv_machine.specs.State.{Partition, State, partition_at}
+use Rattle.hv_tree.specs.Rows.{Row}
+use Rattle.hv_machine.specs.State.{State}
 
--- whether a number stands in a list
-abbrev pub holds : List ℕ → ℕ → Bool
-holds ns n = list_any (λ x. x == n) ns
-
--- the flat row of a partition: so far each is the root, as boot gave it
-abbrev pub part_row : Partition → PartRow
-part_row p = record {
-  parent = None;
-  life = Active;
-  mask = p.mask;
-  reserve = CPU_RESERVE_START;
-  cap = CPU_CAP_START;
-  weight = CPU_WEIGHT_START;
+-- the flat row of a partition
+abbrev pub part_row : Row PartitionState → PartRow
+part_row r = record {
+  parent = r.0;
+  life = r.1.life;
+  mask = r.1.mask;
+  reserve = r.1.reserve;
+  cap = r.1.cap;
+  weight = r.1.weight;
 }
 
--- the flat row of a page: pooled or loose at the root
-abbrev pub page_row : Partition → ℕ → Option PageRow
-page_row p page =
-    if holds p.pooled page then Some (record { owner = ROOT_ID; pooled = true })
-    else if holds p.loose page then Some (record { owner = ROOT_ID; pooled = false }) else None
+-- whether the page with this row is one of the pooled, or of the loose, pages of a partition
+abbrev pub is_held : ℕ → Bool → Option PageRow → Bool
+is_held id pooled None = false
+is_held id true (Some page) = page.owner == id && page.pooled
+is_held id false (Some page) = page.owner == id && not page.pooled
+
+-- whether the partition of a row has a page in its pool, or among its loose pages
+abbrev pub holds : Bool → ℕ → Option (Row PartitionState) → Bool
+holds pooled page None = false
+holds true page (Some r) = set.contains r.1.pooled.pages page
+holds false page (Some r) = set.contains r.1.loose.pages page
 
 -- the flat row of a processor, as it was made
-abbrev pub vp_row : ℕ → Option Partition → Option VpRow
+abbrev pub vp_row : ℕ → Option (Row PartitionState) → Option VpRow
 vp_row index None = None
-vp_row index (Some p) = if holds p.vps index then Some (start_vp index) else None
+vp_row index (Some r) = if set.contains r.1.vps index then Some (start_vp index) else None
+
+-- the flat state has under this id what the row holds
+pub record Shows (f : Flat) (id : ℕ) (row : Option (Row PartitionState)) : Type 0 where
+  pub part : get f.part id ≡ option_map part_row row
+  pub page : (page : ℕ) (pooled : Bool) → is_held id pooled (get f.page page) ≡ holds pooled page row
+  pub vp : (index : ℕ) → get f.vp (id, index) ≡ vp_row index row
+  pub port : (port : ℕ) → get f.port (id, port) ≡ None
+  pub conn : (conn : ℕ) → get f.conn (id, conn) ≡ None
 
 pub record IsFlat (m : State) (f : Flat) : Type 0 where
-  pub part : (id : ℕ) → get f.part id ≡ option_map part_row (partition_at m id)
-  pub page : (page : ℕ) → get f.page page ≡ page_row m.root page
-  pub vp : (id index : ℕ) → get f.vp (id, index) ≡ vp_row index (partition_at m id)
-  pub port : (id port : ℕ) → get f.port (id, port) ≡ None
-  pub conn : (id conn : ℕ) → get f.conn (id, conn) ≡ None
+  pub rows : (id : ℕ) → Shows f id (get m.rows id)
   pub mail : f.mail ≡ []
   pub next : f.next ≡ m.next
   pub served : f.served ≡ m.served

@@ -1,26 +1,22 @@
--- What always holds of the pages.
-use Rattle.std.specs.Prelude.{◌≡◌, ℕ, ◌+◌, ◌*◌, ◌≤◌, ◌==◌, if◌then◌else◌, nat_lt, List, length, count_by}
-use Rattle.hv_defs.specs.declared.sizes.TheConstants.{VP_CHARGE}
-use Rattle.hv_machine.specs.State.{Partition}
+-- What always holds of a machine's pages.
+use Rattle.std.specs.Prelude.{◌≡◌, ℕ, ◌≤◌, ◌<◌, Bool, true, false, length, Some}
+use Rattle.std.specs.FinMap.{get}
+use Rattle.std.specs.FinSet as set
+use Rattle.hv_partition.specs.Partition.{PartitionState, in_use}
+use Rattle.hv_tree.specs.Rows.{Row, children}
+use Rattle.hv_machine.specs.IsFlat.{holds}
+use Rattle.hv_machine.specs.State.{State}
 
--- how often a number stands in a list
-abbrev pub times : ℕ → List ℕ → ℕ
-times n ns = count_by (λ x. x == n) ns
+-- the page stands in one page set of one partition, and in no other
+pub record IsHeldOnce (m : State) (page : ℕ) : Type 0 where
+  pub owner : ℕ
+  pub pooled : Bool
+  pub held : holds pooled page (get m.rows owner) ≡ true
+  pub alone : (id : ℕ) (kind : Bool) → holds kind page (get m.rows id) ≡ true → (id ≡ owner) × (kind ≡ pooled)
 
--- each boot page stands once, in one list of the one partition, and no other page stands there
-abbrev pub HasEachPageOnce : ℕ → Partition → Type 0
-HasEachPageOnce pages p = (page : ℕ) → times page p.loose + times page p.pooled ≡ (if nat_lt page pages then 1 else 0)
-
--- each processor stands once
-abbrev pub HasEachVpOnce : Partition → Type 0
-HasEachVpOnce p = (index : ℕ) → times index p.vps ≤ 1
-
--- the pages that a partition uses are at most those of its pool
-abbrev pub IsWithinPool : Partition → Type 0
-IsWithinPool p = VP_CHARGE * length p.vps ≤ length p.pooled
-
--- what always holds of a partition, of so many boot pages
-pub record IsSound (pages : ℕ) (p : Partition) : Type 0 where
-  pub pages_once : HasEachPageOnce pages p
-  pub vps_once : HasEachVpOnce p
-  pub within_pool : IsWithinPool p
+-- each boot page stands in exactly one page set, and no other page in any; and what a partition uses is at most what
+-- its pool has
+pub record IsSound (m : State) : Type 0 where
+  pub once : (page : ℕ) → page < m.pages → IsHeldOnce m page
+  pub others : (page id : ℕ) (kind : Bool) → m.pages ≤ page → holds kind page (get m.rows id) ≡ false
+  pub within : (id : ℕ) (r : Row PartitionState) → get m.rows id ≡ Some r → in_use (length (children m.rows id)) r.1 ≤ set.len r.1.pooled.pages

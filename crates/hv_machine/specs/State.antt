@@ -1,29 +1,27 @@
 -- What the machine is seen as.
-use Rattle.std.specs.Prelude.{ℕ, ◌==◌, List, Option, Some, None, if◌then◌else◌}
-use Rattle.hv_defs.specs.declared.sizes.TheConstants.{ROOT_ID}
+use Rattle.std.specs.Prelude.{ℕ, refl}
+use Rattle.std.specs.Coded.{Coded, code_by, coded×, coded_ℕ, coded_option}
+use Rattle.std.specs.FinMap as map
 use Rattle.hv_abi.specs.declared.frame.Frame.{Frame}
+use Rattle.hv_partition.specs.Partition.{PartitionState, partition_code}
 use Rattle.hv_policy.specs.declared.event.Action.TheVariants.{Hypercall}
 use Rattle.hv_policy.specs.declared.event.Caller.{Caller}
 use Rattle.hv_policy.specs.declared.event.Event.{Event}
-use Rattle.hv_privs.specs.declared.Privileges.{Privileges}
+use Rattle.hv_tree.specs.Rows.{Rows}
 
--- a partition: its mask, its loose and pooled pages, and the indexes of its processors
-pub record Partition : Type 0 where
-  pub mask : Privileges
-  pub loose : List ℕ
-  pub pooled : List ℕ
-  pub vps : List ℕ
-
--- the root, how many pages boot gave, the id that the next partition gets, and how many events were served
+-- the partitions by id, each with its parent; how many pages boot gave, the id that the next partition gets, and how
+-- many events were served
 pub record State : Type 0 where
-  pub root : Partition
+  pub rows : Rows PartitionState
   pub pages : ℕ
   pub next : ℕ
   pub served : ℕ
 
--- the partition with this id, if there is one
-abbrev pub partition_at : State → ℕ → Option Partition
-partition_at m id = if id == ROOT_ID then Some m.root else None
+-- such a state is stored as the tuple of its fields
+abbrev pub state_code : Coded State
+state_code =
+    code_by (Rows PartitionState × (ℕ × (ℕ × ℕ))) (coded× (map.code coded_ℕ (coded× (coded_option coded_ℕ) partition_code)) (coded× coded_ℕ (coded× coded_ℕ coded_ℕ)))
+    (λ s. (s.rows, (s.pages, (s.next, s.served)))) (λ t. record { rows = t.0; pages = t.1.0; next = t.1.1.0; served = t.1.1.1 }) (λ _. refl)
 
 -- a hypercall as an event
 abbrev pub call_event : {A : Type 0} → Caller → Frame A → Event A

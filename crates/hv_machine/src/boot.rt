@@ -1,15 +1,17 @@
 // The machine as it boots.
-ghost use Rattle.std.specs.Prelude.{◌≡◌, ◌-◌, ◌≤◌, Some, None, IfOk, IfErr};
-ghost use Rattle.std.specs.List.{range_with_len};
+ghost use Rattle.std.specs.Prelude.{◌≡◌, ◌≤◌, ◌&&◌, ℕ, Some, None, nat_le, nat_lt, IfOk, IfErr, OnOk};
+ghost use Rattle.std.specs.FinSet as set;
+ghost use Rattle.hv_defs.specs.declared.sizes.TheConstants.{MAX_VPS as VPS};
 ghost use Rattle.hv_policy.specs.Boot.{boot as booted};
-ghost use Rattle.hv_machine.specs.Boot.{boot_fault, IsBootRefusal};
+ghost use Rattle.hv_machine.specs.Boot.{boot_fault, IsBootRefusal, IsBootRoot, IsBootTree};
 ghost use Rattle.hv_machine.specs.IsFlat.{IsFlat};
 ghost use Rattle.hv_machine.specs.Pages.{IsSound};
 
 use crate::machine::Machine;
-use crate::root::Root;
-use hv_defs::{FIRST_CHILD_ID, MAX_PAGES, MAX_VPS, VP_CHARGE};
+use hv_defs::{FIRST_CHILD_ID, Life, MAX_PAGES, MAX_VPS, ROOT_ID, VP_CHARGE};
+use hv_partition::Partition;
 use hv_policy::Config;
+use hv_tree::IdTree;
 use std::alloc::{AllocError, Allocator};
 
 /// Why a configuration was refused, in the order in which the causes are looked for.
@@ -32,17 +34,18 @@ impl<A: Allocator + Clone> Machine<A> {
         ensures accepted { IfOk result (λ m. boot_fault config ≡ None) }
         ensures state { IfOk result (λ m. IsFlat m (booted config)) }
         ensures pages { IfOk result (λ m. m.pages ≡ config.pages) }
-        ensures sound { IfOk result (λ m. IsSound m.pages m.root) }
+        ensures sound { IfOk result IsSound }
     {
         check(config)?;
-        let Ok(root) = make_root(alloc, config) else {
+        let Ok(tree) = make_tree(&alloc, config) else {
             return Err(BootRefused::Memory);
         };
         Ok(Machine {
-            root,
+            tree,
             pages: config.pages,
             next: FIRST_CHILD_ID,
             served: 0,
+            alloc,
         })
     }
 }
@@ -67,33 +70,78 @@ fn check(config: Config) -> Result<(), BootRefused>
     Ok(())
 }
 
-// The root: the first pages pooled, the others loose, and its processors.
-fn make_root<A: Allocator + Clone>(alloc: A, config: Config) -> Result<Root<A>, AllocError>
-    requires { config.pool ≤ config.pages }
-    ensures mask { IfOk result (λ r. r.mask ≡ config.mask) }
-    ensures loose { IfOk result (λ r. r.loose ≡ range_with_len config.pool (config.pages - config.pool)) }
-    ensures pooled { IfOk result (λ r. r.pooled ≡ range_with_len 0 config.pool) }
-    ensures vps { IfOk result (λ r. r.vps ≡ range_with_len 0 config.vps) }
+// The tree of the root alone.
+fn make_tree<A: Allocator + Clone>(
+    alloc: &A,
+    config: Config,
+) -> Result<IdTree<Partition<A>, A>, AllocError>
+    requires pages { config.pool ≤ config.pages }
+    requires vps { config.vps ≤ VPS }
+    ensures { IfOk result (IsBootTree config) }
 {
-    let loose = numbers(alloc.clone()?, config.pool, config.pages)?;
-    let pooled = numbers(alloc.clone()?, 0, config.pool)?;
-    let vps = numbers(alloc, 0, config.vps)?;
-    Ok(Root {
-        mask: config.mask,
-        loose,
-        pooled,
-        vps,
-    })
+    let root = make_root(alloc.clone()?, config)?;
+    match IdTree::new(alloc.clone()?, ROOT_ID, root) {
+        Ok(tree) => Ok(tree),
+        Err(_) => Err(AllocError),
+    }
 }
 
-// The numbers from one up to another, rising.
-fn numbers<A: Allocator>(alloc: A, from: u32, to: u32) -> Result<Vec<u32, A>, AllocError>
-    requires { from ≤ to }
-    ensures { IfOk result (λ v. v.items ≡ range_with_len from (to - from)) }
+// The root: the first pages pooled, the others loose, and its processors.
+fn make_root<A: Allocator + Clone>(alloc: A, config: Config) -> Result<Partition<A>, AllocError>
+    requires pages { config.pool ≤ config.pages }
+    requires vps { config.vps ≤ VPS }
+    ensures { IfOk result (IsBootRoot config) }
 {
-    let mut numbers = Vec::with_capacity(alloc, (to - from) as usize)?;
-    for number in from..to {
-        numbers.push(number)?;
+    let mut root = Partition::new(alloc, Life::Active, config.mask)?;
+    give_loose(&mut root, config.pool, config.pages)?;
+    give_pooled(&mut root, config.pool)?;
+    give_vps(&mut root, config.vps)?;
+    Ok(root)
+}
+
+// Gives the pages from one number up to another as loose pages: from the highest down, in which order a set fills
+// fastest.
+fn give_loose<A: Allocator>(root: &mut Partition<A>, from: u32, to: u32) -> Result<(), AllocError>
+    requires order { from ≤ to }
+    requires none { root.old.loose.pages ≡ set.empty }
+    ensures pages { OnOk result ((page : ℕ) → set.contains root.new.loose.pages page ≡ nat_le from page && nat_lt page to) }
+    ensures rest { root.new ≡ record root.old { loose = root.new.loose } }
+{
+    root.reserve_loose((to - from) as usize)?;
+    let mut next = to;
+    while next > from {
+        next -= 1;
+        root.put_loose(next);
     }
-    Ok(numbers)
+    Ok(())
+}
+
+// Gives the pages below a number as pooled pages.
+fn give_pooled<A: Allocator>(root: &mut Partition<A>, to: u32) -> Result<(), AllocError>
+    requires { root.old.pooled.pages ≡ set.empty }
+    ensures pages { OnOk result ((page : ℕ) → set.contains root.new.pooled.pages page ≡ nat_lt page to) }
+    ensures count { OnOk result (set.len root.new.pooled.pages ≡ to) }
+    ensures rest { root.new ≡ record root.old { pooled = root.new.pooled } }
+{
+    root.reserve_pooled(to as usize)?;
+    let mut next = to;
+    while next > 0 {
+        next -= 1;
+        root.put_pooled(next);
+    }
+    Ok(())
+}
+
+// Makes the processors with the indexes below a number.
+fn give_vps<A: Allocator>(root: &mut Partition<A>, to: u32) -> Result<(), AllocError>
+    requires most { to ≤ VPS }
+    requires none { root.old.vps ≡ set.empty }
+    ensures vps { OnOk result ((index : ℕ) → set.contains root.new.vps index ≡ nat_lt index to) }
+    ensures count { OnOk result (set.len root.new.vps ≡ to) }
+    ensures rest { root.new ≡ record root.old { vps = root.new.vps } }
+{
+    for index in 0..to {
+        root.add_vp(index)?;
+    }
+    Ok(())
 }

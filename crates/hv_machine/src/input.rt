@@ -9,7 +9,7 @@ use std::alloc::Allocator;
 
 // The 8 bytes at a place as a number.
 pub fn number_at<A: Allocator>(frame: &Frame<A>, shape: &Shape, at: usize) -> u64
-    requires { at < 4096 }
+    requires { at < 4294967296 }
     ensures { result ≡ field (input_of frame.now shape.now.fast) at 8 }
 {
     let mut bytes = [0; 8];

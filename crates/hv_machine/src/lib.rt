@@ -1,6 +1,6 @@
 //! The machine: one event on the partitions that are there is one step of the flat policy.
 //!
-//! [`Machine::boot`] makes the root partition, and [`Machine::step`] takes one event: it asks the rules
+//! The partitions are a tree, each with its pages and processors. [`Machine::boot`] makes the root partition, and [`Machine::step`] takes one event: it asks the rules
 //! that stand for it in the policy, in order, and serves it exactly where all of them are met. `IsFlat` in
 //! `specs/` says which flat state of the policy a machine stands for, and the contract of `step` says
 //! that its reply and its new state are those of the flat step. That each boot page stands in exactly one
@@ -11,11 +11,13 @@
 
 mod ask;
 mod boot;
+mod change;
+mod deposits;
 mod input;
 mod machine;
 mod memory;
+mod partitions;
 mod result;
-mod root;
 
 pub use boot::BootRefused;
 pub use hv_policy::{Action, Caller, Config, Event, Output, Reply, Rule};

@@ -1,56 +1,65 @@
 // The machine and its one step.
-ghost use Rattle.std.specs.Prelude.{◌≡◌, ◌<◌, None, IsTrue, IfOk, OnOk, OnErr};
+ghost use Rattle.std.specs.Prelude.{◌≡◌, ◌<◌, None, Some, true, IsTrue, IfOk, OnOk, OnErr};
 ghost use Rattle.hv_abi.specs.Check.{IsShape};
 ghost use Rattle.hv_policy.specs.Answer.{output as output_of};
-ghost use Rattle.hv_policy.specs.Call.{may_take_memory};
+ghost use Rattle.hv_policy.specs.Call.{is_served, may_take_memory, served_call};
+ghost use Rattle.hv_policy.specs.Effect.{effect};
 ghost use Rattle.hv_policy.specs.Flat.{Flat};
+ghost use Rattle.hv_policy.specs.Needs.{takes_memory};
 ghost use Rattle.hv_policy.specs.Step.{step, unmet};
 ghost use Rattle.hv_policy.specs.declared.event.Action.TheVariants.{Hypercall};
 ghost use Rattle.hv_machine.specs.IsFlat.{IsFlat};
 ghost use Rattle.hv_machine.specs.Pages.{IsSound};
 ghost use Rattle.hv_machine.specs.State.{call_event};
+ghost use Rattle.hv_machine.specs.Change.{IsAsBefore};
 
-use crate::ask::target;
-use crate::result::refused;
-use crate::root::Root;
+use crate::ask::{page, target};
+use crate::change::{Order, change};
+use crate::input::number_at;
+use crate::partitions::next_after;
+use crate::result::{refused, reply};
 use hv_abi::{CallKind, Frame, Shape};
+use hv_partition::Partition;
 use hv_policy::{Action, Caller, Event, Output, Reply};
+use hv_tree::IdTree;
 use std::alloc::Allocator;
 use std::marker::Model;
 
 /// The partitions that are there, with all that they hold.
 #[derive(Drop)]
 pub struct Machine<A: Allocator> {
-    pub(crate) root: Root<A>,
+    pub(crate) tree: IdTree<Partition<A>, A>,
     pub(crate) pages: u32,
     pub(crate) next: u64,
     pub(crate) served: u64,
+    pub(crate) alloc: A,
 }
 
 impl<A: Allocator> Model for Machine<A> {
-    ghost use Rattle.hv_machine.specs.State.{State};
+    ghost use Rattle.hv_machine.specs.State.{State, state_code};
 
     ghost Value = { State };
 
-    ghost use Rattle.hv_machine.specs.Pages.{IsSound};
+    ghost coded = { state_code };
 
-    ghost view = { λ m. record { root = m.root; pages = m.pages; next = m.next; served = m.served } };
+    ghost use Rattle.hv_machine.specs.Lasting.{IsLasting};
 
-    ghost invariant = { λ m. IsSound m.pages m.root };
+    ghost view = { λ m. record { rows = m.tree; pages = m.pages; next = m.next; served = m.served } };
+
+    ghost invariant = { λ m. IsLasting (record { rows = m.tree; pages = m.pages; next = m.next; served = m.served }) };
 }
 
 /// Why an event couldn't be handled by the host. Nothing changed.
 #[derive(Clone, Copy, PartialEq, Eq, Debug)]
 pub enum HostRefused {
-    /// The host has no memory for it. Only for an event that would be served.
+    /// The host has no memory for it. Only for an event that would be served. Room that was made for it
+    /// before may stay.
     Memory,
 }
 
-impl<A: Allocator> Machine<A> {
+impl<A: Allocator + Clone> Machine<A> {
     /// Takes one event: serves it exactly where every rule that is asked of it is met, and else answers the
     /// first unmet one and changes nothing. The caller keeps the count of served events below 2^32 - 1.
-    ///
-    /// No call that is served so far takes memory of the host.
     pub fn step(&mut self, event: &Event<A>) -> Result<Reply, HostRefused>
         requires { self.old.served < 4294967295 }
 
@@ -59,50 +68,97 @@ impl<A: Allocator> Machine<A> {
         ensures reply { (f : Flat) → IsFlat self.old f → IfOk result (λ r. r ≡ (step f event.now).1) }
         ensures state { (f : Flat) → IsFlat self.old f → OnOk result (IsFlat self.new (step f event.now).0) }
 
-        // The host refuses only what would be served, and only where it may take memory.
+        // The host refuses only what would be served, and only where it may take memory. Then nothing changes
+        // but room that may have been made, and the machine stands for the flat states that it stood for.
         ensures refused { (f : Flat) → IsFlat self.old f → OnErr result (unmet f event.now ≡ None) }
         ensures memory { OnErr result (IsTrue (may_take_memory event.now)) }
-        ensures kept { OnErr result (self.new ≡ self.old) }
+        ensures kept { OnErr result (IsAsBefore self.old self.new) }
+        ensures flat { (f : Flat) → IsFlat self.old f → OnErr result (IsFlat self.new f) }
 
         // Each boot page stays in exactly one page set, and what is in use within what is pooled.
         ensures pages { self.new.pages ≡ self.old.pages }
-        ensures sound { IsSound self.new.pages self.new.root }
+        ensures sound { IsSound self.new }
     {
-        Ok(self.hypercall(event.by, frame_of(&event.what)))
+        self.hypercall(event.by, frame_of(&event.what))
     }
 
     // One hypercall.
-    fn hypercall(&mut self, by: Caller, frame: &Frame<A>) -> Reply
+    fn hypercall(&mut self, by: Caller, frame: &Frame<A>) -> Result<Reply, HostRefused>
         requires { self.old.served < 4294967295 }
-        ensures reply { (f : Flat) → IsFlat self.old f → result ≡ (step f (call_event by frame.now)).1 }
-        ensures state { (f : Flat) → IsFlat self.old f → IsFlat self.new (step f (call_event by frame.now)).0 }
+        ensures reply { (f : Flat) → IsFlat self.old f → IfOk result (λ r. r ≡ (step f (call_event by frame.now)).1) }
+        ensures state { (f : Flat) → IsFlat self.old f → OnOk result (IsFlat self.new (step f (call_event by frame.now)).0) }
+        ensures refused { (f : Flat) → IsFlat self.old f → OnErr result (unmet f (call_event by frame.now) ≡ None) }
+        ensures memory { OnErr result (IsTrue (may_take_memory (call_event by frame.now))) }
+        ensures kept { OnErr result (IsAsBefore self.old self.new) }
+        ensures flat { (f : Flat) → IsFlat self.old f → OnErr result (IsFlat self.new f) }
         ensures pages { self.new.pages ≡ self.old.pages }
-        ensures sound { IsSound self.new.pages self.new.root }
+        ensures sound { IsSound self.new }
     {
         // Opens the machine for the proof: that it is sound is known of its fields.
-        let _ = &self.root;
+        let _ = &self.tree;
         let shape = match self.ask_call(by, frame) {
             Ok(shape) => shape,
-            Err(rule) => return refused(frame, rule),
+            Err(rule) => return Ok(refused(frame, rule)),
         };
         let output = self.output(by, frame, shape);
-        self.served += 1;
-        Reply::Served(output)
+        match self.serve(by, frame, shape) {
+            Ok(()) => Ok(reply(frame, shape, output)),
+            Err(refused) => Err(refused),
+        }
     }
 
+    // Serves a call: what it changes.
+    fn serve(&mut self, by: Caller, frame: &Frame<A>, shape: Shape) -> Result<(), HostRefused>
+        requires count { self.old.served < 4294967295 }
+        requires shape { IsShape frame.now shape }
+        requires served { served_call frame.now ≡ Some shape.kind }
+        requires met { (f : Flat) → IsFlat self.old f → unmet f (call_event by frame.now) ≡ None }
+        ensures state { (f : Flat) → IsFlat self.old f → OnOk result (IsFlat self.new (effect f (call_event by frame.now))) }
+        ensures memory { OnErr result (IsTrue (takes_memory shape.kind)) }
+        ensures kept { OnErr result (IsAsBefore self.old self.new) }
+        ensures flat { (f : Flat) → IsFlat self.old f → OnErr result (IsFlat self.new f) }
+        ensures pages { self.new.pages ≡ self.old.pages }
+        ensures sound { IsSound self.new }
+    {
+        let target = target(by, frame, shape);
+        let to = Order {
+            kind: shape.kind,
+            caller: by.part,
+            target,
+            next: self.next,
+            page: page(frame, shape),
+        };
+        let Ok(()) = change(&mut self.tree, &self.alloc, to) else {
+            return Err(HostRefused::Memory);
+        };
+        self.next = next_after(shape.kind, self.next);
+        self.served += 1;
+        Ok(())
+    }
+}
+
+impl<A: Allocator> Machine<A> {
     // What a call answers that is served.
     fn output(&self, by: Caller, frame: &Frame<A>, shape: Shape) -> Output
-        requires { IsShape frame.now shape }
+        requires shape { IsShape frame.now shape }
+        requires known { IsTrue (is_served shape.kind) }
         ensures { (f : Flat) → IsFlat self.now f → result ≡ output_of shape.kind f by.part frame.now }
     {
+        let target = target(by, frame, shape);
         let mut output = Output::new();
         match shape.kind {
+            CallKind::CreatePartition => output.push_number(self.next),
             CallKind::GetPartitionId => output.push_number(by.part),
+            CallKind::GetNextChildPartition => {
+                output.push_number(self.next_child(target, number_at(frame, &shape, 8)));
+            }
+            CallKind::WithdrawMemory => output.push_number(self.lowest_pooled(target)),
             CallKind::GetMemoryBalance => {
-                let balance = self.memory_balance(target(by, frame, shape));
+                let balance = self.memory_balance(target);
                 output.push_number(balance.available);
                 output.push_number(balance.in_use);
             }
+            _ => {}
         }
         output
     }
@@ -119,6 +175,13 @@ impl<A: Allocator> Machine<A> {
         ensures { result ≡ self.now.next }
     {
         self.next
+    }
+
+    /// The partitions, as a tree.
+    pub fn tree(&self) -> &IdTree<Partition<A>, A>
+        ensures { result.now ≡ self.now.rows }
+    {
+        &self.tree
     }
 }
 

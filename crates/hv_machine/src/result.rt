@@ -1,13 +1,16 @@
 // What a call is answered: its reply where a rule refuses it, and its result value.
-ghost use Rattle.std.specs.Prelude.{◌≡◌, ◌<◌};
-ghost use Rattle.hv_policy.specs.Call.{served_call};
+ghost use Rattle.std.specs.Prelude.{◌≡◌, ◌<◌, ◌+◌, if◌then◌else◌};
+ghost use Rattle.hv_abi.specs.Check.{IsShape};
+ghost use Rattle.hv_defs.specs.Bits.{bits};
+ghost use Rattle.hv_policy.specs.declared.reply.Reply.TheVariants.{Served, More};
+ghost use Rattle.hv_policy.specs.Call.{is_last, served_call};
 ghost use Rattle.hv_policy.specs.Result.{refused_reps as refused_reps_of, completed_reps as completed_reps_of, result_of as result_value_of};
 ghost use Rattle.hv_policy.specs.Step.{refusal};
 ghost use Rattle.hv_policy.specs.declared.event.Action.TheVariants.{Hypercall};
 ghost use Rattle.hv_machine.specs.Result.{HasResult};
 
-use hv_abi::{AbiFault, CallKind, Frame, InputValue, ResultValue, Status};
-use hv_policy::{Reply, Rule, SERVED_CODES};
+use hv_abi::{AbiFault, CallKind, Frame, InputValue, ResultValue, Shape, Status};
+use hv_policy::{Output, Reply, Rule, SERVED_CODES};
 use std::alloc::Allocator;
 
 /// The result value of a hypercall and its reply, as it stands in RAX: the status, and the reps completed,
@@ -25,6 +28,21 @@ pub fn result_of<A: Allocator>(frame: &Frame<A>, reply: &Reply) -> ResultValue
             reps: _,
         } => ResultValue::new(*status, refused_reps(frame)),
         Reply::Fault { rule: _ } => unreachable!(),
+    }
+}
+
+// The reply to an element that is served: more are to come, or it is the last, as a simple call is.
+pub fn reply<A: Allocator>(frame: &Frame<A>, shape: Shape, output: Output) -> Reply
+    requires { IsShape frame.now shape }
+    ensures { result ≡ (if is_last shape.kind frame.now then Served output else More (bits frame.now.rcx 48 12 + 1) output) }
+{
+    if shape.kind.is_rep() && shape.start + 1 < shape.reps {
+        Reply::More {
+            next: shape.start + 1,
+            output,
+        }
+    } else {
+        Reply::Served(output)
     }
 }
 
@@ -63,8 +81,9 @@ fn refused_reps<A: Allocator>(frame: &Frame<A>) -> u16
         return 0;
     }
     match frame.check() {
-        Ok(_) | Err(AbiFault::Alignment) => InputValue::read(frame.rcx).start,
-        Err(_) => 0,
+        Ok(shape) => shape.start,
+        Err(AbiFault::Alignment) => InputValue::read(frame.rcx).start,
+        Err(AbiFault::UnknownCode) | Err(AbiFault::Input) => 0,
     }
 }
 

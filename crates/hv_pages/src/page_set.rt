@@ -1,6 +1,6 @@
 // The pages lie in one list that falls, so the lowest is the last. A pool hands out its lowest page far more often
 // than any other, and from a list that rises each such call would move every page that is left.
-ghost use Rattle.std.specs.Prelude.{◌≡◌, ℕ, ◌+◌, ◌<◌, ◌≤◌, ◌↔◌, true, false, length, take, drop, All, IsNone, IfSome, IfNone, IfOk, IfErr, IsOk, OnOk, slice_index, MatchResult};
+ghost use Rattle.std.specs.Prelude.{◌≡◌, ℕ, ◌+◌, ◌<◌, ◌≤◌, ◌↔◌, true, false, length, take, drop, All, IsNone, IfSome, IfNone, IfOk, IfErr, IsOk, OnOk, OnErr, slice_index, MatchResult};
 ghost use Rattle.std.specs.FinSet as set;
 ghost use Rattle.hv_pages.specs.Falling.{IsFalling};
 ghost use Rattle.hv_pages.specs.PageSet.{pages_of, IsDisjoint, IsLowest};
@@ -33,9 +33,9 @@ impl<A: Allocator> Model for PageSet<A> {
 }
 
 impl<A: Allocator> PageSet<A> {
-    /// The empty set. It takes no memory yet, so its room may be 0.
+    /// The empty set. It takes no memory yet, so its room is 0.
     pub fn new(alloc: A) -> PageSet<A>
-        ensures { result.pages ≡ set.empty }
+        ensures { result ≡ record { pages = set.empty; room = 0 } }
     {
         PageSet {
             falling: Vec::new(alloc),
@@ -49,6 +49,7 @@ impl<A: Allocator> PageSet<A> {
     pub fn reserve(&mut self, more: usize) -> Result<(), AllocError>
         ensures ok { OnOk result (more ≤ self.new.room) }
         ensures enough { more ≤ self.old.room → IsOk result }
+        ensures unchanged { OnErr result (self.new ≡ self.old) }
 
         // In either case.
         ensures pages { self.new.pages ≡ self.old.pages }
@@ -98,6 +99,14 @@ impl<A: Allocator> PageSet<A> {
             }
             Err(_) => false,
         }
+    }
+
+    /// The lowest page, or `None` where the set is empty.
+    pub fn lowest(&self) -> Option<u32>
+        ensures none { IsNone result ↔ (self.now.pages ≡ set.empty) }
+        ensures lowest { IfSome result (IsLowest self.now.pages) }
+    {
+        self.falling.last().copied()
     }
 
     /// Takes out the lowest page, or answers `None` where the set is empty. It takes constant time.

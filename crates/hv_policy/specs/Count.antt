@@ -1,5 +1,5 @@
 -- What is counted in a flat state, each time over all rows.
-use Rattle.std.specs.Prelude.{ℕ, zero, suc, ◌+◌, ◌*◌, ◌-◌, ◌==◌, ◌&&◌, Bool, false, Option, None, Some, count_by, option_and_then}
+use Rattle.std.specs.Prelude.{ℕ, zero, suc, ◌+◌, ◌*◌, ◌-◌, ◌==◌, ◌&&◌, Bool, false, Option, None, Some, count_by, find, option_and_then}
 use Rattle.std.specs.FinMap.{get, entries}
 use Rattle.hv_defs.specs.declared.sizes.TheConstants.{PARTITION_CHARGE, VP_CHARGE, PORT_CHARGE, CONNECTION_CHARGE}
 use Rattle.hv_policy.specs.Flat.{Flat}
@@ -26,6 +26,14 @@ conn_count f id = count_by (λ e. e.0.0 == id) (entries f.conn)
 -- how many pages are in its pool
 abbrev pub pooled_count : Flat → ℕ → ℕ
 pooled_count f id = count_by (λ e. (e.1.owner == id) && e.1.pooled) (entries f.page)
+
+abbrev pub number_of : {X : Type 0} → Option (ℕ × X) → Option ℕ
+number_of None = None
+number_of (Some e) = Some e.0
+
+-- its lowest pooled page, if it has one: pages stand in rising order
+abbrev pub lowest_pooled : Flat → ℕ → Option ℕ
+lowest_pooled f id = number_of (find (λ e. (e.1.owner == id) && e.1.pooled) (entries f.page))
 
 -- the pages that it uses
 abbrev pub in_use : Flat → ℕ → ℕ

@@ -1,8 +1,95 @@
 -- What a served event changes.
-use Rattle.std.specs.Prelude.{◌+◌}
+use Rattle.std.specs.Prelude.{ℕ, ◌+◌, ◌==◌, not, true, false, if◌then◌else◌, List, map, Option, None, Some}
+use Rattle.std.specs.List.{filter}
+use Rattle.std.specs.Ordering.{nat_cmp}
+use Rattle.std.specs.FinMap.{FinMap, get, insert, remove, entries, from_entries, retain_keys}
+use Rattle.hv_abi.specs.declared.call_kind.CallKind.{CallKind}
+use Rattle.hv_abi.specs.declared.call_kind.CallKind.TheVariants.{CreatePartition, InitializePartition, FinalizePartition, DeletePartition, DepositMemory, WithdrawMemory}
+use Rattle.hv_abi.specs.declared.frame.Frame.{Frame}
+use Rattle.hv_defs.specs.declared.life.Life.TheVariants.{Created, Active, Finalized}
+use Rattle.hv_defs.specs.declared.sizes.TheConstants.{CPU_RESERVE_START, CPU_CAP_START, CPU_WEIGHT_START}
+use Rattle.hv_privs.specs.declared.Privileges.{Privileges}
+use Rattle.hv_privs.specs.declared.TheConstants.Privileges as privilege
+use Rattle.hv_privs.specs.Privileges.{of, restrict}
+use Rattle.hv_policy.specs.declared.event.Action.{Action}
+use Rattle.hv_policy.specs.declared.event.Action.TheVariants.{Hypercall}
 use Rattle.hv_policy.specs.declared.event.Event.{Event}
-use Rattle.hv_policy.specs.Flat.{Flat}
+use Rattle.hv_policy.specs.Call.{served_call, page_of, target_of}
+use Rattle.hv_policy.specs.Count.{lowest_pooled}
+use Rattle.hv_policy.specs.Flat.{Flat, PartRow, PageRow, MailRow, pair_cmp}
 
--- every served event adds 1 to the count of served events; the two calls change nothing else
+-- the mask of a partition's row, and no privilege where there is none
+abbrev pub mask_of : Option PartRow → Privileges
+mask_of None = of 0
+mask_of (Some row) = row.mask
+
+-- a new partition: Created, with its parent's mask restricted and the start properties
+abbrev pub new_row : ℕ → Privileges → PartRow
+new_row parent mask = record {
+  parent = Some parent;
+  life = Created;
+  mask = restrict mask privilege.NEW_PARTITION;
+  reserve = CPU_RESERVE_START;
+  cap = CPU_CAP_START;
+  weight = CPU_WEIGHT_START;
+}
+
+abbrev pub changed_at : FinMap nat_cmp PartRow → ℕ → (PartRow → PartRow) → Option PartRow → FinMap nat_cmp PartRow
+changed_at part id change None = part
+changed_at part id change (Some row) = insert part id (change row)
+
+-- the partitions with the row of one of them changed
+abbrev pub with_row : FinMap nat_cmp PartRow → ℕ → (PartRow → PartRow) → FinMap nat_cmp PartRow
+with_row part id change = changed_at part id change (get part id)
+
+-- the rows by (partition, number) of all other partitions
+abbrev pub rows_but : {X : Type 0} → ℕ → FinMap pair_cmp X → FinMap pair_cmp X
+rows_but id rows = retain_keys rows (λ key. not (key.0 == id))
+
+-- the messages at the processors of all other partitions
+abbrev pub mail_but : ℕ → List MailRow → List MailRow
+mail_but id mail = filter (λ row. not (row.part == id)) mail
+
+-- a page that is a loose page of `heir` if `id` held it, and else as it was
+abbrev pub inherited : ℕ → ℕ → PageRow → PageRow
+inherited id heir row = if row.owner == id then record { owner = heir; pooled = false } else row
+
+-- the pages once one of them is a loose page of `id`
+abbrev pub withdrawn : ℕ → Option ℕ → FinMap nat_cmp PageRow → FinMap nat_cmp PageRow
+withdrawn id None pages = pages
+withdrawn id (Some page) pages = insert pages page (record { owner = id; pooled = false })
+
+abbrev pub call_effect : {A : Type 0} → CallKind → Flat → ℕ → Frame A → Flat
+call_effect CreatePartition f caller frame = record f {
+  part = insert f.part f.next (new_row caller (mask_of (get f.part caller)));
+  next = f.next + 1;
+}
+call_effect InitializePartition f caller frame =
+    record f { part = with_row f.part (target_of InitializePartition frame caller) (λ row. record row { life = Active }) }
+call_effect FinalizePartition f caller frame = record f {
+  part = with_row f.part (target_of FinalizePartition frame caller) (λ row. record row { life = Finalized });
+  vp = rows_but (target_of FinalizePartition frame caller) f.vp;
+  port = rows_but (target_of FinalizePartition frame caller) f.port;
+  conn = rows_but (target_of FinalizePartition frame caller) f.conn;
+  mail = mail_but (target_of FinalizePartition frame caller) f.mail;
+}
+call_effect DeletePartition f caller frame = record f {
+  part = remove f.part (target_of DeletePartition frame caller);
+  page = from_entries (map (λ e. (e.0, inherited (target_of DeletePartition frame caller) caller e.1)) (entries f.page));
+}
+call_effect DepositMemory f caller frame =
+    record f { page = insert f.page (page_of frame) (record { owner = target_of DepositMemory frame caller; pooled = true }) }
+call_effect WithdrawMemory f caller frame =
+    record f { page = withdrawn caller (lowest_pooled f (target_of WithdrawMemory frame caller)) f.page }
+call_effect call f caller frame = f
+
+abbrev pub served_effect : {A : Type 0} → Flat → ℕ → Frame A → Option CallKind → Flat
+served_effect f caller frame None = f
+served_effect f caller frame (Some call) = call_effect call f caller frame
+
+abbrev pub action_effect : {A : Type 0} → Flat → ℕ → Action A → Flat
+action_effect f caller (Hypercall frame) = served_effect f caller frame (served_call frame)
+
+-- what a served event leaves: its own changes, and 1 more served event
 abbrev pub effect : {A : Type 0} → Flat → Event A → Flat
-effect f event = record f { served = f.served + 1 }
+effect f event = record (action_effect f event.by.part event.what) { served = f.served + 1 }

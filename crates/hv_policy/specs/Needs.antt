@@ -1,23 +1,100 @@
--- The table of calls: what each needs of its caller, and which rules it is asked beyond P10.
-use Rattle.std.specs.Prelude.{Bool, false, List, []}
+-- The table of calls: what each needs of its caller and its target, and which rules it is asked beyond P10.
+-- It has a row for every call of the profile, also for those that are not served yet.
+use Rattle.std.specs.Prelude.{ℕ, Bool, true, false, List, [], ◌∷◌}
 use Rattle.hv_abi.specs.declared.call_kind.CallKind.{CallKind}
-use Rattle.hv_abi.specs.declared.call_kind.CallKind.TheVariants.{GetPartitionId, GetMemoryBalance}
+use Rattle.hv_abi.specs.declared.call_kind.CallKind.TheVariants.{CreatePartition, InitializePartition, FinalizePartition, DeletePartition, GetPartitionProperty, SetPartitionProperty, GetPartitionId, GetNextChildPartition, DepositMemory, WithdrawMemory, GetMemoryBalance, CreateVp, DeleteVp, GetVpRegisters, SetVpRegisters, DeletePort, DisconnectPort, PostMessage, SignalEvent, CreatePort, ConnectPort}
+use Rattle.hv_defs.specs.declared.life.Life.{Life}
+use Rattle.hv_defs.specs.declared.life.Life.TheVariants as life
+use Rattle.hv_defs.specs.declared.sizes.TheConstants.{PARTITION_CHARGE, VP_CHARGE, PORT_CHARGE, CONNECTION_CHARGE}
+use Rattle.hv_privs.specs.declared.Privileges.{Privileges}
 use Rattle.hv_privs.specs.declared.TheConstants.Privileges as privilege
+use Rattle.hv_policy.specs.declared.need.Kin.{Kin}
 use Rattle.hv_policy.specs.declared.need.Kin.TheVariants as kin
 use Rattle.hv_policy.specs.declared.need.Need.{Need}
+use Rattle.hv_policy.specs.declared.need.States.{States}
+use Rattle.hv_policy.specs.declared.need.States.TheVariants as states
 use Rattle.hv_policy.specs.declared.rule.Rule.{Rule}
+use Rattle.hv_policy.specs.declared.rule.Rule.TheVariants.{PropertyKnown, TargetState, NoChildren, Depth, OtherExists, Connection, Port, Right, VpExists, PropertyRange, Subject, VpReady, PortRoom, Pages}
 
--- the privilege, and which partitions may be the target
+-- whether a life state is one of these
+abbrev pub is_among : Life → States → Bool
+is_among life states.Any = true
+is_among life.Created states.Created = true
+is_among life.Active states.Active = true
+is_among life.Created states.CreatedOrActive = true
+is_among life.Active states.CreatedOrActive = true
+is_among life.Created states.CreatedOrFinalized = true
+is_among life.Finalized states.CreatedOrFinalized = true
+is_among life states = false
+
+abbrev row : Privileges → Kin → States → Need
+row privilege kin states = record { privilege = privilege; kin = kin; states = states }
+
+-- the privilege, which partitions may be the target, and its life states
 abbrev pub needs_of : CallKind → Need
-needs_of GetPartitionId = record { privilege = privilege.ACCESS_PARTITION_ID; kin = kin.Caller }
-needs_of GetMemoryBalance = record { privilege = privilege.ACCESS_MEMORY_POOL; kin = kin.CallerOrChild }
+needs_of CreatePartition = row privilege.CREATE_PARTITIONS kin.Caller states.Any
+needs_of InitializePartition = row privilege.CREATE_PARTITIONS kin.Child states.Created
+needs_of FinalizePartition = row privilege.CREATE_PARTITIONS kin.Child states.CreatedOrActive
+needs_of DeletePartition = row privilege.CREATE_PARTITIONS kin.Child states.CreatedOrFinalized
+needs_of GetPartitionProperty = row privilege.CREATE_PARTITIONS kin.CallerOrChild states.Any
+needs_of SetPartitionProperty = row privilege.CREATE_PARTITIONS kin.Child states.Created
+needs_of GetPartitionId = row privilege.ACCESS_PARTITION_ID kin.Caller states.Any
+needs_of GetNextChildPartition = row privilege.CREATE_PARTITIONS kin.CallerOrChild states.Any
+needs_of DepositMemory = row privilege.ACCESS_MEMORY_POOL kin.CallerOrChild states.CreatedOrActive
+needs_of WithdrawMemory = row privilege.ACCESS_MEMORY_POOL kin.CallerOrChild states.Any
+needs_of GetMemoryBalance = row privilege.ACCESS_MEMORY_POOL kin.CallerOrChild states.Any
+needs_of CreateVp = row privilege.CREATE_PARTITIONS kin.CallerOrChild states.Active
+needs_of DeleteVp = row privilege.CREATE_PARTITIONS kin.CallerOrChild states.Active
+needs_of GetVpRegisters = row privilege.CREATE_PARTITIONS kin.CallerOrChild states.Active
+needs_of SetVpRegisters = row privilege.CREATE_PARTITIONS kin.CallerOrChild states.Active
+needs_of DeletePort = row privilege.CREATE_PORT kin.CallerOrChild states.Active
+needs_of DisconnectPort = row privilege.CONNECT_PORT kin.CallerOrChild states.Active
+needs_of PostMessage = row privilege.POST_MESSAGES kin.Caller states.Any
+needs_of SignalEvent = row privilege.SIGNAL_EVENTS kin.Caller states.Any
+needs_of CreatePort = row privilege.CREATE_PORT kin.CallerOrChild states.Active
+needs_of ConnectPort = row privilege.CONNECT_PORT kin.CallerOrChild states.Active
 
 -- the rules that the call is asked beyond P10, rising
 abbrev pub further_rules : CallKind → List Rule
+further_rules CreatePartition = Depth ∷ Pages ∷ []
+further_rules InitializePartition = TargetState ∷ []
+further_rules FinalizePartition = TargetState ∷ NoChildren ∷ []
+further_rules DeletePartition = TargetState ∷ []
+further_rules GetPartitionProperty = PropertyKnown ∷ []
+further_rules SetPartitionProperty = PropertyKnown ∷ TargetState ∷ Right ∷ PropertyRange ∷ []
 further_rules GetPartitionId = []
+further_rules GetNextChildPartition = OtherExists ∷ []
+further_rules DepositMemory = TargetState ∷ Subject ∷ []
+further_rules WithdrawMemory = Pages ∷ []
 further_rules GetMemoryBalance = []
+further_rules CreateVp = TargetState ∷ VpExists ∷ Pages ∷ []
+further_rules DeleteVp = TargetState ∷ VpExists ∷ []
+further_rules GetVpRegisters = TargetState ∷ Right ∷ VpExists ∷ Subject ∷ []
+further_rules SetVpRegisters = TargetState ∷ Right ∷ VpExists ∷ Subject ∷ []
+further_rules DeletePort = TargetState ∷ Port ∷ []
+further_rules DisconnectPort = TargetState ∷ Connection ∷ []
+further_rules PostMessage = Connection ∷ Port ∷ VpExists ∷ Subject ∷ VpReady ∷ PortRoom ∷ []
+further_rules SignalEvent = Connection ∷ Port ∷ VpExists ∷ Subject ∷ VpReady ∷ []
+further_rules CreatePort = TargetState ∷ OtherExists ∷ Port ∷ VpExists ∷ Pages ∷ []
+further_rules ConnectPort = TargetState ∷ OtherExists ∷ Connection ∷ Port ∷ Right ∷ Subject ∷ Pages ∷ []
+
+-- the pages of its target's pool that serving it uses
+abbrev pub charge_of : CallKind → ℕ
+charge_of CreatePartition = PARTITION_CHARGE
+charge_of WithdrawMemory = 1
+charge_of CreateVp = VP_CHARGE
+charge_of CreatePort = PORT_CHARGE
+charge_of ConnectPort = CONNECTION_CHARGE
+charge_of call = 0
 
 -- whether serving it may need memory of the host
 abbrev pub takes_memory : CallKind → Bool
-takes_memory GetPartitionId = false
-takes_memory GetMemoryBalance = false
+takes_memory CreatePartition = true
+takes_memory DeletePartition = true
+takes_memory DepositMemory = true
+takes_memory WithdrawMemory = true
+takes_memory CreateVp = true
+takes_memory PostMessage = true
+takes_memory CreatePort = true
+takes_memory ConnectPort = true
+takes_memory call = false

@@ -1,8 +1,9 @@
 -- The rules' numbers, names and statuses.
 use Rattle.std.specs.Prelude.{ℕ, List, codes, Option, Some, None}
 use Rattle.hv_abi.specs.declared.call_kind.CallKind.{CallKind}
+use Rattle.hv_abi.specs.declared.call_kind.CallKind.TheVariants.{WithdrawMemory}
 use Rattle.hv_abi.specs.declared.status.Status.{Status}
-use Rattle.hv_abi.specs.declared.status.Status.TheVariants.{AccessDenied, InsufficientBuffers, InsufficientMemory, InvalidAlignment, InvalidConnectionId, InvalidHypercallCode, InvalidHypercallInput, InvalidParameter, InvalidPartitionId, InvalidPartitionState, InvalidPortId, InvalidSynicState, InvalidVpIndex, ObjectInUse, PartitionTooDeep, PropertyValueOutOfRange, UnknownProperty}
+use Rattle.hv_abi.specs.declared.status.Status.TheVariants.{AccessDenied, InsufficientBuffers, InsufficientMemory, InvalidAlignment, InvalidConnectionId, InvalidHypercallCode, InvalidHypercallInput, InvalidParameter, InvalidPartitionId, InvalidPartitionState, InvalidPortId, InvalidSynicState, InvalidVpIndex, NoResources, ObjectInUse, PartitionTooDeep, PropertyValueOutOfRange, UnknownProperty}
 use Rattle.hv_policy.specs.declared.rule.Rule.{Rule}
 use Rattle.hv_policy.specs.declared.rule.Rule.TheVariants.{CallerExists, CallerActive, CallerVpExists, CallCode, InputValue, Alignment, Parameters, Privilege, TargetExists, Kinship, PropertyKnown, TargetState, NoChildren, Depth, OtherExists, Connection, Port, Right, VpExists, PropertyRange, Subject, VpReady, PortRoom, Pages, MsrKnown, MsrPrivilege, MsrWrite}
 
@@ -66,6 +67,12 @@ rule_name MsrKnown = codes "P25"
 rule_name MsrPrivilege = codes "P26"
 rule_name MsrWrite = codes "P27"
 
+-- the status where pages are missing: for a withdrawal NO_RESOURCES, else INSUFFICIENT_MEMORY
+abbrev pub pages_status : Option CallKind → Status
+pages_status None = InsufficientMemory
+pages_status (Some WithdrawMemory) = NoResources
+pages_status (Some call) = InsufficientMemory
+
 -- the status with which a call is refused by it, if calls are asked it
 abbrev pub rule_status : Rule → Option CallKind → Option Status
 rule_status CallerExists call = Some InvalidPartitionId
@@ -91,7 +98,7 @@ rule_status PropertyRange call = Some PropertyValueOutOfRange
 rule_status Subject call = Some InvalidParameter
 rule_status VpReady call = Some InvalidSynicState
 rule_status PortRoom call = Some InsufficientBuffers
-rule_status Pages call = Some InsufficientMemory
+rule_status Pages call = Some (pages_status call)
 rule_status MsrKnown call = None
 rule_status MsrPrivilege call = None
 rule_status MsrWrite call = None

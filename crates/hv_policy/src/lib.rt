@@ -18,6 +18,6 @@ mod rule;
 
 pub use config::Config;
 pub use event::{Action, Caller, Event};
-pub use need::{Kin, Need, SERVED_CODES, needs};
+pub use need::{Kin, Need, SERVED_CODES, States, needs};
 pub use reply::{Output, Reply};
 pub use rule::Rule;

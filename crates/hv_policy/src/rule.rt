@@ -1,6 +1,6 @@
 // The rules.
 ghost use Rattle.std.specs.Prelude.{◌≡◌};
-ghost use Rattle.hv_policy.specs.Rule.{rule_number, rule_name, rule_status};
+ghost use Rattle.hv_policy.specs.Rule.{rule_number, rule_name, rule_status, pages_status as pages_status_of};
 
 use hv_abi::{CallKind, Status};
 
@@ -115,8 +115,8 @@ impl Rule {
 
     /// The status with which a hypercall is refused by this rule, or `None` where only other events are
     /// asked it. The call matters for P24 alone.
-    pub fn status(self, _call: Option<CallKind>) -> Option<Status>
-        ensures { result ≡ rule_status self _call }
+    pub fn status(self, call: Option<CallKind>) -> Option<Status>
+        ensures { result ≡ rule_status self call }
     {
         match self {
             Rule::CallerExists | Rule::TargetExists | Rule::OtherExists => Some(
@@ -137,8 +137,18 @@ impl Rule {
             Rule::PropertyRange => Some(Status::PropertyValueOutOfRange),
             Rule::VpReady => Some(Status::InvalidSynicState),
             Rule::PortRoom => Some(Status::InsufficientBuffers),
-            Rule::Pages => Some(Status::InsufficientMemory),
+            Rule::Pages => Some(pages_status(call)),
             Rule::MsrKnown | Rule::MsrPrivilege | Rule::MsrWrite => None,
         }
+    }
+}
+
+// The status where pages are missing.
+fn pages_status(call: Option<CallKind>) -> Status
+    ensures { result ≡ pages_status_of call }
+{
+    match call {
+        Some(CallKind::WithdrawMemory) => Status::NoResources,
+        _ => Status::InsufficientMemory,
     }
 }

@@ -1,8 +1,10 @@
 // HvGetPartitionId and HvGetMemoryBalance on the root, and boot.
 
-use crate::rows::{Row, check};
+use crate::rows::{Row, boot, check, check_all};
 use hv_machine::{BootRefused, Config, Machine};
 use hv_privs::Privileges;
+use std::alloc::Global;
+use std::process::Abort;
 use std::test::Fail;
 
 // A partition id that means the caller's own.
@@ -13,15 +15,6 @@ const ONE: &[u8] = &[1, 0, 0, 0, 0, 0, 0, 0];
 // 8 pages available, 4 in use.
 const EIGHT_FOUR: &[u8] = &[8, 0, 0, 0, 0, 0, 0, 0, 4, 0, 0, 0, 0, 0, 0, 0];
 
-fn boot(pages: u32, pool: u32, vps: u32) -> Config {
-    Config {
-        pages,
-        pool,
-        vps,
-        mask: Privileges::of(0x0000_00f7_0000_0044),
-    }
-}
-
 #[test]
 fn calls_on_the_root(rt: HostRuntime) -> Result<(), Fail> {
     let rows = [
@@ -31,7 +24,7 @@ fn calls_on_the_root(rt: HostRuntime) -> Result<(), Fail> {
         Row::denied(0x1_0046, 0, &[], 0x3, "P5"),
         Row::denied(0x46, 0, &[], 0xd, "P1").by(9, 0),
         Row::denied(0x46, 0, &[], 0xe, "P3").by(1, 5),
-        Row::denied(0x40, 0, &[0; 8], 0x2, "P4"),
+        Row::denied(0x44, 0, &[0; 8], 0x2, "P4"),
         Row::served(0x4a, 0, OWN, EIGHT_FOUR),
         Row::served(0x4a, 0, ONE, EIGHT_FOUR),
         Row::served(0x4a, 0, &[1], EIGHT_FOUR),
@@ -41,9 +34,7 @@ fn calls_on_the_root(rt: HostRuntime) -> Result<(), Fail> {
         Row::denied(0x4a, 4, OWN, 0x4, "P6"),
     ];
     let mut machine = Machine::boot(rt.alloc(), boot(32, 12, 1))?;
-    for row in &rows {
-        check(&rt, rt.alloc(), &mut machine, row)?;
-    }
+    check_all(&rt, rt.alloc(), &mut machine, rows.as_slice())?;
     assert_eq!(rt; machine.served(), 4);
     Ok(())
 }
@@ -57,9 +48,7 @@ fn privileges_are_asked_before_the_target(rt: HostRuntime) -> Result<(), Fail> {
     let mut config = boot(32, 12, 1);
     config.mask = Privileges::NEW_PARTITION;
     let mut machine = Machine::boot(rt.alloc(), config)?;
-    for row in &rows {
-        check(&rt, rt.alloc(), &mut machine, row)?;
-    }
+    check_all(&rt, rt.alloc(), &mut machine, rows.as_slice())?;
     Ok(())
 }
 
@@ -84,9 +73,19 @@ fn boot_takes_what_fits(rt: HostRuntime) -> Result<(), Fail> {
     let full: &[u8] = &[0, 0, 0, 0, 0, 0, 0, 0, 12, 0, 0, 0, 0, 0, 0, 0];
     let large: &[u8] = &[0, 0xff, 0, 0, 0, 0, 0, 0, 0, 1, 0, 0, 0, 0, 0, 0];
     for (pages, pool, vps, balance) in [(32, 12, 3, full), (65_536, 65_536, 64, large)] {
-        let mut machine = Machine::boot(rt.alloc(), boot(pages, pool, vps))?;
-        let row = Row::served(0x4a, 0, OWN, balance);
-        check(&rt, rt.alloc(), &mut machine, &row)?;
+        check_balance(&rt, rt.alloc(), boot(pages, pool, vps), balance)?;
     }
     Ok(())
+}
+
+// Boots a machine, and asks for the root's balance.
+fn check_balance(
+    rt: &impl Abort,
+    alloc: Global,
+    config: Config,
+    balance: &'static [u8],
+) -> Result<(), Fail> {
+    let row = Row::served(0x4a, 0, OWN, balance);
+    let mut machine = Machine::boot(alloc, config)?;
+    check(rt, alloc, &mut machine, &row)
 }

@@ -4,4 +4,8 @@
 #[cfg(test)]
 mod first_calls;
 #[cfg(test)]
+mod memory;
+#[cfg(test)]
+mod partitions;
+#[cfg(test)]
 mod rows;

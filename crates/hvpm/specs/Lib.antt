@@ -1,3 +1,4 @@
 pub mod Failure
+pub mod History
 pub mod Number
 pub mod Options

@@ -1,5 +1,6 @@
 // What happened, in its order.
-ghost use Rattle.std.specs.Prelude.{◌≡◌, ◌≢◌, ◌+◌, ◌≤◌, ◌<◌, ◌++◌, ◌∷◌, [], IfOk, OnErr, vec_len, vec_capacity};
+ghost use Rattle.std.specs.Prelude.{◌≡◌, ◌≢◌, ◌+◌, ◌≤◌, ◌<◌, ◌++◌, ◌∷◌, [], IfOk, IfSome, OnErr, vec_len, vec_capacity};
+ghost use Rattle.hvpm.specs.History.{rcx_of};
 
 use crate::failure::Stop;
 use hv_abi::Frame;
@@ -13,7 +14,7 @@ const MOST_OUTPUT: usize = 256;
 const MOST_SERVED: u64 = 4_294_967_295;
 
 // A rep call has fewer elements than this.
-const REPS_END: u16 = 4096;
+pub const REPS_END: u16 = 4096;
 
 /// What an event was answered.
 #[derive(Clone, Copy, PartialEq, Eq, Debug)]
@@ -71,11 +72,17 @@ impl History {
         self.outputs.as_slice()
     }
 
-    /// Lets an event happen. After a refusal the same events are kept, and where the history is full the
-    /// machine isn't asked.
-    pub fn apply(&mut self, machine: &mut Machine<Global>, event: Event<Global>) -> Result<(), Stop>
+    /// Lets an event happen, and tells which element of a rep call comes next, if one does. After a
+    /// refusal the same events are kept, and where the history is full the machine isn't asked.
+    pub fn apply(
+        &mut self,
+        machine: &mut Machine<Global>,
+        event: &Event<Global>,
+    ) -> Result<Option<u16>, Stop>
+        ensures next { IfOk result (λ next. IfSome next (λ start. start < 4096)) }
         ensures limit { self.new.limit ≡ self.old.limit }
-        ensures kept { IfOk result (λ _. (entry : Entry) × (entry.by ≡ event.by)
+        ensures kept { IfOk result (λ _. (entry : Entry) × (entry.by ≡ event.now.by)
+            × (entry.rcx ≡ rcx_of event.now.what)
             × (self.new.entries.items ≡ self.old.entries.items ++ entry ∷ [])) }
         ensures refused { OnErr result (self.new.entries.items ≡ self.old.entries.items) }
         ensures full { self.old.limit ≤ vec_len self.old.entries → result ≡ Err Stop.HistoryFull }
@@ -88,10 +95,10 @@ impl History {
         // What happened has to be kept, so the room comes first.
         self.entries.reserve(1).map_err(|_| Stop::Memory)?;
         self.outputs.reserve(MOST_OUTPUT).map_err(|_| Stop::Memory)?;
-        match machine.step(&event) {
+        match machine.step(event) {
             Ok(reply) => {
-                self.keep(&event, &reply);
-                Ok(())
+                self.keep(event, &reply);
+                Ok(next_of(&reply))
             }
             Err(HostRefused::Memory) => Err(Stop::Memory),
         }
@@ -103,6 +110,7 @@ impl History {
         requires limit { vec_len self.old.entries < self.old.limit }
         ensures limit { self.new.limit ≡ self.old.limit }
         ensures kept { (entry : Entry) × (entry.by ≡ event.now.by)
+            × (entry.rcx ≡ rcx_of event.now.what)
             × (self.new.entries.items ≡ self.old.entries.items ++ entry ∷ []) }
     {
         let Action::Hypercall(frame) = &event.what;
@@ -119,6 +127,16 @@ impl History {
             output_len,
         };
         self.entries.push(entry).unwrap();
+    }
+}
+
+// The element that comes next, if one does.
+fn next_of(reply: &Reply) -> Option<u16>
+    ensures { IfSome result (λ start. start < 4096) }
+{
+    match reply {
+        Reply::More { next, .. } if *next < REPS_END => Some(*next),
+        _ => None,
     }
 }
 

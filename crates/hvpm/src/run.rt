@@ -2,12 +2,13 @@
 ghost use Rattle.std.specs.Prelude.{◌≡◌, ◌≢◌, ◌<◌, length, true, false, IfErr, IsErrAnd};
 ghost use Rattle.hvpm.specs.Failure.{exit_of};
 
-use crate::failure::{Exit, Failure, tell};
-use crate::history::History;
+use crate::failure::{Exit, Failure, Stop, tell};
+use crate::history::{History, REPS_END};
 use crate::script::Script;
 use crate::usage::Options;
 use crate::{audit, script};
-use hv_machine::{Action, Event, Machine};
+use hv_abi::Frame;
+use hv_machine::{Action, Caller, Event, Machine};
 use std::alloc::Global;
 use std::io::Write;
 
@@ -65,8 +66,7 @@ fn run_lines<W: Write>(
         if processors.is_stopped(by) {
             continue;
         }
-        let what = Action::Hypercall(call.frame);
-        if let Err(stop) = history.apply(&mut machine, Event { by, what }) {
+        if let Err(stop) = drive(&mut history, &mut machine, by, call.frame) {
             processors.stop(by, stop);
         }
     }
@@ -75,4 +75,29 @@ fn run_lines<W: Write>(
         Some(stop) => Err(Failure::from(stop)),
         None => written.map_err(|_| Failure::Write),
     }
+}
+
+// Drives a call to its end: the elements of a rep call one after another, each an event of its own. It ends with the
+// last element, or with one that is denied.
+fn drive(
+    history: &mut History,
+    machine: &mut Machine<Global>,
+    by: Caller,
+    frame: Frame<Global>,
+) -> Result<(), Stop> {
+    let mut event = call_event(by, frame);
+    // A rep call has fewer elements than that.
+    for _ in 0..REPS_END {
+        let Some(next) = history.apply(machine, &event)? else {
+            return Ok(());
+        };
+        let Action::Hypercall(frame) = event.what;
+        event = call_event(by, frame.with_start(next));
+    }
+    Ok(())
+}
+
+fn call_event(by: Caller, frame: Frame<Global>) -> Event<Global> {
+    let what = Action::Hypercall(frame);
+    Event { by, what }
 }

@@ -40,6 +40,70 @@ events 3
     }
 }
 
+// A partition from its creation to its deletion: an id that is gone isn't there any more, and the next one
+// differs.
+#[test]
+fn partition_lives(rt: HostRuntime) {
+    let script = "boot 32 12 1 0x000000f700000044 1000
+1.0 call 0x40 0 0 -
+1.0 call 0x10041 2 0 -
+1.0 call 0x47 0 0 01000000000000000000000000000000
+1.0 call 0x10042 2 0 -
+1.0 call 0x10043 2 0 -
+1.0 call 0x4a 0 0 0200000000000000
+1.0 call 0x40 0 0 0000000000000000
+";
+    let run = Run {
+        script: script.as_bytes(),
+        exit: Exit::Done,
+        out: "1 1.0 call 0000000000000040 ok 0000000000000000 0200000000000000
+2 1.0 call 0000000000010041 ok 0000000000000000 -
+3 1.0 call 0000000000000047 ok 0000000000000000 0200000000000000
+4 1.0 call 0000000000010042 ok 0000000000000000 -
+5 1.0 call 0000000000010043 ok 0000000000000000 -
+6 1.0 call 000000000000004a denied 000000000000000d P9
+7 1.0 call 0000000000000040 ok 0000000000000000 0300000000000000
+events 7
+",
+        err: "",
+    };
+    assert_run(&rt, rt.alloc(), &run);
+}
+
+// What refuses a partition's calls, and its own: it isn't active, it has no processor, its state doesn't allow
+// the call, its creator has no pages left, and a call that no machine serves yet.
+#[test]
+fn partition_calls_refused(rt: HostRuntime) {
+    let script = "boot 32 8 1 0x000000f700000044 1000
+1.0 call 0x40 0 0 -
+2.0 call 0x46 0 0 -
+1.0 call 0x10041 2 0 -
+2.0 call 0x46 0 0 -
+1.0 call 0x10043 2 0 -
+1.0 call 0x10041 0xffffffffffffffff 0 -
+1.0 call 0x40 0 0 -
+1.0 call 0x40 0 0 -
+1.0 call 0x44 0 0 -
+";
+    let run = Run {
+        script: script.as_bytes(),
+        exit: Exit::Done,
+        out: "1 1.0 call 0000000000000040 ok 0000000000000000 0200000000000000
+2 2.0 call 0000000000000046 denied 0000000000000007 P2
+3 1.0 call 0000000000010041 ok 0000000000000000 -
+4 2.0 call 0000000000000046 denied 000000000000000e P3
+5 1.0 call 0000000000010043 denied 0000000000000007 P12
+6 1.0 call 0000000000010041 denied 0000000000000006 P10
+7 1.0 call 0000000000000040 ok 0000000000000000 0300000000000000
+8 1.0 call 0000000000000040 denied 000000000000000b P24
+9 1.0 call 0000000000000044 denied 0000000000000002 P4
+events 9
+",
+        err: "",
+    };
+    assert_run(&rt, rt.alloc(), &run);
+}
+
 // The third event of a history for two: what happened before is told, and then why it stopped.
 #[test]
 fn full_history(rt: HostRuntime) {
@@ -55,4 +119,51 @@ events 2
         err: "hvpm: history full\n",
     };
     assert_run(&rt, rt.alloc(), &run);
+}
+
+// A rep call goes on from its start index to its end, each element an event, and ends early with an element that is
+// denied; a history that is full ends it too.
+#[test]
+fn rep_calls(rt: HostRuntime) {
+    let runs = [
+        (
+            b"boot 32 12 1 0x000000f700000044 1000
+1.0 call 0x40 0 0 -
+1.0 call 0x0001000300000048 0 0 02000000000000000c000000000000000d000000000000000e00000000000000
+1.0 call 0x0000000300000049 0 0 0200000000000000
+"
+                .as_slice(),
+            Exit::Done,
+            "1 1.0 call 0000000000000040 ok 0000000000000000 0200000000000000
+2 1.0 call 0001000300000048 more 0000000200000000 -
+3 1.0 call 0002000300000048 ok 0000000300000000 -
+4 1.0 call 0000000300000049 more 0000000100000000 0d00000000000000
+5 1.0 call 0001000300000049 more 0000000200000000 0e00000000000000
+6 1.0 call 0002000300000049 denied 000000020000001d P24
+events 6
+",
+            "",
+        ),
+        (
+            b"boot 32 12 1 0x000000f700000044 2
+1.0 call 0x0000000300000049 0 0 0100000000000000
+"
+                .as_slice(),
+            Exit::Host,
+            "1 1.0 call 0000000300000049 more 0000000100000000 0000000000000000
+2 1.0 call 0001000300000049 more 0000000200000000 0100000000000000
+events 2
+",
+            "hvpm: history full\n",
+        ),
+    ];
+    for (script, exit, out, err) in runs {
+        let run = Run {
+            script,
+            exit,
+            out,
+            err,
+        };
+        assert_run(&rt, rt.alloc(), &run);
+    }
 }

@@ -6,7 +6,7 @@ use Rattle.hv_machine.proofs.machine.Machine.output.Goals as goal
 
 pub returns-in-GetMemoryBalance : goal.returns-in-GetMemoryBalance
 returns-in-GetMemoryBalance g c f flat =
-    let id = c.target.ensures ∙ ap (λ kind. target_of kind c.args.frame.now c.args.by.part) c.in-GetMemoryBalance.is in
+    let id = c.target-target.ensures ∙ ap (λ kind. target_of kind c.args.frame.now c.args.by.part) c.in-GetMemoryBalance.is in
     let may_use = c.memory_balance-balance.ensures.available f flat ∙ ap (available f) id in
     let uses = c.memory_balance-balance.ensures.in_use f flat ∙ ap (in_use f) id in
     let first = c.push_number-in-GetMemoryBalance.ensures in

@@ -1,0 +1,89 @@
+-- What contracts see of a partition.
+use Rattle.std.specs.Prelude.{◌≡◌, ℕ, ◌+◌, ◌-◌, ◌*◌, ◌<◌, zero, suc, List, All, nat_eq, refl}
+use Rattle.std.specs.Coded.{Coded, code_by, coded×, coded_ℕ}
+use Rattle.std.specs.FinSet as set
+use Rattle.std.specs.List.{IsDistinct}
+use Rattle.std.specs.Ordering.{nat_cmp}
+use Rattle.hv_defs.specs.declared.life.Life.{Life}
+use Rattle.hv_defs.specs.declared.life.Life.TheVariants.{Created, Active, Finalized}
+use Rattle.hv_defs.specs.declared.sizes.TheConstants.{CPU_CAP_START, CPU_RESERVE_START, CPU_WEIGHT_START, MAX_VPS, PARTITION_CHARGE, VP_CHARGE}
+use Rattle.hv_pages.specs.PageSet.{PagesAndRoom, pages_and_room_code}
+use Rattle.hv_privs.specs.Privileges.{bits_of, of}
+use Rattle.hv_privs.specs.declared.Privileges.{Privileges}
+
+-- a partition: its life state, its privilege mask, its CPU properties, its loose and pooled pages, and the indexes of its processors
+pub record PartitionState : Type 0 where
+  pub life : Life
+  pub mask : Privileges
+  pub reserve : ℕ
+  pub cap : ℕ
+  pub weight : ℕ
+  pub loose : PagesAndRoom
+  pub pooled : PagesAndRoom
+  pub vps : set.FinSet nat_cmp
+
+-- a life state is stored as its number
+abbrev pub life_number : Life → ℕ
+life_number Created = 0
+life_number Active = 1
+life_number Finalized = 2
+
+abbrev pub life_of : ℕ → Life
+life_of zero = Created
+life_of (suc zero) = Active
+life_of (suc (suc _)) = Finalized
+
+abbrev pub life_of-number : (life : Life) → life_of (life_number life) ≡ life
+life_of-number Created = refl
+life_of-number Active = refl
+life_of-number Finalized = refl
+
+abbrev pub life_code : Coded Life
+life_code = code_by ℕ coded_ℕ life_number life_of life_of-number
+
+-- a mask is stored as its bits
+abbrev pub mask_code : Coded Privileges
+mask_code = code_by ℕ coded_ℕ bits_of of (λ _. refl)
+
+-- a partition is stored as the tuple of its fields
+abbrev pub partition_code : Coded PartitionState
+partition_code =
+    code_by (Life × (Privileges × (ℕ × (ℕ × (ℕ × (PagesAndRoom × (PagesAndRoom × set.FinSet nat_cmp)))))))
+    (coded× life_code (coded× mask_code (coded× coded_ℕ (coded× coded_ℕ (coded× coded_ℕ (coded× pages_and_room_code (coded× pages_and_room_code (set.code coded_ℕ))))))))
+    (λ p. (p.life, (p.mask, (p.reserve, (p.cap, (p.weight, (p.loose, (p.pooled, p.vps))))))))
+    (λ t. record { life = t.0; mask = t.1.0; reserve = t.1.1.0; cap = t.1.1.1.0; weight = t.1.1.1.1.0; loose = t.1.1.1.1.1.0; pooled = t.1.1.1.1.1.1.0; vps = t.1.1.1.1.1.1.1 })
+    (λ _. refl)
+
+-- no pages, and no memory for any
+abbrev pub no_pages : PagesAndRoom
+no_pages = record { pages = set.empty; room = 0 }
+
+-- a partition as it starts, without pages and processors
+abbrev pub new_partition : Life → Privileges → PartitionState
+new_partition life mask = record {
+  life = life;
+  mask = mask;
+  reserve = CPU_RESERVE_START;
+  cap = CPU_CAP_START;
+  weight = CPU_WEIGHT_START;
+  loose = no_pages;
+  pooled = no_pages;
+  vps = set.empty;
+}
+
+-- the pooled pages that its processors and so many children use
+abbrev pub in_use : ℕ → PartitionState → ℕ
+in_use children p = PARTITION_CHARGE * children + VP_CHARGE * set.len p.vps
+
+-- the pooled pages that it may still use
+abbrev pub available : ℕ → PartitionState → ℕ
+available children p = set.len p.pooled.pages - in_use children p
+
+-- the partition once it is finalized: its processors go, and its pages stay
+abbrev pub finalized : PartitionState → PartitionState
+finalized p = record p { life = Finalized; vps = set.empty }
+
+-- a list of processors' indexes: each is in range, and stands once
+pub record IsVpList (indexes : List ℕ) : Type 0 where
+  pub distinct : IsDistinct nat_eq indexes
+  pub in_range : All (λ index. index < MAX_VPS) indexes

@@ -1,0 +1,16 @@
+//! One partition: its life state, its privileges, its CPU properties, its pages and its processors.
+//!
+//! The chapter of the TLFS 4.0 is "Partition Management". Each function says what it changes, and that all else
+//! stays the same. Which partition may ask for a change, and when, is not said here.
+//!
+//! Contracts see a partition as the record of these parts (`PartitionState` in `specs/`), its processors as the
+//! set of their indexes. Memory is asked for in `new`, in `reserve_loose`, in `reserve_pooled` and in `add_vp`
+//! alone, and a call that is refused it changes nothing.
+#![tactic(auto)]
+
+mod partition;
+
+pub use partition::Partition;
+
+#[cfg(test)]
+mod tests;

@@ -1,0 +1,313 @@
+// The partition, seen as the record of its parts.
+ghost use Rattle.std.specs.Prelude.{◌≡◌, ◌+◌, ◌≤◌, ◌<◌, ◌↔◌, false, IsOk, IsNone, IfOk, IfSome, IfNone, OnOk, OnErr};
+ghost use Rattle.std.specs.FinSet as set;
+ghost use Rattle.hv_defs.specs.declared.sizes.TheConstants.{MAX_VPS};
+ghost use Rattle.hv_pages.specs.PageSet.{IsDisjoint, IsLowest};
+ghost use Rattle.hv_partition.specs.Partition.{new_partition, in_use, available, finalized};
+
+use hv_defs::{
+    CPU_CAP_START, CPU_RESERVE_START, CPU_WEIGHT_START, Life, PARTITION_CHARGE, VP_CHARGE,
+};
+use hv_pages::PageSet;
+use hv_privs::Privileges;
+use std::alloc::{AllocError, Allocator};
+use std::marker::Model;
+
+/// A partition, in memory of an allocator `A`.
+///
+/// Its pages are loose, or pooled for the hypervisor's own use. Its processors are known by their indexes. A
+/// partition that is dropped gives its memory back.
+#[derive(Drop)]
+pub struct Partition<A: Allocator> {
+    life: Life,
+    mask: Privileges,
+    reserve: u64,
+    cap: u64,
+    weight: u64,
+    loose: PageSet<A>,
+    pooled: PageSet<A>,
+    vps: Vec<u32, A>,
+}
+
+impl<A: Allocator> Model for Partition<A> {
+    ghost use Rattle.std.specs.FinSet as set;
+    ghost use Rattle.hv_partition.specs.Partition.{PartitionState, IsVpList, partition_code};
+
+    ghost Value = { PartitionState };
+
+    ghost coded = { partition_code };
+
+    ghost view = { λ p. record {
+      life = p.life;
+      mask = p.mask;
+      reserve = p.reserve;
+      cap = p.cap;
+      weight = p.weight;
+      loose = p.loose;
+      pooled = p.pooled;
+      vps = set.from_list p.vps.items;
+    } };
+
+    ghost invariant = { λ p. IsVpList p.vps.items };
+}
+
+impl<A: Allocator + Clone> Partition<A> {
+    /// A partition with no pages and no processors, and with the CPU properties of the start.
+    ///
+    /// `Err` where the allocator can't be cloned.
+    pub fn new(alloc: A, life: Life, mask: Privileges) -> Result<Partition<A>, AllocError>
+        ensures { IfOk result (λ p. p ≡ new_partition life mask) }
+    {
+        Ok(Partition {
+            life,
+            mask,
+            reserve: CPU_RESERVE_START,
+            cap: CPU_CAP_START,
+            weight: CPU_WEIGHT_START,
+            loose: PageSet::new(alloc.clone()?),
+            pooled: PageSet::new(alloc.clone()?),
+            vps: Vec::new(alloc),
+        })
+    }
+}
+
+impl<A: Allocator> Partition<A> {
+    /// The life state.
+    pub fn life(&self) -> Life
+        ensures { result ≡ self.now.life }
+    {
+        self.life
+    }
+
+    /// The privilege mask.
+    pub fn mask(&self) -> Privileges
+        ensures { result ≡ self.now.mask }
+    {
+        self.mask
+    }
+
+    /// The CPU reserve, of 65,536.
+    pub fn cpu_reserve(&self) -> u64
+        ensures { result ≡ self.now.reserve }
+    {
+        self.reserve
+    }
+
+    /// The CPU cap, of 65,536.
+    pub fn cpu_cap(&self) -> u64
+        ensures { result ≡ self.now.cap }
+    {
+        self.cap
+    }
+
+    /// The CPU weight, of 1 to 10,000.
+    pub fn cpu_weight(&self) -> u64
+        ensures { result ≡ self.now.weight }
+    {
+        self.weight
+    }
+
+    /// The loose pages.
+    pub fn loose(&self) -> &PageSet<A>
+        ensures { result.now ≡ self.now.loose }
+    {
+        &self.loose
+    }
+
+    /// The pooled pages.
+    pub fn pooled(&self) -> &PageSet<A>
+        ensures { result.now ≡ self.now.pooled }
+    {
+        &self.pooled
+    }
+
+    /// Whether the partition has the processor with this index.
+    pub fn has_vp(&self, index: u32) -> bool
+        ensures { result ≡ set.contains self.now.vps index }
+    {
+        self.vps.contains(&index)
+    }
+
+    /// How many processors the partition has.
+    pub fn vp_count(&self) -> u32
+        ensures count { result ≡ set.len self.now.vps }
+        ensures most { result ≤ MAX_VPS }
+    {
+        self.vps.len() as u32
+    }
+
+    /// Writes the life state.
+    pub fn set_life(&mut self, life: Life)
+        ensures { self.new ≡ record self.old { life = life } }
+    {
+        self.life = life;
+    }
+
+    /// Writes the privilege mask.
+    pub fn set_mask(&mut self, mask: Privileges)
+        ensures { self.new ≡ record self.old { mask = mask } }
+    {
+        self.mask = mask;
+    }
+
+    /// Writes the CPU reserve. Any number is taken.
+    pub fn set_cpu_reserve(&mut self, reserve: u64)
+        ensures { self.new ≡ record self.old { reserve = reserve } }
+    {
+        self.reserve = reserve;
+    }
+
+    /// Writes the CPU cap. Any number is taken.
+    pub fn set_cpu_cap(&mut self, cap: u64)
+        ensures { self.new ≡ record self.old { cap = cap } }
+    {
+        self.cap = cap;
+    }
+
+    /// Writes the CPU weight. Any number is taken.
+    pub fn set_cpu_weight(&mut self, weight: u64)
+        ensures { self.new ≡ record self.old { weight = weight } }
+    {
+        self.weight = weight;
+    }
+
+    /// Finalizes the partition: its processors go, and its pages stay.
+    pub fn finalize(&mut self)
+        ensures { self.new ≡ finalized self.old }
+    {
+        self.life = Life::Finalized;
+        self.vps.clear();
+    }
+
+    /// How many pooled pages its processors and so many children use. The charges are this project's own.
+    pub fn in_use(&self, children: u32) -> u64
+        ensures { result ≡ in_use children self.now }
+    {
+        PARTITION_CHARGE * u64::from(children) + VP_CHARGE * u64::from(self.vp_count())
+    }
+
+    /// How many pooled pages may still be used, beside what its processors and so many children use.
+    pub fn available(&self, children: u32) -> u64
+        requires { in_use children self.now ≤ set.len self.now.pooled.pages }
+        ensures { result ≡ available children self.now }
+    {
+        self.pooled.count() - self.in_use(children)
+    }
+
+    /// Adds the processor with this index, which the partition does not have yet.
+    ///
+    /// `Err` where there is no memory for it, and then the partition is as it was.
+    pub fn add_vp(&mut self, index: u32) -> Result<(), AllocError>
+        requires range { index < MAX_VPS }
+        requires new { set.contains self.old.vps index ≡ false }
+        ensures ok { OnOk result (self.new
+            ≡ record self.old { vps = set.insert self.old.vps index }) }
+        ensures err { OnErr result (self.new ≡ self.old) }
+    {
+        self.vps.push(index)?;
+        Ok(())
+    }
+}
+
+// The pages. What a call needs of a set, and what it promises of it, is what `PageSet` asks and promises.
+impl<A: Allocator> Partition<A> {
+    /// Makes room for at least `more` changes of the loose pages.
+    ///
+    /// `Err` where there is no memory for it, and then the partition is as it was. Room that is there already
+    /// always suffices.
+    pub fn reserve_loose(&mut self, more: usize) -> Result<(), AllocError>
+        ensures ok { OnOk result (more ≤ self.new.loose.room) }
+        ensures enough { more ≤ self.old.loose.room → IsOk result }
+        ensures unchanged { OnErr result (self.new ≡ self.old) }
+
+        // In either case.
+        ensures pages { self.new.loose.pages ≡ self.old.loose.pages }
+        ensures room { self.old.loose.room ≤ self.new.loose.room }
+        ensures rest { self.new ≡ record self.old { loose = self.new.loose } }
+    {
+        self.loose.reserve(more)
+    }
+
+    /// Makes room for at least `more` changes of the pooled pages.
+    ///
+    /// `Err` where there is no memory for it, and then the partition is as it was. Room that is there already
+    /// always suffices.
+    pub fn reserve_pooled(&mut self, more: usize) -> Result<(), AllocError>
+        ensures ok { OnOk result (more ≤ self.new.pooled.room) }
+        ensures enough { more ≤ self.old.pooled.room → IsOk result }
+        ensures unchanged { OnErr result (self.new ≡ self.old) }
+
+        // In either case.
+        ensures pages { self.new.pooled.pages ≡ self.old.pooled.pages }
+        ensures room { self.old.pooled.room ≤ self.new.pooled.room }
+        ensures rest { self.new ≡ record self.old { pooled = self.new.pooled } }
+    {
+        self.pooled.reserve(more)
+    }
+
+    /// Puts in a loose page that is not among them. The page must find room.
+    pub fn put_loose(&mut self, page: u32)
+        requires room { 1 ≤ self.old.loose.room }
+        requires new { set.contains self.old.loose.pages page ≡ false }
+        ensures pages { self.new.loose.pages ≡ set.insert self.old.loose.pages page }
+        ensures room { self.old.loose.room ≤ self.new.loose.room + 1 }
+        ensures rest { self.new ≡ record self.old { loose = self.new.loose } }
+    {
+        self.loose.put(page);
+    }
+
+    /// Puts in a pooled page that is not among them. The page must find room.
+    pub fn put_pooled(&mut self, page: u32)
+        requires room { 1 ≤ self.old.pooled.room }
+        requires new { set.contains self.old.pooled.pages page ≡ false }
+        ensures pages { self.new.pooled.pages ≡ set.insert self.old.pooled.pages page }
+        ensures room { self.old.pooled.room ≤ self.new.pooled.room + 1 }
+        ensures rest { self.new ≡ record self.old { pooled = self.new.pooled } }
+    {
+        self.pooled.put(page);
+    }
+
+    /// Takes a page out of the loose ones, and says whether it was among them. It asks for room.
+    pub fn take_loose(&mut self, page: u32) -> bool
+        requires { 1 ≤ self.old.loose.room }
+        ensures held { result ≡ set.contains self.old.loose.pages page }
+        ensures pages { self.new.loose.pages ≡ set.remove self.old.loose.pages page }
+        ensures room { self.old.loose.room ≤ self.new.loose.room + 1 }
+        ensures rest { self.new ≡ record self.old { loose = self.new.loose } }
+    {
+        self.loose.take(page)
+    }
+
+    /// Takes out the lowest pooled page, or answers `None` where there are none. It takes constant time.
+    pub fn take_lowest_pooled(&mut self) -> Option<u32>
+        ensures none { IsNone result ↔ (self.old.pooled.pages ≡ set.empty) }
+        ensures empty { IfNone result (self.new.pooled.pages ≡ self.old.pooled.pages) }
+        ensures lowest { IfSome result (IsLowest self.old.pooled.pages) }
+        ensures taken { IfSome result (λ page.
+            self.new.pooled.pages ≡ set.remove self.old.pooled.pages page) }
+        ensures room { self.old.pooled.room ≤ self.new.pooled.room }
+        ensures rest { self.new ≡ record self.old { pooled = self.new.pooled } }
+    {
+        self.pooled.take_lowest()
+    }
+
+    /// Takes over all pages of a partition that is gone, loose and pooled, as loose pages, and gives that
+    /// partition's memory back.
+    ///
+    /// The pages must find room. The time is proportional to the three counts at most.
+    #[tactic(auto, using(crate::proofs::Disjoint::disjoint))]
+    pub fn take_over(&mut self, gone: Partition<A>)
+        requires room { set.len gone.loose.pages + set.len gone.pooled.pages ≤ self.old.loose.room }
+        requires loose { IsDisjoint self.old.loose.pages gone.loose.pages }
+        requires pooled { IsDisjoint self.old.loose.pages gone.pooled.pages }
+        requires apart { IsDisjoint gone.loose.pages gone.pooled.pages }
+        ensures pages { self.new.loose.pages
+            ≡ set.union (set.union self.old.loose.pages gone.loose.pages) gone.pooled.pages }
+        ensures room { self.old.loose.room
+            ≤ self.new.loose.room + set.len gone.loose.pages + set.len gone.pooled.pages }
+        ensures rest { self.new ≡ record self.old { loose = self.new.loose } }
+    {
+        self.loose.absorb(gone.loose);
+        self.loose.absorb(gone.pooled);
+    }
+}

@@ -1,0 +1,103 @@
+-- What a frame's check tells of its rules and its result value.
+use Rattle.std.proofs.Common.{◌≡◌, ℕ, Bool, true, false, cond, not, Option, Some, None, is_some, refl, sym, ap, subst, ◌∙◌}
+use Rattle.hv_defs.specs.Bits.{bits}
+use Rattle.hv_abi.specs.declared.call_kind.CallKind.{CallKind}
+use Rattle.hv_abi.specs.declared.frame.AbiFault.{AbiFault}
+use Rattle.hv_abi.specs.declared.frame.AbiFault.TheVariants.{UnknownCode, Input}
+use Rattle.hv_abi.specs.declared.frame.AbiFault.TheVariants as fault
+use Rattle.hv_abi.specs.declared.frame.Frame.{Frame}
+use Rattle.hv_abi.specs.Check.{call_of, is_input_valid, are_lists_placed, fault_at, first_fault}
+use Rattle.hv_abi.specs.CallRow.{row_of}
+use Rattle.hv_policy.specs.Asked.{call_rules}
+use Rattle.hv_policy.specs.Call.{is_served_code, served_call, test_call}
+use Rattle.hv_policy.specs.Flat.{Flat}
+use Rattle.hv_policy.specs.Result.{start_if_valid, refused_reps}
+use Rattle.hv_policy.specs.Step.{first_unmet}
+use Rattle.hv_policy.specs.declared.event.Action.TheVariants.{Hypercall}
+use Rattle.hv_policy.specs.declared.event.Caller.{Caller}
+use Rattle.hv_policy.specs.declared.event.Event.{Event}
+use Rattle.hv_policy.specs.declared.rule.Rule.{Rule}
+use Rattle.hv_policy.specs.declared.rule.Rule.TheVariants.{CallCode, InputValue, Alignment}
+
+-- the rule that a fault of a frame breaks
+abbrev pub rule_of : AbiFault → Rule
+rule_of UnknownCode = CallCode
+rule_of Input = InputValue
+rule_of fault.Alignment = Alignment
+
+-- the first unmet of the frame's rules, once it is known whether the call is there, valid and placed
+abbrev pub first_of : Option CallKind → Bool → Bool → Option Rule → Option Rule
+first_of None valid placed rest = Some CallCode
+first_of (Some call) valid placed rest = cond (not valid) (Some InputValue) (cond (not placed) (Some Alignment) rest)
+
+-- a code that isn't served
+pub not_served : {A : Type 0} (frame : Frame A) → is_served_code (bits frame.rcx 0 16) ≡ false → served_call frame ≡ None
+not_served frame h = ap (λ b. cond b (call_of frame) None) h
+
+pub is_call : {A : Type 0} (frame : Frame A) → is_served_code (bits frame.rcx 0 16) ≡ true → served_call frame ≡ call_of frame
+is_call frame h = ap (λ b. cond b (call_of frame) None) h
+
+-- a call that is served has a served code
+pub code_of_call : {A : Type 0} (frame : Frame A) → is_some (served_call frame) ≡ true → is_served_code (bits frame.rcx 0 16) ≡ true
+code_of_call frame h = by (is_served_code (bits frame.rcx 0 16)) refl h
+  where
+    by : (b : Bool) → is_served_code (bits frame.rcx 0 16) ≡ b → is_some (cond b (call_of frame) None) ≡ true → b ≡ true
+    by true is h = refl
+    by false is h = cc
+
+module _ {A : Type 0} (f : Flat) (caller : Caller) (frame : Frame A) where
+  abbrev event : Event A
+  event = record { by = caller; what = Hypercall frame }
+
+  pub unmet_code : served_call frame ≡ None → first_unmet f event (call_rules (served_call frame)) ≡ Some CallCode
+  unmet_code none = subst (λ c. first_unmet f event (call_rules c) ≡ Some CallCode) (sym none) (ap (λ c. cond (not (test_call (λ call frame. true) frame c)) (Some CallCode) None) none)
+
+  faulty : (c : Option CallKind) → served_call frame ≡ c → (wrong : AbiFault) → fault_at frame c ≡ Some wrong → first_unmet f event (call_rules c) ≡ Some (rule_of wrong)
+  faulty None s wrong h = rw s (known wrong h)
+    where
+      known : (wrong : AbiFault) → Some UnknownCode ≡ Some wrong → Some CallCode ≡ Some (rule_of wrong)
+      known UnknownCode h = refl
+      known Input h = cc
+      known fault.Alignment h = cc
+  faulty (Some call) s wrong h = by (is_input_valid (row_of call) frame.rcx) (are_lists_placed (row_of call) frame) refl refl wrong h
+    where
+      by : (v p : Bool) → is_input_valid (row_of call) frame.rcx ≡ v → are_lists_placed (row_of call) frame ≡ p → (wrong : AbiFault) → cond (not v) (Some Input) (cond (not p) (Some fault.Alignment) None) ≡ Some wrong → first_unmet f event (call_rules (Some call)) ≡ Some (rule_of wrong)
+      by false p valid placed UnknownCode h = cc
+      by false p valid placed Input h = rw (s, valid) refl
+      by false p valid placed fault.Alignment h = cc
+      by true false valid placed UnknownCode h = cc
+      by true false valid placed Input h = cc
+      by true false valid placed fault.Alignment h = rw (s, valid, placed) refl
+      by true true valid placed wrong h = cc
+
+  -- a frame of a served code is refused by the rule that its first fault breaks
+  pub unmet_fault : is_served_code (bits frame.rcx 0 16) ≡ true → (wrong : AbiFault) → first_fault frame ≡ Some wrong → first_unmet f event (call_rules (served_call frame)) ≡ Some (rule_of wrong)
+  unmet_fault served wrong h = subst (λ c. first_unmet f event (call_rules c) ≡ Some (rule_of wrong)) (sym (is_call frame served)) (faulty (call_of frame) (is_call frame served) wrong h)
+
+-- the reps of a refused call, by the frame's first fault
+abbrev pub reps_by : ℕ → AbiFault → ℕ
+reps_by start UnknownCode = 0
+reps_by start Input = 0
+reps_by start fault.Alignment = start
+
+module _ {A : Type 0} (frame : Frame A) (served : is_served_code (bits frame.rcx 0 16) ≡ true) where
+  reps_at : (c : Option CallKind) (wrong : AbiFault) → fault_at frame c ≡ Some wrong → start_if_valid frame.rcx c ≡ reps_by (bits frame.rcx 48 12) wrong
+  reps_at None UnknownCode h = refl
+  reps_at None Input h = cc
+  reps_at None fault.Alignment h = cc
+  reps_at (Some call) wrong h = by (is_input_valid (row_of call) frame.rcx) (are_lists_placed (row_of call) frame) wrong h
+    where
+      by : (v p : Bool) (wrong : AbiFault) → cond (not v) (Some Input) (cond (not p) (Some fault.Alignment) None) ≡ Some wrong → cond v (bits frame.rcx 48 12) 0 ≡ reps_by (bits frame.rcx 48 12) wrong
+      by false p UnknownCode h = cc
+      by false p Input h = refl
+      by false p fault.Alignment h = cc
+      by true false UnknownCode h = cc
+      by true false Input h = cc
+      by true false fault.Alignment h = refl
+      by true true wrong h = cc
+
+  pub reps_of_fault : (wrong : AbiFault) → first_fault frame ≡ Some wrong → refused_reps frame ≡ reps_by (bits frame.rcx 48 12) wrong
+  reps_of_fault wrong h = ap (start_if_valid frame.rcx) (is_call frame served) ∙ reps_at (call_of frame) wrong h
+
+  pub reps_of_shape : (call : CallKind) → call_of frame ≡ Some call → is_input_valid (row_of call) frame.rcx ≡ true → refused_reps frame ≡ bits frame.rcx 48 12
+  reps_of_shape call is valid = ap (start_if_valid frame.rcx) (is_call frame served ∙ is) ∙ ap (λ v. cond v (bits frame.rcx 48 12) 0) valid
