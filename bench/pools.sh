@@ -1,0 +1,46 @@
+#!/usr/bin/env bash
+# How long `hvpm` takes for long rep calls on large page sets: all pages are withdrawn from the root's pool, the lowest
+# first, and then deposited into it again, 511 pages a call. Each page is an event. A page set is one list, so a page that
+# comes or goes in the middle of a large set moves those below it: the time of an event grows with the set, slowly.
+set -eu
+
+root=$(cd -- "$(dirname -- "${BASH_SOURCE[0]}")/.." && pwd)
+folder=$(mktemp -d)
+trap 'rm -rf -- "$folder"' EXIT
+
+"$root/bin/hvpm" --help >/dev/null
+
+# The 8 bytes of a number below 65,536.
+number() {
+    printf '%02x%02x000000000000' $(($1 & 255)) $(($1 >> 8))
+}
+
+# Makes a script that moves $2 of $1 pages out of the pool and back.
+make_script() {
+    local own page reps
+    own=$(number 1)
+    echo "boot $1 $1 1 0x000000f700000044 4294967295"
+    for ((page = 0; page < $2; page += 511)); do
+        reps=$(($2 - page < 511 ? $2 - page : 511))
+        printf '1.0 call 0x%x00000049 0 0 %s\n' "$reps" "$own"
+    done
+    for ((page = 0; page < $2; page += 511)); do
+        reps=$(($2 - page < 511 ? $2 - page : 511))
+        printf '1.0 call 0x%x00000048 0 0 %s' "$reps" "$own"
+        for ((i = page; i < page + reps; i++)); do number "$i"; done
+        echo
+    done
+}
+
+for pages in 4096 8192 16384 32768 65536; do
+    moved=$((pages - 8 < 60000 ? pages - 8 : 60000))
+    make_script "$pages" "$moved" >"$folder/pools.hv"
+    echo "== $pages pages, $((2 * moved)) events, $(stat -c %s "$folder/pools.hv") bytes"
+    if [[ -x /usr/bin/time ]]; then
+        /usr/bin/time -v "$root/bin/hvpm" run "$folder/pools.hv" --serial 2>"$folder/time" >"$folder/audit"
+        grep -E 'User time|System time|Maximum resident' "$folder/time"
+    else
+        time "$root/bin/hvpm" run "$folder/pools.hv" --serial >"$folder/audit"
+    fi
+    tail -n 1 -- "$folder/audit"
+done
