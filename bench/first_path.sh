@@ -7,6 +7,7 @@ root=$(cd -- "$(dirname -- "${BASH_SOURCE[0]}")/.." && pwd)
 folder=$(mktemp -d)
 trap 'rm -rf -- "$folder"' EXIT
 
+source "$root/bench/measure.sh"
 "$root/bin/hvpm" --help >/dev/null
 
 boot='boot 32 12 1 0x000000f700000044 4294967295'
@@ -25,11 +26,5 @@ make_script() {
 for bytes in 1024 16384 131072 262144 524288 1048576; do
     make_script "$bytes" >"$folder/$bytes.hv"
     echo "== $bytes bytes"
-    if [[ -x /usr/bin/time ]]; then
-        /usr/bin/time -v "$root/bin/hvpm" run "$folder/$bytes.hv" --serial 2>"$folder/time" >"$folder/audit"
-        grep -E 'Elapsed|Maximum resident' "$folder/time"
-    else
-        time "$root/bin/hvpm" run "$folder/$bytes.hv" --serial >"$folder/audit"
-    fi
-    tail -n 1 -- "$folder/audit"
+    measure "$root/bin/hvpm" "$folder/$bytes.hv"
 done

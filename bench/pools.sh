@@ -8,6 +8,7 @@ root=$(cd -- "$(dirname -- "${BASH_SOURCE[0]}")/.." && pwd)
 folder=$(mktemp -d)
 trap 'rm -rf -- "$folder"' EXIT
 
+source "$root/bench/measure.sh"
 "$root/bin/hvpm" --help >/dev/null
 
 # The 8 bytes of a number below 65,536.
@@ -36,11 +37,5 @@ for pages in 4096 8192 16384 32768 65536; do
     moved=$((pages - 8 < 60000 ? pages - 8 : 60000))
     make_script "$pages" "$moved" >"$folder/pools.hv"
     echo "== $pages pages, $((2 * moved)) events, $(stat -c %s "$folder/pools.hv") bytes"
-    if [[ -x /usr/bin/time ]]; then
-        /usr/bin/time -v "$root/bin/hvpm" run "$folder/pools.hv" --serial 2>"$folder/time" >"$folder/audit"
-        grep -E 'User time|System time|Maximum resident' "$folder/time"
-    else
-        time "$root/bin/hvpm" run "$folder/pools.hv" --serial >"$folder/audit"
-    fi
-    tail -n 1 -- "$folder/audit"
+    measure "$root/bin/hvpm" "$folder/pools.hv"
 done

@@ -23,7 +23,7 @@ use Rattle.hv_tree.specs.ChildLaws.{parent-child, child-parent}
 use Rattle.hv_machine.specs.IsFlat.{IsFlat, is_held, holds, part_row, vp_row}
 use Rattle.hv_machine.specs.State.{State}
 
-both_parts : (a b : Bool) → T (a && b) → T a × T b
+pub both_parts : (a b : Bool) → T (a && b) → T a × T b
 both_parts true true h = (tt, tt)
 both_parts true false h = absurd h
 both_parts false b h = absurd h

@@ -16,24 +16,15 @@ use Rattle.hv_policy.specs.Flat.{Flat, PartRow}
 use Rattle.hv_tree.specs.Rows.{children, IsLeastAbove}
 use Rattle.hv_tree.specs.Rows.{parent as tree_parent}
 use Rattle.hv_tree.specs.ChildLaws.{parent-child, child-parent}
-use Rattle.hv_machine.proofs.Counted.{child_at, named}
+use Rattle.hv_machine.proofs.Counted.{both_parts, child_at, named}
+use Rattle.hv_machine.proofs.Sound.{two_tests}
 use Rattle.hv_machine.specs.IsFlat.{IsFlat}
 use Rattle.hv_machine.specs.State.{State}
-
-both_parts : (a b : Bool) → T (a && b) → T a × T b
-both_parts true true h = (tt, tt)
-both_parts true false h = absurd h
-both_parts false b h = absurd h
 
 low : (x y : ℕ) (r : Ordering) → r ≡ nat_cmp x y → T (is_lt r) → x < y
 low x y Less e t = ranked x y Less e
 low x y Equal e t = absurd t
 low x y Greater e t = absurd t
-
-two_tests : (a b : Bool) → (a && b) ≡ true → (a ≡ true) × (b ≡ true)
-two_tests true true h = (refl, refl)
-two_tests true false h = cc
-two_tests false b h = cc
 
 abbrev pub id_or_0 : Option ℕ → ℕ
 id_or_0 None = 0

@@ -16,7 +16,7 @@ held_by_owner page = by page.pooled refl
     by true is = rw (eq-eqb page.owner page.owner refl, is) refl
     by false is = rw (eq-eqb page.owner page.owner refl, is) refl
 
-two_tests : (a b : Bool) → (a && b) ≡ true → (a ≡ true) × (b ≡ true)
+pub two_tests : (a b : Bool) → (a && b) ≡ true → (a ≡ true) × (b ≡ true)
 two_tests true true h = (refl, refl)
 two_tests true false h = cc
 two_tests false b h = cc

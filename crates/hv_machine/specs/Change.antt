@@ -171,7 +171,7 @@ IsChanged DepositMemory caller target next page old new = IsDeposited old new ca
 IsChanged WithdrawMemory caller target next page old new = IsWithdrawn old new target caller
 IsChanged call caller target next page old new = new ≡ old
 
--- the caller's row can have a child, and the id is free
+-- the caller's row can have one more child, of which a tree counts fewer than 2^32, and the id is free
 pub record MayCreate (rows : Rows PartitionState) (parent id : ℕ) : Type 0 where
   pub there : contains_key rows parent ≡ true
   pub free : contains_key rows id ≡ false

@@ -1,12 +1,13 @@
 //! The machine: one event on the partitions that are there is one step of the flat policy.
 //!
-//! The partitions are a tree, each with its pages and processors. [`Machine::boot`] makes the root partition, and [`Machine::step`] takes one event: it asks the rules
-//! that stand for it in the policy, in order, and serves it exactly where all of them are met. `IsFlat` in
-//! `specs/` says which flat state of the policy a machine stands for, and the contract of `step` says
-//! that its reply and its new state are those of the flat step. That each boot page stands in exactly one
-//! page set, and that no partition uses more pages than it has pooled, holds of every machine.
+//! The partitions are a tree, each with its pages and processors. [`Machine::boot`] makes the root
+//! partition, and [`Machine::step`] takes one event: it asks the rules that stand for it in the policy, in
+//! order, and serves it exactly where all of them are met. `IsFlat` in `specs/` says which flat state of
+//! the policy a machine stands for, and the contract of `step` says that its reply and its new state are
+//! those of the flat step. That each boot page stands in exactly one page set, and that no partition uses
+//! more pages than it has pooled, holds of every machine.
 //!
-//! Chapters of the TLFS 4.0: "Partition Management", "Hypercall Interface".
+//! Chapters of the TLFS 4.0: "Partition Management", "Resource Management", "Hypercall Interface".
 #![tactic(auto)]
 
 mod ask;
