@@ -41,3 +41,33 @@ pub const CPU_CAP_START: u64 = 65_536;
 
 /// The CPU weight with which a partition starts, of 1 to 10,000.
 pub const CPU_WEIGHT_START: u64 = 100;
+
+/// The highest CPU reserve.
+pub const MAX_CPU_RESERVE: u64 = 65_536;
+
+/// The highest CPU cap.
+pub const MAX_CPU_CAP: u64 = 65_536;
+
+/// The lowest CPU weight.
+pub const MIN_CPU_WEIGHT: u64 = 1;
+
+/// The highest CPU weight.
+pub const MAX_CPU_WEIGHT: u64 = 10_000;
+
+/// Synthetic interrupt sources of a virtual processor (HV_SYNIC_SINT_COUNT). Their indexes are below this.
+pub const SINTS: u32 = 16;
+
+/// Event flags of a SINT (HV_EVENT_FLAGS_COUNT). Their numbers are below this.
+pub const EVENT_FLAGS: u32 = 2048;
+
+/// Most bytes of a message's payload (HV_MESSAGE_PAYLOAD_BYTE_COUNT).
+pub const MAX_PAYLOAD: u32 = 240;
+
+/// The highest id of a port or of a connection: ids have 24 bits.
+pub const MAX_PORT_ID: u32 = 0x00FF_FFFF;
+
+/// The highest type of a message that a guest may post: bit 31 marks those of the hypervisor.
+pub const MAX_MESSAGE_TYPE: u32 = 0x7FFF_FFFF;
+
+/// The VP index by which a port aims at any processor of its partition (HV_ANY_VP).
+pub const ANY_VP: u32 = u32::MAX;

@@ -203,6 +203,13 @@ module _ (config : Config) (rows : Rows PartitionState) (made : IsBootTree confi
       by true t e = let same : (None, p) ≡ r = cc in subst (IsLastingRow rows 2 id) same (root_lasts id (eqb-true id 1 t))
       by false t e = cc
 
+  parentless : (id parent : ℕ) (r : Row PartitionState) → get rows id ≡ Some r → r.0 ≡ Some parent → ⊥
+  parentless id parent r is named = by (id == 1) (sym (row_at id) ∙ is)
+    where
+      by : (b : Bool) → root_only b ≡ Some r → ⊥
+      by true e = let same : (None, p) ≡ r = cc in cc
+      by false e = cc
+
   has_row : (page : ℕ) → is_some (get (boot config).page page) ≡ nat_lt page config.pages
   has_row page = ap is_some (page_at config page) ∙ by (nat_lt page config.pages)
     where
@@ -217,6 +224,7 @@ module _ (config : Config) (rows : Rows PartitionState) (made : IsBootTree confi
     stands = booted_flat;
     paged = has_row;
     rows = row_lasts;
+    masks = λ id parent child above is named there. absurd (parentless id parent child is named);
     few = omega arith;
     bounded = fits_most config sane;
   }

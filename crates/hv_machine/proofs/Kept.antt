@@ -8,6 +8,7 @@ use Rattle.hv_tree.specs.Rows.{Row, Rows, children}
 use Rattle.hv_machine.proofs.Counted.{children_counted}
 use Rattle.hv_machine.specs.Change.{IsSameButRoom, bare}
 use Rattle.hv_machine.specs.IsFlat.{IsFlat, Shows, holds, part_row, vp_row}
+use Rattle.hv_machine.proofs.Masks.{masks_but_room}
 use Rattle.hv_machine.specs.Lasting.{IsLasting, IsLastingRow}
 use Rattle.hv_machine.specs.State.{State}
 
@@ -41,7 +42,7 @@ module _ (m : State) (new : Rows PartitionState) (same : IsSameButRoom m.rows ne
 
   -- and lasts
   pub kept_lasting : IsLasting m → IsLasting (record m { rows = new })
-  kept_lasting l = record { flat = l.flat; stands = kept_flat l.flat l.stands; paged = l.paged; rows = rows; few = l.few; bounded = l.bounded }
+  kept_lasting l = record { flat = l.flat; stands = kept_flat l.flat l.stands; paged = l.paged; rows = rows; masks = masks_but_room m.rows new same l.masks; few = l.few; bounded = l.bounded }
     where
       count : (id : ℕ) → length (children new id) ≡ length (children m.rows id)
       count id = sym (children_counted (record m { rows = new }) l.flat (kept_flat l.flat l.stands) id) ∙ children_counted m l.flat l.stands id

@@ -5,11 +5,11 @@ pub mod Counted
 pub mod Deletion
 pub mod Depths
 pub mod Few
-pub mod Fields
 pub mod Kept
 pub mod Lasts
 pub mod Lent
 pub mod Lowest
+pub mod Masks
 pub mod MemoryCalls
 pub mod Moves
 pub mod Listed

@@ -10,11 +10,13 @@ use Rattle.hv_defs.specs.declared.life.Life.TheVariants.{Active, Finalized}
 use Rattle.hv_partition.specs.Partition.{PartitionState, finalized}
 use Rattle.hv_policy.proofs.Pairs.{pair_cmp_exact}
 use Rattle.hv_policy.specs.Boot.{start_vp}
-use Rattle.hv_policy.specs.Effect.{new_row, mask_of, with_row, changed_at, rows_but, mail_but}
+use Rattle.hv_policy.specs.Effect.{given as given_row, new_row, mask_of, with_row, changed_at, rows_but, mail_but}
 use Rattle.hv_policy.specs.Flat.{Flat, PartRow, pair_cmp}
 use Rattle.hv_tree.specs.Laws.{either, get_row-insert, get-change}
 use Rattle.hv_tree.specs.Rows.{Row, change}
-use Rattle.hv_machine.specs.Change.{child_of}
+use Rattle.hv_policy.specs.declared.property.Property.{Property}
+use Rattle.hv_policy.specs.declared.property.Property.TheVariants.{PrivilegeFlags, CpuReserve, CpuCap, CpuWeight}
+use Rattle.hv_machine.specs.Change.{child_of, given}
 use Rattle.hv_machine.specs.IsFlat.{IsFlat, Shows, is_held, holds, part_row}
 use Rattle.hv_machine.specs.State.{State}
 
@@ -94,39 +96,51 @@ module _ (m : State) (f : Flat) (flat : IsFlat m f) where
     pub created_flat : IsFlat (record m { rows = insert m.rows m.next (child_of parent creator); next = m.next + 1; served = m.served + 1 }) created
     created_flat = record { rows = created_shows; mail = flat.mail; next = ap (λ n. n + 1) flat.next; served = ap (λ n. n + 1) flat.served }
 
-  -- a partition that became Active
-  module _ (target : ℕ) where
-    abbrev activated : Flat
-    activated = record f { part = with_row f.part target made_active; served = f.served + 1 }
+  -- a partition whose life state, mask or CPU properties changed: `h` does to it what `g` does to its row
+  module _ (target : ℕ) (h : PartitionState → PartitionState) (g : PartRow → PartRow) (alike : (r : Row PartitionState) → part_row (r.0, h r.1) ≡ g (part_row r)) (loose : (p : PartitionState) → (h p).loose.pages ≡ p.loose.pages) (pool : (p : PartitionState) → (h p).pooled.pages ≡ p.pooled.pages) (vps : (p : PartitionState) → (h p).vps ≡ p.vps) where
+    abbrev changed : Flat
+    changed = record f { part = with_row f.part target g; served = f.served + 1 }
 
-    active_part : (id : ℕ) (b : Bool) → id == target ≡ b → get activated.part id ≡ cond b (option_map made_active (get f.part target)) (get f.part id)
-    active_part id b is = get-with_row f.part target made_active id ∙ ap (λ t. cond t (option_map made_active (get f.part target)) (get f.part id)) is
+    changed_part : (id : ℕ) (b : Bool) → id == target ≡ b → get changed.part id ≡ cond b (option_map g (get f.part target)) (get f.part id)
+    changed_part id b is = get-with_row f.part target g id ∙ ap (λ t. cond t (option_map g (get f.part target)) (get f.part id)) is
 
-    activated_shows : (id : ℕ) → Shows activated id (get (change m.rows target (λ p. record p { life = Active })) id)
-    activated_shows id = subst (Shows activated id) (sym (get-change m.rows target (λ p. record p { life = Active }) id)) (by (id == target) refl)
+    changed_shows : (id : ℕ) → Shows changed id (get (change m.rows target h) id)
+    changed_shows id = subst (Shows changed id) (sym (get-change m.rows target h id)) (by (id == target) refl)
       where
-        one : (r : Option (Row PartitionState)) → get m.rows target ≡ r → id == target ≡ true → Shows f id r → Shows activated id (option_map (λ r. (r.0, record r.1 { life = Active })) r)
+        one : (r : Option (Row PartitionState)) → get m.rows target ≡ r → id == target ≡ true → Shows f id r → Shows changed id (option_map (λ r. (r.0, h r.1)) r)
         one None is at old = record {
-          part = active_part id true at ∙ ap (option_map made_active) ((flat.rows target).part ∙ ap (option_map part_row) is);
+          part = changed_part id true at ∙ ap (option_map g) ((flat.rows target).part ∙ ap (option_map part_row) is);
           page = old.page;
           vp = old.vp;
           port = old.port;
           conn = old.conn;
         }
         one (Some r) is at old = record {
-          part = active_part id true at ∙ ap (option_map made_active) ((flat.rows target).part ∙ ap (option_map part_row) is);
-          page = λ page pooled. old.page page pooled ∙ holds_alike pooled page r (r.0, record r.1 { life = Active }) refl refl;
-          vp = old.vp;
+          part = changed_part id true at ∙ ap (option_map g) ((flat.rows target).part ∙ ap (option_map part_row) is) ∙ ap Some (sym (alike r));
+          page = λ page pooled. old.page page pooled ∙ holds_alike pooled page r (r.0, h r.1) (sym (loose r.1)) (sym (pool r.1));
+          vp = λ index. old.vp index ∙ ap (λ s. cond (set.contains s index) (Some (start_vp index)) None) (sym (vps r.1));
           port = old.port;
           conn = old.conn;
         }
 
-        by : (b : Bool) → id == target ≡ b → Shows activated id (cond b (option_map (λ r. (r.0, record r.1 { life = Active })) (get m.rows target)) (get m.rows id))
-        by false is = same_shows f activated id (get m.rows id) (active_part id false is) (λ _. refl) (λ _. refl) (λ _. refl) (λ _. refl) (flat.rows id)
+        by : (b : Bool) → id == target ≡ b → Shows changed id (cond b (option_map (λ r. (r.0, h r.1)) (get m.rows target)) (get m.rows id))
+        by false is = same_shows f changed id (get m.rows id) (changed_part id false is) (λ _. refl) (λ _. refl) (λ _. refl) (λ _. refl) (flat.rows id)
         by true is = one (get m.rows target) refl is (subst (Shows f id) (ap (get m.rows) (eqb-true id target is)) (flat.rows id))
 
-    pub activated_flat : IsFlat (record m { rows = change m.rows target (λ p. record p { life = Active }); served = m.served + 1 }) activated
-    activated_flat = record { rows = activated_shows; mail = flat.mail; next = flat.next; served = ap (λ n. n + 1) flat.served }
+    changed_flat : IsFlat (record m { rows = change m.rows target h; served = m.served + 1 }) changed
+    changed_flat = record { rows = changed_shows; mail = flat.mail; next = flat.next; served = ap (λ n. n + 1) flat.served }
+
+  -- a partition that became Active
+  pub activated_flat : (target : ℕ) → IsFlat (record m { rows = change m.rows target (λ p. record p { life = Active }); served = m.served + 1 }) (record f { part = with_row f.part target made_active; served = f.served + 1 })
+  activated_flat target = changed_flat target (λ p. record p { life = Active }) made_active (λ _. refl) (λ _. refl) (λ _. refl) (λ _. refl)
+
+  -- and one with a new value of a property
+  pub given_flat : (target : ℕ) (property : Option Property) (value : ℕ) → IsFlat (record m { rows = change m.rows target (given property value); served = m.served + 1 }) (record f { part = with_row f.part target (given_row property value); served = f.served + 1 })
+  given_flat target None value = changed_flat target (given None value) (given_row None value) (λ _. refl) (λ _. refl) (λ _. refl) (λ _. refl)
+  given_flat target (Some PrivilegeFlags) value = changed_flat target (given (Some PrivilegeFlags) value) (given_row (Some PrivilegeFlags) value) (λ _. refl) (λ _. refl) (λ _. refl) (λ _. refl)
+  given_flat target (Some CpuReserve) value = changed_flat target (given (Some CpuReserve) value) (given_row (Some CpuReserve) value) (λ _. refl) (λ _. refl) (λ _. refl) (λ _. refl)
+  given_flat target (Some CpuCap) value = changed_flat target (given (Some CpuCap) value) (given_row (Some CpuCap) value) (λ _. refl) (λ _. refl) (λ _. refl) (λ _. refl)
+  given_flat target (Some CpuWeight) value = changed_flat target (given (Some CpuWeight) value) (given_row (Some CpuWeight) value) (λ _. refl) (λ _. refl) (λ _. refl) (λ _. refl)
 
   -- a partition that was finalized
   module _ (target : ℕ) where

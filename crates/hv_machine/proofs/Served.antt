@@ -6,38 +6,41 @@ use Rattle.std.specs.FinMap.{get, insert, remove, contains_key}
 use Rattle.std.specs.FinSet as set
 use Rattle.std.specs.Option.{option_map, option_and_then}
 use Rattle.std.specs.Ordering.{nat_cmp}
-use Rattle.hv_abi.specs.declared.call_kind.CallKind.{CallKind}
-use Rattle.hv_abi.specs.declared.call_kind.CallKind.TheVariants as call
-use Rattle.hv_abi.specs.declared.call_kind.CallKind.TheVariants.{CreatePartition, InitializePartition, FinalizePartition, DeletePartition, DepositMemory, WithdrawMemory}
-use Rattle.hv_abi.specs.declared.frame.Frame.{Frame}
+use Rattle.hv_calls.specs.declared.call.Call.{Call}
+use Rattle.hv_calls.specs.declared.call.Call.TheVariants as call
+use Rattle.hv_calls.specs.declared.call.Call.TheVariants.{CreatePartition, InitializePartition, FinalizePartition, DeletePartition, SetPartitionProperty, DepositMemory, WithdrawMemory}
 use Rattle.hv_defs.specs.declared.life.Life.{Life}
 use Rattle.hv_defs.specs.declared.life.Life.TheVariants.{Created, Active, Finalized}
 use Rattle.hv_partition.specs.Partition.{PartitionState, finalized, in_use}
-use Rattle.hv_policy.specs.Call.{served_call, page_of, target_of}
-use Rattle.hv_policy.specs.Effect.{effect, call_effect, served_effect, inherited, withdrawn}
+use Rattle.hv_policy.specs.Call.{target_of}
+use Rattle.hv_policy.specs.Effect.{call_effect, counted, inherited, withdrawn}
 use Rattle.hv_policy.specs.Flat.{Flat, PageRow}
 use Rattle.hv_policy.specs.Met.{is_active}
 use Rattle.hv_policy.specs.Needs.{is_among}
-use Rattle.hv_policy.specs.Step.{unmet}
-use Rattle.hv_policy.specs.declared.event.Caller.{Caller}
+use Rattle.hv_policy.specs.Property.{property_of}
+use Rattle.hv_policy.specs.declared.property.Property.{Property}
+use Rattle.hv_policy.specs.declared.property.Property.TheVariants.{PrivilegeFlags, CpuReserve, CpuCap, CpuWeight}
 use Rattle.hv_policy.specs.declared.need.States.TheVariants as states
 use Rattle.hv_tree.specs.ChildLaws.{count-insert, count-remove, count-change}
 use Rattle.hv_tree.specs.Laws.{get_row-insert, get_row-remove, get-change}
 use Rattle.hv_tree.specs.Rows.{Row, Rows, children, change, changed_at, parent}
-use Rattle.hv_machine.proofs.Allowed.{caller_row, target_row, loose_page, child_row, state_row, childless_row, charge_there, further}
+use Rattle.hv_machine.proofs.Allowed.{caller_row, target_row, child_row, state_row, childless_row, charge_there, further}
 use Rattle.hv_machine.proofs.Counted.{available_counted}
 use Rattle.hv_machine.proofs.Deletion.{deleted_flat, get-mapped}
 use Rattle.hv_machine.proofs.Few.{few_loose, few_pooled, free_next, childless_next}
-use Rattle.hv_machine.proofs.PartitionCalls.{get_part-insert, same_shows, created_flat, activated_flat, closed_flat}
+use Rattle.hv_machine.proofs.PartitionCalls.{get_part-insert, same_shows, created_flat, activated_flat, closed_flat, given_flat}
 use Rattle.hv_machine.proofs.Sound.{apart_sets, sound}
-use Rattle.hv_machine.proofs.Lowest.{lowest_is}
+use Rattle.hv_machine.proofs.Lowest.{loose_held, lowest_is}
+use Rattle.hv_machine.proofs.Masks.{masked_after}
 use Rattle.hv_machine.proofs.MemoryCalls.{deposited_flat, withdrawn_flat, pooled_row}
 use Rattle.hv_machine.proofs.Moves.{get-with_loose, get-with_pooled, loose_if, pooled_if, writes_swap}
 use Rattle.hv_pages.specs.PageSet.{PagesAndRoom, IsLowest}
-use Rattle.hv_machine.specs.Change.{IsChanged, IsCreated, IsDeleted, IsDeposited, IsWithdrawn, MayChange, MayCreate, MayDelete, MayDeposit, MayWithdraw, next_after, with_loose, with_pooled, child_of, heir_of}
+use Rattle.hv_machine.specs.Asked.{IsAllowed}
+use Rattle.hv_machine.specs.Change.{given, IsChanged, IsCreated, IsDeleted, IsDeposited, IsWithdrawn, MayChange, MayCreate, MayDelete, MayDeposit, MayWithdraw, next_after, with_loose, with_pooled, child_of, heir_of}
 use Rattle.hv_machine.specs.IsFlat.{IsFlat, holds}
 use Rattle.hv_machine.specs.Lasting.{IsLasting, IsLastingRow}
-use Rattle.hv_machine.specs.State.{State, call_event}
+use Rattle.hv_machine.specs.Masks.{AreMasksWithin}
+use Rattle.hv_machine.specs.State.{State}
 
 idle_state : (life : Life) → is_among life states.CreatedOrFinalized ≡ true → is_active life ≡ false
 idle_state Created h = refl
@@ -54,17 +57,14 @@ page_below m l page id kind held = elim (cases_lt page m.pages) [
   | inr le ↦ absurd (true≢false (sym held ∙ (sound m l).others page id kind le))
 ]
 
-module _ {A : Type 0} (m : State) (l : IsLasting m) (caller : Caller) (frame : Frame A) where
-  abbrev target : CallKind → ℕ
-  target call = target_of call frame caller.part
-
+module _ (m : State) (l : IsLasting m) (caller : ℕ) where
   -- what each call needs of the rows, once all its rules are met
-  create_needs : served_call frame ≡ Some CreatePartition → unmet l.flat (call_event caller frame) ≡ None → MayCreate m.rows caller.part m.next
-  create_needs served none =
-      let (r, is, active) = caller_row m l.flat l.stands caller frame CreatePartition served none in
-      let charge = charge_there m l.flat l.stands caller frame CreatePartition served none (further m l.flat l.stands caller frame CreatePartition served none).1.0 in
-      let counted = available_counted m l.flat l.stands caller.part r is in
-      let pool = few_pooled m l caller.part r is in
+  create_needs : (flags : ℕ) → IsAllowed l.flat caller (CreatePartition flags) → MayCreate m.rows caller m.next
+  create_needs flags a =
+      let (r, is, active) = caller_row m l.flat l.stands caller (CreatePartition flags) a in
+      let charge = charge_there m l.flat l.stands caller (CreatePartition flags) a (further m l.flat l.stands caller (CreatePartition flags) a).1.0 in
+      let counted = available_counted m l.flat l.stands caller r is in
+      let pool = few_pooled m l caller r is in
       let bounded = l.bounded in
       record {
         there = ap is_some is;
@@ -72,21 +72,21 @@ module _ {A : Type 0} (m : State) (l : IsLasting m) (caller : Caller) (frame : F
         few = omega arith;
       }
 
-  delete_needs : served_call frame ≡ Some DeletePartition → unmet l.flat (call_event caller frame) ≡ None → MayDelete m.rows caller.part (target DeletePartition)
-  delete_needs served none =
-      let (owner, there, active) = caller_row m l.flat l.stands caller frame DeletePartition served none in
-      let (gone, was, below) = child_row m l.flat l.stands caller frame DeletePartition served none refl in
-      let (gone2, was2, state) = state_row m l.flat l.stands caller frame DeletePartition served none (further m l.flat l.stands caller frame DeletePartition served none).0 in
+  delete_needs : (partition : ℕ) → IsAllowed l.flat caller (DeletePartition partition) → MayDelete m.rows caller (target_of (DeletePartition partition) caller)
+  delete_needs partition a =
+      let (owner, there, active) = caller_row m l.flat l.stands caller (DeletePartition partition) a in
+      let (gone, was, below) = child_row m l.flat l.stands caller (DeletePartition partition) a refl in
+      let (gone2, was2, state) = state_row m l.flat l.stands caller (DeletePartition partition) a (further m l.flat l.stands caller (DeletePartition partition) a).0 in
       let same : gone2 ≡ gone = (let both = sym was2 ∙ was in cc) in
       let idle : is_active gone.1.life ≡ false = ap {A = Row PartitionState} (λ r. is_active r.1.life) (sym same) ∙ idle_state gone2.1.life state in
-      let lasts = l.rows (target DeletePartition) gone was in
-      let above = lasts.above caller.part below in
+      let lasts = l.rows (target_of (DeletePartition partition) caller) gone was in
+      let above = lasts.above caller below in
       let childless = (lasts.quiet idle).0 in
-      let apart : target DeletePartition == caller.part ≡ false = ne_eqb (target DeletePartition) caller.part (λ e. omega (arith, e, above)) in
-      let loose = few_loose m l (target DeletePartition) gone was in
-      let pooled = few_pooled m l (target DeletePartition) gone was in
+      let apart : target_of (DeletePartition partition) caller == caller ≡ false = ne_eqb (target_of (DeletePartition partition) caller) caller (λ e. omega (arith, e, above)) in
+      let loose = few_loose m l (target_of (DeletePartition partition) caller) gone was in
+      let pooled = few_pooled m l (target_of (DeletePartition partition) caller) gone was in
       let bounded = l.bounded in
-      let named : parent m.rows (target DeletePartition) ≡ Some caller.part = ap (option_and_then (λ r. r.0)) was ∙ below in
+      let named : parent m.rows (target_of (DeletePartition partition) caller) ≡ Some caller = ap (option_and_then (λ r. r.0)) was ∙ below in
       record {
         leaf = rw (named, childless) refl;
         apart = apart;
@@ -96,133 +96,127 @@ module _ {A : Type 0} (m : State) (l : IsLasting m) (caller : Caller) (frame : F
         was = was;
         few_loose = omega arith;
         few_pooled = omega arith;
-        loose = λ page h. sym (ap (holds false page) was) ∙ apart_sets m l.flat l.stands caller.part (target DeletePartition) false false (λ e. let is = e.0 in omega (arith, is, above)) page (ap (holds false page) there ∙ h);
-        pooled = λ page h. sym (ap (holds true page) was) ∙ apart_sets m l.flat l.stands caller.part (target DeletePartition) false true (λ e. let is = e.0 in omega (arith, is, above)) page (ap (holds false page) there ∙ h);
-        own = λ page h. sym (ap (holds true page) was) ∙ apart_sets m l.flat l.stands (target DeletePartition) (target DeletePartition) false true (λ e. true≢false (sym e.1)) page (ap (holds false page) was ∙ h);
+        loose = λ page h. sym (ap (holds false page) was) ∙ apart_sets m l.flat l.stands caller (target_of (DeletePartition partition) caller) false false (λ e. let is = e.0 in omega (arith, is, above)) page (ap (holds false page) there ∙ h);
+        pooled = λ page h. sym (ap (holds true page) was) ∙ apart_sets m l.flat l.stands caller (target_of (DeletePartition partition) caller) false true (λ e. let is = e.0 in omega (arith, is, above)) page (ap (holds false page) there ∙ h);
+        own = λ page h. sym (ap (holds true page) was) ∙ apart_sets m l.flat l.stands (target_of (DeletePartition partition) caller) (target_of (DeletePartition partition) caller) false true (λ e. true≢false (sym e.1)) page (ap (holds false page) was ∙ h);
       }
 
-  deposit_needs : served_call frame ≡ Some DepositMemory → unmet l.flat (call_event caller frame) ≡ None → MayDeposit m.rows caller.part (target DepositMemory) (page_of frame)
-  deposit_needs served none =
-      let (owner, there, active) = caller_row m l.flat l.stands caller frame DepositMemory served none in
-      let met = further m l.flat l.stands caller frame DepositMemory served none in
-      let (row, was, state) = state_row m l.flat l.stands caller frame DepositMemory served none met.0 in
-      let one = loose_page m l.flat l.stands caller frame DepositMemory served none refl met.1.0 in
-      let below = page_below m l (page_of frame) caller.part false one in
+  deposit_needs : (partition page : ℕ) → IsAllowed l.flat caller (DepositMemory partition page) → MayDeposit m.rows caller (target_of (DepositMemory partition page) caller) page
+  deposit_needs partition page a =
+      let (owner, there, active) = caller_row m l.flat l.stands caller (DepositMemory partition page) a in
+      let met = further m l.flat l.stands caller (DepositMemory partition page) a in
+      let (row, was, state) = state_row m l.flat l.stands caller (DepositMemory partition page) a met.0 in
+      let one = sym (loose_held m l.flat l.stands caller page) ∙ met.1.0 in
+      let below = page_below m l page caller false one in
       let bounded = l.bounded in
       record {
         loose = owner.1.loose;
         had = ap (option_map (λ p. p.loose)) (ap (option_map (λ r. r.1)) there);
-        held = sym (ap (holds false (page_of frame)) there) ∙ one;
+        held = sym (ap (holds false page) there) ∙ one;
         pooled = row.1.pooled;
         pool = ap (option_map (λ p. p.pooled)) (ap (option_map (λ r. r.1)) was);
-        new = sym (ap (holds true (page_of frame)) was) ∙ apart_sets m l.flat l.stands caller.part (target DepositMemory) false true (λ e. true≢false (sym e.1)) (page_of frame) one;
+        new = sym (ap (holds true page) was) ∙ apart_sets m l.flat l.stands caller (target_of (DepositMemory partition page) caller) false true (λ e. true≢false (sym e.1)) page one;
         small = omega arith;
       }
 
-  withdraw_needs : served_call frame ≡ Some WithdrawMemory → unmet l.flat (call_event caller frame) ≡ None → MayWithdraw m.rows (target WithdrawMemory) caller.part
-  withdraw_needs served none =
-      let (owner, there, active) = caller_row m l.flat l.stands caller frame WithdrawMemory served none in
-      let (row, was) = target_row m l.flat l.stands caller frame WithdrawMemory served none in
-      let charge = charge_there m l.flat l.stands caller frame WithdrawMemory served none (further m l.flat l.stands caller frame WithdrawMemory served none).0 in
-      let counted = available_counted m l.flat l.stands (target WithdrawMemory) row was in
+  withdraw_needs : (partition : ℕ) → IsAllowed l.flat caller (WithdrawMemory partition) → MayWithdraw m.rows (target_of (WithdrawMemory partition) caller) caller
+  withdraw_needs partition a =
+      let (owner, there, active) = caller_row m l.flat l.stands caller (WithdrawMemory partition) a in
+      let (row, was) = target_row m l.flat l.stands caller (WithdrawMemory partition) a in
+      let charge = charge_there m l.flat l.stands caller (WithdrawMemory partition) a (further m l.flat l.stands caller (WithdrawMemory partition) a).0 in
+      let counted = available_counted m l.flat l.stands (target_of (WithdrawMemory partition) caller) row was in
       record {
         pooled = row.1.pooled;
         pool = ap (option_map (λ p. p.pooled)) (ap (option_map (λ r. r.1)) was);
         some = λ empty. (let none = ap set.len empty ∙ set.len-empty nat_cmp in omega arith);
         loose = owner.1.loose;
         had = ap (option_map (λ p. p.loose)) (ap (option_map (λ r. r.1)) there);
-        apart = λ page h. sym (ap (holds false page) there) ∙ apart_sets m l.flat l.stands (target WithdrawMemory) caller.part true false (λ e. true≢false e.1) page (ap (holds true page) was ∙ h);
+        apart = λ page h. sym (ap (holds false page) there) ∙ apart_sets m l.flat l.stands (target_of (WithdrawMemory partition) caller) caller true false (λ e. true≢false e.1) page (ap (holds true page) was ∙ h);
       }
 
-  pub may_change : (call : CallKind) → served_call frame ≡ Some call → unmet l.flat (call_event caller frame) ≡ None → MayChange call caller.part (target call) m.next (page_of frame) m.rows
-  may_change CreatePartition served none = create_needs served none
-  may_change DeletePartition served none = delete_needs served none
-  may_change InitializePartition served none = tt
-  may_change FinalizePartition served none = tt
-  may_change call.GetPartitionProperty served none = tt
-  may_change call.SetPartitionProperty served none = tt
-  may_change call.GetPartitionId served none = tt
-  may_change call.GetNextChildPartition served none = tt
-  may_change call.DepositMemory served none = deposit_needs served none
-  may_change call.WithdrawMemory served none = withdraw_needs served none
-  may_change call.GetMemoryBalance served none = tt
-  may_change call.CreateVp served none = tt
-  may_change call.DeleteVp served none = tt
-  may_change call.GetVpRegisters served none = tt
-  may_change call.SetVpRegisters served none = tt
-  may_change call.DeletePort served none = tt
-  may_change call.DisconnectPort served none = tt
-  may_change call.PostMessage served none = tt
-  may_change call.SignalEvent served none = tt
-  may_change call.CreatePort served none = tt
-  may_change call.ConnectPort served none = tt
+  pub may_change : (call : Call) → IsAllowed l.flat caller call → MayChange call caller (target_of call caller) m.next m.rows
+  may_change (CreatePartition flags) a = create_needs flags a
+  may_change (DeletePartition partition) a = delete_needs partition a
+  may_change (InitializePartition partition) a = tt
+  may_change (FinalizePartition partition) a = tt
+  may_change (call.GetPartitionProperty partition code) a = tt
+  may_change (SetPartitionProperty partition code value) a = tt
+  may_change call.GetPartitionId a = tt
+  may_change (call.GetNextChildPartition partition previous) a = tt
+  may_change (DepositMemory partition page) a = deposit_needs partition page a
+  may_change (WithdrawMemory partition) a = withdraw_needs partition a
+  may_change (call.GetMemoryBalance partition) a = tt
+  may_change (call.CreateVp partition vp) a = tt
+  may_change (call.DeleteVp partition vp) a = tt
+  may_change (call.GetVpRegisters partition vp name) a = tt
+  may_change (call.SetVpRegisters partition vp name value) a = tt
+  may_change (call.DeletePort partition port) a = tt
+  may_change (call.DisconnectPort partition connection) a = tt
+  may_change (call.PostMessage connection message_type payload) a = tt
+  may_change (call.SignalEvent connection flag) a = tt
+  may_change (call.CreatePort partition port peer port_kind sint vp base count) a = tt
+  may_change (call.ConnectPort partition connection port_partition port port_kind) a = tt
 
 -- the machine's state after a call
-abbrev pub after : CallKind → State → Rows PartitionState → State
+abbrev pub after : Call → State → Rows PartitionState → State
 after call m new = record { rows = new; pages = m.pages; next = next_after call m.next; served = m.served + 1 }
 
-module _ {A : Type 0} (m : State) (l : IsLasting m) (f : Flat) (flat : IsFlat m f) (caller : Caller) (frame : Frame A) where
-  abbrev model : CallKind → Flat
-  model call = record (call_effect call f caller.part frame) { served = f.served + 1 }
+module _ (m : State) (l : IsLasting m) (f : Flat) (flat : IsFlat m f) (caller : ℕ) where
+  abbrev model : Call → Flat
+  model call = counted (call_effect call f caller (target_of call caller))
 
   unchanged_flat : (new : Rows PartitionState) → new ≡ m.rows → IsFlat (record m { rows = new; served = m.served + 1 }) (record f { served = f.served + 1 })
   unchanged_flat new same = subst (λ rows. IsFlat (record m { rows = rows; served = m.served + 1 }) (record f { served = f.served + 1 })) (sym same) (record { rows = λ id. same_shows f (record f { served = f.served + 1 }) id (get m.rows id) refl (λ _. refl) (λ _. refl) (λ _. refl) (λ _. refl) (flat.rows id); mail = flat.mail; next = flat.next; served = ap (λ n. n + 1) flat.served })
 
-  delete_flat : served_call frame ≡ Some DeletePartition → unmet f (call_event caller frame) ≡ None → (new : Rows PartitionState) → IsDeleted m.rows new caller.part (target_of DeletePartition frame caller.part) → IsFlat (after DeletePartition m new) (model DeletePartition)
-  delete_flat served none new d =
-      let (gone, was, below) = child_row m f flat caller frame DeletePartition served none refl in
-      let (gone2, was2, state) = state_row m f flat caller frame DeletePartition served none (further m f flat caller frame DeletePartition served none).0 in
+  delete_flat : (partition : ℕ) → IsAllowed f caller (DeletePartition partition) → (new : Rows PartitionState) → IsDeleted m.rows new caller (target_of (DeletePartition partition) caller) → IsFlat (after (DeletePartition partition) m new) (model (DeletePartition partition))
+  delete_flat partition a new d =
+      let (gone, was, below) = child_row m f flat caller (DeletePartition partition) a refl in
+      let (gone2, was2, state) = state_row m f flat caller (DeletePartition partition) a (further m f flat caller (DeletePartition partition) a).0 in
       let same : gone2 ≡ d.gone = (let both = sym was2 ∙ d.was in cc) in
       let idle : is_active d.gone.1.life ≡ false = ap {A = Row PartitionState} (λ r. is_active r.1.life) (sym same) ∙ idle_state gone2.1.life state in
-      let lasts = l.rows (target_of DeletePartition frame caller.part) gone was in
-      let above = lasts.above caller.part below in
-      deleted_flat m f flat new caller.part (target_of DeletePartition frame caller.part) (ne_eqb (target_of DeletePartition frame caller.part) caller.part (λ e. omega (arith, e, above))) d
-      ((l.rows (target_of DeletePartition frame caller.part) d.gone d.was).quiet idle).1
+      let lasts = l.rows (target_of (DeletePartition partition) caller) gone was in
+      let above = lasts.above caller below in
+      deleted_flat m f flat new caller (target_of (DeletePartition partition) caller) (ne_eqb (target_of (DeletePartition partition) caller) caller (λ e. omega (arith, e, above))) d
+      ((l.rows (target_of (DeletePartition partition) caller) d.gone d.was).quiet idle).1
 
-  create_flat : (new : Rows PartitionState) → IsCreated m.rows new caller.part m.next → IsFlat (after CreatePartition m new) (model CreatePartition)
-  create_flat new c = subst (λ rows. IsFlat (after CreatePartition m rows) (model CreatePartition)) (sym c.rows) (created_flat m f flat caller.part c.creator c.there (free_next m l))
+  create_flat : (flags : ℕ) → (new : Rows PartitionState) → IsCreated m.rows new caller m.next → IsFlat (after (CreatePartition flags) m new) (model (CreatePartition flags))
+  create_flat flags new c = subst (λ rows. IsFlat (after (CreatePartition flags) m rows) (model (CreatePartition flags))) (sym c.rows) (created_flat m f flat caller c.creator c.there (free_next m l))
 
-  deposit_flat : served_call frame ≡ Some DepositMemory → unmet f (call_event caller frame) ≡ None → (new : Rows PartitionState) → IsDeposited m.rows new caller.part (target_of DepositMemory frame caller.part) (page_of frame) → IsFlat (after DepositMemory m new) (model DepositMemory)
-  deposit_flat served none new d =
-      deposited_flat m f flat new caller.part (target_of DepositMemory frame caller.part) (page_of frame) d
-      (loose_page m f flat caller frame DepositMemory served none refl (further m f flat caller frame DepositMemory served none).1.0)
+  deposit_flat : (partition page : ℕ) → IsAllowed f caller (DepositMemory partition page) → (new : Rows PartitionState) → IsDeposited m.rows new caller (target_of (DepositMemory partition page) caller) page → IsFlat (after (DepositMemory partition page) m new) (model (DepositMemory partition page))
+  deposit_flat partition page a new d =
+      deposited_flat m f flat new caller (target_of (DepositMemory partition page) caller) page d
+      (sym (loose_held m f flat caller page) ∙ (further m f flat caller (DepositMemory partition page) a).1.0)
 
-  withdraw_flat : (new : Rows PartitionState) → IsWithdrawn m.rows new (target_of WithdrawMemory frame caller.part) caller.part → IsFlat (after WithdrawMemory m new) (model WithdrawMemory)
-  withdraw_flat new d =
-      let (r, is, same) = pooled_row m.rows (target_of WithdrawMemory frame caller.part) d.pooled d.pool in
-      let lowest = lowest_is m f flat (target_of WithdrawMemory frame caller.part) r is d.page (subst (λ p. IsLowest p.pages d.page) (sym same) d.lowest) in
-      subst (λ low. IsFlat (after WithdrawMemory m new) (record f { page = withdrawn caller.part low f.page; served = f.served + 1 })) (sym lowest)
-      (withdrawn_flat m f flat new (target_of WithdrawMemory frame caller.part) caller.part d)
-
-  flat_by : (call : CallKind) → served_call frame ≡ Some call → unmet f (call_event caller frame) ≡ None → (new : Rows PartitionState) → IsChanged call caller.part (target_of call frame caller.part) m.next (page_of frame) m.rows new → IsFlat (after call m new) (model call)
-  flat_by CreatePartition served none new c = create_flat new c
-  flat_by InitializePartition served none new same = subst (λ rows. IsFlat (after InitializePartition m rows) (model InitializePartition)) (sym same) (activated_flat m f flat (target_of InitializePartition frame caller.part))
-  flat_by FinalizePartition served none new same = subst (λ rows. IsFlat (after FinalizePartition m rows) (model FinalizePartition)) (sym same) (closed_flat m f flat (target_of FinalizePartition frame caller.part))
-  flat_by DeletePartition served none new d = delete_flat served none new d
-  flat_by call.GetPartitionProperty served none new same = unchanged_flat new same
-  flat_by call.SetPartitionProperty served none new same = unchanged_flat new same
-  flat_by call.GetPartitionId served none new same = unchanged_flat new same
-  flat_by call.GetNextChildPartition served none new same = unchanged_flat new same
-  flat_by call.DepositMemory served none new d = deposit_flat served none new d
-  flat_by call.WithdrawMemory served none new d = withdraw_flat new d
-  flat_by call.GetMemoryBalance served none new same = unchanged_flat new same
-  flat_by call.CreateVp served none new same = unchanged_flat new same
-  flat_by call.DeleteVp served none new same = unchanged_flat new same
-  flat_by call.GetVpRegisters served none new same = unchanged_flat new same
-  flat_by call.SetVpRegisters served none new same = unchanged_flat new same
-  flat_by call.DeletePort served none new same = unchanged_flat new same
-  flat_by call.DisconnectPort served none new same = unchanged_flat new same
-  flat_by call.PostMessage served none new same = unchanged_flat new same
-  flat_by call.SignalEvent served none new same = unchanged_flat new same
-  flat_by call.CreatePort served none new same = unchanged_flat new same
-  flat_by call.ConnectPort served none new same = unchanged_flat new same
-
-  effect_is : (call : CallKind) → served_call frame ≡ Some call → effect f (call_event caller frame) ≡ model call
-  effect_is call served = ap (λ k. record (served_effect f caller.part frame k) { served = f.served + 1 }) served
+  withdraw_flat : (partition : ℕ) → (new : Rows PartitionState) → IsWithdrawn m.rows new (target_of (WithdrawMemory partition) caller) caller → IsFlat (after (WithdrawMemory partition) m new) (model (WithdrawMemory partition))
+  withdraw_flat partition new d =
+      let (r, is, same) = pooled_row m.rows (target_of (WithdrawMemory partition) caller) d.pooled d.pool in
+      let lowest = lowest_is m f flat (target_of (WithdrawMemory partition) caller) r is d.page (subst (λ p. IsLowest p.pages d.page) (sym same) d.lowest) in
+      subst (λ low. IsFlat (after (WithdrawMemory partition) m new) (record f { page = withdrawn caller low f.page; served = f.served + 1 })) (sym lowest)
+      (withdrawn_flat m f flat new (target_of (WithdrawMemory partition) caller) caller d)
 
   -- the machine stands for what the model makes of its state
-  pub flat_after : (call : CallKind) → served_call frame ≡ Some call → unmet f (call_event caller frame) ≡ None → (new : Rows PartitionState) → IsChanged call caller.part (target_of call frame caller.part) m.next (page_of frame) m.rows new → IsFlat (after call m new) (effect f (call_event caller frame))
-  flat_after call served none new changed = subst (IsFlat (after call m new)) (sym (effect_is call served)) (flat_by call served none new changed)
+  pub flat_after : (call : Call) → IsAllowed f caller call → (new : Rows PartitionState) → IsChanged call caller (target_of call caller) m.next m.rows new → IsFlat (after call m new) (model call)
+  flat_after (CreatePartition flags) a new c = create_flat flags new c
+  flat_after (InitializePartition partition) a new same = subst (λ rows. IsFlat (after (InitializePartition partition) m rows) (model (InitializePartition partition))) (sym same) (activated_flat m f flat (target_of (InitializePartition partition) caller))
+  flat_after (FinalizePartition partition) a new same = subst (λ rows. IsFlat (after (FinalizePartition partition) m rows) (model (FinalizePartition partition))) (sym same) (closed_flat m f flat (target_of (FinalizePartition partition) caller))
+  flat_after (DeletePartition partition) a new d = delete_flat partition a new d
+  flat_after (call.GetPartitionProperty partition code) a new same = unchanged_flat new same
+  flat_after (SetPartitionProperty partition code value) a new same = subst (λ rows. IsFlat (after (SetPartitionProperty partition code value) m rows) (model (SetPartitionProperty partition code value))) (sym same) (given_flat m f flat (target_of (SetPartitionProperty partition code value) caller) (property_of code) value)
+  flat_after call.GetPartitionId a new same = unchanged_flat new same
+  flat_after (call.GetNextChildPartition partition previous) a new same = unchanged_flat new same
+  flat_after (DepositMemory partition page) a new d = deposit_flat partition page a new d
+  flat_after (WithdrawMemory partition) a new d = withdraw_flat partition new d
+  flat_after (call.GetMemoryBalance partition) a new same = unchanged_flat new same
+  flat_after (call.CreateVp partition vp) a new same = unchanged_flat new same
+  flat_after (call.DeleteVp partition vp) a new same = unchanged_flat new same
+  flat_after (call.GetVpRegisters partition vp name) a new same = unchanged_flat new same
+  flat_after (call.SetVpRegisters partition vp name value) a new same = unchanged_flat new same
+  flat_after (call.DeletePort partition port) a new same = unchanged_flat new same
+  flat_after (call.DisconnectPort partition connection) a new same = unchanged_flat new same
+  flat_after (call.PostMessage connection message_type payload) a new same = unchanged_flat new same
+  flat_after (call.SignalEvent connection flag) a new same = unchanged_flat new same
+  flat_after (call.CreatePort partition port peer port_kind sint vp base count) a new same = unchanged_flat new same
+  flat_after (call.ConnectPort partition connection port_partition port port_kind) a new same = unchanged_flat new same
 
 -- a row that stays, among rows with no more children
 row_stays : (old new : Rows PartitionState) (next more id : ℕ) (r : Row PartitionState) → next ≤ more → length (children new id) ≤ length (children old id) → IsLastingRow old next id r → IsLastingRow new more id r
@@ -252,6 +246,16 @@ module _ (m : State) (l : IsLasting m) where
 
   active_rows : (target : ℕ) (id : ℕ) (r : Row PartitionState) → get (change m.rows target (λ p. record p { life = Active })) id ≡ Some r → IsLastingRow (change m.rows target (λ p. record p { life = Active })) m.next id r
   active_rows target = changed_rows (λ p. record p { life = Active }) target (λ r is lasts. record { below = lasts.below; above = lasts.above; within = lasts.within; quiet = λ e. cc })
+
+  given_rows : (target : ℕ) (property : Option Property) (value : ℕ) (id : ℕ) (r : Row PartitionState) → get (change m.rows target (given property value)) id ≡ Some r → IsLastingRow (change m.rows target (given property value)) m.next id r
+  given_rows target property value = changed_rows (given property value) target (λ r is lasts. by property r lasts)
+    where
+      by : (property : Option Property) (r : Row PartitionState) → IsLastingRow m.rows m.next target r → IsLastingRow m.rows m.next target (r.0, given property value r.1)
+      by None r lasts = lasts
+      by (Some PrivilegeFlags) r lasts = record { below = lasts.below; above = lasts.above; within = lasts.within; quiet = lasts.quiet }
+      by (Some CpuReserve) r lasts = record { below = lasts.below; above = lasts.above; within = lasts.within; quiet = lasts.quiet }
+      by (Some CpuCap) r lasts = record { below = lasts.below; above = lasts.above; within = lasts.within; quiet = lasts.quiet }
+      by (Some CpuWeight) r lasts = record { below = lasts.below; above = lasts.above; within = lasts.within; quiet = lasts.quiet }
 
   final_rows : (target : ℕ) → length (children m.rows target) ≡ 0 → (id : ℕ) (r : Row PartitionState) → get (change m.rows target finalized) id ≡ Some r → IsLastingRow (change m.rows target finalized) m.next id r
   final_rows target childless = changed_rows finalized target (λ r is lasts. record {
@@ -376,13 +380,14 @@ module _ (m : State) (l : IsLasting m) where
       let had : set.len r.1.pooled.pages ≡ set.len d.pooled.pages = ap {A = PagesAndRoom} (λ p. set.len p.pages) same in
       rw (← one) (omega arith))
 
-module _ {A : Type 0} (m : State) (l : IsLasting m) (caller : Caller) (frame : Frame A) where
-  lasts_with : (new : Rows PartitionState) (next : ℕ) (f : Flat) → IsFlat (record { rows = new; pages = m.pages; next = next; served = m.served + 1 }) f → ((page : ℕ) → contains_key f.page page ≡ nat_lt page m.pages) → ((id : ℕ) (r : Row PartitionState) → get new id ≡ Some r → IsLastingRow new next id r) → next ≤ m.served + 3 → IsLasting (record { rows = new; pages = m.pages; next = next; served = m.served + 1 })
-  lasts_with new next f stands paged rows few = record { flat = f; stands = stands; paged = paged; rows = rows; few = omega arith; bounded = l.bounded }
+module _ (m : State) (l : IsLasting m) (caller : ℕ) where
+  lasts_with : (new : Rows PartitionState) (next : ℕ) (f : Flat) → IsFlat (record { rows = new; pages = m.pages; next = next; served = m.served + 1 }) f → ((page : ℕ) → contains_key f.page page ≡ nat_lt page m.pages) → ((id : ℕ) (r : Row PartitionState) → get new id ≡ Some r → IsLastingRow new next id r) → AreMasksWithin new → next ≤ m.served + 3 → IsLasting (record { rows = new; pages = m.pages; next = next; served = m.served + 1 })
+  lasts_with new next f stands paged rows masks few = record { flat = f; stands = stands; paged = paged; rows = rows; masks = masks; few = omega arith; bounded = l.bounded }
 
   steady : (new : Rows PartitionState) → new ≡ m.rows → IsLasting (record m { rows = new; served = m.served + 1 })
-  steady new same = lasts_with new m.next (record l.flat { served = l.flat.served + 1 }) (unchanged_flat m l l.flat l.stands caller frame new same) l.paged
+  steady new same = lasts_with new m.next (record l.flat { served = l.flat.served + 1 }) (unchanged_flat m l l.flat l.stands caller new same) l.paged
       (λ id r is. subst (λ rows. IsLastingRow rows m.next id r) (sym same) (l.rows id r (sym (ap (λ rows. get rows id) same) ∙ is)))
+      (subst AreMasksWithin (sym same) l.masks)
       (let few = l.few in omega arith)
 
   same_keys : (page : Option PageRow) (gone heir : ℕ) → is_some (option_map (inherited gone heir) page) ≡ is_some page
@@ -390,65 +395,77 @@ module _ {A : Type 0} (m : State) (l : IsLasting m) (caller : Caller) (frame : F
   same_keys (Some page) gone heir = refl
 
   -- the machine lasts
-  pub lasting_after : (call : CallKind) → served_call frame ≡ Some call → unmet l.flat (call_event caller frame) ≡ None → (new : Rows PartitionState) → IsChanged call caller.part (target_of call frame caller.part) m.next (page_of frame) m.rows new → IsLasting (after call m new)
-  lasting_after CreatePartition served none new c =
-      let (r, is, active) = caller_row m l.flat l.stands caller frame CreatePartition served none in
+  pub lasting_after : (call : Call) → IsAllowed l.flat caller call → (new : Rows PartitionState) → IsChanged call caller (target_of call caller) m.next m.rows new → IsLasting (after call m new)
+  lasting_after (CreatePartition flags) a new c =
+      let (r, is, active) = caller_row m l.flat l.stands caller (CreatePartition flags) a in
       let same : r ≡ c.creator = (let both = sym is ∙ c.there in cc) in
-      let charge = charge_there m l.flat l.stands caller frame CreatePartition served none (further m l.flat l.stands caller frame CreatePartition served none).1.0 in
-      let counted = available_counted m l.flat l.stands caller.part c.creator c.there in
-      lasts_with new (m.next + 1) (model m l l.flat l.stands caller frame CreatePartition) (create_flat m l l.flat l.stands caller frame new c) l.paged
+      let charge = charge_there m l.flat l.stands caller (CreatePartition flags) a (further m l.flat l.stands caller (CreatePartition flags) a).1.0 in
+      let counted = available_counted m l.flat l.stands caller c.creator c.there in
+      lasts_with new (m.next + 1) (model m l l.flat l.stands caller (CreatePartition flags)) (create_flat m l l.flat l.stands caller flags new c) l.paged
       (subst (λ rows. (id : ℕ) (r : Row PartitionState) → get rows id ≡ Some r → IsLastingRow rows (m.next + 1) id r) (sym c.rows)
-      (created_rows m l caller.part c.creator c.there (ap {A = Row PartitionState} (λ r. is_active r.1.life) (sym same) ∙ active) (omega arith)))
+      (created_rows m l caller c.creator c.there (ap {A = Row PartitionState} (λ r. is_active r.1.life) (sym same) ∙ active) (omega arith)))
+      (masked_after m l caller (CreatePartition flags) a new c)
       (let few = l.few in omega arith)
-  lasting_after InitializePartition served none new same =
-      subst (λ rows. IsLasting (after InitializePartition m rows)) (sym same)
-      (lasts_with (change m.rows (target_of InitializePartition frame caller.part) (λ p. record p { life = Active })) m.next (model m l l.flat l.stands caller frame InitializePartition)
-      (activated_flat m l.flat l.stands (target_of InitializePartition frame caller.part)) l.paged
-      (active_rows m l (target_of InitializePartition frame caller.part))
+  lasting_after (InitializePartition partition) a new same =
+      subst (λ rows. IsLasting (after (InitializePartition partition) m rows)) (sym same)
+      (lasts_with (change m.rows (target_of (InitializePartition partition) caller) (λ p. record p { life = Active })) m.next (model m l l.flat l.stands caller (InitializePartition partition))
+      (activated_flat m l.flat l.stands (target_of (InitializePartition partition) caller)) l.paged
+      (active_rows m l (target_of (InitializePartition partition) caller))
+      (masked_after m l caller (InitializePartition partition) a (change m.rows (target_of (InitializePartition partition) caller) (λ p. record p { life = Active })) refl)
       (let few = l.few in omega arith))
-  lasting_after FinalizePartition served none new same =
-      let (r, is, childless) = childless_row m l.flat l.stands caller frame FinalizePartition served none (further m l.flat l.stands caller frame FinalizePartition served none).1.0 in
-      subst (λ rows. IsLasting (after FinalizePartition m rows)) (sym same)
-      (lasts_with (change m.rows (target_of FinalizePartition frame caller.part) finalized) m.next (model m l l.flat l.stands caller frame FinalizePartition)
-      (closed_flat m l.flat l.stands (target_of FinalizePartition frame caller.part)) l.paged
-      (final_rows m l (target_of FinalizePartition frame caller.part) childless)
+  lasting_after (FinalizePartition partition) a new same =
+      let (r, is, childless) = childless_row m l.flat l.stands caller (FinalizePartition partition) a (further m l.flat l.stands caller (FinalizePartition partition) a).1.0 in
+      subst (λ rows. IsLasting (after (FinalizePartition partition) m rows)) (sym same)
+      (lasts_with (change m.rows (target_of (FinalizePartition partition) caller) finalized) m.next (model m l l.flat l.stands caller (FinalizePartition partition))
+      (closed_flat m l.flat l.stands (target_of (FinalizePartition partition) caller)) l.paged
+      (final_rows m l (target_of (FinalizePartition partition) caller) childless)
+      (masked_after m l caller (FinalizePartition partition) a (change m.rows (target_of (FinalizePartition partition) caller) finalized) refl)
       (let few = l.few in omega arith))
-  lasting_after DeletePartition served none new d =
-      let (gone, was, below) = child_row m l.flat l.stands caller frame DeletePartition served none refl in
-      let above = (l.rows (target_of DeletePartition frame caller.part) gone was).above caller.part below in
-      lasts_with new m.next (model m l l.flat l.stands caller frame DeletePartition) (delete_flat m l l.flat l.stands caller frame served none new d)
-      (λ page. ap is_some (get-mapped (inherited (target_of DeletePartition frame caller.part) caller.part) l.flat.page page) ∙ same_keys (get l.flat.page page) (target_of DeletePartition frame caller.part) caller.part ∙ l.paged page)
-      (deleted_rows m l new caller.part (target_of DeletePartition frame caller.part) (ne_eqb (target_of DeletePartition frame caller.part) caller.part (λ e. omega (arith, e, above))) d)
+  lasting_after (DeletePartition partition) a new d =
+      let (gone, was, below) = child_row m l.flat l.stands caller (DeletePartition partition) a refl in
+      let above = (l.rows (target_of (DeletePartition partition) caller) gone was).above caller below in
+      lasts_with new m.next (model m l l.flat l.stands caller (DeletePartition partition)) (delete_flat m l l.flat l.stands caller partition a new d)
+      (λ page. ap is_some (get-mapped (inherited (target_of (DeletePartition partition) caller) caller) l.flat.page page) ∙ same_keys (get l.flat.page page) (target_of (DeletePartition partition) caller) caller ∙ l.paged page)
+      (deleted_rows m l new caller (target_of (DeletePartition partition) caller) (ne_eqb (target_of (DeletePartition partition) caller) caller (λ e. omega (arith, e, above))) d)
+      (masked_after m l caller (DeletePartition partition) a new d)
       (let few = l.few in omega arith)
-  lasting_after call.GetPartitionProperty served none new same = steady new same
-  lasting_after call.SetPartitionProperty served none new same = steady new same
-  lasting_after call.GetPartitionId served none new same = steady new same
-  lasting_after call.GetNextChildPartition served none new same = steady new same
-  lasting_after call.DepositMemory served none new d =
-      let one = loose_page m l.flat l.stands caller frame DepositMemory served none refl (further m l.flat l.stands caller frame DepositMemory served none).1.0 in
-      let below = page_below m l (page_of frame) caller.part false one in
-      lasts_with new m.next (model m l l.flat l.stands caller frame DepositMemory) (deposit_flat m l l.flat l.stands caller frame served none new d)
-      (page_kept m l (page_of frame) below (record { owner = target_of DepositMemory frame caller.part; pooled = true }))
-      (deposited_rows m l new caller.part (target_of DepositMemory frame caller.part) (page_of frame) d (deposit_needs m l caller frame served none))
+  lasting_after (call.GetPartitionProperty partition code) a new same = steady new same
+  lasting_after (SetPartitionProperty partition code value) a new same =
+      subst (λ rows. IsLasting (after (SetPartitionProperty partition code value) m rows)) (sym same)
+      (lasts_with (change m.rows (target_of (SetPartitionProperty partition code value) caller) (given (property_of code) value)) m.next (model m l l.flat l.stands caller (SetPartitionProperty partition code value))
+      (given_flat m l.flat l.stands (target_of (SetPartitionProperty partition code value) caller) (property_of code) value) l.paged
+      (given_rows m l (target_of (SetPartitionProperty partition code value) caller) (property_of code) value)
+      (masked_after m l caller (SetPartitionProperty partition code value) a (change m.rows (target_of (SetPartitionProperty partition code value) caller) (given (property_of code) value)) refl)
+      (let few = l.few in omega arith))
+  lasting_after call.GetPartitionId a new same = steady new same
+  lasting_after (call.GetNextChildPartition partition previous) a new same = steady new same
+  lasting_after (DepositMemory partition page) a new d =
+      let one = sym (loose_held m l.flat l.stands caller page) ∙ (further m l.flat l.stands caller (DepositMemory partition page) a).1.0 in
+      let below = page_below m l page caller false one in
+      lasts_with new m.next (model m l l.flat l.stands caller (DepositMemory partition page)) (deposit_flat m l l.flat l.stands caller partition page a new d)
+      (page_kept m l page below (record { owner = target_of (DepositMemory partition page) caller; pooled = true }))
+      (deposited_rows m l new caller (target_of (DepositMemory partition page) caller) page d (deposit_needs m l caller partition page a))
+      (masked_after m l caller (DepositMemory partition page) a new d)
       (let few = l.few in omega arith)
-  lasting_after call.WithdrawMemory served none new d =
-      let (r, is, same) = pooled_row m.rows (target_of WithdrawMemory frame caller.part) d.pooled d.pool in
-      let lowest = lowest_is m l.flat l.stands (target_of WithdrawMemory frame caller.part) r is d.page (subst (λ p. IsLowest p.pages d.page) (sym same) d.lowest) in
-      let below = page_below m l d.page (target_of WithdrawMemory frame caller.part) true (ap (holds true d.page) is ∙ ap {A = PagesAndRoom} (λ p. set.contains p.pages d.page) same ∙ d.lowest.held) in
-      let charge = charge_there m l.flat l.stands caller frame WithdrawMemory served none (further m l.flat l.stands caller frame WithdrawMemory served none).0 in
-      let counted = available_counted m l.flat l.stands (target_of WithdrawMemory frame caller.part) r is in
-      lasts_with new m.next (model m l l.flat l.stands caller frame WithdrawMemory) (withdraw_flat m l l.flat l.stands caller frame new d)
-      (subst (λ low. (page : ℕ) → contains_key (withdrawn caller.part low l.flat.page) page ≡ nat_lt page m.pages) (sym lowest) (page_kept m l d.page below (record { owner = caller.part; pooled = false })))
-      (withdrawn_rows m l new (target_of WithdrawMemory frame caller.part) caller.part d r is same (omega arith))
+  lasting_after (WithdrawMemory partition) a new d =
+      let (r, is, same) = pooled_row m.rows (target_of (WithdrawMemory partition) caller) d.pooled d.pool in
+      let lowest = lowest_is m l.flat l.stands (target_of (WithdrawMemory partition) caller) r is d.page (subst (λ p. IsLowest p.pages d.page) (sym same) d.lowest) in
+      let below = page_below m l d.page (target_of (WithdrawMemory partition) caller) true (ap (holds true d.page) is ∙ ap {A = PagesAndRoom} (λ p. set.contains p.pages d.page) same ∙ d.lowest.held) in
+      let charge = charge_there m l.flat l.stands caller (WithdrawMemory partition) a (further m l.flat l.stands caller (WithdrawMemory partition) a).0 in
+      let counted = available_counted m l.flat l.stands (target_of (WithdrawMemory partition) caller) r is in
+      lasts_with new m.next (model m l l.flat l.stands caller (WithdrawMemory partition)) (withdraw_flat m l l.flat l.stands caller partition new d)
+      (subst (λ low. (page : ℕ) → contains_key (withdrawn caller low l.flat.page) page ≡ nat_lt page m.pages) (sym lowest) (page_kept m l d.page below (record { owner = caller; pooled = false })))
+      (withdrawn_rows m l new (target_of (WithdrawMemory partition) caller) caller d r is same (omega arith))
+      (masked_after m l caller (WithdrawMemory partition) a new d)
       (let few = l.few in omega arith)
-  lasting_after call.GetMemoryBalance served none new same = steady new same
-  lasting_after call.CreateVp served none new same = steady new same
-  lasting_after call.DeleteVp served none new same = steady new same
-  lasting_after call.GetVpRegisters served none new same = steady new same
-  lasting_after call.SetVpRegisters served none new same = steady new same
-  lasting_after call.DeletePort served none new same = steady new same
-  lasting_after call.DisconnectPort served none new same = steady new same
-  lasting_after call.PostMessage served none new same = steady new same
-  lasting_after call.SignalEvent served none new same = steady new same
-  lasting_after call.CreatePort served none new same = steady new same
-  lasting_after call.ConnectPort served none new same = steady new same
+  lasting_after (call.GetMemoryBalance partition) a new same = steady new same
+  lasting_after (call.CreateVp partition vp) a new same = steady new same
+  lasting_after (call.DeleteVp partition vp) a new same = steady new same
+  lasting_after (call.GetVpRegisters partition vp name) a new same = steady new same
+  lasting_after (call.SetVpRegisters partition vp name value) a new same = steady new same
+  lasting_after (call.DeletePort partition port) a new same = steady new same
+  lasting_after (call.DisconnectPort partition connection) a new same = steady new same
+  lasting_after (call.PostMessage connection message_type payload) a new same = steady new same
+  lasting_after (call.SignalEvent connection flag) a new same = steady new same
+  lasting_after (call.CreatePort partition port peer port_kind sint vp base count) a new same = steady new same
+  lasting_after (call.ConnectPort partition connection port_partition port port_kind) a new same = steady new same

@@ -61,4 +61,5 @@ module _ (m : State) (l : IsLasting m) where
     once = λ page lt. once page (get l.flat.page page) refl (l.paged page ∙ lt-ltb page m.pages lt);
     others = λ page id kind le. sym ((l.stands.rows id).page page kind) ∙ nowhere page id kind (get l.flat.page page) (l.paged page ∙ le-ltb page m.pages le);
     within = λ id r is. (l.rows id r is).within;
+    masks = l.masks;
   }

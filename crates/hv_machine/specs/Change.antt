@@ -1,15 +1,18 @@
 -- What each call changes in the tree.
-use Rattle.std.specs.Prelude.{◌≡◌, ℕ, ◌==◌, ◌<◌, ◌≤◌, ◌+◌, true, false, length, Option, Some}
+use Rattle.std.specs.Prelude.{◌≡◌, ℕ, ◌==◌, ◌<◌, ◌≤◌, ◌+◌, true, false, length, Option, None, Some}
 use Rattle.std.specs.Option.{option_map}
 use Rattle.std.specs.FinMap.{get, insert, remove, contains_key}
 use Rattle.std.specs.FinSet as set
-use Rattle.hv_abi.specs.declared.call_kind.CallKind.{CallKind}
-use Rattle.hv_abi.specs.declared.call_kind.CallKind.TheVariants.{CreatePartition, InitializePartition, FinalizePartition, DeletePartition, DepositMemory, WithdrawMemory}
+use Rattle.hv_calls.specs.declared.call.Call.{Call}
+use Rattle.hv_calls.specs.declared.call.Call.TheVariants.{CreatePartition, InitializePartition, FinalizePartition, DeletePartition, SetPartitionProperty, DepositMemory, WithdrawMemory}
 use Rattle.hv_defs.specs.declared.life.Life.TheVariants.{Created, Active}
 use Rattle.hv_defs.specs.declared.sizes.TheConstants.{MAX_PAGES}
 use Rattle.hv_pages.specs.PageSet.{PagesAndRoom, IsDisjoint, IsLowest}
 use Rattle.hv_partition.specs.Partition.{PartitionState, new_partition, finalized}
-use Rattle.hv_privs.specs.Privileges.{restrict}
+use Rattle.hv_policy.specs.Property.{property_of}
+use Rattle.hv_policy.specs.declared.property.Property.{Property}
+use Rattle.hv_policy.specs.declared.property.Property.TheVariants.{PrivilegeFlags, CpuReserve, CpuCap, CpuWeight}
+use Rattle.hv_privs.specs.Privileges.{of, restrict}
 use Rattle.hv_privs.specs.declared.TheConstants.Privileges as privilege
 use Rattle.hv_machine.specs.State.{State}
 use Rattle.hv_tree.specs.Rows.{Row, Rows, children, content, change, is_leaf}
@@ -161,15 +164,24 @@ pub record IsAsBefore (old new : State) : Type 0 where
   pub next : new.next ≡ old.next
   pub served : new.served ≡ old.served
 
--- what a call of this kind, about this page, made of the rows
-abbrev pub IsChanged : CallKind → ℕ → ℕ → ℕ → ℕ → Rows PartitionState → Rows PartitionState → Type 0
-IsChanged CreatePartition caller target next page old new = IsCreated old new caller next
-IsChanged InitializePartition caller target next page old new = new ≡ change old target (λ p. record p { life = Active })
-IsChanged FinalizePartition caller target next page old new = new ≡ change old target finalized
-IsChanged DeletePartition caller target next page old new = IsDeleted old new caller target
-IsChanged DepositMemory caller target next page old new = IsDeposited old new caller target page
-IsChanged WithdrawMemory caller target next page old new = IsWithdrawn old new target caller
-IsChanged call caller target next page old new = new ≡ old
+-- a partition with a property changed
+abbrev pub given : Option Property → ℕ → PartitionState → PartitionState
+given None value p = p
+given (Some PrivilegeFlags) value p = record p { mask = of value }
+given (Some CpuReserve) value p = record p { reserve = value }
+given (Some CpuCap) value p = record p { cap = value }
+given (Some CpuWeight) value p = record p { weight = value }
+
+-- what a call made of the rows
+abbrev pub IsChanged : Call → ℕ → ℕ → ℕ → Rows PartitionState → Rows PartitionState → Type 0
+IsChanged (CreatePartition flags) caller target next old new = IsCreated old new caller next
+IsChanged (InitializePartition partition) caller target next old new = new ≡ change old target (λ p. record p { life = Active })
+IsChanged (FinalizePartition partition) caller target next old new = new ≡ change old target finalized
+IsChanged (DeletePartition partition) caller target next old new = IsDeleted old new caller target
+IsChanged (SetPartitionProperty partition code value) caller target next old new = new ≡ change old target (given (property_of code) value)
+IsChanged (DepositMemory partition page) caller target next old new = IsDeposited old new caller target page
+IsChanged (WithdrawMemory partition) caller target next old new = IsWithdrawn old new target caller
+IsChanged call caller target next old new = new ≡ old
 
 -- the caller's row can have one more child, of which a tree counts fewer than 2^32, and the id is free
 pub record MayCreate (rows : Rows PartitionState) (parent id : ℕ) : Type 0 where
@@ -177,9 +189,9 @@ pub record MayCreate (rows : Rows PartitionState) (parent id : ℕ) : Type 0 whe
   pub free : contains_key rows id ≡ false
   pub few : length (children rows parent) < 4294967295
 
--- the next partition's id after a call of this kind
-abbrev pub next_after : CallKind → ℕ → ℕ
-next_after CreatePartition next = next + 1
+-- the next partition's id after a call
+abbrev pub next_after : Call → ℕ → ℕ
+next_after (CreatePartition flags) next = next + 1
 next_after call next = next
 
 -- the partition has no children, and the heir holds none of its pages
@@ -215,10 +227,10 @@ pub record MayWithdraw (rows : Rows PartitionState) (from to : ℕ) : Type 0 whe
   pub had : loose_at rows to ≡ Some loose
   pub apart : IsDisjoint pooled.pages loose.pages
 
--- what a call of this kind, about this page, needs of the rows
-abbrev pub MayChange : CallKind → ℕ → ℕ → ℕ → ℕ → Rows PartitionState → Type 0
-MayChange CreatePartition caller target next page rows = MayCreate rows caller next
-MayChange DeletePartition caller target next page rows = MayDelete rows caller target
-MayChange DepositMemory caller target next page rows = MayDeposit rows caller target page
-MayChange WithdrawMemory caller target next page rows = MayWithdraw rows target caller
-MayChange call caller target next page rows = Unit {0}
+-- what a call needs of the rows
+abbrev pub MayChange : Call → ℕ → ℕ → ℕ → Rows PartitionState → Type 0
+MayChange (CreatePartition flags) caller target next rows = MayCreate rows caller next
+MayChange (DeletePartition partition) caller target next rows = MayDelete rows caller target
+MayChange (DepositMemory partition page) caller target next rows = MayDeposit rows caller target page
+MayChange (WithdrawMemory partition) caller target next rows = MayWithdraw rows target caller
+MayChange call caller target next rows = Unit {0}

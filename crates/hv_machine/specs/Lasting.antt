@@ -8,6 +8,7 @@ use Rattle.hv_policy.specs.Flat.{Flat}
 use Rattle.hv_policy.specs.Met.{is_active}
 use Rattle.hv_tree.specs.Rows.{Row, Rows, children}
 use Rattle.hv_machine.specs.IsFlat.{IsFlat}
+use Rattle.hv_machine.specs.Masks.{AreMasksWithin}
 use Rattle.hv_machine.specs.State.{State}
 
 -- a partition's row among so many partitions made: its id is below the next one, and its parent's below its own; what
@@ -25,5 +26,6 @@ pub record IsLasting (m : State) : Type 0 where
   pub stands : IsFlat m flat
   pub paged : (page : ℕ) → contains_key flat.page page ≡ nat_lt page m.pages
   pub rows : (id : ℕ) (r : Row PartitionState) → get m.rows id ≡ Some r → IsLastingRow m.rows m.next id r
+  pub masks : AreMasksWithin m.rows
   pub few : m.next ≤ m.served + 2
   pub bounded : m.pages ≤ MAX_PAGES

@@ -1,7 +1,9 @@
+pub mod Asked
 pub mod Boot
 pub mod Change
 pub mod IsFlat
 pub mod Lasting
+pub mod Masks
 pub mod Pages
 pub mod Result
 pub mod State

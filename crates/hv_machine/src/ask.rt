@@ -1,47 +1,52 @@
 // The rules, asked in the policy's order.
 ghost use Rattle.std.specs.Prelude.{◌≡◌, ◌==◌, None, Some, IfOk, IfErr, OnOk, IsTrue, if◌then◌else◌};
 ghost use Rattle.hv_abi.specs.Check.{IsShape};
+ghost use Rattle.hv_calls.specs.Call.{kind_of_call};
 ghost use Rattle.hv_policy.specs.Asked.{caller_rules, call_rules, frame_rules, right_rules};
-ghost use Rattle.hv_policy.specs.Call.{is_served, page_of, served_call, target_of};
+ghost use Rattle.hv_policy.specs.Call.{is_served, served_kind, target_of};
 ghost use Rattle.hv_policy.specs.Flat.{Flat};
-ghost use Rattle.hv_policy.specs.Met.{is_kin as is_kin_of, is_child as is_child_of};
+ghost use Rattle.hv_policy.specs.Met.{unmet_of, is_kin as is_kin_of, is_child as is_child_of};
 ghost use Rattle.hv_policy.specs.Needs.{further_rules};
 ghost use Rattle.hv_policy.specs.Step.{first_unmet, unmet};
 ghost use Rattle.hv_policy.specs.declared.event.Action.{Action as What};
 ghost use Rattle.hv_policy.specs.declared.event.Caller.{Caller as By};
+ghost use Rattle.hv_machine.specs.Asked.{IsAllowed, IsCall};
 ghost use Rattle.hv_machine.specs.IsFlat.{IsFlat};
 ghost use Rattle.hv_machine.specs.State.{call_event};
 
-use crate::input::number_at;
 use crate::machine::Machine;
-use hv_abi::{AbiFault, CallKind, Frame, InputValue, Shape};
+use crate::properties::unmet_property;
+use hv_abi::{AbiFault, Frame, InputValue, Shape};
+use hv_calls::{Call, Malformed, decode};
 use hv_defs::{Life, SELF_ID};
 use hv_policy::{Caller, Kin, Rule, SERVED_CODES, needs};
 use std::alloc::Allocator;
 
 impl<A: Allocator> Machine<A> {
-    // Whether a call may be served, and what its input value says; else the first rule that isn't met.
-    pub fn ask_call(&self, by: Caller, frame: &Frame<A>) -> Result<Shape, Rule>
-        ensures shape { IfOk result (IsShape frame.now) }
-        ensures served { IfOk result (λ s. served_call frame.now ≡ Some s.kind) }
-        ensures known { IfOk result (λ s. IsTrue (is_served s.kind)) }
+    // The call that a frame holds where it may be served, and what its input value says; else the first rule that
+    // isn't met.
+    pub fn ask_call(&self, by: Caller, frame: &Frame<A>) -> Result<(Shape, Call), Rule>
+        ensures shape { IfOk result (λ asked. IsShape frame.now asked.0) }
+        ensures call { IfOk result (λ asked. IsCall frame.now asked.0 asked.1) }
+        ensures known { IfOk result (λ asked. IsTrue (is_served (kind_of_call asked.1))) }
+        ensures allowed { IfOk result (λ asked. (f : Flat) → IsFlat self.now f → IsAllowed f by.part asked.1) }
         ensures met { OnOk result ((f : Flat) → IsFlat self.now f → unmet f (call_event by frame.now) ≡ None) }
         ensures first { IfErr result (λ rule. (f : Flat) → IsFlat self.now f → unmet f (call_event by frame.now) ≡ Some rule) }
     {
         if let Some(rule) = self.unmet_by_caller(by) {
             return Err(rule);
         }
-        let shape = match ask_frame(frame) {
-            Ok(shape) => shape,
+        let (shape, call) = match ask_frame(frame) {
+            Ok(asked) => asked,
             Err(rule) => return Err(rule),
         };
-        if let Some(rule) = self.unmet_right(by, frame, shape) {
+        if let Some(rule) = self.unmet_right(by, &call) {
             return Err(rule);
         }
-        if let Some(rule) = self.unmet_further(by, frame, shape) {
+        if let Some(rule) = self.unmet_further(by, &call) {
             return Err(rule);
         }
-        Ok(shape)
+        Ok((shape, call))
     }
 
     // P1 to P3.
@@ -61,18 +66,17 @@ impl<A: Allocator> Machine<A> {
     }
 
     // P8 to P10.
-    fn unmet_right(&self, by: Caller, frame: &Frame<A>, shape: Shape) -> Option<Rule>
-        requires { IsShape frame.now shape }
-        ensures { (f : Flat) → IsFlat self.now f → served_call frame.now ≡ Some shape.kind → result ≡ first_unmet f (call_event by frame.now) right_rules }
+    fn unmet_right(&self, by: Caller, call: &Call) -> Option<Rule>
+        ensures { (f : Flat) → IsFlat self.now f → result ≡ unmet_of f by.part call.now right_rules }
     {
-        let need = needs(shape.kind);
+        let need = needs(call);
         let Some(caller) = self.tree.get(by.part) else {
             return Some(Rule::Privilege);
         };
         if !caller.mask().contains(need.privilege) {
             return Some(Rule::Privilege);
         }
-        let target = target(by, frame, shape);
+        let target = target(by, call);
         if self.tree.get(target).is_none() {
             return Some(Rule::TargetExists);
         }
@@ -103,71 +107,83 @@ impl<A: Allocator> Machine<A> {
     }
 
     // The rules that the call is asked beyond P10.
-    fn unmet_further(&self, by: Caller, frame: &Frame<A>, shape: Shape) -> Option<Rule>
-        requires shape { IsShape frame.now shape }
-        requires known { IsTrue (is_served shape.kind) }
-        ensures { (f : Flat) → IsFlat self.now f → served_call frame.now ≡ Some shape.kind → result ≡ first_unmet f (call_event by frame.now) (further_rules shape.kind) }
+    fn unmet_further(&self, by: Caller, call: &Call) -> Option<Rule>
+        requires { IsTrue (is_served (kind_of_call call.now)) }
+        ensures { (f : Flat) → IsFlat self.now f → result ≡ unmet_of f by.part call.now (further_rules (kind_of_call call.now)) }
     {
-        let target = target(by, frame, shape);
-        match shape.kind {
-            CallKind::CreatePartition => self.unmet_create(by.part),
-            CallKind::InitializePartition | CallKind::DeletePartition => self.unmet_state(
+        let target = target(by, call);
+        match call {
+            Call::CreatePartition { .. } => self.unmet_create(by.part),
+            Call::InitializePartition { .. } | Call::DeletePartition { .. } => self.unmet_state(
                 target,
-                needs(shape.kind).states,
+                needs(call).states,
             ),
-            CallKind::FinalizePartition => self.unmet_finalize(target),
-            CallKind::GetNextChildPartition => {
-                self.unmet_previous(target, number_at(frame, &shape, 8))
+            Call::FinalizePartition { .. } => self.unmet_finalize(target),
+            Call::GetPartitionProperty { code, .. } => unmet_property(*code),
+            Call::SetPartitionProperty { code, value, .. } => {
+                self.unmet_set_property(by.part, target, *code, *value)
             }
-            CallKind::DepositMemory => self.unmet_deposit(by.part, target, page(frame, shape)),
-            CallKind::WithdrawMemory => self.unmet_withdraw(target),
-            CallKind::GetPartitionId | CallKind::GetMemoryBalance => None,
+            Call::GetNextChildPartition { previous, .. } => {
+                self.unmet_previous(target, *previous)
+            }
+            Call::DepositMemory { page, .. } => self.unmet_deposit(by.part, target, *page),
+            Call::WithdrawMemory { .. } => self.unmet_withdraw(target),
+            Call::GetPartitionId | Call::GetMemoryBalance { .. } => None,
             _ => unreachable!(),
         }
     }
 }
 
-// P4 to P7. No parameter of the calls that are served so far can be malformed by itself.
-fn ask_frame<A: Allocator>(frame: &Frame<A>) -> Result<Shape, Rule>
-    ensures shape { IfOk result (IsShape frame.now) }
-    ensures served { IfOk result (λ s. served_call frame.now ≡ Some s.kind) }
-    ensures known { IfOk result (λ s. IsTrue (is_served s.kind)) }
+// P4 to P7.
+fn ask_frame<A: Allocator>(frame: &Frame<A>) -> Result<(Shape, Call), Rule>
+    ensures shape { IfOk result (λ asked. IsShape frame.now asked.0) }
+    ensures call { IfOk result (λ asked. IsCall frame.now asked.0 asked.1) }
+    ensures known { IfOk result (λ asked. IsTrue (is_served (kind_of_call asked.1))) }
     ensures met { OnOk result ((f : Flat) (by : By) → first_unmet f (call_event by frame.now) frame_rules ≡ None) }
-    ensures first { IfErr result (λ rule. (f : Flat) (by : By) → first_unmet f (call_event by frame.now) (call_rules (served_call frame.now)) ≡ Some rule) }
+    ensures first { IfErr result (λ rule. (f : Flat) (by : By) → first_unmet f (call_event by frame.now) (call_rules (served_kind frame.now)) ≡ Some rule) }
 {
     if !SERVED_CODES.contains(&InputValue::read(frame.rcx).call) {
         return Err(Rule::CallCode);
     }
-    match frame.check() {
-        Ok(shape) => Ok(shape),
-        Err(AbiFault::UnknownCode) => Err(Rule::CallCode),
-        Err(AbiFault::Input) => Err(Rule::InputValue),
-        Err(AbiFault::Alignment) => Err(Rule::Alignment),
+    let shape = match frame.check() {
+        Ok(shape) => shape,
+        Err(AbiFault::UnknownCode) => return Err(Rule::CallCode),
+        Err(AbiFault::Input) => return Err(Rule::InputValue),
+        Err(AbiFault::Alignment) => return Err(Rule::Alignment),
+    };
+    match decode(frame, &shape) {
+        Ok(call) => Ok((shape, call)),
+        Err(Malformed) => Err(Rule::Parameters),
     }
 }
 
-// The partition that a call names.
-pub fn target<A: Allocator>(by: Caller, frame: &Frame<A>, shape: Shape) -> u64
-    requires { IsShape frame.now shape }
-    ensures { result ≡ target_of shape.kind frame.now by.part }
+// The partition that a call is about.
+pub fn target(by: Caller, call: &Call) -> u64
+    ensures { result ≡ target_of call.now by.part }
 {
-    match shape.kind {
-        CallKind::CreatePartition
-        | CallKind::GetPartitionId
-        | CallKind::PostMessage
-        | CallKind::SignalEvent => by.part,
-        _ => meant(by, number_at(frame, &shape, 0)),
+    match call {
+        Call::CreatePartition { .. }
+        | Call::GetPartitionId
+        | Call::PostMessage { .. }
+        | Call::SignalEvent { .. } => by.part,
+        Call::InitializePartition { partition }
+        | Call::FinalizePartition { partition }
+        | Call::DeletePartition { partition }
+        | Call::GetPartitionProperty { partition, .. }
+        | Call::SetPartitionProperty { partition, .. }
+        | Call::GetNextChildPartition { partition, .. }
+        | Call::DepositMemory { partition, .. }
+        | Call::WithdrawMemory { partition }
+        | Call::GetMemoryBalance { partition }
+        | Call::CreateVp { partition, .. }
+        | Call::DeleteVp { partition, .. }
+        | Call::GetVpRegisters { partition, .. }
+        | Call::SetVpRegisters { partition, .. }
+        | Call::DeletePort { partition, .. }
+        | Call::DisconnectPort { partition, .. }
+        | Call::CreatePort { partition, .. }
+        | Call::ConnectPort { partition, .. } => meant(by, *partition),
     }
-}
-
-// The page that a deposit's element names.
-pub fn page<A: Allocator>(frame: &Frame<A>, shape: Shape) -> u64
-    requires { IsShape frame.now shape }
-    ensures { result ≡ page_of frame.now }
-{
-    let row = CallKind::DepositMemory.row();
-    let at = usize::from(row.input) + usize::from(shape.start) * usize::from(row.input_element);
-    number_at(frame, &shape, at)
 }
 
 // The partition that an id in a block means: all ones is the caller's own.

@@ -1,24 +1,25 @@
 // The machine and its one step.
 ghost use Rattle.std.specs.Prelude.{◌≡◌, ◌<◌, None, Some, true, IsTrue, IfOk, OnOk, OnErr};
-ghost use Rattle.hv_abi.specs.Check.{IsShape};
-ghost use Rattle.hv_policy.specs.Answer.{output as output_of};
-ghost use Rattle.hv_policy.specs.Call.{is_served, may_take_memory, served_call};
-ghost use Rattle.hv_policy.specs.Effect.{effect};
+ghost use Rattle.hv_calls.specs.Call.{kind_of_call};
+ghost use Rattle.hv_policy.specs.Answer.{output_of};
+ghost use Rattle.hv_policy.specs.Call.{may_take_memory};
+ghost use Rattle.hv_policy.specs.Effect.{counted, served_effect};
 ghost use Rattle.hv_policy.specs.Flat.{Flat};
 ghost use Rattle.hv_policy.specs.Needs.{takes_memory};
 ghost use Rattle.hv_policy.specs.Step.{step, unmet};
 ghost use Rattle.hv_policy.specs.declared.event.Action.TheVariants.{Hypercall};
+ghost use Rattle.hv_machine.specs.Asked.{IsAllowed};
 ghost use Rattle.hv_machine.specs.IsFlat.{IsFlat};
 ghost use Rattle.hv_machine.specs.Pages.{IsSound};
 ghost use Rattle.hv_machine.specs.State.{call_event};
 ghost use Rattle.hv_machine.specs.Change.{IsAsBefore};
 
-use crate::ask::{page, target};
+use crate::ask::target;
 use crate::change::{Order, change};
-use crate::input::number_at;
 use crate::partitions::next_after;
 use crate::result::{refused, reply};
-use hv_abi::{CallKind, Frame, Shape};
+use hv_abi::Frame;
+use hv_calls::Call;
 use hv_partition::Partition;
 use hv_policy::{Action, Caller, Event, Output, Reply};
 use hv_tree::IdTree;
@@ -75,7 +76,8 @@ impl<A: Allocator + Clone> Machine<A> {
         ensures kept { OnErr result (IsAsBefore self.old self.new) }
         ensures flat { (f : Flat) → IsFlat self.old f → OnErr result (IsFlat self.new f) }
 
-        // Each boot page stays in exactly one page set, and what is in use within what is pooled.
+        // Each boot page stays in exactly one page set, what is in use within what is pooled, and each mask within
+        // the parent's.
         ensures pages { self.new.pages ≡ self.old.pages }
         ensures sound { IsSound self.new }
     {
@@ -96,42 +98,37 @@ impl<A: Allocator + Clone> Machine<A> {
     {
         // Opens the machine for the proof: that it is sound is known of its fields.
         let _ = &self.tree;
-        let shape = match self.ask_call(by, frame) {
-            Ok(shape) => shape,
+        let (shape, call) = match self.ask_call(by, frame) {
+            Ok(asked) => asked,
             Err(rule) => return Ok(refused(frame, rule)),
         };
-        let output = self.output(by, frame, shape);
-        match self.serve(by, frame, shape) {
+        let output = self.output(by, &call);
+        match self.serve(by, &call) {
             Ok(()) => Ok(reply(frame, shape, output)),
             Err(refused) => Err(refused),
         }
     }
 
     // Serves a call: what it changes.
-    fn serve(&mut self, by: Caller, frame: &Frame<A>, shape: Shape) -> Result<(), HostRefused>
+    fn serve(&mut self, by: Caller, call: &Call) -> Result<(), HostRefused>
         requires count { self.old.served < 4294967295 }
-        requires shape { IsShape frame.now shape }
-        requires served { served_call frame.now ≡ Some shape.kind }
-        requires met { (f : Flat) → IsFlat self.old f → unmet f (call_event by frame.now) ≡ None }
-        ensures state { (f : Flat) → IsFlat self.old f → OnOk result (IsFlat self.new (effect f (call_event by frame.now))) }
-        ensures memory { OnErr result (IsTrue (takes_memory shape.kind)) }
+        requires allowed { (f : Flat) → IsFlat self.old f → IsAllowed f by.part call.now }
+        ensures state { (f : Flat) → IsFlat self.old f → OnOk result (IsFlat self.new (counted (served_effect f by.part (Some call.now)))) }
+        ensures memory { OnErr result (IsTrue (takes_memory (kind_of_call call.now))) }
         ensures kept { OnErr result (IsAsBefore self.old self.new) }
         ensures flat { (f : Flat) → IsFlat self.old f → OnErr result (IsFlat self.new f) }
         ensures pages { self.new.pages ≡ self.old.pages }
         ensures sound { IsSound self.new }
     {
-        let target = target(by, frame, shape);
         let to = Order {
-            kind: shape.kind,
             caller: by.part,
-            target,
+            target: target(by, call),
             next: self.next,
-            page: page(frame, shape),
         };
-        let Ok(()) = change(&mut self.tree, &self.alloc, to) else {
+        let Ok(()) = change(&mut self.tree, &self.alloc, call, to) else {
             return Err(HostRefused::Memory);
         };
-        self.next = next_after(shape.kind, self.next);
+        self.next = next_after(call, self.next);
         self.served += 1;
         Ok(())
     }
@@ -139,21 +136,22 @@ impl<A: Allocator + Clone> Machine<A> {
 
 impl<A: Allocator> Machine<A> {
     // What a call answers that is served.
-    fn output(&self, by: Caller, frame: &Frame<A>, shape: Shape) -> Output
-        requires shape { IsShape frame.now shape }
-        requires known { IsTrue (is_served shape.kind) }
-        ensures { (f : Flat) → IsFlat self.now f → result ≡ output_of shape.kind f by.part frame.now }
+    fn output(&self, by: Caller, call: &Call) -> Output
+        ensures { (f : Flat) → IsFlat self.now f → result ≡ output_of f by.part (Some call.now) }
     {
-        let target = target(by, frame, shape);
+        let target = target(by, call);
         let mut output = Output::new();
-        match shape.kind {
-            CallKind::CreatePartition => output.push_number(self.next),
-            CallKind::GetPartitionId => output.push_number(by.part),
-            CallKind::GetNextChildPartition => {
-                output.push_number(self.next_child(target, number_at(frame, &shape, 8)));
+        match call {
+            Call::CreatePartition { .. } => output.push_number(self.next),
+            Call::GetPartitionProperty { code, .. } => {
+                output.push_number(self.property_value(target, *code));
             }
-            CallKind::WithdrawMemory => output.push_number(self.lowest_pooled(target)),
-            CallKind::GetMemoryBalance => {
+            Call::GetPartitionId => output.push_number(by.part),
+            Call::GetNextChildPartition { previous, .. } => {
+                output.push_number(self.next_child(target, *previous));
+            }
+            Call::WithdrawMemory { .. } => output.push_number(self.lowest_pooled(target)),
+            Call::GetMemoryBalance { .. } => {
                 let balance = self.memory_balance(target);
                 output.push_number(balance.available);
                 output.push_number(balance.in_use);

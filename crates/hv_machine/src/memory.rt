@@ -72,7 +72,7 @@ impl<A: Allocator> Machine<A> {
 
     // P24 of a withdrawal.
     pub fn unmet_withdraw(&self, target: u64) -> Option<Rule>
-        ensures { (f : Flat) → IsFlat self.now f → result ≡ (if nat_le 1 (available_of f target) then None else Some rule.Pages) }
+        ensures { (f : Flat) → IsFlat self.now f → result ≡ (if not (nat_le 1 (available_of f target)) then Some rule.Pages else None) }
     {
         if self.memory_balance(target).available < 1 {
             return Some(Rule::Pages);

@@ -19,7 +19,7 @@ ghost use Rattle.hv_machine.specs.Change.{IsCreated, IsDeleted, MayCreate, MayDe
 ghost use Rattle.hv_machine.specs.IsFlat.{IsFlat};
 
 use crate::machine::Machine;
-use hv_abi::CallKind;
+use hv_calls::Call;
 use hv_defs::{Life, MAX_DEPTH, PARTITION_CHARGE};
 use hv_partition::Partition;
 use hv_policy::{Rule, States};
@@ -103,13 +103,13 @@ impl<A: Allocator> Machine<A> {
     }
 }
 
-// The next partition's id after a call of this kind.
-pub fn next_after(kind: CallKind, next: u64) -> u64
+// The next partition's id after a call.
+pub fn next_after(call: &Call, next: u64) -> u64
     requires { next < 2 ^ 64 - 1 }
-    ensures { result ≡ next_id_after kind next }
+    ensures { result ≡ next_id_after call.now next }
 {
-    match kind {
-        CallKind::CreatePartition => next + 1,
+    match call {
+        Call::CreatePartition { .. } => next + 1,
         _ => next,
     }
 }

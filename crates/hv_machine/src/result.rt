@@ -1,9 +1,8 @@
 // What a call is answered: its reply where a rule refuses it, and its result value.
-ghost use Rattle.std.specs.Prelude.{◌≡◌, ◌<◌, ◌+◌, if◌then◌else◌};
+ghost use Rattle.std.specs.Prelude.{◌≡◌, ◌<◌, Some};
 ghost use Rattle.hv_abi.specs.Check.{IsShape};
-ghost use Rattle.hv_defs.specs.Bits.{bits};
-ghost use Rattle.hv_policy.specs.declared.reply.Reply.TheVariants.{Served, More};
-ghost use Rattle.hv_policy.specs.Call.{is_last, served_call};
+ghost use Rattle.hv_policy.specs.Answer.{reply_with};
+ghost use Rattle.hv_policy.specs.Call.{served_kind as served_kind_of};
 ghost use Rattle.hv_policy.specs.Result.{refused_reps as refused_reps_of, completed_reps as completed_reps_of, result_of as result_value_of};
 ghost use Rattle.hv_policy.specs.Step.{refusal};
 ghost use Rattle.hv_policy.specs.declared.event.Action.TheVariants.{Hypercall};
@@ -33,8 +32,9 @@ pub fn result_of<A: Allocator>(frame: &Frame<A>, reply: &Reply) -> ResultValue
 
 // The reply to an element that is served: more are to come, or it is the last, as a simple call is.
 pub fn reply<A: Allocator>(frame: &Frame<A>, shape: Shape, output: Output) -> Reply
-    requires { IsShape frame.now shape }
-    ensures { result ≡ (if is_last shape.kind frame.now then Served output else More (bits frame.now.rcx 48 12 + 1) output) }
+    requires shape { IsShape frame.now shape }
+    requires named { served_kind_of frame.now ≡ Some shape.kind }
+    ensures { result ≡ reply_with frame.now output }
 {
     if shape.kind.is_rep() && shape.start + 1 < shape.reps {
         Reply::More {
@@ -62,7 +62,7 @@ pub fn refused<A: Allocator>(frame: &Frame<A>, rule: Rule) -> Reply
 
 // The call of a frame, if it is one that is served.
 pub fn served_kind<A: Allocator>(frame: &Frame<A>) -> Option<CallKind>
-    ensures { result ≡ served_call frame.now }
+    ensures { result ≡ served_kind_of frame.now }
 {
     let code = InputValue::read(frame.rcx).call;
     if SERVED_CODES.contains(&code) {

@@ -9,7 +9,7 @@ use Rattle.hv_abi.specs.declared.frame.Frame.{Frame}
 use Rattle.hv_abi.specs.Check.{call_of, is_input_valid, are_lists_placed, fault_at, first_fault}
 use Rattle.hv_abi.specs.CallRow.{row_of}
 use Rattle.hv_policy.specs.Asked.{call_rules}
-use Rattle.hv_policy.specs.Call.{is_served_code, served_call, test_call}
+use Rattle.hv_policy.specs.Call.{is_served_code, served_kind, test_kind}
 use Rattle.hv_policy.specs.Flat.{Flat}
 use Rattle.hv_policy.specs.Result.{start_if_valid, refused_reps}
 use Rattle.hv_policy.specs.Step.{first_unmet}
@@ -31,14 +31,14 @@ first_of None valid placed rest = Some CallCode
 first_of (Some call) valid placed rest = cond (not valid) (Some InputValue) (cond (not placed) (Some Alignment) rest)
 
 -- a code that isn't served
-pub not_served : {A : Type 0} (frame : Frame A) → is_served_code (bits frame.rcx 0 16) ≡ false → served_call frame ≡ None
+pub not_served : {A : Type 0} (frame : Frame A) → is_served_code (bits frame.rcx 0 16) ≡ false → served_kind frame ≡ None
 not_served frame h = ap (λ b. cond b (call_of frame) None) h
 
-pub is_call : {A : Type 0} (frame : Frame A) → is_served_code (bits frame.rcx 0 16) ≡ true → served_call frame ≡ call_of frame
+pub is_call : {A : Type 0} (frame : Frame A) → is_served_code (bits frame.rcx 0 16) ≡ true → served_kind frame ≡ call_of frame
 is_call frame h = ap (λ b. cond b (call_of frame) None) h
 
 -- a call that is served has a served code
-pub code_of_call : {A : Type 0} (frame : Frame A) → is_some (served_call frame) ≡ true → is_served_code (bits frame.rcx 0 16) ≡ true
+pub code_of_call : {A : Type 0} (frame : Frame A) → is_some (served_kind frame) ≡ true → is_served_code (bits frame.rcx 0 16) ≡ true
 code_of_call frame h = by (is_served_code (bits frame.rcx 0 16)) refl h
   where
     by : (b : Bool) → is_served_code (bits frame.rcx 0 16) ≡ b → is_some (cond b (call_of frame) None) ≡ true → b ≡ true
@@ -49,10 +49,10 @@ module _ {A : Type 0} (f : Flat) (caller : Caller) (frame : Frame A) where
   abbrev event : Event A
   event = record { by = caller; what = Hypercall frame }
 
-  pub unmet_code : served_call frame ≡ None → first_unmet f event (call_rules (served_call frame)) ≡ Some CallCode
-  unmet_code none = subst (λ c. first_unmet f event (call_rules c) ≡ Some CallCode) (sym none) (ap (λ c. cond (not (test_call (λ call frame. true) frame c)) (Some CallCode) None) none)
+  pub unmet_code : served_kind frame ≡ None → first_unmet f event (call_rules (served_kind frame)) ≡ Some CallCode
+  unmet_code none = subst (λ c. first_unmet f event (call_rules c) ≡ Some CallCode) (sym none) (ap (λ c. cond (not (test_kind (λ call frame. true) frame c)) (Some CallCode) None) none)
 
-  faulty : (c : Option CallKind) → served_call frame ≡ c → (wrong : AbiFault) → fault_at frame c ≡ Some wrong → first_unmet f event (call_rules c) ≡ Some (rule_of wrong)
+  faulty : (c : Option CallKind) → served_kind frame ≡ c → (wrong : AbiFault) → fault_at frame c ≡ Some wrong → first_unmet f event (call_rules c) ≡ Some (rule_of wrong)
   faulty None s wrong h = rw s (known wrong h)
     where
       known : (wrong : AbiFault) → Some UnknownCode ≡ Some wrong → Some CallCode ≡ Some (rule_of wrong)
@@ -71,7 +71,7 @@ module _ {A : Type 0} (f : Flat) (caller : Caller) (frame : Frame A) where
       by true true valid placed wrong h = cc
 
   -- a frame of a served code is refused by the rule that its first fault breaks
-  pub unmet_fault : is_served_code (bits frame.rcx 0 16) ≡ true → (wrong : AbiFault) → first_fault frame ≡ Some wrong → first_unmet f event (call_rules (served_call frame)) ≡ Some (rule_of wrong)
+  pub unmet_fault : is_served_code (bits frame.rcx 0 16) ≡ true → (wrong : AbiFault) → first_fault frame ≡ Some wrong → first_unmet f event (call_rules (served_kind frame)) ≡ Some (rule_of wrong)
   unmet_fault served wrong h = subst (λ c. first_unmet f event (call_rules c) ≡ Some (rule_of wrong)) (sym (is_call frame served)) (faulty (call_of frame) (is_call frame served) wrong h)
 
 -- the reps of a refused call, by the frame's first fault

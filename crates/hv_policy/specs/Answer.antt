@@ -1,19 +1,22 @@
 -- What a served event answers.
-use Rattle.std.specs.Prelude.{ℕ, ◌+◌, ◌&&◌, nat_lt, if◌then◌else◌, List, [], ◌++◌, find, Option, None, Some}
-use Rattle.std.specs.FinMap.{entries}
+use Rattle.std.specs.Prelude.{ℕ, ◌+◌, ◌&&◌, Bool, true, nat_lt, if◌then◌else◌, List, [], ◌++◌, find, Option, None, Some}
+use Rattle.std.specs.FinMap.{get, entries}
 use Rattle.std.specs.Int.{w64, to_le_bytes}
 use Rattle.hv_defs.specs.Bits.{bits}
 use Rattle.hv_abi.specs.declared.call_kind.CallKind.{CallKind}
-use Rattle.hv_abi.specs.declared.call_kind.CallKind.TheVariants.{CreatePartition, GetPartitionId, GetNextChildPartition, WithdrawMemory, GetMemoryBalance}
 use Rattle.hv_abi.specs.declared.frame.Frame.{Frame}
+use Rattle.hv_calls.specs.declared.call.Call.{Call}
+use Rattle.hv_calls.specs.declared.call.Call.TheVariants.{CreatePartition, GetPartitionProperty, GetPartitionId, GetNextChildPartition, WithdrawMemory, GetMemoryBalance}
 use Rattle.hv_policy.specs.declared.event.Action.{Action}
 use Rattle.hv_policy.specs.declared.event.Action.TheVariants.{Hypercall}
 use Rattle.hv_policy.specs.declared.event.Event.{Event}
 use Rattle.hv_policy.specs.declared.reply.Reply.{Reply}
 use Rattle.hv_policy.specs.declared.reply.Reply.TheVariants.{Served, More}
-use Rattle.hv_policy.specs.Call.{served_call, input_field, is_last, target_of}
+use Rattle.hv_policy.specs.Call.{served_call, served_kind, is_last, target_of}
 use Rattle.hv_policy.specs.Count.{is_parent, lowest_pooled, available, in_use}
 use Rattle.hv_policy.specs.Flat.{Flat, PartRow}
+use Rattle.hv_policy.specs.Property.{property_of, property_value}
+use Rattle.hv_policy.specs.declared.property.Property.{Property}
 
 abbrev pub first_id : Option (ℕ × PartRow) → ℕ
 first_id None = 0
@@ -27,25 +30,36 @@ abbrev pub page_or_0 : Option ℕ → ℕ
 page_or_0 None = 0
 page_or_0 (Some page) = page
 
--- the output bytes of a call; of a rep call those of its own element
-abbrev pub output : {A : Type 0} → CallKind → Flat → ℕ → Frame A → List ℕ
-output CreatePartition f caller frame = to_le_bytes w64 f.next
-output GetPartitionId f caller frame = to_le_bytes w64 caller
-output GetNextChildPartition f caller frame =
-    to_le_bytes w64 (next_child f (target_of GetNextChildPartition frame caller) (input_field frame 8 8))
-output WithdrawMemory f caller frame = to_le_bytes w64 (page_or_0 (lowest_pooled f (target_of WithdrawMemory frame caller)))
-output GetMemoryBalance f caller frame =
-    to_le_bytes w64 (available f (target_of GetMemoryBalance frame caller))
-    ++ to_le_bytes w64 (in_use f (target_of GetMemoryBalance frame caller))
-output call f caller frame = []
+-- the value of a property in a partition's row, 0 where either is missing
+abbrev pub value_of : Option Property → Option PartRow → ℕ
+value_of (Some property) (Some row) = property_value property row
+value_of property row = 0
 
-abbrev pub call_answer : {A : Type 0} → Flat → ℕ → Frame A → Option CallKind → Reply
-call_answer f caller frame None = Served []
-call_answer f caller frame (Some call) =
-    if is_last call frame then Served (output call f caller frame) else More (bits frame.rcx 48 12 + 1) (output call f caller frame)
+-- the output bytes of a call, about its target; of a rep call those of its own element
+abbrev pub output : Call → Flat → ℕ → ℕ → List ℕ
+output (CreatePartition flags) f caller target = to_le_bytes w64 f.next
+output (GetPartitionProperty partition code) f caller target = to_le_bytes w64 (value_of (property_of code) (get f.part target))
+output GetPartitionId f caller target = to_le_bytes w64 caller
+output (GetNextChildPartition partition previous) f caller target = to_le_bytes w64 (next_child f target previous)
+output (WithdrawMemory partition) f caller target = to_le_bytes w64 (page_or_0 (lowest_pooled f target))
+output (GetMemoryBalance partition) f caller target =
+    to_le_bytes w64 (available f target) ++ to_le_bytes w64 (in_use f target)
+output call f caller target = []
+
+abbrev pub output_of : Flat → ℕ → Option Call → List ℕ
+output_of f caller None = []
+output_of f caller (Some call) = output call f caller (target_of call caller)
+
+abbrev pub is_done : {A : Type 0} → Frame A → Option CallKind → Bool
+is_done frame None = true
+is_done frame (Some kind) = is_last kind frame
+
+-- the reply to a call that is served: that is done with its last element
+abbrev pub reply_with : {A : Type 0} → Frame A → List ℕ → Reply
+reply_with frame bytes = if is_done frame (served_kind frame) then Served bytes else More (bits frame.rcx 48 12 + 1) bytes
 
 abbrev pub action_answer : {A : Type 0} → Flat → ℕ → Action A → Reply
-action_answer f caller (Hypercall frame) = call_answer f caller frame (served_call frame)
+action_answer f caller (Hypercall frame) = reply_with frame (output_of f caller (served_call frame))
 
 -- the reply to an event that is served
 abbrev pub answer : {A : Type 0} → Flat → Event A → Reply

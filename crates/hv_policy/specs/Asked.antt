@@ -6,7 +6,7 @@ use Rattle.hv_policy.specs.declared.event.Action.TheVariants.{Hypercall}
 use Rattle.hv_policy.specs.declared.event.Event.{Event}
 use Rattle.hv_policy.specs.declared.rule.Rule.{Rule}
 use Rattle.hv_policy.specs.declared.rule.Rule.TheVariants.{CallerExists, CallerActive, CallerVpExists, CallCode, InputValue, Alignment, Parameters, Privilege, TargetExists, Kinship}
-use Rattle.hv_policy.specs.Call.{served_call}
+use Rattle.hv_policy.specs.Call.{served_kind}
 use Rattle.hv_policy.specs.Needs.{further_rules}
 
 -- P1 to P3, which every event is asked
@@ -24,10 +24,10 @@ right_rules = Privilege ∷ TargetExists ∷ Kinship ∷ []
 -- the rules of a call: of one that isn't served P4 alone
 abbrev pub call_rules : Option CallKind → List Rule
 call_rules None = CallCode ∷ []
-call_rules (Some call) = frame_rules ++ (right_rules ++ further_rules call)
+call_rules (Some kind) = frame_rules ++ (right_rules ++ further_rules kind)
 
 abbrev pub action_rules : {A : Type 0} → Action A → List Rule
-action_rules (Hypercall frame) = call_rules (served_call frame)
+action_rules (Hypercall frame) = call_rules (served_kind frame)
 
 -- the rules that are asked of an event, rising
 abbrev pub asked : {A : Type 0} → Event A → List Rule

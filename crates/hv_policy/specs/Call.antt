@@ -1,14 +1,16 @@
 -- What an event asks for.
-use Rattle.std.specs.Prelude.{ℕ, ◌+◌, ◌*◌, ◌==◌, ◌||◌, nat_le, not, Bool, false, true, if◌then◌else◌, Option, None, Some}
+use Rattle.std.specs.Prelude.{ℕ, ◌+◌, ◌==◌, ◌||◌, nat_le, not, Bool, false, if◌then◌else◌, Option, None, Some}
 use Rattle.std.specs.List.{list_any}
+use Rattle.std.specs.Option.{option_map}
 use Rattle.hv_defs.specs.Bits.{bits}
-use Rattle.hv_defs.specs.Field.{field}
 use Rattle.hv_defs.specs.declared.sizes.TheConstants.{SELF_ID}
 use Rattle.hv_abi.specs.CallRow.{row_of}
-use Rattle.hv_abi.specs.Check.{call_of, is_fast, input_of}
+use Rattle.hv_abi.specs.Check.{call_of}
 use Rattle.hv_abi.specs.declared.call_kind.CallKind.{CallKind}
-use Rattle.hv_abi.specs.declared.call_kind.CallKind.TheVariants.{CreatePartition, DepositMemory, GetPartitionId, PostMessage, SignalEvent}
 use Rattle.hv_abi.specs.declared.frame.Frame.{Frame}
+use Rattle.hv_calls.specs.Params.{parameters}
+use Rattle.hv_calls.specs.declared.call.Call.{Call}
+use Rattle.hv_calls.specs.declared.call.Call.TheVariants.{CreatePartition, InitializePartition, FinalizePartition, DeletePartition, GetPartitionProperty, SetPartitionProperty, GetPartitionId, GetNextChildPartition, DepositMemory, WithdrawMemory, GetMemoryBalance, CreateVp, DeleteVp, GetVpRegisters, SetVpRegisters, DeletePort, DisconnectPort, PostMessage, SignalEvent, CreatePort, ConnectPort}
 use Rattle.hv_policy.specs.declared.event.Action.{Action}
 use Rattle.hv_policy.specs.declared.event.Action.TheVariants.{Hypercall}
 use Rattle.hv_policy.specs.declared.event.Event.{Event}
@@ -20,57 +22,70 @@ abbrev pub is_served_code : ℕ → Bool
 is_served_code code = list_any (λ served. served == code) SERVED_CODES
 
 abbrev pub is_served : CallKind → Bool
-is_served call = is_served_code (row_of call).code
+is_served kind = is_served_code (row_of kind).code
 
--- the call of a frame, if it is one that is served
-abbrev pub served_call : {A : Type 0} → Frame A → Option CallKind
-served_call frame = if is_served_code (bits frame.rcx 0 16) then call_of frame else None
+-- which call a frame is, if it is one that is served
+abbrev pub served_kind : {A : Type 0} → Frame A → Option CallKind
+served_kind frame = if is_served_code (bits frame.rcx 0 16) then call_of frame else None
+
+-- that call with its parameters
+abbrev pub served_call : {A : Type 0} → Frame A → Option Call
+served_call frame = option_map (λ kind. parameters kind frame) (served_kind frame)
 
 -- the partition that an id in a block means: all ones is the caller's own
 abbrev pub meant_id : ℕ → ℕ → ℕ
 meant_id caller id = if id == SELF_ID then caller else id
 
--- the number of `size` bytes at place `at` of a frame's input
-abbrev pub input_field : {A : Type 0} → Frame A → ℕ → ℕ → ℕ
-input_field frame at size = field (input_of frame (is_fast frame.rcx)) at size
+-- the target of a call: the partition that its block names first, or the caller itself
+abbrev pub target_of : Call → ℕ → ℕ
+target_of (CreatePartition flags) caller = caller
+target_of (InitializePartition partition) caller = meant_id caller partition
+target_of (FinalizePartition partition) caller = meant_id caller partition
+target_of (DeletePartition partition) caller = meant_id caller partition
+target_of (GetPartitionProperty partition code) caller = meant_id caller partition
+target_of (SetPartitionProperty partition code value) caller = meant_id caller partition
+target_of GetPartitionId caller = caller
+target_of (GetNextChildPartition partition previous) caller = meant_id caller partition
+target_of (DepositMemory partition page) caller = meant_id caller partition
+target_of (WithdrawMemory partition) caller = meant_id caller partition
+target_of (GetMemoryBalance partition) caller = meant_id caller partition
+target_of (CreateVp partition vp) caller = meant_id caller partition
+target_of (DeleteVp partition vp) caller = meant_id caller partition
+target_of (GetVpRegisters partition vp name) caller = meant_id caller partition
+target_of (SetVpRegisters partition vp name value) caller = meant_id caller partition
+target_of (DeletePort partition port) caller = meant_id caller partition
+target_of (DisconnectPort partition connection) caller = meant_id caller partition
+target_of (PostMessage connection message_type payload) caller = caller
+target_of (SignalEvent connection flag) caller = caller
+target_of (CreatePort partition port peer port_kind sint vp base count) caller = meant_id caller partition
+target_of (ConnectPort partition connection port_partition port port_kind) caller = meant_id caller partition
 
--- the target of a call: the caller itself, or the partition that the input names first
-abbrev pub target_of : {A : Type 0} → CallKind → Frame A → ℕ → ℕ
-target_of CreatePartition frame caller = caller
-target_of GetPartitionId frame caller = caller
-target_of PostMessage frame caller = caller
-target_of SignalEvent frame caller = caller
-target_of call frame caller = meant_id caller (input_field frame 0 8)
-
--- the place of a rep call's element in its input: elements stand one after another behind the header, and an event
--- is the element at the frame's start index
-abbrev pub element_at : {A : Type 0} → CallKind → Frame A → ℕ
-element_at call frame = (row_of call).input + bits frame.rcx 48 12 * (row_of call).input_element
-
--- whether it is the last element, as a simple call always is
+-- whether an element is the last of its rep call, as a simple call always is
 abbrev pub is_last : {A : Type 0} → CallKind → Frame A → Bool
-is_last call frame = not (row_of call).rep || nat_le (bits frame.rcx 32 12) (bits frame.rcx 48 12 + 1)
+is_last kind frame = not (row_of kind).rep || nat_le (bits frame.rcx 32 12) (bits frame.rcx 48 12 + 1)
 
--- the page that a deposit names
-abbrev pub page_of : {A : Type 0} → Frame A → ℕ
-page_of frame = input_field frame (element_at DepositMemory frame) 8
+-- a test of an event's frame, which fails where the event is no call that is served
+abbrev pub test_kind : {A : Type 0} → (CallKind → Frame A → Bool) → Frame A → Option CallKind → Bool
+test_kind test frame None = false
+test_kind test frame (Some kind) = test kind frame
 
--- P7: whether the parameters are well formed by themselves. No call that is served so far has one that could be
--- malformed
-abbrev pub are_parameters_valid : {A : Type 0} → CallKind → Frame A → Bool
-are_parameters_valid call frame = true
+abbrev pub action_frame : {A : Type 0} → (CallKind → Frame A → Bool) → Action A → Bool
+action_frame test (Hypercall frame) = test_kind test frame (served_kind frame)
 
--- a test of an event's call and frame, which fails where the event is no call that is served
-abbrev pub test_call : {A : Type 0} → (CallKind → Frame A → Bool) → Frame A → Option CallKind → Bool
-test_call test frame None = false
-test_call test frame (Some call) = test call frame
+abbrev pub on_frame : {A : Type 0} → (CallKind → Frame A → Bool) → Event A → Bool
+on_frame test event = action_frame test event.what
 
-abbrev pub on_action : {A : Type 0} → (CallKind → Frame A → Bool) → Action A → Bool
-on_action test (Hypercall frame) = test_call test frame (served_call frame)
+-- and a test of its call
+abbrev pub test_call : (Call → Bool) → Option Call → Bool
+test_call test None = false
+test_call test (Some call) = test call
 
-abbrev pub on_call : {A : Type 0} → (CallKind → Frame A → Bool) → Event A → Bool
-on_call test event = on_action test event.what
+abbrev pub action_call : {A : Type 0} → (Call → Bool) → Action A → Bool
+action_call test (Hypercall frame) = test_call test (served_call frame)
+
+abbrev pub on_call : {A : Type 0} → (Call → Bool) → Event A → Bool
+on_call test event = action_call test event.what
 
 -- whether serving an event may need memory of the host
 abbrev pub may_take_memory : {A : Type 0} → Event A → Bool
-may_take_memory event = on_call (λ call frame. takes_memory call) event
+may_take_memory event = on_frame (λ kind frame. takes_memory kind) event

@@ -3,9 +3,8 @@ use Rattle.std.specs.Prelude.{ℕ, ◌+◌, ◌==◌, not, true, false, if◌the
 use Rattle.std.specs.List.{filter}
 use Rattle.std.specs.Ordering.{nat_cmp}
 use Rattle.std.specs.FinMap.{FinMap, get, insert, remove, entries, from_entries, retain_keys}
-use Rattle.hv_abi.specs.declared.call_kind.CallKind.{CallKind}
-use Rattle.hv_abi.specs.declared.call_kind.CallKind.TheVariants.{CreatePartition, InitializePartition, FinalizePartition, DeletePartition, DepositMemory, WithdrawMemory}
-use Rattle.hv_abi.specs.declared.frame.Frame.{Frame}
+use Rattle.hv_calls.specs.declared.call.Call.{Call}
+use Rattle.hv_calls.specs.declared.call.Call.TheVariants.{CreatePartition, InitializePartition, FinalizePartition, DeletePartition, SetPartitionProperty, DepositMemory, WithdrawMemory}
 use Rattle.hv_defs.specs.declared.life.Life.TheVariants.{Created, Active, Finalized}
 use Rattle.hv_defs.specs.declared.sizes.TheConstants.{CPU_RESERVE_START, CPU_CAP_START, CPU_WEIGHT_START}
 use Rattle.hv_privs.specs.declared.Privileges.{Privileges}
@@ -14,9 +13,11 @@ use Rattle.hv_privs.specs.Privileges.{of, restrict}
 use Rattle.hv_policy.specs.declared.event.Action.{Action}
 use Rattle.hv_policy.specs.declared.event.Action.TheVariants.{Hypercall}
 use Rattle.hv_policy.specs.declared.event.Event.{Event}
-use Rattle.hv_policy.specs.Call.{served_call, page_of, target_of}
+use Rattle.hv_policy.specs.Call.{served_call, target_of}
 use Rattle.hv_policy.specs.Count.{lowest_pooled}
 use Rattle.hv_policy.specs.Flat.{Flat, PartRow, PageRow, MailRow, pair_cmp}
+use Rattle.hv_policy.specs.Property.{property_of, with_property}
+use Rattle.hv_policy.specs.declared.property.Property.{Property}
 
 -- the mask of a partition's row, and no privilege where there is none
 abbrev pub mask_of : Option PartRow → Privileges
@@ -59,37 +60,48 @@ abbrev pub withdrawn : ℕ → Option ℕ → FinMap nat_cmp PageRow → FinMap 
 withdrawn id None pages = pages
 withdrawn id (Some page) pages = insert pages page (record { owner = id; pooled = false })
 
-abbrev pub call_effect : {A : Type 0} → CallKind → Flat → ℕ → Frame A → Flat
-call_effect CreatePartition f caller frame = record f {
+-- the row with a property of this code changed
+abbrev pub given : Option Property → ℕ → PartRow → PartRow
+given None value row = row
+given (Some property) value row = with_property property value row
+
+-- what a call changes, about its target, beside the count of served events
+abbrev pub call_effect : Call → Flat → ℕ → ℕ → Flat
+call_effect (CreatePartition flags) f caller target = record f {
   part = insert f.part f.next (new_row caller (mask_of (get f.part caller)));
   next = f.next + 1;
 }
-call_effect InitializePartition f caller frame =
-    record f { part = with_row f.part (target_of InitializePartition frame caller) (λ row. record row { life = Active }) }
-call_effect FinalizePartition f caller frame = record f {
-  part = with_row f.part (target_of FinalizePartition frame caller) (λ row. record row { life = Finalized });
-  vp = rows_but (target_of FinalizePartition frame caller) f.vp;
-  port = rows_but (target_of FinalizePartition frame caller) f.port;
-  conn = rows_but (target_of FinalizePartition frame caller) f.conn;
-  mail = mail_but (target_of FinalizePartition frame caller) f.mail;
+call_effect (InitializePartition partition) f caller target = record f { part = with_row f.part target (λ row. record row { life = Active }) }
+call_effect (FinalizePartition partition) f caller target = record f {
+  part = with_row f.part target (λ row. record row { life = Finalized });
+  vp = rows_but target f.vp;
+  port = rows_but target f.port;
+  conn = rows_but target f.conn;
+  mail = mail_but target f.mail;
 }
-call_effect DeletePartition f caller frame = record f {
-  part = remove f.part (target_of DeletePartition frame caller);
-  page = from_entries (map (λ e. (e.0, inherited (target_of DeletePartition frame caller) caller e.1)) (entries f.page));
+call_effect (DeletePartition partition) f caller target = record f {
+  part = remove f.part target;
+  page = from_entries (map (λ e. (e.0, inherited target caller e.1)) (entries f.page));
 }
-call_effect DepositMemory f caller frame =
-    record f { page = insert f.page (page_of frame) (record { owner = target_of DepositMemory frame caller; pooled = true }) }
-call_effect WithdrawMemory f caller frame =
-    record f { page = withdrawn caller (lowest_pooled f (target_of WithdrawMemory frame caller)) f.page }
-call_effect call f caller frame = f
+call_effect (SetPartitionProperty partition code value) f caller target =
+    record f { part = with_row f.part target (given (property_of code) value) }
+call_effect (DepositMemory partition page) f caller target =
+    record f { page = insert f.page page (record { owner = target; pooled = true }) }
+call_effect (WithdrawMemory partition) f caller target =
+    record f { page = withdrawn caller (lowest_pooled f target) f.page }
+call_effect call f caller target = f
 
-abbrev pub served_effect : {A : Type 0} → Flat → ℕ → Frame A → Option CallKind → Flat
-served_effect f caller frame None = f
-served_effect f caller frame (Some call) = call_effect call f caller frame
+abbrev pub served_effect : Flat → ℕ → Option Call → Flat
+served_effect f caller None = f
+served_effect f caller (Some call) = call_effect call f caller (target_of call caller)
 
 abbrev pub action_effect : {A : Type 0} → Flat → ℕ → Action A → Flat
-action_effect f caller (Hypercall frame) = served_effect f caller frame (served_call frame)
+action_effect f caller (Hypercall frame) = served_effect f caller (served_call frame)
+
+-- a state with 1 more served event
+abbrev pub counted : Flat → Flat
+counted f = record f { served = f.served + 1 }
 
 -- what a served event leaves: its own changes, and 1 more served event
 abbrev pub effect : {A : Type 0} → Flat → Event A → Flat
-effect f event = record (action_effect f event.by.part event.what) { served = f.served + 1 }
+effect f event = counted (action_effect f event.by.part event.what)

@@ -7,6 +7,7 @@ pub mod Effect
 pub mod Flat
 pub mod Met
 pub mod Needs
+pub mod Property
 pub mod Result
 pub mod Rule
 pub mod Step

@@ -1,8 +1,10 @@
 -- The table of calls: what each needs of its caller and its target, and which rules it is asked beyond P10.
 -- It has a row for every call of the profile, also for those that are not served yet.
-use Rattle.std.specs.Prelude.{ℕ, Bool, true, false, List, [], ◌∷◌}
+use Rattle.std.specs.Prelude.{ℕ, Bool, true, false, List, [], ◌∷◌, Option, None, Some}
 use Rattle.hv_abi.specs.declared.call_kind.CallKind.{CallKind}
 use Rattle.hv_abi.specs.declared.call_kind.CallKind.TheVariants.{CreatePartition, InitializePartition, FinalizePartition, DeletePartition, GetPartitionProperty, SetPartitionProperty, GetPartitionId, GetNextChildPartition, DepositMemory, WithdrawMemory, GetMemoryBalance, CreateVp, DeleteVp, GetVpRegisters, SetVpRegisters, DeletePort, DisconnectPort, PostMessage, SignalEvent, CreatePort, ConnectPort}
+use Rattle.hv_calls.specs.declared.call.Call.{Call}
+use Rattle.hv_calls.specs.declared.call.Call.TheVariants as call
 use Rattle.hv_defs.specs.declared.life.Life.{Life}
 use Rattle.hv_defs.specs.declared.life.Life.TheVariants as life
 use Rattle.hv_defs.specs.declared.sizes.TheConstants.{PARTITION_CHARGE, VP_CHARGE, PORT_CHARGE, CONNECTION_CHARGE}
@@ -13,6 +15,9 @@ use Rattle.hv_policy.specs.declared.need.Kin.TheVariants as kin
 use Rattle.hv_policy.specs.declared.need.Need.{Need}
 use Rattle.hv_policy.specs.declared.need.States.{States}
 use Rattle.hv_policy.specs.declared.need.States.TheVariants as states
+use Rattle.hv_policy.specs.Property.{property_of}
+use Rattle.hv_policy.specs.declared.property.Property.{Property}
+use Rattle.hv_policy.specs.declared.property.Property.TheVariants.{PrivilegeFlags}
 use Rattle.hv_policy.specs.declared.rule.Rule.{Rule}
 use Rattle.hv_policy.specs.declared.rule.Rule.TheVariants.{PropertyKnown, TargetState, NoChildren, Depth, OtherExists, Connection, Port, Right, VpExists, PropertyRange, Subject, VpReady, PortRoom, Pages}
 
@@ -30,29 +35,35 @@ is_among life states = false
 abbrev row : Privileges → Kin → States → Need
 row privilege kin states = record { privilege = privilege; kin = kin; states = states }
 
+-- the life states in which a property may be set: the mask before the partition runs, the others while it does too
+abbrev pub states_to_set : Option Property → States
+states_to_set None = states.Created
+states_to_set (Some PrivilegeFlags) = states.Created
+states_to_set (Some property) = states.CreatedOrActive
+
 -- the privilege, which partitions may be the target, and its life states
-abbrev pub needs_of : CallKind → Need
-needs_of CreatePartition = row privilege.CREATE_PARTITIONS kin.Caller states.Any
-needs_of InitializePartition = row privilege.CREATE_PARTITIONS kin.Child states.Created
-needs_of FinalizePartition = row privilege.CREATE_PARTITIONS kin.Child states.CreatedOrActive
-needs_of DeletePartition = row privilege.CREATE_PARTITIONS kin.Child states.CreatedOrFinalized
-needs_of GetPartitionProperty = row privilege.CREATE_PARTITIONS kin.CallerOrChild states.Any
-needs_of SetPartitionProperty = row privilege.CREATE_PARTITIONS kin.Child states.Created
-needs_of GetPartitionId = row privilege.ACCESS_PARTITION_ID kin.Caller states.Any
-needs_of GetNextChildPartition = row privilege.CREATE_PARTITIONS kin.CallerOrChild states.Any
-needs_of DepositMemory = row privilege.ACCESS_MEMORY_POOL kin.CallerOrChild states.CreatedOrActive
-needs_of WithdrawMemory = row privilege.ACCESS_MEMORY_POOL kin.CallerOrChild states.Any
-needs_of GetMemoryBalance = row privilege.ACCESS_MEMORY_POOL kin.CallerOrChild states.Any
-needs_of CreateVp = row privilege.CREATE_PARTITIONS kin.CallerOrChild states.Active
-needs_of DeleteVp = row privilege.CREATE_PARTITIONS kin.CallerOrChild states.Active
-needs_of GetVpRegisters = row privilege.CREATE_PARTITIONS kin.CallerOrChild states.Active
-needs_of SetVpRegisters = row privilege.CREATE_PARTITIONS kin.CallerOrChild states.Active
-needs_of DeletePort = row privilege.CREATE_PORT kin.CallerOrChild states.Active
-needs_of DisconnectPort = row privilege.CONNECT_PORT kin.CallerOrChild states.Active
-needs_of PostMessage = row privilege.POST_MESSAGES kin.Caller states.Any
-needs_of SignalEvent = row privilege.SIGNAL_EVENTS kin.Caller states.Any
-needs_of CreatePort = row privilege.CREATE_PORT kin.CallerOrChild states.Active
-needs_of ConnectPort = row privilege.CONNECT_PORT kin.CallerOrChild states.Active
+abbrev pub needs_of : Call → Need
+needs_of (call.CreatePartition flags) = row privilege.CREATE_PARTITIONS kin.Caller states.Any
+needs_of (call.InitializePartition partition) = row privilege.CREATE_PARTITIONS kin.Child states.Created
+needs_of (call.FinalizePartition partition) = row privilege.CREATE_PARTITIONS kin.Child states.CreatedOrActive
+needs_of (call.DeletePartition partition) = row privilege.CREATE_PARTITIONS kin.Child states.CreatedOrFinalized
+needs_of (call.GetPartitionProperty partition code) = row privilege.CREATE_PARTITIONS kin.CallerOrChild states.Any
+needs_of (call.SetPartitionProperty partition code value) = row privilege.CREATE_PARTITIONS kin.Child (states_to_set (property_of code))
+needs_of call.GetPartitionId = row privilege.ACCESS_PARTITION_ID kin.Caller states.Any
+needs_of (call.GetNextChildPartition partition previous) = row privilege.CREATE_PARTITIONS kin.CallerOrChild states.Any
+needs_of (call.DepositMemory partition page) = row privilege.ACCESS_MEMORY_POOL kin.CallerOrChild states.CreatedOrActive
+needs_of (call.WithdrawMemory partition) = row privilege.ACCESS_MEMORY_POOL kin.CallerOrChild states.Any
+needs_of (call.GetMemoryBalance partition) = row privilege.ACCESS_MEMORY_POOL kin.CallerOrChild states.Any
+needs_of (call.CreateVp partition vp) = row privilege.CREATE_PARTITIONS kin.CallerOrChild states.Active
+needs_of (call.DeleteVp partition vp) = row privilege.CREATE_PARTITIONS kin.CallerOrChild states.Active
+needs_of (call.GetVpRegisters partition vp name) = row privilege.CREATE_PARTITIONS kin.CallerOrChild states.Active
+needs_of (call.SetVpRegisters partition vp name value) = row privilege.CREATE_PARTITIONS kin.CallerOrChild states.Active
+needs_of (call.DeletePort partition port) = row privilege.CREATE_PORT kin.CallerOrChild states.Active
+needs_of (call.DisconnectPort partition connection) = row privilege.CONNECT_PORT kin.CallerOrChild states.Active
+needs_of (call.PostMessage connection message_type payload) = row privilege.POST_MESSAGES kin.Caller states.Any
+needs_of (call.SignalEvent connection flag) = row privilege.SIGNAL_EVENTS kin.Caller states.Any
+needs_of (call.CreatePort partition port peer port_kind sint vp base count) = row privilege.CREATE_PORT kin.CallerOrChild states.Active
+needs_of (call.ConnectPort partition connection port_partition port port_kind) = row privilege.CONNECT_PORT kin.CallerOrChild states.Active
 
 -- the rules that the call is asked beyond P10, rising
 abbrev pub further_rules : CallKind → List Rule
@@ -85,7 +96,7 @@ charge_of WithdrawMemory = 1
 charge_of CreateVp = VP_CHARGE
 charge_of CreatePort = PORT_CHARGE
 charge_of ConnectPort = CONNECTION_CHARGE
-charge_of call = 0
+charge_of kind = 0
 
 -- whether serving it may need memory of the host
 abbrev pub takes_memory : CallKind → Bool
@@ -97,4 +108,4 @@ takes_memory CreateVp = true
 takes_memory PostMessage = true
 takes_memory CreatePort = true
 takes_memory ConnectPort = true
-takes_memory call = false
+takes_memory kind = false

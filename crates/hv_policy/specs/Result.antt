@@ -10,23 +10,23 @@ use Rattle.hv_abi.specs.declared.frame.Frame.{Frame}
 use Rattle.hv_abi.specs.declared.status.Status.TheVariants.{Success}
 use Rattle.hv_policy.specs.declared.reply.Reply.{Reply}
 use Rattle.hv_policy.specs.declared.reply.Reply.TheVariants.{Served, More, Denied, Fault}
-use Rattle.hv_policy.specs.Call.{served_call}
+use Rattle.hv_policy.specs.Call.{served_kind}
 
 abbrev pub start_if_valid : ℕ → Option CallKind → ℕ
 start_if_valid rcx None = 0
-start_if_valid rcx (Some call) = if is_input_valid (row_of call) rcx then bits rcx 48 12 else 0
+start_if_valid rcx (Some kind) = if is_input_valid (row_of kind) rcx then bits rcx 48 12 else 0
 
 -- the reps completed of a call that was refused: its start index where P4 and P5 are met, else 0
 abbrev pub refused_reps : {A : Type 0} → Frame A → ℕ
-refused_reps frame = start_if_valid frame.rcx (served_call frame)
+refused_reps frame = start_if_valid frame.rcx (served_kind frame)
 
 abbrev pub count_if_rep : ℕ → Option CallKind → ℕ
 count_if_rep rcx None = 0
-count_if_rep rcx (Some call) = if (row_of call).rep then bits rcx 32 12 else 0
+count_if_rep rcx (Some kind) = if (row_of kind).rep then bits rcx 32 12 else 0
 
 -- the reps completed of a call whose last element was served: all of them, and none of a simple call
 abbrev pub completed_reps : {A : Type 0} → Frame A → ℕ
-completed_reps frame = count_if_rep frame.rcx (served_call frame)
+completed_reps frame = count_if_rep frame.rcx (served_kind frame)
 
 -- the result value of a frame and its reply, which counts reps from the first element of the list
 abbrev pub result_of : {A : Type 0} → Frame A → Reply → ℕ

@@ -12,7 +12,7 @@ use Rattle.hv_policy.specs.declared.rule.Rule.{Rule}
 use Rattle.hv_policy.specs.Answer.{answer}
 use Rattle.hv_policy.specs.Asked.{asked}
 use Rattle.hv_policy.specs.Boot.{boot}
-use Rattle.hv_policy.specs.Call.{served_call}
+use Rattle.hv_policy.specs.Call.{served_kind}
 use Rattle.hv_policy.specs.Effect.{effect}
 use Rattle.hv_policy.specs.Flat.{Flat}
 use Rattle.hv_policy.specs.Met.{met}
@@ -33,7 +33,7 @@ denied_with frame rule (Some status) = Denied rule status (refused_reps frame)
 
 -- the reply to an event that a rule refuses: a call is denied with the rule's status
 abbrev pub refusal : {A : Type 0} → Action A → Rule → Reply
-refusal (Hypercall frame) rule = denied_with frame rule (rule_status rule (served_call frame))
+refusal (Hypercall frame) rule = denied_with frame rule (rule_status rule (served_kind frame))
 
 abbrev pub step_by : {A : Type 0} → Flat → Event A → Option Rule → Flat × Reply
 step_by f event None = (effect f event, answer f event)

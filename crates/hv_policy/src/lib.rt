@@ -13,11 +13,13 @@
 mod config;
 mod event;
 mod need;
+mod property;
 mod reply;
 mod rule;
 
 pub use config::Config;
 pub use event::{Action, Caller, Event};
-pub use need::{Kin, Need, SERVED_CODES, States, needs};
+pub use need::{Kin, Need, SERVED_CODES, States, needs, states_to_set};
+pub use property::{ALL_PROPERTIES, Property};
 pub use reply::{Output, Reply};
 pub use rule::Rule;

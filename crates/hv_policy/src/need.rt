@@ -1,8 +1,9 @@
 // What each call needs of its caller and its target.
 ghost use Rattle.std.specs.Prelude.{◌≡◌};
-ghost use Rattle.hv_policy.specs.Needs.{needs_of, is_among};
+ghost use Rattle.hv_policy.specs.Needs.{needs_of, is_among, states_to_set as states_to_set_of};
 
-use hv_abi::CallKind;
+use crate::property::Property;
+use hv_calls::Call;
 use hv_defs::Life;
 use hv_privs::Privileges;
 
@@ -52,90 +53,112 @@ pub struct Need {
 }
 
 /// The codes of the calls that are served so far, rising. Every other code is refused by P4.
-pub const SERVED_CODES: [u16; 9] = [0x40, 0x41, 0x42, 0x43, 0x46, 0x47, 0x48, 0x49, 0x4A];
+pub const SERVED_CODES: [u16; 11] = [
+    0x40, 0x41, 0x42, 0x43, 0x44, 0x45, 0x46, 0x47, 0x48, 0x49, 0x4A,
+];
 
-/// The row of a call in the table of needs.
-pub fn needs(call: CallKind) -> Need
-    ensures { result ≡ needs_of call }
+/// The row of a call in the table of needs. One cell looks at the call's parameters: the life states in which a
+/// property may be set.
+pub fn needs(call: &Call) -> Need
+    ensures { result ≡ needs_of call.now }
 {
     match call {
-        CallKind::CreatePartition => row(Privileges::CREATE_PARTITIONS, Kin::Caller, States::Any),
-        CallKind::InitializePartition => row(
+        Call::CreatePartition { .. } => row(
+            Privileges::CREATE_PARTITIONS,
+            Kin::Caller,
+            States::Any,
+        ),
+        Call::InitializePartition { .. } => row(
             Privileges::CREATE_PARTITIONS,
             Kin::Child,
             States::Created,
         ),
-        CallKind::FinalizePartition => row(
+        Call::FinalizePartition { .. } => row(
             Privileges::CREATE_PARTITIONS,
             Kin::Child,
             States::CreatedOrActive,
         ),
-        CallKind::DeletePartition => row(
+        Call::DeletePartition { .. } => row(
             Privileges::CREATE_PARTITIONS,
             Kin::Child,
             States::CreatedOrFinalized,
         ),
-        CallKind::GetPartitionProperty => row(
+        Call::GetPartitionProperty { .. } => row(
             Privileges::CREATE_PARTITIONS,
             Kin::CallerOrChild,
             States::Any,
         ),
-        CallKind::SetPartitionProperty => row(
+        Call::SetPartitionProperty { code, .. } => row(
             Privileges::CREATE_PARTITIONS,
             Kin::Child,
-            States::Created,
+            states_to_set(Property::of(*code)),
         ),
-        CallKind::GetPartitionId => row(Privileges::ACCESS_PARTITION_ID, Kin::Caller, States::Any),
-        CallKind::GetNextChildPartition => row(
+        Call::GetPartitionId => row(Privileges::ACCESS_PARTITION_ID, Kin::Caller, States::Any),
+        Call::GetNextChildPartition { .. } => row(
             Privileges::CREATE_PARTITIONS,
             Kin::CallerOrChild,
             States::Any,
         ),
-        CallKind::DepositMemory => row(
+        Call::DepositMemory { .. } => row(
             Privileges::ACCESS_MEMORY_POOL,
             Kin::CallerOrChild,
             States::CreatedOrActive,
         ),
-        CallKind::WithdrawMemory => row(
+        Call::WithdrawMemory { .. } => row(
             Privileges::ACCESS_MEMORY_POOL,
             Kin::CallerOrChild,
             States::Any,
         ),
-        CallKind::GetMemoryBalance => row(
+        Call::GetMemoryBalance { .. } => row(
             Privileges::ACCESS_MEMORY_POOL,
             Kin::CallerOrChild,
             States::Any,
         ),
-        CallKind::CreateVp => row(
+        Call::CreateVp { .. } => row(
             Privileges::CREATE_PARTITIONS,
             Kin::CallerOrChild,
             States::Active,
         ),
-        CallKind::DeleteVp => row(
+        Call::DeleteVp { .. } => row(
             Privileges::CREATE_PARTITIONS,
             Kin::CallerOrChild,
             States::Active,
         ),
-        CallKind::GetVpRegisters => row(
+        Call::GetVpRegisters { .. } => row(
             Privileges::CREATE_PARTITIONS,
             Kin::CallerOrChild,
             States::Active,
         ),
-        CallKind::SetVpRegisters => row(
+        Call::SetVpRegisters { .. } => row(
             Privileges::CREATE_PARTITIONS,
             Kin::CallerOrChild,
             States::Active,
         ),
-        CallKind::DeletePort => row(Privileges::CREATE_PORT, Kin::CallerOrChild, States::Active),
-        CallKind::DisconnectPort => row(
+        Call::DeletePort { .. } => row(Privileges::CREATE_PORT, Kin::CallerOrChild, States::Active),
+        Call::DisconnectPort { .. } => row(
             Privileges::CONNECT_PORT,
             Kin::CallerOrChild,
             States::Active,
         ),
-        CallKind::PostMessage => row(Privileges::POST_MESSAGES, Kin::Caller, States::Any),
-        CallKind::SignalEvent => row(Privileges::SIGNAL_EVENTS, Kin::Caller, States::Any),
-        CallKind::CreatePort => row(Privileges::CREATE_PORT, Kin::CallerOrChild, States::Active),
-        CallKind::ConnectPort => row(Privileges::CONNECT_PORT, Kin::CallerOrChild, States::Active),
+        Call::PostMessage { .. } => row(Privileges::POST_MESSAGES, Kin::Caller, States::Any),
+        Call::SignalEvent { .. } => row(Privileges::SIGNAL_EVENTS, Kin::Caller, States::Any),
+        Call::CreatePort { .. } => row(Privileges::CREATE_PORT, Kin::CallerOrChild, States::Active),
+        Call::ConnectPort { .. } => row(
+            Privileges::CONNECT_PORT,
+            Kin::CallerOrChild,
+            States::Active,
+        ),
+    }
+}
+
+/// The life states in which a property may be set: the mask before the partition runs, the others while it does
+/// too. A code that no property has is refused by P11 before they matter.
+pub fn states_to_set(property: Option<Property>) -> States
+    ensures { result ≡ states_to_set_of property }
+{
+    match property {
+        None | Some(Property::PrivilegeFlags) => States::Created,
+        Some(_) => States::CreatedOrActive,
     }
 }
 

@@ -24,7 +24,7 @@ fn calls_on_the_root(rt: HostRuntime) -> Result<(), Fail> {
         Row::denied(0x1_0046, 0, &[], 0x3, "P5"),
         Row::denied(0x46, 0, &[], 0xd, "P1").by(9, 0),
         Row::denied(0x46, 0, &[], 0xe, "P3").by(1, 5),
-        Row::denied(0x44, 0, &[0; 8], 0x2, "P4"),
+        Row::denied(0x4e, 0, &[0; 8], 0x2, "P4"),
         Row::served(0x4a, 0, OWN, EIGHT_FOUR),
         Row::served(0x4a, 0, ONE, EIGHT_FOUR),
         Row::served(0x4a, 0, &[1], EIGHT_FOUR),

@@ -4,8 +4,12 @@
 #[cfg(test)]
 mod first_calls;
 #[cfg(test)]
+mod hostile;
+#[cfg(test)]
 mod memory;
 #[cfg(test)]
 mod partitions;
+#[cfg(test)]
+mod properties;
 #[cfg(test)]
 mod rows;

@@ -180,7 +180,7 @@ fn calls_refused(rt: HostRuntime) -> Result<(), Fail> {
         Row::denied(0x1_0000_0040, 0, q![0], 0x3, "P5"),
         Row::denied(0x10040, 0, &[], 0x3, "P5"),
         Row::denied(0x4e, 0, &[], 0x2, "P4"),
-        Row::denied(0x44, 0, &[], 0x2, "P4"),
+        Row::denied(0x96, 0, &[], 0x2, "P4"),
         Row::denied(0x40, 4, q![0], 0x4, "P6"),
         Row::denied(0x10041, 2, &[], 0xd, "P9"),
     ];

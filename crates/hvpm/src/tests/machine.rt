@@ -83,7 +83,7 @@ fn partition_calls_refused(rt: HostRuntime) {
 1.0 call 0x10041 0xffffffffffffffff 0 -
 1.0 call 0x40 0 0 -
 1.0 call 0x40 0 0 -
-1.0 call 0x44 0 0 -
+1.0 call 0x4e 0 0 -
 ";
     let run = Run {
         script: script.as_bytes(),
@@ -96,7 +96,7 @@ fn partition_calls_refused(rt: HostRuntime) {
 6 1.0 call 0000000000010041 denied 0000000000000006 P10
 7 1.0 call 0000000000000040 ok 0000000000000000 0300000000000000
 8 1.0 call 0000000000000040 denied 000000000000000b P24
-9 1.0 call 0000000000000044 denied 0000000000000002 P4
+9 1.0 call 000000000000004e denied 0000000000000002 P4
 events 9
 ",
         err: "",

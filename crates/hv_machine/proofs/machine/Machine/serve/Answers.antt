@@ -10,8 +10,8 @@ use Rattle.hv_machine.proofs.machine.Machine.serve.Goals as goal
 pub change-requires : goal.change-requires
 change-requires g c =
     let m : State = record { rows = c.self.inside.tree; pages = c.self.inside.pages; next = c.self.inside.next; served = c.self.inside.served } in
-    let none = c.requires.met c.self.invariant.flat (rw (← c.self.view_is) c.self.invariant.stands) in
-    rw (c.target-target.ensures, c.page.ensures) (may_change m c.self.invariant c.args.by c.args.frame.now c.args.shape.kind c.requires.served none)
+    let allowed = c.requires.allowed c.self.invariant.flat (rw (← c.self.view_is) c.self.invariant.stands) in
+    rw c.target.ensures (may_change m c.self.invariant c.args.by.part c.args.call.now allowed)
 
 pub invariant_of-self : goal.invariant_of-self
 invariant_of-self g c =
@@ -30,16 +30,16 @@ returns-in_default-clause-flat g c f flat =
 pub invariant_of-self-2 : goal.invariant_of-self-2
 invariant_of-self-2 g c =
     let m : State = record { rows = c.self.inside.tree; pages = c.self.inside.pages; next = c.self.inside.next; served = c.self.inside.served } in
-    let none = c.requires.met c.self.invariant.flat (rw (← c.self.view_is) c.self.invariant.stands) in
+    let allowed = c.requires.allowed c.self.invariant.flat (rw (← c.self.view_is) c.self.invariant.stands) in
     rw c.next_after-self-inside.ensures
-    (lasting_after m c.self.invariant c.args.by c.args.frame.now c.args.shape.kind c.requires.served none c.change.new.tree (rw (← c.target-target.ensures, ← c.page.ensures) c.in-Ok.ensures.changed))
+    (lasting_after m c.self.invariant c.args.by.part c.args.call.now allowed c.change.new.tree (rw (← c.target.ensures) c.in-Ok.ensures.changed))
 
 pub returns-clause-state : goal.returns-clause-state
 returns-clause-state g c f flat =
     let m : State = record { rows = c.self.inside.tree; pages = c.self.inside.pages; next = c.self.inside.next; served = c.self.inside.served } in
     let stands : IsFlat m f = rw c.self.view_is flat in
     rw c.next_after-self-inside.ensures
-    (flat_after m c.self.invariant f stands c.args.by c.args.frame.now c.args.shape.kind c.requires.served (c.requires.met f flat) c.change.new.tree (rw (← c.target-target.ensures, ← c.page.ensures) c.in-Ok.ensures.changed))
+    (flat_after m c.self.invariant f stands c.args.by.part c.args.call.now (c.requires.allowed f flat) c.change.new.tree (rw (← c.target.ensures) c.in-Ok.ensures.changed))
 
 pub returns-clause-sound : goal.returns-clause-sound
 returns-clause-sound g c =

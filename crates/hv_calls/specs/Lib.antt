@@ -1,0 +1,4 @@
+pub mod Blocks
+pub mod Call
+pub mod Params
+pub mod WellFormed

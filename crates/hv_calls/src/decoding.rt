@@ -1,0 +1,297 @@
+// From a frame to its call.
+ghost use Rattle.std.specs.Prelude.{◌≡◌, ◌^◌, ◌<◌, Ok, false, true, IfOk, IfErr, Some, None, if◌then◌else◌};
+ghost use Rattle.hv_abi.specs.Check.{IsShape, input_of};
+ghost use Rattle.hv_calls.specs.Blocks.{call_in, port_kind as kind_of_port};
+ghost use Rattle.hv_calls.specs.Call.{kind_of_call};
+ghost use Rattle.hv_calls.specs.Params.{Params, are_parameters_valid, decoded, element_at as place_of_element};
+ghost use Rattle.hv_calls.specs.WellFormed.{is_id as fits_id, is_message_type as fits_message, is_port_type, are_flags as fit_flags};
+ghost use Rattle.hv_calls.specs.declared.call.Call.{Call as TypedCall};
+
+use crate::call::Call;
+use crate::fields::{u16_at, u32_at, u64_at};
+use crate::payload::Payload;
+use hv_abi::{CallKind, Frame, Shape};
+use hv_defs::{ANY_VP, EVENT_FLAGS, MAX_MESSAGE_TYPE, MAX_PAYLOAD, MAX_PORT_ID, PortKind, SINTS};
+use std::alloc::Allocator;
+
+/// Rule P7: a parameter is malformed by itself.
+#[derive(Clone, Copy, PartialEq, Eq, Debug)]
+pub struct Malformed;
+
+/// The call that a frame holds, with its parameters, or Malformed where one of them is so by itself. Bytes that
+/// the frame lacks at its end read as zero. The shape is to be this frame's, from [`Frame::check`].
+pub fn decode<A: Allocator>(frame: &Frame<A>, shape: &Shape) -> Result<Call, Malformed>
+    requires { IsShape frame.now shape.now }
+    ensures ok { IfOk result (Params frame.now shape.now.kind) }
+    ensures only { (c : TypedCall) → Params frame.now shape.now.kind c → result ≡ Ok c }
+    ensures malformed { IfErr result (λ _. are_parameters_valid shape.now.kind frame.now ≡ false) }
+    ensures kind { IfOk result (λ c. kind_of_call c ≡ shape.now.kind) }
+{
+    decode_at(frame, shape, element_at(shape))
+}
+
+// The place of the element at a frame's start index.
+fn element_at(shape: &Shape) -> usize
+    ensures place { result ≡ place_of_element shape.now.kind shape.now.start }
+    ensures near { result < 2 ^ 32 }
+{
+    let row = shape.kind.row();
+    usize::from(row.input) + usize::from(shape.start) * usize::from(row.input_element)
+}
+
+// The call of a frame, of whose element the place is given.
+fn decode_at<A: Allocator>(
+    frame: &Frame<A>,
+    shape: &Shape,
+    element: usize,
+) -> Result<Call, Malformed>
+    requires { element < 2 ^ 32 }
+    ensures { result ≡ decoded shape.now.kind (input_of frame.now shape.now.fast) element }
+{
+    // In most calls the first parameter is a partition's id.
+    let partition = u64_at(frame, shape, 0);
+    match shape.kind {
+        CallKind::CreatePartition => Ok(Call::CreatePartition { flags: partition }),
+        CallKind::InitializePartition => Ok(Call::InitializePartition { partition }),
+        CallKind::FinalizePartition => Ok(Call::FinalizePartition { partition }),
+        CallKind::DeletePartition => Ok(Call::DeletePartition { partition }),
+        CallKind::GetPartitionProperty => Ok(get_partition_property(frame, shape)),
+        CallKind::SetPartitionProperty => Ok(set_partition_property(frame, shape)),
+        CallKind::GetPartitionId => Ok(Call::GetPartitionId),
+        CallKind::GetNextChildPartition => Ok(get_next_child_partition(frame, shape)),
+        CallKind::DepositMemory => Ok(deposit_memory(frame, shape, element)),
+        CallKind::WithdrawMemory => Ok(Call::WithdrawMemory { partition }),
+        CallKind::GetMemoryBalance => Ok(Call::GetMemoryBalance { partition }),
+        CallKind::CreateVp => Ok(create_vp(frame, shape)),
+        CallKind::DeleteVp => Ok(delete_vp(frame, shape)),
+        CallKind::GetVpRegisters => Ok(get_vp_registers(frame, shape, element)),
+        CallKind::SetVpRegisters => set_vp_registers(frame, shape, element),
+        CallKind::DeletePort => delete_port(frame, shape),
+        CallKind::DisconnectPort => disconnect_port(frame, shape),
+        CallKind::PostMessage => post_message(frame, shape),
+        CallKind::SignalEvent => signal_event(frame, shape),
+        CallKind::CreatePort => create_port(frame, shape),
+        CallKind::ConnectPort => connect_port(frame, shape),
+    }
+}
+
+fn get_partition_property<A: Allocator>(frame: &Frame<A>, shape: &Shape) -> Call
+    ensures { result ≡ call_in CallKind.GetPartitionProperty (input_of frame.now shape.now.fast) 0 }
+{
+    Call::GetPartitionProperty {
+        partition: u64_at(frame, shape, 0),
+        code: u32_at(frame, shape, 8),
+    }
+}
+
+fn set_partition_property<A: Allocator>(frame: &Frame<A>, shape: &Shape) -> Call
+    ensures { result ≡ call_in CallKind.SetPartitionProperty (input_of frame.now shape.now.fast) 0 }
+{
+    Call::SetPartitionProperty {
+        partition: u64_at(frame, shape, 0),
+        code: u32_at(frame, shape, 8),
+        value: u64_at(frame, shape, 16),
+    }
+}
+
+fn get_next_child_partition<A: Allocator>(frame: &Frame<A>, shape: &Shape) -> Call
+    ensures { result ≡ call_in CallKind.GetNextChildPartition (input_of frame.now shape.now.fast) 0 }
+{
+    Call::GetNextChildPartition {
+        partition: u64_at(frame, shape, 0),
+        previous: u64_at(frame, shape, 8),
+    }
+}
+
+fn deposit_memory<A: Allocator>(frame: &Frame<A>, shape: &Shape, element: usize) -> Call
+    requires { element < 2 ^ 32 }
+    ensures { result ≡ call_in CallKind.DepositMemory (input_of frame.now shape.now.fast) element }
+{
+    Call::DepositMemory {
+        partition: u64_at(frame, shape, 0),
+        page: u64_at(frame, shape, element),
+    }
+}
+
+fn create_vp<A: Allocator>(frame: &Frame<A>, shape: &Shape) -> Call
+    ensures { result ≡ call_in CallKind.CreateVp (input_of frame.now shape.now.fast) 0 }
+{
+    Call::CreateVp {
+        partition: u64_at(frame, shape, 0),
+        vp: u32_at(frame, shape, 8),
+    }
+}
+
+fn delete_vp<A: Allocator>(frame: &Frame<A>, shape: &Shape) -> Call
+    ensures { result ≡ call_in CallKind.DeleteVp (input_of frame.now shape.now.fast) 0 }
+{
+    Call::DeleteVp {
+        partition: u64_at(frame, shape, 0),
+        vp: u32_at(frame, shape, 8),
+    }
+}
+
+fn get_vp_registers<A: Allocator>(frame: &Frame<A>, shape: &Shape, element: usize) -> Call
+    requires { element < 2 ^ 32 }
+    ensures { result ≡ call_in CallKind.GetVpRegisters (input_of frame.now shape.now.fast) element }
+{
+    Call::GetVpRegisters {
+        partition: u64_at(frame, shape, 0),
+        vp: u32_at(frame, shape, 8),
+        name: u32_at(frame, shape, element),
+    }
+}
+
+fn set_vp_registers<A: Allocator>(
+    frame: &Frame<A>,
+    shape: &Shape,
+    element: usize,
+) -> Result<Call, Malformed>
+    requires { element < 2 ^ 32 }
+    ensures { result ≡ decoded CallKind.SetVpRegisters (input_of frame.now shape.now.fast) element }
+{
+    // A register has 64 bits, and the upper half of its 16 bytes is reserved.
+    if u64_at(frame, shape, element + 24) != 0 {
+        return Err(Malformed);
+    }
+    Ok(Call::SetVpRegisters {
+        partition: u64_at(frame, shape, 0),
+        vp: u32_at(frame, shape, 8),
+        name: u32_at(frame, shape, element),
+        value: u64_at(frame, shape, element + 16),
+    })
+}
+
+fn delete_port<A: Allocator>(frame: &Frame<A>, shape: &Shape) -> Result<Call, Malformed>
+    ensures { result ≡ decoded CallKind.DeletePort (input_of frame.now shape.now.fast) 0 }
+{
+    let partition = u64_at(frame, shape, 0);
+    let port = u32_at(frame, shape, 8);
+    if !is_id(port) {
+        return Err(Malformed);
+    }
+    Ok(Call::DeletePort { partition, port })
+}
+
+fn disconnect_port<A: Allocator>(frame: &Frame<A>, shape: &Shape) -> Result<Call, Malformed>
+    ensures { result ≡ decoded CallKind.DisconnectPort (input_of frame.now shape.now.fast) 0 }
+{
+    let partition = u64_at(frame, shape, 0);
+    let connection = u32_at(frame, shape, 8);
+    if !is_id(connection) {
+        return Err(Malformed);
+    }
+    Ok(Call::DisconnectPort {
+        partition,
+        connection,
+    })
+}
+
+fn post_message<A: Allocator>(frame: &Frame<A>, shape: &Shape) -> Result<Call, Malformed>
+    ensures { result ≡ decoded CallKind.PostMessage (input_of frame.now shape.now.fast) 0 }
+{
+    let connection = u32_at(frame, shape, 0);
+    let message_type = u32_at(frame, shape, 8);
+    let size = u32_at(frame, shape, 12);
+    if !is_id(connection) || !is_message_type(message_type) || size > MAX_PAYLOAD {
+        return Err(Malformed);
+    }
+    Ok(Call::PostMessage {
+        connection,
+        message_type,
+        payload: Payload::read(frame, shape, 16, size as usize),
+    })
+}
+
+fn signal_event<A: Allocator>(frame: &Frame<A>, shape: &Shape) -> Result<Call, Malformed>
+    ensures { result ≡ decoded CallKind.SignalEvent (input_of frame.now shape.now.fast) 0 }
+{
+    let connection = u32_at(frame, shape, 0);
+    let flag = u16_at(frame, shape, 4);
+    if !is_id(connection) {
+        return Err(Malformed);
+    }
+    Ok(Call::SignalEvent { connection, flag })
+}
+
+fn create_port<A: Allocator>(frame: &Frame<A>, shape: &Shape) -> Result<Call, Malformed>
+    ensures { result ≡ decoded CallKind.CreatePort (input_of frame.now shape.now.fast) 0 }
+{
+    let port = u32_at(frame, shape, 8);
+    let port_type = u32_at(frame, shape, 24);
+    let sint = u32_at(frame, shape, 32);
+    let vp = u32_at(frame, shape, 36);
+    let base = u16_at(frame, shape, 40);
+    let count = u16_at(frame, shape, 42);
+    let Some(kind) = port_kind(port_type) else {
+        return Err(Malformed);
+    };
+    if !is_id(port) || sint >= SINTS || vp == ANY_VP || !are_flags(port_type, base, count) {
+        return Err(Malformed);
+    }
+    Ok(Call::CreatePort {
+        partition: u64_at(frame, shape, 0),
+        port,
+        peer: u64_at(frame, shape, 16),
+        kind,
+        sint,
+        vp,
+        base,
+        count,
+    })
+}
+
+fn connect_port<A: Allocator>(frame: &Frame<A>, shape: &Shape) -> Result<Call, Malformed>
+    ensures { result ≡ decoded CallKind.ConnectPort (input_of frame.now shape.now.fast) 0 }
+{
+    let connection = u32_at(frame, shape, 8);
+    let port = u32_at(frame, shape, 24);
+    let Some(kind) = port_kind(u32_at(frame, shape, 32)) else {
+        return Err(Malformed);
+    };
+    if !is_id(connection) || !is_id(port) {
+        return Err(Malformed);
+    }
+    Ok(Call::ConnectPort {
+        partition: u64_at(frame, shape, 0),
+        connection,
+        port_partition: u64_at(frame, shape, 16),
+        port,
+        kind,
+    })
+}
+
+// Whether a number is the id of a port or of a connection.
+fn is_id(number: u32) -> bool
+    ensures { result ≡ fits_id number }
+{
+    number <= MAX_PORT_ID
+}
+
+// Whether a number is a MessageType that a guest may post.
+fn is_message_type(number: u32) -> bool
+    ensures { result ≡ fits_message number }
+{
+    (1..=MAX_MESSAGE_TYPE).contains(&number)
+}
+
+// What a port of this PortType takes, or `None` where the profile has no such port.
+fn port_kind(number: u32) -> Option<PortKind>
+    ensures { result ≡ (if is_port_type number then Some (kind_of_port number) else None) }
+{
+    if number == PortKind::Message as u32 {
+        Some(PortKind::Message)
+    } else if number == PortKind::Event as u32 {
+        Some(PortKind::Event)
+    } else {
+        None
+    }
+}
+
+// Whether a port of this PortType may have these flags.
+fn are_flags(port_type: u32, base: u16, count: u16) -> bool
+    ensures { result ≡ fit_flags port_type base count }
+{
+    port_type != PortKind::Event as u32
+        || count >= 1 && u32::from(base) + u32::from(count) <= EVENT_FLAGS
+}

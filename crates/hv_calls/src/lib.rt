@@ -1,0 +1,18 @@
+//! The parameters of hypercalls (TLFS 4.0, the pages of the calls): from a frame to a typed call.
+//!
+//! [`decode`] reads the block of a frame that [`hv_abi::Frame::check`] accepted, and gives the call with its
+//! fields, or says that a parameter is malformed by itself. It is total, over every frame, and takes no
+//! memory. `specs/Blocks.antt` is the table of offsets, and `specs/WellFormed.antt` says which parameters are
+//! malformed; that `decode` is these two tables is its contract.
+#![tactic(auto)]
+
+mod call;
+mod decoding;
+mod fields;
+mod payload;
+#[cfg(test)]
+mod tests;
+
+pub use call::Call;
+pub use decoding::{Malformed, decode};
+pub use payload::Payload;
