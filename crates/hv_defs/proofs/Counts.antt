@@ -18,12 +18,14 @@ abbrev pub passes : {K X : Type 0} → (K × X → Bool) → K → Option X → 
 passes p k None = false
 passes p k (Some x) = p (k, x)
 
-both_parts : (a b : Bool) → T (a && b) → T a × T b
+-- the parts of what holds as a whole
+pub both_parts : (a b : Bool) → T (a && b) → T a × T b
 both_parts true true h = (tt, tt)
 both_parts true false h = absurd h
 both_parts false b h = absurd h
 
-less_apart : (o : Ordering) → T (is_lt o) → is_eq o ≡ false
+-- what is below isn't the same
+pub less_apart : (o : Ordering) → T (is_lt o) → is_eq o ≡ false
 less_apart Less h = refl
 less_apart Equal h = absurd h
 less_apart Greater h = absurd h

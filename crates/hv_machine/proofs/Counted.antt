@@ -8,10 +8,8 @@ use Rattle.std.specs.FinMap.Entries.{below_all}
 use Rattle.std.specs.FinSet as set
 use Rattle.std.specs.List.{AllByRecursion, IsDistinct, list_any}
 use Rattle.std.specs.Option.{option_map}
-use Rattle.std.specs.Ordering.{nat_cmp, eq_by_cmp, is_lt, is_eq}
-use Rattle.std.specs.declared.cmp.Ordering.{Ordering}
-use Rattle.std.specs.declared.cmp.Ordering.TheVariants.{Less, Equal, Greater}
-use Rattle.hv_defs.proofs.Counts.{passes, count_by-keys, count_by-set, count_by-none}
+use Rattle.std.specs.Ordering.{nat_cmp, eq_by_cmp, is_lt}
+use Rattle.hv_defs.proofs.Counts.{both_parts, less_apart, passes, count_by-keys, count_by-set, count_by-none}
 use Rattle.hv_partition.specs.Partition.{PartitionState, in_use as uses, available as may_use}
 use Rattle.hv_policy.proofs.Pairs.{pair_cmp_total, pair_cmp_exact, count_by-pairs}
 use Rattle.hv_policy.specs.Boot.{start_vp}
@@ -22,16 +20,6 @@ use Rattle.hv_tree.specs.Rows.{Row, Rows, children, children_in, parent}
 use Rattle.hv_tree.specs.ChildLaws.{parent-child, child-parent}
 use Rattle.hv_machine.specs.IsFlat.{IsFlat, is_held, holds, part_row, vp_row}
 use Rattle.hv_machine.specs.State.{State}
-
-pub both_parts : (a b : Bool) → T (a && b) → T a × T b
-both_parts true true h = (tt, tt)
-both_parts true false h = absurd h
-both_parts false b h = absurd h
-
-less_apart : (o : Ordering) → T (is_lt o) → is_eq o ≡ false
-less_apart Less h = refl
-less_apart Equal h = absurd h
-less_apart Greater h = absurd h
 
 -- the children of a row are apart
 apart_children : {C : Type 0} (k id : ℕ) (es : List (ℕ × (Option ℕ × C))) → T (below_all nat_cmp k es) → AllByRecursion (λ y. eq_by_cmp nat_cmp k y ≡ false) (children_in id es)

@@ -17,6 +17,10 @@ use Rattle.hv_machine.specs.Change.{IsDeleted, heir_of}
 use Rattle.hv_machine.specs.IsFlat.{IsFlat, Shows, is_held, holds}
 use Rattle.hv_machine.specs.State.{State}
 
+-- a row after a deletion
+pub get-deleted : (old new : Rows PartitionState) (heir id : ℕ) (d : IsDeleted old new heir id) (q : ℕ) → get new q ≡ cond (q == heir) (Some (heir_of d.gone.1 d.room d.owner)) (cond (q == id) None (get old q))
+get-deleted old new heir id d q = ap (λ rows. get rows q) d.rows ∙ get_row-insert (remove old id) heir (heir_of d.gone.1 d.room d.owner) q ∙ ap (cond (q == heir) (Some (heir_of d.gone.1 d.room d.owner))) (get_row-remove old id q)
+
 -- a row once each row is mapped
 find-mapped : {X : Type 0} (g : X → X) (q : ℕ) (es : List (ℕ × X)) → find nat_cmp q (map (λ e. (e.0, g e.1)) es) ≡ option_map g (find nat_cmp q es)
 find-mapped g q [] = refl
@@ -112,7 +116,7 @@ module _ (m : State) (f : Flat) (flat : IsFlat m f) (new : Rows PartitionState) 
   owner_after = heir_of d.gone.1 d.room d.owner
 
   row_after : (q : ℕ) → get new q ≡ cond (q == heir) (Some owner_after) (cond (q == id) None (get m.rows q))
-  row_after q = ap (λ rows. get rows q) d.rows ∙ get_row-insert (remove m.rows id) heir owner_after q ∙ ap (cond (q == heir) (Some owner_after)) (get_row-remove m.rows id q)
+  row_after = get-deleted m.rows new heir id d
 
   page_after : (page : ℕ) → get deleted.page page ≡ option_map (inherited id heir) (get f.page page)
   page_after page = get-mapped (inherited id heir) f.page page

@@ -1,30 +1,23 @@
 -- The child after another, in a state that a machine stands for.
 use Rattle.std.proofs.Common.{◌≡◌, ℕ, ◌<◌, ◌≤◌, Bool, true, false, cond, ◌&&◌, nat_lt, List, [], ◌∷◌, Option, Some, None, T, find, refl, sym, ap, ◌∙◌, arith}
 use Rattle.std.proofs.lemmas.Bool.{eqb-true, eq-eqb, ltb-true, lt-ltb}
-use Rattle.std.specs.Cmp.{unsigned_tied, ranked}
+use Rattle.std.specs.Cmp.{unsigned_tied}
 use Rattle.std.specs.FinMap as map
 use Rattle.std.specs.FinMap.{get, entries, entries_sorted, get-entries, is_sorted}
 use Rattle.std.specs.FinMap.Entries.{below_all}
 use Rattle.std.specs.List.{Contains}
 use Rattle.std.specs.Ordering.{nat_cmp, eq_by_cmp, is_lt}
-use Rattle.std.specs.declared.cmp.Ordering.{Ordering}
-use Rattle.std.specs.declared.cmp.Ordering.TheVariants.{Less, Equal, Greater}
-use Rattle.hv_defs.proofs.Counts.{passes}
+use Rattle.hv_defs.proofs.Counts.{both_parts, passes}
 use Rattle.hv_policy.specs.Answer.{first_id, next_child}
 use Rattle.hv_policy.specs.Count.{is_parent}
 use Rattle.hv_policy.specs.Flat.{Flat, PartRow}
 use Rattle.hv_tree.specs.Rows.{children, IsLeastAbove}
 use Rattle.hv_tree.specs.Rows.{parent as tree_parent}
-use Rattle.hv_tree.specs.ChildLaws.{parent-child, child-parent}
-use Rattle.hv_machine.proofs.Counted.{both_parts, child_at, named}
+use Rattle.hv_tree.specs.ChildLaws.{low, parent-child, child-parent}
+use Rattle.hv_machine.proofs.Counted.{child_at, named}
 use Rattle.hv_machine.proofs.Sound.{two_tests}
 use Rattle.hv_machine.specs.IsFlat.{IsFlat}
 use Rattle.hv_machine.specs.State.{State}
-
-low : (x y : ℕ) (r : Ordering) → r ≡ nat_cmp x y → T (is_lt r) → x < y
-low x y Less e t = ranked x y Less e
-low x y Equal e t = absurd t
-low x y Greater e t = absurd t
 
 abbrev pub id_or_0 : Option ℕ → ℕ
 id_or_0 None = 0

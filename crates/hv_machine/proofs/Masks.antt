@@ -1,7 +1,7 @@
 -- No call gives a partition a privilege that its parent lacks.
 use Rattle.std.proofs.Common.{◌≡◌, ℕ, ◌==◌, Bool, true, false, cond, length, Option, Some, None, refl, sym, ap, subst, ◌∙◌, arith}
 use Rattle.std.proofs.lemmas.Bool.{eqb-true, ne_eqb}
-use Rattle.std.specs.FinMap.{get, insert, remove}
+use Rattle.std.specs.FinMap.{get, insert}
 use Rattle.std.specs.Option.{option_map, option_and_then}
 use Rattle.hv_calls.specs.declared.call.Call.{Call}
 use Rattle.hv_calls.specs.declared.call.Call.TheVariants as call
@@ -21,8 +21,9 @@ use Rattle.hv_privs.specs.declared.Privileges.{Privileges}
 use Rattle.hv_privs.specs.declared.TheConstants.Privileges as privilege
 use Rattle.hv_privs.specs.Privileges.{IsSubset, of, restrict}
 use Rattle.hv_tree.specs.ChildLaws.{child-parent}
-use Rattle.hv_tree.specs.Laws.{get_row-insert, get_row-remove, get-change}
+use Rattle.hv_tree.specs.Laws.{get_row-insert, get-change}
 use Rattle.hv_tree.specs.Rows.{Row, Rows, change, children}
+use Rattle.hv_machine.proofs.Deletion.{get-deleted}
 use Rattle.hv_machine.proofs.Allowed.{child_row, further, given_within, state_row}
 use Rattle.hv_machine.specs.Asked.{IsAllowed}
 use Rattle.hv_machine.specs.Change.{IsChanged, IsDeleted, IsSameButRoom, bare, child_of, given, heir_of, with_loose, with_pooled}
@@ -71,11 +72,8 @@ masks_but_room old new same = masks_by old new (λ id r is. by id r (get old id)
     by id r (Some s) at e = (s, at, let alike : bare s ≡ bare r = cc in ap {A = Row PartitionState} head alike)
 
 deleted_was : (old new : Rows PartitionState) (heir target : ℕ) → target == heir ≡ false → (d : IsDeleted old new heir target) → (id : ℕ) (r : Row PartitionState) → get new id ≡ Some r → Was old id r
-deleted_was old new heir target apart d id r is = by (id == heir) (id == target) refl refl (sym row ∙ is)
+deleted_was old new heir target apart d id r is = by (id == heir) (id == target) refl refl (sym (get-deleted old new heir target d id) ∙ is)
   where
-    row : get new id ≡ cond (id == heir) (Some (heir_of d.gone.1 d.room d.owner)) (cond (id == target) None (get old id))
-    row = ap (λ rows. get rows id) d.rows ∙ get_row-insert (remove old target) heir (heir_of d.gone.1 d.room d.owner) id ∙ ap (cond (id == heir) (Some (heir_of d.gone.1 d.room d.owner))) (get_row-remove old target id)
-
     by : (s t : Bool) → id == heir ≡ s → id == target ≡ t → cond s (Some (heir_of d.gone.1 d.room d.owner)) (cond t None (get old id)) ≡ Some r → Was old id r
     by true t here at e = (d.owner, ap (get old) (eqb-true id heir here) ∙ d.there, let same : heir_of d.gone.1 d.room d.owner ≡ r = cc in ap head same)
     by false true here at e = cc

@@ -1,6 +1,6 @@
 -- The calls on partitions: what they change is what the model changes, and a machine still lasts.
 use Rattle.std.proofs.Common.{◌≡◌, ℕ, ◌+◌, ◌==◌, Bool, true, false, cond, not, Option, Some, None, inl, inr, refl, sym, ap, subst, ◌∙◌}
-use Rattle.std.proofs.lemmas.Bool.{eqb-true}
+use Rattle.std.proofs.lemmas.Bool.{cases_Bool, eqb-true}
 use Rattle.std.specs.Cmp.{nat_cmp_total, unsigned_tied}
 use Rattle.std.specs.FinMap.{FinMap, get, insert, remove, get-insert, get-remove, get-retain_keys}
 use Rattle.std.specs.FinSet as set
@@ -12,7 +12,7 @@ use Rattle.hv_policy.proofs.Pairs.{pair_cmp_exact}
 use Rattle.hv_policy.specs.Boot.{start_vp}
 use Rattle.hv_policy.specs.Effect.{given as given_row, new_row, mask_of, with_row, changed_at, rows_but, mail_but}
 use Rattle.hv_policy.specs.Flat.{Flat, PartRow, pair_cmp}
-use Rattle.hv_tree.specs.Laws.{either, get_row-insert, get-change}
+use Rattle.hv_tree.specs.Laws.{get_row-insert, get-change}
 use Rattle.hv_tree.specs.Rows.{Row, change}
 use Rattle.hv_policy.specs.declared.property.Property.{Property}
 use Rattle.hv_policy.specs.declared.property.Property.TheVariants.{PrivilegeFlags, CpuReserve, CpuCap, CpuWeight}
@@ -31,7 +31,7 @@ get-with_row : (part : FinMap nat_cmp PartRow) (id : ℕ) (g : PartRow → PartR
 get-with_row part id g q = by (get part id) refl
   where
     by : (r : Option PartRow) → get part id ≡ r → get (changed_at part id g r) q ≡ cond (q == id) (option_map g r) (get part q)
-    by None is = elim (either (q == id)) [
+    by None is = elim (cases_Bool (q == id)) [
       | inl s ↦ rw s (ap (get part) (eqb-true q id s) ∙ is)
       | inr s ↦ rw s refl
     ]

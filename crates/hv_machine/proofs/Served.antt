@@ -26,7 +26,7 @@ use Rattle.hv_tree.specs.Laws.{get_row-insert, get_row-remove, get-change}
 use Rattle.hv_tree.specs.Rows.{Row, Rows, children, change, changed_at, parent}
 use Rattle.hv_machine.proofs.Allowed.{caller_row, target_row, child_row, state_row, childless_row, charge_there, further}
 use Rattle.hv_machine.proofs.Counted.{available_counted}
-use Rattle.hv_machine.proofs.Deletion.{deleted_flat, get-mapped}
+use Rattle.hv_machine.proofs.Deletion.{deleted_flat, get-deleted, get-mapped}
 use Rattle.hv_machine.proofs.Few.{few_loose, few_pooled, free_next, childless_next}
 use Rattle.hv_machine.proofs.PartitionCalls.{get_part-insert, same_shows, created_flat, activated_flat, closed_flat, given_flat}
 use Rattle.hv_machine.proofs.Sound.{apart_sets, sound}
@@ -304,7 +304,7 @@ module _ (m : State) (l : IsLasting m) where
 
   -- rows with one partition less
   deleted_rows : (new : Rows PartitionState) (heir target : ℕ) → target == heir ≡ false → (d : IsDeleted m.rows new heir target) → (id : ℕ) (r : Row PartitionState) → get new id ≡ Some r → IsLastingRow new m.next id r
-  deleted_rows new heir target apart d id r is = by (id == heir) (id == target) refl refl (sym row ∙ is)
+  deleted_rows new heir target apart d id r is = by (id == heir) (id == target) refl refl (sym (get-deleted m.rows new heir target d id) ∙ is)
     where
       kept : get (remove m.rows target) heir ≡ Some d.owner
       kept = get_row-remove m.rows target heir ∙ ap (λ b. cond b None (get m.rows heir)) (nat_eq_equiv.symm heir target ∙ apart) ∙ d.there
@@ -317,9 +317,6 @@ module _ (m : State) (l : IsLasting m) where
           let same = ap (λ rows. length (children rows id)) changed ∙ count-change (remove m.rows target) heir (λ _. (heir_of d.gone.1 d.room d.owner).1) id in
           let less = count-remove m.rows target d.gone id d.was in
           omega arith
-
-      row : get new id ≡ cond (id == heir) (Some (heir_of d.gone.1 d.room d.owner)) (cond (id == target) None (get m.rows id))
-      row = ap (λ rows. get rows id) d.rows ∙ get_row-insert (remove m.rows target) heir (heir_of d.gone.1 d.room d.owner) id ∙ ap (cond (id == heir) (Some (heir_of d.gone.1 d.room d.owner))) (get_row-remove m.rows target id)
 
       by : (s t : Bool) → id == heir ≡ s → id == target ≡ t → cond s (Some (heir_of d.gone.1 d.room d.owner)) (cond t None (get m.rows id)) ≡ Some r → IsLastingRow new m.next id r
       by true t here at e =

@@ -1,4 +1,5 @@
 -- The rows of a node, around those of one child.
+use Rattle.std.proofs.lemmas.Bool.{cases_Bool}
 use Rattle.std.proofs.Common.{◌≡◌, ℕ, ◌+◌, ◌<◌, ◌≤◌, zero, suc, true, false, ◌==◌, inl, inr, Option, None, Some, is_some, List, [], ◌∷◌, ◌++◌, Box, refl, sym, ap, ◌∙◌, arith, length, take, drop, set, get_or, add-one, append_assoc, append-nil, length-append, eq-eqb}
 use Rattle.std.specs.Option.{option_or, option_map}
 use Rattle.std.specs.Box.{with_value}
@@ -7,7 +8,6 @@ use Rattle.std.proofs.lemmas.List.{take-append-drop}
 use Rattle.hv_tree.specs.Rows.{children_in}
 use Rattle.hv_tree.specs.Nest.{Line, has_row, look, uses, AreDistinct, hang, put_at, taken, HasDepthIn, IsPart, IsGrownBy}
 use Rattle.hv_tree.specs.Below.{below, AreNests, length-hang}
-use Rattle.hv_tree.specs.Laws.{either}
 use Rattle.hv_tree.proofs.Lists.{parted, set-parted, take_more, take_whole}
 use Rattle.hv_tree.proofs.Lines.{has-append, has-hang, has-below, has-look, look-none, look-append, look-hang, hung, uses-append, uses-hang, used, has-unused, one_if, below-append, hang-append, hang-hang, put-append, put-hang, taken-append, taken-hang}
 use Rattle.hv_tree.proofs.Kids.{kids-append, kids-hang, closed-below, AreNests-take, AreNests-drop}
@@ -128,7 +128,7 @@ module _ {T A : Type 0} (p : ℕ) (ks : List (Box (List (Line T)) A)) (i : ℕ) 
     -- a row of the child is of no other child
     module _ (q : ℕ) (has : has_row q k.value ≡ true) where
       pub off_own : (q == p) ≡ false
-      off_own = elim (either (q == p)) [
+      off_own = elim (cases_Bool (q == p)) [
         | inl s ↦ absurd (omega (arith, d q, uses-around q, used q k.value has, one_if (q == p) s))
         | inr s ↦ s
       ]

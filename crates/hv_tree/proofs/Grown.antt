@@ -2,11 +2,11 @@
 use Rattle.std.proofs.Common.{◌≡◌, ℕ, ◌+◌, ◌-◌, ◌<◌, ◌^◌, Bool, true, false, cond, ◌==◌, inl, inr, Option, None, Some, List, [], ◌∷◌, ◌++◌, refl, sym, ap, ◌∙◌, arith, length, length-append}
 use Rattle.std.specs.Option.{option_or, option_map}
 use Rattle.std.specs.FinMap.{insert, contains_key}
-use Rattle.std.proofs.lemmas.Bool.{eqb-true}
+use Rattle.std.proofs.lemmas.Bool.{cases_Bool, eqb-true}
 use Rattle.hv_tree.specs.Rows.{Rows, children, children_in}
 use Rattle.hv_tree.specs.Nest.{Line, has_row, look, uses, AreDistinct, IsNest, IsGrownBy}
 use Rattle.hv_tree.specs.Full.{full, IsWhole, IsLent}
-use Rattle.hv_tree.specs.Laws.{either, same_rows, get_row-insert}
+use Rattle.hv_tree.specs.Laws.{same_rows, get_row-insert}
 use Rattle.hv_tree.proofs.Lines.{look-append, look-none, uses-append, unused, has-unused}
 use Rattle.hv_tree.proofs.Kids.{kids-append}
 use Rattle.hv_tree.proofs.Seen.{IsShown, get-listed, look-full, get-seen, has-seen}
@@ -20,7 +20,7 @@ module _ {T : Type 0} (p q : ℕ) (c : Option T) (xs ys : List (Line T)) where
   uses-grown x = omega (arith, uses-append x xs ((q, (Some p, c)) ∷ ys), uses-append x xs ys)
 
   pub look-grown : uses q (xs ++ ys) ≡ 0 → (x : ℕ) → look x (xs ++ ((q, (Some p, c)) ∷ ys)) ≡ cond (x == q) (Some (Some p, c)) (look x (xs ++ ys))
-  look-grown fresh x = look-append x xs ((q, (Some p, c)) ∷ ys) ∙ (elim (either (x == q)) [
+  look-grown fresh x = look-append x xs ((q, (Some p, c)) ∷ ys) ∙ (elim (cases_Bool (x == q)) [
     | inl s ↦ rw (s, eqb-true x q s) (none_or (look q xs) _ (look-none q xs (has-unused q xs (omega (arith, fresh, uses-append q xs ys)))))
     | inr s ↦ rw s (sym (look-append x xs ys))
   ])
@@ -37,13 +37,13 @@ module _ {T : Type 0} (p q : ℕ) (c : Option T) (xs ys : List (Line T)) where
 
 IsLent-grown : {T : Type 0} (l : Option (ℕ × T)) (es new : List (Line T)) (q : ℕ) (r : Option ℕ × Option T) → look q es ≡ None → ((x : ℕ) → look x new ≡ cond (x == q) (Some r) (look x es)) → IsLent l es → IsLent l new
 IsLent-grown None es new q r none at h = tt
-IsLent-grown (Some e) es new q r none at h = elim (either (e.0 == q)) [
+IsLent-grown (Some e) es new q r none at h = elim (cases_Bool (e.0 == q)) [
   | inl s ↦ absurd (let no : option_map (λ r. r.1) (look e.0 es) ≡ None = rw (eqb-true e.0 q s, none) refl in cc)
   | inr s ↦ rw (at e.0, s) h
 ]
 
 one_more : (x p : ℕ) (many : ℕ) → (x ≡ p → many < 2 ^ 32 - 1) → many < 2 ^ 32 → many + cond (x == p) 1 0 < 2 ^ 32
-one_more x p many room few = elim (either (x == p)) [
+one_more x p many room few = elim (cases_Bool (x == p)) [
   | inl s ↦ rw s (omega (arith, room (eqb-true x p s)))
   | inr s ↦ rw s (omega (arith, few))
 ]
@@ -54,11 +54,11 @@ grown-shown {l = l} {es = es} {m = m} s new p q c (xs, (ys, (old_is, new_is))) n
     let lacks : has_row q es ≡ false = sym (has-seen s q) ∙ free in
     let fresh : uses q (xs ++ ys) ≡ 0 = rw (← old_is) (unused q es lacks) in
     let at : (x : ℕ) → look x new ≡ cond (x == q) (Some (Some p, Some c)) (look x es) = λ x. rw (new_is, old_is) (look-grown p q (Some c) xs ys fresh x) in
-    let distinct : AreDistinct new = λ x. (rw (new_is, uses-grown p q (Some c) xs ys x, ← old_is) (elim (either (x == q)) [
+    let distinct : AreDistinct new = λ x. (rw (new_is, uses-grown p q (Some c) xs ys x, ← old_is) (elim (cases_Bool (x == q)) [
       | inl t ↦ rw (t, eqb-true x q t, unused q es lacks) (omega arith)
       | inr t ↦ rw t (omega (arith, s.sound.distinct x))
     ])) in
-    let whole : IsWhole l new = λ x. (rw (at x) (elim (either (x == q)) [ inl t ↦ rw t refl | inr t ↦ rw t (s.sound.whole x) ])) in
+    let whole : IsWhole l new = λ x. (rw (at x) (elim (cases_Bool (x == q)) [ inl t ↦ rw t refl | inr t ↦ rw t (s.sound.whole x) ])) in
     let long : length new ≡ length es + 1 = rw (new_is, old_is) (length-grown p q (Some c) xs ys) in
     record {
       sound = record {
@@ -70,5 +70,5 @@ grown-shown {l = l} {es = es} {m = m} s new p q c (xs, (ys, (old_is, new_is))) n
         fits = omega (arith, long, s.sound.counted, fits);
         few = λ x. rw (new_is, kids-grown p q (Some c) xs ys x, ← old_is) (one_more x p (length (children_in x es)) (λ e. rw e (omega (arith, room, count-seen s p))) (s.sound.few x));
       };
-      seen = same_rows _ _ (λ x. get-listed (full l new) x ∙ look-full l new distinct whole x ∙ (rw (at x, get_row-insert m q (Some p, c) x, get-seen s x) (elim (either (x == q)) [ inl t ↦ rw t refl | inr t ↦ rw t refl ])));
+      seen = same_rows _ _ (λ x. get-listed (full l new) x ∙ look-full l new distinct whole x ∙ (rw (at x, get_row-insert m q (Some p, c) x, get-seen s x) (elim (cases_Bool (x == q)) [ inl t ↦ rw t refl | inr t ↦ rw t refl ])));
     }

@@ -1,4 +1,5 @@
 -- The children in lists that are joined or hung, and that a node's rows are closed.
+use Rattle.std.proofs.lemmas.Bool.{cases_Bool}
 use Rattle.std.proofs.Common.{◌≡◌, ℕ, Bool, true, false, cond, ◌==◌, ◌||◌, inl, inr, Option, None, Some, List, [], ◌∷◌, ◌++◌, Box, refl, sym, ap, ◌∙◌, arith, eq-eqb, map, length, zero, suc, take, drop, set}
 use Rattle.std.specs.Option.{option_or}
 use Rattle.std.specs.List.{insert, remove}
@@ -6,12 +7,11 @@ use Rattle.std.proofs.lemmas.List.{length-map}
 use Rattle.hv_tree.specs.Rows.{is_parent, children_in}
 use Rattle.hv_tree.specs.Nest.{Line, AreDistinct, has_row, hang, top, orphans, HasTop, IsNest}
 use Rattle.hv_tree.specs.Below.{below, AreNests}
-use Rattle.hv_tree.specs.Laws.{either}
 use Rattle.hv_tree.proofs.Lines.{has-below, has-unused, one_if}
 
 pub kids-append : {C : Type 0} (q : ℕ) (xs ys : List (ℕ × (Option ℕ × C))) → children_in q (xs ++ ys) ≡ children_in q xs ++ children_in q ys
 kids-append q [] ys = refl
-kids-append q (e ∷ xs) ys = elim (either (is_parent q e.1.0)) [
+kids-append q (e ∷ xs) ys = elim (cases_Bool (is_parent q e.1.0)) [
   | inl s ↦ rw s (ap (λ l. e.0 ∷ l) (kids-append q xs ys))
   | inr s ↦ rw s (kids-append q xs ys)
 ]
@@ -32,7 +32,7 @@ itself p = eq-eqb p p refl
 pub kids-own : {C : Type 0} (p : ℕ) (es : List (ℕ × (Option ℕ × C))) → children_in p es ≡ [] → children_in p (hang p es) ≡ orphans es
 kids-own p [] e = refl
 kids-own p ((q, (None, c)) ∷ es) e = rw (itself p) (ap (λ l. q ∷ l) (kids-own p es e))
-kids-own p ((q, (Some x, c)) ∷ es) e = elim (either (p == x)) [
+kids-own p ((q, (Some x, c)) ∷ es) e = elim (cases_Bool (p == x)) [
   | inl s ↦ absurd (let no : q ∷ children_in p es ≡ [] = rw s at e in cc)
   | inr s ↦ rw s (kids-own p es (rw s at e))
 ]

@@ -2,11 +2,11 @@
 use Rattle.std.proofs.Common.{◌≡◌, ℕ, ◌+◌, true, false, cond, ◌==◌, inl, inr, Option, None, Some, List, [], ◌∷◌, refl, sym, ap, ◌∙◌, is_some, arith, length}
 use Rattle.std.specs.Option.{option_map}
 use Rattle.std.specs.FinMap.{get, from_entries}
-use Rattle.std.proofs.lemmas.Bool.{eqb-true, eq-eqb, ne_eqb, eqb-false}
+use Rattle.std.proofs.lemmas.Bool.{cases_Bool, eqb-true, eq-eqb, ne_eqb, eqb-false}
 use Rattle.hv_tree.specs.Rows.{Rows, change, content, children_in, is_parent}
 use Rattle.hv_tree.specs.Nest.{Line, look, uses, AreDistinct, IsNest, put_at, taken}
 use Rattle.hv_tree.specs.Full.{full, IsFilled, IsWhole, IsLent, settled}
-use Rattle.hv_tree.specs.Laws.{either, same_rows, get-change}
+use Rattle.hv_tree.specs.Laws.{same_rows, get-change}
 use Rattle.hv_tree.proofs.Lines.{has-look, put-absent}
 use Rattle.hv_tree.proofs.Seen.{IsShown, get-listed, look-full, filled}
 
@@ -17,13 +17,13 @@ apart : (x q id : ℕ) → (q == id) ≡ false → (x == id) ≡ true → (x == 
 apart x q id n e = ne_eqb x q (λ s. eqb-false q id n (sym s ∙ eqb-true x id e))
 
 look-put : {T : Type 0} (x q : ℕ) (h : Option T) (es : List (Line T)) → look x (put_at q h es) ≡ cond (x == q) (option_map (λ r. (r.0, h)) (look x es)) (look x es)
-look-put x q h [] = elim (either (x == q)) [ inl s ↦ rw s refl | inr s ↦ rw s refl ]
-look-put x q h (e ∷ es) = elim (either (q == e.0)) [
-  | inl s ↦ rw s (elim (either (x == e.0)) [
+look-put x q h [] = elim (cases_Bool (x == q)) [ inl s ↦ rw s refl | inr s ↦ rw s refl ]
+look-put x q h (e ∷ es) = elim (cases_Bool (q == e.0)) [
+  | inl s ↦ rw s (elim (cases_Bool (x == e.0)) [
     | inl t ↦ rw (t, eqb-true q e.0 s, t) refl
     | inr t ↦ rw (t, eqb-true q e.0 s, t) refl
   ])
-  | inr s ↦ rw s (elim (either (x == e.0)) [
+  | inr s ↦ rw s (elim (cases_Bool (x == e.0)) [
     | inl t ↦ rw (t, apart x q e.0 s t) refl
     | inr t ↦ rw t (look-put x q h es)
   ])
@@ -31,7 +31,7 @@ look-put x q h (e ∷ es) = elim (either (q == e.0)) [
 
 uses-put : {T : Type 0} (x q : ℕ) (h : Option T) (es : List (Line T)) → uses x (put_at q h es) ≡ uses x es
 uses-put x q h [] = refl
-uses-put x q h (e ∷ es) = elim (either (q == e.0)) [
+uses-put x q h (e ∷ es) = elim (cases_Bool (q == e.0)) [
   | inl s ↦ rw s refl
   | inr s ↦ rw s (ap (λ n. cond (x == e.0) 1 0 + n) (uses-put x q h es))
 ]
@@ -42,7 +42,7 @@ kept h (Some r) = r.1
 
 taken-look : {T : Type 0} (q : ℕ) (h : Option T) (es : List (Line T)) → taken q h es ≡ kept h (look q es)
 taken-look q h [] = refl
-taken-look q h (e ∷ es) = elim (either (q == e.0)) [
+taken-look q h (e ∷ es) = elim (cases_Bool (q == e.0)) [
   | inl s ↦ rw s refl
   | inr s ↦ rw s (taken-look q h es)
 ]
@@ -67,7 +67,7 @@ settled-distinct (Some e) es d = λ x. rw (uses-put x e.0 (Some e.1) es) (d x)
 
 settled-whole : {T : Type 0} (l : Option (ℕ × T)) (es : List (Line T)) → IsWhole l es → IsWhole None (settled l es)
 settled-whole None es w = w
-settled-whole (Some e) es w = λ x. rw (look-put x e.0 (Some e.1) es) (elim (either (x == e.0)) [
+settled-whole (Some e) es w = λ x. rw (look-put x e.0 (Some e.1) es) (elim (cases_Bool (x == e.0)) [
   | inl s ↦ rw s (filled_put e x (look x es))
   | inr s ↦ rw s ((back_there e x (look x es) s (w x)).1)
 ])
@@ -76,7 +76,7 @@ settled-seen : {T : Type 0} (l : Option (ℕ × T)) (es : List (Line T)) (m : Ro
 settled-seen None es m d w i e = e
 settled-seen (Some e) es m d w i is = same_rows _ m (λ x.
     get-listed (full None (settled (Some e) es)) x ∙ look-full None (settled (Some e) es) (settled-distinct (Some e) es d) (settled-whole (Some e) es w) x
-    ∙ (rw (look-put x e.0 (Some e.1) es, get-shown (Some e) es m d w is x) (elim (either (x == e.0)) [
+    ∙ (rw (look-put x e.0 (Some e.1) es, get-shown (Some e) es m d w is x) (elim (cases_Bool (x == e.0)) [
       | inl s ↦ rw s (back_here e x (look x es) s (rw (eqb-true x e.0 s) i))
       | inr s ↦ rw s ((back_there e x (look x es) s (w x)).0)
     ])))
@@ -116,7 +116,7 @@ module _ {T : Type 0} (es : List (Line T)) (m : Rows T) (d : AreDistinct es) (w 
     out-lent v = rw (look-put q q None es, eq-eqb q q refl, line.1) refl
 
     out-whole : (v : T) → IsWhole (Some (q, v)) (put_at q None es)
-    out-whole v = λ x. rw (look-put x q None es) (elim (either (x == q)) [
+    out-whole v = λ x. rw (look-put x q None es) (elim (cases_Bool (x == q)) [
       | inl s ↦ rw (s, eqb-true x q s, line.1, eq-eqb q q refl) refl
       | inr s ↦ rw s ((out_there (q, v) x (look x es) (w x)).1)
     ])
@@ -124,21 +124,21 @@ module _ {T : Type 0} (es : List (Line T)) (m : Rows T) (d : AreDistinct es) (w 
     out-seen : (v : T) → from_entries (full (Some (q, v)) (put_at q None es)) ≡ change m q (λ _. v)
     out-seen v = same_rows _ _ (λ x.
         get-listed (full (Some (q, v)) (put_at q None es)) x ∙ look-full (Some (q, v)) (put_at q None es) out-distinct (out-whole v) x
-        ∙ (rw (look-put x q None es, get-change m q (λ _. v) x) (elim (either (x == q)) [
+        ∙ (rw (look-put x q None es, get-change m q (λ _. v) x) (elim (cases_Bool (x == q)) [
           | inl s ↦ rw (s, eqb-true x q s, line.1, get-shown None es m d w is q, line.1, eq-eqb q q refl) refl
           | inr s ↦ rw s ((out_there (q, v) x (look x es) (w x)).0 ∙ sym (get-shown None es m d w is x))
         ])))
 
 kids-put_at : {T : Type 0} (x q : ℕ) (h : Option T) (es : List (Line T)) → children_in x (put_at q h es) ≡ children_in x es
 kids-put_at x q h [] = refl
-kids-put_at x q h (e ∷ es) = elim (either (q == e.0)) [
+kids-put_at x q h (e ∷ es) = elim (cases_Bool (q == e.0)) [
   | inl s ↦ rw s refl
   | inr s ↦ rw s (ap (λ k. cond (is_parent x e.1.0) (e.0 ∷ k) k) (kids-put_at x q h es))
 ]
 
 length-put_at : {T : Type 0} (q : ℕ) (h : Option T) (es : List (Line T)) → length (put_at q h es) ≡ length es
 length-put_at q h [] = refl
-length-put_at q h (e ∷ es) = elim (either (q == e.0)) [
+length-put_at q h (e ∷ es) = elim (cases_Bool (q == e.0)) [
   | inl s ↦ rw s refl
   | inr s ↦ rw s (omega (arith, length-put_at q h es))
 ]

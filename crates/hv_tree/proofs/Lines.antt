@@ -1,9 +1,9 @@
 -- What the rows of a list answer once lists are joined, or hung below a node.
+use Rattle.std.proofs.lemmas.Bool.{cases_Bool}
 use Rattle.std.proofs.Common.{◌≡◌, ℕ, ◌+◌, ◌≤◌, Bool, true, false, cond, ◌==◌, ◌||◌, inl, inr, Option, None, Some, List, [], ◌∷◌, ◌++◌, Box, refl, sym, ap, ◌∙◌, is_some, arith, append_assoc}
 use Rattle.std.specs.Option.{option_or, option_map}
 use Rattle.hv_tree.specs.Nest.{Line, has_row, look, uses, hang, put_at, taken, top}
 use Rattle.hv_tree.specs.Below.{below}
-use Rattle.hv_tree.specs.Laws.{either}
 
 pub or_assoc : (a b c : Bool) → (a || (b || c)) ≡ ((a || b) || c)
 or_assoc true b c = refl
@@ -27,7 +27,7 @@ has-shift q p r (k ∷ ks) = has-below q p k ks ∙ ap (λ b. has_row q k.value 
 
 pub has-look : {X : Type 0} (q : ℕ) (es : List (ℕ × X)) → has_row q es ≡ is_some (look q es)
 has-look q [] = refl
-has-look q (e ∷ es) = elim (either (q == e.0)) [
+has-look q (e ∷ es) = elim (cases_Bool (q == e.0)) [
   | inl s ↦ rw s refl
   | inr s ↦ rw s (has-look q es)
 ]
@@ -78,14 +78,14 @@ none_if false e = refl
 -- an id is there just where some row uses it
 pub used : {X : Type 0} (q : ℕ) (es : List (ℕ × X)) → has_row q es ≡ true → 1 ≤ uses q es
 used q [] e = cc
-used q (r ∷ es) e = elim (either (q == r.0)) [
+used q (r ∷ es) e = elim (cases_Bool (q == r.0)) [
   | inl s ↦ omega (arith, one_if (q == r.0) s)
   | inr s ↦ omega (arith, used q es (rw s at e))
 ]
 
 pub unused : {X : Type 0} (q : ℕ) (es : List (ℕ × X)) → has_row q es ≡ false → uses q es ≡ 0
 unused q [] e = refl
-unused q (r ∷ es) e = elim (either (q == r.0)) [
+unused q (r ∷ es) e = elim (cases_Bool (q == r.0)) [
   | inl s ↦ absurd (let yes : has_row q (r ∷ es) ≡ true = rw s refl in cc)
   | inr s ↦ rw s (omega (arith, unused q es (rw s at e)))
 ]
@@ -113,9 +113,9 @@ hang-hang p q (e ∷ es) = rw (or_or p q e.1.0, hang-hang p q es) refl
 -- the rows with another content
 pub put-append : {T : Type 0} (q : ℕ) (h : Option T) (xs ys : List (Line T)) → put_at q h (xs ++ ys) ≡ cond (has_row q xs) (put_at q h xs ++ ys) (xs ++ put_at q h ys)
 put-append q h [] ys = refl
-put-append q h (e ∷ xs) ys = elim (either (q == e.0)) [
+put-append q h (e ∷ xs) ys = elim (cases_Bool (q == e.0)) [
   | inl s ↦ rw s refl
-  | inr s ↦ rw s (elim (either (has_row q xs)) [
+  | inr s ↦ rw s (elim (cases_Bool (has_row q xs)) [
     | inl t ↦ rw t (ap (λ l. e ∷ l) (put-append q h xs ys ∙ (rw t refl)))
     | inr t ↦ rw t (ap (λ l. e ∷ l) (put-append q h xs ys ∙ (rw t refl)))
   ])
@@ -123,25 +123,25 @@ put-append q h (e ∷ xs) ys = elim (either (q == e.0)) [
 
 pub put-hang : {T : Type 0} (q p : ℕ) (h : Option T) (es : List (Line T)) → put_at q h (hang p es) ≡ hang p (put_at q h es)
 put-hang q p h [] = refl
-put-hang q p h (e ∷ es) = elim (either (q == e.0)) [
+put-hang q p h (e ∷ es) = elim (cases_Bool (q == e.0)) [
   | inl s ↦ rw s refl
   | inr s ↦ rw s (ap (λ l. (e.0, hung p e.1) ∷ l) (put-hang q p h es))
 ]
 
 pub put-absent : {T : Type 0} (q : ℕ) (h : Option T) (es : List (Line T)) → has_row q es ≡ false → put_at q h es ≡ es
 put-absent q h [] n = refl
-put-absent q h (e ∷ es) n = elim (either (q == e.0)) [
+put-absent q h (e ∷ es) n = elim (cases_Bool (q == e.0)) [
   | inl s ↦ absurd (let y : has_row q (e ∷ es) ≡ true = rw s refl in cc)
   | inr s ↦ rw s (ap (λ l. e ∷ l) (put-absent q h es (rw s at n)))
 ]
 
 pub top-put : {T : Type 0} (q : ℕ) (h : Option T) (es : List (Line T)) → top (put_at q h es) ≡ top es
 top-put q h [] = refl
-top-put q h (e ∷ es) = elim (either (q == e.0)) [ inl s ↦ rw s refl | inr s ↦ rw s refl ]
+top-put q h (e ∷ es) = elim (cases_Bool (q == e.0)) [ inl s ↦ rw s refl | inr s ↦ rw s refl ]
 
 pub taken-append : {T : Type 0} (q : ℕ) (h : Option T) (xs ys : List (Line T)) → taken q h (xs ++ ys) ≡ cond (has_row q xs) (taken q h xs) (taken q h ys)
 taken-append q h [] ys = refl
-taken-append q h (e ∷ xs) ys = elim (either (q == e.0)) [
+taken-append q h (e ∷ xs) ys = elim (cases_Bool (q == e.0)) [
   | inl s ↦ rw s refl
   | inr s ↦ rw s (taken-append q h xs ys)
 ]
@@ -152,7 +152,7 @@ taken-hang q p h (e ∷ es) = ap (cond (q == e.0) e.1.1) (taken-hang q p h es)
 
 pub taken-absent : {T : Type 0} (q : ℕ) (h : Option T) (es : List (Line T)) → has_row q es ≡ false → taken q h es ≡ h
 taken-absent q h [] n = refl
-taken-absent q h (e ∷ es) n = elim (either (q == e.0)) [
+taken-absent q h (e ∷ es) n = elim (cases_Bool (q == e.0)) [
   | inl s ↦ absurd (let y : has_row q (e ∷ es) ≡ true = rw s refl in cc)
   | inr s ↦ rw s (taken-absent q h es (rw s at n))
 ]

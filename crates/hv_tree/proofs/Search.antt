@@ -7,9 +7,8 @@ use Rattle.std.specs.Ordering.{nat_cmp, is_lt}
 use Rattle.std.specs.Cmp.{nat_cmp_total, ranked}
 use Rattle.std.proofs.lemmas.List.{length-map}
 use Rattle.std.proofs.lemmas.List.Sorted.{searchable_from_sorted}
-use Rattle.std.proofs.lemmas.Bool.{ltb-false, ltb-true}
+use Rattle.std.proofs.lemmas.Bool.{cases_Bool, ltb-false, ltb-true}
 use Rattle.std.proofs.Math.Dec.{ltb}
-use Rattle.hv_tree.specs.Laws.{either}
 use Rattle.hv_tree.proofs.Lists.{get_or_any}
 
 pub found_at : {X : Type 0} (n : X → ℕ) (xs : List X) (id : ℕ) (r : Result ℕ ℕ) → IsSearchInRange r (length xs) → IsBinarySearchResult (λ x. nat_cmp (n x) id) xs r → IfOk r (λ i. (i < length xs) × HoldsAt (λ x. n x ≡ id) xs i)
@@ -17,16 +16,16 @@ found_at n xs id (Ok i) lt at = (lt, λ d. ranked _ _ Equal (sym (at d)))
 found_at n xs id (Err i) lt at = tt
 
 rises : (a b : ℕ) → a ≤ b → is_lt (nat_cmp b a) ≡ false
-rises a b le = elim (either (ltb b a)) [
+rises a b le = elim (cases_Bool (ltb b a)) [
   | inl s ↦ absurd (omega (arith, ltb-true b a s))
-  | inr s ↦ rw s (elim (either (b == a)) [ inl t ↦ rw t refl | inr t ↦ rw t refl ])
+  | inr s ↦ rw s (elim (cases_Bool (b == a)) [ inl t ↦ rw t refl | inr t ↦ rw t refl ])
 ]
 
 pub found_nowhere : {X : Type 0} (n : X → ℕ) (xs : List X) (id : ℕ) (r : Result ℕ ℕ) → IsNonDecreasingBy n xs → IsBinarySearchResult (λ x. nat_cmp (n x) id) xs r → OnErr r (All (λ x. n x ≢ id) xs)
 found_nowhere n xs id (Ok i) up at = tt
 found_nowhere n xs id (Err i) up at = λ k d lt same.
     let point = at (searchable_from_sorted nat_cmp_total n xs id (λ j e lo hi. rises (n (get_or xs j e)) (n (get_or xs (j + 1) e)) (up j (j + 1) e (omega arith) hi))) in
-    elim (either (ltb k i)) [
+    elim (cases_Bool (ltb k i)) [
       | inl s ↦ let low : n (get_or xs k d) < id = ranked _ _ Less (sym (point.0 k d (omega arith) (ltb-true k i s))) in omega (arith, low, same)
       | inr s ↦ let high : id < n (get_or xs k d) = ranked _ _ Greater (sym (point.1 k d (ltb-false k i s) lt)) in omega (arith, high, same)
     ]
@@ -56,7 +55,7 @@ least_some n xs low i y up point lt is = (
   (let h = point.1 i y (omega arith) lt in omega (arith, ap n is, h)),
   λ x (j, lj, at) high.
       let (z, lo, a, b) = keyed n xs j x lj in
-      elim (either (ltb j i)) [
+      elim (cases_Bool (ltb j i)) [
         | inl s ↦ let h = point.0 j z (omega arith) (ltb-true j i s) in absurd (omega (arith, ap n b, a, at, h))
         | inr s ↦ let h = up i j z (ltb-false j i s) lo in omega (arith, ap n b, a, at, h, ap n is, ap n (get_or_any xs i y z lt))
       ],

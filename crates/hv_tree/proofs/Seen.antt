@@ -4,11 +4,11 @@ use Rattle.std.specs.Option.{option_map, option_and_then}
 use Rattle.std.specs.Ordering.{nat_cmp}
 use Rattle.std.specs.Cmp.{nat_cmp_total, unsigned_tied}
 use Rattle.std.specs.FinMap.{find, get, from_entries, get-from_entries, contains_key}
-use Rattle.std.proofs.lemmas.Bool.{eqb-true, eq-eqb, eqb-false}
+use Rattle.std.proofs.lemmas.Bool.{cases_Bool, eqb-true, eq-eqb, eqb-false}
 use Rattle.hv_tree.specs.Rows.{Row, Rows, parent, HasDepth, children_in, IsTree}
 use Rattle.hv_tree.specs.Nest.{Line, has_row, look, top, AreDistinct, orphans, HasTop, IsPart, HasDepthIn}
 use Rattle.hv_tree.specs.Full.{pick, add, full, IsFilled, IsWhole, IsSound}
-use Rattle.hv_tree.specs.Laws.{either, parent_above, above_parent}
+use Rattle.hv_tree.specs.Laws.{parent_above, above_parent}
 use Rattle.hv_tree.proofs.Lines.{has-look, look-none, one_if, has-unused}
 
 pub find-look : {X : Type 0} (q : ℕ) (es : List (ℕ × X)) → find nat_cmp q es ≡ look q es
@@ -34,7 +34,7 @@ pub whole_first : {T : Type 0} (l : Option (ℕ × T)) (e : Line T) (es : List (
 whole_first l e es w = rw (eq-eqb e.0 e.0 refl) at (w e.0)
 
 pub whole_tail : {T : Type 0} (l : Option (ℕ × T)) (e : Line T) (es : List (Line T)) → AreDistinct (e ∷ es) → IsWhole l (e ∷ es) → IsWhole l es
-whole_tail l e es d w x = elim (either (x == e.0)) [
+whole_tail l e es d w x = elim (cases_Bool (x == e.0)) [
   | inl s ↦ rw (eqb-true x e.0 s, look-none e.0 es (once e es d)) tt
   | inr s ↦ (rw s at (w x))
 ]
@@ -47,7 +47,7 @@ pub look-full : {T : Type 0} (l : Option (ℕ × T)) (es : List (Line T)) → Ar
 look-full l [] d w x = refl
 look-full l (e ∷ es) d w x =
     let tail = look-full l es (λ y. omega (arith, d y)) (whole_tail l e es d w) x in
-    look_added x e.0 e.1.0 (pick l e.0 e.1.1) (full l es) (whole_first l e es w) ∙ (elim (either (x == e.0)) [
+    look_added x e.0 e.1.0 (pick l e.0 e.1.1) (full l es) (whole_first l e es w) ∙ (elim (cases_Bool (x == e.0)) [
       | inl s ↦ rw (s, eqb-true x e.0 s) refl
       | inr s ↦ rw s tail
     ])
@@ -97,13 +97,13 @@ module _ {T : Type 0} {l : Option (ℕ × T)} {es : List (Line T)} {n : ℕ} {m 
 -- a row that names p is among its children
 kid_there : {C : Type 0} (q p : ℕ) (es : List (ℕ × (Option ℕ × C))) → option_map (λ r. r.0) (look q es) ≡ Some (Some p) → children_in p es ≡ [] → ⊥
 kid_there q p [] e no_kids = cc
-kid_there q p ((x, (None, c)) ∷ es) e no_kids = elim (either (q == x)) [
+kid_there q p ((x, (None, c)) ∷ es) e no_kids = elim (cases_Bool (q == x)) [
   | inl t ↦ (let f : Some None ≡ Some (Some p) = rw t at e in cc)
   | inr t ↦ kid_there q p es (rw t at e) no_kids
 ]
-kid_there q p ((x, (Some y, c)) ∷ es) e no_kids = elim (either (p == y)) [
+kid_there q p ((x, (Some y, c)) ∷ es) e no_kids = elim (cases_Bool (p == y)) [
   | inl s ↦ (let k : x ∷ children_in p es ≡ [] = rw s at no_kids in cc)
-  | inr s ↦ elim (either (q == x)) [
+  | inr s ↦ elim (cases_Bool (q == x)) [
     | inl t ↦ (let f : Some (Some y) ≡ Some (Some p) = rw t at e in let g : p ≡ y = cc in eqb-false p y s g)
     | inr t ↦ kid_there q p es (rw t at e) (rw s at no_kids)
   ]
@@ -112,14 +112,14 @@ kid_there q p ((x, (Some y, c)) ∷ es) e no_kids = elim (either (p == y)) [
 orphan_there : {C : Type 0} (q : ℕ) (es : List (ℕ × (Option ℕ × C))) → option_map (λ r. r.0) (look q es) ≡ Some None → orphans es ≡ [] → ⊥
 orphan_there q [] e none = cc
 orphan_there q ((x, (None, c)) ∷ es) e none = cc
-orphan_there q ((x, (Some p, c)) ∷ es) e none = elim (either (q == x)) [
+orphan_there q ((x, (Some p, c)) ∷ es) e none = elim (cases_Bool (q == x)) [
   | inl t ↦ (let f : Some (Some p) ≡ Some None = rw t at e in cc)
   | inr t ↦ orphan_there q es (rw t at e) none
 ]
 
 root_only : {C : Type 0} (q : ℕ) (es : List (ℕ × (Option ℕ × C))) → HasTop es → option_map (λ r. r.0) (look q es) ≡ Some None → q ≡ top es
 root_only q [] h e = cc
-root_only q (r ∷ es) h e = elim (either (q == r.0)) [
+root_only q (r ∷ es) h e = elim (cases_Bool (q == r.0)) [
   | inl t ↦ eqb-true q r.0 t
   | inr t ↦ absurd (orphan_there q es (rw t at e) h.1)
 ]
@@ -134,7 +134,7 @@ IsTree-seen {es = es} {m = m} s = record {
   root = top es;
   rooted = above-seen s (top es) ∙ root_top es s.sound.nest.topped;
   alone = λ q r. root_only q es s.sound.nest.topped (sym (above-seen s q) ∙ r);
-  closed = λ q p e. has-seen s p ∙ (elim (either (has_row p es)) [
+  closed = λ q p e. has-seen s p ∙ (elim (cases_Bool (has_row p es)) [
     | inl has ↦ has
     | inr lacks ↦ absurd (kid_there q p es (parent-named s q p e) (s.sound.nest.closed p lacks))
   ]);

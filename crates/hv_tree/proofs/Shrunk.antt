@@ -2,11 +2,11 @@
 use Rattle.std.proofs.Common.{◌≡◌, ◌≢◌, ℕ, ◌+◌, ◌-◌, ◌≤◌, ◌<◌, ◌^◌, Bool, true, false, cond, ◌==◌, ◌&&◌, inl, inr, Option, None, Some, List, refl, sym, ap, ◌∙◌, is_some, arith, length}
 use Rattle.std.specs.Option.{option_map}
 use Rattle.std.specs.FinMap.{remove, from_entries}
-use Rattle.std.proofs.lemmas.Bool.{eqb-true, eq-eqb, ne_eqb}
+use Rattle.std.proofs.lemmas.Bool.{cases_Bool, eqb-true, eq-eqb, ne_eqb}
 use Rattle.hv_tree.specs.Rows.{Rows, parent, content, children, children_in, is_leaf}
 use Rattle.hv_tree.specs.Nest.{Line, has_row, look, uses, top, AreDistinct, IsNest, IsWithout}
 use Rattle.hv_tree.specs.Full.{pick, full, IsFilled, IsWhole, IsLent}
-use Rattle.hv_tree.specs.Laws.{either, same_rows, get_row-remove}
+use Rattle.hv_tree.specs.Laws.{same_rows, get_row-remove}
 use Rattle.hv_tree.proofs.Lines.{look-none, has-unused, one_if}
 use Rattle.hv_tree.proofs.Child.{found_has}
 use Rattle.hv_tree.proofs.Seen.{IsShown, get-listed, look-full, filled, get-seen, parent-seen, parent-named, root_top}
@@ -24,7 +24,7 @@ some_of (Some x) e = (x, refl)
 
 -- what was refused is no leaf
 pub no_leaf : {T : Type 0} {l : Option (ℕ × T)} {es : List (Line T)} {n : ℕ} {m : Rows T} → IsShown l es n m → (q : ℕ) → (has_row q es ≡ true → q ≢ top es → 1 ≤ length (children_in q es)) → is_leaf m q ≡ false
-no_leaf {es = es} {m = m} s q refused = elim (either (is_some (parent m q))) [
+no_leaf {es = es} {m = m} s q refused = elim (cases_Bool (is_some (parent m q))) [
   | inr lone ↦ rw lone refl
   | inl has ↦
       let (p, named) = some_of (parent m q) has in
@@ -49,7 +49,7 @@ module _ {T : Type 0} {l : Option (ℕ × T)} {es : List (Line T)} {n : ℕ} {m 
   look-here = look-gone q ∙ (rw (eq-eqb q q refl) refl)
 
   look-new : (x : ℕ) → look x new ≡ cond (x == q) None (look x es)
-  look-new x = elim (either (x == q)) [
+  look-new x = elim (cases_Bool (x == q)) [
     | inl t ↦ rw (t, eqb-true x q t) (look-none q new (has-unused q new gone))
     | inr t ↦ rw t (sym (look-gone x ∙ (rw t refl)))
   ]
@@ -73,10 +73,10 @@ module _ {T : Type 0} {l : Option (ℕ × T)} {es : List (Line T)} {n : ℕ} {m 
   few x = omega (arith, s.sound.few x, kids-grown w.parent q v w.before w.after x, ap (λ k. length (children_in x k)) w.was, ap (λ k. length (children_in x k)) w.is)
 
   whole_else : (k : Option (ℕ × T)) → ((x : ℕ) → (x == q) ≡ false → IsFilled k x (look x es)) → IsWhole k new
-  whole_else k at x = rw (look-new x) (elim (either (x == q)) [ inl t ↦ rw t tt | inr t ↦ rw t (at x t) ])
+  whole_else k at x = rw (look-new x) (elim (cases_Bool (x == q)) [ inl t ↦ rw t tt | inr t ↦ rw t (at x t) ])
 
   seen_else : (k : Option (ℕ × T)) → IsWhole k new → ((x : ℕ) → (x == q) ≡ false → filled k x (look x es) ≡ filled l x (look x es)) → from_entries (full k new) ≡ remove m q
-  seen_else k whole at = same_rows _ _ (λ x. get-listed (full k new) x ∙ look-full k new distinct whole x ∙ (rw (look-new x, get_row-remove m q x) (elim (either (x == q)) [
+  seen_else k whole at = same_rows _ _ (λ x. get-listed (full k new) x ∙ look-full k new distinct whole x ∙ (rw (look-new x, get_row-remove m q x) (elim (cases_Bool (x == q)) [
     | inl t ↦ rw t refl
     | inr t ↦ rw t (at x t ∙ sym (get-seen s x))
   ])))
@@ -92,7 +92,7 @@ module _ {T : Type 0} {l : Option (ℕ × T)} {es : List (Line T)} {n : ℕ} {m 
     where
       slot : (k : Option (ℕ × T)) → IsLent k es → IsLent k new
       slot None h = tt
-      slot (Some e) h = elim (either (e.0 == q)) [
+      slot (Some e) h = elim (cases_Bool (e.0 == q)) [
         | inl t ↦ absurd (let f = rw (eqb-true e.0 q t, look-here, is) at h in cc)
         | inr t ↦ rw (look-new e.0, t) h
       ]

@@ -8,10 +8,9 @@ use Rattle.std.specs.Ordering.{nat_cmp, is_lt}
 use Rattle.std.specs.Cmp.{ranked}
 use Rattle.std.specs.FinMap.{FinMap, entries, entries_sorted, keys, is_sorted}
 use Rattle.std.specs.FinMap.Entries.{below_all}
-use Rattle.std.proofs.lemmas.Bool.{eqb-true}
+use Rattle.std.proofs.lemmas.Bool.{cases_Bool, eqb-true}
 use Rattle.std.proofs.lemmas.List.Sums.{sum_by-cons}
 use Rattle.std.proofs.lemmas.List.Sorted.{sum_by-IsPermutation}
-use Rattle.hv_tree.specs.Laws.{either}
 
 -- x is at most each element
 IsUnder : ℕ → List ℕ → Type 0
@@ -76,7 +75,7 @@ times-sum q (x ∷ xs) = ap (λ n. cond (q == x) 1 0 + n) (times-sum q xs) ∙ s
 under_times : (x q : ℕ) (xs : List ℕ) → IsUnder x xs → 1 ≤ times q xs → x ≤ q
 unfolding IsUnder times
 under_times x q [] u h = absurd (omega arith)
-under_times x q (y ∷ ys) u h = elim (either (q == y)) [
+under_times x q (y ∷ ys) u h = elim (cases_Bool (q == y)) [
   | inl s ↦ omega (arith, eqb-true q y s, u.0)
   | inr s ↦ under_times x q ys u.1 (let g = rw s at h in omega (arith, g))
 ]
@@ -86,7 +85,7 @@ one_of x = rw (eq-eqb x x refl) refl
 
 least_times : (x q : ℕ) (xs : List ℕ) → IsUp (x ∷ xs) → 1 ≤ times q (x ∷ xs) → x ≤ q
 unfolding IsUp times
-least_times x q xs u h = elim (either (q == x)) [
+least_times x q xs u h = elim (cases_Bool (q == x)) [
   | inl s ↦ omega (arith, eqb-true q x s)
   | inr s ↦ under_times x q xs u.0 (let g = rw s at h in omega (arith, g))
 ]

@@ -10,11 +10,11 @@ use Rattle.std.specs.declared.cmp.Ordering.TheVariants.{Less, Equal, Greater}
 use Rattle.std.specs.Cmp.{nat_cmp_total, unsigned_tied, ranked}
 use Rattle.std.specs.FinMap.{find, put, get, get-entries, insert, remove, entries, entries-insert, entries_sorted, is_sorted}
 use Rattle.std.specs.FinMap.Entries.{by_order, below_all}
-use Rattle.std.proofs.lemmas.Bool.{eqb-true}
+use Rattle.std.proofs.lemmas.Bool.{cases_Bool, eqb-true}
 use Rattle.std.proofs.lemmas.List.Elements.{Contains-append_left, Contains-append_right, Contains-append_cases}
 use Rattle.std.proofs.lemmas.List.Sorted.{IsPermutation-refl, IsPermutation-cons, IsPermutation-trans, IsPermutation-middle, length_permutation}
 use Rattle.hv_tree.specs.Rows.{Row, Rows, parent, is_parent, children_in, children, change, changed_at}
-use Rattle.hv_tree.specs.Laws.{either, same_rows, get_row-insert, get_row-remove, parent_above, above_parent}
+use Rattle.hv_tree.specs.Laws.{same_rows, get_row-insert, get_row-remove, parent_above, above_parent}
 
 first : (a b : Bool) → T (a && b) → T a
 first true b p = tt
@@ -24,13 +24,14 @@ second : (a b : Bool) → T (a && b) → T b
 second true b p = p
 second false b p = absurd p
 
-low : (x y : ℕ) (r : Ordering) → r ≡ nat_cmp x y → T (is_lt r) → x < y
+-- what the order puts below is less
+pub low : (x y : ℕ) (r : Ordering) → r ≡ nat_cmp x y → T (is_lt r) → x < y
 low x y Less e t = ranked x y Less e
 low x y Equal e t = absurd t
 low x y Greater e t = absurd t
 
 off : (x y : ℕ) → x < y → eq_by_cmp nat_cmp x y ≡ false
-off x y lt = elim (either (eq_by_cmp nat_cmp x y)) [
+off x y lt = elim (cases_Bool (eq_by_cmp nat_cmp x y)) [
   | inl s ↦ absurd (omega (arith, lt, eqb-true x y (sym (unsigned_tied x y) ∙ s)))
   | inr s ↦ s
 ]
@@ -53,7 +54,7 @@ single y x (suc k, lt, at) = absurd (omega arith)
 
 listed : {C : Type 0} (p x : ℕ) (es : List (ℕ × (Option ℕ × C))) → T (is_sorted nat_cmp es) → Contains (children_in p es) x → option_map (λ r. r.0) (find nat_cmp x es) ≡ Some (Some p)
 listed p x [] t (k, lt, at) = absurd (omega arith)
-listed p x (e ∷ es) t c = elim (either (is_parent p e.1.0)) [
+listed p x (e ∷ es) t c = elim (cases_Bool (is_parent p e.1.0)) [
   | inl s ↦ (let d : Contains ((e.0 ∷ []) ++ children_in p es) x = rw s at c in elim (Contains-append_cases (e.0 ∷ []) (children_in p es) x d) [
     | inl here ↦ rw (single e.0 x here, unsigned_tied e.0 e.0, eq-eqb e.0 e.0 refl) (ap Some (named p e.1.0 s))
     | inr there ↦ later (listed p x es (second _ _ t) there)
@@ -62,14 +63,14 @@ listed p x (e ∷ es) t c = elim (either (is_parent p e.1.0)) [
 ]
   where
     later : option_map (λ r. r.0) (find nat_cmp x es) ≡ Some (Some p) → option_map (λ r. r.0) (find nat_cmp x (e ∷ es)) ≡ Some (Some p)
-    later h = elim (either (eq_by_cmp nat_cmp x e.0)) [
+    later h = elim (cases_Bool (eq_by_cmp nat_cmp x e.0)) [
       | inl u ↦ absurd (let none : find nat_cmp x es ≡ None = unfound x e.0 es (first _ _ t) (inr (eqb-true x e.0 (sym (unsigned_tied x e.0) ∙ u))) in let g = rw none at h in cc)
       | inr u ↦ rw u h
     ]
 
 kept : {C : Type 0} (p x : ℕ) (es : List (ℕ × (Option ℕ × C))) → option_map (λ r. r.0) (find nat_cmp x es) ≡ Some (Some p) → Contains (children_in p es) x
 kept p x [] e = cc
-kept p x (r ∷ es) e = elim (either (eq_by_cmp nat_cmp x r.0)) [
+kept p x (r ∷ es) e = elim (cases_Bool (eq_by_cmp nat_cmp x r.0)) [
   | inl u ↦ (let f : Some r.1.0 ≡ Some (Some p) = rw u at e in let g : r.1.0 ≡ Some p = cc in rw (g, eq-eqb p p refl, eqb-true x r.0 (sym (unsigned_tied x r.0) ∙ u)) (Contains-append_left (r.0 ∷ []) (children_in p es) r.0 (zero, omega arith, refl)))
   | inr u ↦ more (is_parent p r.1.0) (kept p x es (rw u at e))
 ]
@@ -116,7 +117,7 @@ count-insert m q r p free =
     ∙ one_kid (is_parent p r.0) q (children_in p (entries m))
 
 back : {T : Type 0} (m : Rows T) (q : ℕ) (r : Row T) → (x : ℕ) → get (insert (remove m q) q r) x ≡ get (insert m q r) x
-back m q r x = get_row-insert (remove m q) q r x ∙ (elim (either (x == q)) [
+back m q r x = get_row-insert (remove m q) q r x ∙ (elim (cases_Bool (x == q)) [
   | inl s ↦ rw s refl
   | inr s ↦ rw s (get_row-remove m q x ∙ (rw s refl))
 ]) ∙ sym (get_row-insert m q r x)
@@ -125,7 +126,7 @@ gone : {T : Type 0} (m : Rows T) (q : ℕ) → get (remove m q) q ≡ None
 gone m q = get_row-remove m q q ∙ (rw (eq-eqb q q refl) refl)
 
 same_insert : {T : Type 0} (m : Rows T) (q : ℕ) (r : Row T) → get m q ≡ Some r → insert m q r ≡ m
-same_insert m q r is = same_rows _ m (λ x. get_row-insert m q r x ∙ (elim (either (x == q)) [
+same_insert m q r is = same_rows _ m (λ x. get_row-insert m q r x ∙ (elim (cases_Bool (x == q)) [
   | inl s ↦ rw (s, eqb-true x q s) (sym is)
   | inr s ↦ rw s refl
 ]))

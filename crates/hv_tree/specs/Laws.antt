@@ -1,15 +1,11 @@
 -- What the rows answer after a change, for callers' proofs.
-use Rattle.std.specs.Prelude.{◌≡◌, ℕ, Bool, true, false, cond, ◌==◌, ◌⊎◌, Option, None, Some, is_some}
+use Rattle.std.specs.Prelude.{◌≡◌, ℕ, cond, ◌==◌, Option, None, Some, is_some}
 use Rattle.std.proofs.Common.{refl, sym, ap, ◌∙◌, inl, inr}
 use Rattle.std.specs.Option.{option_map, option_and_then}
 use Rattle.std.specs.Cmp.{nat_cmp_total, unsigned_tied}
 use Rattle.std.specs.FinMap.{get, insert, remove, contains_key, get-insert, get-remove, same_map, nat_cmp-IsAntisymmetric}
-use Rattle.std.proofs.lemmas.Bool.{eqb-true}
+use Rattle.std.proofs.lemmas.Bool.{cases_Bool, eqb-true}
 use Rattle.hv_tree.specs.Rows.{Row, Rows, content, parent, change, changed_at}
-
-pub either : (b : Bool) → (b ≡ true) ⊎ (b ≡ false)
-either true = inl refl
-either false = inr refl
 
 -- rows that answer alike are the same
 pub same_rows : {T : Type 0} (m n : Rows T) → ((x : ℕ) → get m x ≡ get n x) → m ≡ n
@@ -23,7 +19,7 @@ pub get_row-remove : {T : Type 0} (m : Rows T) (k q : ℕ) → get (remove m k) 
 get_row-remove m k q = get-remove nat_cmp_total m k q ∙ ap (λ b. cond b None (get m q)) (unsigned_tied q k)
 
 get-changed_at : {T : Type 0} (m : Rows T) (q : ℕ) (f : T → T) (x : ℕ) (r : Option (Row T)) → get m q ≡ r → get (changed_at m q f r) x ≡ cond (x == q) (option_map (λ r. (r.0, f r.1)) r) (get m x)
-get-changed_at m q f x None e = elim (either (x == q)) [
+get-changed_at m q f x None e = elim (cases_Bool (x == q)) [
   | inl s ↦ rw s (ap (get m) (eqb-true x q s) ∙ e)
   | inr s ↦ rw s refl
 ]
@@ -38,7 +34,7 @@ mapped_same (Some r) = refl
 
 -- a change that keeps the content keeps the rows
 pub change-same : {T : Type 0} (m : Rows T) (q : ℕ) → change m q (λ x. x) ≡ m
-change-same m q = same_rows _ m (λ x. get-change m q (λ y. y) x ∙ (elim (either (x == q)) [
+change-same m q = same_rows _ m (λ x. get-change m q (λ y. y) x ∙ (elim (cases_Bool (x == q)) [
   | inl s ↦ rw (s, eqb-true x q s) (mapped_same (get m q))
   | inr s ↦ rw s refl
 ]))
@@ -49,7 +45,7 @@ written_same (Some r) w e = let same : r.1 ≡ w = cc in ap (λ v. Some (r.0, v)
 
 -- to write the content that is there keeps the rows
 pub change-unchanged : {T : Type 0} (m : Rows T) (q : ℕ) (w : T) → content m q ≡ Some w → change m q (λ _. w) ≡ m
-change-unchanged m q w is = same_rows _ m (λ x. get-change m q (λ _. w) x ∙ (elim (either (x == q)) [
+change-unchanged m q w is = same_rows _ m (λ x. get-change m q (λ _. w) x ∙ (elim (cases_Bool (x == q)) [
   | inl s ↦ rw (s, eqb-true x q s) (written_same (get m q) w is)
   | inr s ↦ rw s refl
 ]))
@@ -71,7 +67,7 @@ above_mapped f None = refl
 above_mapped f (Some r) = refl
 
 pub above-change : {T : Type 0} (m : Rows T) (q : ℕ) (f : T → T) (x : ℕ) → option_map (λ r. r.0) (get (change m q f) x) ≡ option_map (λ r. r.0) (get m x)
-above-change m q f x = ap (option_map (λ r. r.0)) (get-change m q f x) ∙ (elim (either (x == q)) [
+above-change m q f x = ap (option_map (λ r. r.0)) (get-change m q f x) ∙ (elim (cases_Bool (x == q)) [
   | inl s ↦ rw (s, eqb-true x q s) (above_mapped f (get m q))
   | inr s ↦ rw s refl
 ])
