@@ -54,7 +54,7 @@ abbrev pub is_done : {A : Type 0} → Frame A → Option CallKind → Bool
 is_done frame None = true
 is_done frame (Some kind) = is_last kind frame
 
--- the reply to a call that is served: that is done with its last element
+-- the reply to a call that is served, which is done with its last element
 abbrev pub reply_with : {A : Type 0} → Frame A → List ℕ → Reply
 reply_with frame bytes = if is_done frame (served_kind frame) then Served bytes else More (bits frame.rcx 48 12 + 1) bytes
 
