@@ -71,3 +71,8 @@ pub const MAX_MESSAGE_TYPE: u32 = 0x7FFF_FFFF;
 
 /// The VP index by which a port aims at any processor of its partition (HV_ANY_VP).
 pub const ANY_VP: u32 = u32::MAX;
+
+// What a partition starts with is in range.
+const _: () = prove!(CPU_RESERVE_START <= MAX_CPU_RESERVE && CPU_CAP_START <= MAX_CPU_CAP);
+
+const _: () = prove!(MIN_CPU_WEIGHT <= CPU_WEIGHT_START && CPU_WEIGHT_START <= MAX_CPU_WEIGHT);
