@@ -1,5 +1,6 @@
 // Frames and their check.
 ghost use Rattle.std.specs.Prelude.{◌≡◌, ◌<◌, IfOk, IfErr, slice_index};
+ghost use Rattle.hv_defs.specs.declared.sizes.TheConstants.{REPS_END};
 ghost use Rattle.hv_abi.specs.Check.{is_input_valid, is_placed};
 ghost use Rattle.hv_abi.specs.InputValue.{input_value, restarted};
 
@@ -51,6 +52,7 @@ pub enum AbiFault {
 }
 
 impl<A: Allocator> Frame<A> {
+    ghost use Rattle.hv_defs.specs.declared.sizes.TheConstants.{REPS_END};
     ghost use Rattle.hv_abi.specs.Check.{IsShape, are_lists_placed, first_fault, input_of};
 
     /// Accepts a frame of a call, or names its first fault.
@@ -103,7 +105,7 @@ impl<A: Allocator> Frame<A> {
 
     /// The same frame with another rep start index, below 4,096.
     pub fn with_start(self, start: u16) -> Frame<A>
-        requires { start < 4096 }
+        requires { start < REPS_END }
         ensures frame { result ≡ record self { rcx = restarted self.rcx start } }
         ensures fields { input_value result.rcx ≡ record (input_value self.rcx) { start = start } }
     {

@@ -1,5 +1,6 @@
 // The result value.
 ghost use Rattle.std.specs.Prelude.{◌≡◌, ◌<◌};
+ghost use Rattle.hv_defs.specs.declared.sizes.TheConstants.{REPS_END};
 ghost use Rattle.hv_abi.specs.InputValue.{result_value};
 ghost use Rattle.hv_abi.specs.Status.{status_code};
 
@@ -28,7 +29,7 @@ impl ResultValue {
     /// The result value of a call. `reps` is how many reps are completed, below 4,096, and 0 for a simple
     /// call.
     pub fn new(status: Status, reps: u16) -> ResultValue
-        requires { reps < 4096 }
+        requires { reps < REPS_END }
         ensures { result ≡ result_value (status_code status) reps }
     {
         ResultValue {

@@ -13,13 +13,6 @@ little_from-copy copy bytes at i (suc n) h =
     let first = h i (omega arith) in
     rw (first, rest, next) refl
 
--- the same from the copy's start
-pub little_from-start : (copy bytes : List ℕ) (at n : ℕ) → ((k : ℕ) → k < n → slice_index copy k ≡ slice_index bytes (at + k)) → little_from 0 n copy ≡ field bytes at n
-little_from-start copy bytes at n h =
-    let start : at + 0 ≡ at = omega arith in
-    let read = little_from-copy copy bytes at 0 n (λ k less. h k (omega arith)) in
-    rw (← start) read
-
 -- one byte more
 pub bytes_at-push : (block : List ℕ) (at n : ℕ) → bytes_at block at (suc n) ≡ bytes_at block at n ++ slice_index block (at + n) ∷ []
 bytes_at-push block at zero =

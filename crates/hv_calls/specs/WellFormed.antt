@@ -1,7 +1,7 @@
 -- Which parameters are malformed by themselves, rule P7.
 use Rattle.std.specs.Prelude.{ℕ, ◌+◌, ◌==◌, ◌&&◌, ◌||◌, not, nat_le, nat_lt, Bool, true, List}
 use Rattle.hv_abi.specs.declared.call_kind.CallKind.{CallKind}
-use Rattle.hv_abi.specs.declared.call_kind.CallKind.TheVariants.{SetVpRegisters, DeletePort, DisconnectPort, PostMessage, SignalEvent, CreatePort, ConnectPort}
+use Rattle.hv_abi.specs.declared.call_kind.CallKind.TheVariants.{CreatePartition, InitializePartition, FinalizePartition, DeletePartition, GetPartitionProperty, SetPartitionProperty, GetPartitionId, GetNextChildPartition, DepositMemory, WithdrawMemory, GetMemoryBalance, CreateVp, DeleteVp, GetVpRegisters, SetVpRegisters, DeletePort, DisconnectPort, PostMessage, SignalEvent, CreatePort, ConnectPort}
 use Rattle.hv_defs.specs.Field.{field}
 use Rattle.hv_defs.specs.declared.sizes.TheConstants.{ANY_VP, EVENT_FLAGS, MAX_MESSAGE_TYPE, MAX_PAYLOAD, MAX_PORT_ID, SINTS}
 
@@ -23,6 +23,20 @@ is_message_type type = nat_le 1 type && nat_le type MAX_MESSAGE_TYPE
 
 -- whether each parameter of a call is well formed by itself, in the blocks' offsets and sizes
 abbrev pub are_well_formed : CallKind → List ℕ → ℕ → Bool
+are_well_formed CreatePartition block element = true
+are_well_formed InitializePartition block element = true
+are_well_formed FinalizePartition block element = true
+are_well_formed DeletePartition block element = true
+are_well_formed GetPartitionProperty block element = true
+are_well_formed SetPartitionProperty block element = true
+are_well_formed GetPartitionId block element = true
+are_well_formed GetNextChildPartition block element = true
+are_well_formed DepositMemory block element = true
+are_well_formed WithdrawMemory block element = true
+are_well_formed GetMemoryBalance block element = true
+are_well_formed CreateVp block element = true
+are_well_formed DeleteVp block element = true
+are_well_formed GetVpRegisters block element = true
 are_well_formed SetVpRegisters block element = field block (element + 24) 8 == 0
 are_well_formed DeletePort block element = is_id (field block 8 4)
 are_well_formed DisconnectPort block element = is_id (field block 8 4)
@@ -33,4 +47,3 @@ are_well_formed CreatePort block element =
     is_id (field block 8 4) && is_port_type (field block 24 4) && nat_lt (field block 32 4) SINTS
     && not (field block 36 4 == ANY_VP) && are_flags (field block 24 4) (field block 40 2) (field block 42 2)
 are_well_formed ConnectPort block element = is_id (field block 8 4) && is_id (field block 24 4) && is_port_type (field block 32 4)
-are_well_formed call block element = true

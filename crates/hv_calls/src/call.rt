@@ -9,7 +9,7 @@ use hv_defs::PortKind;
 /// header and the element at the frame's rep start index.
 ///
 /// A `partition` is the id of the partition that the call is about, and may be all ones, for the caller's own.
-#[derive(Debug, Drop)]
+#[derive(Drop)]
 pub enum Call {
     CreatePartition {
         /// Of any value, with no effect.

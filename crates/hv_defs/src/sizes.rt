@@ -69,6 +69,13 @@ pub const MAX_PORT_ID: u32 = 0x00FF_FFFF;
 /// The highest type of a message that a guest may post: bit 31 marks those of the hypervisor.
 pub const MAX_MESSAGE_TYPE: u32 = 0x7FFF_FFFF;
 
+/// How many elements a rep call may have is below this: rep count and start index have 12 bits.
+pub const REPS_END: u16 = 4096;
+
+/// The highest count of served events. A machine takes an event only below it, so that a port's birth is a number of 32
+/// bits.
+pub const MAX_SERVED: u64 = 4_294_967_295;
+
 /// The VP index by which a port aims at any processor of its partition (HV_ANY_VP).
 pub const ANY_VP: u32 = u32::MAX;
 

@@ -1,53 +1,11 @@
--- How the machine's state and the flat state of the policy belong together, key by key: what the flat maps have
--- under a partition's id is what the tree's row of that partition holds.
-use Rattle.std.specs.Prelude.{◌≡◌, ℕ, ◌==◌, ◌&&◌, Bool, true, false, not, if◌then◌else◌, [], Option, Some, None}
-use Rattle.std.specs.Option.{option_map}
-use Rattle.std.specs.FinMap.{get}
-use Rattle.std.specs.FinSet as set
-use Rattle.hv_partition.specs.Partition.{PartitionState}
-use Rattle.hv_policy.specs.Boot.{start_vp}
-use Rattle.hv_policy.specs.Flat.{Flat, PartRow, PageRow, VpRow}
-use Rattle.hv_tree.specs.Rows.{Row}
+-- How the machine's state and the flat state of the policy belong together.
+use Rattle.std.specs.Prelude.{◌≡◌}
+use Rattle.hv_policy.specs.Flat.{Flat}
+use Rattle.hv_tie.specs.Tie.{IsTied}
 use Rattle.hv_machine.specs.State.{State}
 
--- the flat row of a partition
-abbrev pub part_row : Row PartitionState → PartRow
-part_row r = record {
-  parent = r.0;
-  life = r.1.life;
-  mask = r.1.mask;
-  reserve = r.1.reserve;
-  cap = r.1.cap;
-  weight = r.1.weight;
-}
-
--- whether the page with this row is one of the pooled, or of the loose, pages of a partition
-abbrev pub is_held : ℕ → Bool → Option PageRow → Bool
-is_held id pooled None = false
-is_held id true (Some page) = page.owner == id && page.pooled
-is_held id false (Some page) = page.owner == id && not page.pooled
-
--- whether the partition of a row has a page in its pool, or among its loose pages
-abbrev pub holds : Bool → ℕ → Option (Row PartitionState) → Bool
-holds pooled page None = false
-holds true page (Some r) = set.contains r.1.pooled.pages page
-holds false page (Some r) = set.contains r.1.loose.pages page
-
--- the flat row of a processor, as it was made
-abbrev pub vp_row : ℕ → Option (Row PartitionState) → Option VpRow
-vp_row index None = None
-vp_row index (Some r) = if set.contains r.1.vps index then Some (start_vp index) else None
-
--- the flat state has under this id what the row holds
-pub record Shows (f : Flat) (id : ℕ) (row : Option (Row PartitionState)) : Type 0 where
-  pub part : get f.part id ≡ option_map part_row row
-  pub page : (page : ℕ) (pooled : Bool) → is_held id pooled (get f.page page) ≡ holds pooled page row
-  pub vp : (index : ℕ) → get f.vp (id, index) ≡ vp_row index row
-  pub port : (port : ℕ) → get f.port (id, port) ≡ None
-  pub conn : (conn : ℕ) → get f.conn (id, conn) ≡ None
-
+-- the machine stands for the flat state: its rows are tied to the flat maps, key by key
 pub record IsFlat (m : State) (f : Flat) : Type 0 where
-  pub rows : (id : ℕ) → Shows f id (get m.rows id)
-  pub mail : f.mail ≡ []
+  pub tied : IsTied m.rows f
   pub next : f.next ≡ m.next
   pub served : f.served ≡ m.served

@@ -1,9 +1,9 @@
-pub mod Asked
-pub mod Boot
-pub mod Change
+pub mod Access
+pub mod BootTree
 pub mod IsFlat
 pub mod Lasting
 pub mod Masks
-pub mod Pages
-pub mod Result
+pub mod Next
+pub mod Served
+pub mod Sound
 pub mod State

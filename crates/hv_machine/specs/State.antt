@@ -2,14 +2,10 @@
 use Rattle.std.specs.Prelude.{ℕ, refl}
 use Rattle.std.specs.Coded.{Coded, code_by, coded×, coded_ℕ, coded_option}
 use Rattle.std.specs.FinMap as map
-use Rattle.hv_abi.specs.declared.frame.Frame.{Frame}
 use Rattle.hv_partition.specs.Partition.{PartitionState, partition_code}
-use Rattle.hv_policy.specs.declared.event.Action.TheVariants.{Hypercall}
-use Rattle.hv_policy.specs.declared.event.Caller.{Caller}
-use Rattle.hv_policy.specs.declared.event.Event.{Event}
 use Rattle.hv_tree.specs.Rows.{Rows}
 
--- the partitions by id, each with its parent; how many pages boot gave, the id that the next partition gets, and how
+-- the partitions by id, each with its parent and without the room of its page sets; how many pages boot gave, the id that the next partition gets, and how
 -- many events were served
 pub record State : Type 0 where
   pub rows : Rows PartitionState
@@ -22,7 +18,3 @@ abbrev pub state_code : Coded State
 state_code =
     code_by (Rows PartitionState × (ℕ × (ℕ × ℕ))) (coded× (map.code coded_ℕ (coded× (coded_option coded_ℕ) partition_code)) (coded× coded_ℕ (coded× coded_ℕ coded_ℕ)))
     (λ s. (s.rows, (s.pages, (s.next, s.served)))) (λ t. record { rows = t.0; pages = t.1.0; next = t.1.1.0; served = t.1.1.1 }) (λ _. refl)
-
--- a hypercall as an event
-abbrev pub call_event : {A : Type 0} → Caller → Frame A → Event A
-call_event by frame = record { by = by; what = Hypercall frame }

@@ -1,31 +1,21 @@
 // The machine as it boots.
-ghost use Rattle.std.specs.Prelude.{◌≡◌, ◌≤◌, ◌&&◌, ℕ, Some, None, nat_le, nat_lt, IfOk, IfErr, OnOk};
+ghost use Rattle.std.specs.Prelude.{◌≡◌, ◌+◌, ◌≤◌, ◌&&◌, ℕ, Some, None, nat_le, nat_lt, IfOk, IfErr, OnOk};
 ghost use Rattle.std.specs.FinSet as set;
 ghost use Rattle.hv_defs.specs.declared.sizes.TheConstants.{MAX_VPS as VPS};
+ghost use Rattle.hv_partition.specs.Partition.{pages_in, with_pages};
 ghost use Rattle.hv_policy.specs.Boot.{boot as booted};
-ghost use Rattle.hv_machine.specs.Boot.{boot_fault, IsBootRefusal, IsBootRoot, IsBootTree};
+ghost use Rattle.hv_policy.specs.BootFault.{boot_fault, IsBootRefusal};
+ghost use Rattle.hv_machine.specs.BootTree.{IsBootRoot, IsBootTree};
 ghost use Rattle.hv_machine.specs.IsFlat.{IsFlat};
-ghost use Rattle.hv_machine.specs.Pages.{IsSound};
+ghost use Rattle.hv_machine.specs.Lasting.{IsLasting};
+ghost use Rattle.hv_machine.specs.Sound.{IsSound};
 
 use crate::machine::Machine;
 use hv_defs::{FIRST_CHILD_ID, Life, MAX_PAGES, MAX_VPS, ROOT_ID, VP_CHARGE};
-use hv_partition::Partition;
-use hv_policy::Config;
+use hv_partition::{PageKind, Partition};
+use hv_policy::{BootRefused, Config};
 use hv_tree::IdTree;
 use std::alloc::{AllocError, Allocator};
-
-/// Why a configuration was refused, in the order in which the causes are looked for.
-#[derive(Clone, Copy, PartialEq, Eq, Debug)]
-pub enum BootRefused {
-    /// No pages, or more than 65,536.
-    Pages,
-    /// More pooled pages than pages.
-    Pool,
-    /// No virtual processors, more than 64, or more than the pool pays for at 4 pages each.
-    Vps,
-    /// The host has no memory.
-    Memory,
-}
 
 impl<A: Allocator + Clone> Machine<A> {
     /// Makes the root partition of the configuration, and nothing else.
@@ -34,6 +24,9 @@ impl<A: Allocator + Clone> Machine<A> {
         ensures accepted { IfOk result (λ m. boot_fault config ≡ None) }
         ensures state { IfOk result (λ m. IsFlat m (booted config)) }
         ensures pages { IfOk result (λ m. m.pages ≡ config.pages) }
+
+        // The state is lawful, so that what is said of each flat state that the machine stands for is said of one.
+        ensures lasting { IfOk result IsLasting }
         ensures sound { IfOk result IsSound }
     {
         check(config)?;
@@ -93,41 +86,30 @@ fn make_root<A: Allocator + Clone>(alloc: A, config: Config) -> Result<Partition
     ensures { IfOk result (IsBootRoot config) }
 {
     let mut root = Partition::new(alloc, Life::Active, config.mask)?;
-    give_loose(&mut root, config.pool, config.pages)?;
-    give_pooled(&mut root, config.pool)?;
+    give(&mut root, PageKind::Loose, config.pool, config.pages)?;
+    give(&mut root, PageKind::Pooled, 0, config.pool)?;
     give_vps(&mut root, config.vps)?;
     Ok(root)
 }
 
-// Gives the pages from one number up to another as loose pages: from the highest down, in which order a set fills
-// fastest.
-fn give_loose<A: Allocator>(root: &mut Partition<A>, from: u32, to: u32) -> Result<(), AllocError>
+// Gives the pages from one number up to another: from the highest down, in which order a set fills fastest.
+fn give<A: Allocator>(
+    root: &mut Partition<A>,
+    kind: PageKind,
+    from: u32,
+    to: u32,
+) -> Result<(), AllocError>
     requires order { from ≤ to }
-    requires none { root.old.loose.pages ≡ set.empty }
-    ensures pages { OnOk result ((page : ℕ) → set.contains root.new.loose.pages page ≡ nat_le from page && nat_lt page to) }
-    ensures rest { root.new ≡ record root.old { loose = root.new.loose } }
+    requires none { (pages_in kind root.old).pages ≡ set.empty }
+    ensures pages { OnOk result ((page : ℕ) → set.contains (pages_in kind root.new).pages page ≡ nat_le from page && nat_lt page to) }
+    ensures count { OnOk result (set.len (pages_in kind root.new).pages + from ≡ to) }
+    ensures rest { root.new ≡ with_pages kind (pages_in kind root.new) root.old }
 {
-    root.reserve_loose((to - from) as usize)?;
+    root.reserve(kind, (to - from) as usize)?;
     let mut next = to;
     while next > from {
         next -= 1;
-        root.put_loose(next);
-    }
-    Ok(())
-}
-
-// Gives the pages below a number as pooled pages.
-fn give_pooled<A: Allocator>(root: &mut Partition<A>, to: u32) -> Result<(), AllocError>
-    requires { root.old.pooled.pages ≡ set.empty }
-    ensures pages { OnOk result ((page : ℕ) → set.contains root.new.pooled.pages page ≡ nat_lt page to) }
-    ensures count { OnOk result (set.len root.new.pooled.pages ≡ to) }
-    ensures rest { root.new ≡ record root.old { pooled = root.new.pooled } }
-{
-    root.reserve_pooled(to as usize)?;
-    let mut next = to;
-    while next > 0 {
-        next -= 1;
-        root.put_pooled(next);
+        root.put(kind, next);
     }
     Ok(())
 }

@@ -1,26 +1,19 @@
 //! The machine: one event on the partitions that are there is one step of the flat policy.
 //!
 //! The partitions are a tree, each with its pages and processors. [`Machine::boot`] makes the root
-//! partition, and [`Machine::step`] takes one event: it asks the rules that stand for it in the policy, in
-//! order, and serves it exactly where all of them are met. `IsFlat` in `specs/` says which flat state of
-//! the policy a machine stands for, and the contract of `step` says that its reply and its new state are
-//! those of the flat step. That each boot page stands in exactly one page set, that no partition uses more
-//! pages than it has pooled, and that none has a privilege that its parent lacks, holds of every machine.
+//! partition, and [`Machine::step`] takes one event: it asks P1 to P10 and hands the call to its chapter, which asks the
+//! rules that are left and serves the call exactly where all of them are met. `IsFlat` in `specs/` says which flat state of
+//! the policy a machine stands for, and the contract of `step` says that its reply and its new state are those of the flat
+//! step. Every machine stands for a lawful flat state (`IsLasting`), and so each boot page stands in exactly one page set, no
+//! partition uses more pages than it has pooled, and none has a privilege that its parent lacks.
 //!
 //! Chapters of the TLFS 4.0: "Partition Management", "Resource Management", "Hypercall Interface".
 #![tactic(auto)]
 
-mod ask;
+mod admit;
 mod boot;
-mod change;
-mod deposits;
+mod dispatch;
 mod machine;
-mod memory;
-mod partitions;
-mod properties;
-mod result;
 
-pub use boot::BootRefused;
-pub use hv_policy::{Action, Caller, Config, Event, Output, Reply, Rule};
+pub use hv_policy::{Action, BootRefused, Caller, Config, Event, Output, Reply, Rule, result_of};
 pub use machine::{HostRefused, Machine};
-pub use result::result_of;

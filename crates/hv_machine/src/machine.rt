@@ -1,27 +1,26 @@
 // The machine and its one step.
-ghost use Rattle.std.specs.Prelude.{◌≡◌, ◌<◌, None, Some, true, IsTrue, IfOk, OnOk, OnErr};
+ghost use Rattle.std.specs.Prelude.{◌≡◌, ◌<◌, None, true, IsTrue, IfOk, OnOk, OnErr};
 ghost use Rattle.hv_calls.specs.Call.{kind_of_call};
-ghost use Rattle.hv_policy.specs.Answer.{output_of};
-ghost use Rattle.hv_policy.specs.Call.{may_take_memory};
-ghost use Rattle.hv_policy.specs.Effect.{counted, served_effect};
+ghost use Rattle.hv_defs.specs.declared.sizes.TheConstants.{MAX_SERVED};
+ghost use Rattle.hv_policy.specs.Call.{is_served, may_take_memory};
 ghost use Rattle.hv_policy.specs.Flat.{Flat};
-ghost use Rattle.hv_policy.specs.Needs.{takes_memory};
-ghost use Rattle.hv_policy.specs.Step.{step, unmet};
+ghost use Rattle.hv_policy.specs.Result.{HasResult};
+ghost use Rattle.hv_policy.specs.Step.{NamesAsked, step, unmet};
 ghost use Rattle.hv_policy.specs.declared.event.Action.TheVariants.{Hypercall};
-ghost use Rattle.hv_machine.specs.Asked.{IsAllowed};
+ghost use Rattle.hv_tie.specs.Room.{roomless};
+ghost use Rattle.hv_policy.specs.CallEvent.{call_event};
+ghost use Rattle.hv_machine.specs.Access.{HasAccess};
 ghost use Rattle.hv_machine.specs.IsFlat.{IsFlat};
-ghost use Rattle.hv_machine.specs.Pages.{IsSound};
-ghost use Rattle.hv_machine.specs.State.{call_event};
-ghost use Rattle.hv_machine.specs.Change.{IsAsBefore};
+ghost use Rattle.hv_machine.specs.Lasting.{IsLasting};
+ghost use Rattle.hv_machine.specs.Served.{IsResult};
+ghost use Rattle.hv_machine.specs.Sound.{IsSound};
 
-use crate::ask::target;
-use crate::change::{Order, change};
-use crate::partitions::next_after;
-use crate::result::{refused, reply};
+use crate::dispatch::{dispatch, next_after};
 use hv_abi::Frame;
 use hv_calls::Call;
 use hv_partition::Partition;
-use hv_policy::{Action, Caller, Event, Output, Reply};
+use hv_policy::{Action, Caller, Event, Output, Reply, refused_reply, served_reply};
+use hv_tie::Refused;
 use hv_tree::IdTree;
 use std::alloc::Allocator;
 use std::marker::Model;
@@ -44,17 +43,17 @@ impl<A: Allocator> Model for Machine<A> {
     ghost coded = { state_code };
 
     ghost use Rattle.hv_machine.specs.Lasting.{IsLasting};
+    ghost use Rattle.hv_tie.specs.Room.{roomless};
 
-    ghost view = { λ m. record { rows = m.tree; pages = m.pages; next = m.next; served = m.served } };
+    ghost view = { λ m. record { rows = roomless m.tree; pages = m.pages; next = m.next; served = m.served } };
 
-    ghost invariant = { λ m. IsLasting (record { rows = m.tree; pages = m.pages; next = m.next; served = m.served }) };
+    ghost invariant = { λ m. IsLasting (record { rows = roomless m.tree; pages = m.pages; next = m.next; served = m.served }) };
 }
 
 /// Why an event couldn't be handled by the host. Nothing changed.
 #[derive(Clone, Copy, PartialEq, Eq, Debug)]
 pub enum HostRefused {
-    /// The host has no memory for it. Only for an event that would be served. Room that was made for it
-    /// before may stay.
+    /// The host has no memory for it. Only for an event that would be served.
     Memory,
 }
 
@@ -62,22 +61,25 @@ impl<A: Allocator + Clone> Machine<A> {
     /// Takes one event: serves it exactly where every rule that is asked of it is met, and else answers the
     /// first unmet one and changes nothing. The caller keeps the count of served events below 2^32 - 1.
     pub fn step(&mut self, event: &Event<A>) -> Result<Reply, HostRefused>
-        requires { self.old.served < 4294967295 }
+        requires { self.old.served < MAX_SERVED }
 
         // The reply and the new state are those of the flat step, of each flat state that the machine
         // stands for.
         ensures reply { (f : Flat) → IsFlat self.old f → IfOk result (λ r. r ≡ (step f event.now).1) }
         ensures state { (f : Flat) → IsFlat self.old f → OnOk result (IsFlat self.new (step f event.now).0) }
 
-        // The host refuses only what would be served, and only where it may take memory. Then nothing changes
-        // but room that may have been made, and the machine stands for the flat states that it stood for.
+        // The host refuses only what would be served, and only where it may take memory. Then nothing changes.
         ensures refused { (f : Flat) → IsFlat self.old f → OnErr result (unmet f event.now ≡ None) }
         ensures memory { OnErr result (IsTrue (may_take_memory event.now)) }
-        ensures kept { OnErr result (IsAsBefore self.old self.new) }
-        ensures flat { (f : Flat) → IsFlat self.old f → OnErr result (IsFlat self.new f) }
+        ensures kept { OnErr result (self.new ≡ self.old) }
 
-        // Each boot page stays in exactly one page set, what is in use within what is pooled, and each mask within
-        // the parent's.
+        // A refusal names a rule that is asked, and a reply to a hypercall has a result value.
+        ensures asked { IfOk result (NamesAsked event.now) }
+        ensures result { IfOk result HasResult }
+
+        // The machine stands for a lawful flat state, so that what is said of each is said of one; each boot page stays
+        // in exactly one page set, what is in use within what is pooled, and each mask within the parent's.
+        ensures lasting { IsLasting self.new }
         ensures pages { self.new.pages ≡ self.old.pages }
         ensures sound { IsSound self.new }
     {
@@ -86,81 +88,51 @@ impl<A: Allocator + Clone> Machine<A> {
 
     // One hypercall.
     fn hypercall(&mut self, by: Caller, frame: &Frame<A>) -> Result<Reply, HostRefused>
-        requires { self.old.served < 4294967295 }
+        requires { self.old.served < MAX_SERVED }
         ensures reply { (f : Flat) → IsFlat self.old f → IfOk result (λ r. r ≡ (step f (call_event by frame.now)).1) }
         ensures state { (f : Flat) → IsFlat self.old f → OnOk result (IsFlat self.new (step f (call_event by frame.now)).0) }
         ensures refused { (f : Flat) → IsFlat self.old f → OnErr result (unmet f (call_event by frame.now) ≡ None) }
         ensures memory { OnErr result (IsTrue (may_take_memory (call_event by frame.now))) }
-        ensures kept { OnErr result (IsAsBefore self.old self.new) }
-        ensures flat { (f : Flat) → IsFlat self.old f → OnErr result (IsFlat self.new f) }
+        ensures kept { OnErr result (self.new ≡ self.old) }
+        ensures asked { IfOk result (NamesAsked (call_event by frame.now)) }
+        ensures result { IfOk result HasResult }
+        ensures lasting { IsLasting self.new }
         ensures pages { self.new.pages ≡ self.old.pages }
-        ensures sound { IsSound self.new }
     {
-        // Opens the machine for the proof: that it is sound is known of its fields.
+        // Opens the machine for the proof: what it keeps is known of its fields.
         let _ = &self.tree;
-        let (shape, call) = match self.ask_call(by, frame) {
-            Ok(asked) => asked,
-            Err(rule) => return Ok(refused(frame, rule)),
+        let (shape, call) = match self.admit(by, frame) {
+            Ok(admitted) => admitted,
+            Err(rule) => return Ok(refused_reply(frame, rule)),
         };
-        let output = self.output(by, &call);
         match self.serve(by, &call) {
-            Ok(()) => Ok(reply(frame, shape, output)),
-            Err(refused) => Err(refused),
+            Ok(output) => Ok(served_reply(frame, shape, output)),
+            Err(Refused::Unmet(rule)) => Ok(refused_reply(frame, rule)),
+            Err(Refused::Memory) => Err(HostRefused::Memory),
         }
     }
 
-    // Serves a call: what it changes.
-    fn serve(&mut self, by: Caller, call: &Call) -> Result<(), HostRefused>
-        requires count { self.old.served < 4294967295 }
-        requires allowed { (f : Flat) → IsFlat self.old f → IsAllowed f by.part call.now }
-        ensures state { (f : Flat) → IsFlat self.old f → OnOk result (IsFlat self.new (counted (served_effect f by.part (Some call.now)))) }
-        ensures memory { OnErr result (IsTrue (takes_memory (kind_of_call call.now))) }
-        ensures kept { OnErr result (IsAsBefore self.old self.new) }
-        ensures flat { (f : Flat) → IsFlat self.old f → OnErr result (IsFlat self.new f) }
+    // Serves a call for which P1 to P10 are met, where its own rules are met too.
+    fn serve(&mut self, by: Caller, call: &Call) -> Result<Output, Refused>
+        requires count { self.old.served < MAX_SERVED }
+        requires known { IsTrue (is_served (kind_of_call call.now)) }
+        requires access { (f : Flat) → IsFlat self.old f → HasAccess f by.part call.now }
+        ensures outcome { (f : Flat) → IsFlat self.old f → IsResult f by.part call.now self.old result self.new }
+        ensures lasting { IsLasting self.new }
         ensures pages { self.new.pages ≡ self.old.pages }
-        ensures sound { IsSound self.new }
     {
-        let to = Order {
-            caller: by.part,
-            target: target(by, call),
-            next: self.next,
-        };
-        let Ok(()) = change(&mut self.tree, &self.alloc, call, to) else {
-            return Err(HostRefused::Memory);
-        };
-        self.next = next_after(call, self.next);
-        self.served += 1;
-        Ok(())
+        match dispatch(&mut self.tree, &self.alloc, by.part, self.next, call) {
+            Ok(output) => {
+                self.next = next_after(call, self.next);
+                self.served += 1;
+                Ok(output)
+            }
+            Err(refused) => Err(refused),
+        }
     }
 }
 
 impl<A: Allocator> Machine<A> {
-    // What a call answers that is served.
-    fn output(&self, by: Caller, call: &Call) -> Output
-        ensures { (f : Flat) → IsFlat self.now f → result ≡ output_of f by.part (Some call.now) }
-    {
-        let target = target(by, call);
-        let mut output = Output::new();
-        match call {
-            Call::CreatePartition { .. } => output.push_number(self.next),
-            Call::GetPartitionProperty { code, .. } => {
-                output.push_number(self.property_value(target, *code));
-            }
-            Call::GetPartitionId => output.push_number(by.part),
-            Call::GetNextChildPartition { previous, .. } => {
-                output.push_number(self.next_child(target, *previous));
-            }
-            Call::WithdrawMemory { .. } => output.push_number(self.lowest_pooled(target)),
-            Call::GetMemoryBalance { .. } => {
-                let balance = self.memory_balance(target);
-                output.push_number(balance.available);
-                output.push_number(balance.in_use);
-            }
-            _ => {}
-        }
-        output
-    }
-
     /// How many events were served.
     pub fn served(&self) -> u64
         ensures { result ≡ self.now.served }
@@ -175,9 +147,9 @@ impl<A: Allocator> Machine<A> {
         self.next
     }
 
-    /// The partitions, as a tree.
+    /// The partitions, as a tree. What contracts see of a machine is this tree without the room of its page sets.
     pub fn tree(&self) -> &IdTree<Partition<A>, A>
-        ensures { result.now ≡ self.now.rows }
+        ensures { roomless result.now ≡ self.now.rows }
     {
         &self.tree
     }

@@ -1,2 +1,3 @@
 pub mod Disjoint
 pub mod Vps
+pub mod Written

@@ -8,6 +8,8 @@ use Rattle.hv_defs.specs.declared.life.Life.{Life}
 use Rattle.hv_defs.specs.declared.life.Life.TheVariants.{Created, Active, Finalized}
 use Rattle.hv_defs.specs.declared.sizes.TheConstants.{CPU_CAP_START, CPU_RESERVE_START, CPU_WEIGHT_START, MAX_VPS, PARTITION_CHARGE, VP_CHARGE}
 use Rattle.hv_pages.specs.PageSet.{PagesAndRoom, pages_and_room_code}
+use Rattle.hv_partition.specs.declared.kind.PageKind.{PageKind}
+use Rattle.hv_partition.specs.declared.kind.PageKind.TheVariants.{Loose, Pooled}
 use Rattle.hv_privs.specs.Privileges.{bits_of, of}
 use Rattle.hv_privs.specs.declared.Privileges.{Privileges}
 
@@ -53,6 +55,16 @@ partition_code =
     (λ p. (p.life, (p.mask, (p.reserve, (p.cap, (p.weight, (p.loose, (p.pooled, p.vps))))))))
     (λ t. record { life = t.0; mask = t.1.0; reserve = t.1.1.0; cap = t.1.1.1.0; weight = t.1.1.1.1.0; loose = t.1.1.1.1.1.0; pooled = t.1.1.1.1.1.1.0; vps = t.1.1.1.1.1.1.1 })
     (λ _. refl)
+
+-- a partition's pages of a kind
+abbrev pub pages_in : PageKind → PartitionState → PagesAndRoom
+pages_in Loose p = p.loose
+pages_in Pooled p = p.pooled
+
+-- the partition with other pages of a kind
+abbrev pub with_pages : PageKind → PagesAndRoom → PartitionState → PartitionState
+with_pages Loose pages p = record p { loose = pages }
+with_pages Pooled pages p = record p { pooled = pages }
 
 -- no pages, and no memory for any
 abbrev pub no_pages : PagesAndRoom

@@ -4,12 +4,14 @@
 //! stays the same. Which partition may ask for a change, and when, is not said here.
 //!
 //! Contracts see a partition as the record of these parts (`PartitionState` in `specs/`), its processors as the
-//! set of their indexes. Memory is asked for in `new`, in `reserve_loose`, in `reserve_pooled` and in `add_vp`
-//! alone, and a call that is refused it changes nothing.
+//! set of their indexes. Memory is asked for in `new`, in `reserve` and in `add_vp` alone, and a call that is refused it
+//! changes nothing.
 #![tactic(auto)]
 
+mod kind;
 mod partition;
 
+pub use kind::PageKind;
 pub use partition::Partition;
 
 #[cfg(test)]

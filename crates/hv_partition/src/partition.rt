@@ -3,8 +3,9 @@ ghost use Rattle.std.specs.Prelude.{◌≡◌, ◌+◌, ◌≤◌, ◌<◌, ◌�
 ghost use Rattle.std.specs.FinSet as set;
 ghost use Rattle.hv_defs.specs.declared.sizes.TheConstants.{MAX_VPS};
 ghost use Rattle.hv_pages.specs.PageSet.{IsDisjoint, IsLowest};
-ghost use Rattle.hv_partition.specs.Partition.{new_partition, in_use, available, finalized};
+ghost use Rattle.hv_partition.specs.Partition.{new_partition, in_use, available, finalized, pages_in, with_pages};
 
+use crate::PageKind;
 use hv_defs::{
     CPU_CAP_START, CPU_RESERVE_START, CPU_WEIGHT_START, Life, PARTITION_CHARGE, VP_CHARGE,
 };
@@ -107,18 +108,14 @@ impl<A: Allocator> Partition<A> {
         self.weight
     }
 
-    /// The loose pages.
-    pub fn loose(&self) -> &PageSet<A>
-        ensures { result.now ≡ self.now.loose }
+    /// The pages of a kind.
+    pub fn pages(&self, kind: PageKind) -> &PageSet<A>
+        ensures { result.now ≡ pages_in kind self.now }
     {
-        &self.loose
-    }
-
-    /// The pooled pages.
-    pub fn pooled(&self) -> &PageSet<A>
-        ensures { result.now ≡ self.now.pooled }
-    {
-        &self.pooled
+        match kind {
+            PageKind::Loose => &self.loose,
+            PageKind::Pooled => &self.pooled,
+        }
     }
 
     /// Whether the partition has the processor with this index.
@@ -211,84 +208,68 @@ impl<A: Allocator> Partition<A> {
 
 // The pages. What a call needs of a set, and what it promises of it, is what `PageSet` asks and promises.
 impl<A: Allocator> Partition<A> {
-    /// Makes room for at least `more` changes of the loose pages.
+    /// Makes room for at least `more` changes of the pages of a kind.
     ///
     /// `Err` where there is no memory for it, and then the partition is as it was. Room that is there already
     /// always suffices.
-    pub fn reserve_loose(&mut self, more: usize) -> Result<(), AllocError>
-        ensures ok { OnOk result (more ≤ self.new.loose.room) }
-        ensures enough { more ≤ self.old.loose.room → IsOk result }
+    pub fn reserve(&mut self, kind: PageKind, more: usize) -> Result<(), AllocError>
+        ensures ok { OnOk result (more ≤ (pages_in kind self.new).room) }
+        ensures enough { more ≤ (pages_in kind self.old).room → IsOk result }
         ensures unchanged { OnErr result (self.new ≡ self.old) }
 
         // In either case.
-        ensures pages { self.new.loose.pages ≡ self.old.loose.pages }
-        ensures room { self.old.loose.room ≤ self.new.loose.room }
-        ensures rest { self.new ≡ record self.old { loose = self.new.loose } }
+        ensures pages { (pages_in kind self.new).pages ≡ (pages_in kind self.old).pages }
+        ensures room { (pages_in kind self.old).room ≤ (pages_in kind self.new).room }
+        ensures rest { self.new ≡ with_pages kind (pages_in kind self.new) self.old }
     {
-        self.loose.reserve(more)
+        match kind {
+            PageKind::Loose => self.loose.reserve(more),
+            PageKind::Pooled => self.pooled.reserve(more),
+        }
     }
 
-    /// Makes room for at least `more` changes of the pooled pages.
-    ///
-    /// `Err` where there is no memory for it, and then the partition is as it was. Room that is there already
-    /// always suffices.
-    pub fn reserve_pooled(&mut self, more: usize) -> Result<(), AllocError>
-        ensures ok { OnOk result (more ≤ self.new.pooled.room) }
-        ensures enough { more ≤ self.old.pooled.room → IsOk result }
-        ensures unchanged { OnErr result (self.new ≡ self.old) }
-
-        // In either case.
-        ensures pages { self.new.pooled.pages ≡ self.old.pooled.pages }
-        ensures room { self.old.pooled.room ≤ self.new.pooled.room }
-        ensures rest { self.new ≡ record self.old { pooled = self.new.pooled } }
+    /// Puts in a page of a kind that is not among them. The page must find room.
+    pub fn put(&mut self, kind: PageKind, page: u32)
+        requires room { 1 ≤ (pages_in kind self.old).room }
+        requires new { set.contains (pages_in kind self.old).pages page ≡ false }
+        ensures pages { (pages_in kind self.new).pages ≡ set.insert (pages_in kind self.old).pages page }
+        ensures room { (pages_in kind self.old).room ≤ (pages_in kind self.new).room + 1 }
+        ensures rest { self.new ≡ with_pages kind (pages_in kind self.new) self.old }
     {
-        self.pooled.reserve(more)
+        match kind {
+            PageKind::Loose => self.loose.put(page),
+            PageKind::Pooled => self.pooled.put(page),
+        }
     }
 
-    /// Puts in a loose page that is not among them. The page must find room.
-    pub fn put_loose(&mut self, page: u32)
-        requires room { 1 ≤ self.old.loose.room }
-        requires new { set.contains self.old.loose.pages page ≡ false }
-        ensures pages { self.new.loose.pages ≡ set.insert self.old.loose.pages page }
-        ensures room { self.old.loose.room ≤ self.new.loose.room + 1 }
-        ensures rest { self.new ≡ record self.old { loose = self.new.loose } }
+    /// Takes a page out of those of a kind, and says whether it was among them. It asks for room.
+    pub fn take(&mut self, kind: PageKind, page: u32) -> bool
+        requires { 1 ≤ (pages_in kind self.old).room }
+        ensures held { result ≡ set.contains (pages_in kind self.old).pages page }
+        ensures pages { (pages_in kind self.new).pages ≡ set.remove (pages_in kind self.old).pages page }
+        ensures room { (pages_in kind self.old).room ≤ (pages_in kind self.new).room + 1 }
+        ensures rest { self.new ≡ with_pages kind (pages_in kind self.new) self.old }
     {
-        self.loose.put(page);
+        match kind {
+            PageKind::Loose => self.loose.take(page),
+            PageKind::Pooled => self.pooled.take(page),
+        }
     }
 
-    /// Puts in a pooled page that is not among them. The page must find room.
-    pub fn put_pooled(&mut self, page: u32)
-        requires room { 1 ≤ self.old.pooled.room }
-        requires new { set.contains self.old.pooled.pages page ≡ false }
-        ensures pages { self.new.pooled.pages ≡ set.insert self.old.pooled.pages page }
-        ensures room { self.old.pooled.room ≤ self.new.pooled.room + 1 }
-        ensures rest { self.new ≡ record self.old { pooled = self.new.pooled } }
-    {
-        self.pooled.put(page);
-    }
-
-    /// Takes a page out of the loose ones, and says whether it was among them. It asks for room.
-    pub fn take_loose(&mut self, page: u32) -> bool
-        requires { 1 ≤ self.old.loose.room }
-        ensures held { result ≡ set.contains self.old.loose.pages page }
-        ensures pages { self.new.loose.pages ≡ set.remove self.old.loose.pages page }
-        ensures room { self.old.loose.room ≤ self.new.loose.room + 1 }
-        ensures rest { self.new ≡ record self.old { loose = self.new.loose } }
-    {
-        self.loose.take(page)
-    }
-
-    /// Takes out the lowest pooled page, or answers `None` where there are none. It takes constant time.
-    pub fn take_lowest_pooled(&mut self) -> Option<u32>
-        ensures none { IsNone result ↔ (self.old.pooled.pages ≡ set.empty) }
-        ensures empty { IfNone result (self.new.pooled.pages ≡ self.old.pooled.pages) }
-        ensures lowest { IfSome result (IsLowest self.old.pooled.pages) }
+    /// Takes out the lowest page of a kind, or answers `None` where there are none. It takes constant time.
+    pub fn take_lowest(&mut self, kind: PageKind) -> Option<u32>
+        ensures none { IsNone result ↔ ((pages_in kind self.old).pages ≡ set.empty) }
+        ensures empty { IfNone result ((pages_in kind self.new).pages ≡ (pages_in kind self.old).pages) }
+        ensures lowest { IfSome result (IsLowest (pages_in kind self.old).pages) }
         ensures taken { IfSome result (λ page.
-            self.new.pooled.pages ≡ set.remove self.old.pooled.pages page) }
-        ensures room { self.old.pooled.room ≤ self.new.pooled.room }
-        ensures rest { self.new ≡ record self.old { pooled = self.new.pooled } }
+            (pages_in kind self.new).pages ≡ set.remove (pages_in kind self.old).pages page) }
+        ensures room { (pages_in kind self.old).room ≤ (pages_in kind self.new).room }
+        ensures rest { self.new ≡ with_pages kind (pages_in kind self.new) self.old }
     {
-        self.pooled.take_lowest()
+        match kind {
+            PageKind::Loose => self.loose.take_lowest(),
+            PageKind::Pooled => self.pooled.take_lowest(),
+        }
     }
 
     /// Takes over all pages of a partition that is gone, loose and pooled, as loose pages, and gives that

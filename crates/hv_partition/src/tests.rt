@@ -11,9 +11,9 @@ use std::test::Fail;
 fn with_pooled(alloc: Global, first: u32, end: u32) -> Result<Partition<Global>, AllocError> {
     let mut partition = Partition::new(alloc, Life::Active, Privileges::NEW_PARTITION)?;
     for page in first..end {
-        partition.reserve_pooled(1)?;
-        if !partition.pooled().holds(page) {
-            partition.put_pooled(page);
+        partition.reserve(PageKind::Pooled, 1)?;
+        if !partition.pages(PageKind::Pooled).holds(page) {
+            partition.put(PageKind::Pooled, page);
         }
     }
     Ok(partition)
@@ -27,8 +27,8 @@ fn starts_and_is_written(rt: HostRuntime) -> Result<(), Fail> {
     assert_eq!(rt; partition.cpu_reserve(), 0);
     assert_eq!(rt; partition.cpu_cap(), 65_536);
     assert_eq!(rt; partition.cpu_weight(), 100);
-    assert_eq!(rt; partition.loose().count(), 0);
-    assert_eq!(rt; partition.pooled().count(), 0);
+    assert_eq!(rt; partition.pages(PageKind::Loose).count(), 0);
+    assert_eq!(rt; partition.pages(PageKind::Pooled).count(), 0);
     assert_eq!(rt; partition.vp_count(), 0);
     partition.set_life(Life::Active);
     partition.set_mask(Privileges::CREATE_PARTITIONS);
@@ -50,12 +50,12 @@ fn pages_are_charged(rt: HostRuntime) -> Result<(), Fail> {
     partition.add_vp(0)?;
     assert!(rt; partition.has_vp(0));
     assert_eq!(rt; partition.in_use(1), 6);
-    assert!(rt; partition.pooled().count() >= 6);
+    assert!(rt; partition.pages(PageKind::Pooled).count() >= 6);
     assert_eq!(rt; partition.available(1), 6);
     partition.finalize();
     assert_eq!(rt; partition.life(), Life::Finalized);
     assert_eq!(rt; partition.vp_count(), 0);
-    assert_eq!(rt; partition.pooled().count(), 12);
+    assert_eq!(rt; partition.pages(PageKind::Pooled).count(), 12);
     assert_eq!(rt; partition.available(1), 10);
     Ok(())
 }
@@ -66,10 +66,10 @@ fn with_pages(alloc: Global, loose: u32, pooled: u32) -> Result<Partition<Global
     ensures pooled { IfOk result (λ p. p.pooled.pages ≡ set.insert set.empty pooled) }
 {
     let mut partition = Partition::new(alloc, Life::Active, Privileges::NEW_PARTITION)?;
-    partition.reserve_loose(1)?;
-    partition.put_loose(loose);
-    partition.reserve_pooled(1)?;
-    partition.put_pooled(pooled);
+    partition.reserve(PageKind::Loose, 1)?;
+    partition.put(PageKind::Loose, loose);
+    partition.reserve(PageKind::Pooled, 1)?;
+    partition.put(PageKind::Pooled, pooled);
     Ok(partition)
 }
 
@@ -77,18 +77,20 @@ fn with_pages(alloc: Global, loose: u32, pooled: u32) -> Result<Partition<Global
 fn pages_move(rt: HostRuntime) -> Result<(), Fail> {
     let mut parent = with_pages(rt.alloc(), 7, 1)?;
     let gone = with_pages(rt.alloc(), 9, 3)?;
-    parent.reserve_loose(2)?;
+    parent.reserve(PageKind::Loose, 2)?;
     assert!(rt;
-        gone.loose().count() == 1 && gone.pooled().count() == 1 && parent.loose().room() >= 2
+        gone.pages(PageKind::Loose).count() == 1
+            && gone.pages(PageKind::Pooled).count() == 1
+            && parent.pages(PageKind::Loose).room() >= 2
     );
     parent.take_over(gone);
-    assert_eq!(rt; parent.loose().count(), 3);
+    assert_eq!(rt; parent.pages(PageKind::Loose).count(), 3);
     for page in [3, 7, 9] {
-        assert!(rt; parent.loose().holds(page));
+        assert!(rt; parent.pages(PageKind::Loose).holds(page));
     }
-    parent.reserve_loose(1)?;
-    assert!(rt; parent.take_loose(9) && !parent.loose().holds(9));
-    assert_eq!(rt; parent.take_lowest_pooled(), Some(1));
-    assert_eq!(rt; parent.take_lowest_pooled(), None);
+    parent.reserve(PageKind::Loose, 1)?;
+    assert!(rt; parent.take(PageKind::Loose, 9) && !parent.pages(PageKind::Loose).holds(9));
+    assert_eq!(rt; parent.take_lowest(PageKind::Pooled), Some(1));
+    assert_eq!(rt; parent.take_lowest(PageKind::Pooled), None);
     Ok(())
 }

@@ -9,7 +9,7 @@ use Rattle.hv_abi.specs.declared.frame.Frame.{Frame}
 use Rattle.hv_abi.specs.Check.{call_of, is_input_valid, are_lists_placed, fault_at, first_fault}
 use Rattle.hv_abi.specs.CallRow.{row_of}
 use Rattle.hv_policy.specs.Asked.{call_rules}
-use Rattle.hv_policy.specs.Call.{is_served_code, served_kind, test_kind}
+use Rattle.hv_policy.specs.Call.{is_served_code, served_kind}
 use Rattle.hv_policy.specs.Flat.{Flat}
 use Rattle.hv_policy.specs.Result.{start_if_valid, refused_reps}
 use Rattle.hv_policy.specs.Step.{first_unmet}
@@ -30,10 +30,6 @@ abbrev pub first_of : Option CallKind → Bool → Bool → Option Rule → Opti
 first_of None valid placed rest = Some CallCode
 first_of (Some call) valid placed rest = cond (not valid) (Some InputValue) (cond (not placed) (Some Alignment) rest)
 
--- a code that isn't served
-pub not_served : {A : Type 0} (frame : Frame A) → is_served_code (bits frame.rcx 0 16) ≡ false → served_kind frame ≡ None
-not_served frame h = ap (λ b. cond b (call_of frame) None) h
-
 pub is_call : {A : Type 0} (frame : Frame A) → is_served_code (bits frame.rcx 0 16) ≡ true → served_kind frame ≡ call_of frame
 is_call frame h = ap (λ b. cond b (call_of frame) None) h
 
@@ -48,9 +44,6 @@ code_of_call frame h = by (is_served_code (bits frame.rcx 0 16)) refl h
 module _ {A : Type 0} (f : Flat) (caller : Caller) (frame : Frame A) where
   abbrev event : Event A
   event = record { by = caller; what = Hypercall frame }
-
-  pub unmet_code : served_kind frame ≡ None → first_unmet f event (call_rules (served_kind frame)) ≡ Some CallCode
-  unmet_code none = subst (λ c. first_unmet f event (call_rules c) ≡ Some CallCode) (sym none) (ap (λ c. cond (not (test_kind (λ call frame. true) frame c)) (Some CallCode) None) none)
 
   faulty : (c : Option CallKind) → served_kind frame ≡ c → (wrong : AbiFault) → fault_at frame c ≡ Some wrong → first_unmet f event (call_rules c) ≡ Some (rule_of wrong)
   faulty None s wrong h = rw s (known wrong h)
@@ -98,6 +91,3 @@ module _ {A : Type 0} (frame : Frame A) (served : is_served_code (bits frame.rcx
 
   pub reps_of_fault : (wrong : AbiFault) → first_fault frame ≡ Some wrong → refused_reps frame ≡ reps_by (bits frame.rcx 48 12) wrong
   reps_of_fault wrong h = ap (start_if_valid frame.rcx) (is_call frame served) ∙ reps_at (call_of frame) wrong h
-
-  pub reps_of_shape : (call : CallKind) → call_of frame ≡ Some call → is_input_valid (row_of call) frame.rcx ≡ true → refused_reps frame ≡ bits frame.rcx 48 12
-  reps_of_shape call is valid = ap (start_if_valid frame.rcx) (is_call frame served ∙ is) ∙ ap (λ v. cond v (bits frame.rcx 48 12) 0) valid

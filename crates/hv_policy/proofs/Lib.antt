@@ -1,3 +1,4 @@
 pub mod Frames
 pub mod Pairs
+pub mod Rows
 pub mod Unmet

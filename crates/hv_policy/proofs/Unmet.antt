@@ -11,7 +11,7 @@ use Rattle.hv_policy.specs.declared.event.Caller.{Caller}
 use Rattle.hv_policy.specs.declared.event.Event.{Event}
 use Rattle.hv_policy.specs.declared.rule.Rule.{Rule}
 use Rattle.hv_policy.specs.declared.rule.Rule.TheVariants.{CallerExists, CallerActive, CallerVpExists}
-use Rattle.hv_policy.specs.Asked.{caller_rules, call_rules, frame_rules, right_rules, action_rules}
+use Rattle.hv_policy.specs.Asked.{caller_rules, call_rules, frame_rules, access_rules, action_rules}
 use Rattle.hv_policy.specs.Call.{served_call, served_kind, test_call}
 use Rattle.hv_policy.specs.Flat.{Flat}
 use Rattle.hv_policy.specs.Met.{met, call_met, unmet_of, on_part, is_active}
@@ -66,39 +66,39 @@ module _ {A : Type 0} (f : Flat) (caller : Caller) (frame : Frame A) where
       of_call : (rules : List Rule) → find (λ rule. not (test_call (call_met rule f caller.part) (served_call frame))) rules ≡ unmet_of f caller.part call rules
       of_call rules = ap (λ c. find (λ rule. not (test_call (call_met rule f caller.part) c)) rules) served
 
-      by_kind : (kind : CallKind) → first_unmet f event (right_rules ++ further_rules kind) ≡ unmet_of f caller.part call (right_rules ++ further_rules kind)
-      by_kind CreatePartition = of_call (right_rules ++ further_rules CreatePartition)
-      by_kind InitializePartition = of_call (right_rules ++ further_rules InitializePartition)
-      by_kind FinalizePartition = of_call (right_rules ++ further_rules FinalizePartition)
-      by_kind DeletePartition = of_call (right_rules ++ further_rules DeletePartition)
-      by_kind GetPartitionProperty = of_call (right_rules ++ further_rules GetPartitionProperty)
-      by_kind SetPartitionProperty = of_call (right_rules ++ further_rules SetPartitionProperty)
-      by_kind GetPartitionId = of_call (right_rules ++ further_rules GetPartitionId)
-      by_kind GetNextChildPartition = of_call (right_rules ++ further_rules GetNextChildPartition)
-      by_kind DepositMemory = of_call (right_rules ++ further_rules DepositMemory)
-      by_kind WithdrawMemory = of_call (right_rules ++ further_rules WithdrawMemory)
-      by_kind GetMemoryBalance = of_call (right_rules ++ further_rules GetMemoryBalance)
-      by_kind CreateVp = of_call (right_rules ++ further_rules CreateVp)
-      by_kind DeleteVp = of_call (right_rules ++ further_rules DeleteVp)
-      by_kind GetVpRegisters = of_call (right_rules ++ further_rules GetVpRegisters)
-      by_kind SetVpRegisters = of_call (right_rules ++ further_rules SetVpRegisters)
-      by_kind DeletePort = of_call (right_rules ++ further_rules DeletePort)
-      by_kind DisconnectPort = of_call (right_rules ++ further_rules DisconnectPort)
-      by_kind PostMessage = of_call (right_rules ++ further_rules PostMessage)
-      by_kind SignalEvent = of_call (right_rules ++ further_rules SignalEvent)
-      by_kind CreatePort = of_call (right_rules ++ further_rules CreatePort)
-      by_kind ConnectPort = of_call (right_rules ++ further_rules ConnectPort)
+      by_kind : (kind : CallKind) → first_unmet f event (access_rules ++ further_rules kind) ≡ unmet_of f caller.part call (access_rules ++ further_rules kind)
+      by_kind CreatePartition = of_call (access_rules ++ further_rules CreatePartition)
+      by_kind InitializePartition = of_call (access_rules ++ further_rules InitializePartition)
+      by_kind FinalizePartition = of_call (access_rules ++ further_rules FinalizePartition)
+      by_kind DeletePartition = of_call (access_rules ++ further_rules DeletePartition)
+      by_kind GetPartitionProperty = of_call (access_rules ++ further_rules GetPartitionProperty)
+      by_kind SetPartitionProperty = of_call (access_rules ++ further_rules SetPartitionProperty)
+      by_kind GetPartitionId = of_call (access_rules ++ further_rules GetPartitionId)
+      by_kind GetNextChildPartition = of_call (access_rules ++ further_rules GetNextChildPartition)
+      by_kind DepositMemory = of_call (access_rules ++ further_rules DepositMemory)
+      by_kind WithdrawMemory = of_call (access_rules ++ further_rules WithdrawMemory)
+      by_kind GetMemoryBalance = of_call (access_rules ++ further_rules GetMemoryBalance)
+      by_kind CreateVp = of_call (access_rules ++ further_rules CreateVp)
+      by_kind DeleteVp = of_call (access_rules ++ further_rules DeleteVp)
+      by_kind GetVpRegisters = of_call (access_rules ++ further_rules GetVpRegisters)
+      by_kind SetVpRegisters = of_call (access_rules ++ further_rules SetVpRegisters)
+      by_kind DeletePort = of_call (access_rules ++ further_rules DeletePort)
+      by_kind DisconnectPort = of_call (access_rules ++ further_rules DisconnectPort)
+      by_kind PostMessage = of_call (access_rules ++ further_rules PostMessage)
+      by_kind SignalEvent = of_call (access_rules ++ further_rules SignalEvent)
+      by_kind CreatePort = of_call (access_rules ++ further_rules CreatePort)
+      by_kind ConnectPort = of_call (access_rules ++ further_rules ConnectPort)
 
-      past_frame : unmet f event ≡ unmet_of f caller.part call (right_rules ++ further_rules (kind_of_call call))
+      past_frame : unmet f event ≡ unmet_of f caller.part call (access_rules ++ further_rules (kind_of_call call))
       past_frame =
           past_caller ∙ ap (λ k. first_unmet f event (call_rules k)) is
-          ∙ find-back (λ rule. not (met rule f event)) frame_rules (right_rules ++ further_rules (kind_of_call call)) frame_met
+          ∙ find-back (λ rule. not (met rule f event)) frame_rules (access_rules ++ further_rules (kind_of_call call)) frame_met
           ∙ by_kind (kind_of_call call)
 
       -- one of P8 to P10 refuses
-      pub unmet_by_right : (rule : Rule) → unmet_of f caller.part call right_rules ≡ Some rule → unmet f event ≡ Some rule
-      unmet_by_right rule h = past_frame ∙ find-front (λ rule. not (call_met rule f caller.part call)) right_rules (further_rules (kind_of_call call)) rule h
+      pub unmet_by_access : (rule : Rule) → unmet_of f caller.part call access_rules ≡ Some rule → unmet f event ≡ Some rule
+      unmet_by_access rule h = past_frame ∙ find-front (λ rule. not (call_met rule f caller.part call)) access_rules (further_rules (kind_of_call call)) rule h
 
       -- P1 to P10 are met: what is left are the call's own rules
-      pub unmet_past_right : unmet_of f caller.part call right_rules ≡ None → unmet f event ≡ unmet_of f caller.part call (further_rules (kind_of_call call))
-      unmet_past_right h = past_frame ∙ find-back (λ rule. not (call_met rule f caller.part call)) right_rules (further_rules (kind_of_call call)) h
+      pub unmet_past_access : unmet_of f caller.part call access_rules ≡ None → unmet f event ≡ unmet_of f caller.part call (further_rules (kind_of_call call))
+      unmet_past_access h = past_frame ∙ find-back (λ rule. not (call_met rule f caller.part call)) access_rules (further_rules (kind_of_call call)) h

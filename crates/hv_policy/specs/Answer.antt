@@ -6,7 +6,7 @@ use Rattle.hv_defs.specs.Bits.{bits}
 use Rattle.hv_abi.specs.declared.call_kind.CallKind.{CallKind}
 use Rattle.hv_abi.specs.declared.frame.Frame.{Frame}
 use Rattle.hv_calls.specs.declared.call.Call.{Call}
-use Rattle.hv_calls.specs.declared.call.Call.TheVariants.{CreatePartition, GetPartitionProperty, GetPartitionId, GetNextChildPartition, WithdrawMemory, GetMemoryBalance}
+use Rattle.hv_calls.specs.declared.call.Call.TheVariants.{CreatePartition, InitializePartition, FinalizePartition, DeletePartition, GetPartitionProperty, SetPartitionProperty, GetPartitionId, GetNextChildPartition, DepositMemory, WithdrawMemory, GetMemoryBalance, CreateVp, DeleteVp, GetVpRegisters, SetVpRegisters, DeletePort, DisconnectPort, PostMessage, SignalEvent, CreatePort, ConnectPort}
 use Rattle.hv_policy.specs.declared.event.Action.{Action}
 use Rattle.hv_policy.specs.declared.event.Action.TheVariants.{Hypercall}
 use Rattle.hv_policy.specs.declared.event.Event.{Event}
@@ -32,8 +32,9 @@ page_or_0 (Some page) = page
 
 -- the value of a property in a partition's row, 0 where either is missing
 abbrev pub value_of : Option Property → Option PartRow → ℕ
+value_of None row = 0
+value_of (Some property) None = 0
 value_of (Some property) (Some row) = property_value property row
-value_of property row = 0
 
 -- the output bytes of a call, about its target; of a rep call those of its own element
 abbrev pub output : Call → Flat → ℕ → ℕ → List ℕ
@@ -44,7 +45,21 @@ output (GetNextChildPartition partition previous) f caller target = to_le_bytes 
 output (WithdrawMemory partition) f caller target = to_le_bytes w64 (page_or_0 (lowest_pooled f target))
 output (GetMemoryBalance partition) f caller target =
     to_le_bytes w64 (available f target) ++ to_le_bytes w64 (in_use f target)
-output call f caller target = []
+output (InitializePartition partition) f caller target = []
+output (FinalizePartition partition) f caller target = []
+output (DeletePartition partition) f caller target = []
+output (SetPartitionProperty partition code value) f caller target = []
+output (DepositMemory partition page) f caller target = []
+output (CreateVp partition vp) f caller target = []
+output (DeleteVp partition vp) f caller target = []
+output (GetVpRegisters partition vp name) f caller target = []
+output (SetVpRegisters partition vp name value) f caller target = []
+output (DeletePort partition port) f caller target = []
+output (DisconnectPort partition connection) f caller target = []
+output (PostMessage connection message_type payload) f caller target = []
+output (SignalEvent connection flag) f caller target = []
+output (CreatePort partition port peer port_kind sint vp base count) f caller target = []
+output (ConnectPort partition connection port_partition port port_kind) f caller target = []
 
 abbrev pub output_of : Flat → ℕ → Option Call → List ℕ
 output_of f caller None = []

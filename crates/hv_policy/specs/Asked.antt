@@ -18,13 +18,13 @@ abbrev pub frame_rules : List Rule
 frame_rules = CallCode ∷ InputValue ∷ Alignment ∷ Parameters ∷ []
 
 -- P8 to P10, which ask whether the caller may call it on this target
-abbrev pub right_rules : List Rule
-right_rules = Privilege ∷ TargetExists ∷ Kinship ∷ []
+abbrev pub access_rules : List Rule
+access_rules = Privilege ∷ TargetExists ∷ Kinship ∷ []
 
 -- the rules of a call: of one that isn't served P4 alone
 abbrev pub call_rules : Option CallKind → List Rule
 call_rules None = CallCode ∷ []
-call_rules (Some kind) = frame_rules ++ (right_rules ++ further_rules kind)
+call_rules (Some kind) = frame_rules ++ (access_rules ++ further_rules kind)
 
 abbrev pub action_rules : {A : Type 0} → Action A → List Rule
 action_rules (Hypercall frame) = call_rules (served_kind frame)

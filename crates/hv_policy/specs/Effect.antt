@@ -4,7 +4,7 @@ use Rattle.std.specs.List.{filter}
 use Rattle.std.specs.Ordering.{nat_cmp}
 use Rattle.std.specs.FinMap.{FinMap, get, insert, remove, entries, from_entries, retain_keys}
 use Rattle.hv_calls.specs.declared.call.Call.{Call}
-use Rattle.hv_calls.specs.declared.call.Call.TheVariants.{CreatePartition, InitializePartition, FinalizePartition, DeletePartition, SetPartitionProperty, DepositMemory, WithdrawMemory}
+use Rattle.hv_calls.specs.declared.call.Call.TheVariants.{CreatePartition, InitializePartition, FinalizePartition, DeletePartition, GetPartitionProperty, SetPartitionProperty, GetPartitionId, GetNextChildPartition, DepositMemory, WithdrawMemory, GetMemoryBalance, CreateVp, DeleteVp, GetVpRegisters, SetVpRegisters, DeletePort, DisconnectPort, PostMessage, SignalEvent, CreatePort, ConnectPort}
 use Rattle.hv_defs.specs.declared.life.Life.TheVariants.{Created, Active, Finalized}
 use Rattle.hv_defs.specs.declared.sizes.TheConstants.{CPU_RESERVE_START, CPU_CAP_START, CPU_WEIGHT_START}
 use Rattle.hv_privs.specs.declared.Privileges.{Privileges}
@@ -89,7 +89,20 @@ call_effect (DepositMemory partition page) f caller target =
     record f { page = insert f.page page (record { owner = target; pooled = true }) }
 call_effect (WithdrawMemory partition) f caller target =
     record f { page = withdrawn caller (lowest_pooled f target) f.page }
-call_effect call f caller target = f
+call_effect (GetPartitionProperty partition code) f caller target = f
+call_effect GetPartitionId f caller target = f
+call_effect (GetNextChildPartition partition previous) f caller target = f
+call_effect (GetMemoryBalance partition) f caller target = f
+call_effect (CreateVp partition vp) f caller target = f
+call_effect (DeleteVp partition vp) f caller target = f
+call_effect (GetVpRegisters partition vp name) f caller target = f
+call_effect (SetVpRegisters partition vp name value) f caller target = f
+call_effect (DeletePort partition port) f caller target = f
+call_effect (DisconnectPort partition connection) f caller target = f
+call_effect (PostMessage connection message_type payload) f caller target = f
+call_effect (SignalEvent connection flag) f caller target = f
+call_effect (CreatePort partition port peer port_kind sint vp base count) f caller target = f
+call_effect (ConnectPort partition connection port_partition port port_kind) f caller target = f
 
 abbrev pub served_effect : Flat → ℕ → Option Call → Flat
 served_effect f caller None = f

@@ -1,7 +1,10 @@
+pub mod Allowed
 pub mod Answer
 pub mod Asked
 pub mod Boot
+pub mod BootFault
 pub mod Call
+pub mod CallEvent
 pub mod Count
 pub mod Effect
 pub mod Flat

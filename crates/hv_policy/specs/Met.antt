@@ -9,15 +9,15 @@ use Rattle.hv_abi.specs.Check.{is_input_valid, are_lists_placed}
 use Rattle.hv_calls.specs.Call.{kind_of_call}
 use Rattle.hv_calls.specs.Params.{are_parameters_valid}
 use Rattle.hv_calls.specs.declared.call.Call.{Call}
-use Rattle.hv_calls.specs.declared.call.Call.TheVariants.{GetPartitionProperty, SetPartitionProperty, GetNextChildPartition, DepositMemory}
+use Rattle.hv_calls.specs.declared.call.Call.TheVariants.{CreatePartition, InitializePartition, FinalizePartition, DeletePartition, GetPartitionProperty, SetPartitionProperty, GetPartitionId, GetNextChildPartition, DepositMemory, WithdrawMemory, GetMemoryBalance, CreateVp, DeleteVp, GetVpRegisters, SetVpRegisters, DeletePort, DisconnectPort, PostMessage, SignalEvent, CreatePort, ConnectPort}
 use Rattle.hv_privs.specs.Privileges.{contains, of}
 use Rattle.hv_policy.specs.declared.event.Event.{Event}
 use Rattle.hv_policy.specs.declared.need.Kin.{Kin}
 use Rattle.hv_policy.specs.declared.need.Kin.TheVariants as kin
 use Rattle.hv_policy.specs.declared.property.Property.{Property}
-use Rattle.hv_policy.specs.declared.property.Property.TheVariants.{PrivilegeFlags}
+use Rattle.hv_policy.specs.declared.property.Property.TheVariants.{PrivilegeFlags, CpuReserve, CpuCap, CpuWeight}
 use Rattle.hv_policy.specs.declared.rule.Rule.{Rule}
-use Rattle.hv_policy.specs.declared.rule.Rule.TheVariants.{CallerExists, CallerActive, CallerVpExists, CallCode, InputValue, Alignment, Parameters, Privilege, TargetExists, Kinship, PropertyKnown, TargetState, NoChildren, Depth, OtherExists, Right, PropertyRange, Subject, Pages}
+use Rattle.hv_policy.specs.declared.rule.Rule.TheVariants.{CallerExists, CallerActive, CallerVpExists, CallCode, InputValue, Alignment, Parameters, Privilege, TargetExists, Kinship, PropertyKnown, TargetState, NoChildren, Depth, OtherExists, Connection, Port, Right, VpExists, PropertyRange, Subject, VpReady, PortRoom, Pages, MsrKnown, MsrPrivilege, MsrWrite}
 use Rattle.hv_policy.specs.Call.{on_frame, on_call, target_of}
 use Rattle.hv_policy.specs.Count.{is_parent, child_count, available, depth}
 use Rattle.hv_policy.specs.Flat.{Flat, PartRow, PageRow}
@@ -51,24 +51,82 @@ is_kin kin.Child f caller id = is_child f caller id
 abbrev pub property_named : Call → Option Property
 property_named (GetPartitionProperty partition code) = property_of code
 property_named (SetPartitionProperty partition code value) = property_of code
-property_named call = None
+property_named (CreatePartition flags) = None
+property_named (InitializePartition partition) = None
+property_named (FinalizePartition partition) = None
+property_named (DeletePartition partition) = None
+property_named GetPartitionId = None
+property_named (GetNextChildPartition partition previous) = None
+property_named (DepositMemory partition page) = None
+property_named (WithdrawMemory partition) = None
+property_named (GetMemoryBalance partition) = None
+property_named (CreateVp partition vp) = None
+property_named (DeleteVp partition vp) = None
+property_named (GetVpRegisters partition vp name) = None
+property_named (SetVpRegisters partition vp name value) = None
+property_named (DeletePort partition port) = None
+property_named (DisconnectPort partition connection) = None
+property_named (PostMessage connection message_type payload) = None
+property_named (SignalEvent connection flag) = None
+property_named (CreatePort partition port peer port_kind sint vp base count) = None
+property_named (ConnectPort partition connection port_partition port port_kind) = None
 
 -- the other partition that a call names: where it asks for the child after another, that is 0 or a child of the
 -- target
 abbrev pub is_other_there : Call → Flat → ℕ → Bool
 is_other_there (GetNextChildPartition partition previous) f target = (previous == 0) || is_child f target previous
-is_other_there call f target = false
+is_other_there (CreatePartition flags) f target = false
+is_other_there (InitializePartition partition) f target = false
+is_other_there (FinalizePartition partition) f target = false
+is_other_there (DeletePartition partition) f target = false
+is_other_there (GetPartitionProperty partition code) f target = false
+is_other_there (SetPartitionProperty partition code value) f target = false
+is_other_there GetPartitionId f target = false
+is_other_there (DepositMemory partition page) f target = false
+is_other_there (WithdrawMemory partition) f target = false
+is_other_there (GetMemoryBalance partition) f target = false
+is_other_there (CreateVp partition vp) f target = false
+is_other_there (DeleteVp partition vp) f target = false
+is_other_there (GetVpRegisters partition vp name) f target = false
+is_other_there (SetVpRegisters partition vp name value) f target = false
+is_other_there (DeletePort partition port) f target = false
+is_other_there (DisconnectPort partition connection) f target = false
+is_other_there (PostMessage connection message_type payload) f target = false
+is_other_there (SignalEvent connection flag) f target = false
+is_other_there (CreatePort partition port peer port_kind sint vp base count) f target = false
+is_other_there (ConnectPort partition connection port_partition port port_kind) f target = false
 
 -- whether the caller may give this value to a property: a mask lies within its own
 abbrev pub may_give : Option Property → ℕ → Flat → ℕ → Bool
 may_give None value f caller = false
 may_give (Some PrivilegeFlags) value f caller = on_part f caller (λ row. contains row.mask (of value))
-may_give (Some property) value f caller = true
+may_give (Some CpuReserve) value f caller = true
+may_give (Some CpuCap) value f caller = true
+may_give (Some CpuWeight) value f caller = true
 
 -- whether the caller has the right to what a call makes
 abbrev pub is_right : Call → Flat → ℕ → Bool
 is_right (SetPartitionProperty partition code value) f caller = may_give (property_of code) value f caller
-is_right call f caller = false
+is_right (CreatePartition flags) f caller = false
+is_right (InitializePartition partition) f caller = false
+is_right (FinalizePartition partition) f caller = false
+is_right (DeletePartition partition) f caller = false
+is_right (GetPartitionProperty partition code) f caller = false
+is_right GetPartitionId f caller = false
+is_right (GetNextChildPartition partition previous) f caller = false
+is_right (DepositMemory partition page) f caller = false
+is_right (WithdrawMemory partition) f caller = false
+is_right (GetMemoryBalance partition) f caller = false
+is_right (CreateVp partition vp) f caller = false
+is_right (DeleteVp partition vp) f caller = false
+is_right (GetVpRegisters partition vp name) f caller = false
+is_right (SetVpRegisters partition vp name value) f caller = false
+is_right (DeletePort partition port) f caller = false
+is_right (DisconnectPort partition connection) f caller = false
+is_right (PostMessage connection message_type payload) f caller = false
+is_right (SignalEvent connection flag) f caller = false
+is_right (CreatePort partition port peer port_kind sint vp base count) f caller = false
+is_right (ConnectPort partition connection port_partition port port_kind) f caller = false
 
 -- whether a property's value is in its range
 abbrev pub is_in_range : Option Property → ℕ → Bool
@@ -77,7 +135,26 @@ is_in_range (Some property) value = takes_value property value
 
 abbrev pub is_value_good : Call → Bool
 is_value_good (SetPartitionProperty partition code value) = is_in_range (property_of code) value
-is_value_good call = false
+is_value_good (CreatePartition flags) = false
+is_value_good (InitializePartition partition) = false
+is_value_good (FinalizePartition partition) = false
+is_value_good (DeletePartition partition) = false
+is_value_good (GetPartitionProperty partition code) = false
+is_value_good GetPartitionId = false
+is_value_good (GetNextChildPartition partition previous) = false
+is_value_good (DepositMemory partition page) = false
+is_value_good (WithdrawMemory partition) = false
+is_value_good (GetMemoryBalance partition) = false
+is_value_good (CreateVp partition vp) = false
+is_value_good (DeleteVp partition vp) = false
+is_value_good (GetVpRegisters partition vp name) = false
+is_value_good (SetVpRegisters partition vp name value) = false
+is_value_good (DeletePort partition port) = false
+is_value_good (DisconnectPort partition connection) = false
+is_value_good (PostMessage connection message_type payload) = false
+is_value_good (SignalEvent connection flag) = false
+is_value_good (CreatePort partition port peer port_kind sint vp base count) = false
+is_value_good (ConnectPort partition connection port_partition port port_kind) = false
 
 -- whether the page with this row is a loose page of a partition
 abbrev pub is_loose : ℕ → Option PageRow → Bool
@@ -87,10 +164,37 @@ is_loose id (Some page) = (page.owner == id) && not page.pooled
 -- what a call is about: the page of a deposit is a loose page of the caller
 abbrev pub is_subject_good : Call → Flat → ℕ → Bool
 is_subject_good (DepositMemory partition page) f caller = is_loose caller (get f.page page)
-is_subject_good call f caller = false
+is_subject_good (CreatePartition flags) f caller = false
+is_subject_good (InitializePartition partition) f caller = false
+is_subject_good (FinalizePartition partition) f caller = false
+is_subject_good (DeletePartition partition) f caller = false
+is_subject_good (GetPartitionProperty partition code) f caller = false
+is_subject_good (SetPartitionProperty partition code value) f caller = false
+is_subject_good GetPartitionId f caller = false
+is_subject_good (GetNextChildPartition partition previous) f caller = false
+is_subject_good (WithdrawMemory partition) f caller = false
+is_subject_good (GetMemoryBalance partition) f caller = false
+is_subject_good (CreateVp partition vp) f caller = false
+is_subject_good (DeleteVp partition vp) f caller = false
+is_subject_good (GetVpRegisters partition vp name) f caller = false
+is_subject_good (SetVpRegisters partition vp name value) f caller = false
+is_subject_good (DeletePort partition port) f caller = false
+is_subject_good (DisconnectPort partition connection) f caller = false
+is_subject_good (PostMessage connection message_type payload) f caller = false
+is_subject_good (SignalEvent connection flag) f caller = false
+is_subject_good (CreatePort partition port peer port_kind sint vp base count) f caller = false
+is_subject_good (ConnectPort partition connection port_partition port port_kind) f caller = false
 
--- P8 to P24, of a call by a processor of `caller`
+-- P8 to P24, of a call by a processor of `caller`. No call is asked the others, and none that is served so far those that
+-- ask for a connection, a port, a processor and its readiness
 abbrev pub call_met : Rule → Flat → ℕ → Call → Bool
+call_met CallerExists f caller call = false
+call_met CallerActive f caller call = false
+call_met CallerVpExists f caller call = false
+call_met CallCode f caller call = false
+call_met InputValue f caller call = false
+call_met Alignment f caller call = false
+call_met Parameters f caller call = false
 call_met Privilege f caller call = on_part f caller (λ row. contains row.mask (needs_of call).privilege)
 call_met TargetExists f caller call = contains_key f.part (target_of call caller)
 call_met Kinship f caller call = is_kin (needs_of call).kin f caller (target_of call caller)
@@ -99,11 +203,18 @@ call_met TargetState f caller call = on_part f (target_of call caller) (λ row. 
 call_met NoChildren f caller call = on_part f (target_of call caller) (λ row. child_count f (target_of call caller) == 0)
 call_met Depth f caller call = on_part f caller (λ row. nat_le (depth f caller + 1) MAX_DEPTH)
 call_met OtherExists f caller call = is_other_there call f (target_of call caller)
+call_met Connection f caller call = false
+call_met Port f caller call = false
 call_met Right f caller call = is_right call f caller
+call_met VpExists f caller call = false
 call_met PropertyRange f caller call = is_value_good call
 call_met Subject f caller call = is_subject_good call f caller
+call_met VpReady f caller call = false
+call_met PortRoom f caller call = false
 call_met Pages f caller call = nat_le (charge_of (kind_of_call call)) (available f (target_of call caller))
-call_met rule f caller call = false
+call_met MsrKnown f caller call = false
+call_met MsrPrivilege f caller call = false
+call_met MsrWrite f caller call = false
 
 abbrev pub met : {A : Type 0} → Rule → Flat → Event A → Bool
 met CallerExists f e = contains_key f.part e.by.part
@@ -113,7 +224,26 @@ met CallCode f e = on_frame (λ kind frame. true) e
 met InputValue f e = on_frame (λ kind frame. is_input_valid (row_of kind) frame.rcx) e
 met Alignment f e = on_frame (λ kind frame. are_lists_placed (row_of kind) frame) e
 met Parameters f e = on_frame (λ kind frame. are_parameters_valid kind frame) e
-met rule f e = on_call (call_met rule f e.by.part) e
+met Privilege f e = on_call (call_met Privilege f e.by.part) e
+met TargetExists f e = on_call (call_met TargetExists f e.by.part) e
+met Kinship f e = on_call (call_met Kinship f e.by.part) e
+met PropertyKnown f e = on_call (call_met PropertyKnown f e.by.part) e
+met TargetState f e = on_call (call_met TargetState f e.by.part) e
+met NoChildren f e = on_call (call_met NoChildren f e.by.part) e
+met Depth f e = on_call (call_met Depth f e.by.part) e
+met OtherExists f e = on_call (call_met OtherExists f e.by.part) e
+met Connection f e = on_call (call_met Connection f e.by.part) e
+met Port f e = on_call (call_met Port f e.by.part) e
+met Right f e = on_call (call_met Right f e.by.part) e
+met VpExists f e = on_call (call_met VpExists f e.by.part) e
+met PropertyRange f e = on_call (call_met PropertyRange f e.by.part) e
+met Subject f e = on_call (call_met Subject f e.by.part) e
+met VpReady f e = on_call (call_met VpReady f e.by.part) e
+met PortRoom f e = on_call (call_met PortRoom f e.by.part) e
+met Pages f e = on_call (call_met Pages f e.by.part) e
+met MsrKnown f e = on_call (call_met MsrKnown f e.by.part) e
+met MsrPrivilege f e = on_call (call_met MsrPrivilege f e.by.part) e
+met MsrWrite f e = on_call (call_met MsrWrite f e.by.part) e
 
 -- the first of these rules of a call that isn't met, if there is one
 abbrev pub unmet_of : Flat → ℕ → Call → List Rule → Option Rule

@@ -17,7 +17,7 @@ use Rattle.hv_policy.specs.declared.need.States.{States}
 use Rattle.hv_policy.specs.declared.need.States.TheVariants as states
 use Rattle.hv_policy.specs.Property.{property_of}
 use Rattle.hv_policy.specs.declared.property.Property.{Property}
-use Rattle.hv_policy.specs.declared.property.Property.TheVariants.{PrivilegeFlags}
+use Rattle.hv_policy.specs.declared.property.Property.TheVariants.{PrivilegeFlags, CpuReserve, CpuCap, CpuWeight}
 use Rattle.hv_policy.specs.declared.rule.Rule.{Rule}
 use Rattle.hv_policy.specs.declared.rule.Rule.TheVariants.{PropertyKnown, TargetState, NoChildren, Depth, OtherExists, Connection, Port, Right, VpExists, PropertyRange, Subject, VpReady, PortRoom, Pages}
 
@@ -25,12 +25,17 @@ use Rattle.hv_policy.specs.declared.rule.Rule.TheVariants.{PropertyKnown, Target
 abbrev pub is_among : Life → States → Bool
 is_among life states.Any = true
 is_among life.Created states.Created = true
+is_among life.Active states.Created = false
+is_among life.Finalized states.Created = false
+is_among life.Created states.Active = false
 is_among life.Active states.Active = true
+is_among life.Finalized states.Active = false
 is_among life.Created states.CreatedOrActive = true
 is_among life.Active states.CreatedOrActive = true
+is_among life.Finalized states.CreatedOrActive = false
 is_among life.Created states.CreatedOrFinalized = true
+is_among life.Active states.CreatedOrFinalized = false
 is_among life.Finalized states.CreatedOrFinalized = true
-is_among life states = false
 
 abbrev row : Privileges → Kin → States → Need
 row privilege kin states = record { privilege = privilege; kin = kin; states = states }
@@ -39,7 +44,9 @@ row privilege kin states = record { privilege = privilege; kin = kin; states = s
 abbrev pub states_to_set : Option Property → States
 states_to_set None = states.Created
 states_to_set (Some PrivilegeFlags) = states.Created
-states_to_set (Some property) = states.CreatedOrActive
+states_to_set (Some CpuReserve) = states.CreatedOrActive
+states_to_set (Some CpuCap) = states.CreatedOrActive
+states_to_set (Some CpuWeight) = states.CreatedOrActive
 
 -- the privilege, which partitions may be the target, and its life states
 abbrev pub needs_of : Call → Need
@@ -92,20 +99,47 @@ further_rules ConnectPort = TargetState ∷ OtherExists ∷ Connection ∷ Port 
 -- the pages of its target's pool that serving it uses
 abbrev pub charge_of : CallKind → ℕ
 charge_of CreatePartition = PARTITION_CHARGE
+charge_of InitializePartition = 0
+charge_of FinalizePartition = 0
+charge_of DeletePartition = 0
+charge_of GetPartitionProperty = 0
+charge_of SetPartitionProperty = 0
+charge_of GetPartitionId = 0
+charge_of GetNextChildPartition = 0
+charge_of DepositMemory = 0
 charge_of WithdrawMemory = 1
+charge_of GetMemoryBalance = 0
 charge_of CreateVp = VP_CHARGE
+charge_of DeleteVp = 0
+charge_of GetVpRegisters = 0
+charge_of SetVpRegisters = 0
+charge_of DeletePort = 0
+charge_of DisconnectPort = 0
+charge_of PostMessage = 0
+charge_of SignalEvent = 0
 charge_of CreatePort = PORT_CHARGE
 charge_of ConnectPort = CONNECTION_CHARGE
-charge_of kind = 0
 
 -- whether serving it may need memory of the host
 abbrev pub takes_memory : CallKind → Bool
 takes_memory CreatePartition = true
+takes_memory InitializePartition = false
+takes_memory FinalizePartition = false
 takes_memory DeletePartition = true
+takes_memory GetPartitionProperty = false
+takes_memory SetPartitionProperty = false
+takes_memory GetPartitionId = false
+takes_memory GetNextChildPartition = false
 takes_memory DepositMemory = true
 takes_memory WithdrawMemory = true
+takes_memory GetMemoryBalance = false
 takes_memory CreateVp = true
+takes_memory DeleteVp = false
+takes_memory GetVpRegisters = false
+takes_memory SetVpRegisters = false
+takes_memory DeletePort = false
+takes_memory DisconnectPort = false
 takes_memory PostMessage = true
+takes_memory SignalEvent = false
 takes_memory CreatePort = true
 takes_memory ConnectPort = true
-takes_memory kind = false

@@ -1,5 +1,5 @@
 -- The properties of a partition: their codes and ranges, and where they stand in a partition's row.
-use Rattle.std.specs.Prelude.{ℕ, ◌==◌, ◌&&◌, nat_le, Bool, true, List, [], ◌∷◌, Option, find}
+use Rattle.std.specs.Prelude.{ℕ, ◌==◌, ◌&&◌, nat_le, Bool, true, [], ◌∷◌, Option, find}
 use Rattle.hv_defs.specs.declared.sizes.TheConstants.{MAX_CPU_CAP, MAX_CPU_RESERVE, MAX_CPU_WEIGHT, MIN_CPU_WEIGHT}
 use Rattle.hv_privs.specs.Privileges.{bits_of, of}
 use Rattle.hv_policy.specs.Flat.{PartRow}

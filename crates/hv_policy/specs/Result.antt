@@ -1,5 +1,6 @@
 -- The result value of a call.
-use Rattle.std.specs.Prelude.{ℕ, if◌then◌else◌, Option, None, Some}
+use Rattle.std.specs.Prelude.{ℕ, ◌<◌, if◌then◌else◌, Option, None, Some}
+use Rattle.hv_defs.specs.declared.sizes.TheConstants.{REPS_END}
 use Rattle.hv_defs.specs.Bits.{bits}
 use Rattle.hv_abi.specs.CallRow.{row_of}
 use Rattle.hv_abi.specs.Check.{is_input_valid}
@@ -34,3 +35,10 @@ result_of frame (Served output) = result_value (status_code Success) (completed_
 result_of frame (More next output) = result_value (status_code Success) next
 result_of frame (Denied rule status reps) = result_value (status_code status) (refused_reps frame)
 result_of frame (Fault rule) = 0
+
+-- a call's reply: no fault, and the next element of a rep call has an index
+abbrev pub HasResult : Reply → Type 0
+HasResult (Served output) = Unit {0}
+HasResult (More next output) = next < REPS_END
+HasResult (Denied rule status reps) = Unit {0}
+HasResult (Fault rule) = ⊥

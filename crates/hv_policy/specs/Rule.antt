@@ -1,7 +1,7 @@
 -- The rules' numbers, names and statuses.
 use Rattle.std.specs.Prelude.{ℕ, List, codes, Option, Some, None}
 use Rattle.hv_abi.specs.declared.call_kind.CallKind.{CallKind}
-use Rattle.hv_abi.specs.declared.call_kind.CallKind.TheVariants.{WithdrawMemory}
+use Rattle.hv_abi.specs.declared.call_kind.CallKind.TheVariants.{CreatePartition, InitializePartition, FinalizePartition, DeletePartition, GetPartitionProperty, SetPartitionProperty, GetPartitionId, GetNextChildPartition, DepositMemory, WithdrawMemory, GetMemoryBalance, CreateVp, DeleteVp, GetVpRegisters, SetVpRegisters, DeletePort, DisconnectPort, PostMessage, SignalEvent, CreatePort, ConnectPort}
 use Rattle.hv_abi.specs.declared.status.Status.{Status}
 use Rattle.hv_abi.specs.declared.status.Status.TheVariants.{AccessDenied, InsufficientBuffers, InsufficientMemory, InvalidAlignment, InvalidConnectionId, InvalidHypercallCode, InvalidHypercallInput, InvalidParameter, InvalidPartitionId, InvalidPartitionState, InvalidPortId, InvalidSynicState, InvalidVpIndex, NoResources, ObjectInUse, PartitionTooDeep, PropertyValueOutOfRange, UnknownProperty}
 use Rattle.hv_policy.specs.declared.rule.Rule.{Rule}
@@ -71,7 +71,26 @@ rule_name MsrWrite = codes "P27"
 abbrev pub pages_status : Option CallKind → Status
 pages_status None = InsufficientMemory
 pages_status (Some WithdrawMemory) = NoResources
-pages_status (Some call) = InsufficientMemory
+pages_status (Some CreatePartition) = InsufficientMemory
+pages_status (Some InitializePartition) = InsufficientMemory
+pages_status (Some FinalizePartition) = InsufficientMemory
+pages_status (Some DeletePartition) = InsufficientMemory
+pages_status (Some GetPartitionProperty) = InsufficientMemory
+pages_status (Some SetPartitionProperty) = InsufficientMemory
+pages_status (Some GetPartitionId) = InsufficientMemory
+pages_status (Some GetNextChildPartition) = InsufficientMemory
+pages_status (Some DepositMemory) = InsufficientMemory
+pages_status (Some GetMemoryBalance) = InsufficientMemory
+pages_status (Some CreateVp) = InsufficientMemory
+pages_status (Some DeleteVp) = InsufficientMemory
+pages_status (Some GetVpRegisters) = InsufficientMemory
+pages_status (Some SetVpRegisters) = InsufficientMemory
+pages_status (Some DeletePort) = InsufficientMemory
+pages_status (Some DisconnectPort) = InsufficientMemory
+pages_status (Some PostMessage) = InsufficientMemory
+pages_status (Some SignalEvent) = InsufficientMemory
+pages_status (Some CreatePort) = InsufficientMemory
+pages_status (Some ConnectPort) = InsufficientMemory
 
 -- the status with which a call is refused by it, if calls are asked it
 abbrev pub rule_status : Rule → Option CallKind → Option Status

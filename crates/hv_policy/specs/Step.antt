@@ -1,5 +1,6 @@
 -- The flat machine.
 use Rattle.std.specs.Prelude.{not, List, [], ◌∷◌, Option, None, Some, find}
+use Rattle.std.specs.List.{Contains}
 use Rattle.hv_abi.specs.declared.status.Status.{Status}
 use Rattle.hv_abi.specs.declared.frame.Frame.{Frame}
 use Rattle.hv_policy.specs.declared.config.Config.{Config}
@@ -7,7 +8,7 @@ use Rattle.hv_policy.specs.declared.event.Action.{Action}
 use Rattle.hv_policy.specs.declared.event.Action.TheVariants.{Hypercall}
 use Rattle.hv_policy.specs.declared.event.Event.{Event}
 use Rattle.hv_policy.specs.declared.reply.Reply.{Reply}
-use Rattle.hv_policy.specs.declared.reply.Reply.TheVariants.{Denied, Fault}
+use Rattle.hv_policy.specs.declared.reply.Reply.TheVariants.{Served, More, Denied, Fault}
 use Rattle.hv_policy.specs.declared.rule.Rule.{Rule}
 use Rattle.hv_policy.specs.Answer.{answer}
 use Rattle.hv_policy.specs.Asked.{asked}
@@ -42,6 +43,13 @@ step_by f event (Some rule) = (f, refusal event.what rule)
 -- one event: served where all its rules are met, else refused by the first unmet one, with nothing changed
 abbrev pub step : {A : Type 0} → Flat → Event A → Flat × Reply
 step f event = step_by f event (unmet f event)
+
+-- the rule of a refusal is one that is asked
+abbrev pub NamesAsked : {A : Type 0} → Event A → Reply → Type 0
+NamesAsked event (Served output) = Unit {0}
+NamesAsked event (More next output) = Unit {0}
+NamesAsked event (Denied rule status reps) = Contains (asked event) rule
+NamesAsked event (Fault rule) = Contains (asked event) rule
 
 abbrev pub run_from : {A : Type 0} → Flat → List (Event A) → Flat × List Reply
 run_from f [] = (f, [])

@@ -1,4 +1,4 @@
-// What boot gives.
+// What boot is given, and why it refuses that.
 
 use hv_privs::Privileges;
 
@@ -13,4 +13,17 @@ pub struct Config {
     pub vps: u32,
     /// The root's privilege mask.
     pub mask: Privileges,
+}
+
+/// Why a configuration was refused, in the order in which the causes are looked for.
+#[derive(Clone, Copy, PartialEq, Eq, Debug)]
+pub enum BootRefused {
+    /// No pages, or more than 65,536.
+    Pages,
+    /// More pooled pages than pages.
+    Pool,
+    /// No virtual processors, more than 64, or more than the pool pays for at 4 pages each.
+    Vps,
+    /// The host has no memory.
+    Memory,
 }

@@ -7,19 +7,24 @@
 //! "Virtual Processor Management", "Inter-Partition Communication". The order of the rules, the privilege
 //! that each call needs and the charges are this project's own.
 //!
-//! The code of this crate is the vocabulary that the model speaks of, and the tables' look-ups.
+//! The code of this crate is the vocabulary that the model speaks of, the tables' look-ups, the rules that look at a frame
+//! alone, and the replies and result values.
 #![tactic(auto)]
 
+mod asking;
 mod config;
 mod event;
 mod need;
 mod property;
 mod reply;
+mod result;
 mod rule;
 
-pub use config::Config;
+pub use asking::ask_frame;
+pub use config::{BootRefused, Config};
 pub use event::{Action, Caller, Event};
 pub use need::{Kin, Need, SERVED_CODES, States, needs, states_to_set};
 pub use property::{ALL_PROPERTIES, Property};
 pub use reply::{Output, Reply};
+pub use result::{refused_reply, result_of, served_reply};
 pub use rule::Rule;

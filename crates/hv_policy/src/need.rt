@@ -158,7 +158,9 @@ pub fn states_to_set(property: Option<Property>) -> States
 {
     match property {
         None | Some(Property::PrivilegeFlags) => States::Created,
-        Some(_) => States::CreatedOrActive,
+        Some(Property::CpuReserve) | Some(Property::CpuCap) | Some(Property::CpuWeight) => {
+            States::CreatedOrActive
+        }
     }
 }
 

@@ -73,30 +73,38 @@ fn answer(rt: &impl Abort, alloc: Global, rcx: u64, rdx: u64, input: &[u8]) -> R
     let create = event(alloc, 0x40, 0, &[0; 8])?;
     machine.step(&create)?;
     let event = event(alloc, rcx, rdx, input)?;
-    assert_eq!(rt; machine.served(), 1);
     let reply = machine.step(&event)?;
     let Action::Hypercall(frame) = &event.what;
-    match &reply {
-        Reply::Served(_) => assert_eq!(rt; machine.served(), 2),
-        Reply::More { next, output: _ } => {
-            assert!(rt; *next < 4096);
-            assert_eq!(rt; machine.served(), 2);
-        }
-        Reply::Denied {
-            rule,
-            status,
-            reps: _,
-        } => {
-            assert!(rt; is_asked(rcx, rule.number()));
-            assert_eq!(rt;
-                result_of(frame, &reply).bits() & 0xffff,
-                u64::from(status.code())
-            );
-            assert_eq!(rt; machine.served(), 1);
-        }
-        Reply::Fault { rule: _ } => assert!(rt; false, "a call has no fault"),
-    }
+    assert!(rt; is_answer(rcx, &reply), "{rcx:#x}");
+    assert_eq!(rt; machine.served(), served_after(&reply));
+    assert_eq!(rt; result_of(frame, &reply).bits() & 0xffff, status_of(&reply));
     Ok(())
+}
+
+// Whether the reply is one to a call: the next element has an index, and the rule of a refusal is one that is asked.
+fn is_answer(rcx: u64, reply: &Reply) -> bool {
+    match reply {
+        Reply::Served(_) => true,
+        Reply::More { next, .. } => *next < 4096,
+        Reply::Denied { rule, .. } => is_asked(rcx, rule.number()),
+        Reply::Fault { .. } => false,
+    }
+}
+
+// How many events were served then: the child's making, and this one, unless it was refused.
+fn served_after(reply: &Reply) -> u64 {
+    match reply {
+        Reply::Served(_) | Reply::More { .. } => 2,
+        Reply::Denied { .. } | Reply::Fault { .. } => 1,
+    }
+}
+
+// The status that its result value has.
+fn status_of(reply: &Reply) -> u64 {
+    match reply {
+        Reply::Denied { status, .. } => u64::from(status.code()),
+        Reply::Served(_) | Reply::More { .. } | Reply::Fault { .. } => 0,
+    }
 }
 
 fn event(alloc: Global, rcx: u64, rdx: u64, input: &[u8]) -> Result<Event<Global>, Fail> {

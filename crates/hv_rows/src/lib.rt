@@ -10,6 +10,8 @@ mod memory;
 #[cfg(test)]
 mod partitions;
 #[cfg(test)]
+mod privileges;
+#[cfg(test)]
 mod properties;
 #[cfg(test)]
 mod rows;

@@ -2,6 +2,7 @@
 
 use crate::rows::{Row, boot, check_all};
 use hv_machine::Machine;
+use hv_partition::PageKind;
 use std::test::Fail;
 
 // Numbers below 256, each in 8 bytes with the lowest first.
@@ -40,9 +41,13 @@ fn a_page_is_deposited_once(rt: HostRuntime) -> Result<(), Fail> {
     check_all(&rt, rt.alloc(), &mut machine, rows.as_slice())?;
     let root = machine.tree().get(1).ok_or("no root")?;
     for page in 0..40 {
-        assert_eq!(rt; root.pooled().holds(page), page < 12, "page {page}");
         assert_eq!(rt;
-            root.loose().holds(page),
+            root.pages(PageKind::Pooled).holds(page),
+            page < 12,
+            "page {page}"
+        );
+        assert_eq!(rt;
+            root.pages(PageKind::Loose).holds(page),
             page >= 12 && page < 32,
             "page {page}"
         );
@@ -65,11 +70,11 @@ fn a_deposit_starts_at_its_index(rt: HostRuntime) -> Result<(), Fail> {
     let child = machine.tree().get(2).ok_or("no child")?;
     for page in 0..40 {
         assert_eq!(rt;
-            child.pooled().holds(page),
+            child.pages(PageKind::Pooled).holds(page),
             page == 13 || page == 14,
             "page {page}"
         );
-        assert!(rt; !child.loose().holds(page), "page {page}");
+        assert!(rt; !child.pages(PageKind::Loose).holds(page), "page {page}");
     }
     Ok(())
 }

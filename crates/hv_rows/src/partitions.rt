@@ -3,6 +3,7 @@
 use crate::rows::{Row, boot, check_all};
 use hv_defs::Life;
 use hv_machine::Machine;
+use hv_partition::PageKind;
 use hv_privs::Privileges;
 use std::alloc::Global;
 use std::process::Abort;
@@ -29,9 +30,13 @@ const ONE_AND_OWN: &[u8] = &[
 fn assert_root_holds_all(rt: &impl Abort, machine: &Machine<Global>) -> Result<(), Fail> {
     let root = machine.tree().get(1).ok_or("no root")?;
     for page in 0..40 {
-        assert_eq!(rt; root.pooled().holds(page), page < 12, "page {page}");
         assert_eq!(rt;
-            root.loose().holds(page),
+            root.pages(PageKind::Pooled).holds(page),
+            page < 12,
+            "page {page}"
+        );
+        assert_eq!(rt;
+            root.pages(PageKind::Loose).holds(page),
             page >= 12 && page < 32,
             "page {page}"
         );
@@ -125,8 +130,8 @@ fn children(rt: HostRuntime) -> Result<(), Fail> {
     let child = tree.get(2).ok_or("no child")?;
     assert_eq!(rt; child.mask().bits(), 0x0000_0030_0000_0044);
     assert_eq!(rt; child.life(), Life::Created);
-    assert_eq!(rt; child.loose().count(), 0);
-    assert_eq!(rt; child.pooled().count(), 0);
+    assert_eq!(rt; child.pages(PageKind::Loose).count(), 0);
+    assert_eq!(rt; child.pages(PageKind::Pooled).count(), 0);
     assert_root_holds_all(&rt, &machine)
 }
 

@@ -6,7 +6,7 @@ use Rattle.std.proofs.lemmas.Bool.{cases_Bool, eqb-true}
 use Rattle.hv_tree.specs.Rows.{Rows, children, children_in}
 use Rattle.hv_tree.specs.Nest.{Line, has_row, look, uses, AreDistinct, IsNest, IsGrownBy}
 use Rattle.hv_tree.specs.Full.{full, IsWhole, IsLent}
-use Rattle.hv_tree.specs.Laws.{same_rows, get_row-insert}
+use Rattle.hv_tree.proofs.Laws.{same_rows, get_row-insert}
 use Rattle.hv_tree.proofs.Lines.{look-append, look-none, uses-append, unused, has-unused}
 use Rattle.hv_tree.proofs.Kids.{kids-append}
 use Rattle.hv_tree.proofs.Seen.{IsShown, get-listed, look-full, get-seen, has-seen}

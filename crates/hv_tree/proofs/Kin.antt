@@ -11,7 +11,7 @@ use Rattle.std.proofs.lemmas.Bool.{eq-eqb}
 use Rattle.hv_tree.specs.Rows.{Row, Rows, is_parent, children_in, children, IsLeastAbove}
 use Rattle.hv_tree.specs.Nest.{Line, uses, AreDistinct}
 use Rattle.hv_tree.specs.Full.{pick, add, full, IsWhole}
-use Rattle.hv_tree.specs.ChildLaws.{swap_heads, kids_put}
+use Rattle.hv_tree.proofs.ChildLaws.{swap_heads, kids_put}
 use Rattle.hv_tree.proofs.Lists.{no_items}
 use Rattle.hv_tree.proofs.Lines.{look-none, has-unused, one_if}
 use Rattle.hv_tree.proofs.Ids.{ids_of}

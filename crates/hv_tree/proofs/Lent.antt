@@ -6,7 +6,7 @@ use Rattle.std.proofs.lemmas.Bool.{cases_Bool, eqb-true, eq-eqb, ne_eqb, eqb-fal
 use Rattle.hv_tree.specs.Rows.{Rows, change, content, children_in, is_parent}
 use Rattle.hv_tree.specs.Nest.{Line, look, uses, AreDistinct, IsNest, put_at, taken}
 use Rattle.hv_tree.specs.Full.{full, IsFilled, IsWhole, IsLent, settled}
-use Rattle.hv_tree.specs.Laws.{same_rows, get-change}
+use Rattle.hv_tree.proofs.Laws.{same_rows, get-change}
 use Rattle.hv_tree.proofs.Lines.{has-look, put-absent}
 use Rattle.hv_tree.proofs.Seen.{IsShown, get-listed, look-full, filled}
 

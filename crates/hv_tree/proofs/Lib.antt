@@ -1,3 +1,5 @@
+pub mod Laws
+pub mod ChildLaws
 pub mod Lists
 pub mod Lines
 pub mod Kids

@@ -8,7 +8,7 @@ use Rattle.std.proofs.lemmas.Bool.{cases_Bool, eqb-true, eq-eqb, eqb-false}
 use Rattle.hv_tree.specs.Rows.{Row, Rows, parent, HasDepth, children_in, IsTree}
 use Rattle.hv_tree.specs.Nest.{Line, has_row, look, top, AreDistinct, orphans, HasTop, IsPart, HasDepthIn}
 use Rattle.hv_tree.specs.Full.{pick, add, full, IsFilled, IsWhole, IsSound}
-use Rattle.hv_tree.specs.Laws.{parent_above, above_parent}
+use Rattle.hv_tree.proofs.Laws.{parent_above, above_parent}
 use Rattle.hv_tree.proofs.Lines.{has-look, look-none, one_if, has-unused}
 
 pub find-look : {X : Type 0} (q : ℕ) (es : List (ℕ × X)) → find nat_cmp q es ≡ look q es

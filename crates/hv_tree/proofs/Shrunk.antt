@@ -6,7 +6,7 @@ use Rattle.std.proofs.lemmas.Bool.{cases_Bool, eqb-true, eq-eqb, ne_eqb}
 use Rattle.hv_tree.specs.Rows.{Rows, parent, content, children, children_in, is_leaf}
 use Rattle.hv_tree.specs.Nest.{Line, has_row, look, uses, top, AreDistinct, IsNest, IsWithout}
 use Rattle.hv_tree.specs.Full.{pick, full, IsFilled, IsWhole, IsLent}
-use Rattle.hv_tree.specs.Laws.{same_rows, get_row-remove}
+use Rattle.hv_tree.proofs.Laws.{same_rows, get_row-remove}
 use Rattle.hv_tree.proofs.Lines.{look-none, has-unused, one_if}
 use Rattle.hv_tree.proofs.Child.{found_has}
 use Rattle.hv_tree.proofs.Seen.{IsShown, get-listed, look-full, filled, get-seen, parent-seen, parent-named, root_top}

@@ -7,8 +7,8 @@
 //! - A refusal names its first cause, hands back what it was given, and leaves the rows as they were.
 //! - Look-ups, `get_mut` and `remove_leaf` take no memory.
 //!
-//! `specs/Rows.antt` has the words of the contracts, and `Laws.antt`, `ChildLaws.antt` and `TreeLaws.antt` beside it
-//! have what a caller's proof may need of them.
+//! `specs/Rows.antt` has the words of the contracts. `proofs/Laws.antt` and `proofs/ChildLaws.antt` have what a
+//! caller's proof may need of them.
 #![tactic(auto)]
 
 mod node;

@@ -1,9 +1,9 @@
--- Which failure a fault is, and the exit status of each.
-use Rattle.std.specs.Prelude.{ℕ}
+-- Which failure a script's error is, and the exit status of each.
+use Rattle.std.specs.Prelude.{◌≡◌, ◌⊎◌}
+use Rattle.hv_script.specs.declared.fault.ScriptError.{ScriptError}
+use Rattle.hv_script.specs.declared.fault.ScriptError.TheVariants as error
 use Rattle.hvpm.specs.declared.failure.Exit.{Exit}
 use Rattle.hvpm.specs.declared.failure.Exit.TheVariants.{Script, Host}
-use Rattle.hvpm.specs.declared.failure.FaultKind.{FaultKind}
-use Rattle.hvpm.specs.declared.failure.FaultKind.TheVariants as fault
 use Rattle.hvpm.specs.declared.failure.Failure.{Failure}
 use Rattle.hvpm.specs.declared.failure.Failure.TheVariants as failure
 
@@ -19,7 +19,11 @@ exit_of failure.Memory = Host
 exit_of failure.HistoryFull = Host
 exit_of failure.Write = Host
 
--- want of memory has no line
-abbrev pub failure_of : ℕ → FaultKind → Failure
-failure_of line fault.Memory = failure.Memory
-failure_of line kind = failure.Fault line kind
+-- a line's fault is told with its line, and want of memory has none
+abbrev pub failure_of : ScriptError → Failure
+failure_of (error.Fault line kind) = failure.Fault line kind
+failure_of error.Memory = failure.Memory
+
+-- a script whose bytes don't come can't be read, or there is no memory for it
+abbrev pub IsUnread : Failure → Type 0
+IsUnread why = (why ≡ failure.Unreadable) ⊎ (why ≡ failure.Memory)

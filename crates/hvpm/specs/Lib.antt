@@ -1,4 +1,3 @@
 pub mod Failure
 pub mod History
-pub mod Number
-pub mod Options
+pub mod Usage

@@ -8,9 +8,14 @@ const HEX_DIGITS: &[u8; 16] = b"0123456789abcdef";
 
 /// Prints the audit of a history and flushes it. It stops at the first write that fails.
 pub fn print<W: Write>(history: &History, out: &mut W) -> io::Result<()> {
-    let mut outputs = history.outputs();
+    print_entries(out, history.entries(), history.outputs())
+}
+
+/// Prints these entries with their outputs, which stand one after the other, and flushes.
+pub fn print_entries<W: Write>(out: &mut W, entries: &[Entry], outputs: &[u8]) -> io::Result<()> {
+    let mut outputs = outputs;
     let mut number = 0u64;
-    for entry in history.entries() {
+    for entry in entries {
         number = number.saturating_add(1);
         let (output, rest) = outputs.split_at(entry.output_len.min(outputs.len()));
         print_entry(out, number, entry, output)?;
@@ -25,21 +30,26 @@ fn print_entry<W: Write>(out: &mut W, number: u64, entry: &Entry, output: &[u8])
     let vp = entry.by.vp;
     let rcx = entry.rcx;
     write!(out, "{number} {part}.{vp} call {rcx:016x} ")?;
+    print_result(out, entry)?;
+    match entry.answer {
+        Answer::Served | Answer::More => print_output(out, output)?,
+        Answer::Denied(rule) | Answer::Fault(rule) => write!(out, " {}", rule.name())?,
+    }
+    out.write_all(b"\n")
+}
+
+// How the event was answered, and its result value.
+fn print_result<W: Write>(out: &mut W, entry: &Entry) -> io::Result<()> {
     let answer = match entry.answer {
         Answer::Served => "ok",
         Answer::More => "more",
         Answer::Denied(_) => "denied",
         Answer::Fault(_) => "fault",
     };
-    write!(out, "{answer}")?;
-    if let Some(result) = entry.result {
-        write!(out, " {result:016x}")?;
+    match entry.result {
+        Some(result) => write!(out, "{answer} {result:016x}"),
+        None => out.write_all(answer.as_bytes()),
     }
-    match entry.answer {
-        Answer::Served | Answer::More => print_output(out, output)?,
-        Answer::Denied(rule) | Answer::Fault(rule) => write!(out, " {}", rule.name())?,
-    }
-    out.write_all(b"\n")
 }
 
 fn print_output<W: Write>(out: &mut W, output: &[u8]) -> io::Result<()> {

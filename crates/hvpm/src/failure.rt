@@ -3,6 +3,7 @@ ghost use Rattle.std.specs.Prelude.{◌≡◌};
 ghost use Rattle.hvpm.specs.Failure.{exit_of, failure_of};
 
 use hv_machine::BootRefused;
+use hv_script::{FaultKind, ScriptError, Stop};
 use std::io::Write;
 use thiserror::Error;
 
@@ -17,53 +18,6 @@ pub enum Exit {
     Usage = 2,
     /// Memory was wanting, the history was full, or standard output took no more.
     Host = 3,
-}
-
-/// What is wrong with a line of a script first. The faults are looked for in the order of the variants.
-#[derive(Clone, Copy, PartialEq, Eq, Debug, Error)]
-pub enum FaultKind {
-    /// The script has more than 1,048,576 bytes.
-    #[error("too long")]
-    Long,
-    /// A byte is outside 0x20 to 0x7E.
-    #[error("bad byte")]
-    Byte,
-    /// The first line that is read isn't `boot`.
-    #[error("no boot")]
-    NoBoot,
-    /// A later line is `boot`.
-    #[error("second boot")]
-    BootTwice,
-    /// The first word is no `ID.VP` whose numbers fit.
-    #[error("bad processor")]
-    Processor,
-    /// The second word is missing or unknown.
-    #[error("unknown word")]
-    Word,
-    /// There are too few or too many words.
-    #[error("word count")]
-    Count,
-    /// A word is no number that fits its field, and the words before it are right.
-    #[error("bad number")]
-    Number,
-    /// The word for bytes isn't an even number of hexadecimal digits, at most 8,192, nor `-`.
-    #[error("bad hex")]
-    Hex,
-    /// It is the 65th processor.
-    #[error("too many processors")]
-    TooMany,
-    /// There is no memory.
-    #[error("memory")]
-    Memory,
-}
-
-/// Why a processor stopped: its event was refused by the host, and not by a rule.
-#[derive(Clone, Copy, PartialEq, Eq, Debug)]
-pub enum Stop {
-    /// The history has as many events as the script's boot line allows.
-    HistoryFull,
-    /// There is no memory.
-    Memory,
 }
 
 /// What ends a run other than well. Its `Display` is the line on standard error, after `hvpm: `.
@@ -109,16 +63,6 @@ impl Failure {
             Failure::Memory | Failure::HistoryFull | Failure::Write => Exit::Host,
         }
     }
-
-    /// The fault of a line, or want of memory.
-    pub fn of_line(line: usize, kind: FaultKind) -> Failure
-        ensures { result ≡ failure_of line kind }
-    {
-        match kind {
-            FaultKind::Memory => Failure::Memory,
-            kind => Failure::Fault { line, kind },
-        }
-    }
 }
 
 impl From<BootRefused> for Failure {
@@ -128,6 +72,17 @@ impl From<BootRefused> for Failure {
             BootRefused::Pool => Failure::Pool,
             BootRefused::Vps => Failure::Vps,
             BootRefused::Memory => Failure::Memory,
+        }
+    }
+}
+
+impl From<ScriptError> for Failure {
+    ghost from_gives = { λ error failure. failure ≡ failure_of error };
+
+    fn from(error: ScriptError) -> Failure {
+        match error {
+            ScriptError::Fault { line, kind } => Failure::Fault { line, kind },
+            ScriptError::Memory => Failure::Memory,
         }
     }
 }

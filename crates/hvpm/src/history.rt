@@ -1,20 +1,16 @@
 // What happened, in its order.
 ghost use Rattle.std.specs.Prelude.{◌≡◌, ◌≢◌, ◌+◌, ◌≤◌, ◌<◌, ◌++◌, ◌∷◌, [], IfOk, IfSome, OnErr, vec_len, vec_capacity};
+ghost use Rattle.hv_defs.specs.declared.sizes.TheConstants.{MAX_SERVED as MOST, REPS_END as END};
 ghost use Rattle.hvpm.specs.History.{rcx_of};
 
-use crate::failure::Stop;
 use hv_abi::Frame;
+use hv_defs::{MAX_SERVED, REPS_END};
 use hv_machine::{Action, Caller, Event, HostRefused, Machine, Reply, Rule, result_of};
+use hv_script::Stop;
 use std::alloc::Global;
 
 // The most bytes that an event puts out.
 const MOST_OUTPUT: usize = 256;
-
-// The most events that a machine serves.
-const MOST_SERVED: u64 = 4_294_967_295;
-
-// A rep call has fewer elements than this.
-pub const REPS_END: u16 = 4096;
 
 /// What an event was answered.
 #[derive(Clone, Copy, PartialEq, Eq, Debug)]
@@ -79,17 +75,17 @@ impl History {
         machine: &mut Machine<Global>,
         event: &Event<Global>,
     ) -> Result<Option<u16>, Stop>
-        ensures next { IfOk result (λ next. IfSome next (λ start. start < 4096)) }
+        ensures next { IfOk result (λ next. IfSome next (λ start. start < END)) }
         ensures limit { self.new.limit ≡ self.old.limit }
         ensures kept { IfOk result (λ _. (entry : Entry) × (entry.by ≡ event.now.by)
             × (entry.rcx ≡ rcx_of event.now.what)
             × (self.new.entries.items ≡ self.old.entries.items ++ entry ∷ [])) }
         ensures refused { OnErr result (self.new.entries.items ≡ self.old.entries.items) }
         ensures full { self.old.limit ≤ vec_len self.old.entries → result ≡ Err Stop.HistoryFull }
-        ensures not_full { vec_len self.old.entries < self.old.limit → machine.old.served < 4294967295 → result ≢ Err Stop.HistoryFull }
+        ensures not_full { vec_len self.old.entries < self.old.limit → machine.old.served < MOST → result ≢ Err Stop.HistoryFull }
         ensures not_asked { self.old.limit ≤ vec_len self.old.entries → machine.new ≡ machine.old }
     {
-        if self.entries.len() >= self.limit as usize || machine.served() >= MOST_SERVED {
+        if self.entries.len() >= self.limit as usize || machine.served() >= MAX_SERVED {
             return Err(Stop::HistoryFull);
         }
         // What happened has to be kept, so the room comes first.
@@ -132,7 +128,7 @@ impl History {
 
 // The element that comes next, if one does.
 fn next_of(reply: &Reply) -> Option<u16>
-    ensures { IfSome result (λ start. start < 4096) }
+    ensures { IfSome result (λ start. start < END) }
 {
     match reply {
         Reply::More { next, .. } if *next < REPS_END => Some(*next),

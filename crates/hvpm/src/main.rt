@@ -1,7 +1,7 @@
 //! The program `hvpm`: runs a script of hypercalls on the partition manager, and prints an audit of what
 //! happened.
 //!
-//! [`options::options`] reads the words of the command line and [`run::run_text`] runs a script's bytes
+//! [`hv_options::options`] reads the words of the command line and [`run::run_reader`] reads and runs a script
 //! over two writers. What stands here only fetches both, and gives back the exit status.
 #![tactic(auto)]
 
@@ -10,26 +10,22 @@ ghost use Rattle.std.specs.Prelude.{◌≡◌, true, false};
 mod audit;
 mod failure;
 mod history;
-mod line;
-mod number;
-mod options;
-mod processors;
+mod reading;
 mod run;
-mod script;
 #[cfg(test)]
 mod tests;
 mod usage;
 
 use failure::{Exit, Failure, tell};
-use options::options;
-use run::run_text;
-use script::MOST_BYTES;
+use hv_options::{Options, Usage, options};
+use reading::unread;
+use run::run_reader;
+use std::env;
 use std::fs::File;
-use std::io::{BufWriter, ErrorKind, Read, Write};
+use std::io::{BufWriter, ErrorKind, Write};
 use std::process::ExitCode;
 use std::rt::{Env, Files};
-use std::{env, io};
-use usage::{Options, Usage};
+use usage::tell_usage;
 
 fn main(rt: HostRuntime) -> ExitCode {
     let mut err = rt.stderr();
@@ -47,11 +43,11 @@ fn start<R: Env + Files + AllocGlobal, W: Write, E: Write>(
 ) -> Exit {
     let words = match read_words(rt) {
         Ok(words) => words,
-        Err(usage) => return usage.tell(out, err),
+        Err(usage) => return tell_usage(usage, out, err),
     };
     match options(rt.alloc(), words.as_slice()) {
         Ok(options) => run_file(rt, &options, out, err),
-        Err(usage) => usage.tell(out, err),
+        Err(usage) => tell_usage(usage, out, err),
     }
 }
 
@@ -73,25 +69,8 @@ fn run_file<R: Files + AllocGlobal, W: Write, E: Write>(
     requires serial { options.now.serial ≡ true }
     requires no_table { options.now.table ≡ false }
 {
-    match read_script(rt, options.script) {
-        Ok(script) => run_text(rt.alloc(), script.as_slice(), options, out, err),
-        Err(failure) => tell(failure, err),
-    }
-}
-
-// The bytes of a script, and of one that is too long one byte too many.
-fn read_script<R: Files + AllocGlobal>(rt: &R, path: &str) -> Result<Vec<u8>, Failure> {
-    let mut script = Vec::new(rt.alloc());
-    let file = File::open(rt, path).map_err(|error| unread(&error))?;
-    file.take(MOST_BYTES as u64 + 1)
-        .read_to_end(&mut script)
-        .map_err(|error| unread(&error))?;
-    Ok(script)
-}
-
-fn unread(error: &io::Error) -> Failure {
-    match error.kind() {
-        ErrorKind::OutOfMemory => Failure::Memory,
-        _ => Failure::Unreadable,
+    match File::open(rt, options.script) {
+        Ok(file) => run_reader(rt.alloc(), file, options, out, err),
+        Err(error) => tell(unread(&error), err),
     }
 }

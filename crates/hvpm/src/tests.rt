@@ -1,11 +1,12 @@
+mod audit;
 mod machine;
+mod readers;
 mod script;
-mod words;
 mod writers;
 
 use crate::failure::Exit;
 use crate::run::run_text;
-use crate::usage::Options;
+use hv_options::Options;
 use std::alloc::Global;
 use std::process::Abort;
 

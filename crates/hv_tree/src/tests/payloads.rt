@@ -46,7 +46,7 @@ impl<A: Allocator> Pages<A> {
 }
 
 // Adds a page to those of a node, and says whether there is such a node.
-#[tactic(auto, using(crate::specs::Laws::unchanged))]
+#[tactic(auto, using(crate::proofs::Laws::unchanged))]
 fn give<A: Allocator>(
     tree: &mut IdTree<Pages<A>, A>,
     id: u64,

@@ -40,6 +40,38 @@ events 3
     }
 }
 
+// What a line says comes to the machine, and what it answers to the audit, in each bit: a pool of 0xabcd pages of which 40
+// processors use 0xa0, outputs one after another, a mask with bits that have no name, and an output address.
+#[test]
+fn all_bits(rt: HostRuntime) {
+    let script = "boot 65536 43981 40 0x8192a3f7b4c5d6e7 1000
+1.0 call 0x4a 0 0 ffffffffffffffff
+1.39 call 0x46 0 0xffffffffffffff8 -
+1.0 call 0x44 0xfedcba9876543210 0 ffffffffffffffff00000100F0E1D2C3
+1.0 call 0x100000049 0 0 ffffffffffffffff
+1.0 call 0x4a 0 4 ffffffffffffffff
+1.0 call 0x4a 4 0 ffffffffffffffff
+18364758544493064720.4023233417 call 0xf0e1d2c3b4a59687 0 0 -
+1.0 call 0x46 0 0 -
+";
+    let run = Run {
+        script: script.as_bytes(),
+        exit: Exit::Done,
+        out: "1 1.0 call 000000000000004a ok 0000000000000000 2dab000000000000a000000000000000
+2 1.39 call 0000000000000046 ok 0000000000000000 0100000000000000
+3 1.0 call 0000000000000044 ok 0000000000000000 e7d6c5b4f7a39281
+4 1.0 call 0000000100000049 ok 0000000100000000 0000000000000000
+5 1.0 call 000000000000004a denied 0000000000000004 P6
+6 1.0 call 000000000000004a denied 0000000000000004 P6
+7 18364758544493064720.4023233417 call f0e1d2c3b4a59687 denied 000000000000000d P1
+8 1.0 call 0000000000000046 ok 0000000000000000 0100000000000000
+events 8
+",
+        err: "",
+    };
+    assert_run(&rt, rt.alloc(), &run);
+}
+
 // A partition from its creation to its deletion: an id that is gone isn't there any more, and the next one
 // differs.
 #[test]

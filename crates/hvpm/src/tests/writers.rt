@@ -1,6 +1,10 @@
-use super::SERIAL;
+// What is told on standard output and standard error, where writes fail too.
+
+use super::{SERIAL, text_of};
 use crate::failure::Exit;
 use crate::run::run_text;
+use crate::usage::tell_usage;
+use hv_options::Usage;
 use std::io;
 use std::io::{ErrorKind, Write};
 use std::test::Fail;
@@ -98,4 +102,27 @@ fn failed_error(rt: HostRuntime) {
         assert_eq!(rt; out.as_slice(), text);
         assert_eq!(rt; told, exit);
     }
+}
+
+// Help goes to standard output and a mistake to standard error, whole.
+#[test]
+fn usage_is_told(rt: HostRuntime) -> Result<(), Fail> {
+    let alloc = rt.alloc();
+    let help = String::from_str(alloc, "Usage: hvpm\n\nhelp\n")?;
+    let mistake = String::from_str(alloc, "error: a\n\nb\n")?;
+    for (usage, exit, shown, told) in [
+        (Usage::Help(help), Exit::Done, "Usage: hvpm\n\nhelp\n", ""),
+        (Usage::Words(mistake), Exit::Usage, "", "error: a\n\nb\n"),
+        (Usage::Memory, Exit::Host, "", "hvpm: memory\n"),
+    ] {
+        let mut out: Vec<u8> = Vec::new(alloc);
+        let mut err: Vec<u8> = Vec::new(alloc);
+        let status = tell_usage(usage, &mut out, &mut err);
+        assert_eq!(rt; (status, text_of(&out), text_of(&err)), (exit, shown, told));
+    }
+    let help = Usage::Help(String::from_str(alloc, "help\n")?);
+    let mut err: Vec<u8> = Vec::new(alloc);
+    let status = tell_usage(help, &mut failing_after(0), &mut err);
+    assert_eq!(rt; (status, text_of(&err)), (Exit::Host, "hvpm: write\n"));
+    Ok(())
 }

@@ -2,7 +2,7 @@ use Rattle.std.proofs.Common.{◌≡◌, ◌+◌, refl, ap, ◌∙◌}
 use Rattle.std.specs.FinSet.{FinSet}
 use Rattle.std.specs.Ordering.{nat_cmp}
 use Rattle.hv_partition.specs.Partition.{PartitionState}
-use Rattle.hv_machine.proofs.Ranges.{no_range, range_upper}
+use Rattle.hv_defs.proofs.Ranges.{no_range, range_upper}
 use Rattle.hv_machine.proofs.boot.give_vps.Goals as goal
 
 rest : (start before after : PartitionState) (vps : FinSet nat_cmp) → before ≡ record start { vps = before.vps } → after ≡ record before { vps = vps } → after ≡ record start { vps = after.vps }

@@ -1,5 +1,5 @@
 use Rattle.std.proofs.Common.{◌≡◌}
-use Rattle.hv_machine.proofs.Ranges.{IsRange}
+use Rattle.hv_defs.proofs.Ranges.{IsRange}
 use Rattle.hv_machine.proofs.boot.give_vps.Given as goal
 
 abbrev pub invariant-loop-index : goal.invariant-loop-index

@@ -11,3 +11,6 @@ returns-clause-state g c = booted_flat c.args.config c.in-Ok.tree c.in-Ok.ensure
 pub returns-clause-sound : goal.returns-clause-sound
 returns-clause-sound g c =
     sound (booted_state c.args.config c.in-Ok.tree) (booted_lasting c.args.config c.in-Ok.tree c.in-Ok.ensures c.in_ok-check.ensures.ok)
+
+pub returns-clause-lasting : goal.returns-clause-lasting
+returns-clause-lasting g c = booted_lasting c.args.config c.in-Ok.tree c.in-Ok.ensures c.in_ok-check.ensures.ok

@@ -1,5 +1,76 @@
-use Rattle.hv_machine.proofs.Sound.{sound}
+use Rattle.std.proofs.Common.{◌≡◌, true, sym, ap, subst, ◌∙◌, rules}
+use Rattle.std.specs.declared.result.Result.TheVariants.{Err}
+use Rattle.hv_calls.specs.Call.{kind_of_call}
+use Rattle.hv_laws.proofs.Replies.{has_result, names_asked}
+use Rattle.hv_policy.specs.Needs.{takes_memory}
+use Rattle.hv_policy.specs.Result.{HasResult}
+use Rattle.hv_policy.specs.Step.{NamesAsked, refusal}
+use Rattle.hv_policy.specs.declared.event.Action.TheVariants.{Hypercall}
+use Rattle.hv_machine.proofs.Steps.{refused_step}
+use Rattle.hv_policy.specs.CallEvent.{call_event}
+use Rattle.hv_machine.specs.IsFlat.{IsFlat}
+use Rattle.hv_machine.specs.Served.{IsResult}
 use Rattle.hv_machine.proofs.machine.Machine.hypercall.Goals as goal
 
-pub returns-in-Err-clause-sound : goal.returns-in-Err-clause-sound
-returns-in-Err-clause-sound g c = rw (← c.self.view_is) (sound _ c.self.invariant)
+pub returns-in-Err-clause-asked : goal.returns-in-Err-clause-asked
+returns-in-Err-clause-asked g c =
+    let f = c.self.invariant.flat in
+    let stands : IsFlat c.args.self.now f = rw (← c.self.view_is) c.self.invariant.stands in
+    subst (NamesAsked (call_event c.args.by c.args.frame.now)) (ap (λ s. s.1) (refused_step f c.args.by c.args.frame.now c.in-Err.rule (c.in-Err.ensures.first f stands)) ∙ sym c.refused_reply.ensures) (names_asked f c.args.by c.args.frame.now)
+
+pub returns-in-Err-clause-result : goal.returns-in-Err-clause-result
+returns-in-Err-clause-result g c =
+    let f = c.self.invariant.flat in
+    let stands : IsFlat c.args.self.now f = rw (← c.self.view_is) c.self.invariant.stands in
+    subst HasResult (ap (λ s. s.1) (refused_step f c.args.by c.args.frame.now c.in-Err.rule (c.in-Err.ensures.first f stands)) ∙ sym c.refused_reply.ensures) (has_result f c.args.by c.args.frame.now)
+
+pub returns-in-Err-clause-lasting : goal.returns-in-Err-clause-lasting
+returns-in-Err-clause-lasting g c = rw (← c.self.view_is) c.self.invariant
+
+pub returns-in-Err-Unmet-clause-reply : goal.returns-in-Err-Unmet-clause-reply
+returns-in-Err-Unmet-clause-reply g c f flat =
+    let answered : c.refused_reply-in-Err-Unmet.result ≡ refusal (Hypercall c.args.frame.now) c.in-Err-Unmet.rule = search rules in
+    let out = subst (λ why. IsResult f c.args.by.part c.in-Ok.admitted.1 c.args.self.now (Err why) c.serve.new.self) c.in-Err-Unmet.field-0-is (c.in-Err-Unmet.ensures.outcome f flat) in
+    answered ∙ sym (ap (λ s. s.1) (refused_step f c.args.by c.args.frame.now c.in-Err-Unmet.rule (c.in-Ok.ensures.further f flat ∙ out.0)))
+
+pub returns-in-Err-Unmet-clause-state : goal.returns-in-Err-Unmet-clause-state
+returns-in-Err-Unmet-clause-state g c f flat =
+    let out = subst (λ why. IsResult f c.args.by.part c.in-Ok.admitted.1 c.args.self.now (Err why) c.serve.new.self) c.in-Err-Unmet.field-0-is (c.in-Err-Unmet.ensures.outcome f flat) in
+    subst (IsFlat c.serve.new.self) (sym (ap (λ s. s.0) (refused_step f c.args.by c.args.frame.now c.in-Err-Unmet.rule (c.in-Ok.ensures.further f flat ∙ out.0))))
+    (subst (λ m. IsFlat m f) (sym out.1) flat)
+
+pub returns-in-Err-Unmet-clause-asked : goal.returns-in-Err-Unmet-clause-asked
+returns-in-Err-Unmet-clause-asked g c =
+    let answered : c.refused_reply-in-Err-Unmet.result ≡ refusal (Hypercall c.args.frame.now) c.in-Err-Unmet.rule = search rules in
+    let f = c.self.invariant.flat in
+    let stands : IsFlat c.args.self.now f = rw (← c.self.view_is) c.self.invariant.stands in
+    let out = subst (λ why. IsResult f c.args.by.part c.in-Ok.admitted.1 c.args.self.now (Err why) c.serve.new.self) c.in-Err-Unmet.field-0-is (c.in-Err-Unmet.ensures.outcome f stands) in
+    subst (NamesAsked (call_event c.args.by c.args.frame.now)) (ap (λ s. s.1) (refused_step f c.args.by c.args.frame.now c.in-Err-Unmet.rule (c.in-Ok.ensures.further f stands ∙ out.0)) ∙ sym answered) (names_asked f c.args.by c.args.frame.now)
+
+pub returns-in-Err-Unmet-clause-result : goal.returns-in-Err-Unmet-clause-result
+returns-in-Err-Unmet-clause-result g c =
+    let answered : c.refused_reply-in-Err-Unmet.result ≡ refusal (Hypercall c.args.frame.now) c.in-Err-Unmet.rule = search rules in
+    let f = c.self.invariant.flat in
+    let stands : IsFlat c.args.self.now f = rw (← c.self.view_is) c.self.invariant.stands in
+    let out = subst (λ why. IsResult f c.args.by.part c.in-Ok.admitted.1 c.args.self.now (Err why) c.serve.new.self) c.in-Err-Unmet.field-0-is (c.in-Err-Unmet.ensures.outcome f stands) in
+    subst HasResult (ap (λ s. s.1) (refused_step f c.args.by c.args.frame.now c.in-Err-Unmet.rule (c.in-Ok.ensures.further f stands ∙ out.0)) ∙ sym answered) (has_result f c.args.by c.args.frame.now)
+
+pub returns-in-Err-Memory-clause-refused : goal.returns-in-Err-Memory-clause-refused
+returns-in-Err-Memory-clause-refused g c f flat =
+    let out = subst (λ why. IsResult f c.args.by.part c.in-Ok.admitted.1 c.args.self.now (Err why) c.serve.new.self) c.in-Err-Memory.field-0-is (c.in-Err-Memory.ensures.outcome f flat) in
+    c.in-Ok.ensures.further f flat ∙ out.0
+
+pub returns-in-Err-Memory-clause-memory : goal.returns-in-Err-Memory-clause-memory
+returns-in-Err-Memory-clause-memory g c =
+    let f = c.self.invariant.flat in
+    let stands : IsFlat c.args.self.now f = rw (← c.self.view_is) c.self.invariant.stands in
+    let out = subst (λ why. IsResult f c.args.by.part c.in-Ok.admitted.1 c.args.self.now (Err why) c.serve.new.self) c.in-Err-Memory.field-0-is (c.in-Err-Memory.ensures.outcome f stands) in
+    let takes : takes_memory (kind_of_call c.in-Ok.admitted.1) ≡ true = out.1 in
+    search rules
+
+pub returns-in-Err-Memory-clause-kept : goal.returns-in-Err-Memory-clause-kept
+returns-in-Err-Memory-clause-kept g c =
+    let f = c.self.invariant.flat in
+    let stands : IsFlat c.args.self.now f = rw (← c.self.view_is) c.self.invariant.stands in
+    let out = subst (λ why. IsResult f c.args.by.part c.in-Ok.admitted.1 c.args.self.now (Err why) c.serve.new.self) c.in-Err-Memory.field-0-is (c.in-Err-Memory.ensures.outcome f stands) in
+    out.2

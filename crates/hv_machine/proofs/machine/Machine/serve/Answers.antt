@@ -1,47 +1,50 @@
-use Rattle.std.proofs.Common.{◌+◌}
-use Rattle.hv_machine.proofs.Kept.{kept_flat, kept_lasting}
-use Rattle.hv_machine.proofs.Served.{may_change, flat_after, lasting_after}
-use Rattle.hv_machine.proofs.Sound.{sound}
+use Rattle.std.proofs.Common.{subst}
+use Rattle.std.specs.declared.result.Result.TheVariants.{Err}
+use Rattle.hv_machine.proofs.Serving.{done_flat, done_lasting, kept_state, lawful_tree, refused_result, state_of, tied_tree}
 use Rattle.hv_machine.specs.IsFlat.{IsFlat}
 use Rattle.hv_machine.specs.Lasting.{IsLasting}
-use Rattle.hv_machine.specs.State.{State}
+use Rattle.hv_machine.specs.Served.{IsResult}
 use Rattle.hv_machine.proofs.machine.Machine.serve.Goals as goal
 
-pub change-requires : goal.change-requires
-change-requires g c =
-    let m : State = record { rows = c.self.inside.tree; pages = c.self.inside.pages; next = c.self.inside.next; served = c.self.inside.served } in
-    let allowed = c.requires.allowed c.self.invariant.flat (rw (← c.self.view_is) c.self.invariant.stands) in
-    rw c.target.ensures (may_change m c.self.invariant c.args.by.part c.args.call.now allowed)
+pub dispatch-requires-clause-admitted : goal.dispatch-requires-clause-admitted
+dispatch-requires-clause-admitted g c =
+    let l : IsLasting (state_of c.self.inside.tree c.self.inside.pages c.self.inside.next c.self.inside.served) = c.self.invariant in
+    let access = c.requires.access l.flat (rw (← c.self.view_is) l.stands) in
+    (record { rows = lawful_tree c.self.inside.tree c.self.inside.pages c.self.inside.next c.self.inside.served l; active = access.active; access = access.access }, l.stands.next)
 
 pub invariant_of-self : goal.invariant_of-self
 invariant_of-self g c =
-    let m : State = record { rows = c.self.inside.tree; pages = c.self.inside.pages; next = c.self.inside.next; served = c.self.inside.served } in
-    kept_lasting m c.change.new.tree c.in_default.ensures.kept c.self.invariant
-
-pub returns-in_default-clause-sound : goal.returns-in_default-clause-sound
-returns-in_default-clause-sound g c = sound _ (invariant_of-self g c)
-
-pub returns-in_default-clause-flat : goal.returns-in_default-clause-flat
-returns-in_default-clause-flat g c f flat =
-    let m : State = record { rows = c.self.inside.tree; pages = c.self.inside.pages; next = c.self.inside.next; served = c.self.inside.served } in
-    let stands : IsFlat m f = rw c.self.view_is flat in
-    kept_flat m c.change.new.tree c.in_default.ensures.kept f stands
-
-pub invariant_of-self-2 : goal.invariant_of-self-2
-invariant_of-self-2 g c =
-    let m : State = record { rows = c.self.inside.tree; pages = c.self.inside.pages; next = c.self.inside.next; served = c.self.inside.served } in
-    let allowed = c.requires.allowed c.self.invariant.flat (rw (← c.self.view_is) c.self.invariant.stands) in
+    let l : IsLasting (state_of c.self.inside.tree c.self.inside.pages c.self.inside.next c.self.inside.served) = c.self.invariant in
+    let access = c.requires.access l.flat (rw (← c.self.view_is) l.stands) in
+    let done = c.in-Ok.ensures l.flat (tied_tree c.self.inside.tree c.self.inside.pages c.self.inside.next c.self.inside.served l.flat l.stands) l.stands.next in
     rw c.next_after-self-inside.ensures
-    (lasting_after m c.self.invariant c.args.by.part c.args.call.now allowed c.change.new.tree (rw (← c.target.ensures) c.in-Ok.ensures.changed))
+    (done_lasting c.self.inside.tree c.dispatch.new.tree c.self.inside.pages c.self.inside.next c.self.inside.served c.args.by.part c.args.call.now l access done.met done.rows)
 
-pub returns-clause-state : goal.returns-clause-state
-returns-clause-state g c f flat =
-    let m : State = record { rows = c.self.inside.tree; pages = c.self.inside.pages; next = c.self.inside.next; served = c.self.inside.served } in
-    let stands : IsFlat m f = rw c.self.view_is flat in
-    rw c.next_after-self-inside.ensures
-    (flat_after m c.self.invariant f stands c.args.by.part c.args.call.now (c.requires.allowed f flat) c.change.new.tree (rw (← c.target.ensures) c.in-Ok.ensures.changed))
+pub invariant_of-self-in-Err : goal.invariant_of-self-in-Err
+invariant_of-self-in-Err g c =
+    let l : IsLasting (state_of c.self.inside.tree c.self.inside.pages c.self.inside.next c.self.inside.served) = c.self.invariant in
+    let kept = c.in-Err.ensures l.flat (tied_tree c.self.inside.tree c.self.inside.pages c.self.inside.next c.self.inside.served l.flat l.stands) l.stands.next in
+    rw (kept_state c.self.inside.tree c.dispatch.new.tree c.self.inside.pages c.self.inside.next c.self.inside.served c.args.by.part c.args.call.now l.flat c.in-Err.refused kept) l
 
-pub returns-clause-sound : goal.returns-clause-sound
-returns-clause-sound g c =
-    let last : IsLasting (record { rows = c.change.new.tree; pages = c.self.inside.pages; next = c.next_after-self-inside.result; served = c.self.inside.served + 1 }) = invariant_of-self-2 g c in
-    sound _ last
+pub returns-in-Ok-clause-outcome : goal.returns-in-Ok-clause-outcome
+returns-in-Ok-clause-outcome g c f flat =
+    let stands : IsFlat (state_of c.self.inside.tree c.self.inside.pages c.self.inside.next c.self.inside.served) f = rw c.self.view_is flat in
+    let done = c.in-Ok.ensures f (tied_tree c.self.inside.tree c.self.inside.pages c.self.inside.next c.self.inside.served f stands) stands.next in
+    record {
+      met = done.met;
+      output = done.output;
+      flat = rw c.next_after-self-inside.ensures (done_flat c.self.inside.tree c.dispatch.new.tree c.self.inside.pages c.self.inside.next c.self.inside.served c.args.by.part c.args.call.now f stands done.rows);
+    }
+
+pub returns-in-Ok-clause-lasting : goal.returns-in-Ok-clause-lasting
+returns-in-Ok-clause-lasting g c = invariant_of-self g c
+
+pub returns-in-Err-clause-outcome : goal.returns-in-Err-clause-outcome
+returns-in-Err-clause-outcome g c f flat =
+    let stands : IsFlat (state_of c.self.inside.tree c.self.inside.pages c.self.inside.next c.self.inside.served) f = rw c.self.view_is flat in
+    let kept = c.in-Err.ensures f (tied_tree c.self.inside.tree c.self.inside.pages c.self.inside.next c.self.inside.served f stands) stands.next in
+    subst (λ m. IsResult f c.args.by.part c.args.call.now m (Err c.in-Err.refused) (state_of c.dispatch.new.tree c.self.inside.pages c.self.inside.next c.self.inside.served)) c.self.view_is
+    (refused_result c.self.inside.tree c.dispatch.new.tree c.self.inside.pages c.self.inside.next c.self.inside.served c.args.by.part c.args.call.now f c.in-Err.refused kept)
+
+pub returns-in-Err-clause-lasting : goal.returns-in-Err-clause-lasting
+returns-in-Err-clause-lasting g c = invariant_of-self-in-Err g c

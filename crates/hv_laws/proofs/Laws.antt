@@ -1,0 +1,139 @@
+-- Each state that the flat model reaches from boot is lawful.
+use Rattle.std.proofs.Common.{◌≡◌, ℕ, ◌==◌, true, false, List, [], ◌∷◌, Option, Some, None, refl, sym, ap, subst, ◌∙◌, arith}
+use Rattle.std.proofs.lemmas.Bool.{eqb-true, ne_eqb, leb-true}
+use Rattle.std.specs.FinMap.{get}
+use Rattle.hv_calls.specs.declared.call.Call.{Call}
+use Rattle.hv_calls.specs.declared.call.Call.TheVariants as call
+use Rattle.hv_calls.specs.declared.call.Call.TheVariants.{CreatePartition, InitializePartition, FinalizePartition, DeletePartition, SetPartitionProperty, DepositMemory, WithdrawMemory}
+use Rattle.hv_defs.specs.declared.life.Life.{Life}
+use Rattle.hv_defs.specs.declared.life.Life.TheVariants.{Created, Active, Finalized}
+use Rattle.hv_policy.specs.Call.{target_of}
+use Rattle.hv_policy.specs.Count.{available, child_count, in_use}
+use Rattle.hv_policy.specs.Effect.{call_effect, counted, effect, served_effect}
+use Rattle.hv_policy.specs.Flat.{Flat, PartRow}
+use Rattle.hv_policy.specs.Met.{is_active, may_give, test_row}
+use Rattle.hv_policy.specs.Needs.{is_among, states_to_set}
+use Rattle.hv_policy.specs.Property.{property_of}
+use Rattle.hv_policy.specs.Step.{run_from, step, step_by, unmet}
+use Rattle.hv_policy.specs.declared.event.Action.{Action}
+use Rattle.hv_policy.specs.declared.event.Action.TheVariants.{Hypercall}
+use Rattle.hv_policy.specs.declared.event.Caller.{Caller}
+use Rattle.hv_policy.specs.declared.event.Event.{Event}
+use Rattle.hv_policy.specs.declared.need.States.TheVariants as states
+use Rattle.hv_policy.specs.declared.property.Property.TheVariants.{PrivilegeFlags}
+use Rattle.hv_policy.specs.declared.rule.Rule.{Rule}
+use Rattle.hv_privs.proofs.PrivilegesLemmas.{contains-IsSubset}
+use Rattle.hv_privs.specs.Privileges.{contains, of}
+use Rattle.hv_laws.proofs.Changing.{activated, closed, given_row}
+use Rattle.hv_laws.proofs.Creation.{created}
+use Rattle.hv_laws.proofs.Deleting.{deleted}
+use Rattle.hv_laws.proofs.Granted.{caller_there, child_row, is_served, state_row, target_there}
+use Rattle.hv_laws.proofs.Lending.{deposited, withdrawn_pages}
+use Rattle.hv_policy.proofs.Rows.{row_of}
+use Rattle.hv_policy.specs.Allowed.{IsAllowed}
+use Rattle.hv_laws.specs.Lawful.{IsLawful}
+
+-- one more served event changes nothing of it
+pub counted_lawful : (pages : ℕ) (f : Flat) → IsLawful pages f → IsLawful pages (counted f)
+counted_lawful pages f l = record {
+  below = l.below;
+  above = l.above;
+  within = l.within;
+  idle = l.idle;
+  masks = l.masks;
+  paged = l.paged;
+  owned = l.owned;
+  few = let few = l.few in omega arith;
+}
+
+idle_state : (life : Life) → is_among life states.CreatedOrFinalized ≡ true → is_active life ≡ false
+idle_state Created h = refl
+idle_state Active h = cc
+idle_state Finalized h = refl
+
+not_running : (life : Life) → is_among life states.Created ≡ true → is_active life ≡ false
+not_running Created h = refl
+not_running Active h = cc
+not_running Finalized h = cc
+
+module _ (pages : ℕ) (f : Flat) (l : IsLawful pages f) (caller : ℕ) where
+  -- what is there and isn't Active uses nothing
+  unused : (id : ℕ) (row : PartRow) → get f.part id ≡ Some row → is_active row.life ≡ false → in_use f id ≡ 0
+  unused id row is idle = l.idle id (ap (test_row (λ row. is_active row.life)) is ∙ idle)
+
+  delete_lawful : (partition : ℕ) → IsAllowed f caller (DeletePartition partition) → IsLawful pages (call_effect (DeletePartition partition) f caller (target_of (DeletePartition partition) caller))
+  delete_lawful partition a =
+      let (row, is, parent) = child_row f caller (DeletePartition partition) a refl in
+      let (old, was, state) = state_row f caller (DeletePartition partition) a a.further.0 in
+      let less = l.above (target_of (DeletePartition partition) caller) caller row is parent in
+      deleted pages f l caller (target_of (DeletePartition partition) caller)
+      (ne_eqb caller (target_of (DeletePartition partition) caller) (λ same. omega (arith, same, less)))
+      (caller_there f caller (DeletePartition partition) a)
+      (unused (target_of (DeletePartition partition) caller) old was (idle_state old.life state))
+
+  set_lawful : (partition code value : ℕ) → IsAllowed f caller (SetPartitionProperty partition code value) → IsLawful pages (call_effect (SetPartitionProperty partition code value) f caller (target_of (SetPartitionProperty partition code value) caller))
+  set_lawful partition code value a =
+      given_row pages f l (target_of (SetPartitionProperty partition code value) caller) (property_of code) value (λ is.
+      let (row, there, parent) = child_row f caller (SetPartitionProperty partition code value) a refl in
+      let (old, was, state) = state_row f caller (SetPartitionProperty partition code value) a a.further.1.0 in
+      let created : is_among old.life states.Created ≡ true = subst (λ p. is_among old.life (states_to_set p) ≡ true) is state in
+      let given : may_give (Some PrivilegeFlags) value f caller ≡ true = subst (λ p. may_give p value f caller ≡ true) is a.further.1.1.0 in
+      let (above, up, within) = row_of f caller (λ row. contains row.mask (of value)) given in
+      (caller, row, above, there, parent, up, (contains-IsSubset above.mask (of value)).0 within, unused (target_of (SetPartitionProperty partition code value) caller) old was (not_running old.life created)))
+
+  finalize_lawful : (partition : ℕ) → IsAllowed f caller (FinalizePartition partition) → IsLawful pages (call_effect (FinalizePartition partition) f caller (target_of (FinalizePartition partition) caller))
+  finalize_lawful partition a =
+      let (row, there, none) = row_of f (target_of (FinalizePartition partition) caller) (λ row. child_count f (target_of (FinalizePartition partition) caller) == 0) a.further.1.0 in
+      closed pages f l (target_of (FinalizePartition partition) caller) (eqb-true (child_count f (target_of (FinalizePartition partition) caller)) 0 none)
+
+  -- what a call changes that its rules allow
+  pub granted_lawful : (call : Call) → IsAllowed f caller call → IsLawful pages (counted (call_effect call f caller (target_of call caller)))
+  granted_lawful (CreatePartition flags) a = created pages f l caller a.active (leb-true 2 (available f caller) a.further.1.0)
+  granted_lawful (InitializePartition partition) a = counted_lawful pages _ (activated pages f l (target_of (InitializePartition partition) caller))
+  granted_lawful (FinalizePartition partition) a = counted_lawful pages _ (finalize_lawful partition a)
+  granted_lawful (DeletePartition partition) a = counted_lawful pages _ (delete_lawful partition a)
+  granted_lawful (SetPartitionProperty partition code value) a = counted_lawful pages _ (set_lawful partition code value a)
+  granted_lawful (DepositMemory partition page) a =
+      counted_lawful pages _ (deposited pages f l caller (target_of (DepositMemory partition page) caller) (caller_there f caller (DepositMemory partition page) a) page
+      (target_there f caller (DepositMemory partition page) a) a.further.1.0)
+  granted_lawful (WithdrawMemory partition) a =
+      counted_lawful pages _ (withdrawn_pages pages f l caller (target_of (WithdrawMemory partition) caller) (caller_there f caller (WithdrawMemory partition) a)
+      (leb-true 1 (available f (target_of (WithdrawMemory partition) caller)) a.further.0))
+  granted_lawful (call.GetPartitionProperty partition code) a = counted_lawful pages f l
+  granted_lawful call.GetPartitionId a = counted_lawful pages f l
+  granted_lawful (call.GetNextChildPartition partition previous) a = counted_lawful pages f l
+  granted_lawful (call.GetMemoryBalance partition) a = counted_lawful pages f l
+  granted_lawful (call.CreateVp partition vp) a = counted_lawful pages f l
+  granted_lawful (call.DeleteVp partition vp) a = counted_lawful pages f l
+  granted_lawful (call.GetVpRegisters partition vp name) a = counted_lawful pages f l
+  granted_lawful (call.SetVpRegisters partition vp name value) a = counted_lawful pages f l
+  granted_lawful (call.DeletePort partition port) a = counted_lawful pages f l
+  granted_lawful (call.DisconnectPort partition connection) a = counted_lawful pages f l
+  granted_lawful (call.PostMessage connection message_type payload) a = counted_lawful pages f l
+  granted_lawful (call.SignalEvent connection flag) a = counted_lawful pages f l
+  granted_lawful (call.CreatePort partition port peer port_kind sint vp base count) a = counted_lawful pages f l
+  granted_lawful (call.ConnectPort partition connection port_partition port port_kind) a = counted_lawful pages f l
+
+module _ {A : Type 0} (pages : ℕ) where
+  by_action : (f : Flat) → IsLawful pages f → (by : Caller) (what : Action A) → unmet f (record { by = by; what = what }) ≡ None → IsLawful pages (effect f (record { by = by; what = what }))
+  by_action f l by (Hypercall frame) h =
+      let served = is_served f by frame h in
+      subst (λ call. IsLawful pages (counted (served_effect f by.part call))) (sym served.served)
+      (granted_lawful pages f l by.part served.call served.granted)
+
+  -- a served event
+  pub lawful_effect : (f : Flat) (e : Event A) → IsLawful pages f → unmet f e ≡ None → IsLawful pages (effect f e)
+  lawful_effect f e l h = by_action f l e.by e.what h
+
+  -- one event
+  pub lawful_step : (f : Flat) (e : Event A) → IsLawful pages f → IsLawful pages (step f e).0
+  lawful_step f e l = by (unmet f e) refl
+    where
+      by : (rule : Option Rule) → unmet f e ≡ rule → IsLawful pages (step_by f e rule).0
+      by None is = lawful_effect f e l is
+      by (Some rule) is = l
+
+  -- any events
+  pub lawful_run : (f : Flat) (events : List (Event A)) → IsLawful pages f → IsLawful pages (run_from f events).0
+  lawful_run f [] l = l
+  lawful_run f (e ∷ events) l = lawful_run (step f e).0 events (lawful_step f e l)

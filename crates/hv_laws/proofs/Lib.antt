@@ -1,0 +1,10 @@
+pub mod Booting
+pub mod Changing
+pub mod Creation
+pub mod Deleting
+pub mod Granted
+pub mod Laws
+pub mod Lending
+pub mod Readings
+pub mod Replies
+pub mod Uses

@@ -1,0 +1,114 @@
+-- What each reply of the flat machine tells of its event.
+use Rattle.std.proofs.Common.{◌≡◌, ℕ, zero, suc, ◌+◌, ◌<◌, ◌/◌, ◌^◌, Bool, true, false, cond, not, List, [], ◌∷◌, Option, Some, None, find, is_some, nat_le, refl, sym, ap, subst, ◌∙◌, arith}
+use Rattle.std.proofs.Math.Nat.{mod-lt}
+use Rattle.std.proofs.lemmas.Bool.{or_parts, leb-false}
+use Rattle.std.specs.List.{AllByRecursion, Contains}
+use Rattle.hv_abi.specs.CallRow.{row_of}
+use Rattle.hv_abi.specs.declared.call_kind.CallKind.{CallKind}
+use Rattle.hv_abi.specs.declared.call_kind.CallKind.TheVariants as kind
+use Rattle.hv_abi.specs.declared.frame.Frame.{Frame}
+use Rattle.hv_abi.specs.declared.status.Status.{Status}
+use Rattle.hv_defs.specs.Bits.{bits}
+use Rattle.hv_policy.specs.Answer.{is_done}
+use Rattle.hv_policy.specs.Asked.{asked, call_rules}
+use Rattle.hv_policy.specs.Call.{served_kind}
+use Rattle.hv_policy.specs.Flat.{Flat}
+use Rattle.hv_policy.specs.Met.{met}
+use Rattle.hv_policy.specs.Result.{HasResult}
+use Rattle.hv_policy.specs.Rule.{rule_status}
+use Rattle.hv_policy.specs.Step.{NamesAsked, denied_with, step, step_by, unmet}
+use Rattle.hv_policy.specs.declared.event.Action.TheVariants.{Hypercall}
+use Rattle.hv_policy.specs.declared.event.Caller.{Caller}
+use Rattle.hv_policy.specs.declared.event.Event.{Event}
+use Rattle.hv_policy.specs.declared.reply.Reply.TheVariants.{Served, More}
+use Rattle.hv_policy.specs.declared.rule.Rule.{Rule}
+
+-- what is found stands in the list
+found_in : {X : Type 0} (p : X → Bool) (xs : List X) (x : X) → find p xs ≡ Some x → Contains xs x
+found_in p [] x e = cc
+found_in {X = X} p (y ∷ ys) x e = by (p y) e (found_in p ys x)
+  where
+    by : (b : Bool) → cond b (Some y) (find p ys) ≡ Some x → (find p ys ≡ Some x → Contains ys x) → Contains (y ∷ ys) x
+    by true e rest = let is : y ≡ x = cc in (zero, omega arith, is)
+    by false e rest = let (i, lt, is) = rest e in (suc i, omega arith, is)
+
+-- and has what all in the list have
+found_has : {X : Type 0} (p q : X → Bool) (xs : List X) (x : X) → AllByRecursion (λ x. q x ≡ true) xs → find p xs ≡ Some x → q x ≡ true
+found_has p q [] x all e = cc
+found_has {X = X} p q (y ∷ ys) x all e = by (p y) e (found_has p q ys x all.1)
+  where
+    by : (b : Bool) → cond b (Some y) (find p ys) ≡ Some x → (find p ys ≡ Some x → q x ≡ true) → q x ≡ true
+    by true e rest = let is : y ≡ x = cc in sym (ap q is) ∙ all.0
+    by false e rest = rest e
+
+named : {A : Type 0} (frame : Frame A) (rules : List Rule) (rule : Rule) (status : Option Status) → Contains rules rule → (by : Caller) → rules ≡ asked (record { by = by; what = Hypercall frame }) → NamesAsked (record { by = by; what = Hypercall frame }) (denied_with frame rule status)
+named frame rules rule None there by is = subst (λ rules. Contains rules rule) is there
+named frame rules rule (Some status) there by is = subst (λ rules. Contains rules rule) is there
+
+-- the rules that a call is asked have a status for it
+have_status : (k : Option CallKind) → AllByRecursion (λ rule. is_some (rule_status rule k) ≡ true) (call_rules k)
+have_status None = (refl, tt)
+have_status (Some kind.CreatePartition) = (refl, (refl, (refl, (refl, (refl, (refl, (refl, (refl, (refl, tt)))))))))
+have_status (Some kind.InitializePartition) = (refl, (refl, (refl, (refl, (refl, (refl, (refl, (refl, tt))))))))
+have_status (Some kind.FinalizePartition) = (refl, (refl, (refl, (refl, (refl, (refl, (refl, (refl, (refl, tt)))))))))
+have_status (Some kind.DeletePartition) = (refl, (refl, (refl, (refl, (refl, (refl, (refl, (refl, tt))))))))
+have_status (Some kind.GetPartitionProperty) = (refl, (refl, (refl, (refl, (refl, (refl, (refl, (refl, tt))))))))
+have_status (Some kind.SetPartitionProperty) = (refl, (refl, (refl, (refl, (refl, (refl, (refl, (refl, (refl, (refl, (refl, tt)))))))))))
+have_status (Some kind.GetPartitionId) = (refl, (refl, (refl, (refl, (refl, (refl, (refl, tt)))))))
+have_status (Some kind.GetNextChildPartition) = (refl, (refl, (refl, (refl, (refl, (refl, (refl, (refl, tt))))))))
+have_status (Some kind.DepositMemory) = (refl, (refl, (refl, (refl, (refl, (refl, (refl, (refl, (refl, tt)))))))))
+have_status (Some kind.WithdrawMemory) = (refl, (refl, (refl, (refl, (refl, (refl, (refl, (refl, tt))))))))
+have_status (Some kind.GetMemoryBalance) = (refl, (refl, (refl, (refl, (refl, (refl, (refl, tt)))))))
+have_status (Some kind.CreateVp) = (refl, (refl, (refl, (refl, (refl, (refl, (refl, (refl, (refl, (refl, tt))))))))))
+have_status (Some kind.DeleteVp) = (refl, (refl, (refl, (refl, (refl, (refl, (refl, (refl, (refl, tt)))))))))
+have_status (Some kind.GetVpRegisters) = (refl, (refl, (refl, (refl, (refl, (refl, (refl, (refl, (refl, (refl, (refl, tt)))))))))))
+have_status (Some kind.SetVpRegisters) = (refl, (refl, (refl, (refl, (refl, (refl, (refl, (refl, (refl, (refl, (refl, tt)))))))))))
+have_status (Some kind.DeletePort) = (refl, (refl, (refl, (refl, (refl, (refl, (refl, (refl, (refl, tt)))))))))
+have_status (Some kind.DisconnectPort) = (refl, (refl, (refl, (refl, (refl, (refl, (refl, (refl, (refl, tt)))))))))
+have_status (Some kind.PostMessage) = (refl, (refl, (refl, (refl, (refl, (refl, (refl, (refl, (refl, (refl, (refl, (refl, (refl, tt)))))))))))))
+have_status (Some kind.SignalEvent) = (refl, (refl, (refl, (refl, (refl, (refl, (refl, (refl, (refl, (refl, (refl, (refl, tt))))))))))))
+have_status (Some kind.CreatePort) = (refl, (refl, (refl, (refl, (refl, (refl, (refl, (refl, (refl, (refl, (refl, (refl, tt))))))))))))
+have_status (Some kind.ConnectPort) = (refl, (refl, (refl, (refl, (refl, (refl, (refl, (refl, (refl, (refl, (refl, (refl, (refl, (refl, tt))))))))))))))
+
+module _ {A : Type 0} (f : Flat) (caller : Caller) (frame : Frame A) where
+  abbrev event : Event A
+  event = record { by = caller; what = Hypercall frame }
+
+  denied : (rule : Rule) (status : Option Status) → is_some status ≡ true → HasResult (denied_with frame rule status)
+  denied rule None h = cc
+  denied rule (Some status) h = tt
+
+  more : (k : Option CallKind) → is_done frame k ≡ false → bits frame.rcx 48 12 + 1 < 4096
+  more None h = cc
+  more (Some k) h =
+      let last = or_parts (not (row_of k).rep) (nat_le (bits frame.rcx 32 12) (bits frame.rcx 48 12 + 1)) h in
+      let above = leb-false (bits frame.rcx 32 12) (bits frame.rcx 48 12 + 1) last.1 in
+      let small : bits frame.rcx 32 12 < 2 ^ 12 = mod-lt (frame.rcx / 2 ^ 32) (omega arith) in
+      omega arith
+
+  served : (b : Bool) → is_done frame (served_kind frame) ≡ b → (bytes : List ℕ) → HasResult (cond b (Served bytes) (More (bits frame.rcx 48 12 + 1) bytes))
+  served true is bytes = tt
+  served false is bytes = more (served_kind frame) is
+
+  -- each reply to a call has a result value
+  pub has_result : HasResult (step f event).1
+  has_result = by (unmet f event) refl
+    where
+      by : (rule : Option Rule) → unmet f event ≡ rule → HasResult (step_by f event rule).1
+      by None is = served (is_done frame (served_kind frame)) refl _
+      by (Some rule) is = denied rule (rule_status rule (served_kind frame)) (status rule is)
+        where
+          status : (rule : Rule) → unmet f event ≡ Some rule → is_some (rule_status rule (served_kind frame)) ≡ true
+          status rule is = found_has (λ rule. not (met rule f event)) (λ rule. is_some (rule_status rule (served_kind frame))) (asked event) rule (refl, (refl, (refl, have_status (served_kind frame)))) is
+
+  -- the rule of a refusal is one that is asked
+  pub names_asked : NamesAsked event (step f event).1
+  names_asked = by (unmet f event) refl
+    where
+      done : (b : Bool) (bytes : List ℕ) (next : ℕ) → NamesAsked event (cond b (Served bytes) (More next bytes))
+      done true bytes next = tt
+      done false bytes next = tt
+
+      by : (rule : Option Rule) → unmet f event ≡ rule → NamesAsked event (step_by f event rule).1
+      by None is = done (is_done frame (served_kind frame)) _ _
+      by (Some rule) is = named frame (asked event) rule (rule_status rule (served_kind frame)) (found_in (λ rule. not (met rule f event)) (asked event) rule is) caller refl

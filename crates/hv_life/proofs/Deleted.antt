@@ -1,0 +1,165 @@
+-- A partition that was deleted, and its pages with its heir.
+use Rattle.std.proofs.Common.{◌≡◌, ℕ, ◌==◌, Bool, true, false, cond, ◌&&◌, ◌||◌, not, map, Option, Some, None, refl, sym, ap, subst, ◌∙◌}
+use Rattle.std.proofs.lemmas.Bool.{eqb-true, eq-eqb}
+use Rattle.std.specs.Cmp.{nat_cmp_total, nat_eq_equiv}
+use Rattle.std.specs.FinMap.{get, remove, entries, from_entries}
+use Rattle.std.specs.FinSet as set
+use Rattle.std.specs.Option.{option_map}
+use Rattle.std.specs.Ordering.{nat_cmp}
+use Rattle.hv_partition.specs.Partition.{PartitionState}
+use Rattle.hv_policy.specs.Boot.{start_vp}
+use Rattle.hv_policy.specs.Effect.{inherited}
+use Rattle.hv_policy.specs.Flat.{Flat, PageRow}
+use Rattle.hv_defs.proofs.Maps.{get_at-insert, get_at-remove, get-mapped}
+use Rattle.hv_tree.specs.Rows.{Row, Rows}
+use Rattle.hv_life.specs.Change.{IsDeleted, heir_of}
+use Rattle.hv_tie.specs.Tie.{IsTied, Shows, is_held, holds}
+
+-- a row after a deletion
+pub get-deleted : (old new : Rows PartitionState) (heir id : ℕ) (d : IsDeleted old new heir id) (q : ℕ) → get new q ≡ cond (q == heir) (Some (heir_of d.gone.1 d.room d.owner)) (cond (q == id) None (get old q))
+get-deleted old new heir id d q = ap (λ rows. get rows q) d.rows ∙ get_at-insert (remove old id) heir (heir_of d.gone.1 d.room d.owner) q ∙ ap (cond (q == heir) (Some (heir_of d.gone.1 d.room d.owner))) (get_at-remove old id q)
+
+-- who holds a page of a partition that is gone, and any other page
+module _ (gone heir : ℕ) (apart : gone == heir ≡ false) where
+  after : PageRow → PageRow
+  after = inherited gone heir
+
+  own_after : (page : PageRow) (b : Bool) → page.owner == gone ≡ b → inherited gone heir page ≡ cond b (record { owner = heir; pooled = false }) page
+  own_after page b is = ap (λ t. cond t (record { owner = heir; pooled = false }) page) is
+
+  not_gone : (page : PageRow) (id : ℕ) → page.owner == gone ≡ true → id == gone ≡ false → page.owner == id ≡ false
+  not_gone page id is off = ap (λ n. n == id) (eqb-true page.owner gone is) ∙ nat_eq_equiv.symm gone id ∙ off
+
+  -- a third partition holds what it held
+  held_other : (id : ℕ) (pooled : Bool) (page : Option PageRow) → id == heir ≡ false → id == gone ≡ false → is_held id pooled (option_map (inherited gone heir) page) ≡ is_held id pooled page
+  held_other id pooled None off away = refl
+  held_other id pooled (Some page) off away = by (page.owner == gone) pooled refl
+    where
+      heir_off : heir == id ≡ false
+      heir_off = nat_eq_equiv.symm heir id ∙ off
+
+      by : (b pooled : Bool) → page.owner == gone ≡ b → is_held id pooled (Some (inherited gone heir page)) ≡ is_held id pooled (Some page)
+      by true true is = rw (own_after page true is, heir_off, not_gone page id is away) refl
+      by true false is = rw (own_after page true is, heir_off, not_gone page id is away) refl
+      by false true is = rw (own_after page false is) refl
+      by false false is = rw (own_after page false is) refl
+
+  -- the partition that is gone holds none
+  held_gone : (pooled : Bool) (page : Option PageRow) → is_held gone pooled (option_map (inherited gone heir) page) ≡ false
+  held_gone pooled None = refl
+  held_gone pooled (Some page) = by (page.owner == gone) pooled refl
+    where
+      heir_off : heir == gone ≡ false
+      heir_off = nat_eq_equiv.symm heir gone ∙ apart
+
+      by : (b pooled : Bool) → page.owner == gone ≡ b → is_held gone pooled (Some (inherited gone heir page)) ≡ false
+      by true true is = rw (own_after page true is, heir_off) refl
+      by true false is = rw (own_after page true is, heir_off) refl
+      by false true is = rw (own_after page false is, is) refl
+      by false false is = rw (own_after page false is, is) refl
+
+  -- the heir's pool is what it was
+  held_pool : (page : Option PageRow) → is_held heir true (option_map (inherited gone heir) page) ≡ is_held heir true page
+  held_pool None = refl
+  held_pool (Some page) = by (page.owner == gone) refl
+    where
+      no_more : (b : Bool) → (b && false) ≡ false
+      no_more true = refl
+      no_more false = refl
+
+      by : (b : Bool) → page.owner == gone ≡ b → is_held heir true (Some (inherited gone heir page)) ≡ is_held heir true (Some page)
+      by true is = rw (own_after page true is) (no_more (heir == heir)) ∙ sym (ap (λ t. t && page.pooled) (not_gone page heir is (nat_eq_equiv.symm heir gone ∙ apart)))
+      by false is = rw (own_after page false is) refl
+
+  -- its loose pages are those of the three
+  held_loose : (page : Option PageRow) → is_held heir false (option_map (inherited gone heir) page) ≡ (is_held heir false page || is_held gone false page) || is_held gone true page
+  held_loose None = refl
+  held_loose (Some page) = by (page.owner == gone) refl
+    where
+      all : (x p : Bool) → true ≡ ((x && not p) || not p) || p
+      all true true = refl
+      all true false = refl
+      all false true = refl
+      all false false = refl
+
+      none : (x : Bool) → x ≡ (x || false) || false
+      none true = refl
+      none false = refl
+
+      by : (b : Bool) → page.owner == gone ≡ b → is_held heir false (Some (inherited gone heir page)) ≡ (is_held heir false (Some page) || is_held gone false (Some page)) || is_held gone true (Some page)
+      by true is = rw (own_after page true is, eq-eqb heir heir refl, is) (all (page.owner == heir) page.pooled)
+      by false is = rw (own_after page false is, is) (none (page.owner == heir && not page.pooled))
+
+module _ (rows : Rows PartitionState) (f : Flat) (flat : IsTied rows f) (new : Rows PartitionState) (heir id : ℕ) (apart : id == heir ≡ false) (d : IsDeleted rows new heir id) (idle : d.gone.1.vps ≡ set.empty) where
+  abbrev deleted : Flat
+  deleted = record f {
+    part = remove f.part id;
+    page = from_entries (map (λ e. (e.0, inherited id heir e.1)) (entries f.page));
+  }
+
+  abbrev owner_after : Row PartitionState
+  owner_after = heir_of d.gone.1 d.room d.owner
+
+  row_after : (q : ℕ) → get new q ≡ cond (q == heir) (Some owner_after) (cond (q == id) None (get rows q))
+  row_after = get-deleted rows new heir id d
+
+  page_after : (page : ℕ) → get deleted.page page ≡ option_map (inherited id heir) (get f.page page)
+  page_after page = get-mapped (inherited id heir) f.page page
+
+  part_after : (q : ℕ) (b : Bool) → q == id ≡ b → get deleted.part q ≡ cond b None (get f.part q)
+  part_after q b is = get_at-remove f.part id q ∙ ap (λ t. cond t None (get f.part q)) is
+
+  apart_back : heir == id ≡ false
+  apart_back = nat_eq_equiv.symm heir id ∙ apart
+
+  own_page : (page : ℕ) (pooled : Bool) → is_held heir pooled (get deleted.page page) ≡ holds pooled page (Some owner_after)
+  own_page page true =
+      ap (is_held heir true) (page_after page) ∙ held_pool id heir apart (get f.page page)
+      ∙ (flat.rows heir).page page true ∙ ap (holds true page) d.there
+  own_page page false =
+      let own : is_held heir false (get f.page page) ≡ set.contains d.owner.1.loose.pages page = (flat.rows heir).page page false ∙ ap (holds false page) d.there in
+      let loose : is_held id false (get f.page page) ≡ set.contains d.gone.1.loose.pages page = (flat.rows id).page page false ∙ ap (holds false page) d.was in
+      let pooled : is_held id true (get f.page page) ≡ set.contains d.gone.1.pooled.pages page = (flat.rows id).page page true ∙ ap (holds true page) d.was in
+      ap (is_held heir false) (page_after page) ∙ held_loose id heir apart (get f.page page) ∙ rw (own, loose, pooled) refl
+      ∙ sym (set.contains-union nat_cmp_total (set.union d.owner.1.loose.pages d.gone.1.loose.pages) d.gone.1.pooled.pages page ∙ ap (λ b. b || set.contains d.gone.1.pooled.pages page) (set.contains-union nat_cmp_total d.owner.1.loose.pages d.gone.1.loose.pages page))
+
+  deleted_shows : (q : ℕ) → Shows deleted q (get new q)
+  deleted_shows q = subst (Shows deleted q) (sym (row_after q)) (by (q == heir) (q == id) refl refl)
+    where
+      by : (s t : Bool) → q == heir ≡ s → q == id ≡ t → Shows deleted q (cond s (Some owner_after) (cond t None (get rows q)))
+      by true t is at =
+          let here : q ≡ heir = eqb-true q heir is in
+          let old : Shows f q (Some d.owner) = subst (Shows f q) (ap (get rows) here ∙ d.there) (flat.rows q) in
+          record {
+            part = part_after q false (ap (λ n. n == id) here ∙ apart_back) ∙ old.part;
+            page = λ page pooled. ap (λ n. is_held n pooled (get deleted.page page)) here ∙ own_page page pooled;
+            vp = old.vp;
+            port = old.port;
+            conn = old.conn;
+          }
+      by false true is at =
+          let here : q ≡ id = eqb-true q id at in
+          let old : Shows f q (Some d.gone) = subst (Shows f q) (ap (get rows) here ∙ d.was) (flat.rows q) in
+          record {
+            part = part_after q true at;
+            page = λ page pooled. ap (λ n. is_held n pooled (get deleted.page page)) here ∙ ap (is_held id pooled) (page_after page) ∙ held_gone id heir apart pooled (get f.page page) ∙ no_page pooled page;
+            vp = λ n. old.vp n ∙ ap (λ s. cond (set.contains s n) (Some (start_vp n)) None) idle ∙ ap (λ b. cond b (Some (start_vp n)) None) (set.contains-empty nat_cmp n);
+            port = old.port;
+            conn = old.conn;
+          }
+        where
+          no_page : (pooled : Bool) (page : ℕ) → false ≡ holds pooled page None
+          no_page true page = refl
+          no_page false page = refl
+      by false false is at =
+          let old = flat.rows q in
+          record {
+            part = part_after q false at ∙ old.part;
+            page = λ page pooled. ap (is_held q pooled) (page_after page) ∙ held_other id heir apart q pooled (get f.page page) is at ∙ old.page page pooled;
+            vp = old.vp;
+            port = old.port;
+            conn = old.conn;
+          }
+
+  pub deleted_tied : IsTied new deleted
+  deleted_tied = record { rows = deleted_shows; mail = flat.mail }

@@ -1,0 +1,150 @@
+// The calls of this chapter.
+ghost use Rattle.std.specs.Prelude.{◌≡◌};
+ghost use Rattle.hv_calls.specs.declared.call.Call.TheVariants as call;
+ghost use Rattle.hv_policy.specs.Flat.{Flat};
+ghost use Rattle.hv_tie.specs.Served.{AreLawful, IsAdmitted, IsOutcome, unmet_further};
+ghost use Rattle.hv_tie.specs.Tie.{IsTied};
+
+use crate::rows::{create, delete, finalize, initialize};
+use crate::rules::{is_childless, is_depth_left, is_previous_there, next_child};
+use hv_defs::PARTITION_CHARGE;
+use hv_partition::Partition;
+use hv_policy::{Output, Rule, States};
+use hv_tie::{Refused, has_available, is_state_allowed, meant, number_output};
+use hv_tree::IdTree;
+use std::alloc::{AllocError, Allocator};
+
+/// HvCreatePartition: a new partition with the id `next` below the caller, Created and without pages. The flags have no
+/// effect. It uses 2 pages of the caller's pool.
+pub fn create_partition<A: Allocator + Clone>(
+    tree: &mut IdTree<Partition<A>, A>,
+    alloc: &A,
+    caller: u64,
+    next: u64,
+    flags: u64,
+) -> Result<Output, Refused>
+    requires { (a : IsAdmitted tree.old caller (call.CreatePartition flags)) × (a.rows.flat.next ≡ next) }
+    ensures { (f : Flat) → IsTied tree.old f → f.next ≡ next → IsOutcome f caller (call.CreatePartition flags) tree.old result tree.new }
+{
+    if let Some(rule) = unmet_create(tree, caller, flags) {
+        return Err(Refused::Unmet(rule));
+    }
+    match create(tree, alloc, caller, next) {
+        Ok(()) => Ok(number_output(next)),
+        Err(AllocError) => Err(Refused::Memory),
+    }
+}
+
+// P14 and P24.
+fn unmet_create<A: Allocator>(
+    tree: &IdTree<Partition<A>, A>,
+    caller: u64,
+    flags: u64,
+) -> Option<Rule>
+    requires { AreLawful tree.now }
+    ensures { (f : Flat) → IsTied tree.now f → result ≡ unmet_further f caller (call.CreatePartition flags) }
+{
+    let _ = flags;
+    if !is_depth_left(tree, caller) {
+        return Some(Rule::Depth);
+    }
+    if !has_available(tree, caller, PARTITION_CHARGE) {
+        return Some(Rule::Pages);
+    }
+    None
+}
+
+/// HvInitializePartition: the target becomes Active.
+pub fn initialize_partition<A: Allocator>(
+    tree: &mut IdTree<Partition<A>, A>,
+    caller: u64,
+    partition: u64,
+) -> Result<Output, Refused>
+    ensures { (f : Flat) → IsTied tree.old f → IsOutcome f caller (call.InitializePartition partition) tree.old result tree.new }
+{
+    let target = meant(caller, partition);
+    if !is_state_allowed(tree, target, States::Created) {
+        return Err(Refused::Unmet(Rule::TargetState));
+    }
+    initialize(tree, target);
+    Ok(Output::new())
+}
+
+/// HvFinalizePartition: the target becomes Finalized, and its virtual processors go. Its pages stay.
+pub fn finalize_partition<A: Allocator>(
+    tree: &mut IdTree<Partition<A>, A>,
+    caller: u64,
+    partition: u64,
+) -> Result<Output, Refused>
+    ensures { (f : Flat) → IsTied tree.old f → IsOutcome f caller (call.FinalizePartition partition) tree.old result tree.new }
+{
+    if let Some(rule) = unmet_finalize(tree, caller, partition) {
+        return Err(Refused::Unmet(rule));
+    }
+    finalize(tree, meant(caller, partition));
+    Ok(Output::new())
+}
+
+// P12 and P13.
+fn unmet_finalize<A: Allocator>(
+    tree: &IdTree<Partition<A>, A>,
+    caller: u64,
+    partition: u64,
+) -> Option<Rule>
+    ensures { (f : Flat) → IsTied tree.now f → result ≡ unmet_further f caller (call.FinalizePartition partition) }
+{
+    let target = meant(caller, partition);
+    if !is_state_allowed(tree, target, States::CreatedOrActive) {
+        return Some(Rule::TargetState);
+    }
+    if !is_childless(tree, target) {
+        return Some(Rule::NoChildren);
+    }
+    None
+}
+
+/// HvDeletePartition: the target goes, and all its pages become loose pages of the caller.
+pub fn delete_partition<A: Allocator>(
+    tree: &mut IdTree<Partition<A>, A>,
+    caller: u64,
+    partition: u64,
+) -> Result<Output, Refused>
+    requires { IsAdmitted tree.old caller (call.DeletePartition partition) }
+    ensures { (f : Flat) → IsTied tree.old f → IsOutcome f caller (call.DeletePartition partition) tree.old result tree.new }
+{
+    let target = meant(caller, partition);
+    if !is_state_allowed(tree, target, States::CreatedOrFinalized) {
+        return Err(Refused::Unmet(Rule::TargetState));
+    }
+    match delete(tree, caller, target) {
+        Ok(()) => Ok(Output::new()),
+        Err(AllocError) => Err(Refused::Memory),
+    }
+}
+
+/// HvGetPartitionId: the caller's id.
+pub fn get_partition_id<A: Allocator>(
+    tree: &IdTree<Partition<A>, A>,
+    caller: u64,
+) -> Result<Output, Refused>
+    ensures { (f : Flat) → IsTied tree.now f → IsOutcome f caller call.GetPartitionId tree.now result tree.now }
+{
+    let _ = tree;
+    Ok(number_output(caller))
+}
+
+/// HvGetNextChildPartition: the least id above `previous` among the target's children, 0 if there is none.
+pub fn get_next_child_partition<A: Allocator>(
+    tree: &IdTree<Partition<A>, A>,
+    caller: u64,
+    partition: u64,
+    previous: u64,
+) -> Result<Output, Refused>
+    ensures { (f : Flat) → IsTied tree.now f → IsOutcome f caller (call.GetNextChildPartition partition previous) tree.now result tree.now }
+{
+    let target = meant(caller, partition);
+    if !is_previous_there(tree, target, previous) {
+        return Err(Refused::Unmet(Rule::OtherExists));
+    }
+    Ok(number_output(next_child(tree, target, previous)))
+}

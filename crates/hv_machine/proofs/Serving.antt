@@ -1,0 +1,116 @@
+-- From what a chapter made of a call to the machine.
+use Rattle.std.proofs.Common.{◌≡◌, ℕ, ◌+◌, None, refl, ap, ◌∙◌}
+use Rattle.std.specs.declared.result.Result.TheVariants.{Err}
+use Rattle.hv_calls.specs.declared.call.Call.{Call}
+use Rattle.hv_calls.specs.declared.call.Call.TheVariants.{CreatePartition, InitializePartition, FinalizePartition, DeletePartition, GetPartitionProperty, SetPartitionProperty, GetPartitionId, GetNextChildPartition, DepositMemory, WithdrawMemory, GetMemoryBalance, CreateVp, DeleteVp, GetVpRegisters, SetVpRegisters, DeletePort, DisconnectPort, PostMessage, SignalEvent, CreatePort, ConnectPort}
+use Rattle.hv_laws.proofs.Laws.{granted_lawful}
+use Rattle.hv_partition.specs.Partition.{PartitionState}
+use Rattle.hv_policy.specs.Call.{target_of}
+use Rattle.hv_policy.specs.Effect.{call_effect, counted}
+use Rattle.hv_policy.specs.Flat.{Flat}
+use Rattle.hv_tie.proofs.Allowed.{admitted_allowed}
+use Rattle.hv_tie.proofs.Room.{roomless_tied, same_roomless, tied_roomless}
+use Rattle.hv_tie.specs.Room.{roomless}
+use Rattle.hv_tie.specs.Served.{AreLawful, IsOutcome, unmet_further}
+use Rattle.hv_tie.specs.Tie.{IsTied}
+use Rattle.hv_tie.specs.declared.refused.Refused.{Refused}
+use Rattle.hv_tie.specs.declared.refused.Refused.TheVariants.{Unmet, Memory}
+use Rattle.hv_tree.specs.Rows.{Rows}
+use Rattle.hv_machine.specs.Access.{HasAccess}
+use Rattle.hv_machine.specs.IsFlat.{IsFlat}
+use Rattle.hv_machine.specs.Lasting.{IsLasting}
+use Rattle.hv_machine.specs.Next.{next_after}
+use Rattle.hv_machine.specs.Served.{IsResult}
+use Rattle.hv_machine.specs.State.{State}
+
+-- what a call leaves as the next id and the count of served events
+next_is : (call : Call) (f : Flat) (caller target : ℕ) → (call_effect call f caller target).next ≡ next_after call f.next
+next_is (CreatePartition flags) f caller target = refl
+next_is (InitializePartition partition) f caller target = refl
+next_is (FinalizePartition partition) f caller target = refl
+next_is (DeletePartition partition) f caller target = refl
+next_is (GetPartitionProperty partition code) f caller target = refl
+next_is (SetPartitionProperty partition code value) f caller target = refl
+next_is GetPartitionId f caller target = refl
+next_is (GetNextChildPartition partition previous) f caller target = refl
+next_is (DepositMemory partition page) f caller target = refl
+next_is (WithdrawMemory partition) f caller target = refl
+next_is (GetMemoryBalance partition) f caller target = refl
+next_is (CreateVp partition vp) f caller target = refl
+next_is (DeleteVp partition vp) f caller target = refl
+next_is (GetVpRegisters partition vp name) f caller target = refl
+next_is (SetVpRegisters partition vp name value) f caller target = refl
+next_is (DeletePort partition port) f caller target = refl
+next_is (DisconnectPort partition connection) f caller target = refl
+next_is (PostMessage connection message_type payload) f caller target = refl
+next_is (SignalEvent connection flag) f caller target = refl
+next_is (CreatePort partition port peer port_kind sint vp base count) f caller target = refl
+next_is (ConnectPort partition connection port_partition port port_kind) f caller target = refl
+
+served_is : (call : Call) (f : Flat) (caller target : ℕ) → (call_effect call f caller target).served ≡ f.served
+served_is (CreatePartition flags) f caller target = refl
+served_is (InitializePartition partition) f caller target = refl
+served_is (FinalizePartition partition) f caller target = refl
+served_is (DeletePartition partition) f caller target = refl
+served_is (GetPartitionProperty partition code) f caller target = refl
+served_is (SetPartitionProperty partition code value) f caller target = refl
+served_is GetPartitionId f caller target = refl
+served_is (GetNextChildPartition partition previous) f caller target = refl
+served_is (DepositMemory partition page) f caller target = refl
+served_is (WithdrawMemory partition) f caller target = refl
+served_is (GetMemoryBalance partition) f caller target = refl
+served_is (CreateVp partition vp) f caller target = refl
+served_is (DeleteVp partition vp) f caller target = refl
+served_is (GetVpRegisters partition vp name) f caller target = refl
+served_is (SetVpRegisters partition vp name value) f caller target = refl
+served_is (DeletePort partition port) f caller target = refl
+served_is (DisconnectPort partition connection) f caller target = refl
+served_is (PostMessage connection message_type payload) f caller target = refl
+served_is (SignalEvent connection flag) f caller target = refl
+served_is (CreatePort partition port peer port_kind sint vp base count) f caller target = refl
+served_is (ConnectPort partition connection port_partition port port_kind) f caller target = refl
+
+-- a machine of this tree
+abbrev pub state_of : Rows PartitionState → ℕ → ℕ → ℕ → State
+state_of tree pages next served = record { rows = roomless tree; pages = pages; next = next; served = served }
+
+module _ (tree : Rows PartitionState) (pages next served : ℕ) where
+  -- its rows are those of a lawful flat state
+  abbrev pub lawful_tree : (l : IsLasting (state_of tree pages next served)) → AreLawful tree
+  lawful_tree l = record { pages = pages; bounded = l.bounded; flat = l.flat; tied = tied_roomless tree l.flat l.stands.tied; lawful = l.lawful }
+
+  -- and those of each flat state that it stands for
+  pub tied_tree : (f : Flat) → IsFlat (state_of tree pages next served) f → IsTied tree f
+  tied_tree f flat = tied_roomless tree f flat.tied
+
+module _ (tree new : Rows PartitionState) (pages next served caller : ℕ) (call : Call) where
+  -- the machine after the call stands for what the policy makes of each flat state that it stood for
+  pub done_flat : (f : Flat) → IsFlat (state_of tree pages next served) f → IsTied new (call_effect call f caller (target_of call caller)) → IsFlat (state_of new pages (next_after call next) (served + 1)) (counted (call_effect call f caller (target_of call caller)))
+  done_flat f flat tied =
+      let shown = roomless_tied new (call_effect call f caller (target_of call caller)) tied in
+      record {
+        tied = record { rows = λ id. (let old = shown.rows id in record { part = old.part; page = old.page; vp = old.vp; port = old.port; conn = old.conn }); mail = shown.mail };
+        next = next_is call f caller (target_of call caller) ∙ ap (next_after call) flat.next;
+        served = ap (λ n. n + 1) (served_is call f caller (target_of call caller) ∙ flat.served);
+      }
+
+  -- and that is lawful
+  pub done_lasting : (l : IsLasting (state_of tree pages next served)) → HasAccess l.flat caller call → unmet_further l.flat caller call ≡ None → IsTied new (call_effect call l.flat caller (target_of call caller)) → IsLasting (state_of new pages (next_after call next) (served + 1))
+  done_lasting l a met tied = record {
+    flat = counted (call_effect call l.flat caller (target_of call caller));
+    stands = done_flat l.flat l.stands tied;
+    lawful = granted_lawful pages l.flat l.lawful caller call (admitted_allowed tree caller call (record { rows = lawful_tree tree pages next served l; active = a.active; access = a.access }) met);
+    bounded = l.bounded;
+  }
+
+  -- a call that was refused leaves the rows as they were, but for room
+  pub kept_rows : (f : Flat) (why : Refused) → IsOutcome f caller call tree (Err why) new → roomless new ≡ roomless tree
+  kept_rows f (Unmet rule) h = ap roomless h.1
+  kept_rows f Memory h = same_roomless tree new h.rows
+
+  pub kept_state : (f : Flat) (why : Refused) → IsOutcome f caller call tree (Err why) new → state_of new pages next served ≡ state_of tree pages next served
+  kept_state f why h = ap (λ rows. record { rows = rows; pages = pages; next = next; served = served }) (kept_rows f why h)
+
+  pub refused_result : (f : Flat) (why : Refused) → IsOutcome f caller call tree (Err why) new → IsResult f caller call (state_of tree pages next served) (Err why) (state_of new pages next served)
+  refused_result f (Unmet rule) h = (h.0, kept_state f (Unmet rule) h)
+  refused_result f Memory h = (h.met, h.memory, kept_state f Memory h)

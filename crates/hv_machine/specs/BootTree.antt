@@ -1,0 +1,24 @@
+-- What boot makes.
+use Rattle.std.specs.Prelude.{◌≡◌, ℕ, ◌&&◌, nat_le, nat_lt, None}
+use Rattle.std.specs.FinMap as map
+use Rattle.std.specs.FinSet as set
+use Rattle.hv_defs.specs.declared.life.Life.TheVariants.{Active}
+use Rattle.hv_defs.specs.declared.sizes.TheConstants.{ROOT_ID}
+use Rattle.hv_partition.specs.Partition.{PartitionState, new_partition}
+use Rattle.hv_policy.specs.declared.config.Config.{Config}
+use Rattle.hv_tree.specs.Rows.{Rows}
+
+-- the root partition that boot makes: the first pages pooled, the others loose, and so many processors
+pub record IsBootRoot (config : Config) (p : PartitionState) : Type 0 where
+  pub start : p ≡ record (new_partition Active config.mask) { loose = p.loose; pooled = p.pooled; vps = p.vps }
+  pub loose : (page : ℕ) → set.contains p.loose.pages page ≡ nat_le config.pool page && nat_lt page config.pages
+  pub pooled : (page : ℕ) → set.contains p.pooled.pages page ≡ nat_lt page config.pool
+  pub pool : set.len p.pooled.pages ≡ config.pool
+  pub vps : (index : ℕ) → set.contains p.vps index ≡ nat_lt index config.vps
+  pub vp_count : set.len p.vps ≡ config.vps
+
+-- the root is the one partition
+pub record IsBootTree (config : Config) (rows : Rows PartitionState) : Type 0 where
+  pub partition : PartitionState
+  pub root : IsBootRoot config partition
+  pub alone : rows ≡ map.insert map.empty ROOT_ID (None, partition)

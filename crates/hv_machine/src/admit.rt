@@ -1,0 +1,43 @@
+// The rules up to P10, asked in the policy's order.
+ghost use Rattle.std.specs.Prelude.{◌≡◌, Some, IfOk, IfErr, IsTrue};
+ghost use Rattle.hv_abi.specs.Check.{IsShape};
+ghost use Rattle.hv_calls.specs.Call.{kind_of_call};
+ghost use Rattle.hv_policy.specs.Call.{is_served};
+ghost use Rattle.hv_policy.specs.CallEvent.{IsCall, call_event};
+ghost use Rattle.hv_policy.specs.Flat.{Flat};
+ghost use Rattle.hv_policy.specs.Step.{unmet};
+ghost use Rattle.hv_tie.specs.Served.{unmet_further};
+ghost use Rattle.hv_machine.specs.Access.{HasAccess};
+ghost use Rattle.hv_machine.specs.IsFlat.{IsFlat};
+
+use crate::machine::Machine;
+use hv_abi::{Frame, Shape};
+use hv_calls::Call;
+use hv_policy::{Caller, Rule, ask_frame};
+use hv_tie::{unmet_access, unmet_by_caller};
+use std::alloc::Allocator;
+
+impl<A: Allocator> Machine<A> {
+    // The call that a frame holds where P1 to P10 are met, and what its input value says; else the first of them that
+    // isn't met.
+    pub fn admit(&self, by: Caller, frame: &Frame<A>) -> Result<(Shape, Call), Rule>
+        ensures shape { IfOk result (λ asked. IsShape frame.now asked.0) }
+        ensures call { IfOk result (λ asked. IsCall frame.now asked.0 asked.1) }
+        ensures known { IfOk result (λ asked. IsTrue (is_served (kind_of_call asked.1))) }
+        ensures access { IfOk result (λ asked. (f : Flat) → IsFlat self.now f → HasAccess f by.part asked.1) }
+        ensures further { IfOk result (λ asked. (f : Flat) → IsFlat self.now f → unmet f (call_event by frame.now) ≡ unmet_further f by.part asked.1) }
+        ensures first { IfErr result (λ rule. (f : Flat) → IsFlat self.now f → unmet f (call_event by frame.now) ≡ Some rule) }
+    {
+        if let Some(rule) = unmet_by_caller(&self.tree, by) {
+            return Err(rule);
+        }
+        let (shape, call) = match ask_frame(frame) {
+            Ok(asked) => asked,
+            Err(rule) => return Err(rule),
+        };
+        if let Some(rule) = unmet_access(&self.tree, by, &call) {
+            return Err(rule);
+        }
+        Ok((shape, call))
+    }
+}

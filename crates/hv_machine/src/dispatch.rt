@@ -1,0 +1,97 @@
+// The calls, each to its chapter.
+ghost use Rattle.std.specs.Prelude.{◌≡◌, ◌+◌, ◌-◌, ◌^◌, ◌<◌, IsTrue};
+ghost use Rattle.hv_calls.specs.Call.{kind_of_call};
+ghost use Rattle.hv_policy.specs.Call.{is_served};
+ghost use Rattle.hv_policy.specs.Flat.{Flat};
+ghost use Rattle.hv_tie.specs.Served.{IsAdmitted, IsOutcome};
+ghost use Rattle.hv_tie.specs.Tie.{IsTied};
+ghost use Rattle.hv_machine.specs.Next.{next_after as next_id_after};
+
+use hv_calls::Call;
+use hv_life::{
+    create_partition, delete_partition, finalize_partition, get_next_child_partition,
+    get_partition_id, initialize_partition,
+};
+use hv_partition::Partition;
+use hv_policy::Output;
+use hv_pools::{deposit_memory, get_memory_balance, withdraw_memory};
+use hv_properties::{get_partition_property, set_partition_property};
+use hv_tie::Refused;
+use hv_tree::IdTree;
+use std::alloc::Allocator;
+
+// Hands a call for which P1 to P10 are met to its chapter. `next` is the id that the next partition gets.
+pub fn dispatch<A: Allocator + Clone>(
+    tree: &mut IdTree<Partition<A>, A>,
+    alloc: &A,
+    caller: u64,
+    next: u64,
+    call: &Call,
+) -> Result<Output, Refused>
+    requires admitted { (a : IsAdmitted tree.old caller call.now) × (a.rows.flat.next ≡ next) }
+    requires known { IsTrue (is_served (kind_of_call call.now)) }
+    ensures { (f : Flat) → IsTied tree.old f → f.next ≡ next → IsOutcome f caller call.now tree.old result tree.new }
+{
+    match call {
+        Call::CreatePartition { flags } => create_partition(tree, alloc, caller, next, *flags),
+        Call::InitializePartition { partition } => initialize_partition(tree, caller, *partition),
+        Call::FinalizePartition { partition } => finalize_partition(tree, caller, *partition),
+        Call::DeletePartition { partition } => delete_partition(tree, caller, *partition),
+        Call::GetPartitionProperty { partition, code } => get_partition_property(
+            tree, caller, *partition, *code,
+        ),
+        Call::SetPartitionProperty {
+            partition,
+            code,
+            value,
+        } => set_partition_property(tree, caller, *partition, *code, *value),
+        Call::GetPartitionId => get_partition_id(tree, caller),
+        Call::GetNextChildPartition {
+            partition,
+            previous,
+        } => get_next_child_partition(tree, caller, *partition, *previous),
+        Call::DepositMemory { partition, page } => deposit_memory(tree, caller, *partition, *page),
+        Call::WithdrawMemory { partition } => withdraw_memory(tree, caller, *partition),
+        Call::GetMemoryBalance { partition } => get_memory_balance(tree, caller, *partition),
+        Call::CreateVp { .. }
+        | Call::DeleteVp { .. }
+        | Call::GetVpRegisters { .. }
+        | Call::SetVpRegisters { .. }
+        | Call::DeletePort { .. }
+        | Call::DisconnectPort { .. }
+        | Call::PostMessage { .. }
+        | Call::SignalEvent { .. }
+        | Call::CreatePort { .. }
+        | Call::ConnectPort { .. } => unreachable!(),
+    }
+}
+
+// The id that the next partition gets after a call.
+pub fn next_after(call: &Call, next: u64) -> u64
+    requires { next < 2 ^ 64 - 1 }
+    ensures { result ≡ next_id_after call.now next }
+{
+    match call {
+        Call::CreatePartition { .. } => next + 1,
+        Call::InitializePartition { .. }
+        | Call::FinalizePartition { .. }
+        | Call::DeletePartition { .. }
+        | Call::GetPartitionProperty { .. }
+        | Call::SetPartitionProperty { .. }
+        | Call::GetPartitionId
+        | Call::GetNextChildPartition { .. }
+        | Call::DepositMemory { .. }
+        | Call::WithdrawMemory { .. }
+        | Call::GetMemoryBalance { .. }
+        | Call::CreateVp { .. }
+        | Call::DeleteVp { .. }
+        | Call::GetVpRegisters { .. }
+        | Call::SetVpRegisters { .. }
+        | Call::DeletePort { .. }
+        | Call::DisconnectPort { .. }
+        | Call::PostMessage { .. }
+        | Call::SignalEvent { .. }
+        | Call::CreatePort { .. }
+        | Call::ConnectPort { .. } => next,
+    }
+}

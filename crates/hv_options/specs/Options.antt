@@ -1,0 +1,70 @@
+-- The command line, and what its words say.
+use Rattle.std.specs.Prelude.{◌≢◌, Bool, true, false, List, [], ◌∷◌, Option, Some}
+use Rattle.std.specs.Prelude.{codes, option_and_then, option_map}
+use Rattle.std.specs.Option.{option_map_or}
+use Rattle.std.specs.Str.{bytes_eq}
+use Rattle.clap.specs.Words.{App, IsAmong, Kinds, Row, Rule, Text, fault_of, first_of, new_app}
+use Rattle.clap.specs.Words.{subcommand_rows_of}
+use Rattle.clap.specs.declared.parser.matches.ArgMatches.{ArgMatches}
+use Rattle.clap.specs.Words.{new_rule, subcommand_of, with_rule, with_subcommand}
+use Rattle.clap.specs.Simple.{on_top}
+use Rattle.clap.specs.declared.builder.action.ArgAction.TheVariants.{SetTrue}
+use Rattle.clap.specs.declared.error.kind.ErrorKind.TheVariants.{DisplayHelp}
+use Rattle.hv_options.specs.declared.usage.Usage.{Usage}
+use Rattle.hv_options.specs.declared.usage.Usage.TheVariants.{Help, Words, Memory}
+
+-- the argument SCRIPT, which is required
+abbrev pub script_rule : Rule
+script_rule = record (new_rule (codes "SCRIPT")) { required = true }
+
+-- a flag `--name`, which takes no value
+abbrev pub flag_rule : Text → Rule
+flag_rule name = record (new_rule name) { long = Some name; action = Some SetTrue }
+
+-- `run SCRIPT --serial --table`
+abbrev pub run_command : App
+run_command = with_rule (with_rule (with_rule (new_app (codes "run")) script_rule)
+    (flag_rule (codes "serial"))) (flag_rule (codes "table"))
+
+-- `hvpm` alone, which needs a subcommand
+abbrev pub bare_command : App
+bare_command = on_top (λ s. record s { subcommand_required = true }) (new_app (codes "hvpm"))
+
+-- the whole command line
+abbrev pub command_line : App
+command_line = with_subcommand bare_command run_command.top
+
+-- clap's matches of `run`, where the words enter it
+unfoldable pub run_matches : List Text → Option (List Row)
+run_matches words = option_map (λ entered. entered.1) (subcommand_of command_line words)
+
+-- the value `true` of a flag says that it was given
+abbrev pub is_given : Text → List Row → Bool
+is_given name rows = option_map_or (λ value. bytes_eq value (codes "true")) (first_of name rows) false
+
+-- what the words say: the script, and whether `--serial` and `--table` were given
+abbrev pub said_by_rows : List Row → Option (Text × Bool × Bool)
+said_by_rows rows = option_map (λ script. (
+  script,
+  is_given (codes "serial") rows,
+  is_given (codes "table") rows,
+)) (first_of (codes "SCRIPT") rows)
+
+-- what clap's matches say
+abbrev pub said_by_matches : ArgMatches → Option (Text × Bool × Bool)
+said_by_matches m =
+    option_and_then said_by_rows (option_map (λ entered. entered.1) (subcommand_rows_of m))
+
+-- what the words say, by clap's matches of them
+abbrev pub said_by : List Text → Option (Text × Bool × Bool)
+said_by words = option_and_then said_by_rows (run_matches words)
+
+-- the kinds of clap's error at the words, and none where it takes them
+unfoldable pub faults_of : List Text → Kinds
+faults_of words = fault_of command_line words
+
+-- what a refusal says of these kinds: help was asked for, or it was not that alone
+abbrev pub Explains : Kinds → Usage → Type 0
+Explains kinds (Help text) = IsAmong DisplayHelp kinds
+Explains kinds (Words text) = kinds ≢ DisplayHelp ∷ []
+Explains kinds Memory = Unit {0}

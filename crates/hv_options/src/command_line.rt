@@ -1,0 +1,125 @@
+// The command line, and what its words ask for.
+ghost use Rattle.std.specs.Prelude.{◌≡◌, ◌∷◌, [], List, ℕ, Some, true, false, map, IfOk, IfErr, OnOk, codes};
+ghost use Rattle.clap.specs.Words.{HasKind, Kinds, app_of, found_of, kind_of, rows_of, rule_of};
+ghost use Rattle.hv_options.specs.Options.{Explains, command_line, faults_of, flag_rule, is_given, said_by, said_by_matches};
+
+use crate::usage::{Options, Usage};
+use clap::error::ErrorKind;
+use clap::{Arg, ArgAction, ArgMatches, Command, Error as ClapError};
+use std::alloc::{AllocError, Global};
+use std::convert::AsStr;
+
+/// Reads the words of the command line, of which the first is the program's name, as in `env::args`.
+///
+/// For now `--serial` is required and `--table` is refused: `Words` says so.
+pub fn options<'a, S: AsStr>(alloc: Global, words: &'a [S]) -> Result<Options<'a>, Usage>
+    ensures said { IfOk result (λ o. said_by (map S.text words.entry.now) ≡ Some (o.script.now, o.serial, o.table)) }
+    ensures faultless { OnOk result (faults_of (map S.text words.entry.now) ≡ []) }
+    ensures for_now { IfOk result (λ o. (o.serial ≡ true) × (o.table ≡ false)) }
+    ensures refused { IfErr result (Explains (faults_of (map S.text words.entry.now))) }
+    ensures accepted { (script : List ℕ) → faults_of (map S.text words.entry.now) ≡ []
+        → said_by (map S.text words.entry.now) ≡ Some (script, true, false)
+        → IfErr result (λ usage. usage ≡ Usage.Memory) }
+{
+    let command = command(alloc)?;
+    match command.try_get_matches_from(words) {
+        Ok(matches) => read(alloc, &matches),
+        Err(error) => Err(refusal(alloc, &error)),
+    }
+}
+
+// The whole command line, as clap takes it.
+fn command<'a>(alloc: Global) -> Result<Command<'a>, AllocError>
+    ensures { IfOk result (λ c. app_of c ≡ command_line) }
+{
+    let script = Arg::new(alloc, "SCRIPT")
+        .required(true)
+        .help("The script: a boot line, and a line for each hypercall");
+    let serial = flag(
+        alloc,
+        "serial",
+        "Run the lines in the script's order, with no thread",
+    );
+    let table = flag(
+        alloc,
+        "table",
+        "Print the table of partitions after the audit",
+    );
+    let run = Command::new(alloc, "run")
+        .about("Runs a script and prints its audit")
+        .arg(script)?
+        .arg(serial)?
+        .arg(table)?;
+    Command::new(alloc, "hvpm")
+        .about("Runs a script of hypercalls on a model of Hyper-V's partition manager")
+        .subcommand_required(true)
+        .subcommand(run)
+}
+
+fn flag<'a>(alloc: Global, name: &'a str, help: &'a str) -> Arg<'a>
+    ensures rule { rule_of result ≡ flag_rule name.entry.now }
+    ensures local { result.global ≡ false }
+{
+    Arg::new(alloc, name)
+        .long(name)
+        .action(ArgAction::SetTrue)
+        .help(help)
+}
+
+// What the matches say, where clap took the words.
+fn read<'a>(alloc: Global, matches: &ArgMatches<'a>) -> Result<Options<'a>, Usage>
+    ensures said { IfOk result (λ o. said_by_matches matches.now ≡ Some (o.script.now, o.serial, o.table)) }
+    ensures for_now { IfOk result (λ o. (o.serial ≡ true) × (o.table ≡ false)) }
+    ensures refused { IfErr result (Explains []) }
+    ensures accepted { (script : List ℕ) → said_by_matches matches.now ≡ Some (script, true, false)
+        → IfErr result (λ usage. usage ≡ Usage.Memory) }
+{
+    let Some((_, run)) = matches.subcommand() else {
+        return Err(Usage::mistake(alloc, "error: no subcommand\n"));
+    };
+    let Some(script) = run.get_str("SCRIPT") else {
+        return Err(Usage::mistake(alloc, "error: no script\n"));
+    };
+    let serial = is_given(run, "serial");
+    let table = is_given(run, "table");
+    if !serial {
+        return Err(Usage::mistake(
+            alloc,
+            "error: `--serial` is required, since no threads are there yet\n",
+        ));
+    }
+    if table {
+        return Err(Usage::mistake(alloc, "error: `--table` is not there yet\n"));
+    }
+    Ok(Options {
+        script,
+        serial,
+        table,
+    })
+}
+
+// Whether a flag was given: its value is `true` then.
+fn is_given(matches: &ArgMatches<'_>, name: &str) -> bool
+    ensures { result ≡ is_given name.now (rows_of (found_of matches.now)) }
+{
+    match matches.get_str(name) {
+        Some(value) => value == "true",
+        None => false,
+    }
+}
+
+// A refusal of clap's, with its text.
+fn refusal(alloc: Global, error: &ClapError) -> Usage
+    ensures explains { (kinds : Kinds) → HasKind kinds error.now → Explains kinds result }
+    ensures memory { kind_of error.now ≡ ErrorKind.OutOfMemory → result ≡ Usage.Memory }
+{
+    let kind = error.kind();
+    if kind == ErrorKind::OutOfMemory {
+        return Usage::Memory;
+    }
+    match error.to_string(alloc) {
+        Ok(text) if kind == ErrorKind::DisplayHelp => Usage::Help(text),
+        Ok(text) => Usage::Words(text),
+        Err(_) => Usage::Memory,
+    }
+}

@@ -1,0 +1,10 @@
+// The two kinds of pages that a partition has.
+
+/// What a partition's pages are for.
+#[derive(Clone, Copy, PartialEq, Eq, Debug)]
+pub enum PageKind {
+    /// The partition's own memory.
+    Loose,
+    /// Its pool: these pay for what it makes, its children and processors.
+    Pooled,
+}

@@ -1,0 +1,50 @@
+-- Rows of a flat state after a change, and those that rules which are met tell of.
+use Rattle.std.proofs.Common.{◌≡◌, ℕ, ◌==◌, Bool, true, false, cond, not, List, [], ◌∷◌, Option, Some, None, find, inl, inr, refl, sym, ap, ◌∙◌}
+use Rattle.std.proofs.lemmas.Bool.{cases_Bool, eqb-true}
+use Rattle.std.specs.FinMap.{FinMap, get, get-retain_keys}
+use Rattle.std.specs.List.{AllByRecursion}
+use Rattle.std.specs.Option.{option_map}
+use Rattle.std.specs.Ordering.{nat_cmp}
+use Rattle.hv_defs.proofs.Maps.{get_at-insert}
+use Rattle.hv_policy.proofs.Pairs.{pair_cmp_exact}
+use Rattle.hv_policy.specs.Effect.{with_row, changed_at, rows_but}
+use Rattle.hv_policy.specs.Flat.{Flat, PartRow, pair_cmp}
+use Rattle.hv_policy.specs.Met.{test_row, on_part}
+use Rattle.hv_policy.specs.declared.rule.Rule.{Rule}
+
+-- a row of the model once one of them is changed
+pub get-with_row : (part : FinMap nat_cmp PartRow) (id : ℕ) (g : PartRow → PartRow) (q : ℕ) → get (with_row part id g) q ≡ cond (q == id) (option_map g (get part id)) (get part q)
+get-with_row part id g q = by (get part id) refl
+  where
+    by : (r : Option PartRow) → get part id ≡ r → get (changed_at part id g r) q ≡ cond (q == id) (option_map g r) (get part q)
+    by None is = elim (cases_Bool (q == id)) [
+      | inl s ↦ rw s (ap (get part) (eqb-true q id s) ∙ is)
+      | inr s ↦ rw s refl
+    ]
+    by (Some r) is = get_at-insert part id (g r) q
+
+-- rows by (partition, number) without those of one partition
+pub get-rows_but : {X : Type 0} (rows : FinMap pair_cmp X) (id : ℕ) (key : ℕ × ℕ) → get (rows_but id rows) key ≡ cond (not (key.0 == id)) (get rows key) None
+get-rows_but rows id key = get-retain_keys rows (λ key. not (key.0 == id)) key (λ x tied. ap (λ key. not (key.0 == id)) (sym (pair_cmp_exact key x tied)))
+
+-- the row that a test is met on
+pub row_of : (f : Flat) (id : ℕ) (test : PartRow → Bool) → on_part f id test ≡ true → (row : PartRow) × (get f.part id ≡ Some row) × (test row ≡ true)
+row_of f id test h = by (get f.part id) refl h
+  where
+    by : (r : Option PartRow) → get f.part id ≡ r → test_row test r ≡ true → (row : PartRow) × (get f.part id ≡ Some row) × (test row ≡ true)
+    by None is h = cc
+    by (Some row) is h = (row, is, h)
+
+-- where no rule is unmet, each is met
+pub all_met : (test : Rule → Bool) (rules : List Rule) → find (λ rule. not (test rule)) rules ≡ None → AllByRecursion (λ rule. test rule ≡ true) rules
+all_met test [] h = tt
+all_met test (rule ∷ rules) h = by (test rule) refl h (all_met test rules)
+  where
+    by : (b : Bool) → test rule ≡ b → cond (not b) (Some rule) (find (λ rule. not (test rule)) rules) ≡ None → (find (λ rule. not (test rule)) rules ≡ None → AllByRecursion (λ rule. test rule ≡ true) rules) → (test rule ≡ true) × AllByRecursion (λ rule. test rule ≡ true) rules
+    by true is h rest = (is, rest h)
+    by false is h rest = cc
+
+-- and the other way round
+pub none_unmet : (test : Rule → Bool) (rules : List Rule) → AllByRecursion (λ rule. test rule ≡ true) rules → find (λ rule. not (test rule)) rules ≡ None
+none_unmet test [] h = refl
+none_unmet test (rule ∷ rules) h = ap (λ b. cond (not b) (Some rule) (find (λ rule. not (test rule)) rules)) h.0 ∙ none_unmet test rules h.1

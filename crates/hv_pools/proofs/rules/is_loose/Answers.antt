@@ -1,0 +1,29 @@
+use Rattle.std.proofs.Common.{◌≡◌, ◌≤◌, false, None, inl, inr, sym, ap, ◌∙◌, rules, arith}
+use Rattle.std.proofs.lemmas.Bool.{cases_lt}
+use Rattle.std.specs.FinMap.{get}
+use Rattle.hv_pages.specs.PageSet.{PagesAndRoom}
+use Rattle.hv_partition.specs.Partition.{PartitionState}
+use Rattle.hv_tie.proofs.Found.{content_row}
+use Rattle.hv_tie.proofs.Lawful.{beyond}
+use Rattle.hv_pools.proofs.Lowest.{loose_held}
+use Rattle.hv_tie.specs.Tie.{holds}
+use Rattle.hv_pools.proofs.rules.is_loose.Goals as goal
+
+pub returns-in_default : goal.returns-in_default
+returns-in_default g c f flat =
+    let none : get c.args.tree.now c.args.id ≡ None = search rules in
+    sym (loose_held c.args.tree.now f flat c.args.id c.args.page ∙ ap (holds false c.args.page) none)
+
+pub returns-in-Ok : goal.returns-in-Ok
+returns-in-Ok g c f flat =
+    let (r, is, same) = content_row c.args.tree.now c.args.id c.in-Some.partition.now c.in-Some.ensures in
+    let number : c.in-Ok.page ≡ c.args.page = search rules in
+    let pages : c.pages.result.now.pages ≡ r.1.loose.pages = ap {A = PagesAndRoom} (λ p. p.pages) (c.pages.ensures ∙ ap {A = PartitionState} (λ p. p.loose) (sym same)) in
+    c.holds.ensures ∙ rw (pages, number) (sym (loose_held c.args.tree.now f flat c.args.id c.args.page ∙ ap (holds false c.args.page) is))
+
+pub returns-in-Err : goal.returns-in-Err
+returns-in-Err g c f flat =
+    let law = c.requires in
+    let bounded = law.bounded in
+    let large : law.pages ≤ c.args.page = (elim (cases_lt c.args.page 4294967296) [ inl lt ↦ absurd (c.in-Err.ensures lt) | inr le ↦ omega arith ]) in
+    sym (loose_held c.args.tree.now f flat c.args.id c.args.page ∙ beyond c.args.tree.now law.flat law.tied law.pages law.lawful c.args.id c.args.page false large)

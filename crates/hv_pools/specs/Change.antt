@@ -1,0 +1,97 @@
+-- What the calls of this chapter make of the rows, and what they need of them.
+use Rattle.std.specs.Prelude.{◌≡◌, ℕ, ◌<◌, ◌≤◌, ◌^◌, true, false, Option, Some}
+use Rattle.std.specs.Option.{option_map}
+use Rattle.std.specs.FinSet as set
+use Rattle.hv_pages.specs.PageSet.{PagesAndRoom, IsDisjoint, IsLowest}
+use Rattle.hv_partition.specs.Partition.{PartitionState, pages_in, with_pages}
+use Rattle.hv_partition.specs.declared.kind.PageKind.{PageKind}
+use Rattle.hv_partition.specs.declared.kind.PageKind.TheVariants.{Loose, Pooled}
+use Rattle.hv_tree.specs.Rows.{Rows, content, change}
+
+-- the other kind
+abbrev pub other : PageKind → PageKind
+other Loose = Pooled
+other Pooled = Loose
+
+-- a partition's pages of a kind, with their room
+abbrev pub pages_at : Rows PartitionState → ℕ → PageKind → Option PagesAndRoom
+pages_at rows id kind = option_map (pages_in kind) (content rows id)
+
+-- the rows with other pages of a kind of a partition
+abbrev pub with_pages_at : Rows PartitionState → ℕ → PageKind → PagesAndRoom → Rows PartitionState
+with_pages_at rows id kind pages = change rows id (with_pages kind pages)
+
+-- a partition's pages of a kind were changed so
+pub record HasPages (old new : Rows PartitionState) (id : ℕ) (kind : PageKind) (How : PagesAndRoom → PagesAndRoom → Type 0) : Type 0 where
+  pub before : PagesAndRoom
+  pub at : pages_at old id kind ≡ Some before
+  pub after : PagesAndRoom
+  pub how : How before after
+  pub rows : new ≡ with_pages_at old id kind after
+
+-- the same pages with room for one more; the pages without one of them; without the lowest; and with one more
+abbrev pub HasOneRoom : PagesAndRoom → PagesAndRoom → Type 0
+HasOneRoom before after = (after.pages ≡ before.pages) × (1 ≤ after.room)
+
+abbrev pub HasLost : ℕ → PagesAndRoom → PagesAndRoom → Type 0
+HasLost page before after = after.pages ≡ set.remove before.pages page
+
+abbrev pub HasLostLowest : ℕ → PagesAndRoom → PagesAndRoom → Type 0
+HasLostLowest page before after = IsLowest before.pages page × (after.pages ≡ set.remove before.pages page)
+
+abbrev pub HasGained : ℕ → PagesAndRoom → PagesAndRoom → Type 0
+HasGained page before after = after.pages ≡ set.insert before.pages page
+
+-- pages that are there, have room for one more, and don't hold this one
+pub record CanGain (page : ℕ) (pages : Option PagesAndRoom) : Type 0 where
+  pub there : PagesAndRoom
+  pub at : pages ≡ Some there
+  pub room : 1 ≤ there.room
+  pub new : set.contains there.pages page ≡ false
+
+-- pages that are there, and some
+pub record CanLose (pages : Option PagesAndRoom) : Type 0 where
+  pub there : PagesAndRoom
+  pub at : pages ≡ Some there
+  pub some : there.pages ≡ set.empty → ⊥
+
+-- a page of one kind of `from` became a page of the other kind of `to`
+pub record IsMoved (old new : Rows PartitionState) (from to page : ℕ) (kind : PageKind) : Type 0 where
+  pub source : PagesAndRoom
+  pub had : pages_at old from kind ≡ Some source
+  pub left : PagesAndRoom
+  pub lost : left.pages ≡ set.remove source.pages page
+  pub target : PagesAndRoom
+  pub there : pages_at old to (other kind) ≡ Some target
+  pub come : PagesAndRoom
+  pub gained : come.pages ≡ set.insert target.pages page
+  pub rows : new ≡ with_pages_at (with_pages_at old from kind left) to (other kind) come
+
+-- a loose page of `from` went to the pool of `to`
+abbrev pub IsDeposited : Rows PartitionState → Rows PartitionState → ℕ → ℕ → ℕ → Type 0
+IsDeposited old new from to page = IsMoved old new from to page Loose
+
+-- the lowest pooled page of `from` became a loose page of `to`
+pub record IsWithdrawn (old new : Rows PartitionState) (from to : ℕ) : Type 0 where
+  pub page : ℕ
+  pub moved : IsMoved old new from to page Pooled
+  pub lowest : IsLowest moved.source.pages page
+
+-- the page is a loose page of `from`, and not in the pool of `to`
+pub record MayDeposit (rows : Rows PartitionState) (from to page : ℕ) : Type 0 where
+  pub loose : PagesAndRoom
+  pub had : pages_at rows from Loose ≡ Some loose
+  pub held : set.contains loose.pages page ≡ true
+  pub pooled : PagesAndRoom
+  pub pool : pages_at rows to Pooled ≡ Some pooled
+  pub new : set.contains pooled.pages page ≡ false
+  pub small : page < 2 ^ 32
+
+-- `from` has pooled pages, none of which is a loose page of `to`
+pub record MayWithdraw (rows : Rows PartitionState) (from to : ℕ) : Type 0 where
+  pub pooled : PagesAndRoom
+  pub pool : pages_at rows from Pooled ≡ Some pooled
+  pub some : pooled.pages ≡ set.empty → ⊥
+  pub loose : PagesAndRoom
+  pub had : pages_at rows to Loose ≡ Some loose
+  pub apart : IsDisjoint pooled.pages loose.pages

@@ -1,0 +1,14 @@
+-- A partition with a new value of a property.
+use Rattle.std.specs.Prelude.{ℕ, Option, None, Some}
+use Rattle.hv_partition.specs.Partition.{PartitionState}
+use Rattle.hv_policy.specs.declared.property.Property.{Property}
+use Rattle.hv_policy.specs.declared.property.Property.TheVariants.{PrivilegeFlags, CpuReserve, CpuCap, CpuWeight}
+use Rattle.hv_privs.specs.Privileges.{of}
+
+-- a partition with a property changed
+abbrev pub given : Option Property → ℕ → PartitionState → PartitionState
+given None value p = p
+given (Some PrivilegeFlags) value p = record p { mask = of value }
+given (Some CpuReserve) value p = record p { reserve = value }
+given (Some CpuCap) value p = record p { cap = value }
+given (Some CpuWeight) value p = record p { weight = value }

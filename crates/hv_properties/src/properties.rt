@@ -1,0 +1,75 @@
+// The calls of this chapter.
+ghost use Rattle.std.specs.Prelude.{◌≡◌};
+ghost use Rattle.hv_calls.specs.declared.call.Call.TheVariants as call;
+ghost use Rattle.hv_policy.specs.Flat.{Flat};
+ghost use Rattle.hv_tie.specs.Served.{IsOutcome, unmet_further};
+ghost use Rattle.hv_tie.specs.Tie.{IsTied};
+
+use crate::rows::set_property;
+use crate::rules::{is_in_range, is_known, may_give, property_value};
+use hv_partition::Partition;
+use hv_policy::{Output, Property, Rule, states_to_set};
+use hv_tie::{Refused, is_state_allowed, meant, number_output};
+use hv_tree::IdTree;
+use std::alloc::Allocator;
+
+/// HvGetPartitionProperty: the value of a property of the target.
+pub fn get_partition_property<A: Allocator>(
+    tree: &IdTree<Partition<A>, A>,
+    caller: u64,
+    partition: u64,
+    code: u32,
+) -> Result<Output, Refused>
+    ensures { (f : Flat) → IsTied tree.now f → IsOutcome f caller (call.GetPartitionProperty partition code) tree.now result tree.now }
+{
+    if !is_known(code) {
+        return Err(Refused::Unmet(Rule::PropertyKnown));
+    }
+    Ok(number_output(property_value(tree, meant(caller, partition), code)))
+}
+
+/// HvSetPartitionProperty: a property of the target gets its new value.
+pub fn set_partition_property<A: Allocator>(
+    tree: &mut IdTree<Partition<A>, A>,
+    caller: u64,
+    partition: u64,
+    code: u32,
+    value: u64,
+) -> Result<Output, Refused>
+    ensures { (f : Flat) → IsTied tree.old f → IsOutcome f caller (call.SetPartitionProperty partition code value) tree.old result tree.new }
+{
+    if let Some(rule) = unmet_set(tree, caller, partition, code, value) {
+        return Err(Refused::Unmet(rule));
+    }
+    set_property(tree, meant(caller, partition), code, value);
+    Ok(Output::new())
+}
+
+// P11, P12, P18 and P20.
+fn unmet_set<A: Allocator>(
+    tree: &IdTree<Partition<A>, A>,
+    caller: u64,
+    partition: u64,
+    code: u32,
+    value: u64,
+) -> Option<Rule>
+    ensures { (f : Flat) → IsTied tree.now f → result ≡ unmet_further f caller (call.SetPartitionProperty partition code value) }
+{
+    if !is_known(code) {
+        return Some(Rule::PropertyKnown);
+    }
+    if !is_state_allowed(
+        tree,
+        meant(caller, partition),
+        states_to_set(Property::of(code)),
+    ) {
+        return Some(Rule::TargetState);
+    }
+    if !may_give(tree, caller, code, value) {
+        return Some(Rule::Right);
+    }
+    if !is_in_range(code, value) {
+        return Some(Rule::PropertyRange);
+    }
+    None
+}

@@ -1,0 +1,86 @@
+// Numbers and bytes, as words of a script.
+ghost use Rattle.std.specs.Prelude.{◌≡◌, ◌≢◌, ◌⊎◌, ◌^◌, ◌<◌, ◌≤◌, ◌*◌, ◌+◌, ◌%◌, ◌++◌, IfErr, IfOk, OnOk, length};
+ghost use Rattle.std.specs.Option.{SomeIff};
+ghost use Rattle.std.specs.Str.Parse.{AllDigits, IsNumeral, digits_value};
+ghost use Rattle.hv_script.specs.Number.{IsBytes, IsNumber, bytes_of, number_of};
+
+use crate::fault::FaultKind;
+use std::alloc::Global;
+
+// The most digits that a word for bytes has.
+const MOST_DIGITS: usize = 8192;
+
+/// A number in decimal digits, with any number of leading zeros.
+pub fn decimal(word: &[u8]) -> Option<u64>
+    ensures { SomeIff result (IsNumeral 10 word.now × (digits_value 10 word.now < 2 ^ 64)) (digits_value 10 word.now) }
+{
+    digits(word, 10)
+}
+
+/// A number in decimal digits, or `0x` and 1 to 16 hexadecimal digits of either case.
+pub fn number(word: &[u8]) -> Option<u64>
+    ensures { SomeIff result (IsNumber word.now) (number_of word.now) }
+{
+    match word.strip_prefix(b"0x".as_slice()) {
+        Some(hex) if hex.len() <= 16 => digits(hex, 16),
+        Some(_) => None,
+        None => digits(word, 10),
+    }
+}
+
+/// The same, where the number fits 32 bits.
+pub fn number_32(word: &[u8]) -> Option<u32>
+    ensures { SomeIff result (IsNumber word.now × (number_of word.now < 2 ^ 32)) (number_of word.now) }
+{
+    u32::try_from(number(word)?).ok()
+}
+
+/// Bytes as an even number of hexadecimal digits of either case, at most 8,192, or `-` for none.
+pub fn bytes(alloc: Global, word: &[u8]) -> Result<Vec<u8>, FaultKind>
+    ensures bytes { IfOk result (λ bytes. bytes.items ≡ bytes_of word.now) }
+    ensures ok { OnOk result (IsBytes word.now) }
+    ensures err { IfErr result (λ kind. kind ≢ FaultKind.Memory → IsBytes word.now → ⊥) }
+    ensures kinds { IfErr result (λ kind. (kind ≡ FaultKind.Hex) ⊎ (kind ≡ FaultKind.Memory)) }
+{
+    if word == b"-".as_slice() {
+        return Ok(Vec::new(alloc));
+    }
+    if word.len() % 2 != 0 || word.len() > MOST_DIGITS {
+        return Err(FaultKind::Hex);
+    }
+    let mut bytes = Vec::with_capacity(alloc, word.len() / 2).map_err(|_| FaultKind::Memory)?;
+    push_bytes(&mut bytes, word)?;
+    Ok(bytes)
+}
+
+// Pushes the bytes that pairs of hexadecimal digits write.
+fn push_bytes(bytes: &mut Vec<u8>, word: &[u8]) -> Result<(), FaultKind>
+    requires { length word.now % 2 ≡ 0 }
+    ensures bytes { OnOk result (bytes.new.items ≡ bytes.old.items ++ bytes_of word.now) }
+    ensures ok { OnOk result (AllDigits 16 word.now) }
+    ensures err { IfErr result (λ kind. kind ≢ FaultKind.Memory → AllDigits 16 word.now → ⊥) }
+    ensures kinds { IfErr result (λ kind. (kind ≡ FaultKind.Hex) ⊎ (kind ≡ FaultKind.Memory)) }
+{
+    for pair in word.chunks_exact(2) {
+        let byte = digits(pair, 16).ok_or(FaultKind::Hex)?;
+        bytes.push(byte as u8).map_err(|_| FaultKind::Memory)?;
+    }
+    Ok(())
+}
+
+// The number that digits in a base write, where it fits 64 bits.
+fn digits(word: &[u8], base: u64) -> Option<u64>
+    requires least { 2 ≤ base }
+    requires most { base ≤ 36 }
+    ensures { SomeIff result (IsNumeral base word.now × (digits_value base word.now < 2 ^ 64)) (digits_value base word.now) }
+{
+    if word.is_empty() {
+        return None;
+    }
+    let mut value = 0u64;
+    for byte in word {
+        let digit = char::from(*byte).to_digit(base as u32)?;
+        value = value.checked_mul(base)?.checked_add(u64::from(digit))?;
+    }
+    Some(value)
+}

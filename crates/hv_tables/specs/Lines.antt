@@ -1,0 +1,45 @@
+-- The lines of the tables, made of the definitions and constants that contracts cite.
+use Rattle.std.specs.Prelude.{ℕ, Bool, List, [], ◌∷◌, map, Option}
+use Rattle.std.specs.List.{filter}
+use Rattle.std.specs.Option.{option_map}
+use Rattle.hv_abi.specs.CallRow.{row_of, input_len, output_len}
+use Rattle.hv_abi.specs.Status.{status_code, status_name}
+use Rattle.hv_abi.specs.declared.call_kind.CallKind.{CallKind}
+use Rattle.hv_abi.specs.declared.status.Status.{Status}
+use Rattle.hv_calls.specs.declared.call.Call.{Call}
+use Rattle.hv_defs.specs.declared.life.Life.{Life}
+use Rattle.hv_defs.specs.declared.life.Life.TheVariants.{Created, Active, Finalized}
+use Rattle.hv_privs.specs.Privileges.{bits_of}
+use Rattle.hv_policy.specs.Needs.{needs_of, is_among, further_rules, charge_of, takes_memory}
+use Rattle.hv_policy.specs.Rule.{rule_number, rule_name, rule_status}
+use Rattle.hv_policy.specs.declared.need.Kin.{Kin}
+use Rattle.hv_policy.specs.declared.need.States.{States}
+use Rattle.hv_policy.specs.declared.rule.Rule.{Rule}
+
+-- a call's code, whether it is a rep call, and whether it accepts the fast bit
+abbrev pub frame_line : CallKind → ℕ × Bool × Bool
+frame_line kind = ((row_of kind).code, (row_of kind).rep, (row_of kind).fast)
+
+-- the lengths of its input and output list for a rep count
+abbrev pub list_line : CallKind → ℕ → ℕ × ℕ
+list_line kind reps = (input_len (row_of kind) reps, output_len (row_of kind) reps)
+
+-- the life states that a target may be in
+abbrev pub lives : States → List Life
+lives states = filter (λ life. is_among life states) (Created ∷ Active ∷ Finalized ∷ [])
+
+-- the mask with the privilege that a call needs, which partitions may be its target, and their life states
+abbrev pub need_line : Call → ℕ × Kin × List Life
+need_line call = (bits_of (needs_of call).privilege, (needs_of call).kin, lives (needs_of call).states)
+
+-- the numbers of the further rules, the charge in pages, and whether it may want memory of the host
+abbrev pub rules_line : CallKind → List ℕ × ℕ × Bool
+rules_line kind = (map rule_number (further_rules kind), charge_of kind, takes_memory kind)
+
+-- a rule's number, its name, and the number of the status with which it refuses a call
+abbrev pub rule_line : Rule → Option CallKind → ℕ × List ℕ × Option ℕ
+rule_line rule call = (rule_number rule, rule_name rule, option_map status_code (rule_status rule call))
+
+-- a status's number and name
+abbrev pub status_line : Status → ℕ × List ℕ
+status_line status = (status_code status, status_name status)

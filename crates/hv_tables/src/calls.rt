@@ -1,0 +1,164 @@
+// The table of calls. A call's privilege is a power of 2, by its bit.
+ghost use Rattle.std.specs.Prelude.{◌≡◌, ℕ, ◌+◌, ◌*◌, ◌^◌, ◌==◌, ◌||◌, true, false, List, [], ◌∷◌, length, None};
+ghost use Rattle.hv_abi.specs.CallRow.{kind_of};
+ghost use Rattle.hv_abi.specs.declared.call_kind.CallKind.TheVariants as kind;
+ghost use Rattle.hv_abi.specs.declared.call_kind.TheConstants.{ALL_CALLS};
+ghost use Rattle.hv_calls.specs.declared.call.Call.TheVariants as call;
+ghost use Rattle.hv_defs.specs.declared.life.Life.TheVariants.{Created, Active, Finalized};
+ghost use Rattle.hv_defs.specs.declared.port_kind.PortKind.{PortKind};
+ghost use Rattle.hv_policy.specs.Call.{target_of, meant_id};
+ghost use Rattle.hv_policy.specs.Flat.{Flat};
+ghost use Rattle.hv_policy.specs.Property.{property_of};
+ghost use Rattle.hv_policy.specs.Met.{is_kin, is_child};
+ghost use Rattle.hv_policy.specs.declared.need.Kin.TheVariants as kin;
+ghost use Rattle.hv_policy.specs.declared.need.TheConstants.{SERVED_CODES};
+ghost use Rattle.hv_tables.specs.Lines.{frame_line, list_line, need_line, rules_line};
+
+/// How many calls the profile has, and the codes of those that are served so far.
+pub fn the_profile_has_its_calls()
+    ensures profile { length ALL_CALLS ≡ 21 }
+    ensures served { SERVED_CODES ≡ 0x40 ∷ 0x41 ∷ 0x42 ∷ 0x43 ∷ 0x44 ∷ 0x45 ∷ 0x46 ∷ 0x47 ∷ 0x48 ∷ 0x49 ∷ 0x4A ∷ [] }
+    ensures before { kind_of 0x3F ≡ None }
+    ensures after_memory_balance { kind_of 0x4B ≡ None }
+    ensures before_create_vp { kind_of 0x4D ≡ None }
+    ensures after_set_vp_registers { kind_of 0x52 ≡ None }
+    ensures after_connect_port { kind_of 0x97 ≡ None }
+{}
+
+/// Each call's code, whether it is a rep call, and whether it accepts the fast bit.
+pub fn each_call_has_its_frame()
+    ensures create_partition { frame_line kind.CreatePartition ≡ (0x40, false, false) }
+    ensures initialize_partition { frame_line kind.InitializePartition ≡ (0x41, false, true) }
+    ensures finalize_partition { frame_line kind.FinalizePartition ≡ (0x42, false, true) }
+    ensures delete_partition { frame_line kind.DeletePartition ≡ (0x43, false, true) }
+    ensures get_partition_property { frame_line kind.GetPartitionProperty ≡ (0x44, false, false) }
+    ensures set_partition_property { frame_line kind.SetPartitionProperty ≡ (0x45, false, false) }
+    ensures get_partition_id { frame_line kind.GetPartitionId ≡ (0x46, false, false) }
+    ensures get_next_child_partition { frame_line kind.GetNextChildPartition ≡ (0x47, false, false) }
+    ensures deposit_memory { frame_line kind.DepositMemory ≡ (0x48, true, false) }
+    ensures withdraw_memory { frame_line kind.WithdrawMemory ≡ (0x49, true, false) }
+    ensures get_memory_balance { frame_line kind.GetMemoryBalance ≡ (0x4A, false, false) }
+    ensures create_vp { frame_line kind.CreateVp ≡ (0x4E, false, true) }
+    ensures delete_vp { frame_line kind.DeleteVp ≡ (0x4F, false, true) }
+    ensures get_vp_registers { frame_line kind.GetVpRegisters ≡ (0x50, true, false) }
+    ensures set_vp_registers { frame_line kind.SetVpRegisters ≡ (0x51, true, false) }
+    ensures delete_port { frame_line kind.DeletePort ≡ (0x58, false, true) }
+    ensures disconnect_port { frame_line kind.DisconnectPort ≡ (0x5B, false, true) }
+    ensures post_message { frame_line kind.PostMessage ≡ (0x5C, false, false) }
+    ensures signal_event { frame_line kind.SignalEvent ≡ (0x5D, false, true) }
+    ensures create_port { frame_line kind.CreatePort ≡ (0x95, false, false) }
+    ensures connect_port { frame_line kind.ConnectPort ≡ (0x96, false, false) }
+{}
+
+/// The lengths of each call's input and output list in bytes, for n reps.
+pub fn each_call_has_its_lists()
+    ensures create_partition { (n : ℕ) → list_line kind.CreatePartition n ≡ (8, 8) }
+    ensures initialize_partition { (n : ℕ) → list_line kind.InitializePartition n ≡ (8, 0) }
+    ensures finalize_partition { (n : ℕ) → list_line kind.FinalizePartition n ≡ (8, 0) }
+    ensures delete_partition { (n : ℕ) → list_line kind.DeletePartition n ≡ (8, 0) }
+    ensures get_partition_property { (n : ℕ) → list_line kind.GetPartitionProperty n ≡ (16, 8) }
+    ensures set_partition_property { (n : ℕ) → list_line kind.SetPartitionProperty n ≡ (24, 0) }
+    ensures get_partition_id { (n : ℕ) → list_line kind.GetPartitionId n ≡ (0, 8) }
+    ensures get_next_child_partition { (n : ℕ) → list_line kind.GetNextChildPartition n ≡ (16, 8) }
+    ensures deposit_memory { (n : ℕ) → list_line kind.DepositMemory n ≡ (8 + 8 * n, 0) }
+    ensures withdraw_memory { (n : ℕ) → list_line kind.WithdrawMemory n ≡ (8, 8 * n) }
+    ensures get_memory_balance { (n : ℕ) → list_line kind.GetMemoryBalance n ≡ (8, 16) }
+    ensures create_vp { (n : ℕ) → list_line kind.CreateVp n ≡ (16, 0) }
+    ensures delete_vp { (n : ℕ) → list_line kind.DeleteVp n ≡ (16, 0) }
+    ensures get_vp_registers { (n : ℕ) → list_line kind.GetVpRegisters n ≡ (16 + 4 * n, 16 * n) }
+    ensures set_vp_registers { (n : ℕ) → list_line kind.SetVpRegisters n ≡ (16 + 32 * n, 0) }
+    ensures delete_port { (n : ℕ) → list_line kind.DeletePort n ≡ (16, 0) }
+    ensures disconnect_port { (n : ℕ) → list_line kind.DisconnectPort n ≡ (16, 0) }
+    ensures post_message { (n : ℕ) → list_line kind.PostMessage n ≡ (256, 0) }
+    ensures signal_event { (n : ℕ) → list_line kind.SignalEvent n ≡ (8, 0) }
+    ensures create_port { (n : ℕ) → list_line kind.CreatePort n ≡ (48, 0) }
+    ensures connect_port { (n : ℕ) → list_line kind.ConnectPort n ≡ (48, 0) }
+{}
+
+/// The privilege that each call needs, which partitions may be its target, and their life states.
+pub fn each_call_has_its_needs()
+    ensures create_partition { (flags : ℕ) → need_line (call.CreatePartition flags) ≡ (2 ^ 32, kin.Caller, Created ∷ Active ∷ Finalized ∷ []) }
+    ensures initialize_partition { (partition : ℕ) → need_line (call.InitializePartition partition) ≡ (2 ^ 32, kin.Child, Created ∷ []) }
+    ensures finalize_partition { (partition : ℕ) → need_line (call.FinalizePartition partition) ≡ (2 ^ 32, kin.Child, Created ∷ Active ∷ []) }
+    ensures delete_partition { (partition : ℕ) → need_line (call.DeletePartition partition) ≡ (2 ^ 32, kin.Child, Created ∷ Finalized ∷ []) }
+    ensures get_partition_property { (partition code : ℕ) → need_line (call.GetPartitionProperty partition code) ≡ (2 ^ 32, kin.CallerOrChild, Created ∷ Active ∷ Finalized ∷ []) }
+    ensures set_partition_property_privilege_flags { (partition value : ℕ) → need_line (call.SetPartitionProperty partition 0x00010000 value) ≡ (2 ^ 32, kin.Child, Created ∷ []) }
+    ensures set_partition_property_cpu_reserve { (partition value : ℕ) → need_line (call.SetPartitionProperty partition 0x00020001 value) ≡ (2 ^ 32, kin.Child, Created ∷ Active ∷ []) }
+    ensures set_partition_property_cpu_cap { (partition value : ℕ) → need_line (call.SetPartitionProperty partition 0x00020002 value) ≡ (2 ^ 32, kin.Child, Created ∷ Active ∷ []) }
+    ensures set_partition_property_cpu_weight { (partition value : ℕ) → need_line (call.SetPartitionProperty partition 0x00020003 value) ≡ (2 ^ 32, kin.Child, Created ∷ Active ∷ []) }
+    ensures set_partition_property_of_no_code { (partition code value : ℕ) → property_of code ≡ None → need_line (call.SetPartitionProperty partition code value) ≡ (2 ^ 32, kin.Child, Created ∷ []) }
+    ensures get_partition_id { need_line call.GetPartitionId ≡ (2 ^ 33, kin.Caller, Created ∷ Active ∷ Finalized ∷ []) }
+    ensures get_next_child_partition { (partition previous : ℕ) → need_line (call.GetNextChildPartition partition previous) ≡ (2 ^ 32, kin.CallerOrChild, Created ∷ Active ∷ Finalized ∷ []) }
+    ensures deposit_memory { (partition page : ℕ) → need_line (call.DepositMemory partition page) ≡ (2 ^ 34, kin.CallerOrChild, Created ∷ Active ∷ []) }
+    ensures withdraw_memory { (partition : ℕ) → need_line (call.WithdrawMemory partition) ≡ (2 ^ 34, kin.CallerOrChild, Created ∷ Active ∷ Finalized ∷ []) }
+    ensures get_memory_balance { (partition : ℕ) → need_line (call.GetMemoryBalance partition) ≡ (2 ^ 34, kin.CallerOrChild, Created ∷ Active ∷ Finalized ∷ []) }
+    ensures create_vp { (partition vp : ℕ) → need_line (call.CreateVp partition vp) ≡ (2 ^ 32, kin.CallerOrChild, Active ∷ []) }
+    ensures delete_vp { (partition vp : ℕ) → need_line (call.DeleteVp partition vp) ≡ (2 ^ 32, kin.CallerOrChild, Active ∷ []) }
+    ensures get_vp_registers { (partition vp name : ℕ) → need_line (call.GetVpRegisters partition vp name) ≡ (2 ^ 32, kin.CallerOrChild, Active ∷ []) }
+    ensures set_vp_registers { (partition vp name value : ℕ) → need_line (call.SetVpRegisters partition vp name value) ≡ (2 ^ 32, kin.CallerOrChild, Active ∷ []) }
+    ensures delete_port { (partition port : ℕ) → need_line (call.DeletePort partition port) ≡ (2 ^ 38, kin.CallerOrChild, Active ∷ []) }
+    ensures disconnect_port { (partition connection : ℕ) → need_line (call.DisconnectPort partition connection) ≡ (2 ^ 39, kin.CallerOrChild, Active ∷ []) }
+    ensures post_message { (connection message_type : ℕ) (payload : List ℕ) → need_line (call.PostMessage connection message_type payload) ≡ (2 ^ 36, kin.Caller, Created ∷ Active ∷ Finalized ∷ []) }
+    ensures signal_event { (connection flag : ℕ) → need_line (call.SignalEvent connection flag) ≡ (2 ^ 37, kin.Caller, Created ∷ Active ∷ Finalized ∷ []) }
+    ensures create_port { (partition port peer : ℕ) (port_kind : PortKind) (sint vp base count : ℕ) → need_line (call.CreatePort partition port peer port_kind sint vp base count) ≡ (2 ^ 38, kin.CallerOrChild, Active ∷ []) }
+    ensures connect_port { (partition connection port_partition port : ℕ) (port_kind : PortKind) → need_line (call.ConnectPort partition connection port_partition port port_kind) ≡ (2 ^ 39, kin.CallerOrChild, Active ∷ []) }
+{}
+
+/// Which partitions of a state each kin names.
+pub fn each_kin_has_its_partitions()
+    ensures caller { (f : Flat) (caller id : ℕ) → is_kin kin.Caller f caller id ≡ (id == caller) }
+    ensures caller_or_child { (f : Flat) (caller id : ℕ) → is_kin kin.CallerOrChild f caller id ≡ ((id == caller) || is_child f caller id) }
+    ensures child { (f : Flat) (caller id : ℕ) → is_kin kin.Child f caller id ≡ is_child f caller id }
+{}
+
+/// The further rules of each call by their numbers, its charge in pages, and whether it may want memory of the host.
+pub fn each_call_has_its_rules()
+    ensures create_partition { rules_line kind.CreatePartition ≡ (14 ∷ 24 ∷ [], 2, true) }
+    ensures initialize_partition { rules_line kind.InitializePartition ≡ (12 ∷ [], 0, false) }
+    ensures finalize_partition { rules_line kind.FinalizePartition ≡ (12 ∷ 13 ∷ [], 0, false) }
+    ensures delete_partition { rules_line kind.DeletePartition ≡ (12 ∷ [], 0, true) }
+    ensures get_partition_property { rules_line kind.GetPartitionProperty ≡ (11 ∷ [], 0, false) }
+    ensures set_partition_property { rules_line kind.SetPartitionProperty ≡ (11 ∷ 12 ∷ 18 ∷ 20 ∷ [], 0, false) }
+    ensures get_partition_id { rules_line kind.GetPartitionId ≡ ([], 0, false) }
+    ensures get_next_child_partition { rules_line kind.GetNextChildPartition ≡ (15 ∷ [], 0, false) }
+    ensures deposit_memory { rules_line kind.DepositMemory ≡ (12 ∷ 21 ∷ [], 0, true) }
+    ensures withdraw_memory { rules_line kind.WithdrawMemory ≡ (24 ∷ [], 1, true) }
+    ensures get_memory_balance { rules_line kind.GetMemoryBalance ≡ ([], 0, false) }
+    ensures create_vp { rules_line kind.CreateVp ≡ (12 ∷ 19 ∷ 24 ∷ [], 4, true) }
+    ensures delete_vp { rules_line kind.DeleteVp ≡ (12 ∷ 19 ∷ [], 0, false) }
+    ensures get_vp_registers { rules_line kind.GetVpRegisters ≡ (12 ∷ 18 ∷ 19 ∷ 21 ∷ [], 0, false) }
+    ensures set_vp_registers { rules_line kind.SetVpRegisters ≡ (12 ∷ 18 ∷ 19 ∷ 21 ∷ [], 0, false) }
+    ensures delete_port { rules_line kind.DeletePort ≡ (12 ∷ 17 ∷ [], 0, false) }
+    ensures disconnect_port { rules_line kind.DisconnectPort ≡ (12 ∷ 16 ∷ [], 0, false) }
+    ensures post_message { rules_line kind.PostMessage ≡ (16 ∷ 17 ∷ 19 ∷ 21 ∷ 22 ∷ 23 ∷ [], 0, true) }
+    ensures signal_event { rules_line kind.SignalEvent ≡ (16 ∷ 17 ∷ 19 ∷ 21 ∷ 22 ∷ [], 0, false) }
+    ensures create_port { rules_line kind.CreatePort ≡ (12 ∷ 15 ∷ 17 ∷ 19 ∷ 24 ∷ [], 1, true) }
+    ensures connect_port { rules_line kind.ConnectPort ≡ (12 ∷ 15 ∷ 16 ∷ 17 ∷ 18 ∷ 21 ∷ 24 ∷ [], 1, true) }
+{}
+
+/// The target of each call: the caller, or the partition that a parameter names, where all ones is the caller's own id.
+pub fn each_call_has_its_target()
+    ensures all_ones { (caller : ℕ) → meant_id caller 18446744073709551615 ≡ caller }
+    ensures another_id { (caller id : ℕ) → ¬ (id ≡ 18446744073709551615) → meant_id caller id ≡ id }
+    ensures create_partition { (caller flags : ℕ) → target_of (call.CreatePartition flags) caller ≡ caller }
+    ensures initialize_partition { (caller partition : ℕ) → target_of (call.InitializePartition partition) caller ≡ meant_id caller partition }
+    ensures finalize_partition { (caller partition : ℕ) → target_of (call.FinalizePartition partition) caller ≡ meant_id caller partition }
+    ensures delete_partition { (caller partition : ℕ) → target_of (call.DeletePartition partition) caller ≡ meant_id caller partition }
+    ensures get_partition_property { (caller partition code : ℕ) → target_of (call.GetPartitionProperty partition code) caller ≡ meant_id caller partition }
+    ensures set_partition_property { (caller partition code value : ℕ) → target_of (call.SetPartitionProperty partition code value) caller ≡ meant_id caller partition }
+    ensures get_partition_id { (caller : ℕ) → target_of call.GetPartitionId caller ≡ caller }
+    ensures get_next_child_partition { (caller partition previous : ℕ) → target_of (call.GetNextChildPartition partition previous) caller ≡ meant_id caller partition }
+    ensures deposit_memory { (caller partition page : ℕ) → target_of (call.DepositMemory partition page) caller ≡ meant_id caller partition }
+    ensures withdraw_memory { (caller partition : ℕ) → target_of (call.WithdrawMemory partition) caller ≡ meant_id caller partition }
+    ensures get_memory_balance { (caller partition : ℕ) → target_of (call.GetMemoryBalance partition) caller ≡ meant_id caller partition }
+    ensures create_vp { (caller partition vp : ℕ) → target_of (call.CreateVp partition vp) caller ≡ meant_id caller partition }
+    ensures delete_vp { (caller partition vp : ℕ) → target_of (call.DeleteVp partition vp) caller ≡ meant_id caller partition }
+    ensures get_vp_registers { (caller partition vp name : ℕ) → target_of (call.GetVpRegisters partition vp name) caller ≡ meant_id caller partition }
+    ensures set_vp_registers { (caller partition vp name value : ℕ) → target_of (call.SetVpRegisters partition vp name value) caller ≡ meant_id caller partition }
+    ensures delete_port { (caller partition port : ℕ) → target_of (call.DeletePort partition port) caller ≡ meant_id caller partition }
+    ensures disconnect_port { (caller partition connection : ℕ) → target_of (call.DisconnectPort partition connection) caller ≡ meant_id caller partition }
+    ensures post_message { (caller connection message_type : ℕ) (payload : List ℕ) → target_of (call.PostMessage connection message_type payload) caller ≡ caller }
+    ensures signal_event { (caller connection flag : ℕ) → target_of (call.SignalEvent connection flag) caller ≡ caller }
+    ensures create_port { (caller partition port peer : ℕ) (port_kind : PortKind) (sint vp base count : ℕ) → target_of (call.CreatePort partition port peer port_kind sint vp base count) caller ≡ meant_id caller partition }
+    ensures connect_port { (caller partition connection port_partition port : ℕ) (port_kind : PortKind) → target_of (call.ConnectPort partition connection port_partition port port_kind) caller ≡ meant_id caller partition }
+{}

@@ -1,0 +1,129 @@
+-- What the model counts over all rows, in a state that the tree is tied to.
+use Rattle.std.proofs.Common.{◌≡◌, ℕ, ◌==◌, Bool, true, false, cond, ◌&&◌, List, [], ◌∷◌, length, Option, Some, None, refl, sym, ap, ◌∙◌, arith, T}
+use Rattle.std.proofs.lemmas.Bool.{eq-eqb, eqb-true}
+use Rattle.std.proofs.lemmas.Map.Views.{list_any-from_Contains, Contains-from_any}
+use Rattle.std.specs.Cmp.{nat_cmp_total, unsigned_tied, eq_by_cmp_equiv}
+use Rattle.std.specs.FinMap.{get, entries, entries_sorted, is_sorted, nat_cmp-IsAntisymmetric}
+use Rattle.std.specs.FinMap.Entries.{below_all}
+use Rattle.std.specs.FinSet as set
+use Rattle.std.specs.List.{AllByRecursion, IsDistinct, list_any}
+use Rattle.std.specs.Option.{option_map}
+use Rattle.std.specs.Ordering.{nat_cmp, eq_by_cmp, is_lt}
+use Rattle.hv_defs.proofs.Counts.{both_parts, less_apart, passes, count_by-keys, count_by-set, count_by-none}
+use Rattle.hv_partition.specs.Partition.{PartitionState, in_use as uses, available as may_use}
+use Rattle.hv_policy.proofs.Pairs.{pair_cmp_total, pair_cmp_exact, count_by-pairs}
+use Rattle.hv_policy.specs.Boot.{start_vp}
+use Rattle.hv_policy.specs.Count.{is_parent, child_count, vp_count, port_count, conn_count, pooled_count, in_use, available}
+use Rattle.hv_policy.specs.Flat.{Flat, PageRow, pair_cmp}
+use Rattle.hv_tree.specs.Rows as tree
+use Rattle.hv_tree.specs.Rows.{Row, Rows, children, children_in, parent}
+use Rattle.hv_tree.proofs.ChildLaws.{parent-child, child-parent}
+use Rattle.hv_tie.specs.Tie.{IsTied, is_held, holds, part_row, vp_row}
+
+-- the children of a row are apart
+apart_children : {C : Type 0} (k id : ℕ) (es : List (ℕ × (Option ℕ × C))) → T (below_all nat_cmp k es) → AllByRecursion (λ y. eq_by_cmp nat_cmp k y ≡ false) (children_in id es)
+apart_children k id [] h = tt
+apart_children k id (e ∷ es) h =
+    let parts = both_parts (is_lt (nat_cmp k e.0)) (below_all nat_cmp k es) h in
+    by (tree.is_parent id e.1.0) (less_apart (nat_cmp k e.0) parts.0) (apart_children k id es parts.1)
+  where
+    by : (b : Bool) → eq_by_cmp nat_cmp k e.0 ≡ false → AllByRecursion (λ y. eq_by_cmp nat_cmp k y ≡ false) (children_in id es) → AllByRecursion (λ y. eq_by_cmp nat_cmp k y ≡ false) (cond b (e.0 ∷ children_in id es) (children_in id es))
+    by true first rest = (first, rest)
+    by false first rest = rest
+
+distinct_children : {C : Type 0} (id : ℕ) (es : List (ℕ × (Option ℕ × C))) → T (is_sorted nat_cmp es) → IsDistinct (eq_by_cmp nat_cmp) (children_in id es)
+unfolding IsDistinct
+distinct_children id [] h = tt
+distinct_children id (e ∷ es) h =
+    let parts = both_parts (below_all nat_cmp e.0 es) (is_sorted nat_cmp es) h in
+    by (tree.is_parent id e.1.0) (apart_children e.0 id es parts.0) (distinct_children id es parts.1)
+  where
+    by : (b : Bool) → AllByRecursion (λ y. eq_by_cmp nat_cmp e.0 y ≡ false) (children_in id es) → IsDistinct (eq_by_cmp nat_cmp) (children_in id es) → IsDistinct (eq_by_cmp nat_cmp) (cond b (e.0 ∷ children_in id es) (children_in id es))
+    by true first rest = (first, rest)
+    by false first rest = rest
+
+tied_is : (x y : ℕ) → eq_by_cmp nat_cmp x y ≡ true → x ≡ y
+tied_is x y e = eqb-true x y (sym (unsigned_tied x y) ∙ e)
+
+pub named : (id : ℕ) (o : Option ℕ) → is_parent id o ≡ true → o ≡ Some id
+named id None e = cc
+named id (Some p) e = ap Some (eqb-true p id e)
+
+-- a row is among the children of its parent
+listed : (rows : Rows PartitionState) (id q : ℕ) → is_parent id (parent rows q) ≡ list_any (eq_by_cmp nat_cmp q) (children rows id)
+listed rows id q = by (is_parent id (parent rows q)) (list_any (eq_by_cmp nat_cmp q) (children rows id)) refl refl
+  where
+    by : (a b : Bool) → is_parent id (parent rows q) ≡ a → list_any (eq_by_cmp nat_cmp q) (children rows id) ≡ b → a ≡ b
+    by true b s t = sym (list_any-from_Contains (eq_by_cmp_equiv nat_cmp_total) q (children rows id) (child-parent rows id q (named id (parent rows q) s))) ∙ t
+    by false true s t =
+        let is = parent-child rows id q (Contains-from_any tied_is q (children rows id) t) in
+        sym s ∙ ap (is_parent id) is ∙ eq-eqb id id refl
+    by false false s t = refl
+
+module _ (rows : Rows PartitionState) (f : Flat) (flat : IsTied rows f) where
+  child_of : (id q : ℕ) (r : Option (Row PartitionState)) → get f.part q ≡ option_map part_row r → get rows q ≡ r → passes (λ e. is_parent id e.1.parent) q (get f.part q) ≡ is_parent id (parent rows q)
+  child_of id q None e is = rw (e, is) refl
+  child_of id q (Some r) e is = rw (e, is) refl
+
+  pub child_at : (id q : ℕ) → passes (λ e. is_parent id e.1.parent) q (get f.part q) ≡ is_parent id (parent rows q)
+  child_at id q = child_of id q (get rows q) ((flat.rows q).part) refl
+
+  pub children_counted : (id : ℕ) → child_count f id ≡ length (children rows id)
+  children_counted id =
+      count_by-keys nat_cmp nat_cmp_total nat_cmp-IsAntisymmetric f.part (λ e. is_parent id e.1.parent) (children rows id)
+      (distinct_children id (entries rows) (entries_sorted rows))
+      (λ q. child_at id q ∙ listed rows id q)
+
+  no_ports : (id : ℕ) → port_count f id ≡ 0
+  no_ports id = count_by-none pair_cmp pair_cmp_total pair_cmp_exact f.port (λ e. e.0.0 == id) (λ q. ap (passes {K = ℕ × ℕ} (λ e. e.0.0 == id) q) ((flat.rows q.0).port q.1))
+
+  no_conns : (id : ℕ) → conn_count f id ≡ 0
+  no_conns id = count_by-none pair_cmp pair_cmp_total pair_cmp_exact f.conn (λ e. e.0.0 == id) (λ q. ap (passes {K = ℕ × ℕ} (λ e. e.0.0 == id) q) ((flat.rows q.0).conn q.1))
+
+  -- a page's row, as the count of a pool sees it
+  pool_test : (id q : ℕ) (page : Option PageRow) → passes (λ e. e.1.owner == id && e.1.pooled) q page ≡ is_held id true page
+  pool_test id q None = refl
+  pool_test id q (Some page) = refl
+
+  pub pooled_at : (id q : ℕ) → passes (λ e. e.1.owner == id && e.1.pooled) q (get f.page q) ≡ holds true q (get rows id)
+  pooled_at id q = pool_test id q (get f.page q) ∙ (flat.rows id).page q true
+
+  vp_at : (id i : ℕ) (s : set.FinSet nat_cmp) → get f.vp (id, i) ≡ cond (set.contains s i) (Some (start_vp i)) None → passes {K = ℕ × ℕ} (λ e. e.0.0 == id) (id, i) (get f.vp (id, i)) ≡ set.contains s i
+  vp_at id i s e = ap (passes {K = ℕ × ℕ} (λ e. e.0.0 == id) (id, i)) e ∙ by (set.contains s i)
+    where
+      by : (b : Bool) → passes {K = ℕ × ℕ} (λ e. e.0.0 == id) (id, i) (cond b (Some (start_vp i)) None) ≡ b
+      by true = eq-eqb id id refl
+      by false = refl
+
+  module _ (id : ℕ) (r : Row PartitionState) (is : get rows id ≡ Some r) where
+    pub vps_counted : vp_count f id ≡ set.len r.1.vps
+    vps_counted = count_by-pairs id f.vp r.1.vps (λ i. vp_at id i r.1.vps ((flat.rows id).vp i ∙ ap (vp_row i) is))
+
+    pub pool_counted : pooled_count f id ≡ set.len r.1.pooled.pages
+    pool_counted = count_by-set nat_cmp nat_cmp_total nat_cmp-IsAntisymmetric f.page (λ e. e.1.owner == id && e.1.pooled) r.1.pooled.pages (λ q. pooled_at id q ∙ ap (holds true q) is)
+
+    -- what a partition uses, and what it may still use
+    pub use_counted : in_use f id ≡ uses (length (children rows id)) r.1
+    use_counted =
+        let children = children_counted id in
+        let vps = vps_counted in
+        let ports = no_ports id in
+        let conns = no_conns id in
+        omega arith
+
+    pub available_counted : available f id ≡ may_use (length (children rows id)) r.1
+    available_counted = let pool = pool_counted in let used = use_counted in rw (pool, used) refl
+
+  -- a partition that isn't there uses nothing, and has nothing to use
+  pub none_in_use : (id : ℕ) → get rows id ≡ None → children rows id ≡ [] → in_use f id ≡ 0
+  none_in_use id is childless =
+      let children = children_counted id ∙ ap length childless in
+      let vps : vp_count f id ≡ 0 = count_by-pairs id f.vp set.empty (λ i. ap (passes {K = ℕ × ℕ} (λ e. e.0.0 == id) (id, i)) ((flat.rows id).vp i ∙ ap (vp_row i) is) ∙ sym (set.contains-empty nat_cmp i)) ∙ set.len-empty nat_cmp in
+      let ports = no_ports id in
+      let conns = no_conns id in
+      omega arith
+
+  pub none_available : (id : ℕ) → get rows id ≡ None → available f id ≡ 0
+  none_available id is =
+      let pooled : pooled_count f id ≡ 0 = count_by-none nat_cmp nat_cmp_total nat_cmp-IsAntisymmetric f.page (λ e. e.1.owner == id && e.1.pooled) (λ q. pooled_at id q ∙ ap (holds true q) is) in
+      omega arith

@@ -1,0 +1,92 @@
+// Rules that several chapters ask, and what they read of the tree for them.
+ghost use Rattle.std.specs.Prelude.{◌≡◌, ◌==◌, nat_le, if◌then◌else◌};
+ghost use Rattle.std.specs.Int.{w64, to_le_bytes};
+ghost use Rattle.hv_policy.specs.Call.{meant_id};
+ghost use Rattle.hv_policy.specs.Count.{available as available_of, in_use as in_use_of};
+ghost use Rattle.hv_policy.specs.Flat.{Flat};
+ghost use Rattle.hv_policy.specs.Met.{is_child as is_child_of, on_part};
+ghost use Rattle.hv_policy.specs.Needs.{is_among};
+ghost use Rattle.hv_tie.specs.Served.{AreLawful};
+ghost use Rattle.hv_tie.specs.Tie.{IsTied};
+
+use hv_defs::SELF_ID;
+use hv_partition::Partition;
+use hv_policy::{Output, States};
+use hv_tree::IdTree;
+use std::alloc::Allocator;
+
+/// A partition's pages: those of its pool that it may still use, and those that it uses.
+#[derive(Clone, Copy)]
+pub struct Balance {
+    pub available: u64,
+    pub in_use: u64,
+}
+
+/// The partition that an id in a block means: all ones is the caller's own.
+pub fn meant(caller: u64, id: u64) -> u64
+    ensures { result ≡ meant_id caller id }
+{
+    if id == SELF_ID { caller } else { id }
+}
+
+/// Whether `id` is a child of `parent`.
+pub fn is_child<A: Allocator>(tree: &IdTree<Partition<A>, A>, parent: u64, id: u64) -> bool
+    ensures { (f : Flat) → IsTied tree.now f → result ≡ is_child_of f parent id }
+{
+    match tree.parent_of(id) {
+        None => false,
+        Some(named) => named == parent,
+    }
+}
+
+/// P12: whether a partition is there, in one of these life states.
+pub fn is_state_allowed<A: Allocator>(
+    tree: &IdTree<Partition<A>, A>,
+    id: u64,
+    states: States,
+) -> bool
+    ensures { (f : Flat) → IsTied tree.now f → result ≡ on_part f id (λ row. is_among row.life states) }
+{
+    match tree.get(id) {
+        None => false,
+        Some(partition) => states.allow(partition.life()),
+    }
+}
+
+/// P24: whether a partition has so many available pages.
+pub fn has_available<A: Allocator>(tree: &IdTree<Partition<A>, A>, id: u64, charge: u64) -> bool
+    requires { AreLawful tree.now }
+    ensures { (f : Flat) → IsTied tree.now f → result ≡ nat_le charge (available_of f id) }
+{
+    charge <= memory_balance(tree, id).available
+}
+
+/// A partition's balance of pages, 0 and 0 where there is none.
+pub fn memory_balance<A: Allocator>(tree: &IdTree<Partition<A>, A>, id: u64) -> Balance
+    requires { AreLawful tree.now }
+    ensures available { (f : Flat) → IsTied tree.now f → result.available ≡ available_of f id }
+    ensures in_use { (f : Flat) → IsTied tree.now f → result.in_use ≡ in_use_of f id }
+{
+    let Some(children) = tree.children_of(id) else {
+        return Balance {
+            available: 0,
+            in_use: 0,
+        };
+    };
+    let Some(partition) = tree.get(id) else {
+        unreachable!()
+    };
+    Balance {
+        available: partition.available(children),
+        in_use: partition.in_use(children),
+    }
+}
+
+/// The output of a call that answers one number.
+pub fn number_output(number: u64) -> Output
+    ensures { result ≡ to_le_bytes w64 number }
+{
+    let mut output = Output::new();
+    output.push_number(number);
+    output
+}
