@@ -72,6 +72,7 @@ fn answer(rt: &impl Abort, alloc: Global, rcx: u64, rdx: u64, input: &[u8]) -> R
     let mut machine = Machine::boot(alloc, boot(32, 12, 1))?;
     let create = event(alloc, 0x40, 0, &[0; 8])?;
     machine.step(&create)?;
+    assert_eq!(rt; machine.served(), 1);
     let event = event(alloc, rcx, rdx, input)?;
     let reply = machine.step(&event)?;
     let Action::Hypercall(frame) = &event.what;

@@ -2,16 +2,10 @@
 #![tactic(auto)]
 
 #[cfg(test)]
-mod first_calls;
-#[cfg(test)]
 mod hostile;
-#[cfg(test)]
-mod memory;
-#[cfg(test)]
-mod partitions;
 #[cfg(test)]
 mod privileges;
 #[cfg(test)]
-mod properties;
-#[cfg(test)]
 mod rows;
+#[cfg(test)]
+mod shown;

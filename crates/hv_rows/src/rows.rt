@@ -84,26 +84,6 @@ impl Row {
             answer,
         }
     }
-
-    // The same row by another caller.
-    pub fn by(self, part: u64, vp: u32) -> Row {
-        let Row {
-            by: _,
-            rcx,
-            rdx,
-            input,
-            value,
-            answer,
-        } = self;
-        Row {
-            by: Caller { part, vp },
-            rcx,
-            rdx,
-            input,
-            value,
-            answer,
-        }
-    }
 }
 
 // Makes the rows' calls, one after the other.

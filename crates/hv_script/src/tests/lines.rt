@@ -133,25 +133,3 @@ fn assert_call(rt: &impl Abort, call: &Call, row: &Row<'_>) {
     assert_eq!(rt; [frame.rcx, frame.rdx, frame.r8], row.registers);
     assert_eq!(rt; frame.input.as_slice(), row.input);
 }
-
-// 4,096 bytes are the most that a line gives, and all of them are read.
-#[test]
-fn most_bytes(rt: HostRuntime) -> Result<(), Fail> {
-    let alloc = rt.alloc();
-    let mut text = String::from_str(alloc, "boot 1 0 1 0 0\n1.0 call 1 0 0 ")?;
-    let mut wanted: Vec<u8> = Vec::new(alloc);
-    // 239 is prime, so that no shorter list repeats this one.
-    for place in 0..4096u16 {
-        let byte = 0x10 + (place % 239) as u8;
-        let digits = format!(in alloc; "{byte:02x}")?;
-        text.push_str(digits.as_str())?;
-        wanted.push(byte)?;
-    }
-    let script = parse(alloc, text.as_bytes())?;
-    for call in script.calls.iter() {
-        assert_eq!(rt; call.frame.input.as_slice(), wanted.as_slice());
-    }
-    assert_eq!(rt; script.calls.len(), 1);
-    text.push_str("10")?;
-    super::assert_refused(&rt, alloc, text.as_bytes(), "line 2: bad hex")
-}

@@ -1,7 +1,6 @@
 // The processors of a script, and which of them stopped.
 
-use super::assert_refused;
-use crate::{Processors, Stop, parse};
+use crate::{Processors, Stop};
 use hv_policy::Caller;
 use std::test::Fail;
 
@@ -59,28 +58,4 @@ fn first_stop(rt: HostRuntime) -> Result<(), Fail> {
         assert_eq!(rt; processors.first_stop(), Some(told));
     }
     Ok(())
-}
-
-// A script names 64 processors at most, any number of times, and each is there.
-#[test]
-fn most_processors(rt: HostRuntime) -> Result<(), Fail> {
-    let alloc = rt.alloc();
-    let mut text = String::from_str(alloc, "boot 32 12 1 0 0\n1.0 call 1 0 0 -\n")?;
-    for line in 0..1280u32 {
-        let line = format!(in alloc; "1.{} call 1 0 0 -\n", line % 64)?;
-        text.push_str(line.as_str())?;
-    }
-    let script = parse(alloc, text.as_bytes())?;
-    assert_eq!(rt; script.calls.len(), 1281);
-    let mut processors = script.processors;
-    let last = Caller { part: 1, vp: 63 };
-    processors.stop(last, Stop::HistoryFull);
-    assert!(rt; processors.is_stopped(last));
-    text.push_str("1.64 call 1 0 0 -\n")?;
-    assert_refused(
-        &rt,
-        alloc,
-        text.as_bytes(),
-        "line 1283: too many processors",
-    )
 }
