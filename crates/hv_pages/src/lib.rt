@@ -10,6 +10,3 @@
 mod page_set;
 
 pub use page_set::PageSet;
-
-#[cfg(test)]
-mod tests;

@@ -13,6 +13,3 @@ mod partition;
 
 pub use kind::PageKind;
 pub use partition::Partition;
-
-#[cfg(test)]
-mod tests;
