@@ -13,8 +13,6 @@ mod frame;
 mod input_value;
 mod result_value;
 mod status;
-#[cfg(test)]
-mod tests;
 
 pub use bytes::Bytes;
 pub use call_kind::{ALL_CALLS, CallKind};

@@ -10,8 +10,6 @@ mod call;
 mod decoding;
 mod fields;
 mod payload;
-#[cfg(test)]
-mod tests;
 
 pub use call::Call;
 pub use decoding::{Malformed, decode};

@@ -22,17 +22,17 @@ abbrev pub flag_rule : Text → Rule
 flag_rule name = record (new_rule name) { long = Some name; action = Some SetTrue }
 
 -- `run SCRIPT --serial --table`
-abbrev pub run_command : App
-run_command = with_rule (with_rule (with_rule (new_app (codes "run")) script_rule)
+abbrev pub run_line : App
+run_line = with_rule (with_rule (with_rule (new_app (codes "run")) script_rule)
     (flag_rule (codes "serial"))) (flag_rule (codes "table"))
 
 -- `hvpm` alone, which needs a subcommand
-abbrev pub bare_command : App
-bare_command = on_top (λ s. record s { subcommand_required = true }) (new_app (codes "hvpm"))
+abbrev pub bare_line : App
+bare_line = on_top (λ s. record s { subcommand_required = true }) (new_app (codes "hvpm"))
 
 -- the whole command line
 abbrev pub command_line : App
-command_line = with_subcommand bare_command run_command.top
+command_line = with_subcommand bare_line run_line.top
 
 -- clap's matches of `run`, where the words enter it
 unfoldable pub run_matches : List Text → Option (List Row)

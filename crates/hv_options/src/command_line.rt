@@ -1,7 +1,8 @@
 // The command line, and what its words ask for.
 ghost use Rattle.std.specs.Prelude.{◌≡◌, ◌∷◌, [], List, ℕ, Some, true, false, map, IfOk, IfErr, OnOk, codes};
 ghost use Rattle.clap.specs.Words.{HasKind, Kinds, app_of, found_of, kind_of, rows_of, rule_of};
-ghost use Rattle.hv_options.specs.Options.{Explains, command_line, faults_of, flag_rule, is_given, said_by, said_by_matches};
+ghost use Rattle.clap.specs.declared.builder.command.Command.TheViews.{out-Command as fields_of};
+ghost use Rattle.hv_options.specs.Options.{Explains, command_line, faults_of, flag_rule, is_given, run_line, said_by, said_by_matches, script_rule};
 
 use crate::usage::{Options, Usage};
 use clap::error::ErrorKind;
@@ -32,9 +33,18 @@ pub fn options<'a, S: AsStr>(alloc: Global, words: &'a [S]) -> Result<Options<'a
 fn command<'a>(alloc: Global) -> Result<Command<'a>, AllocError>
     ensures { IfOk result (λ c. app_of c ≡ command_line) }
 {
-    let script = Arg::new(alloc, "SCRIPT")
-        .required(true)
-        .help("The script: a boot line, and a line for each hypercall");
+    let run = run_command(alloc)?;
+    Command::new(alloc, "hvpm")
+        .about("Runs a script of hypercalls on a model of Hyper-V's partition manager")
+        .subcommand_required(true)
+        .subcommand(run)
+}
+
+// The subcommand `run`, with its arguments.
+fn run_command<'a>(alloc: Global) -> Result<Command<'a>, AllocError>
+    ensures shape { IfOk result (λ c. app_of c ≡ run_line) }
+    ensures local { IfOk result (λ c. (fields_of c).has_globals ≡ false) }
+{
     let serial = flag(
         alloc,
         "serial",
@@ -45,15 +55,21 @@ fn command<'a>(alloc: Global) -> Result<Command<'a>, AllocError>
         "table",
         "Print the table of partitions after the audit",
     );
-    let run = Command::new(alloc, "run")
+    Command::new(alloc, "run")
         .about("Runs a script and prints its audit")
-        .arg(script)?
+        .arg(script_argument(alloc))?
         .arg(serial)?
-        .arg(table)?;
-    Command::new(alloc, "hvpm")
-        .about("Runs a script of hypercalls on a model of Hyper-V's partition manager")
-        .subcommand_required(true)
-        .subcommand(run)
+        .arg(table)
+}
+
+// The script's path, which can't be left out.
+fn script_argument<'a>(alloc: Global) -> Arg<'a>
+    ensures rule { rule_of result ≡ script_rule }
+    ensures local { result.global ≡ false }
+{
+    Arg::new(alloc, "SCRIPT")
+        .required(true)
+        .help("The script: a boot line, and a line for each hypercall")
 }
 
 fn flag<'a>(alloc: Global, name: &'a str, help: &'a str) -> Arg<'a>

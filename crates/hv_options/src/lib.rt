@@ -11,6 +11,3 @@ mod usage;
 
 pub use command_line::options;
 pub use usage::{Options, Usage};
-
-#[cfg(test)]
-mod tests;

@@ -1,9 +1,12 @@
 // Hostile frames: inputs cut short, and input values with a bit flipped. Each is answered, and a refusal names a
 // rule that the call is asked.
 
-use crate::rows::{ROOT, boot};
-use hv_abi::{Bytes, Frame};
-use hv_machine::{Action, Event, Machine, Reply, result_of};
+ghost use Rattle.std.specs.Prelude.{◌≤◌};
+
+use hv_abi::{Bytes, CallKind, Frame};
+use hv_calls::{Malformed, decode};
+use hv_machine::{Action, Caller, Config, Event, Machine, Reply, result_of};
+use hv_privs::Privileges;
 use std::alloc::Global;
 use std::process::Abort;
 use std::test::Fail;
@@ -67,19 +70,42 @@ fn is_asked(rcx: u64, number: u8) -> bool {
     number <= 4
 }
 
-// Makes the call on a machine of its own, in which the root has the child 2, and looks at the answer.
+// Makes the call on a machine of its own, in which the root has the child 2.
 fn answer(rt: &impl Abort, alloc: Global, rcx: u64, rdx: u64, input: &[u8]) -> Result<(), Fail> {
-    let mut machine = Machine::boot(alloc, boot(32, 12, 1))?;
-    let create = event(alloc, 0x40, 0, &[0; 8])?;
-    machine.step(&create)?;
-    assert_eq!(rt; machine.served(), 1);
+    let config = Config {
+        pages: 32,
+        pool: 12,
+        vps: 1,
+        mask: Privileges::of(0x0000_00f7_0000_0044),
+    };
+    let mut machine = Machine::boot(alloc, config)?;
+    make(rt, alloc, &mut machine, 0x40, 0, &[0; 8])?;
+    make(rt, alloc, &mut machine, rcx, rdx, input)
+}
+
+// Makes a call, and looks at the answer.
+fn make(
+    rt: &impl Abort,
+    alloc: Global,
+    machine: &mut Machine<Global>,
+    rcx: u64,
+    rdx: u64,
+    input: &[u8],
+) -> Result<(), Fail> {
     let event = event(alloc, rcx, rdx, input)?;
+    let before = machine.served();
+    assert!(rt; before < 2);
     let reply = machine.step(&event)?;
     let Action::Hypercall(frame) = &event.what;
-    assert!(rt; is_answer(rcx, &reply), "{rcx:#x}");
-    assert_eq!(rt; machine.served(), served_after(&reply));
-    assert_eq!(rt; result_of(frame, &reply).bits() & 0xffff, status_of(&reply));
+    let value = result_of(frame, &reply).bits();
+    look_at(rt, rcx, &reply, value);
+    assert_eq!(rt; machine.served(), before + served_by(&reply));
     Ok(())
+}
+
+fn look_at(rt: &impl Abort, rcx: u64, reply: &Reply, value: u64) {
+    assert!(rt; is_answer(rcx, reply), "{rcx:#x}");
+    assert_eq!(rt; value & 0xffff, status_of(reply), "{rcx:#x}");
 }
 
 // Whether the reply is one to a call: the next element has an index, and the rule of a refusal is one that is asked.
@@ -92,11 +118,13 @@ fn is_answer(rcx: u64, reply: &Reply) -> bool {
     }
 }
 
-// How many events were served then: the child's making, and this one, unless it was refused.
-fn served_after(reply: &Reply) -> u64 {
+// How many events it serves.
+fn served_by(reply: &Reply) -> u64
+    ensures { result ≤ 1 }
+{
     match reply {
-        Reply::Served(_) | Reply::More { .. } => 2,
-        Reply::Denied { .. } | Reply::Fault { .. } => 1,
+        Reply::Served(_) | Reply::More { .. } => 1,
+        Reply::Denied { .. } | Reply::Fault { .. } => 0,
     }
 }
 
@@ -109,16 +137,19 @@ fn status_of(reply: &Reply) -> u64 {
 }
 
 fn event(alloc: Global, rcx: u64, rdx: u64, input: &[u8]) -> Result<Event<Global>, Fail> {
+    let by = Caller { part: 1, vp: 0 };
+    let what = Action::Hypercall(frame(alloc, rcx, rdx, input)?);
+    Ok(Event { by, what })
+}
+
+fn frame(alloc: Global, rcx: u64, rdx: u64, input: &[u8]) -> Result<Frame<Global>, Fail> {
     let input = Bytes::from_vec(input.to_vec(alloc)?);
-    let frame = Frame {
+    let r8 = 0;
+    Ok(Frame {
         rcx,
         rdx,
-        r8: 0,
+        r8,
         input,
-    };
-    Ok(Event {
-        by: ROOT,
-        what: Action::Hypercall(frame),
     })
 }
 
@@ -130,6 +161,62 @@ fn hostile_frames_are_answered(rt: HostRuntime) -> Result<(), Fail> {
         }
         for bit in 0..64_u32 {
             answer(&rt, rt.alloc(), rcx ^ 1 << bit, rdx, input)?;
+        }
+    }
+    Ok(())
+}
+
+// A well-formed input value of each call: a rep call has 2 reps and starts at the second.
+const INPUT_VALUES: [(u64, CallKind); 21] = [
+    (0x40, CallKind::CreatePartition),
+    (0x41, CallKind::InitializePartition),
+    (0x42, CallKind::FinalizePartition),
+    (0x43, CallKind::DeletePartition),
+    (0x44, CallKind::GetPartitionProperty),
+    (0x45, CallKind::SetPartitionProperty),
+    (0x46, CallKind::GetPartitionId),
+    (0x47, CallKind::GetNextChildPartition),
+    (0x0001_0002_0000_0048, CallKind::DepositMemory),
+    (0x0001_0002_0000_0049, CallKind::WithdrawMemory),
+    (0x4A, CallKind::GetMemoryBalance),
+    (0x4E, CallKind::CreateVp),
+    (0x4F, CallKind::DeleteVp),
+    (0x0001_0002_0000_0050, CallKind::GetVpRegisters),
+    (0x0001_0002_0000_0051, CallKind::SetVpRegisters),
+    (0x58, CallKind::DeletePort),
+    (0x5B, CallKind::DisconnectPort),
+    (0x5C, CallKind::PostMessage),
+    (0x5D, CallKind::SignalEvent),
+    (0x95, CallKind::CreatePort),
+    (0x96, CallKind::ConnectPort),
+];
+
+// A block that each call takes, with a byte that isn't zero in most of its fields.
+const ANY_BLOCK: [u8; 80] = [
+    0x07, 0, 0, 0, 0x08, 0, 0, 0, 0x06, 0, 0, 0, 0x05, 0, 0, 0, 0x08, 0x07, 0x06, 0x05, 0x04, 0x03,
+    0x02, 0x01, 0x02, 0, 0, 0, 0, 0, 0, 0, 0x01, 0, 0, 0, 0x03, 0, 0, 0, 0x04, 0, 0x05, 0, 0, 0, 0,
+    0, 0x0b, 0, 0, 0, 0, 0, 0, 0, 0x0c, 0, 0, 0, 0, 0, 0, 0, 0x0d, 0, 0, 0, 0, 0, 0, 0, 0, 0, 0, 0,
+    0, 0, 0, 0,
+];
+
+// Whatever bytes are missing, a block is decoded to a call of its frame's kind, or is malformed as a parameter's zeros can be.
+#[test]
+fn cut_blocks_are_decoded(rt: HostRuntime) -> Result<(), Fail> {
+    for (rcx, kind) in INPUT_VALUES {
+        for len in 0..ANY_BLOCK.len() + 1 {
+            let frame = frame(rt.alloc(), rcx, 0, &ANY_BLOCK[..len])?;
+            let shape = frame.check()?;
+            let can_be_malformed = matches!(
+                kind,
+                CallKind::PostMessage | CallKind::CreatePort | CallKind::ConnectPort
+            );
+            match decode(&frame, &shape) {
+                Ok(call) => assert!(rt; call.kind() == kind, "{rcx:#x} cut to {len}"),
+                Err(Malformed) => assert!(rt;
+                    can_be_malformed && len < 43,
+                    "{rcx:#x} cut to {len}"
+                ),
+            }
         }
     }
     Ok(())

@@ -18,6 +18,3 @@ pub use fault::{FaultKind, ScriptError};
 pub use line::{Boot, Call};
 pub use processors::{Processors, Stop};
 pub use script::{MOST_BYTES, Script, parse};
-
-#[cfg(test)]
-mod tests;

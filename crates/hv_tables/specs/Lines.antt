@@ -3,8 +3,11 @@ use Rattle.std.specs.Prelude.{ℕ, Bool, List, [], ◌∷◌, map, Option}
 use Rattle.std.specs.List.{filter}
 use Rattle.std.specs.Option.{option_map}
 use Rattle.hv_abi.specs.CallRow.{row_of, input_len, output_len}
+use Rattle.hv_abi.specs.Check.{first_fault, input_of}
 use Rattle.hv_abi.specs.Status.{status_code, status_name}
 use Rattle.hv_abi.specs.declared.call_kind.CallKind.{CallKind}
+use Rattle.hv_abi.specs.declared.frame.AbiFault.{AbiFault}
+use Rattle.hv_abi.specs.declared.frame.Frame.{Frame}
 use Rattle.hv_abi.specs.declared.status.Status.{Status}
 use Rattle.hv_calls.specs.declared.call.Call.{Call}
 use Rattle.hv_defs.specs.declared.life.Life.{Life}
@@ -43,3 +46,15 @@ rule_line rule call = (rule_number rule, rule_name rule, option_map status_code 
 -- a status's number and name
 abbrev pub status_line : Status → ℕ × List ℕ
 status_line status = (status_code status, status_name status)
+
+-- a frame with these registers and without bytes of input
+abbrev pub bare_frame : ℕ → ℕ → ℕ → Frame (Unit {0})
+bare_frame rcx rdx r8 = record { rcx = rcx; rdx = rdx; r8 = r8; input = [] }
+
+-- what is wrong with it first, by its registers
+abbrev pub fault_line : ℕ → ℕ → ℕ → Option AbiFault
+fault_line rcx rdx r8 = first_fault (bare_frame rcx rdx r8)
+
+-- the bytes of its input, if its registers are fast
+abbrev pub input_line : ℕ → ℕ → Bool → List ℕ
+input_line rdx r8 fast = input_of (bare_frame 0 rdx r8) fast

@@ -1,6 +1,5 @@
-//! The tables of the policy, a second time: each value as a literal, typed from the policy in words and not from
-//! the definitions. `docs/POLICY.md` has those words for the calls that are served; the lines of the others stand
-//! here from the start, as they stand in the definitions.
+//! The tables of the policy, a second time: each value as a literal, typed from the policy in words, `docs/POLICY.md`, and
+//! not from the definitions. Beside the tables stand worked frames: what is wrong with an input value or an address.
 //!
 //! The crate has no code. Code and definition that read one constant or one table can be wrong together, and no
 //! proof sees it. Here each function's contract says of a table, line by line, what the definitions and
@@ -10,6 +9,7 @@
 
 mod blocks;
 mod calls;
+mod frames;
 mod privileges;
 mod properties;
 mod registers;
@@ -26,6 +26,7 @@ pub use calls::{
     each_call_has_its_rules, each_call_has_its_target, each_kin_has_its_partitions,
     the_profile_has_its_calls,
 };
+pub use frames::{each_frame_has_its_fault, each_input_value_has_its_parts, each_result_has_its_value};
 pub use privileges::each_privilege_has_its_bit;
 pub use properties::{
     each_property_has_its_code, each_property_has_its_range, each_property_has_its_start,

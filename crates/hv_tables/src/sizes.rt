@@ -1,6 +1,6 @@
 // The numbers of the profile, and what boot, blocks and start values take from them.
 ghost use Rattle.std.specs.Prelude.{◌≡◌};
-ghost use Rattle.hv_defs.specs.declared.sizes.TheConstants.{PAGE_SIZE, MAX_PAGES, MAX_VPS, SELF_ID, ROOT_ID, MAX_DEPTH, FIRST_CHILD_ID, PARTITION_CHARGE, VP_CHARGE, PORT_CHARGE, CONNECTION_CHARGE, CPU_RESERVE_START, CPU_CAP_START, CPU_WEIGHT_START, MAX_CPU_RESERVE, MAX_CPU_CAP, MIN_CPU_WEIGHT, MAX_CPU_WEIGHT, SINTS, EVENT_FLAGS, MAX_PAYLOAD, MAX_PORT_ID, MAX_MESSAGE_TYPE, ANY_VP};
+ghost use Rattle.hv_defs.specs.declared.sizes.TheConstants.{PAGE_SIZE, MAX_PAGES, MAX_VPS, SELF_ID, ROOT_ID, MAX_DEPTH, FIRST_CHILD_ID, PARTITION_CHARGE, VP_CHARGE, PORT_CHARGE, CONNECTION_CHARGE, CPU_RESERVE_START, CPU_CAP_START, CPU_WEIGHT_START, MAX_CPU_RESERVE, MAX_CPU_CAP, MIN_CPU_WEIGHT, MAX_CPU_WEIGHT, SINTS, EVENT_FLAGS, MAX_PAYLOAD, MAX_PORT_ID, MAX_MESSAGE_TYPE, ANY_VP, REPS_END, MAX_SERVED};
 
 /// The numbers of the profile.
 pub fn each_size_has_its_value()
@@ -28,4 +28,6 @@ pub fn each_size_has_its_value()
     ensures max_port_id { MAX_PORT_ID ≡ 0x00FFFFFF }
     ensures max_message_type { MAX_MESSAGE_TYPE ≡ 0x7FFFFFFF }
     ensures any_vp { ANY_VP ≡ 0xFFFFFFFF }
+    ensures reps_end { REPS_END ≡ 4096 }
+    ensures max_served { MAX_SERVED ≡ 4294967295 }
 {}

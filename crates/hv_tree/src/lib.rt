@@ -17,6 +17,3 @@ mod tree;
 
 pub use refused::{InsertRefused, ReserveRefused};
 pub use tree::IdTree;
-
-#[cfg(test)]
-mod tests;

@@ -1,31 +1,19 @@
 //! The program `hvpm`: runs a script of hypercalls on the partition manager, and prints an audit of what
 //! happened.
 //!
-//! [`hv_options::options`] reads the words of the command line and [`run::run_reader`] reads and runs a script
+//! [`hv_options::options`] reads the words of the command line and [`hv_run::run_reader`] reads and runs a script
 //! over two writers. What stands here only fetches both, and gives back the exit status.
 #![tactic(auto)]
 
 ghost use Rattle.std.specs.Prelude.{◌≡◌, true, false};
 
-mod audit;
-mod failure;
-mod history;
-mod reading;
-mod run;
-#[cfg(test)]
-mod tests;
-mod usage;
-
-use failure::{Exit, Failure, tell};
 use hv_options::{Options, Usage, options};
-use reading::unread;
-use run::run_reader;
+use hv_run::{Exit, Failure, run_reader, tell, tell_usage, unread};
 use std::env;
 use std::fs::File;
 use std::io::{BufWriter, ErrorKind, Write};
 use std::process::ExitCode;
 use std::rt::{Env, Files};
-use usage::tell_usage;
 
 fn main(rt: HostRuntime) -> ExitCode {
     let mut err = rt.stderr();

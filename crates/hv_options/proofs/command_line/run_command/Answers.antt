@@ -1,0 +1,13 @@
+use Rattle.std.proofs.Common.{◌≡◌, ◌∙◌, ap, ap₂, rules}
+use Rattle.std.proofs.lemmas.Result.{IfOk-weaker}
+use Rattle.clap.specs.Simple.{app_of_fields}
+use Rattle.clap.specs.Words.{app_of, with_rule}
+use Rattle.hv_options.proofs.command_line.run_command.Goals as goal
+
+pub returns-clause-shape : goal.returns-clause-shape
+returns-clause-shape c =
+    let named_is : app_of c.about.result ≡ app_of c.new.result = ap app_of_fields c.about.ensures in
+    IfOk-weaker c.arg-3.result _ _ (λ m h. h.shape c.flag-table.ensures.local
+    ∙ ap₂ with_rule (c.in_ok-arg-2.ensures.shape c.flag-serial.ensures.local
+    ∙ ap₂ with_rule (c.in_ok-arg.ensures.shape c.script_argument.ensures.local
+    ∙ ap₂ with_rule (named_is ∙ c.new.ensures.app) c.script_argument.ensures.rule) c.flag-serial.ensures.rule) c.flag-table.ensures.rule) c.arg-3.ensures

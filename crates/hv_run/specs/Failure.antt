@@ -1,0 +1,29 @@
+-- Which failure a script's error is, and the exit status of each.
+use Rattle.std.specs.Prelude.{◌≡◌, ◌⊎◌}
+use Rattle.hv_script.specs.declared.fault.ScriptError.{ScriptError}
+use Rattle.hv_script.specs.declared.fault.ScriptError.TheVariants as error
+use Rattle.hv_run.specs.declared.failure.Exit.{Exit}
+use Rattle.hv_run.specs.declared.failure.Exit.TheVariants.{Script, Host}
+use Rattle.hv_run.specs.declared.failure.Failure.{Failure}
+use Rattle.hv_run.specs.declared.failure.Failure.TheVariants as failure
+
+-- a script that can't be read, has a fault or doesn't boot is the script's, and the rest is the
+-- host's
+abbrev pub exit_of : Failure → Exit
+exit_of failure.Unreadable = Script
+exit_of (failure.Fault line kind) = Script
+exit_of failure.Pages = Script
+exit_of failure.Pool = Script
+exit_of failure.Vps = Script
+exit_of failure.Memory = Host
+exit_of failure.HistoryFull = Host
+exit_of failure.Write = Host
+
+-- a line's fault is told with its line, and want of memory has none
+abbrev pub failure_of : ScriptError → Failure
+failure_of (error.Fault line kind) = failure.Fault line kind
+failure_of error.Memory = failure.Memory
+
+-- a script whose bytes don't come can't be read, or there is no memory for it
+abbrev pub IsUnread : Failure → Type 0
+IsUnread why = (why ≡ failure.Unreadable) ⊎ (why ≡ failure.Memory)

@@ -1,0 +1,13 @@
+-- The exit status of a refusal of the command line.
+use Rattle.std.specs.Prelude.{◌≡◌, ◌⊎◌}
+use Rattle.hv_options.specs.declared.usage.Usage.{Usage}
+use Rattle.hv_options.specs.declared.usage.Usage.TheVariants.{Help, Words, Memory}
+use Rattle.hv_run.specs.declared.failure.Exit.{Exit}
+use Rattle.hv_run.specs.declared.failure.Exit.TheVariants as exit
+
+-- help is done unless its text can't be written, a mistake is one of usage, and the rest is the
+-- host's
+abbrev pub IsExitOf : Usage → Exit → Type 0
+IsExitOf (Help text) status = (status ≡ exit.Done) ⊎ (status ≡ exit.Host)
+IsExitOf (Words text) status = status ≡ exit.Usage
+IsExitOf Memory status = status ≡ exit.Host

@@ -1,0 +1,109 @@
+// What ends a run other than well, and with which exit status.
+ghost use Rattle.std.specs.Prelude.{◌≡◌};
+ghost use Rattle.hv_run.specs.Failure.{exit_of, failure_of};
+
+use hv_machine::BootRefused;
+use hv_script::{FaultKind, ScriptError, Stop};
+use std::io::Write;
+use thiserror::Error;
+
+/// The exit statuses of the program.
+#[derive(Clone, Copy, PartialEq, Eq, Debug)]
+pub enum Exit {
+    /// The whole script was run, or help was printed.
+    Done = 0,
+    /// The script can't be read, has a fault, or asks for a boot that is refused.
+    Script = 1,
+    /// The words of the command line are wrong.
+    Usage = 2,
+    /// Memory was wanting, the history was full, or standard output took no more.
+    Host = 3,
+}
+
+/// What ends a run other than well. Its `Display` is the line on standard error, after `hvpm: `.
+#[derive(Clone, Copy, PartialEq, Eq, Debug, Error)]
+pub enum Failure {
+    /// The script can't be read.
+    #[error("cannot read the script")]
+    Unreadable,
+    /// A line of the script has a fault. Lines count from 1; line 0 is the script as a whole.
+    #[error("line {line}: {kind}")]
+    Fault { line: usize, kind: FaultKind },
+    /// The machine doesn't boot with these pages.
+    #[error("boot refused: pages")]
+    Pages,
+    /// The machine doesn't boot with this pool.
+    #[error("boot refused: pool")]
+    Pool,
+    /// The machine doesn't boot with these virtual processors.
+    #[error("boot refused: vps")]
+    Vps,
+    /// There is no memory.
+    #[error("memory")]
+    Memory,
+    /// The history has as many events as the script's boot line allows.
+    #[error("history full")]
+    HistoryFull,
+    /// Standard output took no more.
+    #[error("write")]
+    Write,
+}
+
+impl Failure {
+    /// The exit status.
+    pub fn exit(self) -> Exit
+        ensures { result ≡ exit_of self }
+    {
+        match self {
+            Failure::Unreadable
+            | Failure::Fault { .. }
+            | Failure::Pages
+            | Failure::Pool
+            | Failure::Vps => Exit::Script,
+            Failure::Memory | Failure::HistoryFull | Failure::Write => Exit::Host,
+        }
+    }
+}
+
+impl From<BootRefused> for Failure {
+    fn from(refused: BootRefused) -> Failure {
+        match refused {
+            BootRefused::Pages => Failure::Pages,
+            BootRefused::Pool => Failure::Pool,
+            BootRefused::Vps => Failure::Vps,
+            BootRefused::Memory => Failure::Memory,
+        }
+    }
+}
+
+impl From<ScriptError> for Failure {
+    ghost from_gives = { λ error failure. failure ≡ failure_of error };
+
+    fn from(error: ScriptError) -> Failure {
+        match error {
+            ScriptError::Fault { line, kind } => Failure::Fault { line, kind },
+            ScriptError::Memory => Failure::Memory,
+        }
+    }
+}
+
+impl From<Stop> for Failure {
+    ghost use Rattle.hv_run.specs.declared.failure.Exit.TheVariants.{Host};
+
+    ghost from_gives = { λ _ failure. exit_of failure ≡ Host };
+
+    fn from(stop: Stop) -> Failure {
+        match stop {
+            Stop::HistoryFull => Failure::HistoryFull,
+            Stop::Memory => Failure::Memory,
+        }
+    }
+}
+
+/// Tells a failure on standard error, and gives its exit status, whether or not the line goes out.
+pub fn tell<E: Write>(failure: Failure, err: &mut E) -> Exit
+    ensures { result ≡ exit_of failure }
+{
+    let _ = writeln!(err, "hvpm: {failure}");
+    failure.exit()
+}

@@ -1,0 +1,34 @@
+// Reading a script's bytes.
+ghost use Rattle.std.specs.Prelude.{◌≡◌, ◌+◌, IfErr, IfOk, IfSome, take};
+ghost use Rattle.hv_script.specs.declared.script.TheConstants.{MOST_BYTES as MOST};
+ghost use Rattle.hv_run.specs.Failure.{IsUnread};
+
+use crate::failure::Failure;
+use hv_script::MOST_BYTES;
+use std::alloc::Global;
+use std::io;
+use std::io::{ErrorKind, Read};
+
+/// All bytes of a script, and of one that is too long the first 1,048,577: one byte too many, so that it is never
+/// taken for a shorter script.
+pub fn read_script<R: Read + Drop>(alloc: Global, reader: R) -> Result<Vec<u8>, Failure>
+    ensures bytes { IfOk result (λ script. IfSome (R.remaining reader) (λ text. script.items ≡ take (MOST + 1) text)) }
+    ensures unread { IfErr result IsUnread }
+{
+    let mut script = Vec::new(alloc);
+    reader
+        .take(MOST_BYTES as u64 + 1)
+        .read_to_end(&mut script)
+        .map_err(|error| unread(&error))?;
+    Ok(script)
+}
+
+/// Why a script can't be read: want of memory, or anything else.
+pub fn unread(error: &io::Error) -> Failure
+    ensures { IsUnread result }
+{
+    match error.kind() {
+        ErrorKind::OutOfMemory => Failure::Memory,
+        _ => Failure::Unreadable,
+    }
+}

@@ -1,0 +1,153 @@
+// A whole run, from the script's bytes to the exit status.
+ghost use Rattle.std.specs.Prelude.{◌≡◌, ◌≢◌, ◌↔◌, ◌<◌, length, true, false, IfErr, IfSome, IsErr, IsErrAnd, IsSome};
+ghost use Rattle.hv_policy.specs.declared.event.Caller.{Caller};
+ghost use Rattle.hv_script.specs.declared.script.TheConstants.{MOST_BYTES as MOST};
+ghost use Rattle.hv_script.specs.Processors.{HasStopped, names_of};
+ghost use Rattle.hv_run.specs.Failure.{exit_of};
+
+use crate::audit;
+use crate::failure::{Exit, Failure, tell};
+use crate::history::History;
+use crate::reading::read_script;
+use hv_abi::Frame;
+use hv_defs::REPS_END;
+use hv_machine::{Action, Caller, Event, Machine};
+use hv_options::Options;
+use hv_script::{Call, Processors, Script, Stop, parse};
+use std::alloc::Global;
+use std::io;
+use std::io::{Read, Write};
+
+/// Reads a script to its end and runs it, as [`run_text`] does. A script that is too long, or whose reader fails in
+/// mid-stream, isn't run, however it begins.
+pub fn run_reader<R: Read + Drop, W: Write, E: Write>(
+    alloc: Global,
+    reader: R,
+    options: &Options<'_>,
+    out: &mut W,
+    err: &mut E,
+) -> Exit
+    requires serial { options.now.serial ≡ true }
+    requires no_table { options.now.table ≡ false }
+    ensures long { IfSome (R.remaining reader) (λ text. MOST < length text → out.new ≡ out.old) }
+    ensures long_status { IfSome (R.remaining reader) (λ text. MOST < length text → result ≢ Exit.Done) }
+    ensures silent { result ≡ Exit.Script → out.new ≡ out.old }
+    ensures no_usage { result ≢ Exit.Usage }
+{
+    match read_script(alloc, reader) {
+        Ok(script) => run_text(alloc, script.as_slice(), options, out, err),
+        Err(unread) => tell(unread, err),
+    }
+}
+
+/// Runs a script and prints its audit on `out`. Why it didn't all run goes to `err`, in one line.
+///
+/// After a fault of the script or a refused boot nothing is written to `out`. A processor whose event is
+/// refused by the host stops, and the others go on: the audit then has what happened.
+pub fn run_text<W: Write, E: Write>(
+    alloc: Global,
+    script: &[u8],
+    options: &Options<'_>,
+    out: &mut W,
+    err: &mut E,
+) -> Exit
+    requires serial { options.now.serial ≡ true }
+    requires no_table { options.now.table ≡ false }
+    ensures long { MOST < length script.now → result ≡ Exit.Script }
+    ensures silent { result ≡ Exit.Script → out.new ≡ out.old }
+    ensures no_usage { result ≢ Exit.Usage }
+{
+    match run_script(alloc, script, out) {
+        Ok(()) => Exit::Done,
+        Err(failure) => tell(failure, err),
+    }
+}
+
+// Reads the script, boots its machine and runs its lines.
+fn run_script<W: Write>(alloc: Global, text: &[u8], out: &mut W) -> Result<(), Failure>
+    ensures long { MOST < length text.now → IsErrAnd result (λ failure. exit_of failure ≡ Exit.Script) }
+    ensures silent { IfErr result (λ failure. exit_of failure ≡ Exit.Script → out.new ≡ out.old) }
+{
+    let script = parse(alloc, text)?;
+    let machine = Machine::boot(alloc, script.boot.config)?;
+    run_lines(alloc, script, machine, out)
+}
+
+// Runs the lines and prints their audit.
+fn run_lines<W: Write>(
+    alloc: Global,
+    script: Script,
+    machine: Machine<Global>,
+    out: &mut W,
+) -> Result<(), Failure>
+    ensures { IfErr result (λ failure. exit_of failure ≡ Exit.Host) }
+{
+    let Script {
+        boot,
+        calls,
+        mut processors,
+    } = script;
+    let mut machine = machine;
+    let mut history = History::new(alloc, boot.limit);
+    for call in calls {
+        run_call(&mut history, &mut machine, &mut processors, call);
+    }
+    let written = audit::print(&history, out);
+    ended(processors.first_stop(), written)
+}
+
+// Drives a call, unless its processor stopped. Where the host refuses an event of it, that processor stops, and no other.
+fn run_call(
+    history: &mut History,
+    machine: &mut Machine<Global>,
+    processors: &mut Processors,
+    call: Call,
+)
+    ensures stays { HasStopped processors.old call.by → (history.new ≡ history.old) × (machine.new ≡ machine.old) }
+    ensures others { (other : Caller) → other ≢ call.by → HasStopped processors.new other ↔ HasStopped processors.old other }
+    ensures names { names_of processors.new ≡ names_of processors.old }
+{
+    let by = call.by;
+    if processors.is_stopped(by) {
+        return;
+    }
+    if let Err(stop) = drive(history, machine, by, call.frame) {
+        processors.stop(by, stop);
+    }
+}
+
+// How a run ended: a processor that stopped comes before output that couldn't be written.
+fn ended(stop: Option<Stop>, written: io::Result<()>) -> Result<(), Failure>
+    ensures host { IfErr result (λ failure. exit_of failure ≡ Exit.Host) }
+    ensures stop { IsSome stop → IsErr result }
+{
+    match stop {
+        Some(stop) => Err(Failure::from(stop)),
+        None => written.map_err(|_| Failure::Write),
+    }
+}
+
+// Drives a call to its end: the elements of a rep call one after another, each an event of its own. It ends with the
+// last element, or with one that is denied.
+fn drive(
+    history: &mut History,
+    machine: &mut Machine<Global>,
+    by: Caller,
+    frame: Frame<Global>,
+) -> Result<(), Stop> {
+    let mut event = call_event(by, frame);
+    // A rep call has fewer elements than that.
+    for _ in 0..REPS_END {
+        let Some(next) = history.apply(machine, &event)? else {
+            return Ok(());
+        };
+        let Action::Hypercall(frame) = event.what;
+        event = call_event(by, frame.with_start(next));
+    }
+    Ok(())
+}
+
+fn call_event(by: Caller, frame: Frame<Global>) -> Event<Global> {
+    let what = Action::Hypercall(frame);
+    Event { by, what }
+}

@@ -1,0 +1,18 @@
+//! What is read and what is shown: the bytes and lines of a script, the words of a command line, the lines of the audit and
+//! of standard error. Tests only.
+#![tactic(auto)]
+
+#[cfg(test)]
+mod audit;
+#[cfg(test)]
+mod bytes;
+#[cfg(test)]
+mod lines;
+#[cfg(test)]
+mod processors;
+#[cfg(test)]
+mod readers;
+#[cfg(test)]
+mod words;
+#[cfg(test)]
+mod writers;

@@ -1,0 +1,116 @@
+// What is shown where words ask for no run: help, or the mistake.
+
+use hv_options::{Usage, options};
+
+// Whether a refusal is help, and its text.
+fn shown(usage: &Usage) -> (bool, &str) {
+    match usage {
+        Usage::Help(text) => (true, text.as_str()),
+        Usage::Words(text) => (false, text.as_str()),
+        Usage::Memory => (false, "memory"),
+    }
+}
+
+const HELP: &str = "Runs a script of hypercalls on a model of Hyper-V's partition manager
+
+Usage: hvpm <COMMAND>
+
+Commands:
+  run   Runs a script and prints its audit
+  help  Print this message or the help of the given subcommand(s)
+
+Options:
+  -h, --help  Print help
+";
+
+const RUN_HELP: &str = "Runs a script and prints its audit
+
+Usage: hvpm run [OPTIONS] <SCRIPT>
+
+Arguments:
+  <SCRIPT>  The script: a boot line, and a line for each hypercall
+
+Options:
+      --serial  Run the lines in the script's order, with no thread
+      --table   Print the table of partitions after the audit
+  -h, --help    Print help
+";
+
+const NO_COMMAND: &str = "error: 'hvpm' requires a subcommand but one was not provided
+  [subcommands: run, help]
+
+Usage: hvpm <COMMAND>
+
+For more information, try '--help'.
+";
+
+const NO_SCRIPT: &str = "error: the following required arguments were not provided:
+  <SCRIPT>
+
+Usage: hvpm run <SCRIPT>
+
+For more information, try '--help'.
+";
+
+const REPEATED: &str = "error: the argument '--serial' cannot be used multiple times
+
+Usage: hvpm run [OPTIONS] <SCRIPT>
+
+For more information, try '--help'.
+";
+
+const TWO_SCRIPTS: &str = "error: unexpected argument 'b.hv' found
+
+Usage: hvpm run [OPTIONS] <SCRIPT>
+
+For more information, try '--help'.
+";
+
+const UNKNOWN: &str = "error: unrecognized subcommand 'walk'
+
+Usage: hvpm <COMMAND>
+
+For more information, try '--help'.
+";
+
+const NOT_SERIAL: &str = "error: `--serial` is required, since no threads are there yet\n";
+
+const WITH_TABLE: &str = "error: `--table` is not there yet\n";
+
+#[test]
+fn refusals(rt: HostRuntime) {
+    for (words, is_help, text) in [
+        (["hvpm", "--help"].as_slice(), true, HELP),
+        (["hvpm", "help", "run"].as_slice(), true, RUN_HELP),
+        (
+            ["hvpm", "run", "a.hv", "--serial", "-h"].as_slice(),
+            true,
+            RUN_HELP,
+        ),
+        ([].as_slice(), false, NO_COMMAND),
+        (["hvpm"].as_slice(), false, NO_COMMAND),
+        (["hvpm", "run"].as_slice(), false, NO_SCRIPT),
+        (
+            ["hvpm", "run", "a.hv", "--serial", "--serial"].as_slice(),
+            false,
+            REPEATED,
+        ),
+        (
+            ["hvpm", "run", "a.hv", "b.hv"].as_slice(),
+            false,
+            TWO_SCRIPTS,
+        ),
+        (["hvpm", "walk"].as_slice(), false, UNKNOWN),
+        (["hvpm", "run", "a.hv"].as_slice(), false, NOT_SERIAL),
+        (
+            ["hvpm", "run", "a.hv", "--serial", "--table"].as_slice(),
+            false,
+            WITH_TABLE,
+        ),
+    ] {
+        match options(rt.alloc(), words) {
+            Ok(_) => assert!(rt; false, "{words:?}"),
+            Err(usage) => assert_eq!(rt; shown(&usage), (is_help, text)),
+        }
+    }
+}
