@@ -3,12 +3,12 @@ ghost use Rattle.std.specs.Prelude.{◌≡◌, ◌<◌, None, true, IsTrue, IfOk
 ghost use Rattle.hv_calls.specs.Call.{kind_of_call};
 ghost use Rattle.hv_defs.specs.declared.sizes.TheConstants.{MAX_SERVED};
 ghost use Rattle.hv_policy.specs.Call.{is_served, may_take_memory};
+ghost use Rattle.hv_policy.specs.CallEvent.{call_event};
 ghost use Rattle.hv_policy.specs.Flat.{Flat};
 ghost use Rattle.hv_policy.specs.Result.{HasResult};
 ghost use Rattle.hv_policy.specs.Step.{NamesAsked, step, unmet};
 ghost use Rattle.hv_policy.specs.declared.event.Action.TheVariants.{Hypercall};
 ghost use Rattle.hv_tie.specs.Room.{roomless};
-ghost use Rattle.hv_policy.specs.CallEvent.{call_event};
 ghost use Rattle.hv_machine.specs.Access.{HasAccess};
 ghost use Rattle.hv_machine.specs.IsFlat.{IsFlat};
 ghost use Rattle.hv_machine.specs.Lasting.{IsLasting};

@@ -26,7 +26,9 @@ pub use calls::{
     each_call_has_its_rules, each_call_has_its_target, each_kin_has_its_partitions,
     the_profile_has_its_calls,
 };
-pub use frames::{each_frame_has_its_fault, each_input_value_has_its_parts, each_result_has_its_value};
+pub use frames::{
+    each_frame_has_its_fault, each_input_value_has_its_parts, each_result_has_its_value,
+};
 pub use privileges::each_privilege_has_its_bit;
 pub use properties::{
     each_property_has_its_code, each_property_has_its_range, each_property_has_its_start,
