@@ -2,7 +2,8 @@
 //! the sizes and charges of the profile, and the registers of a virtual processor.
 //!
 //! The definitions of `specs/` that more than one crate cites stand here too: a little-endian field
-//! of a block of bytes, bits of a register value, and the registers with which a processor starts.
+//! of a block of bytes, bits of a register value, the registers with which a processor starts, and what they keep of a value
+//! that is written.
 //! The crate has no logic.
 #![tactic(auto)]
 
@@ -13,7 +14,7 @@ mod sizes;
 
 pub use life::Life;
 pub use port_kind::PortKind;
-pub use registers::{REGISTERS, RegisterRow, VP_INDEX};
+pub use registers::{REGISTERS, RegFault, RegisterRow, SCONTROL, SIEFP, SIMP, Takes, VP_INDEX};
 pub use sizes::{
     ANY_VP, CONNECTION_CHARGE, CPU_CAP_START, CPU_RESERVE_START, CPU_WEIGHT_START, EVENT_FLAGS,
     FIRST_CHILD_ID, MAX_CPU_CAP, MAX_CPU_RESERVE, MAX_CPU_WEIGHT, MAX_DEPTH, MAX_MESSAGE_TYPE,

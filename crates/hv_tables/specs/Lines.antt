@@ -1,5 +1,5 @@
 -- The lines of the tables, made of the definitions and constants that contracts cite.
-use Rattle.std.specs.Prelude.{ℕ, Bool, List, [], ◌∷◌, map, Option}
+use Rattle.std.specs.Prelude.{ℕ, ◌==◌, Bool, List, [], ◌∷◌, find, map, Option}
 use Rattle.std.specs.List.{filter}
 use Rattle.std.specs.Option.{option_map}
 use Rattle.hv_abi.specs.CallRow.{row_of, input_len, output_len}
@@ -12,6 +12,8 @@ use Rattle.hv_abi.specs.declared.status.Status.{Status}
 use Rattle.hv_calls.specs.declared.call.Call.{Call}
 use Rattle.hv_defs.specs.declared.life.Life.{Life}
 use Rattle.hv_defs.specs.declared.life.Life.TheVariants.{Created, Active, Finalized}
+use Rattle.hv_defs.specs.declared.registers.Takes.{Takes}
+use Rattle.hv_defs.specs.declared.registers.TheConstants.{REGISTERS}
 use Rattle.hv_privs.specs.Privileges.{bits_of}
 use Rattle.hv_policy.specs.Needs.{needs_of, is_among, further_rules, charge_of, takes_memory}
 use Rattle.hv_policy.specs.Rule.{rule_number, rule_name, rule_status}
@@ -46,6 +48,10 @@ rule_line rule call = (rule_number rule, rule_name rule, option_map status_code 
 -- a status's number and name
 abbrev pub status_line : Status → ℕ × List ℕ
 status_line status = (status_code status, status_name status)
+
+-- a register's number as an MSR, the bits of the privilege that its access needs, and which values it takes, by its name
+abbrev pub access_line : ℕ → Option (Option ℕ × ℕ × Takes)
+access_line name = option_map (λ row. (row.msr, row.privilege, row.takes)) (find (λ row. row.name == name) REGISTERS)
 
 -- a frame with these registers and without bytes of input
 abbrev pub bare_frame : ℕ → ℕ → ℕ → Frame (Unit {0})

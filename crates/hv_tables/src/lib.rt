@@ -33,7 +33,9 @@ pub use privileges::each_privilege_has_its_bit;
 pub use properties::{
     each_property_has_its_code, each_property_has_its_range, each_property_has_its_start,
 };
-pub use registers::each_register_has_its_start;
+pub use registers::{
+    each_register_has_its_access, each_register_has_its_start, each_register_takes_its_values,
+};
 pub use rules::each_rule_has_its_line;
 pub use sizes::each_size_has_its_value;
 pub use statuses::each_status_has_its_line;

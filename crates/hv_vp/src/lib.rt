@@ -1,0 +1,13 @@
+//! A virtual processor: its registers, by name and by model-specific register, and whether it is ready for messages and event
+//! flags.
+//!
+//! Contracts see the registers as a finite map from name to value, and the table of them is `hv_defs`'. A register that isn't
+//! written tells why by [`RegFault`], and the processor is unchanged. Who may access a register is not asked here.
+#![tactic(auto)]
+
+mod registers;
+mod table;
+mod vp;
+
+pub use hv_defs::RegFault;
+pub use vp::Vp;

@@ -1,0 +1,80 @@
+// The table of registers, by places.
+ghost use Rattle.std.specs.Prelude.{◌≡◌, ◌<◌, IfSome, map};
+ghost use Rattle.hv_defs.specs.declared.registers.TheConstants as rows;
+ghost use Rattle.hv_defs.specs.Registers.{is_sint_value, name_of_msr, take};
+ghost use Rattle.hv_vp.specs.Registers.{msr_place, place_of, takes_at};
+
+use hv_defs::{REGISTERS, RegFault, Takes, VP_INDEX};
+
+// The place of VP_INDEX.
+pub const VP_INDEX_PLACE: usize = 18;
+
+const _: () = prove!(REGISTERS[VP_INDEX_PLACE].name == VP_INDEX);
+
+// The values of the rows in a new processor.
+pub fn start_values() -> [u64; 40]
+    ensures { result ≡ map (λ row. row.start) rows.REGISTERS }
+{
+    REGISTERS.map(|row| row.start)
+}
+
+// The place of a register in the table.
+#[tactic(auto, unfolding(crate::specs::Registers::place_of))]
+pub fn place_of(name: u32) -> Option<usize>
+    ensures place { result ≡ place_of name }
+    ensures within { IfSome result (λ place. place < 40) }
+{
+    REGISTERS.iter().position(|row| row.name == name)
+}
+
+// Which values the register at a place of the table takes.
+#[tactic(auto, unfolding(crate::specs::Registers::takes_at))]
+pub fn takes_at(place: usize) -> Takes
+    requires { place < 40 }
+    ensures { result ≡ takes_at place }
+{
+    let row = REGISTERS[place];
+    row.takes
+}
+
+// What is kept of a value that is written.
+pub fn take(takes: Takes, value: u64) -> Result<u64, RegFault>
+    ensures { result ≡ take takes value }
+{
+    match takes {
+        Takes::Nothing => Err(RegFault::ReadOnly),
+        Takes::Any => Ok(value),
+        Takes::SintValue if is_sint_value(value) => Ok(value),
+        Takes::SintValue => Err(RegFault::Value),
+        Takes::EndOfMessage => Ok(0),
+    }
+}
+
+// Whether the value has a vector from 16 up, or is masked.
+fn is_sint_value(value: u64) -> bool
+    ensures { result ≡ is_sint_value value }
+{
+    value & 0xff >= 16 || value >> 16 & 1 == 1
+}
+
+// The name of a model-specific register in a call.
+pub fn name_of_msr(msr: u32) -> Option<u32>
+    ensures { result ≡ name_of_msr msr }
+{
+    match msr_place(msr) {
+        Some(place) => {
+            let row = REGISTERS[place];
+            Some(row.name)
+        }
+        None => None,
+    }
+}
+
+// The place of a model-specific register in the table.
+#[tactic(auto, unfolding(crate::specs::Registers::msr_place))]
+fn msr_place(msr: u32) -> Option<usize>
+    ensures place { result ≡ msr_place msr }
+    ensures within { IfSome result (λ place. place < 40) }
+{
+    REGISTERS.iter().position(|row| row.msr == Some(msr))
+}
