@@ -1,0 +1,38 @@
+-- The processors of a partition as contracts see them.
+use Rattle.std.specs.Prelude.{ℕ, List, map as list_map, nat_eq, refl}
+use Rattle.std.specs.Coded.{Coded, code_by, coded×, coded_ℕ}
+use Rattle.std.specs.FinMap as map
+use Rattle.std.specs.List.{IsDistinct}
+use Rattle.std.specs.Ordering.{nat_cmp}
+use Rattle.hv_vp.specs.Vp.{VpState, vp_code}
+use Rattle.hv_vp.specs.declared.vps.Slot.{Slot}
+
+-- each processor by its index, and for how many more there is memory
+pub record VpsState : Type 0 where
+  pub vps : map.FinMap nat_cmp VpState
+  pub room : ℕ
+
+abbrev pub vps_code : Coded VpsState
+vps_code =
+    code_by (map.FinMap nat_cmp VpState × ℕ) (coded× (map.code coded_ℕ vp_code) coded_ℕ)
+    (λ v. (v.vps, v.room)) (λ t. record { vps = t.0; room = t.1 }) (λ _. refl)
+
+-- the entries of a list of slots
+abbrev pub entries_of : {A : Type 0} → List (Slot A) → List (ℕ × VpState)
+entries_of slots = list_map (λ slot. (slot.index, slot.vp)) slots
+
+-- the processors of a list of slots, by their indexes
+unfoldable pub vps_of : {A : Type 0} → List (Slot A) → map.FinMap nat_cmp VpState
+vps_of slots = map.from_entries (entries_of slots)
+
+-- no two slots have the same index
+abbrev pub AreDistinct : {A : Type 0} → List (Slot A) → Type 0
+AreDistinct slots = IsDistinct nat_eq (list_map (λ slot. slot.index) slots)
+
+-- the processors with another state of one of them
+abbrev pub with_vp : VpsState → ℕ → VpState → VpsState
+with_vp v index vp = record v { vps = map.insert v.vps index vp }
+
+-- no processors, and no memory for any
+abbrev pub no_vps : VpsState
+no_vps = record { vps = map.empty; room = 0 }

@@ -1,0 +1,128 @@
+// The processors of a partition.
+ghost use Rattle.std.specs.Prelude.{◌≡◌, ◌+◌, ◌≤◌, ◌<◌, ◌==◌, IsOk, OnOk, OnErr, IfSome, false, length, option_copied};
+ghost use Rattle.std.specs.Borrow.{LendsIf, sem};
+ghost use Rattle.std.specs.FinMap as map;
+ghost use Rattle.std.specs.List.{position_from};
+ghost use Rattle.std.specs.Option.{option_copied_mut};
+ghost use Rattle.hv_vp.specs.Vps.{no_vps, with_vp};
+ghost use Rattle.hv_vp.specs.contracts.vp.Vp.{the_row as vp_row};
+ghost use Rattle.hv_vp.specs.contracts.vps.Vps.{the_row};
+
+use crate::vp::Vp;
+use std::alloc::{AllocError, Allocator};
+use std::marker::Model;
+
+// A processor with its index.
+#[derive(Drop)]
+struct Slot<A: Allocator> {
+    index: u32,
+    vp: Vp<A>,
+}
+
+/// The processors of a partition, by their indexes.
+#[derive(Drop)]
+pub struct Vps<A: Allocator> {
+    slots: Vec<Slot<A>, A>,
+}
+
+impl<A: Allocator> Model for Vps<A> {
+    ghost use Rattle.std.specs.Prelude.{◌-◌, length, vec_capacity};
+    ghost use Rattle.hv_vp.specs.Vps.{AreDistinct, VpsState, vps_code, vps_of};
+
+    ghost Value = { VpsState };
+
+    ghost coded = { vps_code };
+
+    ghost view = { λ v. record { vps = vps_of v.slots.items; room = vec_capacity v.slots - length v.slots.items } };
+
+    ghost invariant = { λ v. AreDistinct v.slots.items };
+}
+
+impl<A: Allocator> Vps<A> {
+    /// No processors, and no memory for any.
+    pub fn new(alloc: A) -> Vps<A>
+        ensures { result ≡ no_vps }
+    {
+        Vps {
+            slots: Vec::new(alloc),
+        }
+    }
+
+    /// The processor with this index.
+    pub fn get(&self, index: u32) -> Option<&Vp<A>>
+        ensures { option_copied result ≡ map.get self.now.vps index }
+    {
+        match place_of(self.slots.as_slice(), index) {
+            Some(place) => Some(&self.slots[place].vp),
+            None => None,
+        }
+    }
+
+    /// The processor with this index, to be changed.
+    pub fn get_mut(&mut self, index: u32) -> Option<&mut Vp<A>>
+        ensures* writes_back { sem 𝓛 (LendsIf (the_row A.row A.Allocator) (vp_row A.row A.Allocator) self.entry result
+            (λ w. with_vp self.old index w) self.old) }
+        ensures value { option_copied_mut result ≡ map.get self.old.vps index }
+    {
+        match place_of(self.slots.as_slice(), index) {
+            Some(place) => Some(&mut self.slots[place].vp),
+            None => None,
+        }
+    }
+
+    /// How many there are.
+    pub fn count(&self) -> usize
+        ensures { result ≡ map.len self.now.vps }
+    {
+        self.slots.len()
+    }
+
+    /// Makes room for one processor more.
+    pub fn reserve_one(&mut self) -> Result<(), AllocError>
+        ensures room { OnOk result (1 ≤ self.new.room) }
+        ensures enough { 1 ≤ self.old.room → IsOk result }
+        ensures unchanged { OnErr result (self.new ≡ self.old) }
+        ensures vps { self.new.vps ≡ self.old.vps }
+    {
+        self.slots.reserve(1)
+    }
+
+    /// Adds a processor with an index that is free. It must find room.
+    pub fn put(&mut self, index: u32, vp: Vp<A>)
+        requires room { 1 ≤ self.old.room }
+        requires free { map.contains_key self.old.vps index ≡ false }
+        ensures vps { self.new.vps ≡ map.insert self.old.vps index vp }
+        ensures room { self.old.room ≤ self.new.room + 1 }
+    {
+        self.slots.push(Slot { index, vp }).unwrap();
+    }
+
+    /// Removes the processor with this index, and says whether there was one.
+    pub fn remove(&mut self, index: u32) -> bool
+        ensures held { result ≡ map.contains_key self.old.vps index }
+        ensures vps { self.new.vps ≡ map.remove self.old.vps index }
+        ensures room { self.old.room ≤ self.new.room }
+    {
+        let Some(place) = place_of(self.slots.as_slice(), index) else {
+            return false;
+        };
+        drop(self.slots.remove(place));
+        true
+    }
+
+    /// Removes all.
+    pub fn clear(&mut self)
+        ensures vps { self.new.vps ≡ map.empty }
+        ensures room { self.old.room ≤ self.new.room }
+    {
+        self.slots.clear();
+    }
+}
+
+// The place of a processor.
+fn place_of<A: Allocator>(slots: &[Slot<A>], index: u32) -> Option<usize>
+    ensures place { result ≡ position_from (λ slot. slot.index == index) 0 slots.now }
+    ensures within { IfSome result (λ place. place < length slots.now) }
+{
+    slots.iter().position(|slot| slot.index == index)
+}
