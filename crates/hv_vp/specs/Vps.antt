@@ -1,13 +1,14 @@
 -- The processors of a partition as contracts see them.
-use Rattle.std.specs.Prelude.{ℕ, List, map as list_map, nat_eq, refl}
+use Rattle.std.specs.Prelude.{ℕ, ◌+◌, ◌-◌, ◌≤◌, List, length, map as list_map, min, nat_eq, refl}
 use Rattle.std.specs.Coded.{Coded, code_by, coded×, coded_ℕ}
 use Rattle.std.specs.FinMap as map
 use Rattle.std.specs.List.{IsDistinct}
 use Rattle.std.specs.Ordering.{nat_cmp}
 use Rattle.hv_vp.specs.Vp.{VpState, vp_code}
 use Rattle.hv_vp.specs.declared.vps.Slot.{Slot}
+use Rattle.hv_vp.specs.declared.vps.TheConstants.{MOST}
 
--- each processor by its index, and for how many more there is memory
+-- each processor by its index, and for how many more there is room
 pub record VpsState : Type 0 where
   pub vps : map.FinMap nat_cmp VpState
   pub room : ℕ
@@ -25,9 +26,18 @@ entries_of slots = list_map (λ slot. (slot.index, slot.vp)) slots
 unfoldable pub vps_of : {A : Type 0} → List (Slot A) → map.FinMap nat_cmp VpState
 vps_of slots = map.from_entries (entries_of slots)
 
+-- what is seen of a list of slots in a vector with this capacity: there is never room for more than the most
+abbrev pub seen_of : {A : Type 0} → List (Slot A) → ℕ → VpsState
+seen_of slots capacity = record { vps = vps_of slots; room = min capacity MOST - length slots }
+
 -- no two slots have the same index
 abbrev pub AreDistinct : {A : Type 0} → List (Slot A) → Type 0
 AreDistinct slots = IsDistinct nat_eq (list_map (λ slot. slot.index) slots)
+
+-- and there are no more of them than the most
+pub record AreSlots {A : Type 0} (slots : List (Slot A)) : Type 0 where
+  pub distinct : AreDistinct slots
+  pub few : length slots ≤ MOST
 
 -- the processors with another state of one of them
 abbrev pub with_vp : VpsState → ℕ → VpState → VpsState
@@ -36,3 +46,7 @@ with_vp v index vp = record v { vps = map.insert v.vps index vp }
 -- no processors, and no memory for any
 abbrev pub no_vps : VpsState
 no_vps = record { vps = map.empty; room = 0 }
+
+-- the processors once all are removed, with the room that they leave
+abbrev pub cleared : VpsState → VpsState
+cleared v = record { vps = map.empty; room = v.room + map.len v.vps }

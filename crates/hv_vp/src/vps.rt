@@ -4,13 +4,16 @@ ghost use Rattle.std.specs.Borrow.{LendsIf, sem};
 ghost use Rattle.std.specs.FinMap as map;
 ghost use Rattle.std.specs.List.{position_from};
 ghost use Rattle.std.specs.Option.{option_copied_mut};
-ghost use Rattle.hv_vp.specs.Vps.{no_vps, with_vp};
+ghost use Rattle.hv_vp.specs.Vps.{cleared, no_vps, with_vp};
 ghost use Rattle.hv_vp.specs.contracts.vp.Vp.{the_row as vp_row};
 ghost use Rattle.hv_vp.specs.contracts.vps.Vps.{the_row};
 
 use crate::vp::Vp;
 use std::alloc::{AllocError, Allocator};
 use std::marker::Model;
+
+// As many processors as a `u32` counts.
+const MOST: usize = 0xFFFF_FFFF;
 
 // A processor with its index.
 #[derive(Drop)]
@@ -26,16 +29,16 @@ pub struct Vps<A: Allocator> {
 }
 
 impl<A: Allocator> Model for Vps<A> {
-    ghost use Rattle.std.specs.Prelude.{◌-◌, length, vec_capacity};
-    ghost use Rattle.hv_vp.specs.Vps.{AreDistinct, VpsState, vps_code, vps_of};
+    ghost use Rattle.std.specs.Prelude.{vec_capacity};
+    ghost use Rattle.hv_vp.specs.Vps.{AreSlots, VpsState, seen_of, vps_code};
 
     ghost Value = { VpsState };
 
     ghost coded = { vps_code };
 
-    ghost view = { λ v. record { vps = vps_of v.slots.items; room = vec_capacity v.slots - length v.slots.items } };
+    ghost view = { λ v. seen_of v.slots.items (vec_capacity v.slots) };
 
-    ghost invariant = { λ v. AreDistinct v.slots.items };
+    ghost invariant = { λ v. AreSlots v.slots.items };
 }
 
 impl<A: Allocator> Vps<A> {
@@ -71,19 +74,25 @@ impl<A: Allocator> Vps<A> {
     }
 
     /// How many there are.
-    pub fn count(&self) -> usize
+    pub fn count(&self) -> u32
         ensures { result ≡ map.len self.now.vps }
     {
-        self.slots.len()
+        self.slots.len() as u32
     }
 
-    /// Makes room for one processor more.
+    /// Makes room for one processor more. Room that is there already always suffices.
+    ///
+    /// `Err` where there is no memory for it, or where there are 2^32 - 1 processors already, and then nothing has changed.
     pub fn reserve_one(&mut self) -> Result<(), AllocError>
         ensures room { OnOk result (1 ≤ self.new.room) }
         ensures enough { 1 ≤ self.old.room → IsOk result }
         ensures unchanged { OnErr result (self.new ≡ self.old) }
         ensures vps { self.new.vps ≡ self.old.vps }
+        ensures kept { self.old.room ≤ self.new.room }
     {
+        if self.slots.len() == MOST {
+            return Err(AllocError);
+        }
         self.slots.reserve(1)
     }
 
@@ -110,10 +119,9 @@ impl<A: Allocator> Vps<A> {
         true
     }
 
-    /// Removes all.
+    /// Removes all. The room that they leave is kept.
     pub fn clear(&mut self)
-        ensures vps { self.new.vps ≡ map.empty }
-        ensures room { self.old.room ≤ self.new.room }
+        ensures { self.new ≡ cleared self.old }
     {
         self.slots.clear();
     }

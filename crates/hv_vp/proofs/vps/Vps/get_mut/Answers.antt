@@ -1,9 +1,9 @@
 use Rattle.std.proofs.Common.{◌∙◌, sym, ap, inl, inr}
-use Rattle.hv_vp.proofs.VpsLemmas.{lent, none_of, same_name, seen_in, still_distinct}
+use Rattle.hv_vp.proofs.VpsLemmas.{lent, none_of, same_name, seen_in, still_slots}
 use Rattle.hv_vp.proofs.vps.Vps.get_mut.Goals as goal
 
 pub invariant_of-self-lent : goal.invariant_of-self-lent
-invariant_of-self-lent g c = λ w. still_distinct c.self.inside.slots.items c.in-Some.place c.index_mut.result.now c.self.invariant c.index_mut.ensures.value w
+invariant_of-self-lent g c = λ w. still_slots c.self.inside.slots.items c.in-Some.place c.index_mut.result.now c.self.invariant c.index_mut.ensures.value w
 
 pub returns-in-Some : goal.returns-in-Some
 returns-in-Some g c =

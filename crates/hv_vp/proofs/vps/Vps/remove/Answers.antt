@@ -14,7 +14,9 @@ returns-in_default-clause-vps g c =
     rw (← c.self.view_is, ← c.as_slice.ensures.value) (unchanged c.as_slice.result.now c.args.index none)
 
 pub invariant_of-self : goal.invariant_of-self
-invariant_of-self g c = rw c.remove.ensures.items (one_less c.self.inside.slots.items c.in-Some.place c.self.invariant)
+invariant_of-self g c =
+    let below = rw c.as_slice.ensures.value at (rw c.in-Some.is at c.place_of.ensures.within) in
+    rw c.remove.ensures.items (one_less c.self.inside.slots.items c.in-Some.place below c.self.invariant)
 
 pub returns-clause-held : goal.returns-clause-held
 returns-clause-held g c =
@@ -24,4 +26,4 @@ returns-clause-held g c =
 pub returns-clause-vps : goal.returns-clause-vps
 returns-clause-vps g c =
     let scan = rw c.as_slice.ensures.value at (sym c.place_of.ensures.place ∙ c.in-Some.is) in
-    rw (← c.self.view_is, c.remove.ensures.items) (removed_of c.self.inside.slots.items c.args.index c.in-Some.place c.remove.result c.self.invariant scan)
+    rw (← c.self.view_is, c.remove.ensures.items) (removed_of c.self.inside.slots.items c.args.index c.in-Some.place c.remove.result c.self.invariant.distinct scan)
