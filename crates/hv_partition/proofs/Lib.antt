@@ -1,3 +1,2 @@
 pub mod Disjoint
-pub mod Vps
 pub mod Written

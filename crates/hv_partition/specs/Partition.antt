@@ -1,19 +1,20 @@
 -- What contracts see of a partition.
-use Rattle.std.specs.Prelude.{◌≡◌, ℕ, ◌+◌, ◌-◌, ◌*◌, ◌<◌, zero, suc, List, All, nat_eq, refl}
+use Rattle.std.specs.Prelude.{◌≡◌, ℕ, ◌+◌, ◌-◌, ◌*◌, zero, suc, refl}
 use Rattle.std.specs.Coded.{Coded, code_by, coded×, coded_ℕ}
+use Rattle.std.specs.FinMap as map
 use Rattle.std.specs.FinSet as set
-use Rattle.std.specs.List.{IsDistinct}
-use Rattle.std.specs.Ordering.{nat_cmp}
 use Rattle.hv_defs.specs.declared.life.Life.{Life}
 use Rattle.hv_defs.specs.declared.life.Life.TheVariants.{Created, Active, Finalized}
-use Rattle.hv_defs.specs.declared.sizes.TheConstants.{CPU_CAP_START, CPU_RESERVE_START, CPU_WEIGHT_START, MAX_VPS, PARTITION_CHARGE, VP_CHARGE}
+use Rattle.hv_defs.specs.declared.sizes.TheConstants.{CPU_CAP_START, CPU_RESERVE_START, CPU_WEIGHT_START, PARTITION_CHARGE, VP_CHARGE}
 use Rattle.hv_pages.specs.PageSet.{PagesAndRoom, pages_and_room_code}
 use Rattle.hv_partition.specs.declared.kind.PageKind.{PageKind}
 use Rattle.hv_partition.specs.declared.kind.PageKind.TheVariants.{Loose, Pooled}
 use Rattle.hv_privs.specs.Privileges.{bits_of, of}
 use Rattle.hv_privs.specs.declared.Privileges.{Privileges}
+use Rattle.hv_vp.specs.Vp.{VpState}
+use Rattle.hv_vp.specs.Vps.{VpsState, cleared, no_vps, vps_code, with_vp}
 
--- a partition: its life state, its privilege mask, its CPU properties, its loose and pooled pages, and the indexes of its processors
+-- a partition: its life state, its privilege mask, its CPU properties, its loose and pooled pages, and its processors
 pub record PartitionState : Type 0 where
   pub life : Life
   pub mask : Privileges
@@ -22,7 +23,7 @@ pub record PartitionState : Type 0 where
   pub weight : ℕ
   pub loose : PagesAndRoom
   pub pooled : PagesAndRoom
-  pub vps : set.FinSet nat_cmp
+  pub vps : VpsState
 
 -- a life state is stored as its number
 abbrev pub life_number : Life → ℕ
@@ -50,8 +51,8 @@ mask_code = code_by ℕ coded_ℕ bits_of of (λ _. refl)
 -- a partition is stored as the tuple of its fields
 abbrev pub partition_code : Coded PartitionState
 partition_code =
-    code_by (Life × (Privileges × (ℕ × (ℕ × (ℕ × (PagesAndRoom × (PagesAndRoom × set.FinSet nat_cmp)))))))
-    (coded× life_code (coded× mask_code (coded× coded_ℕ (coded× coded_ℕ (coded× coded_ℕ (coded× pages_and_room_code (coded× pages_and_room_code (set.code coded_ℕ))))))))
+    code_by (Life × (Privileges × (ℕ × (ℕ × (ℕ × (PagesAndRoom × (PagesAndRoom × VpsState)))))))
+    (coded× life_code (coded× mask_code (coded× coded_ℕ (coded× coded_ℕ (coded× coded_ℕ (coded× pages_and_room_code (coded× pages_and_room_code vps_code)))))))
     (λ p. (p.life, (p.mask, (p.reserve, (p.cap, (p.weight, (p.loose, (p.pooled, p.vps))))))))
     (λ t. record { life = t.0; mask = t.1.0; reserve = t.1.1.0; cap = t.1.1.1.0; weight = t.1.1.1.1.0; loose = t.1.1.1.1.1.0; pooled = t.1.1.1.1.1.1.0; vps = t.1.1.1.1.1.1.1 })
     (λ _. refl)
@@ -65,6 +66,10 @@ pages_in Pooled p = p.pooled
 abbrev pub with_pages : PageKind → PagesAndRoom → PartitionState → PartitionState
 with_pages Loose pages p = record p { loose = pages }
 with_pages Pooled pages p = record p { pooled = pages }
+
+-- the partition with another state of one of its processors
+abbrev pub with_vp_of : PartitionState → ℕ → VpState → PartitionState
+with_vp_of p index vp = record p { vps = with_vp p.vps index vp }
 
 -- no pages, and no memory for any
 abbrev pub no_pages : PagesAndRoom
@@ -80,12 +85,12 @@ new_partition life mask = record {
   weight = CPU_WEIGHT_START;
   loose = no_pages;
   pooled = no_pages;
-  vps = set.empty;
+  vps = no_vps;
 }
 
 -- the pooled pages that its processors and so many children use
 abbrev pub in_use : ℕ → PartitionState → ℕ
-in_use children p = PARTITION_CHARGE * children + VP_CHARGE * set.len p.vps
+in_use children p = PARTITION_CHARGE * children + VP_CHARGE * map.len p.vps.vps
 
 -- the pooled pages that it may still use
 abbrev pub available : ℕ → PartitionState → ℕ
@@ -93,9 +98,4 @@ available children p = set.len p.pooled.pages - in_use children p
 
 -- the partition once it is finalized: its processors go, and its pages stay
 abbrev pub finalized : PartitionState → PartitionState
-finalized p = record p { life = Finalized; vps = set.empty }
-
--- a list of processors' indexes: each is in range, and stands once
-pub record IsVpList (indexes : List ℕ) : Type 0 where
-  pub distinct : IsDistinct nat_eq indexes
-  pub in_range : All (λ index. index < MAX_VPS) indexes
+finalized p = record p { life = Finalized; vps = cleared p.vps }

@@ -1,9 +1,13 @@
 // The partition, seen as the record of its parts.
-ghost use Rattle.std.specs.Prelude.{◌≡◌, ◌+◌, ◌≤◌, ◌<◌, ◌↔◌, false, IsOk, IsNone, IfOk, IfSome, IfNone, OnOk, OnErr};
+ghost use Rattle.std.specs.Prelude.{◌≡◌, ◌+◌, ◌≤◌, ◌↔◌, false, IsOk, IsNone, IfOk, IfSome, IfNone, OnOk, OnErr, option_copied};
+ghost use Rattle.std.specs.Borrow.{LendsIf, sem};
+ghost use Rattle.std.specs.FinMap as map;
 ghost use Rattle.std.specs.FinSet as set;
-ghost use Rattle.hv_defs.specs.declared.sizes.TheConstants.{MAX_VPS};
+ghost use Rattle.std.specs.Option.{option_copied_mut};
 ghost use Rattle.hv_pages.specs.PageSet.{IsDisjoint, IsLowest};
-ghost use Rattle.hv_partition.specs.Partition.{new_partition, in_use, available, finalized, pages_in, with_pages};
+ghost use Rattle.hv_partition.specs.Partition.{new_partition, in_use, available, finalized, pages_in, with_pages, with_vp_of};
+ghost use Rattle.hv_partition.specs.contracts.partition.Partition.{the_row};
+ghost use Rattle.hv_vp.specs.contracts.vp.Vp.{the_row as vp_row};
 
 use crate::PageKind;
 use hv_defs::{
@@ -11,13 +15,14 @@ use hv_defs::{
 };
 use hv_pages::PageSet;
 use hv_privs::Privileges;
+use hv_vp::{Vp, Vps};
 use std::alloc::{AllocError, Allocator};
 use std::marker::Model;
 
 /// A partition, in memory of an allocator `A`.
 ///
-/// Its pages are loose, or pooled for the hypervisor's own use. Its processors are known by their indexes. A
-/// partition that is dropped gives its memory back.
+/// Its pages are loose, or pooled for the hypervisor's own use. Each of its processors has an index. A partition that is
+/// dropped gives its memory back.
 #[derive(Drop)]
 pub struct Partition<A: Allocator> {
     life: Life,
@@ -27,12 +32,11 @@ pub struct Partition<A: Allocator> {
     weight: u64,
     loose: PageSet<A>,
     pooled: PageSet<A>,
-    vps: Vec<u32, A>,
+    vps: Vps<A>,
 }
 
 impl<A: Allocator> Model for Partition<A> {
-    ghost use Rattle.std.specs.FinSet as set;
-    ghost use Rattle.hv_partition.specs.Partition.{PartitionState, IsVpList, partition_code};
+    ghost use Rattle.hv_partition.specs.Partition.{PartitionState, partition_code};
 
     ghost Value = { PartitionState };
 
@@ -46,10 +50,8 @@ impl<A: Allocator> Model for Partition<A> {
       weight = p.weight;
       loose = p.loose;
       pooled = p.pooled;
-      vps = set.from_list p.vps.items;
+      vps = p.vps;
     } };
-
-    ghost invariant = { λ p. IsVpList p.vps.items };
 }
 
 impl<A: Allocator + Clone> Partition<A> {
@@ -67,7 +69,7 @@ impl<A: Allocator + Clone> Partition<A> {
             weight: CPU_WEIGHT_START,
             loose: PageSet::new(alloc.clone()?),
             pooled: PageSet::new(alloc.clone()?),
-            vps: Vec::new(alloc),
+            vps: Vps::new(alloc),
         })
     }
 }
@@ -116,21 +118,6 @@ impl<A: Allocator> Partition<A> {
             PageKind::Loose => &self.loose,
             PageKind::Pooled => &self.pooled,
         }
-    }
-
-    /// Whether the partition has the processor with this index.
-    pub fn has_vp(&self, index: u32) -> bool
-        ensures { result ≡ set.contains self.now.vps index }
-    {
-        self.vps.contains(&index)
-    }
-
-    /// How many processors the partition has.
-    pub fn vp_count(&self) -> u32
-        ensures count { result ≡ set.len self.now.vps }
-        ensures most { result ≤ MAX_VPS }
-    {
-        self.vps.len() as u32
     }
 
     /// Writes the life state.
@@ -190,19 +177,69 @@ impl<A: Allocator> Partition<A> {
     {
         self.pooled.count() - self.in_use(children)
     }
+}
 
-    /// Adds the processor with this index, which the partition does not have yet.
-    ///
-    /// `Err` where there is no memory for it, and then the partition is as it was.
-    pub fn add_vp(&mut self, index: u32) -> Result<(), AllocError>
-        requires range { index < MAX_VPS }
-        requires new { set.contains self.old.vps index ≡ false }
-        ensures ok { OnOk result (self.new
-            ≡ record self.old { vps = set.insert self.old.vps index }) }
-        ensures err { OnErr result (self.new ≡ self.old) }
+// The processors. What a call needs of them, and what it promises of them, is what `Vps` asks and promises.
+impl<A: Allocator> Partition<A> {
+    /// The processor with this index, or `None` where the partition has none.
+    pub fn vp(&self, index: u32) -> Option<&Vp<A>>
+        ensures { option_copied result ≡ map.get self.now.vps.vps index }
     {
-        self.vps.push(index)?;
-        Ok(())
+        self.vps.get(index)
+    }
+
+    /// The processor with this index, to be changed.
+    pub fn vp_mut(&mut self, index: u32) -> Option<&mut Vp<A>>
+        ensures* writes_back { sem 𝓛 (LendsIf (the_row A.row A.Allocator) (vp_row A.row A.Allocator) self.entry result
+            (λ w. with_vp_of self.old index w) self.old) }
+        ensures value { option_copied_mut result ≡ map.get self.old.vps.vps index }
+    {
+        self.vps.get_mut(index)
+    }
+
+    /// How many processors the partition has.
+    pub fn vp_count(&self) -> u32
+        ensures { result ≡ map.len self.now.vps.vps }
+    {
+        self.vps.count()
+    }
+
+    /// Makes room for one processor more.
+    ///
+    /// `Err` where there is no memory for it, or where the partition has 2^32 - 1 processors, and then the partition is as it
+    /// was. Room that is there already always suffices.
+    pub fn reserve_vp(&mut self) -> Result<(), AllocError>
+        ensures ok { OnOk result (1 ≤ self.new.vps.room) }
+        ensures enough { 1 ≤ self.old.vps.room → IsOk result }
+        ensures unchanged { OnErr result (self.new ≡ self.old) }
+
+        // In either case.
+        ensures vps { self.new.vps.vps ≡ self.old.vps.vps }
+        ensures room { self.old.vps.room ≤ self.new.vps.room }
+        ensures rest { self.new ≡ record self.old { vps = self.new.vps } }
+    {
+        self.vps.reserve_one()
+    }
+
+    /// Adds a processor with an index that is free. It must find room.
+    pub fn add_vp(&mut self, index: u32, vp: Vp<A>)
+        requires room { 1 ≤ self.old.vps.room }
+        requires free { map.contains_key self.old.vps.vps index ≡ false }
+        ensures vps { self.new.vps.vps ≡ map.insert self.old.vps.vps index vp }
+        ensures room { self.old.vps.room ≤ self.new.vps.room + 1 }
+        ensures rest { self.new ≡ record self.old { vps = self.new.vps } }
+    {
+        self.vps.put(index, vp);
+    }
+
+    /// Removes the processor with this index, and says whether there was one.
+    pub fn remove_vp(&mut self, index: u32) -> bool
+        ensures held { result ≡ map.contains_key self.old.vps.vps index }
+        ensures vps { self.new.vps.vps ≡ map.remove self.old.vps.vps index }
+        ensures room { self.old.vps.room ≤ self.new.vps.room }
+        ensures rest { self.new ≡ record self.old { vps = self.new.vps } }
+    {
+        self.vps.remove(index)
     }
 }
 
