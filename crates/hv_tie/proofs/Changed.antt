@@ -6,12 +6,12 @@ use Rattle.std.specs.FinSet as set
 use Rattle.std.specs.Option.{option_map}
 use Rattle.hv_partition.specs.Partition.{PartitionState}
 use Rattle.hv_policy.proofs.Rows.{get-with_row}
-use Rattle.hv_policy.specs.Boot.{start_vp}
 use Rattle.hv_policy.specs.Effect.{with_row}
 use Rattle.hv_policy.specs.Flat.{Flat, PartRow}
 use Rattle.hv_tree.proofs.Laws.{get-change}
 use Rattle.hv_tree.specs.Rows.{Row, Rows, change}
-use Rattle.hv_tie.specs.Tie.{IsTied, Shows, is_held, holds, part_row}
+use Rattle.hv_tie.specs.Tie.{IsTied, Shows, is_held, holds, part_row, vp_row_of}
+use Rattle.hv_vp.specs.Vps.{VpsState}
 
 -- what shows a row shows it in each state with the same maps under that id
 pub same_shows : (f g : Flat) (id : ℕ) (row : Option (Row PartitionState)) → get g.part id ≡ get f.part id → ((page : ℕ) → get g.page page ≡ get f.page page) → ((n : ℕ) → get g.vp (id, n) ≡ get f.vp (id, n)) → ((n : ℕ) → get g.port (id, n) ≡ get f.port (id, n)) → ((n : ℕ) → get g.conn (id, n) ≡ get f.conn (id, n)) → Shows f id row → Shows g id row
@@ -50,7 +50,7 @@ module _ (rows : Rows PartitionState) (f : Flat) (flat : IsTied rows f) where
         one (Some r) is at old = record {
           part = changed_part id true at ∙ ap (option_map g) ((flat.rows target).part ∙ ap (option_map part_row) is) ∙ ap Some (sym (alike r));
           page = λ page pooled. old.page page pooled ∙ holds_alike pooled page r (r.0, h r.1) (sym (loose r.1)) (sym (pool r.1));
-          vp = λ index. old.vp index ∙ ap (λ s. cond (set.contains s index) (Some (start_vp index)) None) (sym (vps r.1));
+          vp = λ index. old.vp index ∙ ap (λ (s : VpsState). option_map vp_row_of (get s.vps index)) (sym (vps r.1));
           port = old.port;
           conn = old.conn;
         }

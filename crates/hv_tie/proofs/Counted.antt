@@ -1,24 +1,26 @@
 -- What the model counts over all rows, in a state that the tree is tied to.
-use Rattle.std.proofs.Common.{◌≡◌, ℕ, ◌==◌, Bool, true, false, cond, ◌&&◌, List, [], ◌∷◌, length, Option, Some, None, refl, sym, ap, ◌∙◌, arith, T}
+use Rattle.std.proofs.Common.{◌≡◌, ℕ, ◌==◌, Bool, true, false, cond, ◌&&◌, List, [], ◌∷◌, length, Option, Some, None, is_some, refl, sym, ap, ◌∙◌, arith, T}
 use Rattle.std.proofs.lemmas.Bool.{eq-eqb, eqb-true}
+use Rattle.std.proofs.lemmas.List.{length-map}
 use Rattle.std.proofs.lemmas.Map.Views.{list_any-from_Contains, Contains-from_any}
 use Rattle.std.specs.Cmp.{nat_cmp_total, unsigned_tied, eq_by_cmp_equiv}
-use Rattle.std.specs.FinMap.{get, entries, entries_sorted, is_sorted, nat_cmp-IsAntisymmetric}
+use Rattle.std.specs.FinMap as map
+use Rattle.std.specs.FinMap.{FinMap, contains_key, contains_key-keys, get, entries, entries_sorted, is_sorted, keys, len-entries, nat_cmp-IsAntisymmetric}
 use Rattle.std.specs.FinMap.Entries.{below_all}
 use Rattle.std.specs.FinSet as set
-use Rattle.std.specs.List.{AllByRecursion, IsDistinct, list_any}
+use Rattle.std.specs.List.{AllByRecursion, IsDistinct, count_by, list_any}
 use Rattle.std.specs.Option.{option_map}
 use Rattle.std.specs.Ordering.{nat_cmp, eq_by_cmp, is_lt}
-use Rattle.hv_defs.proofs.Counts.{both_parts, less_apart, passes, count_by-keys, count_by-set, count_by-none}
+use Rattle.hv_defs.proofs.Counts.{both_parts, less_apart, passes, count_by-keys, count_by-set, count_by-none, distinct_keys, len-from_list}
 use Rattle.hv_partition.specs.Partition.{PartitionState, in_use as uses, available as may_use}
 use Rattle.hv_policy.proofs.Pairs.{pair_cmp_total, pair_cmp_exact, count_by-pairs}
-use Rattle.hv_policy.specs.Boot.{start_vp}
 use Rattle.hv_policy.specs.Count.{is_parent, child_count, vp_count, port_count, conn_count, pooled_count, in_use, available}
 use Rattle.hv_policy.specs.Flat.{Flat, PageRow, pair_cmp}
 use Rattle.hv_tree.specs.Rows as tree
 use Rattle.hv_tree.specs.Rows.{Row, Rows, children, children_in, parent}
 use Rattle.hv_tree.proofs.ChildLaws.{parent-child, child-parent}
-use Rattle.hv_tie.specs.Tie.{IsTied, is_held, holds, part_row, vp_row}
+use Rattle.hv_tie.specs.Tie.{IsTied, is_held, holds, part_row, vp_row, vp_row_of}
+use Rattle.hv_vp.specs.Vp.{VpState}
 
 -- the children of a row are apart
 apart_children : {C : Type 0} (k id : ℕ) (es : List (ℕ × (Option ℕ × C))) → T (below_all nat_cmp k es) → AllByRecursion (λ y. eq_by_cmp nat_cmp k y ≡ false) (children_in id es)
@@ -60,6 +62,14 @@ listed rows id q = by (is_parent id (parent rows q)) (list_any (eq_by_cmp nat_cm
         sym s ∙ ap (is_parent id) is ∙ eq-eqb id id refl
     by false false s t = refl
 
+-- where a map has just the numbers of a partition's rows, it is as large as they are many
+count_by-numbers : {X Y : Type 0} (id : ℕ) (m : FinMap pair_cmp X) (held : FinMap nat_cmp Y) → ((i : ℕ) → passes {K = ℕ × ℕ} (λ e. e.0.0 == id) (id, i) (get m (id, i)) ≡ contains_key held i) → count_by (λ e. e.0.0 == id) (entries m) ≡ map.len held
+count_by-numbers id m held alike =
+    count_by-pairs id m (set.from_list (keys held)) (λ i. alike i ∙ contains_key-keys held i ∙ sym (set.contains-from_list nat_cmp_total (keys held) i))
+    ∙ len-from_list nat_cmp nat_cmp_total (keys held) (distinct_keys nat_cmp (entries held) (entries_sorted held))
+    ∙ length-map (entries held) (λ e. e.0)
+    ∙ sym (len-entries held)
+
 module _ (rows : Rows PartitionState) (f : Flat) (flat : IsTied rows f) where
   child_of : (id q : ℕ) (r : Option (Row PartitionState)) → get f.part q ≡ option_map part_row r → get rows q ≡ r → passes (λ e. is_parent id e.1.parent) q (get f.part q) ≡ is_parent id (parent rows q)
   child_of id q None e is = rw (e, is) refl
@@ -88,16 +98,16 @@ module _ (rows : Rows PartitionState) (f : Flat) (flat : IsTied rows f) where
   pub pooled_at : (id q : ℕ) → passes (λ e. e.1.owner == id && e.1.pooled) q (get f.page q) ≡ holds true q (get rows id)
   pooled_at id q = pool_test id q (get f.page q) ∙ (flat.rows id).page q true
 
-  vp_at : (id i : ℕ) (s : set.FinSet nat_cmp) → get f.vp (id, i) ≡ cond (set.contains s i) (Some (start_vp i)) None → passes {K = ℕ × ℕ} (λ e. e.0.0 == id) (id, i) (get f.vp (id, i)) ≡ set.contains s i
-  vp_at id i s e = ap (passes {K = ℕ × ℕ} (λ e. e.0.0 == id) (id, i)) e ∙ by (set.contains s i)
+  vp_at : (id i : ℕ) (held : FinMap nat_cmp VpState) → get f.vp (id, i) ≡ option_map vp_row_of (get held i) → passes {K = ℕ × ℕ} (λ e. e.0.0 == id) (id, i) (get f.vp (id, i)) ≡ contains_key held i
+  vp_at id i held e = ap (passes {K = ℕ × ℕ} (λ e. e.0.0 == id) (id, i)) e ∙ by (get held i)
     where
-      by : (b : Bool) → passes {K = ℕ × ℕ} (λ e. e.0.0 == id) (id, i) (cond b (Some (start_vp i)) None) ≡ b
-      by true = eq-eqb id id refl
-      by false = refl
+      by : (vp : Option VpState) → passes {K = ℕ × ℕ} (λ e. e.0.0 == id) (id, i) (option_map vp_row_of vp) ≡ is_some vp
+      by None = refl
+      by (Some vp) = eq-eqb id id refl
 
   module _ (id : ℕ) (r : Row PartitionState) (is : get rows id ≡ Some r) where
-    pub vps_counted : vp_count f id ≡ set.len r.1.vps
-    vps_counted = count_by-pairs id f.vp r.1.vps (λ i. vp_at id i r.1.vps ((flat.rows id).vp i ∙ ap (vp_row i) is))
+    pub vps_counted : vp_count f id ≡ map.len r.1.vps.vps
+    vps_counted = count_by-numbers id f.vp r.1.vps.vps (λ i. vp_at id i r.1.vps.vps ((flat.rows id).vp i ∙ ap (vp_row i) is))
 
     pub pool_counted : pooled_count f id ≡ set.len r.1.pooled.pages
     pool_counted = count_by-set nat_cmp nat_cmp_total nat_cmp-IsAntisymmetric f.page (λ e. e.1.owner == id && e.1.pooled) r.1.pooled.pages (λ q. pooled_at id q ∙ ap (holds true q) is)

@@ -5,6 +5,7 @@ use Rattle.std.proofs.lemmas.List.{length-map}
 use Rattle.std.proofs.lemmas.List.Sums.{count_by-le-length}
 use Rattle.std.proofs.lemmas.Map.Steps.{length-le_from_distinct_below}
 use Rattle.std.specs.Cmp.{nat_cmp_total, unsigned_tied}
+use Rattle.std.specs.FinMap as map
 use Rattle.std.specs.FinMap.{get, entries, entries_sorted, contains_key-keys, nat_cmp-IsAntisymmetric}
 use Rattle.std.specs.FinSet as set
 use Rattle.std.specs.List.{AllByRecursion, IsDistinct, list_any, count_by}
@@ -86,16 +87,16 @@ module _ (rows : Rows PartitionState) (f : Flat) (flat : IsTied rows f) (pages :
         omega arith
 
     -- one that isn't Active has no children and no processors
-    pub quiet : is_active r.1.life ≡ false → (length (children rows id) ≡ 0) × (r.1.vps ≡ set.empty)
+    pub quiet : is_active r.1.life ≡ false → (length (children rows id) ≡ 0) × (r.1.vps.vps ≡ map.empty)
     quiet still = by (l.idle id (ap (test_row (λ row. is_active row.life)) (row_at id r is) ∙ still))
       where
-        by : in_use f id ≡ 0 → (length (children rows id) ≡ 0) × (r.1.vps ≡ set.empty)
+        by : in_use f id ≡ 0 → (length (children rows id) ≡ 0) × (r.1.vps.vps ≡ map.empty)
         by none =
             let kids = children_counted rows f flat id in
             let staff = vps_counted rows f flat id r is in
             let childless : length (children rows id) ≡ 0 = omega arith in
-            let unstaffed : set.len r.1.vps ≡ 0 = omega arith in
-            (childless, set.empty_of_len r.1.vps unstaffed)
+            let unstaffed : map.len r.1.vps.vps ≡ 0 = omega arith in
+            (childless, map.empty_of_len r.1.vps.vps unstaffed)
 
     pub few_pooled : set.len r.1.pooled.pages ≤ pages
     few_pooled =

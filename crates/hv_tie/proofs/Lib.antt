@@ -5,4 +5,5 @@ pub mod Found
 pub mod Held
 pub mod Lawful
 pub mod One
+pub mod Processors
 pub mod Room

@@ -1,13 +1,13 @@
 -- How the tree of partitions and the flat state of the policy belong together, key by key: what the flat maps have
 -- under a partition's id is what the tree's row of that partition holds.
-use Rattle.std.specs.Prelude.{◌≡◌, ℕ, ◌==◌, ◌&&◌, Bool, true, false, not, if◌then◌else◌, [], Option, Some, None}
+use Rattle.std.specs.Prelude.{◌≡◌, ℕ, ◌==◌, ◌&&◌, Bool, true, false, not, [], Option, Some, None}
 use Rattle.std.specs.Option.{option_map}
 use Rattle.std.specs.FinMap.{get}
 use Rattle.std.specs.FinSet as set
 use Rattle.hv_partition.specs.Partition.{PartitionState}
-use Rattle.hv_policy.specs.Boot.{start_vp}
 use Rattle.hv_policy.specs.Flat.{Flat, PartRow, PageRow, VpRow}
 use Rattle.hv_tree.specs.Rows.{Row, Rows}
+use Rattle.hv_vp.specs.Vp.{VpState}
 
 -- the flat row of a partition
 abbrev pub part_row : Row PartitionState → PartRow
@@ -32,10 +32,14 @@ holds pooled page None = false
 holds true page (Some r) = set.contains r.1.pooled.pages page
 holds false page (Some r) = set.contains r.1.loose.pages page
 
--- the flat row of a processor, as it was made
+-- the flat row of a processor: it holds its registers, and no event flags and no pending vectors yet
+abbrev pub vp_row_of : VpState → VpRow
+vp_row_of v = record { registers = v.registers; flags = set.empty; pending = set.empty }
+
+-- the flat row of the processor with this index, where the partition of a row has it
 abbrev pub vp_row : ℕ → Option (Row PartitionState) → Option VpRow
 vp_row index None = None
-vp_row index (Some r) = if set.contains r.1.vps index then Some (start_vp index) else None
+vp_row index (Some r) = option_map vp_row_of (get r.1.vps.vps index)
 
 -- the flat state has under this id what the row holds
 pub record Shows (f : Flat) (id : ℕ) (row : Option (Row PartitionState)) : Type 0 where

@@ -26,7 +26,7 @@ pub fn unmet_by_caller<A: Allocator>(tree: &IdTree<Partition<A>, A>, by: Caller)
     if caller.life() != Life::Active {
         return Some(Rule::CallerActive);
     }
-    if !caller.has_vp(by.vp) {
+    if caller.vp(by.vp).is_none() {
         return Some(Rule::CallerVpExists);
     }
     None
