@@ -1,17 +1,16 @@
 -- A partition that was made.
 use Rattle.std.proofs.Common.{◌≡◌, ℕ, ◌+◌, ◌==◌, Bool, true, false, cond, Some, None, refl, sym, ap, subst, ◌∙◌}
 use Rattle.std.proofs.lemmas.Bool.{eqb-true}
-use Rattle.std.specs.FinMap.{get, insert}
+use Rattle.std.specs.FinMap.{get, get-empty, insert}
 use Rattle.std.specs.FinSet as set
 use Rattle.std.specs.Option.{option_map}
 use Rattle.std.specs.Ordering.{nat_cmp}
 use Rattle.hv_defs.proofs.Maps.{get_at-insert}
 use Rattle.hv_partition.specs.Partition.{PartitionState}
-use Rattle.hv_policy.specs.Boot.{start_vp}
 use Rattle.hv_policy.specs.Effect.{new_row, mask_of}
 use Rattle.hv_policy.specs.Flat.{Flat}
 use Rattle.hv_tie.proofs.Changed.{same_shows}
-use Rattle.hv_tie.specs.Tie.{IsTied, Shows, holds, part_row}
+use Rattle.hv_tie.specs.Tie.{IsTied, Shows, holds, part_row, vp_row_of}
 use Rattle.hv_tree.specs.Rows.{Row, Rows}
 use Rattle.hv_life.specs.Change.{child_of}
 
@@ -42,7 +41,7 @@ module _ (rows : Rows PartitionState) (f : Flat) (flat : IsTied rows f) where
             record {
               part = part_after id true is ∙ ap Some new_part;
               page = λ page pooled. old.page page pooled ∙ no_page pooled page;
-              vp = λ index. old.vp index ∙ sym (ap (λ b. cond b (Some (start_vp index)) None) (set.contains-empty nat_cmp index));
+              vp = λ index. old.vp index ∙ sym (ap (option_map vp_row_of) (get-empty nat_cmp index));
               port = old.port;
               conn = old.conn;
             }

@@ -1,18 +1,16 @@
 -- A partition that became Active, and one that was finalized.
 use Rattle.std.proofs.Common.{◌≡◌, ℕ, ◌==◌, Bool, true, false, cond, not, Option, Some, None, refl, sym, ap, subst, ◌∙◌}
 use Rattle.std.proofs.lemmas.Bool.{eqb-true}
-use Rattle.std.specs.FinMap.{FinMap, get}
-use Rattle.std.specs.FinSet as set
+use Rattle.std.specs.FinMap.{FinMap, get, get-empty}
 use Rattle.std.specs.Option.{option_map}
 use Rattle.std.specs.Ordering.{nat_cmp}
 use Rattle.hv_defs.specs.declared.life.Life.TheVariants.{Active, Finalized}
 use Rattle.hv_partition.specs.Partition.{PartitionState, finalized}
 use Rattle.hv_policy.proofs.Rows.{get-rows_but, get-with_row}
-use Rattle.hv_policy.specs.Boot.{start_vp}
 use Rattle.hv_policy.specs.Effect.{with_row, rows_but, mail_but}
 use Rattle.hv_policy.specs.Flat.{Flat, PartRow, pair_cmp}
 use Rattle.hv_tie.proofs.Changed.{changed_tied, holds_alike, same_shows}
-use Rattle.hv_tie.specs.Tie.{IsTied, Shows, part_row}
+use Rattle.hv_tie.specs.Tie.{IsTied, Shows, part_row, vp_row_of}
 use Rattle.hv_tree.proofs.Laws.{get-change}
 use Rattle.hv_tree.specs.Rows.{Row, Rows, change}
 
@@ -58,7 +56,7 @@ module _ (rows : Rows PartitionState) (f : Flat) (flat : IsTied rows f) where
         one (Some r) is at old = record {
           part = closed_part id true at ∙ ap (option_map made_final) ((flat.rows target).part ∙ ap (option_map part_row) is);
           page = λ page pooled. old.page page pooled ∙ holds_alike pooled page r (r.0, finalized r.1) refl refl;
-          vp = λ n. closed_rows f.vp id n true at ∙ sym (ap (λ b. cond b (Some (start_vp n)) None) (set.contains-empty nat_cmp n));
+          vp = λ n. closed_rows f.vp id n true at ∙ sym (ap (option_map vp_row_of) (get-empty nat_cmp n));
           port = λ n. closed_rows f.port id n true at;
           conn = λ n. closed_rows f.conn id n true at;
         }

@@ -1,8 +1,7 @@
 -- What the calls of this chapter need of the rows, once all their rules are met.
 use Rattle.std.proofs.Common.{◌≡◌, ℕ, ◌≤◌, ◌==◌, true, false, Option, Some, None, is_some, refl, sym, ap, ◌∙◌, arith}
 use Rattle.std.proofs.lemmas.Bool.{ne_eqb}
-use Rattle.std.specs.FinMap.{get}
-use Rattle.std.specs.FinSet as set
+use Rattle.std.specs.FinMap.{empty, get}
 use Rattle.std.specs.Option.{option_map, option_and_then}
 use Rattle.hv_calls.specs.declared.call.Call.TheVariants.{CreatePartition, DeletePartition}
 use Rattle.hv_defs.specs.declared.life.Life.{Life}
@@ -83,7 +82,7 @@ module _ (rows : Rows PartitionState) (f : Flat) (flat : IsTied rows f) (pages :
       }
 
   -- the processors of a partition that may be deleted
-  pub deleted_idle : (partition : ℕ) → IsAllowed f caller (DeletePartition partition) → (gone : Row PartitionState) → get rows (target_of (DeletePartition partition) caller) ≡ Some gone → gone.1.vps ≡ set.empty
+  pub deleted_idle : (partition : ℕ) → IsAllowed f caller (DeletePartition partition) → (gone : Row PartitionState) → get rows (target_of (DeletePartition partition) caller) ≡ Some gone → gone.1.vps.vps ≡ empty
   deleted_idle partition a gone was =
       let (gone2, was2, state) = state_row rows f flat caller (DeletePartition partition) a a.further.0 in
       let same : gone2 ≡ gone = (let both = sym was2 ∙ was in cc) in
