@@ -14,12 +14,13 @@ use Rattle.hv_policy.specs.Flat.{pair_cmp}
 use Rattle.hv_policy.specs.declared.config.Config.{Config}
 use Rattle.hv_tie.proofs.Room.{roomless_tied}
 use Rattle.hv_tie.specs.Room.{roomless}
-use Rattle.hv_tie.specs.Tie.{IsTied, Shows, holds, is_held, part_row, vp_row}
+use Rattle.hv_tie.specs.Tie.{IsTied, Shows, holds, is_held, part_row, vp_row, vp_row_of}
 use Rattle.hv_tree.specs.Rows.{Row, Rows}
 use Rattle.hv_machine.specs.BootTree.{IsBootTree}
 use Rattle.hv_machine.specs.IsFlat.{IsFlat}
 use Rattle.hv_machine.specs.Lasting.{IsLasting}
 use Rattle.hv_machine.specs.State.{State}
+use Rattle.hv_vp.specs.Vp.{new_vp}
 
 -- the machine of these rows as it boots
 abbrev pub booted_state : Config → Rows PartitionState → State
@@ -81,8 +82,12 @@ module _ (config : Config) (rows : Rows PartitionState) (made : IsBootTree confi
   shown_page id false is page true = ap (is_held id true) (page_at config page) ∙ pool_seen config.pool config.pages id page false (nat_eq_equiv.symm 1 id ∙ is) (fits_pages config sane)
   shown_page id false is page false = ap (is_held id false) (page_at config page) ∙ loose_seen config.pool config.pages id page false (nat_eq_equiv.symm 1 id ∙ is)
 
+  row_if : (index : ℕ) (b : Bool) → option_map vp_row_of (cond b (Some (new_vp index)) None) ≡ cond b (Some (start_vp index)) None
+  row_if index true = refl
+  row_if index false = refl
+
   shown_vp : (id : ℕ) (b : Bool) → id == 1 ≡ b → (index : ℕ) → get (boot config).vp (id, index) ≡ vp_row index (root_only b)
-  shown_vp id true is index = vp_at config id index ∙ ap (λ b. cond b (cond (nat_lt index config.vps) (Some (start_vp index)) None) None) is ∙ ap (λ b. cond b (Some (start_vp index)) None) (sym (made.root.vps index))
+  shown_vp id true is index = vp_at config id index ∙ ap (λ b. cond b (cond (nat_lt index config.vps) (Some (start_vp index)) None) None) is ∙ sym (ap (option_map vp_row_of) (made.root.vps index) ∙ row_if index (nat_lt index config.vps))
   shown_vp id false is index = vp_at config id index ∙ ap (λ b. cond b (cond (nat_lt index config.vps) (Some (start_vp index)) None) None) is
 
   shown : (id : ℕ) → Shows (boot config) id (root_only (id == 1))

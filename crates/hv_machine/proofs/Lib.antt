@@ -2,4 +2,5 @@ pub mod Booted
 pub mod Calls
 pub mod Serving
 pub mod Sound
+pub mod Staffed
 pub mod Steps

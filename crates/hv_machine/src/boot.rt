@@ -1,7 +1,7 @@
 // The machine as it boots.
-ghost use Rattle.std.specs.Prelude.{◌≡◌, ◌+◌, ◌≤◌, ◌&&◌, ℕ, Some, None, nat_le, nat_lt, IfOk, IfErr, OnOk};
+ghost use Rattle.std.specs.Prelude.{◌≡◌, ◌+◌, ◌≤◌, ◌&&◌, ℕ, Some, None, cond, nat_le, nat_lt, IfOk, IfErr, OnOk};
+ghost use Rattle.std.specs.FinMap as map;
 ghost use Rattle.std.specs.FinSet as set;
-ghost use Rattle.hv_defs.specs.declared.sizes.TheConstants.{MAX_VPS as VPS};
 ghost use Rattle.hv_partition.specs.Partition.{pages_in, with_pages};
 ghost use Rattle.hv_policy.specs.Boot.{boot as booted};
 ghost use Rattle.hv_policy.specs.BootFault.{boot_fault, IsBootRefusal};
@@ -9,12 +9,14 @@ ghost use Rattle.hv_machine.specs.BootTree.{IsBootRoot, IsBootTree};
 ghost use Rattle.hv_machine.specs.IsFlat.{IsFlat};
 ghost use Rattle.hv_machine.specs.Lasting.{IsLasting};
 ghost use Rattle.hv_machine.specs.Sound.{IsSound};
+ghost use Rattle.hv_vp.specs.Vp.{new_vp};
 
 use crate::machine::Machine;
 use hv_defs::{FIRST_CHILD_ID, Life, MAX_PAGES, MAX_VPS, ROOT_ID, VP_CHARGE};
 use hv_partition::{PageKind, Partition};
 use hv_policy::{BootRefused, Config};
 use hv_tree::IdTree;
+use hv_vp::Vp;
 use std::alloc::{AllocError, Allocator};
 
 impl<A: Allocator + Clone> Machine<A> {
@@ -68,11 +70,10 @@ fn make_tree<A: Allocator + Clone>(
     alloc: &A,
     config: Config,
 ) -> Result<IdTree<Partition<A>, A>, AllocError>
-    requires pages { config.pool ≤ config.pages }
-    requires vps { config.vps ≤ VPS }
+    requires { config.pool ≤ config.pages }
     ensures { IfOk result (IsBootTree config) }
 {
-    let root = make_root(alloc.clone()?, config)?;
+    let root = make_root(alloc, config)?;
     match IdTree::new(alloc.clone()?, ROOT_ID, root) {
         Ok(tree) => Ok(tree),
         Err(_) => Err(AllocError),
@@ -80,15 +81,14 @@ fn make_tree<A: Allocator + Clone>(
 }
 
 // The root: the first pages pooled, the others loose, and its processors.
-fn make_root<A: Allocator + Clone>(alloc: A, config: Config) -> Result<Partition<A>, AllocError>
-    requires pages { config.pool ≤ config.pages }
-    requires vps { config.vps ≤ VPS }
+fn make_root<A: Allocator + Clone>(alloc: &A, config: Config) -> Result<Partition<A>, AllocError>
+    requires { config.pool ≤ config.pages }
     ensures { IfOk result (IsBootRoot config) }
 {
-    let mut root = Partition::new(alloc, Life::Active, config.mask)?;
+    let mut root = Partition::new(alloc.clone()?, Life::Active, config.mask)?;
     give(&mut root, PageKind::Loose, config.pool, config.pages)?;
     give(&mut root, PageKind::Pooled, 0, config.pool)?;
-    give_vps(&mut root, config.vps)?;
+    give_vps(&mut root, alloc, config.vps)?;
     Ok(root)
 }
 
@@ -115,15 +115,20 @@ fn give<A: Allocator>(
 }
 
 // Makes the processors with the indexes below a number.
-fn give_vps<A: Allocator>(root: &mut Partition<A>, to: u32) -> Result<(), AllocError>
-    requires most { to ≤ VPS }
-    requires none { root.old.vps ≡ set.empty }
-    ensures vps { OnOk result ((index : ℕ) → set.contains root.new.vps index ≡ nat_lt index to) }
-    ensures count { OnOk result (set.len root.new.vps ≡ to) }
+fn give_vps<A: Allocator + Clone>(
+    root: &mut Partition<A>,
+    alloc: &A,
+    to: u32,
+) -> Result<(), AllocError>
+    requires { root.old.vps.vps ≡ map.empty }
+    ensures vps { OnOk result ((index : ℕ) → map.get root.new.vps.vps index ≡ cond (nat_lt index to) (Some (new_vp index)) None) }
+    ensures count { OnOk result (map.len root.new.vps.vps ≡ to) }
     ensures rest { root.new ≡ record root.old { vps = root.new.vps } }
 {
     for index in 0..to {
-        root.add_vp(index)?;
+        let vp = Vp::new(alloc.clone()?, index)?;
+        root.reserve_vp()?;
+        root.add_vp(index, vp);
     }
     Ok(())
 }
