@@ -1,22 +1,24 @@
 -- Each state that the flat model reaches from boot is lawful.
-use Rattle.std.proofs.Common.{◌≡◌, ℕ, ◌==◌, true, false, List, [], ◌∷◌, Option, Some, None, refl, sym, ap, subst, ◌∙◌, arith}
-use Rattle.std.proofs.lemmas.Bool.{eqb-true, ne_eqb, leb-true}
-use Rattle.std.specs.FinMap.{get}
+use Rattle.std.proofs.Common.{◌≡◌, ℕ, ◌==◌, ◌&&◌, not, Bool, nat_lt, true, false, List, [], ◌∷◌, Option, Some, None, refl, sym, ap, subst, ◌∙◌, arith}
+use Rattle.std.proofs.lemmas.Bool.{and_parts, eqb-true, ne_eqb, leb-true}
+use Rattle.std.specs.FinMap.{contains_key, get}
 use Rattle.hv_calls.specs.declared.call.Call.{Call}
 use Rattle.hv_calls.specs.declared.call.Call.TheVariants as call
-use Rattle.hv_calls.specs.declared.call.Call.TheVariants.{CreatePartition, InitializePartition, FinalizePartition, DeletePartition, SetPartitionProperty, DepositMemory, WithdrawMemory}
+use Rattle.hv_calls.specs.declared.call.Call.TheVariants.{CreatePartition, InitializePartition, FinalizePartition, DeletePartition, SetPartitionProperty, DepositMemory, WithdrawMemory, CreateVp, DeleteVp, SetVpRegisters}
+use Rattle.hv_defs.specs.Registers.{name_of_msr}
 use Rattle.hv_defs.specs.declared.life.Life.{Life}
 use Rattle.hv_defs.specs.declared.life.Life.TheVariants.{Created, Active, Finalized}
 use Rattle.hv_policy.specs.Call.{target_of}
 use Rattle.hv_policy.specs.Count.{available, child_count, in_use}
-use Rattle.hv_policy.specs.Effect.{call_effect, counted, effect, served_effect}
+use Rattle.hv_policy.specs.Boot.{start_vp}
+use Rattle.hv_policy.specs.Effect.{call_effect, counted, effect, mail_but_at, served_effect, written, written_msr}
 use Rattle.hv_policy.specs.Flat.{Flat, PartRow}
 use Rattle.hv_policy.specs.Met.{is_active, may_give, test_row}
 use Rattle.hv_policy.specs.Needs.{is_among, states_to_set}
 use Rattle.hv_policy.specs.Property.{property_of}
 use Rattle.hv_policy.specs.Step.{run_from, step, step_by, unmet}
 use Rattle.hv_policy.specs.declared.event.Action.{Action}
-use Rattle.hv_policy.specs.declared.event.Action.TheVariants.{Hypercall}
+use Rattle.hv_policy.specs.declared.event.Action.TheVariants.{Hypercall, ReadMsr, WriteMsr}
 use Rattle.hv_policy.specs.declared.event.Caller.{Caller}
 use Rattle.hv_policy.specs.declared.event.Event.{Event}
 use Rattle.hv_policy.specs.declared.need.States.TheVariants as states
@@ -29,6 +31,7 @@ use Rattle.hv_laws.proofs.Creation.{created}
 use Rattle.hv_laws.proofs.Deleting.{deleted}
 use Rattle.hv_laws.proofs.Granted.{caller_there, child_row, is_served, state_row, target_there}
 use Rattle.hv_laws.proofs.Lending.{deposited, withdrawn_pages}
+use Rattle.hv_laws.proofs.Staffing.{vp_added, vp_changed, vp_removed}
 use Rattle.hv_policy.proofs.Rows.{row_of}
 use Rattle.hv_policy.specs.Allowed.{IsAllowed}
 use Rattle.hv_laws.specs.Lawful.{IsLawful}
@@ -86,6 +89,23 @@ module _ (pages : ℕ) (f : Flat) (l : IsLawful pages f) (caller : ℕ) where
       let (row, there, none) = row_of f (target_of (FinalizePartition partition) caller) (λ row. child_count f (target_of (FinalizePartition partition) caller) == 0) a.further.1.0 in
       closed pages f l (target_of (FinalizePartition partition) caller) (eqb-true (child_count f (target_of (FinalizePartition partition) caller)) 0 none)
 
+  staff_lawful : (partition vp : ℕ) → IsAllowed f caller (CreateVp partition vp) → IsLawful pages (call_effect (CreateVp partition vp) f caller (target_of (CreateVp partition vp) caller))
+  staff_lawful partition vp a =
+      let target = target_of (CreateVp partition vp) caller in
+      let (row, there, state) = state_row f caller (CreateVp partition vp) a a.further.0 in
+      let active = ap (test_row (λ row. is_active row.life)) there ∙ running row.life state in
+      let (below, free) = and_parts (nat_lt vp 64) (not (contains_key f.vp (target, vp))) a.further.1.0 in
+      vp_added pages f l target vp (start_vp vp) active (unless (contains_key f.vp (target, vp)) free) (leb-true 4 (available f target) a.further.1.1.0)
+    where
+      running : (life : Life) → is_among life states.Active ≡ true → is_active life ≡ true
+      running Created h = h
+      running Active h = refl
+      running Finalized h = h
+
+      unless : (b : Bool) → not b ≡ true → b ≡ false
+      unless true h = cc
+      unless false h = refl
+
   -- what a call changes that its rules allow
   pub granted_lawful : (call : Call) → IsAllowed f caller call → IsLawful pages (counted (call_effect call f caller (target_of call caller)))
   granted_lawful (CreatePartition flags) a = created pages f l caller a.active (leb-true 2 (available f caller) a.further.1.0)
@@ -103,10 +123,13 @@ module _ (pages : ℕ) (f : Flat) (l : IsLawful pages f) (caller : ℕ) where
   granted_lawful call.GetPartitionId a = counted_lawful pages f l
   granted_lawful (call.GetNextChildPartition partition previous) a = counted_lawful pages f l
   granted_lawful (call.GetMemoryBalance partition) a = counted_lawful pages f l
-  granted_lawful (call.CreateVp partition vp) a = counted_lawful pages f l
-  granted_lawful (call.DeleteVp partition vp) a = counted_lawful pages f l
+  granted_lawful (CreateVp partition vp) a = counted_lawful pages _ (staff_lawful partition vp a)
+  granted_lawful (DeleteVp partition vp) a =
+      let target = target_of (DeleteVp partition vp) caller in
+      counted_lawful pages _ (vp_removed pages f l (target, vp) (mail_but_at target vp f.mail))
   granted_lawful (call.GetVpRegisters partition vp name) a = counted_lawful pages f l
-  granted_lawful (call.SetVpRegisters partition vp name value) a = counted_lawful pages f l
+  granted_lawful (SetVpRegisters partition vp name value) a =
+      counted_lawful pages _ (vp_changed pages f l (target_of (SetVpRegisters partition vp name value) caller, vp) (written name value))
   granted_lawful (call.DeletePort partition port) a = counted_lawful pages f l
   granted_lawful (call.DisconnectPort partition connection) a = counted_lawful pages f l
   granted_lawful (call.PostMessage connection message_type payload) a = counted_lawful pages f l
@@ -120,6 +143,8 @@ module _ {A : Type 0} (pages : ℕ) where
       let served = is_served f by frame h in
       subst (λ call. IsLawful pages (counted (served_effect f by.part call))) (sym served.served)
       (granted_lawful pages f l by.part served.call served.granted)
+  by_action f l by (ReadMsr msr) h = counted_lawful pages f l
+  by_action f l by (WriteMsr msr value) h = counted_lawful pages _ (vp_changed pages f l (by.part, by.vp) (written_msr (name_of_msr msr) value))
 
   -- a served event
   pub lawful_effect : (f : Flat) (e : Event A) → IsLawful pages f → unmet f e ≡ None → IsLawful pages (effect f e)

@@ -7,4 +7,5 @@ pub mod Laws
 pub mod Lending
 pub mod Readings
 pub mod Replies
+pub mod Staffing
 pub mod Uses

@@ -17,7 +17,8 @@ use Rattle.hv_policy.specs.Met.{met}
 use Rattle.hv_policy.specs.Result.{HasResult}
 use Rattle.hv_policy.specs.Rule.{rule_status}
 use Rattle.hv_policy.specs.Step.{NamesAsked, denied_with, step, step_by, unmet}
-use Rattle.hv_policy.specs.declared.event.Action.TheVariants.{Hypercall}
+use Rattle.hv_policy.specs.declared.event.Action.{Action}
+use Rattle.hv_policy.specs.declared.event.Action.TheVariants.{Hypercall, ReadMsr, WriteMsr}
 use Rattle.hv_policy.specs.declared.event.Caller.{Caller}
 use Rattle.hv_policy.specs.declared.event.Event.{Event}
 use Rattle.hv_policy.specs.declared.reply.Reply.TheVariants.{Served, More}
@@ -101,14 +102,22 @@ module _ {A : Type 0} (f : Flat) (caller : Caller) (frame : Frame A) where
           status : (rule : Rule) → unmet f event ≡ Some rule → is_some (rule_status rule (served_kind frame)) ≡ true
           status rule is = found_has (λ rule. not (met rule f event)) (λ rule. is_some (rule_status rule (served_kind frame))) (asked event) rule (refl, (refl, (refl, have_status (served_kind frame)))) is
 
-  -- the rule of a refusal is one that is asked
-  pub names_asked : NamesAsked event (step f event).1
-  names_asked = by (unmet f event) refl
-    where
-      done : (b : Bool) (bytes : List ℕ) (next : ℕ) → NamesAsked event (cond b (Served bytes) (More next bytes))
-      done true bytes next = tt
-      done false bytes next = tt
+-- the rule of a refusal is one that is asked
+module _ {A : Type 0} (f : Flat) where
+  refused : (e : Event A) (rule : Rule) → unmet f e ≡ Some rule → Contains (asked e) rule
+  refused e rule is = found_in (λ rule. not (met rule f e)) (asked e) rule is
 
-      by : (rule : Option Rule) → unmet f event ≡ rule → NamesAsked event (step_by f event rule).1
-      by None is = done (is_done frame (served_kind frame)) _ _
-      by (Some rule) is = named frame (asked event) rule (rule_status rule (served_kind frame)) (found_in (λ rule. not (met rule f event)) (asked event) rule is) caller refl
+  done : (e : Event A) (b : Bool) (bytes : List ℕ) (next : ℕ) → NamesAsked e (cond b (Served bytes) (More next bytes))
+  done e true bytes next = tt
+  done e false bytes next = tt
+
+  by_action : (by : Caller) (what : Action A) (rule : Option Rule) → unmet f (record { by = by; what = what }) ≡ rule → NamesAsked (record { by = by; what = what }) (step_by f (record { by = by; what = what }) rule).1
+  by_action by (Hypercall frame) None is = done (record { by = by; what = Hypercall frame }) (is_done frame (served_kind frame)) _ _
+  by_action by (Hypercall frame) (Some rule) is = named frame (asked (record { by = by; what = Hypercall frame })) rule (rule_status rule (served_kind frame)) (refused (record { by = by; what = Hypercall frame }) rule is) by refl
+  by_action by (ReadMsr msr) None is = tt
+  by_action by (ReadMsr msr) (Some rule) is = refused (record { by = by; what = ReadMsr msr }) rule is
+  by_action by (WriteMsr msr value) None is = tt
+  by_action by (WriteMsr msr value) (Some rule) is = refused (record { by = by; what = WriteMsr msr value }) rule is
+
+  pub names_asked : (e : Event A) → NamesAsked e (step f e).1
+  names_asked e = by_action e.by e.what (unmet f e) refl

@@ -38,6 +38,6 @@ pub fn each_row_is_of_a_running_partition()
 
 /// A refusal names a rule that its event is asked, and each reply to a hypercall has a result value.
 pub fn each_reply_fits_its_event<A>()
-    ensures asked { (f : Flat) (by : Caller) (frame : Frame A) → NamesAsked (record { by = by; what = Hypercall frame }) (step f (record { by = by; what = Hypercall frame })).1 }
+    ensures asked { (f : Flat) (e : Event A) → NamesAsked e (step f e).1 }
     ensures result { (f : Flat) (by : Caller) (frame : Frame A) → HasResult (step f (record { by = by; what = Hypercall frame })).1 }
 {}

@@ -1,3 +1,4 @@
+pub mod Accessing
 pub mod Booted
 pub mod Calls
 pub mod Serving

@@ -1,8 +1,9 @@
-// The calls, each to its chapter.
-ghost use Rattle.std.specs.Prelude.{◌≡◌, ◌+◌, ◌-◌, ◌^◌, ◌<◌, IsTrue};
+// The calls and accesses, each to its chapter.
+ghost use Rattle.std.specs.Prelude.{◌≡◌, false, ◌+◌, ◌-◌, ◌^◌, ◌<◌, IsTrue};
 ghost use Rattle.hv_calls.specs.Call.{kind_of_call};
-ghost use Rattle.hv_policy.specs.Call.{is_served};
+ghost use Rattle.hv_policy.specs.Call.{is_call, is_served};
 ghost use Rattle.hv_policy.specs.Flat.{Flat};
+ghost use Rattle.hv_tie.specs.Access.{IsAccess};
 ghost use Rattle.hv_tie.specs.Served.{IsAdmitted, IsOutcome};
 ghost use Rattle.hv_tie.specs.Tie.{IsTied};
 ghost use Rattle.hv_machine.specs.Next.{next_after as next_id_after};
@@ -13,8 +14,11 @@ use hv_life::{
     get_partition_id, initialize_partition,
 };
 use hv_partition::Partition;
-use hv_policy::Output;
+use hv_policy::{Action, Caller, Output, Rule};
 use hv_pools::{deposit_memory, get_memory_balance, withdraw_memory};
+use hv_processors::{
+    create_vp, delete_vp, get_vp_registers, read_msr, set_vp_registers, write_msr,
+};
 use hv_properties::{get_partition_property, set_partition_property};
 use hv_tie::Refused;
 use hv_tree::IdTree;
@@ -53,16 +57,41 @@ pub fn dispatch<A: Allocator + Clone>(
         Call::DepositMemory { partition, page } => deposit_memory(tree, caller, *partition, *page),
         Call::WithdrawMemory { partition } => withdraw_memory(tree, caller, *partition),
         Call::GetMemoryBalance { partition } => get_memory_balance(tree, caller, *partition),
-        Call::CreateVp { .. }
-        | Call::DeleteVp { .. }
-        | Call::GetVpRegisters { .. }
-        | Call::SetVpRegisters { .. }
-        | Call::DeletePort { .. }
+        Call::CreateVp { partition, vp } => create_vp(tree, alloc, caller, *partition, *vp),
+        Call::DeleteVp { partition, vp } => delete_vp(tree, caller, *partition, *vp),
+        Call::GetVpRegisters {
+            partition,
+            vp,
+            name,
+        } => get_vp_registers(tree, caller, *partition, *vp, *name),
+        Call::SetVpRegisters {
+            partition,
+            vp,
+            name,
+            value,
+        } => set_vp_registers(tree, caller, *partition, *vp, *name, *value),
+        Call::DeletePort { .. }
         | Call::DisconnectPort { .. }
         | Call::PostMessage { .. }
         | Call::SignalEvent { .. }
         | Call::CreatePort { .. }
         | Call::ConnectPort { .. } => unreachable!(),
+    }
+}
+
+// Hands an access for which P1 to P3 are met to its chapter.
+pub fn dispatch_access<A: Allocator>(
+    tree: &mut IdTree<Partition<A>, A>,
+    by: Caller,
+    what: &Action<A>,
+) -> Result<Output, Rule>
+    requires { is_call what.now ≡ false }
+    ensures { (f : Flat) → IsTied tree.old f → IsAccess f by what.now tree.old result tree.new }
+{
+    match what {
+        Action::Hypercall(_) => unreachable!(),
+        Action::ReadMsr(msr) => read_msr(tree, by, *msr),
+        Action::WriteMsr(msr, value) => write_msr(tree, by, *msr, *value),
     }
 }
 

@@ -1,8 +1,9 @@
 // The machine and its one step.
-ghost use Rattle.std.specs.Prelude.{◌≡◌, ◌<◌, None, true, IsTrue, IfOk, OnOk, OnErr};
+ghost use Rattle.std.specs.Prelude.{◌≡◌, ◌<◌, None, false, IsTrue, IfOk, OnOk, OnErr};
 ghost use Rattle.hv_calls.specs.Call.{kind_of_call};
 ghost use Rattle.hv_defs.specs.declared.sizes.TheConstants.{MAX_SERVED};
-ghost use Rattle.hv_policy.specs.Call.{is_served, may_take_memory};
+ghost use Rattle.hv_abi.specs.declared.frame.Frame.{Frame as CallFrame};
+ghost use Rattle.hv_policy.specs.Call.{is_call, is_served, may_take_memory};
 ghost use Rattle.hv_policy.specs.CallEvent.{call_event};
 ghost use Rattle.hv_policy.specs.Flat.{Flat};
 ghost use Rattle.hv_policy.specs.Result.{HasResult};
@@ -15,12 +16,12 @@ ghost use Rattle.hv_machine.specs.Lasting.{IsLasting};
 ghost use Rattle.hv_machine.specs.Served.{IsResult};
 ghost use Rattle.hv_machine.specs.Sound.{IsSound};
 
-use crate::dispatch::{dispatch, next_after};
+use crate::dispatch::{dispatch, dispatch_access, next_after};
 use hv_abi::Frame;
 use hv_calls::Call;
 use hv_partition::Partition;
 use hv_policy::{Action, Caller, Event, Output, Reply, refused_reply, served_reply};
-use hv_tie::Refused;
+use hv_tie::{Refused, unmet_by_caller};
 use hv_tree::IdTree;
 use std::alloc::Allocator;
 use std::marker::Model;
@@ -75,7 +76,7 @@ impl<A: Allocator + Clone> Machine<A> {
 
         // A refusal names a rule that is asked, and a reply to a hypercall has a result value.
         ensures asked { IfOk result (NamesAsked event.now) }
-        ensures result { IfOk result HasResult }
+        ensures result { (frame : CallFrame A) → event.now.what ≡ Hypercall frame → IfOk result HasResult }
 
         // The machine stands for a lawful flat state, so that what is said of each is said of one; each boot page stays
         // in exactly one page set, what is in use within what is pooled, and each mask within the parent's.
@@ -83,7 +84,10 @@ impl<A: Allocator + Clone> Machine<A> {
         ensures pages { self.new.pages ≡ self.old.pages }
         ensures sound { IsSound self.new }
     {
-        self.hypercall(event.by, frame_of(&event.what))
+        match &event.what {
+            Action::Hypercall(frame) => self.hypercall(event.by, frame),
+            Action::ReadMsr(_) | Action::WriteMsr(_, _) => Ok(self.access(event)),
+        }
     }
 
     // One hypercall.
@@ -109,6 +113,28 @@ impl<A: Allocator + Clone> Machine<A> {
             Ok(output) => Ok(served_reply(frame, shape, output)),
             Err(Refused::Unmet(rule)) => Ok(refused_reply(frame, rule)),
             Err(Refused::Memory) => Err(HostRefused::Memory),
+        }
+    }
+
+    // One access.
+    fn access(&mut self, event: &Event<A>) -> Reply
+        requires count { self.old.served < MAX_SERVED }
+        requires access { is_call event.now.what ≡ false }
+        ensures reply { (f : Flat) → IsFlat self.old f → result ≡ (step f event.now).1 }
+        ensures state { (f : Flat) → IsFlat self.old f → IsFlat self.new (step f event.now).0 }
+        ensures asked { NamesAsked event.now result }
+        ensures lasting { IsLasting self.new }
+        ensures pages { self.new.pages ≡ self.old.pages }
+    {
+        if let Some(rule) = unmet_by_caller(&self.tree, event.by) {
+            return Reply::Fault { rule };
+        }
+        match dispatch_access(&mut self.tree, event.by, &event.what) {
+            Ok(output) => {
+                self.served += 1;
+                Reply::Served(output)
+            }
+            Err(rule) => Reply::Fault { rule },
         }
     }
 
@@ -152,14 +178,5 @@ impl<A: Allocator> Machine<A> {
         ensures { roomless result.now ≡ self.now.rows }
     {
         &self.tree
-    }
-}
-
-// The frame of a hypercall, which every action is so far.
-fn frame_of<A: Allocator>(what: &Action<A>) -> &Frame<A>
-    ensures { what.now ≡ Hypercall result.now }
-{
-    match what {
-        Action::Hypercall(frame) => frame,
     }
 }

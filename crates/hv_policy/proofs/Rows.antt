@@ -1,14 +1,15 @@
 -- Rows of a flat state after a change, and those that rules which are met tell of.
 use Rattle.std.proofs.Common.{◌≡◌, ℕ, ◌==◌, Bool, true, false, cond, not, List, [], ◌∷◌, Option, Some, None, find, inl, inr, refl, sym, ap, ◌∙◌}
 use Rattle.std.proofs.lemmas.Bool.{cases_Bool, eqb-true}
-use Rattle.std.specs.FinMap.{FinMap, get, get-retain_keys}
+use Rattle.std.specs.Cmp.{Equal-is}
+use Rattle.std.specs.FinMap.{FinMap, get, get-insert, get-retain_keys}
 use Rattle.std.specs.List.{AllByRecursion}
 use Rattle.std.specs.Option.{option_map}
-use Rattle.std.specs.Ordering.{nat_cmp}
+use Rattle.std.specs.Ordering.{nat_cmp, eq_by_cmp}
 use Rattle.hv_defs.proofs.Maps.{get_at-insert}
-use Rattle.hv_policy.proofs.Pairs.{pair_cmp_exact}
-use Rattle.hv_policy.specs.Effect.{with_row, changed_at, rows_but}
-use Rattle.hv_policy.specs.Flat.{Flat, PartRow, pair_cmp}
+use Rattle.hv_policy.proofs.Pairs.{pair_cmp_total, pair_cmp_exact}
+use Rattle.hv_policy.specs.Effect.{with_row, with_vp, changed_at, vp_changed_at, rows_but}
+use Rattle.hv_policy.specs.Flat.{Flat, PartRow, VpRow, pair_cmp}
 use Rattle.hv_policy.specs.Met.{test_row, on_part}
 use Rattle.hv_policy.specs.declared.rule.Rule.{Rule}
 
@@ -22,6 +23,17 @@ get-with_row part id g q = by (get part id) refl
       | inr s ↦ rw s refl
     ]
     by (Some r) is = get_at-insert part id (g r) q
+
+-- a processor's row once one of them is changed
+pub get-with_vp : (vps : FinMap pair_cmp VpRow) (key : ℕ × ℕ) (g : VpRow → VpRow) (q : ℕ × ℕ) → get (with_vp vps key g) q ≡ cond (eq_by_cmp pair_cmp q key) (option_map g (get vps key)) (get vps q)
+get-with_vp vps key g q = by (get vps key) refl
+  where
+    by : (r : Option VpRow) → get vps key ≡ r → get (vp_changed_at vps key g r) q ≡ cond (eq_by_cmp pair_cmp q key) (option_map g r) (get vps q)
+    by None is = elim (cases_Bool (eq_by_cmp pair_cmp q key)) [
+      | inl s ↦ rw s (ap (get vps) (pair_cmp_exact q key ((Equal-is (pair_cmp q key)).0 s)) ∙ is)
+      | inr s ↦ rw s refl
+    ]
+    by (Some r) is = get-insert pair_cmp_total vps key (g r) q
 
 -- rows by (partition, number) without those of one partition
 pub get-rows_but : {X : Type 0} (rows : FinMap pair_cmp X) (id : ℕ) (key : ℕ × ℕ) → get (rows_but id rows) key ≡ cond (not (key.0 == id)) (get rows key) None

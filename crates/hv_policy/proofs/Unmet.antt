@@ -36,13 +36,18 @@ find-back p (y ∷ xs) ys e = by (p y) e (find-back p xs ys)
     by true e rest = cc
     by false e rest = rest e
 
-module _ {A : Type 0} (f : Flat) (caller : Caller) (frame : Frame A) where
-  abbrev event : Event A
-  event = record { by = caller; what = Hypercall frame }
-
+module _ {A : Type 0} (f : Flat) (event : Event A) where
   -- one of P1 to P3 refuses
   pub unmet_by_caller : (rule : Rule) → first_unmet f event caller_rules ≡ Some rule → unmet f event ≡ Some rule
   unmet_by_caller rule h = find-front (λ rule. not (met rule f event)) caller_rules (action_rules event.what) rule h
+
+  -- where they are met, what is left are the action's rules
+  pub past_caller : first_unmet f event caller_rules ≡ None → unmet f event ≡ first_unmet f event (action_rules event.what)
+  past_caller h = find-back (λ rule. not (met rule f event)) caller_rules (action_rules event.what) h
+
+module _ {A : Type 0} (f : Flat) (caller : Caller) (frame : Frame A) where
+  abbrev event : Event A
+  event = record { by = caller; what = Hypercall frame }
 
   -- where they are met, the caller is Active
   pub caller_active : first_unmet f event caller_rules ≡ None → on_part f caller.part (λ row. is_active row.life) ≡ true
@@ -54,12 +59,9 @@ module _ {A : Type 0} (f : Flat) (caller : Caller) (frame : Frame A) where
       by false active h = cc
 
   module _ (caller_met : first_unmet f event caller_rules ≡ None) where
-    past_caller : unmet f event ≡ first_unmet f event (call_rules (served_kind frame))
-    past_caller = find-back (λ rule. not (met rule f event)) caller_rules (action_rules event.what) caller_met
-
     -- one of P4 to P7 refuses
     pub unmet_by_frame : (rule : Rule) → first_unmet f event (call_rules (served_kind frame)) ≡ Some rule → unmet f event ≡ Some rule
-    unmet_by_frame rule h = past_caller ∙ h
+    unmet_by_frame rule h = past_caller f event caller_met ∙ h
 
     module _ (call : Call) (is : served_kind frame ≡ Some (kind_of_call call)) (served : served_call frame ≡ Some call) (frame_met : first_unmet f event frame_rules ≡ None) where
       -- the rules that look at the parameters ask the call alone
@@ -91,7 +93,7 @@ module _ {A : Type 0} (f : Flat) (caller : Caller) (frame : Frame A) where
 
       past_frame : unmet f event ≡ unmet_of f caller.part call (access_rules ++ further_rules (kind_of_call call))
       past_frame =
-          past_caller ∙ ap (λ k. first_unmet f event (call_rules k)) is
+          past_caller f event caller_met ∙ ap (λ k. first_unmet f event (call_rules k)) is
           ∙ find-back (λ rule. not (met rule f event)) frame_rules (access_rules ++ further_rules (kind_of_call call)) frame_met
           ∙ by_kind (kind_of_call call)
 

@@ -2,19 +2,22 @@
 use Rattle.std.specs.Prelude.{ℕ, ◌+◌, ◌&&◌, Bool, true, nat_lt, if◌then◌else◌, List, [], ◌++◌, find, Option, None, Some}
 use Rattle.std.specs.FinMap.{get, entries}
 use Rattle.std.specs.Int.{w64, to_le_bytes}
+use Rattle.std.specs.Option.{option_map_or}
 use Rattle.hv_defs.specs.Bits.{bits}
+use Rattle.hv_defs.specs.Registers.{name_of_msr}
 use Rattle.hv_abi.specs.declared.call_kind.CallKind.{CallKind}
 use Rattle.hv_abi.specs.declared.frame.Frame.{Frame}
 use Rattle.hv_calls.specs.declared.call.Call.{Call}
 use Rattle.hv_calls.specs.declared.call.Call.TheVariants.{CreatePartition, InitializePartition, FinalizePartition, DeletePartition, GetPartitionProperty, SetPartitionProperty, GetPartitionId, GetNextChildPartition, DepositMemory, WithdrawMemory, GetMemoryBalance, CreateVp, DeleteVp, GetVpRegisters, SetVpRegisters, DeletePort, DisconnectPort, PostMessage, SignalEvent, CreatePort, ConnectPort}
 use Rattle.hv_policy.specs.declared.event.Action.{Action}
-use Rattle.hv_policy.specs.declared.event.Action.TheVariants.{Hypercall}
+use Rattle.hv_policy.specs.declared.event.Action.TheVariants.{Hypercall, ReadMsr, WriteMsr}
+use Rattle.hv_policy.specs.declared.event.Caller.{Caller}
 use Rattle.hv_policy.specs.declared.event.Event.{Event}
 use Rattle.hv_policy.specs.declared.reply.Reply.{Reply}
 use Rattle.hv_policy.specs.declared.reply.Reply.TheVariants.{Served, More}
 use Rattle.hv_policy.specs.Call.{served_call, served_kind, is_last, target_of}
 use Rattle.hv_policy.specs.Count.{is_parent, lowest_pooled, available, in_use}
-use Rattle.hv_policy.specs.Flat.{Flat, PartRow}
+use Rattle.hv_policy.specs.Flat.{Flat, PartRow, VpRow}
 use Rattle.hv_policy.specs.Property.{property_of, property_value}
 use Rattle.hv_policy.specs.declared.property.Property.{Property}
 
@@ -36,6 +39,16 @@ value_of None row = 0
 value_of (Some property) None = 0
 value_of (Some property) (Some row) = property_value property row
 
+-- the value of a register of the processor with this row, 0 where either is missing
+abbrev pub register_of : Option VpRow → ℕ → ℕ
+register_of None name = 0
+register_of (Some row) name = option_map_or (λ value. value) (get row.registers name) 0
+
+-- the same for a model-specific register, by the name that it has
+abbrev pub msr_of : Option VpRow → Option ℕ → ℕ
+msr_of row None = 0
+msr_of row (Some name) = register_of row name
+
 -- the output bytes of a call, about its target; of a rep call those of its own element
 abbrev pub output : Call → Flat → ℕ → ℕ → List ℕ
 output (CreatePartition flags) f caller target = to_le_bytes w64 f.next
@@ -52,7 +65,8 @@ output (SetPartitionProperty partition code value) f caller target = []
 output (DepositMemory partition page) f caller target = []
 output (CreateVp partition vp) f caller target = []
 output (DeleteVp partition vp) f caller target = []
-output (GetVpRegisters partition vp name) f caller target = []
+output (GetVpRegisters partition vp name) f caller target =
+    to_le_bytes w64 (register_of (get f.vp (target, vp)) name) ++ to_le_bytes w64 0
 output (SetVpRegisters partition vp name value) f caller target = []
 output (DeletePort partition port) f caller target = []
 output (DisconnectPort partition connection) f caller target = []
@@ -73,9 +87,12 @@ is_done frame (Some kind) = is_last kind frame
 abbrev pub reply_with : {A : Type 0} → Frame A → List ℕ → Reply
 reply_with frame bytes = if is_done frame (served_kind frame) then Served bytes else More (bits frame.rcx 48 12 + 1) bytes
 
-abbrev pub action_answer : {A : Type 0} → Flat → ℕ → Action A → Reply
-action_answer f caller (Hypercall frame) = reply_with frame (output_of f caller (served_call frame))
+-- the reply to an action that is served; an access reads its own processor
+abbrev pub action_answer : {A : Type 0} → Flat → Caller → Action A → Reply
+action_answer f by (Hypercall frame) = reply_with frame (output_of f by.part (served_call frame))
+action_answer f by (ReadMsr msr) = Served (to_le_bytes w64 (msr_of (get f.vp (by.part, by.vp)) (name_of_msr msr)))
+action_answer f by (WriteMsr msr value) = Served []
 
 -- the reply to an event that is served
 abbrev pub answer : {A : Type 0} → Flat → Event A → Reply
-answer f event = action_answer f event.by.part event.what
+answer f event = action_answer f event.by event.what

@@ -2,10 +2,10 @@
 use Rattle.std.specs.Prelude.{List, [], ◌∷◌, ◌++◌, Option, None, Some}
 use Rattle.hv_abi.specs.declared.call_kind.CallKind.{CallKind}
 use Rattle.hv_policy.specs.declared.event.Action.{Action}
-use Rattle.hv_policy.specs.declared.event.Action.TheVariants.{Hypercall}
+use Rattle.hv_policy.specs.declared.event.Action.TheVariants.{Hypercall, ReadMsr, WriteMsr}
 use Rattle.hv_policy.specs.declared.event.Event.{Event}
 use Rattle.hv_policy.specs.declared.rule.Rule.{Rule}
-use Rattle.hv_policy.specs.declared.rule.Rule.TheVariants.{CallerExists, CallerActive, CallerVpExists, CallCode, InputValue, Alignment, Parameters, Privilege, TargetExists, Kinship}
+use Rattle.hv_policy.specs.declared.rule.Rule.TheVariants.{CallerExists, CallerActive, CallerVpExists, CallCode, InputValue, Alignment, Parameters, Privilege, TargetExists, Kinship, MsrKnown, MsrPrivilege, MsrWrite}
 use Rattle.hv_policy.specs.Call.{served_kind}
 use Rattle.hv_policy.specs.Needs.{further_rules}
 
@@ -28,6 +28,8 @@ call_rules (Some kind) = frame_rules ++ (access_rules ++ further_rules kind)
 
 abbrev pub action_rules : {A : Type 0} → Action A → List Rule
 action_rules (Hypercall frame) = call_rules (served_kind frame)
+action_rules (ReadMsr msr) = MsrKnown ∷ MsrPrivilege ∷ []
+action_rules (WriteMsr msr value) = MsrKnown ∷ MsrPrivilege ∷ MsrWrite ∷ []
 
 -- the rules that are asked of an event, rising
 abbrev pub asked : {A : Type 0} → Event A → List Rule

@@ -1,5 +1,5 @@
 -- What an event asks for.
-use Rattle.std.specs.Prelude.{ℕ, ◌+◌, ◌==◌, ◌||◌, nat_le, not, Bool, false, if◌then◌else◌, Option, None, Some}
+use Rattle.std.specs.Prelude.{ℕ, ◌+◌, ◌==◌, ◌||◌, nat_le, not, Bool, true, false, if◌then◌else◌, Option, None, Some}
 use Rattle.std.specs.List.{list_any}
 use Rattle.std.specs.Option.{option_map}
 use Rattle.hv_defs.specs.Bits.{bits}
@@ -12,7 +12,7 @@ use Rattle.hv_calls.specs.Params.{parameters}
 use Rattle.hv_calls.specs.declared.call.Call.{Call}
 use Rattle.hv_calls.specs.declared.call.Call.TheVariants.{CreatePartition, InitializePartition, FinalizePartition, DeletePartition, GetPartitionProperty, SetPartitionProperty, GetPartitionId, GetNextChildPartition, DepositMemory, WithdrawMemory, GetMemoryBalance, CreateVp, DeleteVp, GetVpRegisters, SetVpRegisters, DeletePort, DisconnectPort, PostMessage, SignalEvent, CreatePort, ConnectPort}
 use Rattle.hv_policy.specs.declared.event.Action.{Action}
-use Rattle.hv_policy.specs.declared.event.Action.TheVariants.{Hypercall}
+use Rattle.hv_policy.specs.declared.event.Action.TheVariants.{Hypercall, ReadMsr, WriteMsr}
 use Rattle.hv_policy.specs.declared.event.Event.{Event}
 use Rattle.hv_policy.specs.declared.need.TheConstants.{SERVED_CODES}
 use Rattle.hv_policy.specs.Needs.{takes_memory}
@@ -71,6 +71,8 @@ test_kind test frame (Some kind) = test kind frame
 
 abbrev pub action_frame : {A : Type 0} → (CallKind → Frame A → Bool) → Action A → Bool
 action_frame test (Hypercall frame) = test_kind test frame (served_kind frame)
+action_frame test (ReadMsr msr) = false
+action_frame test (WriteMsr msr value) = false
 
 abbrev pub on_frame : {A : Type 0} → (CallKind → Frame A → Bool) → Event A → Bool
 on_frame test event = action_frame test event.what
@@ -82,9 +84,34 @@ test_call test (Some call) = test call
 
 abbrev pub action_call : {A : Type 0} → (Call → Bool) → Action A → Bool
 action_call test (Hypercall frame) = test_call test (served_call frame)
+action_call test (ReadMsr msr) = false
+action_call test (WriteMsr msr value) = false
 
 abbrev pub on_call : {A : Type 0} → (Call → Bool) → Event A → Bool
 on_call test event = action_call test event.what
+
+-- whether an action is a hypercall
+abbrev pub is_call : {A : Type 0} → Action A → Bool
+is_call (Hypercall frame) = true
+is_call (ReadMsr msr) = false
+is_call (WriteMsr msr value) = false
+
+-- a test of the model-specific register that an access names, and one of it with the value that is written
+abbrev pub action_msr : {A : Type 0} → (ℕ → Bool) → Action A → Bool
+action_msr test (Hypercall frame) = false
+action_msr test (ReadMsr msr) = test msr
+action_msr test (WriteMsr msr value) = test msr
+
+abbrev pub on_msr : {A : Type 0} → (ℕ → Bool) → Event A → Bool
+on_msr test event = action_msr test event.what
+
+abbrev pub action_write : {A : Type 0} → (ℕ → ℕ → Bool) → Action A → Bool
+action_write test (Hypercall frame) = false
+action_write test (ReadMsr msr) = false
+action_write test (WriteMsr msr value) = test msr value
+
+abbrev pub on_write : {A : Type 0} → (ℕ → ℕ → Bool) → Event A → Bool
+on_write test event = action_write test event.what
 
 -- whether serving an event may need memory of the host
 abbrev pub may_take_memory : {A : Type 0} → Event A → Bool

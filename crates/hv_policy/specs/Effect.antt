@@ -1,21 +1,24 @@
 -- What a served event changes.
-use Rattle.std.specs.Prelude.{ℕ, ◌+◌, ◌==◌, not, true, false, if◌then◌else◌, List, map, Option, None, Some}
+use Rattle.std.specs.Prelude.{ℕ, ◌+◌, ◌==◌, ◌&&◌, not, true, false, if◌then◌else◌, List, map, Option, None, Some}
 use Rattle.std.specs.List.{filter}
 use Rattle.std.specs.Ordering.{nat_cmp}
 use Rattle.std.specs.FinMap.{FinMap, get, insert, remove, entries, from_entries, retain_keys}
 use Rattle.hv_calls.specs.declared.call.Call.{Call}
 use Rattle.hv_calls.specs.declared.call.Call.TheVariants.{CreatePartition, InitializePartition, FinalizePartition, DeletePartition, GetPartitionProperty, SetPartitionProperty, GetPartitionId, GetNextChildPartition, DepositMemory, WithdrawMemory, GetMemoryBalance, CreateVp, DeleteVp, GetVpRegisters, SetVpRegisters, DeletePort, DisconnectPort, PostMessage, SignalEvent, CreatePort, ConnectPort}
+use Rattle.hv_defs.specs.Registers as register
 use Rattle.hv_defs.specs.declared.life.Life.TheVariants.{Created, Active, Finalized}
 use Rattle.hv_defs.specs.declared.sizes.TheConstants.{CPU_RESERVE_START, CPU_CAP_START, CPU_WEIGHT_START}
 use Rattle.hv_privs.specs.declared.Privileges.{Privileges}
 use Rattle.hv_privs.specs.declared.TheConstants.Privileges as privilege
 use Rattle.hv_privs.specs.Privileges.{of, restrict}
 use Rattle.hv_policy.specs.declared.event.Action.{Action}
-use Rattle.hv_policy.specs.declared.event.Action.TheVariants.{Hypercall}
+use Rattle.hv_policy.specs.declared.event.Action.TheVariants.{Hypercall, ReadMsr, WriteMsr}
+use Rattle.hv_policy.specs.declared.event.Caller.{Caller}
 use Rattle.hv_policy.specs.declared.event.Event.{Event}
+use Rattle.hv_policy.specs.Boot.{start_vp}
 use Rattle.hv_policy.specs.Call.{served_call, target_of}
 use Rattle.hv_policy.specs.Count.{lowest_pooled}
-use Rattle.hv_policy.specs.Flat.{Flat, PartRow, PageRow, MailRow, pair_cmp}
+use Rattle.hv_policy.specs.Flat.{Flat, PartRow, PageRow, VpRow, MailRow, pair_cmp}
 use Rattle.hv_policy.specs.Property.{property_of, with_property}
 use Rattle.hv_policy.specs.declared.property.Property.{Property}
 
@@ -50,6 +53,27 @@ rows_but id rows = retain_keys rows (λ key. not (key.0 == id))
 -- the messages at the processors of all other partitions
 abbrev pub mail_but : ℕ → List MailRow → List MailRow
 mail_but id mail = filter (λ row. not (row.part == id)) mail
+
+-- the messages at all other processors
+abbrev pub mail_but_at : ℕ → ℕ → List MailRow → List MailRow
+mail_but_at id vp mail = filter (λ row. not (row.part == id && row.vp == vp)) mail
+
+-- a processor's row once a value was written to the register with this name, if it took it
+abbrev pub written : ℕ → ℕ → VpRow → VpRow
+written name value row = record row { registers = register.after_write row.registers name (register.kept (register.row_of name) value) }
+
+-- the same for a model-specific register, by the name that it has
+abbrev pub written_msr : Option ℕ → ℕ → VpRow → VpRow
+written_msr None value row = row
+written_msr (Some name) value row = written name value row
+
+abbrev pub vp_changed_at : FinMap pair_cmp VpRow → ℕ × ℕ → (VpRow → VpRow) → Option VpRow → FinMap pair_cmp VpRow
+vp_changed_at vps key change None = vps
+vp_changed_at vps key change (Some row) = insert vps key (change row)
+
+-- the processors with the row of one of them changed
+abbrev pub with_vp : FinMap pair_cmp VpRow → ℕ × ℕ → (VpRow → VpRow) → FinMap pair_cmp VpRow
+with_vp vps key change = vp_changed_at vps key change (get vps key)
 
 -- a page that is a loose page of `heir` if `id` held it, and else as it was
 abbrev pub inherited : ℕ → ℕ → PageRow → PageRow
@@ -93,10 +117,12 @@ call_effect (GetPartitionProperty partition code) f caller target = f
 call_effect GetPartitionId f caller target = f
 call_effect (GetNextChildPartition partition previous) f caller target = f
 call_effect (GetMemoryBalance partition) f caller target = f
-call_effect (CreateVp partition vp) f caller target = f
-call_effect (DeleteVp partition vp) f caller target = f
+call_effect (CreateVp partition vp) f caller target = record f { vp = insert f.vp (target, vp) (start_vp vp) }
+call_effect (DeleteVp partition vp) f caller target =
+    record f { vp = remove f.vp (target, vp); mail = mail_but_at target vp f.mail }
+call_effect (SetVpRegisters partition vp name value) f caller target =
+    record f { vp = with_vp f.vp (target, vp) (written name value) }
 call_effect (GetVpRegisters partition vp name) f caller target = f
-call_effect (SetVpRegisters partition vp name value) f caller target = f
 call_effect (DeletePort partition port) f caller target = f
 call_effect (DisconnectPort partition connection) f caller target = f
 call_effect (PostMessage connection message_type payload) f caller target = f
@@ -108,8 +134,12 @@ abbrev pub served_effect : Flat → ℕ → Option Call → Flat
 served_effect f caller None = f
 served_effect f caller (Some call) = call_effect call f caller (target_of call caller)
 
-abbrev pub action_effect : {A : Type 0} → Flat → ℕ → Action A → Flat
-action_effect f caller (Hypercall frame) = served_effect f caller (served_call frame)
+-- what an access changes is at the calling processor
+abbrev pub action_effect : {A : Type 0} → Flat → Caller → Action A → Flat
+action_effect f by (Hypercall frame) = served_effect f by.part (served_call frame)
+action_effect f by (ReadMsr msr) = f
+action_effect f by (WriteMsr msr value) =
+    record f { vp = with_vp f.vp (by.part, by.vp) (written_msr (register.name_of_msr msr) value) }
 
 -- a state with 1 more served event
 abbrev pub counted : Flat → Flat
@@ -117,4 +147,4 @@ counted f = record f { served = f.served + 1 }
 
 -- what a served event leaves: its own changes, and 1 more served event
 abbrev pub effect : {A : Type 0} → Flat → Event A → Flat
-effect f event = counted (action_effect f event.by.part event.what)
+effect f event = counted (action_effect f event.by event.what)

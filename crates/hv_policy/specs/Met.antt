@@ -1,9 +1,11 @@
 -- When each rule is met, one line a rule. A rule whose subject is missing isn't met.
-use Rattle.std.specs.Prelude.{ℕ, ◌+◌, ◌==◌, ◌&&◌, ◌||◌, not, nat_le, Bool, true, false, Option, None, Some, is_some, List, find}
+use Rattle.std.specs.Prelude.{ℕ, ◌+◌, ◌==◌, ◌&&◌, ◌||◌, not, nat_le, nat_lt, Bool, true, false, Option, None, Some, is_some, is_ok, List, find}
 use Rattle.std.specs.FinMap.{get, contains_key}
 use Rattle.hv_defs.specs.declared.life.Life.{Life}
 use Rattle.hv_defs.specs.declared.life.Life.TheVariants.{Created, Active, Finalized}
-use Rattle.hv_defs.specs.declared.sizes.TheConstants.{MAX_DEPTH}
+use Rattle.hv_defs.specs.Registers as register
+use Rattle.hv_defs.specs.declared.registers.RegisterRow.{RegisterRow}
+use Rattle.hv_defs.specs.declared.sizes.TheConstants.{MAX_DEPTH, MAX_VPS}
 use Rattle.hv_abi.specs.CallRow.{row_of}
 use Rattle.hv_abi.specs.Check.{is_input_valid, are_lists_placed}
 use Rattle.hv_calls.specs.Call.{kind_of_call}
@@ -18,7 +20,7 @@ use Rattle.hv_policy.specs.declared.property.Property.{Property}
 use Rattle.hv_policy.specs.declared.property.Property.TheVariants.{PrivilegeFlags, CpuReserve, CpuCap, CpuWeight}
 use Rattle.hv_policy.specs.declared.rule.Rule.{Rule}
 use Rattle.hv_policy.specs.declared.rule.Rule.TheVariants.{CallerExists, CallerActive, CallerVpExists, CallCode, InputValue, Alignment, Parameters, Privilege, TargetExists, Kinship, PropertyKnown, TargetState, NoChildren, Depth, OtherExists, Connection, Port, Right, VpExists, PropertyRange, Subject, VpReady, PortRoom, Pages, MsrKnown, MsrPrivilege, MsrWrite}
-use Rattle.hv_policy.specs.Call.{on_frame, on_call, target_of}
+use Rattle.hv_policy.specs.Call.{on_frame, on_call, on_msr, on_write, target_of}
 use Rattle.hv_policy.specs.Count.{is_parent, child_count, available, depth}
 use Rattle.hv_policy.specs.Flat.{Flat, PartRow, PageRow}
 use Rattle.hv_policy.specs.Needs.{needs_of, is_among, charge_of}
@@ -104,7 +106,13 @@ may_give (Some CpuReserve) value f caller = true
 may_give (Some CpuCap) value f caller = true
 may_give (Some CpuWeight) value f caller = true
 
--- whether the caller has the right to what a call makes
+-- whether a partition may access the register with this row: its mask has the register's privilege. One that there isn't
+-- needs none
+abbrev pub may_access : Flat → ℕ → Option RegisterRow → Bool
+may_access f id None = true
+may_access f id (Some row) = on_part f id (λ part. contains part.mask (of row.privilege))
+
+-- whether the caller has the right to what a call makes, or to the register that it names
 abbrev pub is_right : Call → Flat → ℕ → Bool
 is_right (SetPartitionProperty partition code value) f caller = may_give (property_of code) value f caller
 is_right (CreatePartition flags) f caller = false
@@ -119,14 +127,38 @@ is_right (WithdrawMemory partition) f caller = false
 is_right (GetMemoryBalance partition) f caller = false
 is_right (CreateVp partition vp) f caller = false
 is_right (DeleteVp partition vp) f caller = false
-is_right (GetVpRegisters partition vp name) f caller = false
-is_right (SetVpRegisters partition vp name value) f caller = false
+is_right (GetVpRegisters partition vp name) f caller = may_access f caller (register.row_of name)
+is_right (SetVpRegisters partition vp name value) f caller = may_access f caller (register.row_of name)
 is_right (DeletePort partition port) f caller = false
 is_right (DisconnectPort partition connection) f caller = false
 is_right (PostMessage connection message_type payload) f caller = false
 is_right (SignalEvent connection flag) f caller = false
 is_right (CreatePort partition port peer port_kind sint vp base count) f caller = false
 is_right (ConnectPort partition connection port_partition port port_kind) f caller = false
+
+-- the processor that a call names: one to be made has an index below the most and that is free, and each other is there
+abbrev pub is_vp_good : Call → Flat → ℕ → Bool
+is_vp_good (CreateVp partition vp) f target = nat_lt vp MAX_VPS && not (contains_key f.vp (target, vp))
+is_vp_good (DeleteVp partition vp) f target = contains_key f.vp (target, vp)
+is_vp_good (GetVpRegisters partition vp name) f target = contains_key f.vp (target, vp)
+is_vp_good (SetVpRegisters partition vp name value) f target = contains_key f.vp (target, vp)
+is_vp_good (CreatePartition flags) f target = false
+is_vp_good (InitializePartition partition) f target = false
+is_vp_good (FinalizePartition partition) f target = false
+is_vp_good (DeletePartition partition) f target = false
+is_vp_good (GetPartitionProperty partition code) f target = false
+is_vp_good (SetPartitionProperty partition code value) f target = false
+is_vp_good GetPartitionId f target = false
+is_vp_good (GetNextChildPartition partition previous) f target = false
+is_vp_good (DepositMemory partition page) f target = false
+is_vp_good (WithdrawMemory partition) f target = false
+is_vp_good (GetMemoryBalance partition) f target = false
+is_vp_good (DeletePort partition port) f target = false
+is_vp_good (DisconnectPort partition connection) f target = false
+is_vp_good (PostMessage connection message_type payload) f target = false
+is_vp_good (SignalEvent connection flag) f target = false
+is_vp_good (CreatePort partition port peer port_kind sint vp base count) f target = false
+is_vp_good (ConnectPort partition connection port_partition port port_kind) f target = false
 
 -- whether a property's value is in its range
 abbrev pub is_in_range : Option Property → ℕ → Bool
@@ -161,7 +193,8 @@ abbrev pub is_loose : ℕ → Option PageRow → Bool
 is_loose id None = false
 is_loose id (Some page) = (page.owner == id) && not page.pooled
 
--- what a call is about: the page of a deposit is a loose page of the caller
+-- what a call is about: the page of a deposit is a loose page of the caller, and a register is one that there is, and that
+-- takes a value that is written
 abbrev pub is_subject_good : Call → Flat → ℕ → Bool
 is_subject_good (DepositMemory partition page) f caller = is_loose caller (get f.page page)
 is_subject_good (CreatePartition flags) f caller = false
@@ -176,8 +209,8 @@ is_subject_good (WithdrawMemory partition) f caller = false
 is_subject_good (GetMemoryBalance partition) f caller = false
 is_subject_good (CreateVp partition vp) f caller = false
 is_subject_good (DeleteVp partition vp) f caller = false
-is_subject_good (GetVpRegisters partition vp name) f caller = false
-is_subject_good (SetVpRegisters partition vp name value) f caller = false
+is_subject_good (GetVpRegisters partition vp name) f caller = is_some (register.row_of name)
+is_subject_good (SetVpRegisters partition vp name value) f caller = is_ok (register.kept (register.row_of name) value)
 is_subject_good (DeletePort partition port) f caller = false
 is_subject_good (DisconnectPort partition connection) f caller = false
 is_subject_good (PostMessage connection message_type payload) f caller = false
@@ -186,7 +219,7 @@ is_subject_good (CreatePort partition port peer port_kind sint vp base count) f 
 is_subject_good (ConnectPort partition connection port_partition port port_kind) f caller = false
 
 -- P8 to P24, of a call by a processor of `caller`. No call is asked the others, and none that is served so far those that
--- ask for a connection, a port, a processor and its readiness
+-- ask for a connection, a port and a processor's readiness
 abbrev pub call_met : Rule → Flat → ℕ → Call → Bool
 call_met CallerExists f caller call = false
 call_met CallerActive f caller call = false
@@ -206,7 +239,7 @@ call_met OtherExists f caller call = is_other_there call f (target_of call calle
 call_met Connection f caller call = false
 call_met Port f caller call = false
 call_met Right f caller call = is_right call f caller
-call_met VpExists f caller call = false
+call_met VpExists f caller call = is_vp_good call f (target_of call caller)
 call_met PropertyRange f caller call = is_value_good call
 call_met Subject f caller call = is_subject_good call f caller
 call_met VpReady f caller call = false
@@ -216,6 +249,17 @@ call_met MsrKnown f caller call = false
 call_met MsrPrivilege f caller call = false
 call_met MsrWrite f caller call = false
 
+-- whether a partition may access the model-specific register that has this name in a call, if it is one
+abbrev pub may_access_msr : Flat → ℕ → Option ℕ → Bool
+may_access_msr f id None = false
+may_access_msr f id (Some name) = may_access f id (register.row_of name)
+
+-- and whether that register takes a value
+abbrev pub takes_msr : Option ℕ → ℕ → Bool
+takes_msr None value = false
+takes_msr (Some name) value = is_ok (register.kept (register.row_of name) value)
+
+-- P1 to P27, of an event
 abbrev pub met : {A : Type 0} → Rule → Flat → Event A → Bool
 met CallerExists f e = contains_key f.part e.by.part
 met CallerActive f e = on_part f e.by.part (λ row. is_active row.life)
@@ -241,9 +285,9 @@ met Subject f e = on_call (call_met Subject f e.by.part) e
 met VpReady f e = on_call (call_met VpReady f e.by.part) e
 met PortRoom f e = on_call (call_met PortRoom f e.by.part) e
 met Pages f e = on_call (call_met Pages f e.by.part) e
-met MsrKnown f e = on_call (call_met MsrKnown f e.by.part) e
-met MsrPrivilege f e = on_call (call_met MsrPrivilege f e.by.part) e
-met MsrWrite f e = on_call (call_met MsrWrite f e.by.part) e
+met MsrKnown f e = on_msr (λ msr. is_some (register.name_of_msr msr)) e
+met MsrPrivilege f e = on_msr (λ msr. may_access_msr f e.by.part (register.name_of_msr msr)) e
+met MsrWrite f e = on_write (λ msr value. takes_msr (register.name_of_msr msr) value) e
 
 -- the first of these rules of a call that isn't met, if there is one
 abbrev pub unmet_of : Flat → ℕ → Call → List Rule → Option Rule

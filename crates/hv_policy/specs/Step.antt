@@ -5,7 +5,7 @@ use Rattle.hv_abi.specs.declared.status.Status.{Status}
 use Rattle.hv_abi.specs.declared.frame.Frame.{Frame}
 use Rattle.hv_policy.specs.declared.config.Config.{Config}
 use Rattle.hv_policy.specs.declared.event.Action.{Action}
-use Rattle.hv_policy.specs.declared.event.Action.TheVariants.{Hypercall}
+use Rattle.hv_policy.specs.declared.event.Action.TheVariants.{Hypercall, ReadMsr, WriteMsr}
 use Rattle.hv_policy.specs.declared.event.Event.{Event}
 use Rattle.hv_policy.specs.declared.reply.Reply.{Reply}
 use Rattle.hv_policy.specs.declared.reply.Reply.TheVariants.{Served, More, Denied, Fault}
@@ -32,9 +32,11 @@ abbrev pub denied_with : {A : Type 0} → Frame A → Rule → Option Status →
 denied_with frame rule None = Fault rule
 denied_with frame rule (Some status) = Denied rule status (refused_reps frame)
 
--- the reply to an event that a rule refuses: a call is denied with the rule's status
+-- the reply to an event that a rule refuses: a call is denied with the rule's status, an access has a fault
 abbrev pub refusal : {A : Type 0} → Action A → Rule → Reply
 refusal (Hypercall frame) rule = denied_with frame rule (rule_status rule (served_kind frame))
+refusal (ReadMsr msr) rule = Fault rule
+refusal (WriteMsr msr value) rule = Fault rule
 
 abbrev pub step_by : {A : Type 0} → Flat → Event A → Option Rule → Flat × Reply
 step_by f event None = (effect f event, answer f event)

@@ -15,9 +15,13 @@ pub struct Caller {
 pub enum Action<A: Allocator> {
     /// One simple hypercall, or the element of a rep hypercall at its start index.
     Hypercall(Frame<A>),
+    /// Reads a model-specific register of its own.
+    ReadMsr(u32),
+    /// Writes a value to a model-specific register of its own.
+    WriteMsr(u32, u64),
 }
 
-/// One event: a simple hypercall, or one element of a rep hypercall.
+/// One event: a simple hypercall, one element of a rep hypercall, or one access.
 #[derive(Drop)]
 pub struct Event<A: Allocator> {
     pub by: Caller,

@@ -1,8 +1,11 @@
 -- What the history keeps of an event.
-use Rattle.std.specs.Prelude.{ℕ}
 use Rattle.hv_policy.specs.declared.event.Action.{Action}
-use Rattle.hv_policy.specs.declared.event.Action.TheVariants.{Hypercall}
+use Rattle.hv_policy.specs.declared.event.Action.TheVariants.{Hypercall, ReadMsr, WriteMsr}
+use Rattle.hv_run.specs.declared.history.Asked.{Asked}
+use Rattle.hv_run.specs.declared.history.Asked.TheVariants as asked
 
--- the input value of its hypercall
-abbrev pub rcx_of : {A : Type 0} → Action A → ℕ
-rcx_of (Hypercall frame) = frame.rcx
+-- what its action asked for: of a hypercall the input value
+abbrev pub asked_of : {A : Type 0} → Action A → Asked
+asked_of (Hypercall frame) = asked.Call frame.rcx
+asked_of (ReadMsr msr) = asked.ReadMsr msr
+asked_of (WriteMsr msr value) = asked.WriteMsr msr value

@@ -1,6 +1,6 @@
 // The audit: a line for each event, and how many there are.
 
-use crate::history::{Answer, Entry, History};
+use crate::history::{Answer, Asked, Entry, History};
 use std::io;
 use std::io::Write;
 
@@ -28,8 +28,8 @@ pub fn print_entries<W: Write>(out: &mut W, entries: &[Entry], outputs: &[u8]) -
 fn print_entry<W: Write>(out: &mut W, number: u64, entry: &Entry, output: &[u8]) -> io::Result<()> {
     let part = entry.by.part;
     let vp = entry.by.vp;
-    let rcx = entry.rcx;
-    write!(out, "{number} {part}.{vp} call {rcx:016x} ")?;
+    write!(out, "{number} {part}.{vp} ")?;
+    print_asked(out, entry.asked)?;
     print_result(out, entry)?;
     match entry.answer {
         Answer::Served | Answer::More => print_output(out, output)?,
@@ -38,7 +38,15 @@ fn print_entry<W: Write>(out: &mut W, number: u64, entry: &Entry, output: &[u8])
     out.write_all(b"\n")
 }
 
-// How the event was answered, and its result value.
+fn print_asked<W: Write>(out: &mut W, asked: Asked) -> io::Result<()> {
+    match asked {
+        Asked::Call { rcx } => write!(out, "call {rcx:016x} "),
+        Asked::ReadMsr { msr } => write!(out, "rdmsr {msr:08x} "),
+        Asked::WriteMsr { msr, value } => write!(out, "wrmsr {msr:08x} {value:016x} "),
+    }
+}
+
+// How the event was answered, and its result value, if it has one.
 fn print_result<W: Write>(out: &mut W, entry: &Entry) -> io::Result<()> {
     let answer = match entry.answer {
         Answer::Served => "ok",

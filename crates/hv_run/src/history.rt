@@ -1,7 +1,7 @@
 // What happened, in its order.
 ghost use Rattle.std.specs.Prelude.{◌≡◌, ◌≢◌, ◌+◌, ◌≤◌, ◌<◌, ◌++◌, ◌∷◌, [], IfOk, IfSome, OnErr, vec_len, vec_capacity};
 ghost use Rattle.hv_defs.specs.declared.sizes.TheConstants.{MAX_SERVED as MOST, REPS_END as END};
-ghost use Rattle.hv_run.specs.History.{rcx_of};
+ghost use Rattle.hv_run.specs.History.{asked_of};
 
 use hv_abi::Frame;
 use hv_defs::{MAX_SERVED, REPS_END};
@@ -21,14 +21,24 @@ pub enum Answer {
     Fault(Rule),
 }
 
+/// What an event asked for.
+#[derive(Clone, Copy, PartialEq, Eq, Debug)]
+pub enum Asked {
+    /// A hypercall, with this input value.
+    Call { rcx: u64 },
+    /// A read of this model-specific register.
+    ReadMsr { msr: u32 },
+    /// A write of this value to this model-specific register.
+    WriteMsr { msr: u32, value: u64 },
+}
+
 /// An event that happened, with its answer.
 #[derive(Clone, Copy, Debug)]
 pub struct Entry {
     pub by: Caller,
-    /// The input value of its hypercall.
-    pub rcx: u64,
+    pub asked: Asked,
     pub answer: Answer,
-    /// The result value of its hypercall, which a fault doesn't have.
+    /// The result value of a hypercall. An access has none.
     pub result: Option<u64>,
     /// How many bytes it put out.
     pub output_len: usize,
@@ -78,7 +88,7 @@ impl History {
         ensures next { IfOk result (λ next. IfSome next (λ start. start < END)) }
         ensures limit { self.new.limit ≡ self.old.limit }
         ensures kept { IfOk result (λ _. (entry : Entry) × (entry.by ≡ event.now.by)
-            × (entry.rcx ≡ rcx_of event.now.what)
+            × (entry.asked ≡ asked_of event.now.what)
             × (self.new.entries.items ≡ self.old.entries.items ++ entry ∷ [])) }
         ensures refused { OnErr result (self.new.entries.items ≡ self.old.entries.items) }
         ensures full { self.old.limit ≤ vec_len self.old.entries → result ≡ Err Stop.HistoryFull }
@@ -106,10 +116,9 @@ impl History {
         requires limit { vec_len self.old.entries < self.old.limit }
         ensures limit { self.new.limit ≡ self.old.limit }
         ensures kept { (entry : Entry) × (entry.by ≡ event.now.by)
-            × (entry.rcx ≡ rcx_of event.now.what)
+            × (entry.asked ≡ asked_of event.now.what)
             × (self.new.entries.items ≡ self.old.entries.items ++ entry ∷ []) }
     {
-        let Action::Hypercall(frame) = &event.what;
         let output = output_of(reply);
         let output_len = output.len().min(MOST_OUTPUT);
         self.outputs
@@ -117,12 +126,25 @@ impl History {
             .unwrap();
         let entry = Entry {
             by: event.by,
-            rcx: frame.rcx,
+            asked: asked_of(&event.what),
             answer: answer_of(reply),
-            result: result_bits(frame, reply),
+            result: result_bits(&event.what, reply),
             output_len,
         };
         self.entries.push(entry).unwrap();
+    }
+}
+
+fn asked_of(what: &Action<Global>) -> Asked
+    ensures { result ≡ asked_of what.now }
+{
+    match what {
+        Action::Hypercall(frame) => Asked::Call { rcx: frame.rcx },
+        Action::ReadMsr(msr) => Asked::ReadMsr { msr: *msr },
+        Action::WriteMsr(msr, value) => Asked::WriteMsr {
+            msr: *msr,
+            value: *value,
+        },
     }
 }
 
@@ -153,7 +175,15 @@ fn answer_of(reply: &Reply) -> Answer {
     }
 }
 
-fn result_bits(frame: &Frame<Global>, reply: &Reply) -> Option<u64> {
+// The result value of an event's hypercall.
+fn result_bits(what: &Action<Global>, reply: &Reply) -> Option<u64> {
+    match what {
+        Action::Hypercall(frame) => call_result(frame, reply),
+        Action::ReadMsr(_) | Action::WriteMsr(_, _) => None,
+    }
+}
+
+fn call_result(frame: &Frame<Global>, reply: &Reply) -> Option<u64> {
     match reply {
         Reply::Served(_) => Some(result_of(frame, reply).bits()),
         Reply::More { next, .. } if *next < REPS_END => Some(result_of(frame, reply).bits()),

@@ -15,7 +15,7 @@ mod usage;
 
 pub use audit::print_entries;
 pub use failure::{Exit, Failure, tell};
-pub use history::{Answer, Entry};
+pub use history::{Answer, Asked, Entry};
 pub use reading::unread;
 pub use run::{run_reader, run_text};
 pub use usage::tell_usage;

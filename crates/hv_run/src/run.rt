@@ -9,11 +9,10 @@ use crate::audit;
 use crate::failure::{Exit, Failure, tell};
 use crate::history::History;
 use crate::reading::read_script;
-use hv_abi::Frame;
 use hv_defs::REPS_END;
 use hv_machine::{Action, Caller, Event, Machine};
 use hv_options::Options;
-use hv_script::{Call, Processors, Script, Stop, parse};
+use hv_script::{Line, Processors, Script, Stop, parse};
 use std::alloc::Global;
 use std::io;
 use std::io::{Read, Write};
@@ -84,34 +83,34 @@ fn run_lines<W: Write>(
 {
     let Script {
         boot,
-        calls,
+        lines,
         mut processors,
     } = script;
     let mut machine = machine;
     let mut history = History::new(alloc, boot.limit);
-    for call in calls {
-        run_call(&mut history, &mut machine, &mut processors, call);
+    for line in lines {
+        run_line(&mut history, &mut machine, &mut processors, line);
     }
     let written = audit::print(&history, out);
     ended(processors.first_stop(), written)
 }
 
-// Drives a call, unless its processor stopped. Where the host refuses an event of it, that processor stops, and no other.
-fn run_call(
+// Drives a line, unless its processor stopped. Where the host refuses an event of it, that processor stops, and no other.
+fn run_line(
     history: &mut History,
     machine: &mut Machine<Global>,
     processors: &mut Processors,
-    call: Call,
+    line: Line,
 )
-    ensures stays { HasStopped processors.old call.by → (history.new ≡ history.old) × (machine.new ≡ machine.old) }
-    ensures others { (other : Caller) → other ≢ call.by → HasStopped processors.new other ↔ HasStopped processors.old other }
+    ensures stays { HasStopped processors.old line.by → (history.new ≡ history.old) × (machine.new ≡ machine.old) }
+    ensures others { (other : Caller) → other ≢ line.by → HasStopped processors.new other ↔ HasStopped processors.old other }
     ensures names { names_of processors.new ≡ names_of processors.old }
 {
-    let by = call.by;
+    let by = line.by;
     if processors.is_stopped(by) {
         return;
     }
-    if let Err(stop) = drive(history, machine, by, call.frame) {
+    if let Err(stop) = drive(history, machine, by, line.action) {
         processors.stop(by, stop);
     }
 }
@@ -127,27 +126,28 @@ fn ended(stop: Option<Stop>, written: io::Result<()>) -> Result<(), Failure>
     }
 }
 
-// Drives a call to its end: the elements of a rep call one after another, each an event of its own. It ends with the
-// last element, or with one that is denied.
+// Drives an action to its end: the elements of a rep call one after another, each an event of its own. It ends with the
+// last element, or with one that is denied. Every other action is one event.
 fn drive(
     history: &mut History,
     machine: &mut Machine<Global>,
     by: Caller,
-    frame: Frame<Global>,
+    action: Action<Global>,
 ) -> Result<(), Stop> {
-    let mut event = call_event(by, frame);
+    let mut event = Event { by, what: action };
     // A rep call has fewer elements than that.
     for _ in 0..REPS_END {
         let Some(next) = history.apply(machine, &event)? else {
             return Ok(());
         };
-        let Action::Hypercall(frame) = event.what;
-        event = call_event(by, frame.with_start(next));
+        let frame = match event.what {
+            Action::Hypercall(frame) => frame,
+            Action::ReadMsr(_) | Action::WriteMsr(_, _) => return Ok(()),
+        };
+        event = Event {
+            by,
+            what: Action::Hypercall(frame.with_start(next)),
+        };
     }
     Ok(())
-}
-
-fn call_event(by: Caller, frame: Frame<Global>) -> Event<Global> {
-    let what = Action::Hypercall(frame);
-    Event { by, what }
 }

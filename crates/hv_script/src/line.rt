@@ -1,11 +1,12 @@
 // One line of a script.
+ghost use Rattle.std.specs.Prelude.{◌^◌, ◌<◌};
 ghost use Rattle.std.specs.Option.{SomeIff};
 ghost use Rattle.hv_script.specs.Number.{IsNumber, number_of};
 
 use crate::fault::FaultKind;
 use crate::number;
 use hv_abi::{Bytes, Frame};
-use hv_policy::{Caller, Config};
+use hv_policy::{Action, Caller, Config};
 use hv_privs::Privileges;
 use std::alloc::Global;
 
@@ -21,13 +22,13 @@ pub struct Boot {
     pub limit: u32,
 }
 
-/// A line of a processor: its hypercall.
+/// A line of a processor.
 #[derive(Drop)]
-pub struct Call {
+pub struct Line {
     /// The processor that the line names.
     pub by: Caller,
-    /// RCX, RDX, R8 and the bytes of the input list.
-    pub frame: Frame<Global>,
+    /// What it asks for: a hypercall with its frame as it is written, or an access.
+    pub action: Action<Global>,
 }
 
 /// The words of a line, which stand between spaces.
@@ -87,26 +88,55 @@ impl<'a> Words<'a> {
     }
 
     /// Reads a processor's line.
-    pub fn call(&self, alloc: Global) -> Result<Call, FaultKind> {
-        let [by, kind, rcx, rdx, r8, input] = self.first;
-        let by = processor(by).ok_or(FaultKind::Processor)?;
-        if kind != b"call".as_slice() {
-            return Err(FaultKind::Word);
+    pub fn line(&self, alloc: Global) -> Result<Line, FaultKind> {
+        let by = processor(self.first[0]).ok_or(FaultKind::Processor)?;
+        let action = self.action(alloc)?;
+        Ok(Line { by, action })
+    }
+
+    // What a processor's line asks for.
+    fn action(&self, alloc: Global) -> Result<Action<Global>, FaultKind> {
+        let word = self.first[1];
+        if word == b"call".as_slice() {
+            self.call(alloc)
+        } else if word == b"rdmsr".as_slice() {
+            self.rdmsr()
+        } else if word == b"wrmsr".as_slice() {
+            self.wrmsr()
+        } else {
+            Err(FaultKind::Word)
         }
+    }
+
+    fn call(&self, alloc: Global) -> Result<Action<Global>, FaultKind> {
         if self.count != MOST_WORDS {
             return Err(FaultKind::Count);
         }
+        let [_, _, rcx, rdx, r8, input] = self.first;
         let (rcx, rdx, r8) = registers(rcx, rdx, r8).ok_or(FaultKind::Number)?;
         let input = Bytes::from_vec(number::bytes(alloc, input)?);
-        Ok(Call {
-            by,
-            frame: Frame {
-                rcx,
-                rdx,
-                r8,
-                input,
-            },
-        })
+        Ok(Action::Hypercall(Frame {
+            rcx,
+            rdx,
+            r8,
+            input,
+        }))
+    }
+
+    fn rdmsr(&self) -> Result<Action<Global>, FaultKind> {
+        if self.count != 3 {
+            return Err(FaultKind::Count);
+        }
+        let msr = number::number_32(self.first[2]).ok_or(FaultKind::Number)?;
+        Ok(Action::ReadMsr(msr))
+    }
+
+    fn wrmsr(&self) -> Result<Action<Global>, FaultKind> {
+        if self.count != 4 {
+            return Err(FaultKind::Count);
+        }
+        let (msr, value) = register(self.first[2], self.first[3]).ok_or(FaultKind::Number)?;
+        Ok(Action::WriteMsr(msr, value))
     }
 }
 
@@ -120,6 +150,13 @@ fn registers(rcx: &[u8], rdx: &[u8], r8: &[u8]) -> Option<(u64, u64, u64)>
         number::number(rdx)?,
         number::number(r8)?,
     ))
+}
+
+// The number of an MSR, of 32 bits, and its value.
+fn register(msr: &[u8], value: &[u8]) -> Option<(u32, u64)>
+    ensures { SomeIff result (IsNumber msr.now × (number_of msr.now < 2 ^ 32) × IsNumber value.now) (number_of msr.now, number_of value.now) }
+{
+    Some((number::number_32(msr)?, number::number(value)?))
 }
 
 // The processor `ID.VP`, of a 64-bit and a 32-bit number, both decimal.

@@ -3,7 +3,7 @@ ghost use Rattle.std.specs.Prelude.{◌≡◌, ◌≢◌, ◌<◌, ◌≤◌, le
 ghost use Rattle.hv_script.specs.declared.script.TheConstants.{MOST_BYTES as MOST};
 
 use crate::fault::{FaultKind, ScriptError};
-use crate::line::{Boot, Call, Words};
+use crate::line::{Boot, Line, Words};
 use crate::processors::Processors;
 use std::alloc::Global;
 
@@ -16,7 +16,7 @@ pub struct Script {
     /// Its first line.
     pub boot: Boot,
     /// The lines of its processors, in the text's order.
-    pub calls: Vec<Call>,
+    pub lines: Vec<Line>,
     /// The processors of these lines, none of which stopped.
     pub processors: Processors,
 }
@@ -34,7 +34,7 @@ pub fn parse(alloc: Global, text: &[u8]) -> Result<Script, ScriptError>
     }
     let mut reader = Reader {
         boot: None,
-        calls: Vec::new(alloc),
+        lines: Vec::new(alloc),
         processors: Processors::new(alloc),
     };
     let mut number = 0usize;
@@ -46,13 +46,13 @@ pub fn parse(alloc: Global, text: &[u8]) -> Result<Script, ScriptError>
     }
     let Reader {
         boot,
-        calls,
+        lines,
         processors,
     } = reader;
     let boot = boot.ok_or(ScriptError::of_line(0, FaultKind::NoBoot))?;
     Ok(Script {
         boot,
-        calls,
+        lines,
         processors,
     })
 }
@@ -61,7 +61,7 @@ pub fn parse(alloc: Global, text: &[u8]) -> Result<Script, ScriptError>
 #[derive(Drop)]
 struct Reader {
     boot: Option<Boot>,
-    calls: Vec<Call>,
+    lines: Vec<Line>,
     processors: Processors,
 }
 
@@ -81,12 +81,12 @@ impl Reader {
                 self.boot = Some(words.boot()?);
                 Ok(())
             }
-            (true, false) => self.read_call(words.call(alloc)?),
+            (true, false) => self.read_line(words.line(alloc)?),
         }
     }
 
-    fn read_call(&mut self, call: Call) -> Result<(), FaultKind> {
-        self.processors.add(call.by)?;
-        self.calls.push(call).map_err(|_| FaultKind::Memory)
+    fn read_line(&mut self, line: Line) -> Result<(), FaultKind> {
+        self.processors.add(line.by)?;
+        self.lines.push(line).map_err(|_| FaultKind::Memory)
     }
 }

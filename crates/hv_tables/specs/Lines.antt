@@ -15,8 +15,10 @@ use Rattle.hv_defs.specs.declared.life.Life.TheVariants.{Created, Active, Finali
 use Rattle.hv_defs.specs.declared.registers.Takes.{Takes}
 use Rattle.hv_defs.specs.declared.registers.TheConstants.{REGISTERS}
 use Rattle.hv_privs.specs.Privileges.{bits_of}
+use Rattle.hv_policy.specs.Asked.{action_rules}
 use Rattle.hv_policy.specs.Needs.{needs_of, is_among, further_rules, charge_of, takes_memory}
 use Rattle.hv_policy.specs.Rule.{rule_number, rule_name, rule_status}
+use Rattle.hv_policy.specs.declared.event.Action.{Action}
 use Rattle.hv_policy.specs.declared.need.Kin.{Kin}
 use Rattle.hv_policy.specs.declared.need.States.{States}
 use Rattle.hv_policy.specs.declared.rule.Rule.{Rule}
@@ -40,6 +42,10 @@ need_line call = (bits_of (needs_of call).privilege, (needs_of call).kin, lives 
 -- the numbers of the further rules, the charge in pages, and whether it may want memory of the host
 abbrev pub rules_line : CallKind → List ℕ × ℕ × Bool
 rules_line kind = (map rule_number (further_rules kind), charge_of kind, takes_memory kind)
+
+-- the numbers of the rules that an action is asked beside its caller's
+abbrev pub asked_line : Action (Unit {0}) → List ℕ
+asked_line action = map rule_number (action_rules action)
 
 -- a rule's number, its name, and the number of the status with which it refuses a call
 abbrev pub rule_line : Rule → Option CallKind → ℕ × List ℕ × Option ℕ

@@ -7,6 +7,7 @@
 //! which definitions make a line.
 #![tactic(auto)]
 
+mod accesses;
 mod blocks;
 mod calls;
 mod frames;
@@ -17,6 +18,9 @@ mod rules;
 mod sizes;
 mod statuses;
 
+pub use accesses::{
+    each_access_has_its_rules, each_msr_has_its_register, each_processor_has_its_index,
+};
 pub use blocks::{
     each_block_has_its_fields, each_call_has_its_checks, each_check_has_its_edges,
     each_field_has_its_bytes,

@@ -1,8 +1,8 @@
 // What lines say, with values that differ in each bit of each field.
 
-use hv_policy::{Caller, Config};
+use hv_policy::{Action, Caller, Config};
 use hv_privs::Privileges;
-use hv_script::{Boot, Call, parse};
+use hv_script::{Boot, Line, parse};
 use std::process::Abort;
 use std::test::Fail;
 
@@ -50,7 +50,7 @@ fn boot_lines(rt: HostRuntime) -> Result<(), Fail> {
         } = script.boot;
         assert_eq!(rt; given, config, "{line}");
         assert_eq!(rt; kept, limit, "{line}");
-        assert!(rt; script.calls.is_empty(), "{line}");
+        assert!(rt; script.lines.is_empty(), "{line}");
     }
     Ok(())
 }
@@ -116,20 +116,83 @@ fn call_lines(rt: HostRuntime) -> Result<(), Fail> {
         text.push_str("\n# 9.9 call 9 9 9 -\n\n")?;
     }
     let script = parse(alloc, text.as_bytes())?;
-    assert_eq!(rt; script.calls.len(), ROWS.len());
-    for (call, row) in script.calls.iter().zip(ROWS) {
-        assert_call(&rt, call, &row);
+    assert_eq!(rt; script.lines.len(), ROWS.len());
+    for (line, row) in script.lines.iter().zip(ROWS) {
+        assert_call(&rt, line, &row);
     }
     Ok(())
 }
 
-fn assert_call(rt: &impl Abort, call: &Call, row: &Row<'_>) {
+// A line of an access, and what it says: the processor, the MSR, and the value that is written.
+const ACCESSES: [(&str, u64, u32, u32, Option<u64>); 5] = [
+    (
+        "18364758544493064720.4023233417 rdmsr 0xfedcba98",
+        0xfedc_ba98_7654_3210,
+        0xefcd_ab89,
+        0xfedc_ba98,
+        None,
+    ),
+    (
+        " 1.63  rdmsr  19088743 ",
+        1,
+        63,
+        0x0123_4567,
+        None,
+    ),
+    (
+        "1.0 rdmsr 4294967295",
+        1,
+        0,
+        0xffff_ffff,
+        None,
+    ),
+    (
+        "81985529216486895.271733878 wrmsr 0x89abcdef 0xf0E1d2C3b4A59687",
+        0x0123_4567_89ab_cdef,
+        0x1032_5476,
+        0x89ab_cdef,
+        Some(0xf0e1_d2c3_b4a5_9687),
+    ),
+    (
+        "1.0 wrmsr 0x76543210 1084818905618843912",
+        1,
+        0,
+        0x7654_3210,
+        Some(0x0f0e_0d0c_0b0a_0908),
+    ),
+];
+
+#[test]
+fn access_lines(rt: HostRuntime) -> Result<(), Fail> {
+    let alloc = rt.alloc();
+    for (text, part, vp, msr, value) in ACCESSES {
+        let mut script = String::from_str(alloc, "boot 1 0 1 0 0\n")?;
+        script.push_str(text)?;
+        let script = parse(alloc, script.as_bytes())?;
+        let line = &script.lines[0];
+        assert_eq!(rt; script.lines.len(), 1, "{text}");
+        assert_eq!(rt; line.by, Caller { part, vp }, "{text}");
+        let said = match &line.action {
+            Action::Hypercall(_) => panic!(rt; "a call: {text}"),
+            Action::ReadMsr(msr) => (*msr, None),
+            Action::WriteMsr(msr, value) => (*msr, Some(*value)),
+        };
+        assert_eq!(rt; said, (msr, value), "{text}");
+    }
+    Ok(())
+}
+
+fn assert_call(rt: &impl Abort, line: &Line, row: &Row<'_>) {
     let by = Caller {
         part: row.part,
         vp: row.vp,
     };
-    let frame = &call.frame;
-    assert_eq!(rt; call.by, by);
-    assert_eq!(rt; [frame.rcx, frame.rdx, frame.r8], row.registers);
-    assert_eq!(rt; frame.input.as_slice(), row.input);
+    assert_eq!(rt; line.by, by);
+    match &line.action {
+        Action::Hypercall(frame) => {
+            assert_eq!(rt; [frame.rcx, frame.rdx, frame.r8], row.registers);
+            assert_eq!(rt; frame.input.as_slice(), row.input);
+        }
+        Action::ReadMsr(_) | Action::WriteMsr(_, _) => panic!(rt; "an access"),
+    }
 }

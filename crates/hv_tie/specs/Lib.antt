@@ -1,3 +1,4 @@
+pub mod Access
 pub mod Room
 pub mod Served
 pub mod Tie

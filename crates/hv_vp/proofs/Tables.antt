@@ -111,6 +111,16 @@ module _ (name value : ℕ) where
   unfolding row_of takes_at
   kept_known place scan = ap (λ row. kept row value) ((at_place name place scan).found (record { name = 0; msr = None; privilege = 0; takes = Nothing; start = 0 }))
 
+-- the row of a register, by its place
+module _ (name : ℕ) where
+  pub row_unknown : place_of name ≡ None → row_of name ≡ None
+  unfolding row_of
+  row_unknown scan = (at_none name scan).found
+
+  pub row_known : (place : ℕ) (d : RegisterRow) → place_of name ≡ Some place → row_of name ≡ Some (get_or REGISTERS place d)
+  unfolding row_of
+  row_known place d scan = (at_place name place scan).found d
+
 -- rows with their values are entries
 zip-rows : (rows : List RegisterRow) → zip (names rows) (list_map (λ row. row.start) rows) ≡ list_map (λ row. (row.name, row.start)) rows
 zip-rows [] = refl

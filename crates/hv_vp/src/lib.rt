@@ -11,5 +11,6 @@ mod vp;
 mod vps;
 
 pub use hv_defs::RegFault;
+pub use table::{kept, name_of_msr, privilege_of};
 pub use vp::Vp;
 pub use vps::Vps;

@@ -1,7 +1,7 @@
 // The table of registers, by places.
-ghost use Rattle.std.specs.Prelude.{◌≡◌, ◌<◌, IfSome, map};
+ghost use Rattle.std.specs.Prelude.{◌≡◌, ◌<◌, IfSome, map, option_map};
 ghost use Rattle.hv_defs.specs.declared.registers.TheConstants as rows;
-ghost use Rattle.hv_defs.specs.Registers.{is_sint_value, name_of_msr, take};
+ghost use Rattle.hv_defs.specs.Registers.{is_sint_value, kept, name_of_msr, row_of, take};
 ghost use Rattle.hv_vp.specs.Registers.{msr_place, place_of, takes_at};
 
 use hv_defs::{REGISTERS, RegFault, Takes, VP_INDEX};
@@ -37,6 +37,30 @@ pub fn takes_at(place: usize) -> Takes
     row.takes
 }
 
+/// The bits of a partition's privilege mask that an access to the register with this name needs, if there is one. The name is an
+/// HV_REGISTER_NAME.
+pub fn privilege_of(name: u32) -> Option<u64>
+    ensures { result ≡ option_map (λ row. row.privilege) (row_of name) }
+{
+    match place_of(name) {
+        Some(place) => {
+            let row = REGISTERS[place];
+            Some(row.privilege)
+        }
+        None => None,
+    }
+}
+
+/// What the register with this name keeps of a value that is written, or why it doesn't take it.
+pub fn kept(name: u32, value: u64) -> Result<u64, RegFault>
+    ensures { result ≡ kept (row_of name) value }
+{
+    match place_of(name) {
+        Some(place) => take(takes_at(place), value),
+        None => Err(RegFault::Unknown),
+    }
+}
+
 // What is kept of a value that is written.
 pub fn take(takes: Takes, value: u64) -> Result<u64, RegFault>
     ensures { result ≡ take takes value }
@@ -57,7 +81,7 @@ fn is_sint_value(value: u64) -> bool
     value & 0xff >= 16 || value >> 16 & 1 == 1
 }
 
-// The name of a model-specific register in a call.
+/// The name of a model-specific register in a call, HV_REGISTER_NAME, if there is one with this number.
 pub fn name_of_msr(msr: u32) -> Option<u32>
     ensures { result ≡ name_of_msr msr }
 {

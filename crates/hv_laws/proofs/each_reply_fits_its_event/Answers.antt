@@ -2,7 +2,7 @@ use Rattle.hv_laws.proofs.Replies.{has_result, names_asked}
 use Rattle.hv_laws.proofs.each_reply_fits_its_event.Goals as goal
 
 pub returns-clause-asked : goal.returns-clause-asked
-returns-clause-asked g c f by frame = names_asked f by frame
+returns-clause-asked g c f e = names_asked f e
 
 pub returns-clause-result : goal.returns-clause-result
 returns-clause-result g c f by frame = has_result f by frame

@@ -2,6 +2,7 @@ use Rattle.std.proofs.Common.{Some, sym, ap, ◌∙◌}
 use Rattle.hv_policy.proofs.Rows.{all_met}
 use Rattle.hv_policy.proofs.Unmet.{caller_active, unmet_by_caller, unmet_by_frame, unmet_by_access, unmet_past_access}
 use Rattle.hv_policy.specs.Asked.{access_rules}
+use Rattle.hv_policy.specs.CallEvent.{call_event}
 use Rattle.hv_policy.specs.Met.{call_met}
 use Rattle.hv_policy.specs.declared.event.Action.TheVariants.{Hypercall}
 use Rattle.hv_machine.proofs.Serving.{tied_tree}
@@ -9,7 +10,7 @@ use Rattle.hv_machine.proofs.machine.Machine.admit.Goals as goal
 
 pub returns-in-Some-clause-first : goal.returns-in-Some-clause-first
 returns-in-Some-clause-first g c f flat =
-    unmet_by_caller f c.args.by c.args.frame.now c.in-Some.rule (sym (c.in-Some.ensures f (Hypercall c.args.frame.now) (tied_tree c.self.inside.tree c.self.inside.pages c.self.inside.next c.self.inside.served f (rw c.self.view_is flat))))
+    unmet_by_caller f (call_event c.args.by c.args.frame.now) c.in-Some.rule (sym (c.in-Some.ensures f (Hypercall c.args.frame.now) (tied_tree c.self.inside.tree c.self.inside.pages c.self.inside.next c.self.inside.served f (rw c.self.view_is flat))))
 
 pub returns-in-Err-clause-first : goal.returns-in-Err-clause-first
 returns-in-Err-clause-first g c f flat =

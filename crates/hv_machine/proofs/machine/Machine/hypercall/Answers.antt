@@ -16,7 +16,7 @@ pub returns-in-Err-clause-asked : goal.returns-in-Err-clause-asked
 returns-in-Err-clause-asked g c =
     let f = c.self.invariant.flat in
     let stands : IsFlat c.args.self.now f = rw (← c.self.view_is) c.self.invariant.stands in
-    subst (NamesAsked (call_event c.args.by c.args.frame.now)) (ap (λ s. s.1) (refused_step f c.args.by c.args.frame.now c.in-Err.rule (c.in-Err.ensures.first f stands)) ∙ sym c.refused_reply.ensures) (names_asked f c.args.by c.args.frame.now)
+    subst (NamesAsked (call_event c.args.by c.args.frame.now)) (ap (λ s. s.1) (refused_step f c.args.by c.args.frame.now c.in-Err.rule (c.in-Err.ensures.first f stands)) ∙ sym c.refused_reply.ensures) (names_asked f (call_event c.args.by c.args.frame.now))
 
 pub returns-in-Err-clause-result : goal.returns-in-Err-clause-result
 returns-in-Err-clause-result g c =
@@ -45,7 +45,7 @@ returns-in-Err-Unmet-clause-asked g c =
     let f = c.self.invariant.flat in
     let stands : IsFlat c.args.self.now f = rw (← c.self.view_is) c.self.invariant.stands in
     let out = subst (λ why. IsResult f c.args.by.part c.in-Ok.admitted.1 c.args.self.now (Err why) c.serve.new.self) c.in-Err-Unmet.field-0-is (c.in-Err-Unmet.ensures.outcome f stands) in
-    subst (NamesAsked (call_event c.args.by c.args.frame.now)) (ap (λ s. s.1) (refused_step f c.args.by c.args.frame.now c.in-Err-Unmet.rule (c.in-Ok.ensures.further f stands ∙ out.0)) ∙ sym answered) (names_asked f c.args.by c.args.frame.now)
+    subst (NamesAsked (call_event c.args.by c.args.frame.now)) (ap (λ s. s.1) (refused_step f c.args.by c.args.frame.now c.in-Err-Unmet.rule (c.in-Ok.ensures.further f stands ∙ out.0)) ∙ sym answered) (names_asked f (call_event c.args.by c.args.frame.now))
 
 pub returns-in-Err-Unmet-clause-result : goal.returns-in-Err-Unmet-clause-result
 returns-in-Err-Unmet-clause-result g c =

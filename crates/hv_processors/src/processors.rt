@@ -1,0 +1,194 @@
+// The calls of this chapter.
+ghost use Rattle.std.specs.Prelude.{◌≡◌, ◌++◌, ◌∷◌, []};
+ghost use Rattle.std.specs.Int.{w64, to_le_bytes};
+ghost use Rattle.hv_calls.specs.declared.call.Call.TheVariants as call;
+ghost use Rattle.hv_policy.specs.Flat.{Flat};
+ghost use Rattle.hv_policy.specs.Met.{unmet_of};
+ghost use Rattle.hv_policy.specs.declared.rule.Rule.TheVariants.{TargetState, Right, VpExists};
+ghost use Rattle.hv_tie.specs.Served.{AreLawful, IsAdmitted, IsOutcome, unmet_further};
+ghost use Rattle.hv_tie.specs.Tie.{IsTied};
+
+use crate::rows::{add, remove, write};
+use crate::rules::{has_vp, is_known, is_vp_free, may_access, register, takes};
+use hv_defs::VP_CHARGE;
+use hv_partition::Partition;
+use hv_policy::{Output, Rule, States};
+use hv_tie::{Refused, has_available, is_state_allowed, meant};
+use hv_tree::IdTree;
+use std::alloc::{AllocError, Allocator};
+
+/// HvCreateVp: the target gets a processor with this index, whose registers are at their start. It uses 4 pages of the target's
+/// pool.
+pub fn create_vp<A: Allocator + Clone>(
+    tree: &mut IdTree<Partition<A>, A>,
+    alloc: &A,
+    caller: u64,
+    partition: u64,
+    vp: u32,
+) -> Result<Output, Refused>
+    requires { IsAdmitted tree.old caller (call.CreateVp partition vp) }
+    ensures { (f : Flat) → IsTied tree.old f → IsOutcome f caller (call.CreateVp partition vp) tree.old result tree.new }
+{
+    if let Some(rule) = unmet_create(tree, caller, partition, vp) {
+        return Err(Refused::Unmet(rule));
+    }
+    match add(tree, alloc, meant(caller, partition), vp) {
+        Ok(()) => Ok(Output::new()),
+        Err(AllocError) => Err(Refused::Memory),
+    }
+}
+
+// P12, P19 and P24.
+fn unmet_create<A: Allocator>(
+    tree: &IdTree<Partition<A>, A>,
+    caller: u64,
+    partition: u64,
+    vp: u32,
+) -> Option<Rule>
+    requires { AreLawful tree.now }
+    ensures { (f : Flat) → IsTied tree.now f → result ≡ unmet_further f caller (call.CreateVp partition vp) }
+{
+    let target = meant(caller, partition);
+    if !is_state_allowed(tree, target, States::Active) {
+        return Some(Rule::TargetState);
+    }
+    if !is_vp_free(tree, target, vp) {
+        return Some(Rule::VpExists);
+    }
+    if !has_available(tree, target, VP_CHARGE) {
+        return Some(Rule::Pages);
+    }
+    None
+}
+
+/// HvDeleteVp: the target's processor with this index goes, with its registers.
+pub fn delete_vp<A: Allocator>(
+    tree: &mut IdTree<Partition<A>, A>,
+    caller: u64,
+    partition: u64,
+    vp: u32,
+) -> Result<Output, Refused>
+    requires { IsAdmitted tree.old caller (call.DeleteVp partition vp) }
+    ensures { (f : Flat) → IsTied tree.old f → IsOutcome f caller (call.DeleteVp partition vp) tree.old result tree.new }
+{
+    let target = meant(caller, partition);
+    if !is_state_allowed(tree, target, States::Active) {
+        return Err(Refused::Unmet(Rule::TargetState));
+    }
+    if !has_vp(tree, target, vp) {
+        return Err(Refused::Unmet(Rule::VpExists));
+    }
+    remove(tree, target, vp);
+    Ok(Output::new())
+}
+
+/// HvGetVpRegisters, one element: the value of a register of the target's processor, in the lower half of 16 bytes.
+pub fn get_vp_registers<A: Allocator>(
+    tree: &IdTree<Partition<A>, A>,
+    caller: u64,
+    partition: u64,
+    vp: u32,
+    name: u32,
+) -> Result<Output, Refused>
+    ensures { (f : Flat) → IsTied tree.now f → IsOutcome f caller (call.GetVpRegisters partition vp name) tree.now result tree.now }
+{
+    if let Some(rule) = unmet_get(tree, caller, partition, vp, name) {
+        return Err(Refused::Unmet(rule));
+    }
+    Ok(register_output(register(
+        tree,
+        meant(caller, partition),
+        vp,
+        name,
+    )))
+}
+
+// P12, P18, P19 and P21.
+fn unmet_get<A: Allocator>(
+    tree: &IdTree<Partition<A>, A>,
+    caller: u64,
+    partition: u64,
+    vp: u32,
+    name: u32,
+) -> Option<Rule>
+    ensures { (f : Flat) → IsTied tree.now f → result ≡ unmet_further f caller (call.GetVpRegisters partition vp name) }
+{
+    if let Some(rule) = unmet_register(tree, caller, partition, vp, name) {
+        return Some(rule);
+    }
+    if !is_known(name) {
+        return Some(Rule::Subject);
+    }
+    None
+}
+
+// P12, P18 and P19, which reading and writing a register ask alike.
+fn unmet_register<A: Allocator>(
+    tree: &IdTree<Partition<A>, A>,
+    caller: u64,
+    partition: u64,
+    vp: u32,
+    name: u32,
+) -> Option<Rule>
+    ensures { (f : Flat) → IsTied tree.now f → result ≡ unmet_of f caller (call.GetVpRegisters partition vp name) (TargetState ∷ Right ∷ VpExists ∷ []) }
+{
+    let target = meant(caller, partition);
+    if !is_state_allowed(tree, target, States::Active) {
+        return Some(Rule::TargetState);
+    }
+    if !may_access(tree, caller, name) {
+        return Some(Rule::Right);
+    }
+    if !has_vp(tree, target, vp) {
+        return Some(Rule::VpExists);
+    }
+    None
+}
+
+// The output of a register's value: 16 bytes, of which the upper 8 are 0.
+fn register_output(value: u64) -> Output
+    ensures { result ≡ to_le_bytes w64 value ++ to_le_bytes w64 0 }
+{
+    let mut output = Output::new();
+    output.push_number(value);
+    output.push_number(0);
+    output
+}
+
+/// HvSetVpRegisters, one element: a register of the target's processor keeps what it keeps of the value.
+pub fn set_vp_registers<A: Allocator>(
+    tree: &mut IdTree<Partition<A>, A>,
+    caller: u64,
+    partition: u64,
+    vp: u32,
+    name: u32,
+    value: u64,
+) -> Result<Output, Refused>
+    ensures { (f : Flat) → IsTied tree.old f → IsOutcome f caller (call.SetVpRegisters partition vp name value) tree.old result tree.new }
+{
+    if let Some(rule) = unmet_set(tree, caller, partition, vp, name, value) {
+        return Err(Refused::Unmet(rule));
+    }
+    write(tree, meant(caller, partition), vp, name, value);
+    Ok(Output::new())
+}
+
+// P12, P18, P19 and P21.
+fn unmet_set<A: Allocator>(
+    tree: &IdTree<Partition<A>, A>,
+    caller: u64,
+    partition: u64,
+    vp: u32,
+    name: u32,
+    value: u64,
+) -> Option<Rule>
+    ensures { (f : Flat) → IsTied tree.now f → result ≡ unmet_further f caller (call.SetVpRegisters partition vp name value) }
+{
+    if let Some(rule) = unmet_register(tree, caller, partition, vp, name) {
+        return Some(rule);
+    }
+    if !takes(name, value) {
+        return Some(Rule::Subject);
+    }
+    None
+}

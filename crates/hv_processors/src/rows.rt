@@ -1,0 +1,83 @@
+// What the calls and accesses of this chapter change in the tree.
+ghost use Rattle.std.specs.Prelude.{◌≡◌, true, false, OnOk, OnErr};
+ghost use Rattle.std.specs.FinMap.{contains_key, insert};
+ghost use Rattle.std.specs.FinMap as map;
+ghost use Rattle.hv_defs.specs.Registers.{name_of_msr};
+ghost use Rattle.hv_tree.specs.Rows.{change as changed};
+ghost use Rattle.hv_vp.specs.Vp.{new_vp};
+ghost use Rattle.hv_processors.specs.Change.{HasVps, MayAdd, with_state_of, written, written_msr};
+
+use hv_partition::Partition;
+use hv_tree::IdTree;
+use hv_vp::Vp;
+use std::alloc::{AllocError, Allocator};
+
+// Adds a processor with an index that is free to a partition that is there.
+#[tactic(auto, using(hv_tree::proofs::Laws::unchanged))]
+pub fn add<A: Allocator + Clone>(
+    tree: &mut IdTree<Partition<A>, A>,
+    alloc: &A,
+    id: u64,
+    index: u32,
+) -> Result<(), AllocError>
+    requires { MayAdd tree.old id index }
+    ensures added { OnOk result (HasVps tree.old tree.new id (λ vps. insert vps index (new_vp index))) }
+    ensures kept { OnErr result (tree.new ≡ tree.old) }
+{
+    let vp = Vp::new(alloc.clone()?, index)?;
+    let Some(partition) = tree.get_mut(id) else {
+        unreachable!()
+    };
+    partition.reserve_vp()?;
+    partition.add_vp(index, vp);
+    Ok(())
+}
+
+// Removes a processor of a partition that is there.
+pub fn remove<A: Allocator>(tree: &mut IdTree<Partition<A>, A>, id: u64, index: u32)
+    requires { contains_key tree.old id ≡ true }
+    ensures { HasVps tree.old tree.new id (λ vps. map.remove vps index) }
+{
+    let Some(partition) = tree.get_mut(id) else {
+        unreachable!()
+    };
+    partition.remove_vp(index);
+}
+
+// Writes a value to a register of a processor, where both are there.
+#[tactic(auto, using(hv_tree::proofs::Laws::unchanged))]
+pub fn write<A: Allocator>(
+    tree: &mut IdTree<Partition<A>, A>,
+    id: u64,
+    index: u32,
+    name: u32,
+    value: u64,
+)
+    ensures { tree.new ≡ changed tree.old id (with_state_of index (written name value)) }
+{
+    if let Some(partition) = tree.get_mut(id) {
+        if let Some(vp) = partition.vp_mut(index) {
+            // What the register doesn't take changes nothing.
+            let _ = vp.write_reg(name, value);
+        }
+    }
+}
+
+// The same for a model-specific register.
+#[tactic(auto, using(hv_tree::proofs::Laws::unchanged))]
+pub fn write_register<A: Allocator>(
+    tree: &mut IdTree<Partition<A>, A>,
+    id: u64,
+    index: u32,
+    msr: u32,
+    value: u64,
+)
+    ensures { tree.new ≡ changed tree.old id (with_state_of index (written_msr (name_of_msr msr) value)) }
+{
+    if let Some(partition) = tree.get_mut(id) {
+        if let Some(vp) = partition.vp_mut(index) {
+            // What the register doesn't take changes nothing.
+            let _ = vp.write_msr(msr, value);
+        }
+    }
+}

@@ -1,0 +1,43 @@
+// The accesses, and the processors that calls may name.
+ghost use Rattle.std.specs.Prelude.{◌≡◌, ℕ, true, false, [], ◌∷◌, None, Some};
+ghost use Rattle.std.specs.FinMap.{contains_key};
+ghost use Rattle.hv_calls.specs.declared.call.Call.TheVariants.{CreateVp};
+ghost use Rattle.hv_defs.specs.Registers.{name_of_msr};
+ghost use Rattle.hv_policy.specs.Flat.{Flat};
+ghost use Rattle.hv_policy.specs.Met.{is_vp_good};
+ghost use Rattle.hv_policy.specs.declared.event.Action.TheVariants.{ReadMsr, WriteMsr};
+ghost use Rattle.hv_tables.specs.Lines.{asked_line};
+
+/// The rules of each access beside P1 to P3, by their numbers.
+pub fn each_access_has_its_rules()
+    ensures read_msr { (msr : ℕ) → asked_line (ReadMsr msr) ≡ 25 ∷ 26 ∷ [] }
+    ensures write_msr { (msr value : ℕ) → asked_line (WriteMsr msr value) ≡ 25 ∷ 26 ∷ 27 ∷ [] }
+{}
+
+/// The register of each MSR, by its name in a call, and the numbers beside them, which are no MSR.
+#[tactic(auto, unfolding(hv_defs::specs::Registers::name_of_msr))]
+pub fn each_msr_has_its_register()
+    ensures hypercall_page { name_of_msr 0x40000001 ≡ None }
+    ensures vp_index { name_of_msr 0x40000002 ≡ Some 0x00090003 }
+    ensures after_vp_index { name_of_msr 0x40000003 ≡ None }
+    ensures before_scontrol { name_of_msr 0x4000007F ≡ None }
+    ensures scontrol { name_of_msr 0x40000080 ≡ Some 0x000A0010 }
+    ensures sversion { name_of_msr 0x40000081 ≡ Some 0x000A0011 }
+    ensures siefp { name_of_msr 0x40000082 ≡ Some 0x000A0012 }
+    ensures simp { name_of_msr 0x40000083 ≡ Some 0x000A0013 }
+    ensures eom { name_of_msr 0x40000084 ≡ Some 0x000A0014 }
+    ensures after_eom { name_of_msr 0x40000085 ≡ None }
+    ensures before_sint0 { name_of_msr 0x4000008F ≡ None }
+    ensures sint0 { name_of_msr 0x40000090 ≡ Some 0x000A0000 }
+    ensures sint15 { name_of_msr 0x4000009F ≡ Some 0x000A000F }
+    ensures after_sint15 { name_of_msr 0x400000A0 ≡ None }
+    ensures by_its_name { name_of_msr 0x000A0010 ≡ None }
+{}
+
+/// The highest index of a processor.
+pub fn each_processor_has_its_index()
+    ensures last { (f : Flat) (partition target : ℕ) → contains_key f.vp (target, 63) ≡ false → is_vp_good (CreateVp partition 63) f target ≡ true }
+    ensures taken { (f : Flat) (partition target : ℕ) → contains_key f.vp (target, 63) ≡ true → is_vp_good (CreateVp partition 63) f target ≡ false }
+    ensures beyond { (f : Flat) (partition target : ℕ) → is_vp_good (CreateVp partition 64) f target ≡ false }
+    ensures any { (f : Flat) (partition target : ℕ) → is_vp_good (CreateVp partition 0xFFFFFFFF) f target ≡ false }
+{}
