@@ -1,5 +1,5 @@
 -- From what a chapter made of an access to the machine.
-use Rattle.std.proofs.Common.{◌≡◌, ℕ, ◌+◌, false, Option, None, Some, refl, sym, ap, subst, ◌∙◌}
+use Rattle.std.proofs.Common.{◌≡◌, ℕ, ◌+◌, false, Option, None, Some, refl, ap, ◌∙◌}
 use Rattle.hv_laws.proofs.Laws.{lawful_effect}
 use Rattle.hv_partition.specs.Partition.{PartitionState}
 use Rattle.hv_policy.proofs.Unmet.{past_caller, unmet_by_caller}

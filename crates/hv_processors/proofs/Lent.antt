@@ -1,10 +1,10 @@
 -- A partition that was lent from the tree, whose processors changed, and put back.
 use Rattle.std.proofs.Common.{◌≡◌, ℕ, Some, sym, ap, ◌∙◌}
-use Rattle.std.specs.FinMap.{FinMap, get, insert}
+use Rattle.std.specs.FinMap.{FinMap, insert}
 use Rattle.std.specs.Ordering.{nat_cmp}
 use Rattle.hv_partition.specs.Partition.{PartitionState}
 use Rattle.hv_tie.proofs.Found.{content_row}
-use Rattle.hv_tree.specs.Rows.{Row, Rows, change, changed_at, content}
+use Rattle.hv_tree.specs.Rows.{Rows, change, changed_at, content}
 use Rattle.hv_vp.specs.Vp.{VpState}
 use Rattle.hv_processors.specs.Change.{HasVps}
 

@@ -1,5 +1,5 @@
 -- What the calls and accesses of this chapter make of the rows is what the model makes of its state.
-use Rattle.std.proofs.Common.{◌≡◌, ℕ, ◌&&◌, not, Bool, true, false, nat_lt, is_some, Option, None, Some, refl, sym, ap, subst, ◌∙◌}
+use Rattle.std.proofs.Common.{◌≡◌, ℕ, not, Bool, true, false, nat_lt, is_some, Option, None, Some, refl, sym, ap, subst, ◌∙◌}
 use Rattle.std.proofs.lemmas.Bool.{and_parts}
 use Rattle.std.specs.FinMap.{contains_key, get, insert, remove}
 use Rattle.std.specs.Option.{option_map}
@@ -10,11 +10,11 @@ use Rattle.hv_policy.specs.Call.{target_of}
 use Rattle.hv_policy.specs.Effect.{call_effect, mail_but_at, with_vp, written as row_written, written_msr as row_written_msr}
 use Rattle.hv_policy.specs.Flat.{Flat}
 use Rattle.hv_policy.specs.declared.event.Caller.{Caller}
-use Rattle.hv_tie.proofs.Allowed.{admitted_allowed, state_row, target_row}
+use Rattle.hv_tie.proofs.Allowed.{admitted_allowed, target_row}
 use Rattle.hv_tie.proofs.Changed.{same_shows}
 use Rattle.hv_tie.specs.Served.{IsAdmitted, unmet_further}
 use Rattle.hv_tie.specs.Tie.{IsTied, vp_row, vp_row_of}
-use Rattle.hv_tree.specs.Rows.{Row, Rows, change}
+use Rattle.hv_tree.specs.Rows.{Rows, change}
 use Rattle.hv_vp.specs.Vp.{VpState, new_vp}
 use Rattle.hv_processors.proofs.Written.{added_tied, changed_tied, removed_tied}
 use Rattle.hv_processors.specs.Change.{HasVps, MayAdd, with_state_of, written, written_msr}

@@ -95,12 +95,7 @@ pub fn get_vp_registers<A: Allocator>(
     if let Some(rule) = unmet_get(tree, caller, partition, vp, name) {
         return Err(Refused::Unmet(rule));
     }
-    Ok(register_output(register(
-        tree,
-        meant(caller, partition),
-        vp,
-        name,
-    )))
+    Ok(register_output(register(tree, meant(caller, partition), vp, name)))
 }
 
 // P12, P18, P19 and P21.

@@ -80,12 +80,7 @@ pub fn takes_msr(msr: u32, value: u64) -> bool
 }
 
 // The value of a processor's register, or 0 where there is none.
-pub fn register<A: Allocator>(
-    tree: &IdTree<Partition<A>, A>,
-    id: u64,
-    index: u32,
-    name: u32,
-) -> u64
+pub fn register<A: Allocator>(tree: &IdTree<Partition<A>, A>, id: u64, index: u32, name: u32) -> u64
     ensures { (f : Flat) → IsTied tree.now f → result ≡ register_of (get f.vp (id, index)) name }
 {
     let Some(partition) = tree.get(id) else {

@@ -13,7 +13,7 @@ use std::test::Fail;
 
 // Calls once the root has the child 2: the input value, RDX and the input. All are served, but the last two, whose
 // codes aren't.
-const CALLS: [(u64, u64, &[u8]); 13] = [
+const CALLS: [(u64, u64, &[u8]); 17] = [
     (0x40, 0, &[0; 8]),
     (0x10041, 2, &[]),
     (0x10042, 2, &[]),
@@ -37,6 +37,23 @@ const CALLS: [(u64, u64, &[u8]); 13] = [
     ),
     (0x1_0000_0049, 0, &[1, 0, 0, 0, 0, 0, 0, 0]),
     (0x4a, 0, &[2, 0, 0, 0, 0, 0, 0, 0]),
+    (0x4e, 0, &[1, 0, 0, 0, 0, 0, 0, 0, 1, 0, 0, 0, 0, 0, 0, 0]),
+    (0x4f, 0, &[1, 0, 0, 0, 0, 0, 0, 0, 0, 0, 0, 0, 0, 0, 0, 0]),
+    (
+        0x2_0000_0050,
+        0,
+        &[
+            1, 0, 0, 0, 0, 0, 0, 0, 0, 0, 0, 0, 0, 0, 0, 0, 0x10, 0, 0x0a, 0, 0, 0, 2, 0,
+        ],
+    ),
+    (
+        0x1_0000_0051,
+        0,
+        &[
+            1, 0, 0, 0, 0, 0, 0, 0, 0, 0, 0, 0, 0, 0, 0, 0, 2, 0, 0x0a, 0, 0, 0, 0, 0, 0, 0, 0, 0,
+            0, 0, 0, 0, 0x30, 0, 1, 0, 0, 0, 0, 0, 0, 0, 0, 0, 0, 0, 0, 0,
+        ],
+    ),
     (
         0x5c,
         0,
@@ -46,7 +63,7 @@ const CALLS: [(u64, u64, &[u8]); 13] = [
 ];
 
 // By call code, the numbers of the rules that are asked beyond P10. Every other code is refused by P4.
-const FURTHER: [(u64, &[u8]); 11] = [
+const FURTHER: [(u64, &[u8]); 15] = [
     (0x40, &[14, 24]),
     (0x41, &[12]),
     (0x42, &[12, 13]),
@@ -58,6 +75,10 @@ const FURTHER: [(u64, &[u8]); 11] = [
     (0x48, &[12, 21]),
     (0x49, &[24]),
     (0x4a, &[]),
+    (0x4e, &[12, 19, 24]),
+    (0x4f, &[12, 19]),
+    (0x50, &[12, 18, 19, 21]),
+    (0x51, &[12, 18, 19, 21]),
 ];
 
 // Whether a call with this input value is asked the rule of this number.
@@ -96,9 +117,13 @@ fn make(
     let before = machine.served();
     assert!(rt; before < 2);
     let reply = machine.step(&event)?;
-    let Action::Hypercall(frame) = &event.what;
-    let value = result_of(frame, &reply).bits();
-    look_at(rt, rcx, &reply, value);
+    match &event.what {
+        Action::Hypercall(frame) => {
+            let value = result_of(frame, &reply).bits();
+            look_at(rt, rcx, &reply, value);
+        }
+        Action::ReadMsr(_) | Action::WriteMsr(_, _) => panic!(rt; "an access"),
+    }
     assert_eq!(rt; machine.served(), before + served_by(&reply));
     Ok(())
 }

@@ -169,8 +169,8 @@ fn access_lines(rt: HostRuntime) -> Result<(), Fail> {
         let mut script = String::from_str(alloc, "boot 1 0 1 0 0\n")?;
         script.push_str(text)?;
         let script = parse(alloc, script.as_bytes())?;
-        let line = &script.lines[0];
         assert_eq!(rt; script.lines.len(), 1, "{text}");
+        let line = &script.lines[0];
         assert_eq!(rt; line.by, Caller { part, vp }, "{text}");
         let said = match &line.action {
             Action::Hypercall(_) => panic!(rt; "a call: {text}"),
