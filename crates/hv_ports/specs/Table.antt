@@ -1,0 +1,43 @@
+-- A table as contracts see it.
+use Rattle.std.specs.Prelude.{ℕ, ◌+◌, ◌-◌, ◌<◌, ◌≤◌, List, length, min, refl}
+use Rattle.std.specs.Coded.{Coded, code_by, coded×, coded_ℕ}
+use Rattle.std.specs.FinMap as map
+use Rattle.std.specs.List.{AllPairs}
+use Rattle.std.specs.Ordering.{nat_cmp}
+use Rattle.hv_ports.specs.declared.table.TheConstants.{MOST}
+
+-- each row by its id, and for how many more there is room
+pub record TableState (R : Type 0) : Type 0 where
+  pub rows : map.FinMap nat_cmp R
+  pub room : ℕ
+
+-- such a record is stored as the pair of its fields
+abbrev pub table_code : {R : Type 0} → Coded R → Coded (TableState R)
+table_code {R} row =
+    code_by (map.FinMap nat_cmp R × ℕ) (coded× (map.code coded_ℕ row) coded_ℕ)
+    (λ t. (t.rows, t.room)) (λ p. record { rows = p.0; room = p.1 }) (λ _. refl)
+
+-- no rows, and no memory for any
+abbrev pub no_rows : {R : Type 0} → TableState R
+no_rows = record { rows = map.empty; room = 0 }
+
+-- the table once all rows are removed, with the room that they leave
+abbrev pub cleared : {R : Type 0} → TableState R → TableState R
+cleared t = record { rows = map.empty; room = t.room + map.len t.rows }
+
+-- each id is below all later ones
+abbrev pub IsRising : {R : Type 0} → List (ℕ × R) → Type 0
+IsRising slots = AllPairs (λ slot later. slot.0 < later.0) slots
+
+-- slots, each an id with its row: the ids rise, and there are no more than the most
+pub record AreSlots {R : Type 0} (slots : List (ℕ × R)) : Type 0 where
+  pub rising : IsRising slots
+  pub few : length slots ≤ MOST
+
+-- the rows of a list of slots, by their ids
+unfoldable pub rows_of : {R : Type 0} → List (ℕ × R) → map.FinMap nat_cmp R
+rows_of slots = map.from_entries slots
+
+-- what is seen of a list of slots in a vector with this capacity: there is never room for more than the most
+abbrev pub seen_of : {R : Type 0} → List (ℕ × R) → ℕ → TableState R
+seen_of slots capacity = record { rows = rows_of slots; room = min capacity MOST - length slots }
