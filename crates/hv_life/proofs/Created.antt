@@ -10,7 +10,7 @@ use Rattle.hv_partition.specs.Partition.{PartitionState}
 use Rattle.hv_policy.specs.Effect.{new_row, mask_of}
 use Rattle.hv_policy.specs.Flat.{Flat}
 use Rattle.hv_tie.proofs.Changed.{same_shows}
-use Rattle.hv_tie.specs.Tie.{IsTied, Shows, holds, part_row, vp_row_of}
+use Rattle.hv_tie.specs.Tie.{IsTied, Shows, conn_row_of, holds, part_row, port_row_of, vp_row_of}
 use Rattle.hv_tree.specs.Rows.{Row, Rows}
 use Rattle.hv_life.specs.Change.{child_of}
 
@@ -42,8 +42,8 @@ module _ (rows : Rows PartitionState) (f : Flat) (flat : IsTied rows f) where
               part = part_after id true is ∙ ap Some new_part;
               page = λ page pooled. old.page page pooled ∙ no_page pooled page;
               vp = λ index. old.vp index ∙ sym (ap (option_map vp_row_of) (get-empty nat_cmp index));
-              port = old.port;
-              conn = old.conn;
+              port = λ port. old.port port ∙ sym (ap (option_map port_row_of) (get-empty nat_cmp port));
+              conn = λ conn. old.conn conn ∙ sym (ap (option_map conn_row_of) (get-empty nat_cmp conn));
             }
 
     pub created_tied : IsTied (insert rows f.next (child_of parent creator)) created

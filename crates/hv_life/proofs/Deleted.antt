@@ -2,7 +2,7 @@
 use Rattle.std.proofs.Common.{◌≡◌, ℕ, ◌==◌, Bool, true, false, cond, ◌&&◌, ◌||◌, not, map, Option, Some, None, refl, sym, ap, subst, ◌∙◌}
 use Rattle.std.proofs.lemmas.Bool.{eqb-true, eq-eqb}
 use Rattle.std.specs.Cmp.{nat_cmp_total, nat_eq_equiv}
-use Rattle.std.specs.FinMap.{FinMap, empty, get, get-empty, remove, entries, from_entries}
+use Rattle.std.specs.FinMap.{FinMap, get, get-empty, remove, entries, from_entries}
 use Rattle.std.specs.FinSet as set
 use Rattle.std.specs.Option.{option_map}
 use Rattle.std.specs.Ordering.{nat_cmp}
@@ -10,9 +10,12 @@ use Rattle.hv_partition.specs.Partition.{PartitionState}
 use Rattle.hv_policy.specs.Effect.{inherited}
 use Rattle.hv_policy.specs.Flat.{Flat, PageRow}
 use Rattle.hv_defs.proofs.Maps.{get_at-insert, get_at-remove, get-mapped}
+use Rattle.hv_ports.specs.declared.ports.Conn.{Conn}
+use Rattle.hv_ports.specs.declared.ports.Port.{Port}
 use Rattle.hv_tree.specs.Rows.{Row, Rows}
 use Rattle.hv_life.specs.Change.{IsDeleted, heir_of}
-use Rattle.hv_tie.specs.Tie.{IsTied, Shows, is_held, holds, vp_row_of}
+use Rattle.hv_tie.proofs.Lawful.{UsesNothing}
+use Rattle.hv_tie.specs.Tie.{IsTied, Shows, conn_row_of, is_held, holds, port_row_of, vp_row_of}
 use Rattle.hv_vp.specs.Vp.{VpState}
 
 -- a row after a deletion
@@ -90,7 +93,7 @@ module _ (gone heir : ℕ) (apart : gone == heir ≡ false) where
       by true is = rw (own_after page true is, eq-eqb heir heir refl, is) (all (page.owner == heir) page.pooled)
       by false is = rw (own_after page false is, is) (none (page.owner == heir && not page.pooled))
 
-module _ (rows : Rows PartitionState) (f : Flat) (flat : IsTied rows f) (new : Rows PartitionState) (heir id : ℕ) (apart : id == heir ≡ false) (d : IsDeleted rows new heir id) (idle : d.gone.1.vps.vps ≡ empty) where
+module _ (rows : Rows PartitionState) (f : Flat) (flat : IsTied rows f) (new : Rows PartitionState) (heir id : ℕ) (apart : id == heir ≡ false) (d : IsDeleted rows new heir id) (idle : UsesNothing rows id d.gone.1) where
   abbrev deleted : Flat
   deleted = record f {
     part = remove f.part id;
@@ -143,9 +146,9 @@ module _ (rows : Rows PartitionState) (f : Flat) (flat : IsTied rows f) (new : R
           record {
             part = part_after q true at;
             page = λ page pooled. ap (λ n. is_held n pooled (get deleted.page page)) here ∙ ap (is_held id pooled) (page_after page) ∙ held_gone id heir apart pooled (get f.page page) ∙ no_page pooled page;
-            vp = λ n. old.vp n ∙ ap (λ (vps : FinMap nat_cmp VpState). option_map vp_row_of (get vps n)) idle ∙ ap (option_map vp_row_of) (get-empty nat_cmp n);
-            port = old.port;
-            conn = old.conn;
+            vp = λ n. old.vp n ∙ ap (λ (vps : FinMap nat_cmp VpState). option_map vp_row_of (get vps n)) idle.vps ∙ ap (option_map vp_row_of) (get-empty nat_cmp n);
+            port = λ n. old.port n ∙ ap (λ (ports : FinMap nat_cmp Port). option_map port_row_of (get ports n)) idle.ports ∙ ap (option_map port_row_of) (get-empty nat_cmp n);
+            conn = λ n. old.conn n ∙ ap (λ (conns : FinMap nat_cmp Conn). option_map conn_row_of (get conns n)) idle.conns ∙ ap (option_map conn_row_of) (get-empty nat_cmp n);
           }
         where
           no_page : (pooled : Bool) (page : ℕ) → false ≡ holds pooled page None

@@ -10,7 +10,7 @@ use Rattle.hv_policy.proofs.Rows.{get-rows_but, get-with_row}
 use Rattle.hv_policy.specs.Effect.{with_row, rows_but, mail_but}
 use Rattle.hv_policy.specs.Flat.{Flat, PartRow, pair_cmp}
 use Rattle.hv_tie.proofs.Changed.{changed_tied, holds_alike, same_shows}
-use Rattle.hv_tie.specs.Tie.{IsTied, Shows, part_row, vp_row_of}
+use Rattle.hv_tie.specs.Tie.{IsTied, Shows, conn_row_of, part_row, port_row_of, vp_row_of}
 use Rattle.hv_tree.proofs.Laws.{get-change}
 use Rattle.hv_tree.specs.Rows.{Row, Rows, change}
 
@@ -23,7 +23,7 @@ made_final row = record row { life = Finalized }
 module _ (rows : Rows PartitionState) (f : Flat) (flat : IsTied rows f) where
   -- a partition that became Active
   pub activated_tied : (target : ℕ) → IsTied (change rows target (λ p. record p { life = Active })) (record f { part = with_row f.part target made_active })
-  activated_tied target = changed_tied rows f flat target (λ p. record p { life = Active }) made_active (λ _. refl) (λ _. refl) (λ _. refl) (λ _. refl)
+  activated_tied target = changed_tied rows f flat target (λ p. record p { life = Active }) made_active (λ _. refl) (λ _. refl) (λ _. refl) (λ _. refl) (λ _. refl) (λ _. refl)
 
   -- a partition that was finalized
   module _ (target : ℕ) where
@@ -57,8 +57,8 @@ module _ (rows : Rows PartitionState) (f : Flat) (flat : IsTied rows f) where
           part = closed_part id true at ∙ ap (option_map made_final) ((flat.rows target).part ∙ ap (option_map part_row) is);
           page = λ page pooled. old.page page pooled ∙ holds_alike pooled page r (r.0, finalized r.1) refl refl;
           vp = λ n. closed_rows f.vp id n true at ∙ sym (ap (option_map vp_row_of) (get-empty nat_cmp n));
-          port = λ n. closed_rows f.port id n true at;
-          conn = λ n. closed_rows f.conn id n true at;
+          port = λ n. closed_rows f.port id n true at ∙ sym (ap (option_map port_row_of) (get-empty nat_cmp n));
+          conn = λ n. closed_rows f.conn id n true at ∙ sym (ap (option_map conn_row_of) (get-empty nat_cmp n));
         }
 
         by : (b : Bool) → id == target ≡ b → Shows closed id (cond b (option_map (λ r. (r.0, finalized r.1)) (get rows target)) (get rows id))

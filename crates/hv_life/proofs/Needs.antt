@@ -1,7 +1,7 @@
 -- What the calls of this chapter need of the rows, once all their rules are met.
 use Rattle.std.proofs.Common.{◌≡◌, ℕ, ◌≤◌, ◌==◌, true, false, Option, Some, None, is_some, refl, sym, ap, ◌∙◌, arith}
 use Rattle.std.proofs.lemmas.Bool.{ne_eqb}
-use Rattle.std.specs.FinMap.{empty, get}
+use Rattle.std.specs.FinMap.{get}
 use Rattle.std.specs.Option.{option_map, option_and_then}
 use Rattle.hv_calls.specs.declared.call.Call.TheVariants.{CreatePartition, DeletePartition}
 use Rattle.hv_defs.specs.declared.life.Life.{Life}
@@ -20,7 +20,7 @@ use Rattle.hv_policy.specs.declared.need.States.TheVariants as states
 use Rattle.hv_tie.proofs.Allowed.{caller_row, child_row, state_row}
 use Rattle.hv_tie.proofs.Counted.{available_counted}
 use Rattle.hv_tie.proofs.Held.{apart_sets}
-use Rattle.hv_tie.proofs.Lawful.{few_loose, few_pooled, parents_below, quiet}
+use Rattle.hv_tie.proofs.Lawful.{UsesNothing, few_loose, few_pooled, parents_below, quiet}
 use Rattle.hv_tie.specs.Tie.{IsTied, holds, part_row}
 use Rattle.hv_tree.specs.Rows.{Row, Rows, parent}
 use Rattle.hv_life.specs.Change.{MayCreate, MayDelete}
@@ -63,7 +63,7 @@ module _ (rows : Rows PartitionState) (f : Flat) (flat : IsTied rows f) (pages :
       let idle : is_active gone.1.life ≡ false = ap {A = Row PartitionState} (λ r. is_active r.1.life) (sym same) ∙ idle_state gone2.1.life state in
       let named : parent rows (target_of (DeletePartition partition) caller) ≡ Some caller = ap (option_and_then (λ r. r.0)) was ∙ below in
       let above = parents_below rows f flat pages l (target_of (DeletePartition partition) caller) caller named in
-      let childless = (quiet rows f flat pages l (target_of (DeletePartition partition) caller) gone was idle).0 in
+      let childless = (quiet rows f flat pages l (target_of (DeletePartition partition) caller) gone was idle).childless in
       let apart : target_of (DeletePartition partition) caller == caller ≡ false = ne_eqb (target_of (DeletePartition partition) caller) caller (λ e. omega (arith, e, above)) in
       let loose = few_loose rows f flat pages l (target_of (DeletePartition partition) caller) gone was in
       let pooled = few_pooled rows f flat pages l (target_of (DeletePartition partition) caller) gone was in
@@ -81,10 +81,10 @@ module _ (rows : Rows PartitionState) (f : Flat) (flat : IsTied rows f) (pages :
         own = λ page h. sym (ap (holds true page) was) ∙ apart_sets rows f flat (target_of (DeletePartition partition) caller) (target_of (DeletePartition partition) caller) false true (λ e. true≢false (sym e.1)) page (ap (holds false page) was ∙ h);
       }
 
-  -- the processors of a partition that may be deleted
-  pub deleted_idle : (partition : ℕ) → IsAllowed f caller (DeletePartition partition) → (gone : Row PartitionState) → get rows (target_of (DeletePartition partition) caller) ≡ Some gone → gone.1.vps.vps ≡ empty
+  -- a partition that may be deleted uses nothing of its pool
+  pub deleted_idle : (partition : ℕ) → IsAllowed f caller (DeletePartition partition) → (gone : Row PartitionState) → get rows (target_of (DeletePartition partition) caller) ≡ Some gone → UsesNothing rows (target_of (DeletePartition partition) caller) gone.1
   deleted_idle partition a gone was =
       let (gone2, was2, state) = state_row rows f flat caller (DeletePartition partition) a a.further.0 in
       let same : gone2 ≡ gone = (let both = sym was2 ∙ was in cc) in
       let idle : is_active gone.1.life ≡ false = ap {A = Row PartitionState} (λ r. is_active r.1.life) (sym same) ∙ idle_state gone2.1.life state in
-      (quiet rows f flat pages l (target_of (DeletePartition partition) caller) gone was idle).1
+      quiet rows f flat pages l (target_of (DeletePartition partition) caller) gone was idle

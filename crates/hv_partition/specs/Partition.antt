@@ -5,16 +5,22 @@ use Rattle.std.specs.FinMap as map
 use Rattle.std.specs.FinSet as set
 use Rattle.hv_defs.specs.declared.life.Life.{Life}
 use Rattle.hv_defs.specs.declared.life.Life.TheVariants.{Created, Active, Finalized}
-use Rattle.hv_defs.specs.declared.sizes.TheConstants.{CPU_CAP_START, CPU_RESERVE_START, CPU_WEIGHT_START, PARTITION_CHARGE, VP_CHARGE}
+use Rattle.hv_defs.specs.declared.sizes.TheConstants.{CONNECTION_CHARGE, CPU_CAP_START, CPU_RESERVE_START, CPU_WEIGHT_START, PARTITION_CHARGE, PORT_CHARGE, VP_CHARGE}
 use Rattle.hv_pages.specs.PageSet.{PagesAndRoom, pages_and_room_code}
+use Rattle.hv_partition.specs.Links.{conn_code, port_code}
 use Rattle.hv_partition.specs.declared.kind.PageKind.{PageKind}
 use Rattle.hv_partition.specs.declared.kind.PageKind.TheVariants.{Loose, Pooled}
+use Rattle.hv_ports.specs.Table as table
+use Rattle.hv_ports.specs.Table.{TableState, table_code}
+use Rattle.hv_ports.specs.declared.ports.Conn.{Conn}
+use Rattle.hv_ports.specs.declared.ports.Port.{Port}
 use Rattle.hv_privs.specs.Privileges.{bits_of, of}
 use Rattle.hv_privs.specs.declared.Privileges.{Privileges}
 use Rattle.hv_vp.specs.Vp.{VpState}
 use Rattle.hv_vp.specs.Vps.{VpsState, cleared, no_vps, vps_code, with_vp}
 
--- a partition: its life state, its privilege mask, its CPU properties, its loose and pooled pages, and its processors
+-- a partition: its life state, its privilege mask, its CPU properties, its loose and pooled pages, its processors, and its
+-- ports and connections
 pub record PartitionState : Type 0 where
   pub life : Life
   pub mask : Privileges
@@ -24,6 +30,8 @@ pub record PartitionState : Type 0 where
   pub loose : PagesAndRoom
   pub pooled : PagesAndRoom
   pub vps : VpsState
+  pub ports : TableState Port
+  pub conns : TableState Conn
 
 -- a life state is stored as its number
 abbrev pub life_number : Life → ℕ
@@ -51,10 +59,10 @@ mask_code = code_by ℕ coded_ℕ bits_of of (λ _. refl)
 -- a partition is stored as the tuple of its fields
 abbrev pub partition_code : Coded PartitionState
 partition_code =
-    code_by (Life × (Privileges × (ℕ × (ℕ × (ℕ × (PagesAndRoom × (PagesAndRoom × VpsState)))))))
-    (coded× life_code (coded× mask_code (coded× coded_ℕ (coded× coded_ℕ (coded× coded_ℕ (coded× pages_and_room_code (coded× pages_and_room_code vps_code)))))))
-    (λ p. (p.life, (p.mask, (p.reserve, (p.cap, (p.weight, (p.loose, (p.pooled, p.vps))))))))
-    (λ t. record { life = t.0; mask = t.1.0; reserve = t.1.1.0; cap = t.1.1.1.0; weight = t.1.1.1.1.0; loose = t.1.1.1.1.1.0; pooled = t.1.1.1.1.1.1.0; vps = t.1.1.1.1.1.1.1 })
+    code_by (Life × (Privileges × (ℕ × (ℕ × (ℕ × (PagesAndRoom × (PagesAndRoom × (VpsState × (TableState Port × TableState Conn)))))))))
+    (coded× life_code (coded× mask_code (coded× coded_ℕ (coded× coded_ℕ (coded× coded_ℕ (coded× pages_and_room_code (coded× pages_and_room_code (coded× vps_code (coded× (table_code port_code) (table_code conn_code))))))))))
+    (λ p. (p.life, (p.mask, (p.reserve, (p.cap, (p.weight, (p.loose, (p.pooled, (p.vps, (p.ports, p.conns))))))))))
+    (λ t. record { life = t.0; mask = t.1.0; reserve = t.1.1.0; cap = t.1.1.1.0; weight = t.1.1.1.1.0; loose = t.1.1.1.1.1.0; pooled = t.1.1.1.1.1.1.0; vps = t.1.1.1.1.1.1.1.0; ports = t.1.1.1.1.1.1.1.1.0; conns = t.1.1.1.1.1.1.1.1.1 })
     (λ _. refl)
 
 -- a partition's pages of a kind
@@ -75,7 +83,7 @@ with_vp_of p index vp = record p { vps = with_vp p.vps index vp }
 abbrev pub no_pages : PagesAndRoom
 no_pages = record { pages = set.empty; room = 0 }
 
--- a partition as it starts, without pages and processors
+-- a partition as it starts, without pages and processors, ports and connections
 abbrev pub new_partition : Life → Privileges → PartitionState
 new_partition life mask = record {
   life = life;
@@ -86,16 +94,19 @@ new_partition life mask = record {
   loose = no_pages;
   pooled = no_pages;
   vps = no_vps;
+  ports = table.no_rows;
+  conns = table.no_rows;
 }
 
--- the pooled pages that its processors and so many children use
+-- the pooled pages that so many children and its processors, ports and connections use
 abbrev pub in_use : ℕ → PartitionState → ℕ
-in_use children p = PARTITION_CHARGE * children + VP_CHARGE * map.len p.vps.vps
+in_use children p =
+    PARTITION_CHARGE * children + VP_CHARGE * map.len p.vps.vps + PORT_CHARGE * map.len p.ports.rows + CONNECTION_CHARGE * map.len p.conns.rows
 
 -- the pooled pages that it may still use
 abbrev pub available : ℕ → PartitionState → ℕ
 available children p = set.len p.pooled.pages - in_use children p
 
--- the partition once it is finalized: its processors go, and its pages stay
+-- the partition once it is finalized: its processors, ports and connections go, and its pages stay
 abbrev pub finalized : PartitionState → PartitionState
-finalized p = record p { life = Finalized; vps = cleared p.vps }
+finalized p = record p { life = Finalized; vps = cleared p.vps; ports = table.cleared p.ports; conns = table.cleared p.conns }

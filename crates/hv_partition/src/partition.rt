@@ -11,9 +11,11 @@ ghost use Rattle.hv_vp.specs.contracts.vp.Vp.{the_row as vp_row};
 
 use crate::PageKind;
 use hv_defs::{
-    CPU_CAP_START, CPU_RESERVE_START, CPU_WEIGHT_START, Life, PARTITION_CHARGE, VP_CHARGE,
+    CONNECTION_CHARGE, CPU_CAP_START, CPU_RESERVE_START, CPU_WEIGHT_START, Life, PARTITION_CHARGE,
+    PORT_CHARGE, VP_CHARGE,
 };
 use hv_pages::PageSet;
+use hv_ports::{ConnTable, PortTable};
 use hv_privs::Privileges;
 use hv_vp::{Vp, Vps};
 use std::alloc::{AllocError, Allocator};
@@ -21,8 +23,8 @@ use std::marker::Model;
 
 /// A partition, in memory of an allocator `A`.
 ///
-/// Its pages are loose, or pooled for the hypervisor's own use. Each of its processors has an index. A partition that is
-/// dropped gives its memory back.
+/// Its pages are loose, or pooled for the hypervisor's own use. Each of its processors has an index, and each of its ports
+/// and connections an id. A partition that is dropped gives its memory back.
 #[derive(Drop)]
 pub struct Partition<A: Allocator> {
     life: Life,
@@ -33,6 +35,8 @@ pub struct Partition<A: Allocator> {
     loose: PageSet<A>,
     pooled: PageSet<A>,
     vps: Vps<A>,
+    pub(crate) ports: PortTable<A>,
+    pub(crate) conns: ConnTable<A>,
 }
 
 impl<A: Allocator> Model for Partition<A> {
@@ -51,11 +55,13 @@ impl<A: Allocator> Model for Partition<A> {
       loose = p.loose;
       pooled = p.pooled;
       vps = p.vps;
+      ports = p.ports;
+      conns = p.conns;
     } };
 }
 
 impl<A: Allocator + Clone> Partition<A> {
-    /// A partition with no pages and no processors, and with the CPU properties of the start.
+    /// A partition with no pages, processors, ports and connections, and with the CPU properties of the start.
     ///
     /// `Err` where the allocator can't be cloned.
     pub fn new(alloc: A, life: Life, mask: Privileges) -> Result<Partition<A>, AllocError>
@@ -69,7 +75,9 @@ impl<A: Allocator + Clone> Partition<A> {
             weight: CPU_WEIGHT_START,
             loose: PageSet::new(alloc.clone()?),
             pooled: PageSet::new(alloc.clone()?),
-            vps: Vps::new(alloc),
+            vps: Vps::new(alloc.clone()?),
+            ports: PortTable::new(alloc.clone()?),
+            conns: ConnTable::new(alloc),
         })
     }
 }
@@ -155,22 +163,28 @@ impl<A: Allocator> Partition<A> {
         self.weight = weight;
     }
 
-    /// Finalizes the partition: its processors go, and its pages stay.
+    /// Finalizes the partition: its processors, ports and connections go, and its pages stay.
     pub fn finalize(&mut self)
         ensures { self.new ≡ finalized self.old }
     {
         self.life = Life::Finalized;
         self.vps.clear();
+        self.ports.clear();
+        self.conns.clear();
     }
 
-    /// How many pooled pages its processors and so many children use. The charges are this project's own.
+    /// How many pooled pages so many children and its processors, ports and connections use. The charges are this project's
+    /// own.
     pub fn in_use(&self, children: u32) -> u64
         ensures { result ≡ in_use children self.now }
     {
-        PARTITION_CHARGE * u64::from(children) + VP_CHARGE * u64::from(self.vp_count())
+        PARTITION_CHARGE * u64::from(children)
+            + VP_CHARGE * u64::from(self.vp_count())
+            + PORT_CHARGE * u64::from(self.port_count())
+            + CONNECTION_CHARGE * u64::from(self.conn_count())
     }
 
-    /// How many pooled pages may still be used, beside what its processors and so many children use.
+    /// How many pooled pages may still be used, beside what so many children and its processors, ports and connections use.
     pub fn available(&self, children: u32) -> u64
         requires { in_use children self.now ≤ set.len self.now.pooled.pages }
         ensures { result ≡ available children self.now }

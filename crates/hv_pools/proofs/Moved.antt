@@ -16,7 +16,7 @@ use Rattle.hv_pools.proofs.Moves.{alike, get-with_pages, is_pooled, pages_after,
 use Rattle.hv_defs.proofs.Maps.{get_at-insert}
 use Rattle.hv_tie.proofs.Held.{apart_sets}
 use Rattle.hv_pools.specs.Change.{IsMoved, IsWithdrawn, other, pages_at, with_pages_at}
-use Rattle.hv_tie.specs.Tie.{IsTied, is_held, holds, part_row, vp_row}
+use Rattle.hv_tie.specs.Tie.{IsTied, is_held, conn_row, holds, part_row, port_row, vp_row}
 
 -- a row without its pages
 abbrev still : Row PartitionState → Row PartitionState
@@ -29,6 +29,14 @@ part_still (Some r) = refl
 vp_still : (index : ℕ) (r : Option (Row PartitionState)) → vp_row index r ≡ vp_row index (option_map still r)
 vp_still index None = refl
 vp_still index (Some r) = refl
+
+port_still : (id : ℕ) (r : Option (Row PartitionState)) → port_row id r ≡ port_row id (option_map still r)
+port_still id None = refl
+port_still id (Some r) = refl
+
+conn_still : (id : ℕ) (r : Option (Row PartitionState)) → conn_row id r ≡ conn_row id (option_map still r)
+conn_still id None = refl
+conn_still id (Some r) = refl
 
 -- the kind of pages that the model calls pooled, or not
 abbrev kind_of : Bool → PageKind
@@ -58,8 +66,8 @@ module _ (rows : Rows PartitionState) (f : Flat) (flat : IsTied rows f) (new : R
       part = old.part ∙ part_still (get rows id) ∙ ap (option_map part_row) (sym (moved.rest id)) ∙ sym (part_still (get new id));
       page = λ q pooled. page_held id q pooled ∙ ap (cond (q == page) (id == to && alike (kind_of pooled) kind)) (old.page q pooled) ∙ sym (moved.held id q pooled);
       vp = λ index. old.vp index ∙ vp_still index (get rows id) ∙ ap (vp_row index) (sym (moved.rest id)) ∙ sym (vp_still index (get new id));
-      port = old.port;
-      conn = old.conn;
+      port = λ port. old.port port ∙ port_still port (get rows id) ∙ ap (port_row port) (sym (moved.rest id)) ∙ sym (port_still port (get new id));
+      conn = λ conn. old.conn conn ∙ conn_still conn (get rows id) ∙ ap (conn_row conn) (sym (moved.rest id)) ∙ sym (conn_still conn (get new id));
     };
     mail = flat.mail;
   }

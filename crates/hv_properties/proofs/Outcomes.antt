@@ -15,11 +15,11 @@ use Rattle.hv_properties.specs.Given.{given}
 
 module _ (rows : Rows PartitionState) (f : Flat) (flat : IsTied rows f) where
   given_tied : (target : ℕ) (property : Option Property) (value : ℕ) → IsTied (change rows target (given property value)) (record f { part = with_row f.part target (given_row property value) })
-  given_tied target None value = changed_tied rows f flat target (given None value) (given_row None value) (λ _. refl) (λ _. refl) (λ _. refl) (λ _. refl)
-  given_tied target (Some PrivilegeFlags) value = changed_tied rows f flat target (given (Some PrivilegeFlags) value) (given_row (Some PrivilegeFlags) value) (λ _. refl) (λ _. refl) (λ _. refl) (λ _. refl)
-  given_tied target (Some CpuReserve) value = changed_tied rows f flat target (given (Some CpuReserve) value) (given_row (Some CpuReserve) value) (λ _. refl) (λ _. refl) (λ _. refl) (λ _. refl)
-  given_tied target (Some CpuCap) value = changed_tied rows f flat target (given (Some CpuCap) value) (given_row (Some CpuCap) value) (λ _. refl) (λ _. refl) (λ _. refl) (λ _. refl)
-  given_tied target (Some CpuWeight) value = changed_tied rows f flat target (given (Some CpuWeight) value) (given_row (Some CpuWeight) value) (λ _. refl) (λ _. refl) (λ _. refl) (λ _. refl)
+  given_tied target None value = changed_tied rows f flat target (given None value) (given_row None value) (λ _. refl) (λ _. refl) (λ _. refl) (λ _. refl) (λ _. refl) (λ _. refl)
+  given_tied target (Some PrivilegeFlags) value = changed_tied rows f flat target (given (Some PrivilegeFlags) value) (given_row (Some PrivilegeFlags) value) (λ _. refl) (λ _. refl) (λ _. refl) (λ _. refl) (λ _. refl) (λ _. refl)
+  given_tied target (Some CpuReserve) value = changed_tied rows f flat target (given (Some CpuReserve) value) (given_row (Some CpuReserve) value) (λ _. refl) (λ _. refl) (λ _. refl) (λ _. refl) (λ _. refl) (λ _. refl)
+  given_tied target (Some CpuCap) value = changed_tied rows f flat target (given (Some CpuCap) value) (given_row (Some CpuCap) value) (λ _. refl) (λ _. refl) (λ _. refl) (λ _. refl) (λ _. refl) (λ _. refl)
+  given_tied target (Some CpuWeight) value = changed_tied rows f flat target (given (Some CpuWeight) value) (given_row (Some CpuWeight) value) (λ _. refl) (λ _. refl) (λ _. refl) (λ _. refl) (λ _. refl) (λ _. refl)
 
   pub property_set : (new : Rows PartitionState) (caller partition code value target : ℕ) → target ≡ target_of (SetPartitionProperty partition code value) caller → new ≡ change rows target (given (property_of code) value) → IsTied new (call_effect (SetPartitionProperty partition code value) f caller (target_of (SetPartitionProperty partition code value) caller))
   property_set new caller partition code value target at is =

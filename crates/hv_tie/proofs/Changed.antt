@@ -8,9 +8,12 @@ use Rattle.hv_partition.specs.Partition.{PartitionState}
 use Rattle.hv_policy.proofs.Rows.{get-with_row}
 use Rattle.hv_policy.specs.Effect.{with_row}
 use Rattle.hv_policy.specs.Flat.{Flat, PartRow}
+use Rattle.hv_ports.specs.Table.{TableState}
+use Rattle.hv_ports.specs.declared.ports.Conn.{Conn}
+use Rattle.hv_ports.specs.declared.ports.Port.{Port}
 use Rattle.hv_tree.proofs.Laws.{get-change}
 use Rattle.hv_tree.specs.Rows.{Row, Rows, change}
-use Rattle.hv_tie.specs.Tie.{IsTied, Shows, is_held, holds, part_row, vp_row_of}
+use Rattle.hv_tie.specs.Tie.{IsTied, Shows, conn_row_of, is_held, holds, part_row, port_row_of, vp_row_of}
 use Rattle.hv_vp.specs.Vps.{VpsState}
 
 -- what shows a row shows it in each state with the same maps under that id
@@ -29,7 +32,7 @@ holds_alike false page r s loose pool = ap (λ ps. set.contains ps page) loose
 
 module _ (rows : Rows PartitionState) (f : Flat) (flat : IsTied rows f) where
   -- a partition whose life state, mask or CPU properties changed: `h` does to it what `g` does to its row
-  module _ (target : ℕ) (h : PartitionState → PartitionState) (g : PartRow → PartRow) (alike : (r : Row PartitionState) → part_row (r.0, h r.1) ≡ g (part_row r)) (loose : (p : PartitionState) → (h p).loose.pages ≡ p.loose.pages) (pool : (p : PartitionState) → (h p).pooled.pages ≡ p.pooled.pages) (vps : (p : PartitionState) → (h p).vps ≡ p.vps) where
+  module _ (target : ℕ) (h : PartitionState → PartitionState) (g : PartRow → PartRow) (alike : (r : Row PartitionState) → part_row (r.0, h r.1) ≡ g (part_row r)) (loose : (p : PartitionState) → (h p).loose.pages ≡ p.loose.pages) (pool : (p : PartitionState) → (h p).pooled.pages ≡ p.pooled.pages) (vps : (p : PartitionState) → (h p).vps ≡ p.vps) (ports : (p : PartitionState) → (h p).ports ≡ p.ports) (conns : (p : PartitionState) → (h p).conns ≡ p.conns) where
     abbrev changed : Flat
     changed = record f { part = with_row f.part target g }
 
@@ -51,8 +54,8 @@ module _ (rows : Rows PartitionState) (f : Flat) (flat : IsTied rows f) where
           part = changed_part id true at ∙ ap (option_map g) ((flat.rows target).part ∙ ap (option_map part_row) is) ∙ ap Some (sym (alike r));
           page = λ page pooled. old.page page pooled ∙ holds_alike pooled page r (r.0, h r.1) (sym (loose r.1)) (sym (pool r.1));
           vp = λ index. old.vp index ∙ ap (λ (s : VpsState). option_map vp_row_of (get s.vps index)) (sym (vps r.1));
-          port = old.port;
-          conn = old.conn;
+          port = λ port. old.port port ∙ ap (λ (s : TableState Port). option_map port_row_of (get s.rows port)) (sym (ports r.1));
+          conn = λ conn. old.conn conn ∙ ap (λ (s : TableState Conn). option_map conn_row_of (get s.rows conn)) (sym (conns r.1));
         }
 
         by : (b : Bool) → id == target ≡ b → Shows changed id (cond b (option_map (λ r. (r.0, h r.1)) (get rows target)) (get rows id))

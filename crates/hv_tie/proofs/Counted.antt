@@ -5,7 +5,7 @@ use Rattle.std.proofs.lemmas.List.{length-map}
 use Rattle.std.proofs.lemmas.Map.Views.{list_any-from_Contains, Contains-from_any}
 use Rattle.std.specs.Cmp.{nat_cmp_total, unsigned_tied, eq_by_cmp_equiv}
 use Rattle.std.specs.FinMap as map
-use Rattle.std.specs.FinMap.{FinMap, contains_key, contains_key-keys, get, entries, entries_sorted, is_sorted, keys, len-entries, nat_cmp-IsAntisymmetric}
+use Rattle.std.specs.FinMap.{FinMap, contains_key-keys, get, entries, entries_sorted, is_sorted, keys, len-entries, nat_cmp-IsAntisymmetric}
 use Rattle.std.specs.FinMap.Entries.{below_all}
 use Rattle.std.specs.FinSet as set
 use Rattle.std.specs.List.{AllByRecursion, IsDistinct, count_by, list_any}
@@ -13,14 +13,13 @@ use Rattle.std.specs.Option.{option_map}
 use Rattle.std.specs.Ordering.{nat_cmp, eq_by_cmp, is_lt}
 use Rattle.hv_defs.proofs.Counts.{both_parts, less_apart, passes, count_by-keys, count_by-set, count_by-none, distinct_keys, len-from_list}
 use Rattle.hv_partition.specs.Partition.{PartitionState, in_use as uses, available as may_use}
-use Rattle.hv_policy.proofs.Pairs.{pair_cmp_total, pair_cmp_exact, count_by-pairs}
+use Rattle.hv_policy.proofs.Pairs.{count_by-pairs}
 use Rattle.hv_policy.specs.Count.{is_parent, child_count, vp_count, port_count, conn_count, pooled_count, in_use, available}
 use Rattle.hv_policy.specs.Flat.{Flat, PageRow, pair_cmp}
 use Rattle.hv_tree.specs.Rows as tree
 use Rattle.hv_tree.specs.Rows.{Row, Rows, children, children_in, parent}
 use Rattle.hv_tree.proofs.ChildLaws.{parent-child, child-parent}
-use Rattle.hv_tie.specs.Tie.{IsTied, is_held, holds, part_row, vp_row, vp_row_of}
-use Rattle.hv_vp.specs.Vp.{VpState}
+use Rattle.hv_tie.specs.Tie.{IsTied, conn_row, conn_row_of, is_held, holds, part_row, port_row, port_row_of, vp_row, vp_row_of}
 
 -- the children of a row are apart
 apart_children : {C : Type 0} (k id : ℕ) (es : List (ℕ × (Option ℕ × C))) → T (below_all nat_cmp k es) → AllByRecursion (λ y. eq_by_cmp nat_cmp k y ≡ false) (children_in id es)
@@ -62,13 +61,22 @@ listed rows id q = by (is_parent id (parent rows q)) (list_any (eq_by_cmp nat_cm
         sym s ∙ ap (is_parent id) is ∙ eq-eqb id id refl
     by false false s t = refl
 
--- where a map has just the numbers of a partition's rows, it is as large as they are many
-count_by-numbers : {X Y : Type 0} (id : ℕ) (m : FinMap pair_cmp X) (held : FinMap nat_cmp Y) → ((i : ℕ) → passes {K = ℕ × ℕ} (λ e. e.0.0 == id) (id, i) (get m (id, i)) ≡ contains_key held i) → count_by (λ e. e.0.0 == id) (entries m) ≡ map.len held
-count_by-numbers id m held alike =
-    count_by-pairs id m (set.from_list (keys held)) (λ i. alike i ∙ contains_key-keys held i ∙ sym (set.contains-from_list nat_cmp_total (keys held) i))
-    ∙ len-from_list nat_cmp nat_cmp_total (keys held) (distinct_keys nat_cmp (entries held) (entries_sorted held))
-    ∙ length-map (entries held) (λ e. e.0)
-    ∙ sym (len-entries held)
+module _ {X : Type 0} (id : ℕ) (m : FinMap pair_cmp X) where
+  -- where a map has under an id what a partition holds by its numbers, it has as many rows there
+  count_by-numbers : {Y : Type 0} (g : Y → X) (held : FinMap nat_cmp Y) → ((i : ℕ) → get m (id, i) ≡ option_map g (get held i)) → count_by (λ e. e.0.0 == id) (entries m) ≡ map.len held
+  count_by-numbers {Y} g held alike =
+      count_by-pairs id m (set.from_list (keys held)) (λ i. ap (passes {K = ℕ × ℕ} (λ e. e.0.0 == id) (id, i)) (alike i) ∙ by i (get held i) ∙ contains_key-keys held i ∙ sym (set.contains-from_list nat_cmp_total (keys held) i))
+      ∙ len-from_list nat_cmp nat_cmp_total (keys held) (distinct_keys nat_cmp (entries held) (entries_sorted held))
+      ∙ length-map (entries held) (λ e. e.0)
+      ∙ sym (len-entries held)
+    where
+      by : (i : ℕ) (y : Option Y) → passes {K = ℕ × ℕ} (λ e. e.0.0 == id) (id, i) (option_map g y) ≡ is_some y
+      by i None = refl
+      by i (Some y) = eq-eqb id id refl
+
+  -- and none, where it has nothing under the id
+  count_by-nothing : ((i : ℕ) → get m (id, i) ≡ None) → count_by (λ e. e.0.0 == id) (entries m) ≡ 0
+  count_by-nothing none = count_by-pairs id m set.empty (λ i. ap (passes {K = ℕ × ℕ} (λ e. e.0.0 == id) (id, i)) (none i) ∙ sym (set.contains-empty nat_cmp i)) ∙ set.len-empty nat_cmp
 
 module _ (rows : Rows PartitionState) (f : Flat) (flat : IsTied rows f) where
   child_of : (id q : ℕ) (r : Option (Row PartitionState)) → get f.part q ≡ option_map part_row r → get rows q ≡ r → passes (λ e. is_parent id e.1.parent) q (get f.part q) ≡ is_parent id (parent rows q)
@@ -84,12 +92,6 @@ module _ (rows : Rows PartitionState) (f : Flat) (flat : IsTied rows f) where
       (distinct_children id (entries rows) (entries_sorted rows))
       (λ q. child_at id q ∙ listed rows id q)
 
-  no_ports : (id : ℕ) → port_count f id ≡ 0
-  no_ports id = count_by-none pair_cmp pair_cmp_total pair_cmp_exact f.port (λ e. e.0.0 == id) (λ q. ap (passes {K = ℕ × ℕ} (λ e. e.0.0 == id) q) ((flat.rows q.0).port q.1))
-
-  no_conns : (id : ℕ) → conn_count f id ≡ 0
-  no_conns id = count_by-none pair_cmp pair_cmp_total pair_cmp_exact f.conn (λ e. e.0.0 == id) (λ q. ap (passes {K = ℕ × ℕ} (λ e. e.0.0 == id) q) ((flat.rows q.0).conn q.1))
-
   -- a page's row, as the count of a pool sees it
   pool_test : (id q : ℕ) (page : Option PageRow) → passes (λ e. e.1.owner == id && e.1.pooled) q page ≡ is_held id true page
   pool_test id q None = refl
@@ -98,16 +100,15 @@ module _ (rows : Rows PartitionState) (f : Flat) (flat : IsTied rows f) where
   pub pooled_at : (id q : ℕ) → passes (λ e. e.1.owner == id && e.1.pooled) q (get f.page q) ≡ holds true q (get rows id)
   pooled_at id q = pool_test id q (get f.page q) ∙ (flat.rows id).page q true
 
-  vp_at : (id i : ℕ) (held : FinMap nat_cmp VpState) → get f.vp (id, i) ≡ option_map vp_row_of (get held i) → passes {K = ℕ × ℕ} (λ e. e.0.0 == id) (id, i) (get f.vp (id, i)) ≡ contains_key held i
-  vp_at id i held e = ap (passes {K = ℕ × ℕ} (λ e. e.0.0 == id) (id, i)) e ∙ by (get held i)
-    where
-      by : (vp : Option VpState) → passes {K = ℕ × ℕ} (λ e. e.0.0 == id) (id, i) (option_map vp_row_of vp) ≡ is_some vp
-      by None = refl
-      by (Some vp) = eq-eqb id id refl
-
   module _ (id : ℕ) (r : Row PartitionState) (is : get rows id ≡ Some r) where
     pub vps_counted : vp_count f id ≡ map.len r.1.vps.vps
-    vps_counted = count_by-numbers id f.vp r.1.vps.vps (λ i. vp_at id i r.1.vps.vps ((flat.rows id).vp i ∙ ap (vp_row i) is))
+    vps_counted = count_by-numbers id f.vp vp_row_of r.1.vps.vps (λ i. (flat.rows id).vp i ∙ ap (vp_row i) is)
+
+    pub ports_counted : port_count f id ≡ map.len r.1.ports.rows
+    ports_counted = count_by-numbers id f.port port_row_of r.1.ports.rows (λ i. (flat.rows id).port i ∙ ap (port_row i) is)
+
+    pub conns_counted : conn_count f id ≡ map.len r.1.conns.rows
+    conns_counted = count_by-numbers id f.conn conn_row_of r.1.conns.rows (λ i. (flat.rows id).conn i ∙ ap (conn_row i) is)
 
     pub pool_counted : pooled_count f id ≡ set.len r.1.pooled.pages
     pool_counted = count_by-set nat_cmp nat_cmp_total nat_cmp-IsAntisymmetric f.page (λ e. e.1.owner == id && e.1.pooled) r.1.pooled.pages (λ q. pooled_at id q ∙ ap (holds true q) is)
@@ -117,8 +118,8 @@ module _ (rows : Rows PartitionState) (f : Flat) (flat : IsTied rows f) where
     use_counted =
         let children = children_counted id in
         let vps = vps_counted in
-        let ports = no_ports id in
-        let conns = no_conns id in
+        let ports = ports_counted in
+        let conns = conns_counted in
         omega arith
 
     pub available_counted : available f id ≡ may_use (length (children rows id)) r.1
@@ -128,9 +129,9 @@ module _ (rows : Rows PartitionState) (f : Flat) (flat : IsTied rows f) where
   pub none_in_use : (id : ℕ) → get rows id ≡ None → children rows id ≡ [] → in_use f id ≡ 0
   none_in_use id is childless =
       let children = children_counted id ∙ ap length childless in
-      let vps : vp_count f id ≡ 0 = count_by-pairs id f.vp set.empty (λ i. ap (passes {K = ℕ × ℕ} (λ e. e.0.0 == id) (id, i)) ((flat.rows id).vp i ∙ ap (vp_row i) is) ∙ sym (set.contains-empty nat_cmp i)) ∙ set.len-empty nat_cmp in
-      let ports = no_ports id in
-      let conns = no_conns id in
+      let vps : vp_count f id ≡ 0 = count_by-nothing id f.vp (λ i. (flat.rows id).vp i ∙ ap (vp_row i) is) in
+      let ports : port_count f id ≡ 0 = count_by-nothing id f.port (λ i. (flat.rows id).port i ∙ ap (port_row i) is) in
+      let conns : conn_count f id ≡ 0 = count_by-nothing id f.conn (λ i. (flat.rows id).conn i ∙ ap (conn_row i) is) in
       omega arith
 
   pub none_available : (id : ℕ) → get rows id ≡ None → available f id ≡ 0

@@ -19,9 +19,16 @@ use Rattle.hv_policy.specs.Count.{in_use}
 use Rattle.hv_policy.specs.Flat.{Flat, PageRow}
 use Rattle.hv_policy.specs.Met.{is_active, test_row}
 use Rattle.hv_tree.specs.Rows.{Row, Rows, children, parent}
-use Rattle.hv_tie.proofs.Counted.{children_counted, pool_counted, use_counted, vps_counted}
+use Rattle.hv_tie.proofs.Counted.{children_counted, conns_counted, pool_counted, ports_counted, use_counted, vps_counted}
 use Rattle.hv_tie.proofs.Found.{parent_there}
 use Rattle.hv_tie.specs.Tie.{IsTied, is_held, holds, part_row}
+
+-- a partition that uses nothing of its pool has no children, processors, ports and connections
+pub record UsesNothing (rows : Rows PartitionState) (id : ℕ) (p : PartitionState) : Type 0 where
+  pub childless : length (children rows id) ≡ 0
+  pub vps : p.vps.vps ≡ map.empty
+  pub ports : p.ports.rows ≡ map.empty
+  pub conns : p.conns.rows ≡ map.empty
 
 any_alike : {X : Type 0} (f g : X → Bool) → ((x : X) → f x ≡ g x) → (xs : List X) → list_any f xs ≡ list_any g xs
 any_alike f g h [] = refl
@@ -86,17 +93,22 @@ module _ (rows : Rows PartitionState) (f : Flat) (flat : IsTied rows f) (pages :
         let within = l.within id in
         omega arith
 
-    -- one that isn't Active has no children and no processors
-    pub quiet : is_active r.1.life ≡ false → (length (children rows id) ≡ 0) × (r.1.vps.vps ≡ map.empty)
+    -- one that isn't Active uses nothing of its pool
+    pub quiet : is_active r.1.life ≡ false → UsesNothing rows id r.1
     quiet still = by (l.idle id (ap (test_row (λ row. is_active row.life)) (row_at id r is) ∙ still))
       where
-        by : in_use f id ≡ 0 → (length (children rows id) ≡ 0) × (r.1.vps.vps ≡ map.empty)
+        by : in_use f id ≡ 0 → UsesNothing rows id r.1
         by none =
             let kids = children_counted rows f flat id in
             let staff = vps_counted rows f flat id r is in
-            let childless : length (children rows id) ≡ 0 = omega arith in
-            let unstaffed : map.len r.1.vps.vps ≡ 0 = omega arith in
-            (childless, map.empty_of_len r.1.vps.vps unstaffed)
+            let ports = ports_counted rows f flat id r is in
+            let conns = conns_counted rows f flat id r is in
+            record {
+              childless = omega arith;
+              vps = map.empty_of_len r.1.vps.vps (omega arith);
+              ports = map.empty_of_len r.1.ports.rows (omega arith);
+              conns = map.empty_of_len r.1.conns.rows (omega arith);
+            }
 
     pub few_pooled : set.len r.1.pooled.pages ≤ pages
     few_pooled =

@@ -4,6 +4,7 @@ pub mod Counted
 pub mod Found
 pub mod Held
 pub mod Lawful
+pub mod Links
 pub mod One
 pub mod Processors
 pub mod Room

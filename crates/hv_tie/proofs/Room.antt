@@ -8,7 +8,7 @@ use Rattle.hv_partition.specs.Partition.{PartitionState}
 use Rattle.hv_policy.specs.Flat.{Flat}
 use Rattle.hv_tree.specs.Rows.{Row, Rows}
 use Rattle.hv_tie.specs.Room.{IsSameButRoom, bare, roomless}
-use Rattle.hv_tie.specs.Tie.{IsTied, Shows, holds, part_row, vp_row}
+use Rattle.hv_tie.specs.Tie.{IsTied, Shows, conn_row, holds, part_row, port_row, vp_row}
 
 -- what a flat state shows of a row doesn't look at room
 bare_part : (r : Option (Row PartitionState)) → option_map part_row r ≡ option_map part_row (option_map bare r)
@@ -24,13 +24,21 @@ bare_vp : (index : ℕ) (r : Option (Row PartitionState)) → vp_row index r ≡
 bare_vp index None = refl
 bare_vp index (Some r) = refl
 
+bare_port : (id : ℕ) (r : Option (Row PartitionState)) → port_row id r ≡ port_row id (option_map bare r)
+bare_port id None = refl
+bare_port id (Some r) = refl
+
+bare_conn : (id : ℕ) (r : Option (Row PartitionState)) → conn_row id r ≡ conn_row id (option_map bare r)
+bare_conn id None = refl
+bare_conn id (Some r) = refl
+
 shown_alike : (f : Flat) (id : ℕ) (r s : Option (Row PartitionState)) → option_map bare s ≡ option_map bare r → Shows f id r → Shows f id s
 shown_alike f id r s same shows = record {
   part = shows.part ∙ bare_part r ∙ ap (option_map part_row) (sym same) ∙ sym (bare_part s);
   page = λ page pooled. shows.page page pooled ∙ bare_held pooled page r ∙ ap (holds pooled page) (sym same) ∙ sym (bare_held pooled page s);
   vp = λ index. shows.vp index ∙ bare_vp index r ∙ ap (vp_row index) (sym same) ∙ sym (bare_vp index s);
-  port = shows.port;
-  conn = shows.conn;
+  port = λ port. shows.port port ∙ bare_port port r ∙ ap (port_row port) (sym same) ∙ sym (bare_port port s);
+  conn = λ conn. shows.conn conn ∙ bare_conn conn r ∙ ap (conn_row conn) (sym same) ∙ sym (bare_conn conn s);
 }
 
 -- rows that are the same but for room are tied to the same flat states

@@ -1,4 +1,4 @@
--- Rows that are the same but for the room of their page sets and of their processors.
+-- Rows that are the same but for the room of their page sets, their processors, ports and connections.
 use Rattle.std.specs.Prelude.{◌≡◌, ℕ, map}
 use Rattle.std.specs.FinMap.{get, entries, from_entries}
 use Rattle.std.specs.Option.{option_map}
@@ -7,7 +7,16 @@ use Rattle.hv_tree.specs.Rows.{Row, Rows}
 
 -- a row without its room, and rows that are the same but for it
 abbrev pub bare : Row PartitionState → Row PartitionState
-bare r = (r.0, record r.1 { loose = record r.1.loose { room = 0 }; pooled = record r.1.pooled { room = 0 }; vps = record r.1.vps { room = 0 } })
+bare r = (
+  r.0,
+  record r.1 {
+    loose = record r.1.loose { room = 0 };
+    pooled = record r.1.pooled { room = 0 };
+    vps = record r.1.vps { room = 0 };
+    ports = record r.1.ports { room = 0 };
+    conns = record r.1.conns { room = 0 };
+  },
+)
 
 abbrev pub IsSameButRoom : Rows PartitionState → Rows PartitionState → Type 0
 IsSameButRoom old new = (id : ℕ) → option_map bare (get new id) ≡ option_map bare (get old id)

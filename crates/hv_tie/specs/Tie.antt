@@ -5,7 +5,9 @@ use Rattle.std.specs.Option.{option_map}
 use Rattle.std.specs.FinMap.{get}
 use Rattle.std.specs.FinSet as set
 use Rattle.hv_partition.specs.Partition.{PartitionState}
-use Rattle.hv_policy.specs.Flat.{Flat, PartRow, PageRow, VpRow}
+use Rattle.hv_policy.specs.Flat.{ConnRow, Flat, PartRow, PageRow, PortRow, VpRow}
+use Rattle.hv_ports.specs.declared.ports.Conn.{Conn}
+use Rattle.hv_ports.specs.declared.ports.Port.{Port}
 use Rattle.hv_tree.specs.Rows.{Row, Rows}
 use Rattle.hv_vp.specs.Vp.{VpState}
 
@@ -41,13 +43,39 @@ abbrev pub vp_row : ℕ → Option (Row PartitionState) → Option VpRow
 vp_row index None = None
 vp_row index (Some r) = option_map vp_row_of (get r.1.vps.vps index)
 
+-- the flat row of a port
+abbrev pub port_row_of : Port → PortRow
+port_row_of p = record {
+  kind = p.kind;
+  peer = p.peer;
+  sint = p.sint;
+  vp = p.vp;
+  base = p.base;
+  count = p.count;
+  born = p.born;
+}
+
+-- the flat row of the port with this id, where the partition of a row has it
+abbrev pub port_row : ℕ → Option (Row PartitionState) → Option PortRow
+port_row id None = None
+port_row id (Some r) = option_map port_row_of (get r.1.ports.rows id)
+
+-- the flat row of a connection
+abbrev pub conn_row_of : Conn → ConnRow
+conn_row_of c = record { part = c.part; port = c.port; kind = c.kind; born = c.born }
+
+-- the flat row of the connection with this id, where the partition of a row has it
+abbrev pub conn_row : ℕ → Option (Row PartitionState) → Option ConnRow
+conn_row id None = None
+conn_row id (Some r) = option_map conn_row_of (get r.1.conns.rows id)
+
 -- the flat state has under this id what the row holds
 pub record Shows (f : Flat) (id : ℕ) (row : Option (Row PartitionState)) : Type 0 where
   pub part : get f.part id ≡ option_map part_row row
   pub page : (page : ℕ) (pooled : Bool) → is_held id pooled (get f.page page) ≡ holds pooled page row
   pub vp : (index : ℕ) → get f.vp (id, index) ≡ vp_row index row
-  pub port : (port : ℕ) → get f.port (id, port) ≡ None
-  pub conn : (conn : ℕ) → get f.conn (id, conn) ≡ None
+  pub port : (port : ℕ) → get f.port (id, port) ≡ port_row port row
+  pub conn : (conn : ℕ) → get f.conn (id, conn) ≡ conn_row conn row
 
 -- the flat state has the partitions of these rows with all that they hold, and nothing else
 pub record IsTied (tree : Rows PartitionState) (f : Flat) : Type 0 where

@@ -14,5 +14,6 @@ mod rules;
 pub use access::{unmet_access, unmet_by_caller};
 pub use refused::Refused;
 pub use rules::{
-    Balance, has_available, is_child, is_state_allowed, meant, memory_balance, number_output,
+    Balance, has_available, has_vp, is_child, is_state_allowed, meant, memory_balance,
+    number_output,
 };

@@ -1,5 +1,6 @@
 // Rules that several chapters ask, and what they read of the tree for them.
 ghost use Rattle.std.specs.Prelude.{◌≡◌, ◌==◌, nat_le, if◌then◌else◌};
+ghost use Rattle.std.specs.FinMap.{contains_key};
 ghost use Rattle.std.specs.Int.{w64, to_le_bytes};
 ghost use Rattle.hv_policy.specs.Call.{meant_id};
 ghost use Rattle.hv_policy.specs.Count.{available as available_of, in_use as in_use_of};
@@ -51,6 +52,16 @@ pub fn is_state_allowed<A: Allocator>(
         None => false,
         Some(partition) => states.allow(partition.life()),
     }
+}
+
+/// P19: whether a partition has a processor with this index.
+pub fn has_vp<A: Allocator>(tree: &IdTree<Partition<A>, A>, id: u64, index: u32) -> bool
+    ensures { (f : Flat) → IsTied tree.now f → result ≡ contains_key f.vp (id, index) }
+{
+    let Some(partition) = tree.get(id) else {
+        return false;
+    };
+    partition.vp(index).is_some()
 }
 
 /// P24: whether a partition has so many available pages.

@@ -1,0 +1,117 @@
+// A partition's ports and connections.
+ghost use Rattle.std.specs.Prelude.{◌≡◌, ◌+◌, ◌≤◌, false, IsOk, OnOk, OnErr};
+ghost use Rattle.std.specs.FinMap as map;
+
+use crate::Partition;
+use hv_ports::{Conn, Port};
+use std::alloc::{AllocError, Allocator};
+
+// The ports. What a call needs of them, and what it promises of them, is what their table asks and promises.
+impl<A: Allocator> Partition<A> {
+    /// The port with this id, or `None` where the partition has none.
+    pub fn port(&self, id: u32) -> Option<Port>
+        ensures { result ≡ map.get self.now.ports.rows id }
+    {
+        self.ports.find(id)
+    }
+
+    /// How many ports the partition has.
+    pub fn port_count(&self) -> u32
+        ensures { result ≡ map.len self.now.ports.rows }
+    {
+        self.ports.count()
+    }
+
+    /// Makes room for one port more. Room that is there already always suffices.
+    ///
+    /// `Err` where there is no memory for it, or where the partition has 2^32 - 1 ports, and then the partition is as it
+    /// was.
+    pub fn reserve_port(&mut self) -> Result<(), AllocError>
+        ensures ok { OnOk result (1 ≤ self.new.ports.room) }
+        ensures enough { 1 ≤ self.old.ports.room → IsOk result }
+        ensures unchanged { OnErr result (self.new ≡ self.old) }
+
+        // In either case.
+        ensures ports { self.new.ports.rows ≡ self.old.ports.rows }
+        ensures room { self.old.ports.room ≤ self.new.ports.room }
+        ensures rest { self.new ≡ record self.old { ports = self.new.ports } }
+    {
+        self.ports.reserve_one()
+    }
+
+    /// Adds a port with an id that is free. It must find room.
+    pub fn add_port(&mut self, id: u32, port: Port)
+        requires room { 1 ≤ self.old.ports.room }
+        requires free { map.contains_key self.old.ports.rows id ≡ false }
+        ensures ports { self.new.ports.rows ≡ map.insert self.old.ports.rows id port }
+        ensures room { self.old.ports.room ≤ self.new.ports.room + 1 }
+        ensures rest { self.new ≡ record self.old { ports = self.new.ports } }
+    {
+        self.ports.insert(id, port);
+    }
+
+    /// Removes the port with this id, and returns it.
+    pub fn remove_port(&mut self, id: u32) -> Option<Port>
+        ensures port { result ≡ map.get self.old.ports.rows id }
+        ensures ports { self.new.ports.rows ≡ map.remove self.old.ports.rows id }
+        ensures room { self.old.ports.room ≤ self.new.ports.room }
+        ensures rest { self.new ≡ record self.old { ports = self.new.ports } }
+    {
+        self.ports.remove(id)
+    }
+}
+
+// The connections. What a call needs of them, and what it promises of them, is what their table asks and promises.
+impl<A: Allocator> Partition<A> {
+    /// The connection with this id, or `None` where the partition has none.
+    pub fn conn(&self, id: u32) -> Option<Conn>
+        ensures { result ≡ map.get self.now.conns.rows id }
+    {
+        self.conns.find(id)
+    }
+
+    /// How many connections the partition has.
+    pub fn conn_count(&self) -> u32
+        ensures { result ≡ map.len self.now.conns.rows }
+    {
+        self.conns.count()
+    }
+
+    /// Makes room for one connection more. Room that is there already always suffices.
+    ///
+    /// `Err` where there is no memory for it, or where the partition has 2^32 - 1 connections, and then the partition is as it
+    /// was.
+    pub fn reserve_conn(&mut self) -> Result<(), AllocError>
+        ensures ok { OnOk result (1 ≤ self.new.conns.room) }
+        ensures enough { 1 ≤ self.old.conns.room → IsOk result }
+        ensures unchanged { OnErr result (self.new ≡ self.old) }
+
+        // In either case.
+        ensures conns { self.new.conns.rows ≡ self.old.conns.rows }
+        ensures room { self.old.conns.room ≤ self.new.conns.room }
+        ensures rest { self.new ≡ record self.old { conns = self.new.conns } }
+    {
+        self.conns.reserve_one()
+    }
+
+    /// Adds a connection with an id that is free. It must find room.
+    pub fn add_conn(&mut self, id: u32, conn: Conn)
+        requires room { 1 ≤ self.old.conns.room }
+        requires free { map.contains_key self.old.conns.rows id ≡ false }
+        ensures conns { self.new.conns.rows ≡ map.insert self.old.conns.rows id conn }
+        ensures room { self.old.conns.room ≤ self.new.conns.room + 1 }
+        ensures rest { self.new ≡ record self.old { conns = self.new.conns } }
+    {
+        self.conns.insert(id, conn);
+    }
+
+    /// Removes the connection with this id, and returns it.
+    pub fn remove_conn(&mut self, id: u32) -> Option<Conn>
+        ensures conn { result ≡ map.get self.old.conns.rows id }
+        ensures conns { self.new.conns.rows ≡ map.remove self.old.conns.rows id }
+        ensures room { self.old.conns.room ≤ self.new.conns.room }
+        ensures rest { self.new ≡ record self.old { conns = self.new.conns } }
+    {
+        self.conns.remove(id)
+    }
+}
