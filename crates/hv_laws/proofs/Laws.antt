@@ -4,17 +4,18 @@ use Rattle.std.proofs.lemmas.Bool.{and_parts, eqb-true, ne_eqb, leb-true}
 use Rattle.std.specs.FinMap.{contains_key, get}
 use Rattle.hv_calls.specs.declared.call.Call.{Call}
 use Rattle.hv_calls.specs.declared.call.Call.TheVariants as call
-use Rattle.hv_calls.specs.declared.call.Call.TheVariants.{CreatePartition, InitializePartition, FinalizePartition, DeletePartition, SetPartitionProperty, DepositMemory, WithdrawMemory, CreateVp, DeleteVp, SetVpRegisters}
+use Rattle.hv_calls.specs.declared.call.Call.TheVariants.{CreatePartition, InitializePartition, FinalizePartition, DeletePartition, SetPartitionProperty, DepositMemory, WithdrawMemory, CreateVp, DeleteVp, SetVpRegisters, DeletePort, DisconnectPort, CreatePort, ConnectPort}
 use Rattle.hv_defs.specs.Registers.{name_of_msr}
 use Rattle.hv_defs.specs.declared.life.Life.{Life}
+use Rattle.hv_defs.specs.declared.port_kind.PortKind.{PortKind}
 use Rattle.hv_defs.specs.declared.life.Life.TheVariants.{Created, Active, Finalized}
 use Rattle.hv_policy.specs.Call.{target_of}
 use Rattle.hv_policy.specs.Count.{available, child_count, in_use}
 use Rattle.hv_policy.specs.Boot.{start_vp}
 use Rattle.hv_policy.specs.Effect.{call_effect, counted, effect, mail_but_at, served_effect, written, written_msr}
 use Rattle.hv_policy.specs.Flat.{Flat, PartRow}
-use Rattle.hv_policy.specs.Met.{is_active, may_give, test_row}
-use Rattle.hv_policy.specs.Needs.{is_among, states_to_set}
+use Rattle.hv_policy.specs.Met.{call_met, is_active, may_give, test_row}
+use Rattle.hv_policy.specs.Needs.{is_among, needs_of, states_to_set}
 use Rattle.hv_policy.specs.Property.{property_of}
 use Rattle.hv_policy.specs.Step.{run_from, step, step_by, unmet}
 use Rattle.hv_policy.specs.declared.event.Action.{Action}
@@ -24,6 +25,7 @@ use Rattle.hv_policy.specs.declared.event.Event.{Event}
 use Rattle.hv_policy.specs.declared.need.States.TheVariants as states
 use Rattle.hv_policy.specs.declared.property.Property.TheVariants.{PrivilegeFlags}
 use Rattle.hv_policy.specs.declared.rule.Rule.{Rule}
+use Rattle.hv_policy.specs.declared.rule.Rule.TheVariants.{TargetState}
 use Rattle.hv_privs.proofs.PrivilegesLemmas.{contains-IsSubset}
 use Rattle.hv_privs.specs.Privileges.{contains, of}
 use Rattle.hv_laws.proofs.Changing.{activated, closed, given_row}
@@ -31,9 +33,9 @@ use Rattle.hv_laws.proofs.Creation.{created}
 use Rattle.hv_laws.proofs.Deleting.{deleted}
 use Rattle.hv_laws.proofs.Granted.{caller_there, child_row, is_served, state_row, target_there}
 use Rattle.hv_laws.proofs.Lending.{deposited, withdrawn_pages}
-use Rattle.hv_laws.proofs.Staffing.{vp_added, vp_changed, vp_removed}
+use Rattle.hv_laws.proofs.Staffing.{conn_added, conn_removed, port_added, port_removed, vp_added, vp_changed, vp_removed}
 use Rattle.hv_policy.proofs.Rows.{row_of}
-use Rattle.hv_policy.specs.Allowed.{IsAllowed}
+use Rattle.hv_policy.specs.Allowed.{IsAllowed, is_running}
 use Rattle.hv_laws.specs.Lawful.{IsLawful}
 
 -- one more served event changes nothing of it
@@ -89,22 +91,36 @@ module _ (pages : ℕ) (f : Flat) (l : IsLawful pages f) (caller : ℕ) where
       let (row, there, none) = row_of f (target_of (FinalizePartition partition) caller) (λ row. child_count f (target_of (FinalizePartition partition) caller) == 0) a.further.1.0 in
       closed pages f l (target_of (FinalizePartition partition) caller) (eqb-true (child_count f (target_of (FinalizePartition partition) caller)) 0 none)
 
+  running : (life : Life) → is_among life states.Active ≡ true → is_active life ≡ true
+  running Created h = h
+  running Active h = refl
+  running Finalized h = h
+
+  unless : (b : Bool) → not b ≡ true → b ≡ false
+  unless true h = cc
+  unless false h = refl
+
+  -- the target of a call that asks for an Active one
+  runs : (call : Call) → (needs_of call).states ≡ states.Active → IsAllowed f caller call → call_met TargetState f caller call ≡ true → is_running f (target_of call caller) ≡ true
+  runs call asks a h =
+      let (row, there, state) = state_row f caller call a h in
+      ap (test_row (λ row. is_active row.life)) there ∙ running row.life (subst (λ states. is_among row.life states ≡ true) asks state)
+
   staff_lawful : (partition vp : ℕ) → IsAllowed f caller (CreateVp partition vp) → IsLawful pages (call_effect (CreateVp partition vp) f caller (target_of (CreateVp partition vp) caller))
   staff_lawful partition vp a =
       let target = target_of (CreateVp partition vp) caller in
-      let (row, there, state) = state_row f caller (CreateVp partition vp) a a.further.0 in
-      let active = ap (test_row (λ row. is_active row.life)) there ∙ running row.life state in
       let (below, free) = and_parts (nat_lt vp 64) (not (contains_key f.vp (target, vp))) a.further.1.0 in
-      vp_added pages f l target vp (start_vp vp) active (unless (contains_key f.vp (target, vp)) free) (leb-true 4 (available f target) a.further.1.1.0)
-    where
-      running : (life : Life) → is_among life states.Active ≡ true → is_active life ≡ true
-      running Created h = h
-      running Active h = refl
-      running Finalized h = h
+      vp_added pages f l target vp (runs (CreateVp partition vp) refl a a.further.0) (start_vp vp) (unless (contains_key f.vp (target, vp)) free) (leb-true 4 (available f target) a.further.1.1.0)
 
-      unless : (b : Bool) → not b ≡ true → b ≡ false
-      unless true h = cc
-      unless false h = refl
+  port_lawful : (partition port peer : ℕ) (kind : PortKind) (sint vp base count : ℕ) → IsAllowed f caller (CreatePort partition port peer kind sint vp base count) → IsLawful pages (call_effect (CreatePort partition port peer kind sint vp base count) f caller (target_of (CreatePort partition port peer kind sint vp base count) caller))
+  port_lawful partition port peer kind sint vp base count a =
+      let target = target_of (CreatePort partition port peer kind sint vp base count) caller in
+      port_added pages f l target port (runs (CreatePort partition port peer kind sint vp base count) refl a a.further.0) _ (unless (contains_key f.port (target, port)) a.further.1.1.0) (leb-true 1 (available f target) a.further.1.1.1.1.0)
+
+  conn_lawful : (partition connection port_partition port : ℕ) (kind : PortKind) → IsAllowed f caller (ConnectPort partition connection port_partition port kind) → IsLawful pages (call_effect (ConnectPort partition connection port_partition port kind) f caller (target_of (ConnectPort partition connection port_partition port kind) caller))
+  conn_lawful partition connection port_partition port kind a =
+      let target = target_of (ConnectPort partition connection port_partition port kind) caller in
+      conn_added pages f l target connection (runs (ConnectPort partition connection port_partition port kind) refl a a.further.0) _ (unless (contains_key f.conn (target, connection)) a.further.1.1.0) (leb-true 1 (available f target) a.further.1.1.1.1.1.1.0)
 
   -- what a call changes that its rules allow
   pub granted_lawful : (call : Call) → IsAllowed f caller call → IsLawful pages (counted (call_effect call f caller (target_of call caller)))
@@ -130,12 +146,12 @@ module _ (pages : ℕ) (f : Flat) (l : IsLawful pages f) (caller : ℕ) where
   granted_lawful (call.GetVpRegisters partition vp name) a = counted_lawful pages f l
   granted_lawful (SetVpRegisters partition vp name value) a =
       counted_lawful pages _ (vp_changed pages f l (target_of (SetVpRegisters partition vp name value) caller, vp) (written name value))
-  granted_lawful (call.DeletePort partition port) a = counted_lawful pages f l
-  granted_lawful (call.DisconnectPort partition connection) a = counted_lawful pages f l
+  granted_lawful (DeletePort partition port) a = counted_lawful pages _ (port_removed pages f l (target_of (DeletePort partition port) caller, port))
+  granted_lawful (DisconnectPort partition connection) a = counted_lawful pages _ (conn_removed pages f l (target_of (DisconnectPort partition connection) caller, connection))
+  granted_lawful (CreatePort partition port peer kind sint vp base count) a = counted_lawful pages _ (port_lawful partition port peer kind sint vp base count a)
+  granted_lawful (ConnectPort partition connection port_partition port kind) a = counted_lawful pages _ (conn_lawful partition connection port_partition port kind a)
   granted_lawful (call.PostMessage connection message_type payload) a = counted_lawful pages f l
   granted_lawful (call.SignalEvent connection flag) a = counted_lawful pages f l
-  granted_lawful (call.CreatePort partition port peer port_kind sint vp base count) a = counted_lawful pages f l
-  granted_lawful (call.ConnectPort partition connection port_partition port port_kind) a = counted_lawful pages f l
 
 module _ {A : Type 0} (pages : ℕ) where
   by_action : (f : Flat) → IsLawful pages f → (by : Caller) (what : Action A) → unmet f (record { by = by; what = what }) ≡ None → IsLawful pages (effect f (record { by = by; what = what }))

@@ -5,6 +5,7 @@ pub mod Deleting
 pub mod Granted
 pub mod Laws
 pub mod Lending
+pub mod Owned
 pub mod Readings
 pub mod Replies
 pub mod Staffing

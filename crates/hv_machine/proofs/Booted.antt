@@ -14,7 +14,7 @@ use Rattle.hv_policy.specs.Flat.{pair_cmp}
 use Rattle.hv_policy.specs.declared.config.Config.{Config}
 use Rattle.hv_tie.proofs.Room.{roomless_tied}
 use Rattle.hv_tie.specs.Room.{roomless}
-use Rattle.hv_tie.specs.Tie.{IsTied, Shows, holds, is_held, part_row, vp_row, vp_row_of}
+use Rattle.hv_tie.specs.Tie.{IsTied, Shows, conn_row, conn_row_of, holds, is_held, part_row, port_row, port_row_of, vp_row, vp_row_of}
 use Rattle.hv_tree.specs.Rows.{Row, Rows}
 use Rattle.hv_machine.specs.BootTree.{IsBootTree}
 use Rattle.hv_machine.specs.IsFlat.{IsFlat}
@@ -90,13 +90,26 @@ module _ (config : Config) (rows : Rows PartitionState) (made : IsBootTree confi
   shown_vp id true is index = vp_at config id index ∙ ap (λ b. cond b (cond (nat_lt index config.vps) (Some (start_vp index)) None) None) is ∙ sym (ap (option_map vp_row_of) (made.root.vps index) ∙ row_if index (nat_lt index config.vps))
   shown_vp id false is index = vp_at config id index ∙ ap (λ b. cond b (cond (nat_lt index config.vps) (Some (start_vp index)) None) None) is
 
+  -- there are no ports and no connections
+  shown_port : (id : ℕ) (b : Bool) (port : ℕ) → get (boot config).port (id, port) ≡ port_row port (root_only b)
+  shown_port id true port =
+      get-empty pair_cmp (id, port)
+      ∙ sym (ap {A = PartitionState} (λ q. option_map port_row_of (get q.ports.rows port)) made.root.start ∙ ap (option_map port_row_of) (get-empty nat_cmp port))
+  shown_port id false port = get-empty pair_cmp (id, port)
+
+  shown_conn : (id : ℕ) (b : Bool) (conn : ℕ) → get (boot config).conn (id, conn) ≡ conn_row conn (root_only b)
+  shown_conn id true conn =
+      get-empty pair_cmp (id, conn)
+      ∙ sym (ap {A = PartitionState} (λ q. option_map conn_row_of (get q.conns.rows conn)) made.root.start ∙ ap (option_map conn_row_of) (get-empty nat_cmp conn))
+  shown_conn id false conn = get-empty pair_cmp (id, conn)
+
   shown : (id : ℕ) → Shows (boot config) id (root_only (id == 1))
   shown id = record {
     part = shown_part id (id == 1) refl;
     page = shown_page id (id == 1) refl;
     vp = shown_vp id (id == 1) refl;
-    port = λ port. get-empty pair_cmp (id, port);
-    conn = λ conn. get-empty pair_cmp (id, conn);
+    port = shown_port id (id == 1);
+    conn = shown_conn id (id == 1);
   }
 
   -- the tree that boot makes is tied to boot's flat state

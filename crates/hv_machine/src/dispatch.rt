@@ -1,6 +1,7 @@
 // The calls and accesses, each to its chapter.
 ghost use Rattle.std.specs.Prelude.{◌≡◌, false, ◌+◌, ◌-◌, ◌^◌, ◌<◌, IsTrue};
 ghost use Rattle.hv_calls.specs.Call.{kind_of_call};
+ghost use Rattle.hv_defs.specs.declared.sizes.TheConstants.{MAX_SERVED};
 ghost use Rattle.hv_policy.specs.Call.{is_call, is_served};
 ghost use Rattle.hv_policy.specs.Flat.{Flat};
 ghost use Rattle.hv_tie.specs.Access.{IsAccess};
@@ -13,6 +14,7 @@ use hv_life::{
     create_partition, delete_partition, finalize_partition, get_next_child_partition,
     get_partition_id, initialize_partition,
 };
+use hv_links::{NewPort, connect_port, create_port, delete_port, disconnect_port};
 use hv_partition::Partition;
 use hv_policy::{Action, Caller, Output, Rule};
 use hv_pools::{deposit_memory, get_memory_balance, withdraw_memory};
@@ -24,17 +26,20 @@ use hv_tie::Refused;
 use hv_tree::IdTree;
 use std::alloc::Allocator;
 
-// Hands a call for which P1 to P10 are met to its chapter. `next` is the id that the next partition gets.
+// Hands a call for which P1 to P10 are met to its chapter. `next` is the id that the next partition gets, and `served` how many
+// events were served.
 pub fn dispatch<A: Allocator + Clone>(
     tree: &mut IdTree<Partition<A>, A>,
     alloc: &A,
     caller: u64,
     next: u64,
+    served: u64,
     call: &Call,
 ) -> Result<Output, Refused>
     requires admitted { (a : IsAdmitted tree.old caller call.now) × (a.rows.flat.next ≡ next) }
     requires known { IsTrue (is_served (kind_of_call call.now)) }
-    ensures { (f : Flat) → IsTied tree.old f → f.next ≡ next → IsOutcome f caller call.now tree.old result tree.new }
+    requires count { served < MAX_SERVED }
+    ensures { (f : Flat) → IsTied tree.old f → f.next ≡ next → f.served ≡ served → IsOutcome f caller call.now tree.old result tree.new }
 {
     match call {
         Call::CreatePartition { flags } => create_partition(tree, alloc, caller, next, *flags),
@@ -70,12 +75,48 @@ pub fn dispatch<A: Allocator + Clone>(
             name,
             value,
         } => set_vp_registers(tree, caller, *partition, *vp, *name, *value),
-        Call::DeletePort { .. }
-        | Call::DisconnectPort { .. }
-        | Call::PostMessage { .. }
-        | Call::SignalEvent { .. }
-        | Call::CreatePort { .. }
-        | Call::ConnectPort { .. } => unreachable!(),
+        Call::DeletePort { partition, port } => delete_port(tree, caller, *partition, *port),
+        Call::DisconnectPort {
+            partition,
+            connection,
+        } => disconnect_port(tree, caller, *partition, *connection),
+        Call::CreatePort {
+            partition,
+            port,
+            peer,
+            kind,
+            sint,
+            vp,
+            base,
+            count,
+        } => {
+            let new = NewPort {
+                port: *port,
+                peer: *peer,
+                kind: *kind,
+                sint: *sint,
+                vp: *vp,
+                base: *base,
+                count: *count,
+            };
+            create_port(tree, caller, served, *partition, new)
+        }
+        Call::ConnectPort {
+            partition,
+            connection,
+            port_partition,
+            port,
+            kind,
+        } => connect_port(
+            tree,
+            caller,
+            *partition,
+            *connection,
+            *port_partition,
+            *port,
+            *kind,
+        ),
+        Call::PostMessage { .. } | Call::SignalEvent { .. } => unreachable!(),
     }
 }
 

@@ -147,7 +147,14 @@ impl<A: Allocator + Clone> Machine<A> {
         ensures lasting { IsLasting self.new }
         ensures pages { self.new.pages ≡ self.old.pages }
     {
-        match dispatch(&mut self.tree, &self.alloc, by.part, self.next, call) {
+        match dispatch(
+            &mut self.tree,
+            &self.alloc,
+            by.part,
+            self.next,
+            self.served,
+            call,
+        ) {
             Ok(output) => {
                 self.next = next_after(call, self.next);
                 self.served += 1;

@@ -7,6 +7,8 @@ use Rattle.hv_calls.specs.declared.call.Call.{Call}
 use Rattle.hv_calls.specs.declared.call.Call.TheVariants.{CreatePartition, InitializePartition, FinalizePartition, DeletePartition, GetPartitionProperty, SetPartitionProperty, GetPartitionId, GetNextChildPartition, DepositMemory, WithdrawMemory, GetMemoryBalance, CreateVp, DeleteVp, GetVpRegisters, SetVpRegisters, DeletePort, DisconnectPort, PostMessage, SignalEvent, CreatePort, ConnectPort}
 use Rattle.hv_defs.specs.Registers as register
 use Rattle.hv_defs.specs.declared.life.Life.TheVariants.{Created, Active, Finalized}
+use Rattle.hv_defs.specs.declared.port_kind.PortKind.{PortKind}
+use Rattle.hv_defs.specs.declared.port_kind.PortKind.TheVariants as port_type
 use Rattle.hv_defs.specs.declared.sizes.TheConstants.{CPU_RESERVE_START, CPU_CAP_START, CPU_WEIGHT_START}
 use Rattle.hv_privs.specs.declared.Privileges.{Privileges}
 use Rattle.hv_privs.specs.declared.TheConstants.Privileges as privilege
@@ -16,9 +18,9 @@ use Rattle.hv_policy.specs.declared.event.Action.TheVariants.{Hypercall, ReadMsr
 use Rattle.hv_policy.specs.declared.event.Caller.{Caller}
 use Rattle.hv_policy.specs.declared.event.Event.{Event}
 use Rattle.hv_policy.specs.Boot.{start_vp}
-use Rattle.hv_policy.specs.Call.{served_call, target_of}
+use Rattle.hv_policy.specs.Call.{meant_id, served_call, target_of}
 use Rattle.hv_policy.specs.Count.{lowest_pooled}
-use Rattle.hv_policy.specs.Flat.{Flat, PartRow, PageRow, VpRow, MailRow, pair_cmp}
+use Rattle.hv_policy.specs.Flat.{Flat, PartRow, PageRow, VpRow, PortRow, ConnRow, MailRow, pair_cmp}
 use Rattle.hv_policy.specs.Property.{property_of, with_property}
 use Rattle.hv_policy.specs.declared.property.Property.{Property}
 
@@ -75,6 +77,16 @@ vp_changed_at vps key change (Some row) = insert vps key (change row)
 abbrev pub with_vp : FinMap pair_cmp VpRow → ℕ × ℕ → (VpRow → VpRow) → FinMap pair_cmp VpRow
 with_vp vps key change = vp_changed_at vps key change (get vps key)
 
+-- the first flag of a port, or the count of its flags, of which a message port has none
+abbrev pub flags_of : PortKind → ℕ → ℕ
+flags_of port_type.Message number = 0
+flags_of port_type.Event number = number
+
+-- when a port was made, and 0 where there is none
+abbrev pub born_of : Option PortRow → ℕ
+born_of None = 0
+born_of (Some row) = row.born
+
 -- a page that is a loose page of `heir` if `id` held it, and else as it was
 abbrev pub inherited : ℕ → ℕ → PageRow → PageRow
 inherited id heir row = if row.owner == id then record { owner = heir; pooled = false } else row
@@ -123,12 +135,29 @@ call_effect (DeleteVp partition vp) f caller target =
 call_effect (SetVpRegisters partition vp name value) f caller target =
     record f { vp = with_vp f.vp (target, vp) (written name value) }
 call_effect (GetVpRegisters partition vp name) f caller target = f
-call_effect (DeletePort partition port) f caller target = f
-call_effect (DisconnectPort partition connection) f caller target = f
+call_effect (DeletePort partition port) f caller target = record f { port = remove f.port (target, port) }
+call_effect (DisconnectPort partition connection) f caller target = record f { conn = remove f.conn (target, connection) }
 call_effect (PostMessage connection message_type payload) f caller target = f
 call_effect (SignalEvent connection flag) f caller target = f
-call_effect (CreatePort partition port peer port_kind sint vp base count) f caller target = f
-call_effect (ConnectPort partition connection port_partition port port_kind) f caller target = f
+call_effect (CreatePort partition port peer port_kind sint vp base count) f caller target = record f {
+  port = insert f.port (target, port) (record {
+    kind = port_kind;
+    peer = meant_id caller peer;
+    sint = sint;
+    vp = vp;
+    base = flags_of port_kind base;
+    count = flags_of port_kind count;
+    born = f.served + 1;
+  });
+}
+call_effect (ConnectPort partition connection port_partition port port_kind) f caller target = record f {
+  conn = insert f.conn (target, connection) (record {
+    part = meant_id caller port_partition;
+    port = port;
+    kind = port_kind;
+    born = born_of (get f.port (meant_id caller port_partition, port));
+  });
+}
 
 abbrev pub served_effect : Flat → ℕ → Option Call → Flat
 served_effect f caller None = f

@@ -4,6 +4,8 @@ use Rattle.std.specs.FinMap.{get, contains_key}
 use Rattle.hv_defs.specs.declared.life.Life.{Life}
 use Rattle.hv_defs.specs.declared.life.Life.TheVariants.{Created, Active, Finalized}
 use Rattle.hv_defs.specs.Registers as register
+use Rattle.hv_defs.specs.declared.port_kind.PortKind.{PortKind}
+use Rattle.hv_defs.specs.declared.port_kind.PortKind.TheVariants as port_type
 use Rattle.hv_defs.specs.declared.registers.RegisterRow.{RegisterRow}
 use Rattle.hv_defs.specs.declared.sizes.TheConstants.{MAX_DEPTH, MAX_VPS}
 use Rattle.hv_abi.specs.CallRow.{row_of}
@@ -20,9 +22,9 @@ use Rattle.hv_policy.specs.declared.property.Property.{Property}
 use Rattle.hv_policy.specs.declared.property.Property.TheVariants.{PrivilegeFlags, CpuReserve, CpuCap, CpuWeight}
 use Rattle.hv_policy.specs.declared.rule.Rule.{Rule}
 use Rattle.hv_policy.specs.declared.rule.Rule.TheVariants.{CallerExists, CallerActive, CallerVpExists, CallCode, InputValue, Alignment, Parameters, Privilege, TargetExists, Kinship, PropertyKnown, TargetState, NoChildren, Depth, OtherExists, Connection, Port, Right, VpExists, PropertyRange, Subject, VpReady, PortRoom, Pages, MsrKnown, MsrPrivilege, MsrWrite}
-use Rattle.hv_policy.specs.Call.{on_frame, on_call, on_msr, on_write, target_of}
+use Rattle.hv_policy.specs.Call.{on_frame, on_call, on_msr, on_write, meant_id, target_of}
 use Rattle.hv_policy.specs.Count.{is_parent, child_count, available, depth}
-use Rattle.hv_policy.specs.Flat.{Flat, PartRow, PageRow}
+use Rattle.hv_policy.specs.Flat.{Flat, PartRow, PageRow, PortRow}
 use Rattle.hv_policy.specs.Needs.{needs_of, is_among, charge_of}
 use Rattle.hv_policy.specs.Property.{property_of, takes_value}
 
@@ -74,29 +76,29 @@ property_named (CreatePort partition port peer port_kind sint vp base count) = N
 property_named (ConnectPort partition connection port_partition port port_kind) = None
 
 -- the other partition that a call names: where it asks for the child after another, that is 0 or a child of the
--- target
-abbrev pub is_other_there : Call → Flat → ℕ → Bool
-is_other_there (GetNextChildPartition partition previous) f target = (previous == 0) || is_child f target previous
-is_other_there (CreatePartition flags) f target = false
-is_other_there (InitializePartition partition) f target = false
-is_other_there (FinalizePartition partition) f target = false
-is_other_there (DeletePartition partition) f target = false
-is_other_there (GetPartitionProperty partition code) f target = false
-is_other_there (SetPartitionProperty partition code value) f target = false
-is_other_there GetPartitionId f target = false
-is_other_there (DepositMemory partition page) f target = false
-is_other_there (WithdrawMemory partition) f target = false
-is_other_there (GetMemoryBalance partition) f target = false
-is_other_there (CreateVp partition vp) f target = false
-is_other_there (DeleteVp partition vp) f target = false
-is_other_there (GetVpRegisters partition vp name) f target = false
-is_other_there (SetVpRegisters partition vp name value) f target = false
-is_other_there (DeletePort partition port) f target = false
-is_other_there (DisconnectPort partition connection) f target = false
-is_other_there (PostMessage connection message_type payload) f target = false
-is_other_there (SignalEvent connection flag) f target = false
-is_other_there (CreatePort partition port peer port_kind sint vp base count) f target = false
-is_other_there (ConnectPort partition connection port_partition port port_kind) f target = false
+-- target; the partition that may connect to a new port, and that of the port to connect to, are there
+abbrev pub is_other_there : Call → Flat → ℕ → ℕ → Bool
+is_other_there (GetNextChildPartition partition previous) f caller target = (previous == 0) || is_child f target previous
+is_other_there (CreatePartition flags) f caller target = false
+is_other_there (InitializePartition partition) f caller target = false
+is_other_there (FinalizePartition partition) f caller target = false
+is_other_there (DeletePartition partition) f caller target = false
+is_other_there (GetPartitionProperty partition code) f caller target = false
+is_other_there (SetPartitionProperty partition code value) f caller target = false
+is_other_there GetPartitionId f caller target = false
+is_other_there (DepositMemory partition page) f caller target = false
+is_other_there (WithdrawMemory partition) f caller target = false
+is_other_there (GetMemoryBalance partition) f caller target = false
+is_other_there (CreateVp partition vp) f caller target = false
+is_other_there (DeleteVp partition vp) f caller target = false
+is_other_there (GetVpRegisters partition vp name) f caller target = false
+is_other_there (SetVpRegisters partition vp name value) f caller target = false
+is_other_there (DeletePort partition port) f caller target = false
+is_other_there (DisconnectPort partition connection) f caller target = false
+is_other_there (PostMessage connection message_type payload) f caller target = false
+is_other_there (SignalEvent connection flag) f caller target = false
+is_other_there (CreatePort partition port peer port_kind sint vp base count) f caller target = contains_key f.part (meant_id caller peer)
+is_other_there (ConnectPort partition connection port_partition port port_kind) f caller target = contains_key f.part (meant_id caller port_partition)
 
 -- whether the caller may give this value to a property: a mask lies within its own
 abbrev pub may_give : Option Property → ℕ → Flat → ℕ → Bool
@@ -112,7 +114,71 @@ abbrev pub may_access : Flat → ℕ → Option RegisterRow → Bool
 may_access f id None = true
 may_access f id (Some row) = on_part f id (λ part. contains part.mask (of row.privilege))
 
--- whether the caller has the right to what a call makes, or to the register that it names
+-- a test of the port with this key, which fails where there is none
+abbrev pub test_port : (PortRow → Bool) → Option PortRow → Bool
+test_port test None = false
+test_port test (Some row) = test row
+
+abbrev pub on_port : Flat → ℕ × ℕ → (PortRow → Bool) → Bool
+on_port f key test = test_port test (get f.port key)
+
+-- whether a port takes what a call says
+abbrev pub is_kind : PortKind → PortKind → Bool
+is_kind port_type.Message port_type.Message = true
+is_kind port_type.Message port_type.Event = false
+is_kind port_type.Event port_type.Message = false
+is_kind port_type.Event port_type.Event = true
+
+-- the connection that a call names: the id of one to be made is free, and each other is there
+abbrev pub is_conn_good : Call → Flat → ℕ → Bool
+is_conn_good (ConnectPort partition connection port_partition port port_kind) f target = not (contains_key f.conn (target, connection))
+is_conn_good (DisconnectPort partition connection) f target = contains_key f.conn (target, connection)
+is_conn_good (CreatePartition flags) f target = false
+is_conn_good (InitializePartition partition) f target = false
+is_conn_good (FinalizePartition partition) f target = false
+is_conn_good (DeletePartition partition) f target = false
+is_conn_good (GetPartitionProperty partition code) f target = false
+is_conn_good (SetPartitionProperty partition code value) f target = false
+is_conn_good GetPartitionId f target = false
+is_conn_good (GetNextChildPartition partition previous) f target = false
+is_conn_good (DepositMemory partition page) f target = false
+is_conn_good (WithdrawMemory partition) f target = false
+is_conn_good (GetMemoryBalance partition) f target = false
+is_conn_good (CreateVp partition vp) f target = false
+is_conn_good (DeleteVp partition vp) f target = false
+is_conn_good (GetVpRegisters partition vp name) f target = false
+is_conn_good (SetVpRegisters partition vp name value) f target = false
+is_conn_good (DeletePort partition port) f target = false
+is_conn_good (PostMessage connection message_type payload) f target = false
+is_conn_good (SignalEvent connection flag) f target = false
+is_conn_good (CreatePort partition port peer port_kind sint vp base count) f target = false
+
+-- the port that a call names: the id of one to be made is free, and each other is there
+abbrev pub is_port_good : Call → Flat → ℕ → ℕ → Bool
+is_port_good (CreatePort partition port peer port_kind sint vp base count) f caller target = not (contains_key f.port (target, port))
+is_port_good (DeletePort partition port) f caller target = contains_key f.port (target, port)
+is_port_good (ConnectPort partition connection port_partition port port_kind) f caller target = contains_key f.port (meant_id caller port_partition, port)
+is_port_good (CreatePartition flags) f caller target = false
+is_port_good (InitializePartition partition) f caller target = false
+is_port_good (FinalizePartition partition) f caller target = false
+is_port_good (DeletePartition partition) f caller target = false
+is_port_good (GetPartitionProperty partition code) f caller target = false
+is_port_good (SetPartitionProperty partition code value) f caller target = false
+is_port_good GetPartitionId f caller target = false
+is_port_good (GetNextChildPartition partition previous) f caller target = false
+is_port_good (DepositMemory partition page) f caller target = false
+is_port_good (WithdrawMemory partition) f caller target = false
+is_port_good (GetMemoryBalance partition) f caller target = false
+is_port_good (CreateVp partition vp) f caller target = false
+is_port_good (DeleteVp partition vp) f caller target = false
+is_port_good (GetVpRegisters partition vp name) f caller target = false
+is_port_good (SetVpRegisters partition vp name value) f caller target = false
+is_port_good (DisconnectPort partition connection) f caller target = false
+is_port_good (PostMessage connection message_type payload) f caller target = false
+is_port_good (SignalEvent connection flag) f caller target = false
+
+-- whether the caller has the right to what a call makes, or to the register that it names; a port's peer is the partition
+-- that connects
 abbrev pub is_right : Call → Flat → ℕ → Bool
 is_right (SetPartitionProperty partition code value) f caller = may_give (property_of code) value f caller
 is_right (CreatePartition flags) f caller = false
@@ -134,9 +200,11 @@ is_right (DisconnectPort partition connection) f caller = false
 is_right (PostMessage connection message_type payload) f caller = false
 is_right (SignalEvent connection flag) f caller = false
 is_right (CreatePort partition port peer port_kind sint vp base count) f caller = false
-is_right (ConnectPort partition connection port_partition port port_kind) f caller = false
+is_right (ConnectPort partition connection port_partition port port_kind) f caller =
+    on_port f (meant_id caller port_partition, port) (λ row. row.peer == meant_id caller partition)
 
--- the processor that a call names: one to be made has an index below the most and that is free, and each other is there
+-- the processor that a call names: one to be made has an index below the most and that is free, and each other is there, also
+-- the one that a new port aims at
 abbrev pub is_vp_good : Call → Flat → ℕ → Bool
 is_vp_good (CreateVp partition vp) f target = nat_lt vp MAX_VPS && not (contains_key f.vp (target, vp))
 is_vp_good (DeleteVp partition vp) f target = contains_key f.vp (target, vp)
@@ -157,7 +225,7 @@ is_vp_good (DeletePort partition port) f target = false
 is_vp_good (DisconnectPort partition connection) f target = false
 is_vp_good (PostMessage connection message_type payload) f target = false
 is_vp_good (SignalEvent connection flag) f target = false
-is_vp_good (CreatePort partition port peer port_kind sint vp base count) f target = false
+is_vp_good (CreatePort partition port peer port_kind sint vp base count) f target = contains_key f.vp (target, vp)
 is_vp_good (ConnectPort partition connection port_partition port port_kind) f target = false
 
 -- whether a property's value is in its range
@@ -193,8 +261,8 @@ abbrev pub is_loose : ℕ → Option PageRow → Bool
 is_loose id None = false
 is_loose id (Some page) = (page.owner == id) && not page.pooled
 
--- what a call is about: the page of a deposit is a loose page of the caller, and a register is one that there is, and that
--- takes a value that is written
+-- what a call is about: the page of a deposit is a loose page of the caller, a register is one that there is, and that takes a
+-- value that is written, and the port to connect to takes what the call says
 abbrev pub is_subject_good : Call → Flat → ℕ → Bool
 is_subject_good (DepositMemory partition page) f caller = is_loose caller (get f.page page)
 is_subject_good (CreatePartition flags) f caller = false
@@ -216,10 +284,11 @@ is_subject_good (DisconnectPort partition connection) f caller = false
 is_subject_good (PostMessage connection message_type payload) f caller = false
 is_subject_good (SignalEvent connection flag) f caller = false
 is_subject_good (CreatePort partition port peer port_kind sint vp base count) f caller = false
-is_subject_good (ConnectPort partition connection port_partition port port_kind) f caller = false
+is_subject_good (ConnectPort partition connection port_partition port port_kind) f caller =
+    on_port f (meant_id caller port_partition, port) (λ row. is_kind row.kind port_kind)
 
 -- P8 to P24, of a call by a processor of `caller`. No call is asked the others, and none that is served so far those that
--- ask for a connection, a port and a processor's readiness
+-- ask for a processor's readiness and a port's messages
 abbrev pub call_met : Rule → Flat → ℕ → Call → Bool
 call_met CallerExists f caller call = false
 call_met CallerActive f caller call = false
@@ -235,9 +304,9 @@ call_met PropertyKnown f caller call = is_some (property_named call)
 call_met TargetState f caller call = on_part f (target_of call caller) (λ row. is_among row.life (needs_of call).states)
 call_met NoChildren f caller call = on_part f (target_of call caller) (λ row. child_count f (target_of call caller) == 0)
 call_met Depth f caller call = on_part f caller (λ row. nat_le (depth f caller + 1) MAX_DEPTH)
-call_met OtherExists f caller call = is_other_there call f (target_of call caller)
-call_met Connection f caller call = false
-call_met Port f caller call = false
+call_met OtherExists f caller call = is_other_there call f caller (target_of call caller)
+call_met Connection f caller call = is_conn_good call f (target_of call caller)
+call_met Port f caller call = is_port_good call f caller (target_of call caller)
 call_met Right f caller call = is_right call f caller
 call_met VpExists f caller call = is_vp_good call f (target_of call caller)
 call_met PropertyRange f caller call = is_value_good call

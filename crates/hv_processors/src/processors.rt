@@ -9,11 +9,11 @@ ghost use Rattle.hv_tie.specs.Served.{AreLawful, IsAdmitted, IsOutcome, unmet_fu
 ghost use Rattle.hv_tie.specs.Tie.{IsTied};
 
 use crate::rows::{add, remove, write};
-use crate::rules::{has_vp, is_known, is_vp_free, may_access, register, takes};
+use crate::rules::{is_known, is_vp_free, may_access, register, takes};
 use hv_defs::VP_CHARGE;
 use hv_partition::Partition;
 use hv_policy::{Output, Rule, States};
-use hv_tie::{Refused, has_available, is_state_allowed, meant};
+use hv_tie::{Refused, has_available, has_vp, is_state_allowed, meant};
 use hv_tree::IdTree;
 use std::alloc::{AllocError, Allocator};
 

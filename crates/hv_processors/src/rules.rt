@@ -11,19 +11,10 @@ ghost use Rattle.hv_tie.specs.Tie.{IsTied};
 use hv_defs::MAX_VPS;
 use hv_partition::Partition;
 use hv_privs::Privileges;
+use hv_tie::has_vp;
 use hv_tree::IdTree;
 use hv_vp::{kept, name_of_msr, privilege_of};
 use std::alloc::Allocator;
-
-// P19: whether a partition has a processor with this index.
-pub fn has_vp<A: Allocator>(tree: &IdTree<Partition<A>, A>, id: u64, index: u32) -> bool
-    ensures { (f : Flat) → IsTied tree.now f → result ≡ contains_key f.vp (id, index) }
-{
-    match tree.get(id) {
-        None => false,
-        Some(partition) => partition.vp(index).is_some(),
-    }
-}
 
 // P19: whether a partition may get a processor with this index.
 pub fn is_vp_free<A: Allocator>(tree: &IdTree<Partition<A>, A>, id: u64, index: u32) -> bool

@@ -13,7 +13,7 @@ use std::test::Fail;
 
 // Calls once the root has the child 2: the input value, RDX and the input. All are served, but the last two, whose
 // codes aren't.
-const CALLS: [(u64, u64, &[u8]); 17] = [
+const CALLS: [(u64, u64, &[u8]); 21] = [
     (0x40, 0, &[0; 8]),
     (0x10041, 2, &[]),
     (0x10042, 2, &[]),
@@ -54,6 +54,24 @@ const CALLS: [(u64, u64, &[u8]); 17] = [
             0, 0, 0, 0, 0x30, 0, 1, 0, 0, 0, 0, 0, 0, 0, 0, 0, 0, 0, 0, 0,
         ],
     ),
+    (0x58, 0, &[1, 0, 0, 0, 0, 0, 0, 0, 5, 0, 0, 0, 0, 0, 0, 0]),
+    (0x5b, 0, &[1, 0, 0, 0, 0, 0, 0, 0, 7, 0, 0, 0, 0, 0, 0, 0]),
+    (
+        0x95,
+        0,
+        &[
+            1, 0, 0, 0, 0, 0, 0, 0, 5, 0, 0, 0, 0, 0, 0, 0, 2, 0, 0, 0, 0, 0, 0, 0, 2, 0, 0, 0, 0,
+            0, 0, 0, 3, 0, 0, 0, 0, 0, 0, 0, 8, 0, 4, 0, 0, 0, 0, 0,
+        ],
+    ),
+    (
+        0x96,
+        0,
+        &[
+            1, 0, 0, 0, 0, 0, 0, 0, 7, 0, 0, 0, 0, 0, 0, 0, 1, 0, 0, 0, 0, 0, 0, 0, 5, 0, 0, 0, 0,
+            0, 0, 0, 2, 0, 0, 0, 0, 0, 0, 0, 0, 0, 0, 0, 0, 0, 0, 0,
+        ],
+    ),
     (
         0x5c,
         0,
@@ -63,7 +81,7 @@ const CALLS: [(u64, u64, &[u8]); 17] = [
 ];
 
 // By call code, the numbers of the rules that are asked beyond P10. Every other code is refused by P4.
-const FURTHER: [(u64, &[u8]); 15] = [
+const FURTHER: [(u64, &[u8]); 19] = [
     (0x40, &[14, 24]),
     (0x41, &[12]),
     (0x42, &[12, 13]),
@@ -79,6 +97,10 @@ const FURTHER: [(u64, &[u8]); 15] = [
     (0x4f, &[12, 19]),
     (0x50, &[12, 18, 19, 21]),
     (0x51, &[12, 18, 19, 21]),
+    (0x58, &[12, 17]),
+    (0x5b, &[12, 16]),
+    (0x95, &[12, 15, 17, 19, 24]),
+    (0x96, &[12, 15, 16, 17, 18, 21, 24]),
 ];
 
 // Whether a call with this input value is asked the rule of this number.

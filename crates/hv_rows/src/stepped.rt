@@ -88,3 +88,72 @@ fn a_deleted_processor_reads_no_further(rt: HostRuntime) -> Result<(), Fail> {
     assert_eq!(rt; machine.served(), 4);
     Ok(())
 }
+
+// A message port 5 of partition 2 for the root, at SINT 2 of processor 0, and the root's connection 7 to it.
+const PORT: [u8; 48] = [
+    2, 0, 0, 0, 0, 0, 0, 0, 5, 0, 0, 0, 0, 0, 0, 0, 1, 0, 0, 0, 0, 0, 0, 0, 1, 0, 0, 0, 0, 0, 0, 0,
+    2, 0, 0, 0, 0, 0, 0, 0, 0, 0, 0, 0, 0, 0, 0, 0,
+];
+
+const CONNECTION: [u8; 36] = [
+    1, 0, 0, 0, 0, 0, 0, 0, 7, 0, 0, 0, 0, 0, 0, 0, 2, 0, 0, 0, 0, 0, 0, 0, 5, 0, 0, 0, 0, 0, 0, 0,
+    1, 0, 0, 0,
+];
+
+// Makes a call by processor 0 of the root, which is served.
+fn serve(
+    rt: &impl Abort,
+    machine: &mut Machine<Global>,
+    rcx: u64,
+    rdx: u64,
+    r8: u64,
+    input: Vec<u8>,
+) -> Result<(), Fail> {
+    assert!(rt; machine.served() < 20);
+    let reply = machine.step(&call(0, rcx, rdx, r8, input))?;
+    assert!(rt; matches!(reply, Reply::Served(_)), "{rcx:#x}");
+    Ok(())
+}
+
+// When port 5 of partition 2 was made, and when the port was to which the root's connection 7 goes.
+fn births(machine: &Machine<Global>) -> (Option<u64>, Option<u64>) {
+    let port = match machine.tree().get(2) {
+        Some(partition) => partition.port(5),
+        None => None,
+    };
+    let conn = match machine.tree().get(1) {
+        Some(partition) => partition.conn(7),
+        None => None,
+    };
+    (port.map(|port| port.born), conn.map(|conn| conn.born))
+}
+
+// A port's birth is the count of served events after its making, and a connection keeps that of the port that it was made to,
+// also where another port has the id by then.
+#[test]
+fn a_connection_keeps_the_birth_of_its_port(rt: HostRuntime) -> Result<(), Fail> {
+    let alloc = rt.alloc();
+    let mut machine = boot(alloc)?;
+    serve(&rt, &mut machine, 0x40, 0, 0, Vec::new(alloc))?;
+    serve(&rt, &mut machine, 0x10041, 2, 0, Vec::new(alloc))?;
+    for page in 12..18_u8 {
+        let block = [2, 0, 0, 0, 0, 0, 0, 0, page, 0, 0, 0, 0, 0, 0, 0];
+        serve(
+            &rt,
+            &mut machine,
+            0x1_0000_0048,
+            0,
+            0,
+            vec_of(alloc, &block)?,
+        )?;
+    }
+    serve(&rt, &mut machine, 0x1004e, 2, 0, Vec::new(alloc))?;
+    serve(&rt, &mut machine, 0x95, 0, 0, vec_of(alloc, &PORT)?)?;
+    serve(&rt, &mut machine, 0x96, 0, 0, vec_of(alloc, &CONNECTION)?)?;
+    assert_eq!(rt; births(&machine), (Some(10), Some(10)));
+    serve(&rt, &mut machine, 0x10058, 2, 5, Vec::new(alloc))?;
+    assert_eq!(rt; births(&machine), (None, Some(10)));
+    serve(&rt, &mut machine, 0x95, 0, 0, vec_of(alloc, &PORT)?)?;
+    assert_eq!(rt; births(&machine), (Some(13), Some(10)));
+    Ok(())
+}

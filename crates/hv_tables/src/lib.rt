@@ -11,6 +11,7 @@ mod accesses;
 mod blocks;
 mod calls;
 mod frames;
+mod links;
 mod privileges;
 mod properties;
 mod registers;
@@ -33,6 +34,7 @@ pub use calls::{
 pub use frames::{
     each_frame_has_its_fault, each_input_value_has_its_parts, each_result_has_its_value,
 };
+pub use links::{each_port_has_its_type, each_port_keeps_its_flags};
 pub use privileges::each_privilege_has_its_bit;
 pub use properties::{
     each_property_has_its_code, each_property_has_its_range, each_property_has_its_start,

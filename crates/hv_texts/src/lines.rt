@@ -132,20 +132,8 @@ const ACCESSES: [(&str, u64, u32, u32, Option<u64>); 5] = [
         0xfedc_ba98,
         None,
     ),
-    (
-        " 1.63  rdmsr  19088743 ",
-        1,
-        63,
-        0x0123_4567,
-        None,
-    ),
-    (
-        "1.0 rdmsr 4294967295",
-        1,
-        0,
-        0xffff_ffff,
-        None,
-    ),
+    (" 1.63  rdmsr  19088743 ", 1, 63, 0x0123_4567, None),
+    ("1.0 rdmsr 4294967295", 1, 0, 0xffff_ffff, None),
     (
         "81985529216486895.271733878 wrmsr 0x89abcdef 0xf0E1d2C3b4A59687",
         0x0123_4567_89ab_cdef,
