@@ -1,14 +1,11 @@
-// Rep calls and accesses, stepped one by one.
+// Calls stepped one by one.
 
 use hv_abi::{Bytes, Frame};
-use hv_machine::{Action, Caller, Config, Event, Machine, Reply, Rule, result_of};
+use hv_machine::{Action, Caller, Config, Event, Machine, Reply, Rule};
 use hv_privs::Privileges;
 use std::alloc::Global;
 use std::process::Abort;
 use std::test::Fail;
-
-// The input value of a read of 40 registers, and of RAX of processor 0 of partition 1 forty times.
-const READ: u64 = 0x28_0000_0050;
 
 fn boot(alloc: Global) -> Result<Machine<Global>, Fail> {
     let config = Config {
@@ -20,140 +17,279 @@ fn boot(alloc: Global) -> Result<Machine<Global>, Fail> {
     Ok(Machine::boot(alloc, config)?)
 }
 
-fn read(alloc: Global, start: u64) -> Result<Event<Global>, Fail> {
-    let mut input = vec_of(alloc, &[1, 0, 0, 0, 0, 0, 0, 0, 0, 0, 0, 0, 0, 0, 0, 0])?;
-    for _ in 0..40 {
-        input.extend_from_slice(&[0, 0, 2, 0])?;
-    }
-    Ok(call(1, READ | start << 48, 0, 0, input))
+// A call by a processor of the root: the processor, RCX, RDX, R8 and the input.
+#[derive(Clone, Copy)]
+struct Call<'a> {
+    vp: u32,
+    rcx: u64,
+    rdx: u64,
+    r8: u64,
+    input: &'a [u8],
 }
 
-fn vec_of(alloc: Global, bytes: &[u8]) -> Result<Vec<u8>, Fail> {
-    Ok(bytes.to_vec(alloc)?)
-}
-
-// A call by a processor of the root.
-fn call(vp: u32, rcx: u64, rdx: u64, r8: u64, input: Vec<u8>) -> Event<Global> {
-    let input = Bytes::from_vec(input);
+fn event(alloc: Global, call: Call<'_>) -> Result<Event<Global>, Fail> {
+    let input = Bytes::from_vec(call.input.to_vec(alloc)?);
     let frame = Frame {
-        rcx,
-        rdx,
-        r8,
+        rcx: call.rcx,
+        rdx: call.rdx,
+        r8: call.r8,
         input,
     };
-    Event {
-        by: Caller { part: 1, vp },
-        what: Action::Hypercall(frame),
-    }
+    let by = Caller {
+        part: 1,
+        vp: call.vp,
+    };
+    let what = Action::Hypercall(frame);
+    Ok(Event { by, what })
 }
 
 fn step(
     rt: &impl Abort,
+    alloc: Global,
     machine: &mut Machine<Global>,
-    event: &Event<Global>,
+    call: Call<'_>,
 ) -> Result<Reply, Fail> {
-    assert!(rt; machine.served() < 10);
-    Ok(machine.step(event)?)
+    assert!(rt; machine.served() < 20);
+    let event = event(alloc, call)?;
+    Ok(machine.step(&event)?)
 }
+
+// What a reply says: the next element, or the rule that refuses and how many elements were done before.
+#[derive(Clone, Copy, PartialEq, Eq, Debug)]
+enum Told {
+    Served,
+    More(u16),
+    Denied(Rule, u16),
+}
+
+fn said_by(rt: &impl Abort, reply: &Reply) -> Told {
+    match reply {
+        Reply::Served(_) => Told::Served,
+        Reply::More { next, .. } => Told::More(*next),
+        Reply::Denied { rule, reps, .. } => Told::Denied(*rule, *reps),
+        Reply::Fault { .. } => panic!(rt; "a fault"),
+    }
+}
+
+// Makes the calls one after another, and compares what each is answered.
+fn run(
+    rt: &impl Abort,
+    alloc: Global,
+    machine: &mut Machine<Global>,
+    steps: &[(Call<'_>, Told)],
+) -> Result<(), Fail> {
+    for (call, wanted) in steps {
+        let reply = step(rt, alloc, machine, *call)?;
+        assert_eq!(rt; said_by(rt, &reply), *wanted, "{:#x}", call.rcx);
+    }
+    Ok(())
+}
+
+const NONE: &[u8] = &[];
+
+// A call by processor 0.
+const BY_0: Call<'static> = Call {
+    vp: 0,
+    rcx: 0,
+    rdx: 0,
+    r8: 0,
+    input: NONE,
+};
+
+// Forty reads of registers of processor 0 of partition 1, of which the first four are RAX, from the first element on.
+const READ: Call<'static> = Call {
+    vp: 1,
+    rcx: 0x28_0000_0050,
+    input: &[
+        1, 0, 0, 0, 0, 0, 0, 0, 0, 0, 0, 0, 0, 0, 0, 0, 0, 0, 2, 0, 0, 0, 2, 0, 0, 0, 2, 0, 0, 0,
+        2, 0,
+    ],
+    ..BY_0
+};
+
+const DELETED: [(Call<'static>, Told); 5] = [
+    (READ, Told::More(1)),
+    (
+        Call {
+            rcx: 0x1_0028_0000_0050,
+            ..READ
+        },
+        Told::More(2),
+    ),
+    (
+        Call {
+            rcx: 0x2_0028_0000_0050,
+            ..READ
+        },
+        Told::More(3),
+    ),
+    (
+        Call {
+            rcx: 0x1004f,
+            rdx: 1,
+            r8: 1,
+            ..BY_0
+        },
+        Told::Served,
+    ),
+    (
+        Call {
+            rcx: 0x3_0028_0000_0050,
+            ..READ
+        },
+        Told::Denied(Rule::CallerVpExists, 3),
+    ),
+];
 
 // The processor of a rep call that goes on is deleted by another: the next element is denied, and counts those before it.
 #[test]
 fn a_deleted_processor_reads_no_further(rt: HostRuntime) -> Result<(), Fail> {
-    let alloc = rt.alloc();
-    let mut machine = boot(alloc)?;
-    for start in 0..3 {
-        let reply = step(&rt, &mut machine, &read(alloc, start)?)?;
-        assert!(rt; matches!(reply, Reply::More { next, .. } if u64::from(next) == start + 1));
-    }
-    let delete = call(0, 0x1004f, 1, 1, Vec::new(alloc));
-    assert!(rt; matches!(step(&rt, &mut machine, &delete)?, Reply::Served(_)));
-    let last = read(alloc, 3)?;
-    assert!(rt; machine.served() < 10);
-    let reply = machine.step(&last)?;
-    assert!(rt;
-        matches!(
-            reply,
-            Reply::Denied {
-                rule: Rule::CallerVpExists,
-                ..
-            }
-        )
-    );
-    match &last.what {
-        Action::Hypercall(frame) => {
-            assert_eq!(rt; result_of(frame, &reply).bits(), 0x0000_0003_0000_000e);
-        }
-        Action::ReadMsr(_) | Action::WriteMsr(_, _) => panic!(rt; "an access"),
-    }
-    assert_eq!(rt; machine.served(), 4);
-    Ok(())
+    let mut machine = boot(rt.alloc())?;
+    run(&rt, rt.alloc(), &mut machine, &DELETED)
 }
 
 // A message port 5 of partition 2 for the root, at SINT 2 of processor 0, and the root's connection 7 to it.
-const PORT: [u8; 48] = [
-    2, 0, 0, 0, 0, 0, 0, 0, 5, 0, 0, 0, 0, 0, 0, 0, 1, 0, 0, 0, 0, 0, 0, 0, 1, 0, 0, 0, 0, 0, 0, 0,
-    2, 0, 0, 0, 0, 0, 0, 0, 0, 0, 0, 0, 0, 0, 0, 0,
+const PORT: Call<'static> = Call {
+    rcx: 0x95,
+    input: &[
+        2, 0, 0, 0, 0, 0, 0, 0, 5, 0, 0, 0, 0, 0, 0, 0, 1, 0, 0, 0, 0, 0, 0, 0, 1, 0, 0, 0, 0, 0,
+        0, 0, 2, 0, 0, 0, 0, 0, 0, 0, 0, 0, 0, 0, 0, 0, 0, 0,
+    ],
+    ..BY_0
+};
+
+const CONNECTION: Call<'static> = Call {
+    rcx: 0x96,
+    input: &[
+        1, 0, 0, 0, 0, 0, 0, 0, 7, 0, 0, 0, 0, 0, 0, 0, 2, 0, 0, 0, 0, 0, 0, 0, 5, 0, 0, 0, 0, 0,
+        0, 0, 1, 0, 0, 0,
+    ],
+    ..BY_0
+};
+
+// The first of six pages, of which the others follow.
+const DEPOSIT: Call<'static> = Call {
+    rcx: 0x6_0000_0048,
+    input: PAGES,
+    ..BY_0
+};
+
+const PAGES: &[u8] = &[
+    2, 0, 0, 0, 0, 0, 0, 0, 12, 0, 0, 0, 0, 0, 0, 0, 13, 0, 0, 0, 0, 0, 0, 0, 14, 0, 0, 0, 0, 0, 0,
+    0, 15, 0, 0, 0, 0, 0, 0, 0, 16, 0, 0, 0, 0, 0, 0, 0, 17, 0, 0, 0, 0, 0, 0, 0,
 ];
 
-const CONNECTION: [u8; 36] = [
-    1, 0, 0, 0, 0, 0, 0, 0, 7, 0, 0, 0, 0, 0, 0, 0, 2, 0, 0, 0, 0, 0, 0, 0, 5, 0, 0, 0, 0, 0, 0, 0,
-    1, 0, 0, 0,
+const MADE: [(Call<'static>, Told); 11] = [
+    (Call { rcx: 0x40, ..BY_0 }, Told::Served),
+    (
+        Call {
+            rcx: 0x10041,
+            rdx: 2,
+            ..BY_0
+        },
+        Told::Served,
+    ),
+    (DEPOSIT, Told::More(1)),
+    (
+        Call {
+            rcx: 0x1_0006_0000_0048,
+            ..DEPOSIT
+        },
+        Told::More(2),
+    ),
+    (
+        Call {
+            rcx: 0x2_0006_0000_0048,
+            ..DEPOSIT
+        },
+        Told::More(3),
+    ),
+    (
+        Call {
+            rcx: 0x3_0006_0000_0048,
+            ..DEPOSIT
+        },
+        Told::More(4),
+    ),
+    (
+        Call {
+            rcx: 0x4_0006_0000_0048,
+            ..DEPOSIT
+        },
+        Told::More(5),
+    ),
+    (
+        Call {
+            rcx: 0x5_0006_0000_0048,
+            ..DEPOSIT
+        },
+        Told::Served,
+    ),
+    (
+        Call {
+            rcx: 0x1004e,
+            rdx: 2,
+            ..BY_0
+        },
+        Told::Served,
+    ),
+    (PORT, Told::Served),
+    (CONNECTION, Told::Served),
 ];
 
-// Makes a call by processor 0 of the root, which is served.
-fn serve(
+const MADE_AGAIN: [(Call<'static>, Told); 2] = [
+    (
+        Call {
+            rcx: 0x10058,
+            rdx: 2,
+            r8: 5,
+            ..BY_0
+        },
+        Told::Served,
+    ),
+    (PORT, Told::Served),
+];
+
+// Makes the calls. Then port 5 of partition 2 was made at the one birth, and the port to which the root's connection 7 goes at the
+// other.
+fn run_to_births(
     rt: &impl Abort,
+    alloc: Global,
     machine: &mut Machine<Global>,
-    rcx: u64,
-    rdx: u64,
-    r8: u64,
-    input: Vec<u8>,
+    steps: &[(Call<'_>, Told)],
+    births: (u64, u64),
 ) -> Result<(), Fail> {
-    assert!(rt; machine.served() < 20);
-    let reply = machine.step(&call(0, rcx, rdx, r8, input))?;
-    assert!(rt; matches!(reply, Reply::Served(_)), "{rcx:#x}");
+    run(rt, alloc, machine, steps)?;
+    assert!(rt; port_birth(machine) == births.0);
+    assert!(rt; connection_birth(machine) == births.1);
     Ok(())
 }
 
-// When port 5 of partition 2 was made, and when the port was to which the root's connection 7 goes.
-fn births(machine: &Machine<Global>) -> (Option<u64>, Option<u64>) {
-    let port = match machine.tree().get(2) {
-        Some(partition) => partition.port(5),
-        None => None,
-    };
-    let conn = match machine.tree().get(1) {
-        Some(partition) => partition.conn(7),
-        None => None,
-    };
-    (port.map(|port| port.born), conn.map(|conn| conn.born))
+fn port_birth(machine: &Machine<Global>) -> u64 {
+    match machine.tree().get(2) {
+        Some(partition) => match partition.port(5) {
+            Some(port) => port.born,
+            None => 0,
+        },
+        None => 0,
+    }
+}
+
+fn connection_birth(machine: &Machine<Global>) -> u64 {
+    match machine.tree().get(1) {
+        Some(partition) => match partition.conn(7) {
+            Some(conn) => conn.born,
+            None => 0,
+        },
+        None => 0,
+    }
 }
 
 // A port's birth is the count of served events after its making, and a connection keeps that of the port that it was made to,
 // also where another port has the id by then.
 #[test]
 fn a_connection_keeps_the_birth_of_its_port(rt: HostRuntime) -> Result<(), Fail> {
-    let alloc = rt.alloc();
-    let mut machine = boot(alloc)?;
-    serve(&rt, &mut machine, 0x40, 0, 0, Vec::new(alloc))?;
-    serve(&rt, &mut machine, 0x10041, 2, 0, Vec::new(alloc))?;
-    for page in 12..18_u8 {
-        let block = [2, 0, 0, 0, 0, 0, 0, 0, page, 0, 0, 0, 0, 0, 0, 0];
-        serve(
-            &rt,
-            &mut machine,
-            0x1_0000_0048,
-            0,
-            0,
-            vec_of(alloc, &block)?,
-        )?;
-    }
-    serve(&rt, &mut machine, 0x1004e, 2, 0, Vec::new(alloc))?;
-    serve(&rt, &mut machine, 0x95, 0, 0, vec_of(alloc, &PORT)?)?;
-    serve(&rt, &mut machine, 0x96, 0, 0, vec_of(alloc, &CONNECTION)?)?;
-    assert_eq!(rt; births(&machine), (Some(10), Some(10)));
-    serve(&rt, &mut machine, 0x10058, 2, 5, Vec::new(alloc))?;
-    assert_eq!(rt; births(&machine), (None, Some(10)));
-    serve(&rt, &mut machine, 0x95, 0, 0, vec_of(alloc, &PORT)?)?;
-    assert_eq!(rt; births(&machine), (Some(13), Some(10)));
-    Ok(())
+    let mut machine = boot(rt.alloc())?;
+    run_to_births(&rt, rt.alloc(), &mut machine, &MADE, (10, 10))?;
+    run_to_births(&rt, rt.alloc(), &mut machine, &MADE_AGAIN, (13, 10))
 }
