@@ -1,7 +1,16 @@
-# Sourced by the benchmarks: one measured run of the program.
+# Sourced by the benchmarks: the bytes of a number, and one measured run of the program.
 
-# Runs the script $2 with the program $1, and prints its time, its peak memory and the last line of its audit. The
-# folder of the script takes the audit.
+# The $2 bytes of the number $1, the lowest first.
+field() {
+    local number=$1 bytes=$2
+    for ((; bytes > 0; bytes--)); do
+        printf '%02x' $((number & 255))
+        number=$((number >> 8))
+    done
+}
+
+# Runs the script $2 with the program $1, and prints its time, its peak memory, the last line of its audit and how many
+# events were refused. The folder of the script takes the audit.
 measure() {
     local folder
     folder=$(dirname -- "$2")
@@ -12,4 +21,5 @@ measure() {
         time "$1" run "$2" --serial >"$folder/audit"
     fi
     tail -n 1 -- "$folder/audit"
+    echo "refused: $(grep -cE ' (denied|fault) ' "$folder/audit" || true)"
 }

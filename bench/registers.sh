@@ -14,15 +14,6 @@ source "$root/bench/measure.sh"
 
 turns=64
 
-# The $2 bytes of the number $1, the lowest first.
-field() {
-    local number=$1 bytes=$2
-    for ((; bytes > 0; bytes--)); do
-        printf '%02x' $((number & 255))
-        number=$((number >> 8))
-    done
-}
-
 # The registers that take values: RAX to RFLAGS, the 16 SINTs, SCONTROL, SIEFP, SIMP and EOM. VP_INDEX and SVERSION are
 # read alone.
 writable=()
@@ -84,11 +75,9 @@ partitions_script() {
     done
 }
 
-# Runs the script, and prints how many of its events were refused.
 run() {
     echo "== $1, $(stat -c %s "$folder/registers.hv") bytes"
     measure "$root/bin/hvpm" "$folder/registers.hv"
-    echo "refused: $(grep -cE ' (denied|fault) ' "$folder/audit" || true)"
 }
 
 for processors in 1 4 16 64; do

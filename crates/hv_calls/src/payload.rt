@@ -41,6 +41,18 @@ impl Payload {
         Payload { bytes }
     }
 
+    /// A copy of the bytes.
+    pub fn to_array(&self) -> ArrayVec<u8, 240>
+        ensures { result.items ≡ self.now }
+    {
+        let own = &self.bytes;
+        let mut bytes = ArrayVec::new();
+        let Ok(()) = bytes.try_extend_from_slice(own.as_slice()) else {
+            unreachable!()
+        };
+        bytes
+    }
+
     /// The bytes, in the order in which they stand in the input.
     pub fn as_slice(&self) -> &[u8]
         ensures { result.now ≡ self.now }

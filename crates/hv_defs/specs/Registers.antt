@@ -1,5 +1,5 @@
 -- The registers of a virtual processor, by name.
-use Rattle.std.specs.Prelude.{ℕ, ◌==◌, ◌||◌, Bool, false, cond, find, map, nat_le, Option, None, Some, option_map, Result, Ok, Err}
+use Rattle.std.specs.Prelude.{ℕ, ◌==◌, ◌||◌, ◌&&◌, Bool, false, cond, find, map, nat_le, Option, None, Some, option_map, Result, Ok, Err}
 use Rattle.std.specs.Option.{option_map_or}
 use Rattle.std.specs.Ordering.{nat_cmp}
 use Rattle.std.specs.FinMap.{FinMap, from_entries, get, insert}
@@ -9,7 +9,7 @@ use Rattle.hv_defs.specs.declared.registers.RegFault.TheVariants.{Unknown, ReadO
 use Rattle.hv_defs.specs.declared.registers.RegisterRow.{RegisterRow}
 use Rattle.hv_defs.specs.declared.registers.Takes.{Takes}
 use Rattle.hv_defs.specs.declared.registers.Takes.TheVariants.{Nothing, Any, SintValue, EndOfMessage}
-use Rattle.hv_defs.specs.declared.registers.TheConstants.{REGISTERS, VP_INDEX}
+use Rattle.hv_defs.specs.declared.registers.TheConstants.{REGISTERS, SCONTROL, SIEFP, SIMP, VP_INDEX}
 
 -- each register's value, by its name, in a processor that was just made
 abbrev pub start_registers : ℕ → FinMap nat_cmp ℕ
@@ -51,3 +51,11 @@ after_write registers name (Err fault) = registers
 -- whether bit 0 of a register is set
 abbrev pub is_on : FinMap nat_cmp ℕ → ℕ → Bool
 is_on registers name = option_map_or (λ value. bits value 0 1 == 1) (get registers name) false
+
+-- whether a processor takes messages: its synthetic interrupt controller and its message page are on
+abbrev pub takes_messages : FinMap nat_cmp ℕ → Bool
+takes_messages registers = is_on registers SCONTROL && is_on registers SIMP
+
+-- whether it takes event flags: its synthetic interrupt controller and its page of event flags are on
+abbrev pub takes_flags : FinMap nat_cmp ℕ → Bool
+takes_flags registers = is_on registers SCONTROL && is_on registers SIEFP

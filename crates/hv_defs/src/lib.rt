@@ -3,7 +3,8 @@
 //!
 //! The definitions of `specs/` that more than one crate cites stand here too: a little-endian field
 //! of a block of bytes, bits of a register value, the registers with which a processor starts, and what they keep of a value
-//! that is written.
+//! that is written; the bytes of a message slot and of a SINT's event flags, when a processor takes messages and flags, which vector a
+//! SINT raises, and the highest of those that are pending.
 //! The crate has no logic.
 #![tactic(auto)]
 
@@ -14,10 +15,12 @@ mod sizes;
 
 pub use life::Life;
 pub use port_kind::PortKind;
-pub use registers::{REGISTERS, RegFault, RegisterRow, SCONTROL, SIEFP, SIMP, Takes, VP_INDEX};
+pub use registers::{
+    EOM, REGISTERS, RegFault, RegisterRow, SCONTROL, SIEFP, SIMP, SINT0, Takes, VP_INDEX,
+};
 pub use sizes::{
     ANY_VP, CONNECTION_CHARGE, CPU_CAP_START, CPU_RESERVE_START, CPU_WEIGHT_START, EVENT_FLAGS,
     FIRST_CHILD_ID, MAX_CPU_CAP, MAX_CPU_RESERVE, MAX_CPU_WEIGHT, MAX_DEPTH, MAX_MESSAGE_TYPE,
-    MAX_PAGES, MAX_PAYLOAD, MAX_PORT_ID, MAX_SERVED, MAX_VPS, MIN_CPU_WEIGHT, PAGE_SIZE,
-    PARTITION_CHARGE, PORT_CHARGE, REPS_END, ROOT_ID, SELF_ID, SINTS, VP_CHARGE,
+    MAX_MESSAGES, MAX_PAGES, MAX_PAYLOAD, MAX_PORT_ID, MAX_SERVED, MAX_VPS, MIN_CPU_WEIGHT,
+    PAGE_SIZE, PARTITION_CHARGE, PORT_CHARGE, REPS_END, ROOT_ID, SELF_ID, SINTS, VP_CHARGE,
 };

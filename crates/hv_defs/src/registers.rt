@@ -52,6 +52,12 @@ pub const SIEFP: u32 = 0x000A_0012;
 /// The name of the register that turns a processor's messages on, by bit 0.
 pub const SIMP: u32 = 0x000A_0013;
 
+/// The name of the register whose write ends a message.
+pub const EOM: u32 = 0x000A_0014;
+
+/// The name of the register of SINT 0, which holds its vector and its mask bit. SINT s has this name plus s.
+pub const SINT0: u32 = 0x000A_0000;
+
 // The privilege AccessSynicRegs.
 const SYNIC: u64 = 1 << 2;
 

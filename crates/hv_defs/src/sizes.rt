@@ -63,6 +63,9 @@ pub const EVENT_FLAGS: u32 = 2048;
 /// Most bytes of a message's payload (HV_MESSAGE_PAYLOAD_BYTE_COUNT).
 pub const MAX_PAYLOAD: u32 = 240;
 
+/// Most messages of a port that are kept, shown or waiting. This is this project's own.
+pub const MAX_MESSAGES: u32 = 8;
+
 /// The highest id of a port or of a connection: ids have 24 bits.
 pub const MAX_PORT_ID: u32 = 0x00FF_FFFF;
 

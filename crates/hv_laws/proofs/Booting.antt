@@ -17,7 +17,8 @@ use Rattle.hv_policy.specs.BootFault.{boot_fault}
 use Rattle.hv_policy.specs.declared.config.BootRefused.TheVariants.{Pages, Pool, Vps}
 use Rattle.hv_policy.specs.Boot.{boot, boot_page, root_row, start_vp}
 use Rattle.hv_policy.specs.Count.{child_count, conn_count, in_use, is_parent, pooled_count, port_count, vp_count}
-use Rattle.hv_policy.specs.Flat.{PageRow, PartRow, VpRow, pair_cmp}
+use Rattle.hv_defs.specs.Flags.{pair_cmp}
+use Rattle.hv_policy.specs.Flat.{PageRow, PartRow, PortRow, VpRow}
 use Rattle.hv_policy.specs.Met.{is_active, test_row}
 use Rattle.hv_policy.specs.declared.config.Config.{Config}
 use Rattle.hv_laws.proofs.Lending.{is_own}
@@ -121,6 +122,9 @@ module _ (config : Config) (sane : boot_fault config ≡ None) where
   parentless : (id parent : ℕ) (row : PartRow) → get (boot config).part id ≡ Some row → row.parent ≡ Some parent → ⊥
   parentless id parent row is named = let (here, root) = root_only id row is in let both = ap {A = PartRow} (λ r. r.parent) root ∙ named in cc
 
+  portless : (key : ℕ × ℕ) (port : PortRow) → get (boot config).port key ≡ Some port → ⊥
+  portless key port is = let none = sym (get-empty {X = PortRow} pair_cmp key) ∙ is in cc
+
   no_children : (id : ℕ) → child_count (boot config) id ≡ 0
   no_children id = count_by-none nat_cmp nat_cmp_total nat_cmp-IsAntisymmetric (boot config).part (λ e. is_parent id e.1.parent) (λ q. ap (passes (λ (e : ℕ × PartRow). is_parent id e.1.parent) q) (part_at config q) ∙ by q (q == 1))
     where
@@ -183,6 +187,8 @@ module _ (config : Config) (sane : boot_fault config ≡ None) where
     paged = λ page. ap is_some (page_at config page) ∙ has (nat_lt page config.pages) (boot_page config.pool page);
     owned = λ page row is. owned page row (nat_lt page config.pages) (sym (page_at config page) ∙ is);
     few = omega arith;
+    ports = λ key port is. absurd (portless key port is);
+    placed = tt;
   }
     where
       within : (id : ℕ) (b : Bool) → id == 1 ≡ b → in_use (boot config) id ≤ cond b config.pool 0 → in_use (boot config) id ≤ pooled_count (boot config) id

@@ -9,8 +9,10 @@ use Rattle.hv_defs.proofs.Counts.{passes, count_by-none}
 use Rattle.hv_defs.specs.declared.life.Life.TheVariants.{Active, Finalized}
 use Rattle.hv_policy.proofs.Pairs.{pair_cmp_total, pair_cmp_exact}
 use Rattle.hv_policy.specs.Count.{child_count, in_use, is_parent}
-use Rattle.hv_policy.specs.Effect.{given, mail_but, rows_but, with_row}
-use Rattle.hv_policy.specs.Flat.{Flat, PartRow, pair_cmp}
+use Rattle.hv_policy.specs.Effect.{given, rows_but, with_row}
+use Rattle.hv_defs.specs.Flags.{pair_cmp}
+use Rattle.hv_policy.specs.Flat.{Flat, PartRow}
+use Rattle.hv_policy.specs.Mail.{mail_but}
 use Rattle.hv_policy.specs.Met.{is_active, test_row}
 use Rattle.hv_policy.specs.declared.property.Property.{Property}
 use Rattle.hv_policy.specs.declared.property.Property.TheVariants.{PrivilegeFlags, CpuReserve, CpuCap, CpuWeight}
@@ -18,6 +20,7 @@ use Rattle.hv_privs.specs.Privileges.{IsSubset, of}
 use Rattle.hv_policy.proofs.Rows.{get-with_row, get-rows_but}
 use Rattle.hv_defs.proofs.Tallies.{count-alike, count-fewer, none-counted}
 use Rattle.hv_policy.specs.Allowed.{is_running}
+use Rattle.hv_laws.proofs.Mailing.{AreMailed, mail_left, mailed_of, ports_but}
 use Rattle.hv_laws.specs.Lawful.{IsLawful}
 
 -- what uses nothing is nobody's parent
@@ -100,6 +103,8 @@ module _ (pages : ℕ) (f : Flat) (l : IsLawful pages f) (target : ℕ) (h : Par
     paged = l.paged;
     owned = λ page row is. still_there row.owner ∙ l.owned page row is;
     few = l.few;
+    ports = l.ports;
+    placed = l.placed;
   }
 
   -- where the change leaves the mask
@@ -174,7 +179,7 @@ module _ (pages : ℕ) (f : Flat) (l : IsLawful pages f) (target : ℕ) where
       let (giver, row, above, was, named, there, within, unused) = may refl in
       mask_given giver value row above was named there within unused
 
-  -- without the processors, ports and connections of one partition
+  -- without the processors, ports, connections and messages of one partition
   abbrev dropped : Flat
   dropped = record f { vp = rows_but target f.vp; port = rows_but target f.port; conn = rows_but target f.conn; mail = mail_but target f.mail }
 
@@ -203,6 +208,11 @@ module _ (pages : ℕ) (f : Flat) (l : IsLawful pages f) (target : ℕ) where
       let conns = rows-fewer f.conn id in
       omega arith
 
+  dropped_mail : AreMailed f.served (rows_but target f.port) (mail_but target f.mail)
+  dropped_mail =
+      ports_but f.served f.port target (mail_but target f.mail)
+      (mail_left f.served f.port (λ row. not (row.part == target)) f.mail (mailed_of pages f l))
+
   dropped_lawful : IsLawful pages dropped
   dropped_lawful = record {
     below = l.below;
@@ -213,6 +223,8 @@ module _ (pages : ℕ) (f : Flat) (l : IsLawful pages f) (target : ℕ) where
     paged = l.paged;
     owned = l.owned;
     few = l.few;
+    ports = dropped_mail.ports;
+    placed = dropped_mail.placed;
   }
 
   pub closed : child_count f target ≡ 0 → IsLawful pages (record dropped { part = with_row f.part target (λ row. record row { life = Finalized }) })

@@ -14,6 +14,7 @@ use Rattle.hv_defs.proofs.Maps.{get_at-insert}
 use Rattle.hv_defs.proofs.Tallies.{count-insert}
 use Rattle.hv_policy.proofs.Rows.{row_of}
 use Rattle.hv_policy.specs.Allowed.{is_running}
+use Rattle.hv_laws.proofs.Mailing.{AreMailed, mail_counted, mailed_of}
 use Rattle.hv_laws.specs.Lawful.{IsLawful}
 
 module _ (pages : ℕ) (f : Flat) (l : IsLawful pages f) where
@@ -103,6 +104,9 @@ module _ (pages : ℕ) (f : Flat) (l : IsLawful pages f) where
     there true r h = refl
     there false r h = h
 
+    mailed : AreMailed (f.served + 1) f.port f.mail
+    mailed = mail_counted f.served f.port f.mail (mailed_of pages f l)
+
     pub created : IsLawful pages g
     created = record {
       below = below;
@@ -113,4 +117,6 @@ module _ (pages : ℕ) (f : Flat) (l : IsLawful pages f) where
       paged = l.paged;
       owned = λ page row is. ap is_some (at row.owner) ∙ there (row.owner == f.next) (get f.part row.owner) (l.owned page row is);
       few = let few = l.few in omega arith;
+      ports = mailed.ports;
+      placed = mailed.placed;
     }

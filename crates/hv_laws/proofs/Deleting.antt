@@ -75,6 +75,8 @@ module _ (pages : ℕ) (f : Flat) (l : IsLawful pages f) (heir target : ℕ) (ap
     paged = λ q. ap is_some (page_at q) ∙ one (get f.page q) ∙ l.paged q;
     owned = owned;
     few = l.few;
+    ports = l.ports;
+    placed = l.placed;
   }
     where
       one : (r : Option PageRow) → is_some (option_map (inherited target heir) r) ≡ is_some r

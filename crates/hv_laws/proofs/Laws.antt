@@ -1,25 +1,27 @@
 -- Each state that the flat model reaches from boot is lawful.
-use Rattle.std.proofs.Common.{◌≡◌, ℕ, ◌==◌, not, Bool, nat_lt, true, false, List, [], ◌∷◌, Option, Some, None, refl, sym, ap, subst, ◌∙◌, arith}
+use Rattle.std.proofs.Common.{◌≡◌, ℕ, ◌==◌, ◌&&◌, not, Bool, nat_lt, true, false, List, [], ◌∷◌, Option, Some, None, refl, sym, ap, subst, ◌∙◌, arith}
 use Rattle.std.proofs.lemmas.Bool.{and_parts, eqb-true, ne_eqb, leb-true}
 use Rattle.std.specs.FinMap.{contains_key, get}
 use Rattle.hv_calls.specs.declared.call.Call.{Call}
 use Rattle.hv_calls.specs.declared.call.Call.TheVariants as call
-use Rattle.hv_calls.specs.declared.call.Call.TheVariants.{CreatePartition, InitializePartition, FinalizePartition, DeletePartition, SetPartitionProperty, DepositMemory, WithdrawMemory, CreateVp, DeleteVp, SetVpRegisters, DeletePort, DisconnectPort, CreatePort, ConnectPort}
+use Rattle.hv_calls.specs.declared.call.Call.TheVariants.{CreatePartition, InitializePartition, FinalizePartition, DeletePartition, SetPartitionProperty, DepositMemory, WithdrawMemory, CreateVp, DeleteVp, SetVpRegisters, DeletePort, DisconnectPort, PostMessage, SignalEvent, CreatePort, ConnectPort}
 use Rattle.hv_defs.specs.Registers.{name_of_msr}
 use Rattle.hv_defs.specs.declared.life.Life.{Life}
 use Rattle.hv_defs.specs.declared.port_kind.PortKind.{PortKind}
 use Rattle.hv_defs.specs.declared.life.Life.TheVariants.{Created, Active, Finalized}
+use Rattle.hv_policy.specs.Aim.{aim_of}
 use Rattle.hv_policy.specs.Call.{target_of}
 use Rattle.hv_policy.specs.Count.{available, child_count, in_use}
 use Rattle.hv_policy.specs.Boot.{start_vp}
-use Rattle.hv_policy.specs.Effect.{call_effect, counted, effect, mail_but_at, served_effect, written, written_msr}
+use Rattle.hv_policy.specs.Effect.{call_effect, counted, effect, served_effect}
 use Rattle.hv_policy.specs.Flat.{Flat, PartRow}
+use Rattle.hv_policy.specs.Mail.{mail_but_at, place_at}
 use Rattle.hv_policy.specs.Met.{call_met, is_active, may_give, test_row}
 use Rattle.hv_policy.specs.Needs.{is_among, needs_of, states_to_set}
 use Rattle.hv_policy.specs.Property.{property_of}
 use Rattle.hv_policy.specs.Step.{run_from, step, step_by, unmet}
 use Rattle.hv_policy.specs.declared.event.Action.{Action}
-use Rattle.hv_policy.specs.declared.event.Action.TheVariants.{Hypercall, ReadMsr, WriteMsr}
+use Rattle.hv_policy.specs.declared.event.Action.TheVariants.{Hypercall, ReadMsr, WriteMsr, ReadSlot, ClearSlot, ReadFlags, ClearFlag, TakeInterrupt}
 use Rattle.hv_policy.specs.declared.event.Caller.{Caller}
 use Rattle.hv_policy.specs.declared.event.Event.{Event}
 use Rattle.hv_policy.specs.declared.need.States.TheVariants as states
@@ -33,23 +35,30 @@ use Rattle.hv_laws.proofs.Creation.{created}
 use Rattle.hv_laws.proofs.Deleting.{deleted}
 use Rattle.hv_laws.proofs.Granted.{caller_there, child_row, is_served, state_row, target_there}
 use Rattle.hv_laws.proofs.Lending.{deposited, withdrawn_pages}
+use Rattle.hv_laws.proofs.Mailing.{mail_counted, mail_left, mailed_of}
+use Rattle.hv_laws.proofs.Posting.{cleared_lawful, msr_lawful, post_lawful, register_lawful, signal_lawful}
 use Rattle.hv_laws.proofs.Staffing.{conn_added, conn_removed, port_added, port_removed, vp_added, vp_changed, vp_removed}
 use Rattle.hv_policy.proofs.Rows.{row_of}
 use Rattle.hv_policy.specs.Allowed.{IsAllowed, is_running}
+use Rattle.hv_laws.specs.Bounded.{IsBounded}
 use Rattle.hv_laws.specs.Lawful.{IsLawful}
 
 -- one more served event changes nothing of it
 pub counted_lawful : (pages : ℕ) (f : Flat) → IsLawful pages f → IsLawful pages (counted f)
-counted_lawful pages f l = record {
-  below = l.below;
-  above = l.above;
-  within = l.within;
-  idle = l.idle;
-  masks = l.masks;
-  paged = l.paged;
-  owned = l.owned;
-  few = let few = l.few in omega arith;
-}
+counted_lawful pages f l =
+    let mailed = mail_counted f.served f.port f.mail (mailed_of pages f l) in
+    record {
+      below = l.below;
+      above = l.above;
+      within = l.within;
+      idle = l.idle;
+      masks = l.masks;
+      paged = l.paged;
+      owned = l.owned;
+      few = let few = l.few in omega arith;
+      ports = mailed.ports;
+      placed = mailed.placed;
+    }
 
 idle_state : (life : Life) → is_among life states.CreatedOrFinalized ≡ true → is_active life ≡ false
 idle_state Created h = refl
@@ -112,10 +121,12 @@ module _ (pages : ℕ) (f : Flat) (l : IsLawful pages f) (caller : ℕ) where
       let (below, free) = and_parts (nat_lt vp 64) (not (contains_key f.vp (target, vp))) a.further.1.0 in
       vp_added pages f l target vp (runs (CreateVp partition vp) refl a a.further.0) (start_vp vp) (unless (contains_key f.vp (target, vp)) free) (leb-true 4 (available f target) a.further.1.1.0)
 
-  port_lawful : (partition port peer : ℕ) (kind : PortKind) (sint vp base count : ℕ) → IsAllowed f caller (CreatePort partition port peer kind sint vp base count) → IsLawful pages (call_effect (CreatePort partition port peer kind sint vp base count) f caller (target_of (CreatePort partition port peer kind sint vp base count) caller))
-  port_lawful partition port peer kind sint vp base count a =
+  port_lawful : (partition port peer : ℕ) (kind : PortKind) (sint vp base count : ℕ) → IsAllowed f caller (CreatePort partition port peer kind sint vp base count) → IsBounded (CreatePort partition port peer kind sint vp base count) → IsLawful pages (counted (call_effect (CreatePort partition port peer kind sint vp base count) f caller (target_of (CreatePort partition port peer kind sint vp base count) caller)))
+  port_lawful partition port peer kind sint vp base count a bounded =
       let target = target_of (CreatePort partition port peer kind sint vp base count) caller in
-      port_added pages f l target port (runs (CreatePort partition port peer kind sint vp base count) refl a a.further.0) _ (unless (contains_key f.port (target, port)) a.further.1.1.0) (leb-true 1 (available f target) a.further.1.1.1.1.0)
+      port_added pages f l target port (runs (CreatePort partition port peer kind sint vp base count) refl a a.further.0) _ refl
+      (record { sint = bounded.0; flags = bounded.1; born = omega arith })
+      (unless (contains_key f.port (target, port)) a.further.1.1.0) (leb-true 1 (available f target) a.further.1.1.1.1.0)
 
   conn_lawful : (partition connection port_partition port : ℕ) (kind : PortKind) → IsAllowed f caller (ConnectPort partition connection port_partition port kind) → IsLawful pages (call_effect (ConnectPort partition connection port_partition port kind) f caller (target_of (ConnectPort partition connection port_partition port kind) caller))
   conn_lawful partition connection port_partition port kind a =
@@ -123,44 +134,50 @@ module _ (pages : ℕ) (f : Flat) (l : IsLawful pages f) (caller : ℕ) where
       conn_added pages f l target connection (runs (ConnectPort partition connection port_partition port kind) refl a a.further.0) _ (unless (contains_key f.conn (target, connection)) a.further.1.1.0) (leb-true 1 (available f target) a.further.1.1.1.1.1.1.0)
 
   -- what a call changes that its rules allow
-  pub granted_lawful : (call : Call) → IsAllowed f caller call → IsLawful pages (counted (call_effect call f caller (target_of call caller)))
-  granted_lawful (CreatePartition flags) a = created pages f l caller a.active (leb-true 2 (available f caller) a.further.1.0)
-  granted_lawful (InitializePartition partition) a = counted_lawful pages _ (activated pages f l (target_of (InitializePartition partition) caller))
-  granted_lawful (FinalizePartition partition) a = counted_lawful pages _ (finalize_lawful partition a)
-  granted_lawful (DeletePartition partition) a = counted_lawful pages _ (delete_lawful partition a)
-  granted_lawful (SetPartitionProperty partition code value) a = counted_lawful pages _ (set_lawful partition code value a)
-  granted_lawful (DepositMemory partition page) a =
+  pub granted_lawful : (call : Call) → IsAllowed f caller call → IsBounded call → IsLawful pages (counted (call_effect call f caller (target_of call caller)))
+  granted_lawful (CreatePartition flags) a bounded = created pages f l caller a.active (leb-true 2 (available f caller) a.further.1.0)
+  granted_lawful (InitializePartition partition) a bounded = counted_lawful pages _ (activated pages f l (target_of (InitializePartition partition) caller))
+  granted_lawful (FinalizePartition partition) a bounded = counted_lawful pages _ (finalize_lawful partition a)
+  granted_lawful (DeletePartition partition) a bounded = counted_lawful pages _ (delete_lawful partition a)
+  granted_lawful (SetPartitionProperty partition code value) a bounded = counted_lawful pages _ (set_lawful partition code value a)
+  granted_lawful (DepositMemory partition page) a bounded =
       counted_lawful pages _ (deposited pages f l caller (target_of (DepositMemory partition page) caller) (caller_there f caller (DepositMemory partition page) a) page
       (target_there f caller (DepositMemory partition page) a) a.further.1.0)
-  granted_lawful (WithdrawMemory partition) a =
+  granted_lawful (WithdrawMemory partition) a bounded =
       counted_lawful pages _ (withdrawn_pages pages f l caller (target_of (WithdrawMemory partition) caller) (caller_there f caller (WithdrawMemory partition) a)
       (leb-true 1 (available f (target_of (WithdrawMemory partition) caller)) a.further.0))
-  granted_lawful (call.GetPartitionProperty partition code) a = counted_lawful pages f l
-  granted_lawful call.GetPartitionId a = counted_lawful pages f l
-  granted_lawful (call.GetNextChildPartition partition previous) a = counted_lawful pages f l
-  granted_lawful (call.GetMemoryBalance partition) a = counted_lawful pages f l
-  granted_lawful (CreateVp partition vp) a = counted_lawful pages _ (staff_lawful partition vp a)
-  granted_lawful (DeleteVp partition vp) a =
+  granted_lawful (call.GetPartitionProperty partition code) a bounded = counted_lawful pages f l
+  granted_lawful call.GetPartitionId a bounded = counted_lawful pages f l
+  granted_lawful (call.GetNextChildPartition partition previous) a bounded = counted_lawful pages f l
+  granted_lawful (call.GetMemoryBalance partition) a bounded = counted_lawful pages f l
+  granted_lawful (CreateVp partition vp) a bounded = counted_lawful pages _ (staff_lawful partition vp a)
+  granted_lawful (DeleteVp partition vp) a bounded =
       let target = target_of (DeleteVp partition vp) caller in
-      counted_lawful pages _ (vp_removed pages f l (target, vp) (mail_but_at target vp f.mail))
-  granted_lawful (call.GetVpRegisters partition vp name) a = counted_lawful pages f l
-  granted_lawful (SetVpRegisters partition vp name value) a =
-      counted_lawful pages _ (vp_changed pages f l (target_of (SetVpRegisters partition vp name value) caller, vp) (written name value))
-  granted_lawful (DeletePort partition port) a = counted_lawful pages _ (port_removed pages f l (target_of (DeletePort partition port) caller, port))
-  granted_lawful (DisconnectPort partition connection) a = counted_lawful pages _ (conn_removed pages f l (target_of (DisconnectPort partition connection) caller, connection))
-  granted_lawful (CreatePort partition port peer kind sint vp base count) a = counted_lawful pages _ (port_lawful partition port peer kind sint vp base count a)
-  granted_lawful (ConnectPort partition connection port_partition port kind) a = counted_lawful pages _ (conn_lawful partition connection port_partition port kind a)
-  granted_lawful (call.PostMessage connection message_type payload) a = counted_lawful pages f l
-  granted_lawful (call.SignalEvent connection flag) a = counted_lawful pages f l
+      counted_lawful pages _ (vp_removed pages f l (target, vp) (mail_but_at target vp f.mail)
+      (mail_left f.served f.port (λ row. not (row.part == target && row.vp == vp)) f.mail (mailed_of pages f l)))
+  granted_lawful (call.GetVpRegisters partition vp name) a bounded = counted_lawful pages f l
+  granted_lawful (SetVpRegisters partition vp name value) a bounded =
+      counted_lawful pages _ (register_lawful pages (target_of (SetVpRegisters partition vp name value) caller) vp name value f l)
+  granted_lawful (DeletePort partition port) a bounded = counted_lawful pages _ (port_removed pages f l (target_of (DeletePort partition port) caller, port))
+  granted_lawful (DisconnectPort partition connection) a bounded = counted_lawful pages _ (conn_removed pages f l (target_of (DisconnectPort partition connection) caller, connection))
+  granted_lawful (CreatePort partition port peer kind sint vp base count) a bounded = port_lawful partition port peer kind sint vp base count a bounded
+  granted_lawful (ConnectPort partition connection port_partition port kind) a bounded = counted_lawful pages _ (conn_lawful partition connection port_partition port kind a)
+  granted_lawful (PostMessage connection message_type payload) a bounded = counted_lawful pages _ (post_lawful pages (caller, connection) message_type payload f a.further.1.0 l)
+  granted_lawful (SignalEvent connection flag) a bounded = counted_lawful pages _ (signal_lawful pages (aim_of f (caller, connection)) flag f l)
 
 module _ {A : Type 0} (pages : ℕ) where
   by_action : (f : Flat) → IsLawful pages f → (by : Caller) (what : Action A) → unmet f (record { by = by; what = what }) ≡ None → IsLawful pages (effect f (record { by = by; what = what }))
   by_action f l by (Hypercall frame) h =
       let served = is_served f by frame h in
-      subst (λ call. IsLawful pages (counted (served_effect f by.part call))) (sym served.served)
-      (granted_lawful pages f l by.part served.call served.granted)
+      subst (λ call. IsLawful pages (counted (served_effect f by.part call))) (sym served.called)
+      (granted_lawful pages f l by.part served.call served.granted served.bounded)
   by_action f l by (ReadMsr msr) h = counted_lawful pages f l
-  by_action f l by (WriteMsr msr value) h = counted_lawful pages _ (vp_changed pages f l (by.part, by.vp) (written_msr (name_of_msr msr) value))
+  by_action f l by (WriteMsr msr value) h = counted_lawful pages _ (msr_lawful pages by.part by.vp (name_of_msr msr) value f l)
+  by_action f l by (ReadSlot sint) h = counted_lawful pages f l
+  by_action f l by (ClearSlot sint) h = counted_lawful pages _ (cleared_lawful pages (place_at by sint) f l)
+  by_action f l by (ReadFlags sint) h = counted_lawful pages f l
+  by_action f l by (ClearFlag sint flag) h = counted_lawful pages _ (vp_changed pages f l (by.part, by.vp) _)
+  by_action f l by TakeInterrupt h = counted_lawful pages _ (vp_changed pages f l (by.part, by.vp) _)
 
   -- a served event
   pub lawful_effect : (f : Flat) (e : Event A) → IsLawful pages f → unmet f e ≡ None → IsLawful pages (effect f e)

@@ -71,6 +71,8 @@ module _ (pages : ℕ) (f : Flat) (l : IsLawful pages f) where
       paged = paged;
       owned = owned;
       few = l.few;
+      ports = l.ports;
+      placed = l.placed;
     }
 
   module _ (caller target : ℕ) (there : contains_key f.part caller ≡ true) where

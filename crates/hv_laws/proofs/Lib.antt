@@ -5,8 +5,11 @@ pub mod Deleting
 pub mod Granted
 pub mod Laws
 pub mod Lending
+pub mod Mailing
 pub mod Owned
+pub mod Posting
 pub mod Readings
 pub mod Replies
+pub mod Same
 pub mod Staffing
 pub mod Uses

@@ -6,7 +6,7 @@ use Rattle.std.specs.Ordering.{eq_by_cmp}
 use Rattle.hv_defs.proofs.Counts.{passes}
 use Rattle.hv_defs.proofs.Tallies.{count-fewer, count-insert}
 use Rattle.hv_policy.proofs.Pairs.{pair_cmp_total, pair_cmp_exact}
-use Rattle.hv_policy.specs.Flat.{pair_cmp}
+use Rattle.hv_defs.specs.Flags.{pair_cmp}
 
 module _ {X : Type 0} where
   -- whether an entry is a partition's

@@ -4,6 +4,7 @@ use Rattle.std.proofs.Math.Nat.{mod-lt}
 use Rattle.std.proofs.lemmas.Bool.{or_parts, leb-false}
 use Rattle.std.specs.List.{AllByRecursion, Contains}
 use Rattle.hv_abi.specs.CallRow.{row_of}
+use Rattle.hv_abi.specs.Check.{call_of}
 use Rattle.hv_abi.specs.declared.call_kind.CallKind.{CallKind}
 use Rattle.hv_abi.specs.declared.call_kind.CallKind.TheVariants as kind
 use Rattle.hv_abi.specs.declared.frame.Frame.{Frame}
@@ -11,14 +12,13 @@ use Rattle.hv_abi.specs.declared.status.Status.{Status}
 use Rattle.hv_defs.specs.Bits.{bits}
 use Rattle.hv_policy.specs.Answer.{is_done}
 use Rattle.hv_policy.specs.Asked.{asked, call_rules}
-use Rattle.hv_policy.specs.Call.{served_kind}
 use Rattle.hv_policy.specs.Flat.{Flat}
 use Rattle.hv_policy.specs.Met.{met}
 use Rattle.hv_policy.specs.Result.{HasResult}
 use Rattle.hv_policy.specs.Rule.{rule_status}
 use Rattle.hv_policy.specs.Step.{NamesAsked, denied_with, step, step_by, unmet}
 use Rattle.hv_policy.specs.declared.event.Action.{Action}
-use Rattle.hv_policy.specs.declared.event.Action.TheVariants.{Hypercall, ReadMsr, WriteMsr}
+use Rattle.hv_policy.specs.declared.event.Action.TheVariants.{Hypercall, ReadMsr, WriteMsr, ReadSlot, ClearSlot, ReadFlags, ClearFlag, TakeInterrupt}
 use Rattle.hv_policy.specs.declared.event.Caller.{Caller}
 use Rattle.hv_policy.specs.declared.event.Event.{Event}
 use Rattle.hv_policy.specs.declared.reply.Reply.TheVariants.{Served, More}
@@ -87,20 +87,20 @@ module _ {A : Type 0} (f : Flat) (caller : Caller) (frame : Frame A) where
       let small : bits frame.rcx 32 12 < 2 ^ 12 = mod-lt (frame.rcx / 2 ^ 32) (omega arith) in
       omega arith
 
-  served : (b : Bool) → is_done frame (served_kind frame) ≡ b → (bytes : List ℕ) → HasResult (cond b (Served bytes) (More (bits frame.rcx 48 12 + 1) bytes))
+  served : (b : Bool) → is_done frame (call_of frame) ≡ b → (bytes : List ℕ) → HasResult (cond b (Served bytes) (More (bits frame.rcx 48 12 + 1) bytes))
   served true is bytes = tt
-  served false is bytes = more (served_kind frame) is
+  served false is bytes = more (call_of frame) is
 
   -- each reply to a call has a result value
   pub has_result : HasResult (step f event).1
   has_result = by (unmet f event) refl
     where
       by : (rule : Option Rule) → unmet f event ≡ rule → HasResult (step_by f event rule).1
-      by None is = served (is_done frame (served_kind frame)) refl _
-      by (Some rule) is = denied rule (rule_status rule (served_kind frame)) (status rule is)
+      by None is = served (is_done frame (call_of frame)) refl _
+      by (Some rule) is = denied rule (rule_status rule (call_of frame)) (status rule is)
         where
-          status : (rule : Rule) → unmet f event ≡ Some rule → is_some (rule_status rule (served_kind frame)) ≡ true
-          status rule is = found_has (λ rule. not (met rule f event)) (λ rule. is_some (rule_status rule (served_kind frame))) (asked event) rule (refl, (refl, (refl, have_status (served_kind frame)))) is
+          status : (rule : Rule) → unmet f event ≡ Some rule → is_some (rule_status rule (call_of frame)) ≡ true
+          status rule is = found_has (λ rule. not (met rule f event)) (λ rule. is_some (rule_status rule (call_of frame))) (asked event) rule (refl, (refl, (refl, have_status (call_of frame)))) is
 
 -- the rule of a refusal is one that is asked
 module _ {A : Type 0} (f : Flat) where
@@ -112,12 +112,22 @@ module _ {A : Type 0} (f : Flat) where
   done e false bytes next = tt
 
   by_action : (by : Caller) (what : Action A) (rule : Option Rule) → unmet f (record { by = by; what = what }) ≡ rule → NamesAsked (record { by = by; what = what }) (step_by f (record { by = by; what = what }) rule).1
-  by_action by (Hypercall frame) None is = done (record { by = by; what = Hypercall frame }) (is_done frame (served_kind frame)) _ _
-  by_action by (Hypercall frame) (Some rule) is = named frame (asked (record { by = by; what = Hypercall frame })) rule (rule_status rule (served_kind frame)) (refused (record { by = by; what = Hypercall frame }) rule is) by refl
+  by_action by (Hypercall frame) None is = done (record { by = by; what = Hypercall frame }) (is_done frame (call_of frame)) _ _
+  by_action by (Hypercall frame) (Some rule) is = named frame (asked (record { by = by; what = Hypercall frame })) rule (rule_status rule (call_of frame)) (refused (record { by = by; what = Hypercall frame }) rule is) by refl
   by_action by (ReadMsr msr) None is = tt
   by_action by (ReadMsr msr) (Some rule) is = refused (record { by = by; what = ReadMsr msr }) rule is
   by_action by (WriteMsr msr value) None is = tt
   by_action by (WriteMsr msr value) (Some rule) is = refused (record { by = by; what = WriteMsr msr value }) rule is
+  by_action by (ReadSlot sint) None is = tt
+  by_action by (ReadSlot sint) (Some rule) is = refused (record { by = by; what = ReadSlot sint }) rule is
+  by_action by (ClearSlot sint) None is = tt
+  by_action by (ClearSlot sint) (Some rule) is = refused (record { by = by; what = ClearSlot sint }) rule is
+  by_action by (ReadFlags sint) None is = tt
+  by_action by (ReadFlags sint) (Some rule) is = refused (record { by = by; what = ReadFlags sint }) rule is
+  by_action by (ClearFlag sint flag) None is = tt
+  by_action by (ClearFlag sint flag) (Some rule) is = refused (record { by = by; what = ClearFlag sint flag }) rule is
+  by_action by TakeInterrupt None is = tt
+  by_action by TakeInterrupt (Some rule) is = refused (record { by = by; what = TakeInterrupt }) rule is
 
   pub names_asked : (e : Event A) → NamesAsked e (step f e).1
   names_asked e = by_action e.by e.what (unmet f e) refl

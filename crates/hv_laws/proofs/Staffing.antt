@@ -1,4 +1,4 @@
--- Processors, ports and connections that come, go and change.
+-- Processors, ports, connections and messages that come, go and change.
 use Rattle.std.proofs.Common.{◌≡◌, ℕ, ◌+◌, ◌≤◌, ◌==◌, Bool, true, false, cond, List, Option, Some, None, is_some, refl, sym, ap, subst, ◌∙◌, arith}
 use Rattle.std.proofs.lemmas.Bool.{eqb-true}
 use Rattle.std.specs.Cmp.{Equal-is}
@@ -9,16 +9,18 @@ use Rattle.hv_policy.proofs.Pairs.{pair_cmp_exact}
 use Rattle.hv_policy.proofs.Rows.{get-with_vp}
 use Rattle.hv_policy.specs.Allowed.{is_running}
 use Rattle.hv_policy.specs.Count.{available, in_use, pooled_count}
-use Rattle.hv_policy.specs.Effect.{with_vp}
-use Rattle.hv_policy.specs.Flat.{ConnRow, Flat, MailRow, PortRow, VpRow, pair_cmp}
+use Rattle.hv_policy.specs.Effect.{counted, with_vp}
+use Rattle.hv_defs.specs.Flags.{pair_cmp}
+use Rattle.hv_policy.specs.Flat.{ConnRow, Flat, MailRow, PortRow, VpRow}
+use Rattle.hv_laws.proofs.Mailing.{AreMailed, mailed_of, port_left, port_more}
 use Rattle.hv_laws.proofs.Owned.{added_owned, no_more, owned, removed_owned}
-use Rattle.hv_laws.specs.Lawful.{IsLawful}
+use Rattle.hv_laws.specs.Lawful.{IsLawful, IsPort}
 
 module _ (pages : ℕ) (f : Flat) (l : IsLawful pages f) where
-  -- the state with other processors, ports and connections
-  module _ (vps : FinMap pair_cmp VpRow) (ports : FinMap pair_cmp PortRow) (conns : FinMap pair_cmp ConnRow) (mail : List MailRow) where
+  -- the state with other processors, ports, connections and messages, and as many served events or more
+  module _ (vps : FinMap pair_cmp VpRow) (ports : FinMap pair_cmp PortRow) (conns : FinMap pair_cmp ConnRow) (mail : List MailRow) (served : ℕ) (later : f.served ≤ served) (mailed : AreMailed served ports mail) where
     abbrev changed : Flat
-    changed = record f { vp = vps; port = ports; conn = conns; mail = mail }
+    changed = record f { vp = vps; port = ports; conn = conns; mail = mail; served = served }
 
     rowed : ((id : ℕ) → in_use changed id ≤ pooled_count f id) → ((id : ℕ) → is_running f id ≡ false → in_use changed id ≡ 0) → IsLawful pages changed
     rowed within idle = record {
@@ -29,7 +31,9 @@ module _ (pages : ℕ) (f : Flat) (l : IsLawful pages f) where
       masks = l.masks;
       paged = l.paged;
       owned = l.owned;
-      few = l.few;
+      few = let few = l.few in omega arith;
+      ports = mailed.ports;
+      placed = mailed.placed;
     }
 
     -- they use no more than those that were there
@@ -52,18 +56,24 @@ module _ (pages : ℕ) (f : Flat) (l : IsLawful pages f) where
         idle q false off still uses = let none = l.idle q still in omega arith
 
   -- one less
-  pub vp_removed : (key : ℕ × ℕ) (mail : List MailRow) → IsLawful pages (record f { vp = remove f.vp key; mail = mail })
-  vp_removed key mail = less (remove f.vp key) f.port f.conn mail (λ id. (let fewer = removed_owned f.vp key id in omega arith))
+  pub vp_removed : (key : ℕ × ℕ) (mail : List MailRow) → AreMailed f.served f.port mail → IsLawful pages (record f { vp = remove f.vp key; mail = mail })
+  vp_removed key mail mailed = less (remove f.vp key) f.port f.conn mail f.served (omega arith) mailed (λ id. (let fewer = removed_owned f.vp key id in omega arith))
 
   pub port_removed : (key : ℕ × ℕ) → IsLawful pages (record f { port = remove f.port key })
-  port_removed key = less f.vp (remove f.port key) f.conn f.mail (λ id. (let fewer = removed_owned f.port key id in omega arith))
+  port_removed key =
+      less f.vp (remove f.port key) f.conn f.mail f.served (omega arith) (port_left f.served f.port key f.mail (mailed_of pages f l))
+      (λ id. (let fewer = removed_owned f.port key id in omega arith))
 
   pub conn_removed : (key : ℕ × ℕ) → IsLawful pages (record f { conn = remove f.conn key })
-  conn_removed key = less f.vp f.port (remove f.conn key) f.mail (λ id. (let fewer = removed_owned f.conn key id in omega arith))
+  conn_removed key = less f.vp f.port (remove f.conn key) f.mail f.served (omega arith) (mailed_of pages f l) (λ id. (let fewer = removed_owned f.conn key id in omega arith))
 
-  -- one processor changed
-  pub vp_changed : (key : ℕ × ℕ) (change : VpRow → VpRow) → IsLawful pages (record f { vp = with_vp f.vp key change })
-  vp_changed key change = less (with_vp f.vp key change) f.port f.conn f.mail (λ id.
+  -- other messages
+  pub mail_changed : (mail : List MailRow) → AreMailed f.served f.port mail → IsLawful pages (record f { mail = mail })
+  mail_changed mail mailed = less f.vp f.port f.conn mail f.served (omega arith) mailed (λ id. omega arith)
+
+  -- one processor changed, and the messages
+  pub mailed_changed : (key : ℕ × ℕ) (change : VpRow → VpRow) (mail : List MailRow) → AreMailed f.served f.port mail → IsLawful pages (record f { vp = with_vp f.vp key change; mail = mail })
+  mailed_changed key change mail mailed = less (with_vp f.vp key change) f.port f.conn mail f.served (omega arith) mailed (λ id.
       let fewer = no_more f.vp (with_vp f.vp key change) (λ q h. by q (eq_by_cmp pair_cmp q key) refl (sym (ap is_some (get-with_vp f.vp key change q)) ∙ h)) id in
       omega arith)
     where
@@ -75,24 +85,30 @@ module _ (pages : ℕ) (f : Flat) (l : IsLawful pages f) where
       by q true same h = ap (λ k. is_some (get f.vp k)) (pair_cmp_exact q key ((Equal-is (pair_cmp q key)).0 same)) ∙ one (get f.vp key) h
       by q false same h = h
 
+  pub vp_changed : (key : ℕ × ℕ) (change : VpRow → VpRow) → IsLawful pages (record f { vp = with_vp f.vp key change })
+  vp_changed key change = mailed_changed key change f.mail (mailed_of pages f l)
+
   -- one more, of a partition that is Active and can pay for it
   module _ (id n : ℕ) (active : is_running f id ≡ true) where
     pub vp_added : (row : VpRow) → contains_key f.vp (id, n) ≡ false → 4 ≤ available f id → IsLawful pages (record f { vp = insert f.vp (id, n) row })
-    vp_added row free pays = more (insert f.vp (id, n) row) f.port f.conn f.mail id 4 active pays (λ q. by q (id == q) (added_owned f.vp id n row free q))
+    vp_added row free pays = more (insert f.vp (id, n) row) f.port f.conn f.mail f.served (omega arith) (mailed_of pages f l) id 4 active pays (λ q. by q (id == q) (added_owned f.vp id n row free q))
       where
         by : (q : ℕ) (b : Bool) → owned (insert f.vp (id, n) row) q ≡ owned f.vp q + cond b 1 0 → in_use (record f { vp = insert f.vp (id, n) row }) q ≡ in_use f q + cond b 4 0
         by q true more = omega arith
         by q false more = omega arith
 
-    pub port_added : (row : PortRow) → contains_key f.port (id, n) ≡ false → 1 ≤ available f id → IsLawful pages (record f { port = insert f.port (id, n) row })
-    port_added row free pays = more f.vp (insert f.port (id, n) row) f.conn f.mail id 1 active pays (λ q. by q (id == q) (added_owned f.port id n row free q))
+    -- a port's birth is the event that makes it
+    pub port_added : (row : PortRow) → row.born ≡ f.served + 1 → IsPort (f.served + 1) row → contains_key f.port (id, n) ≡ false → 1 ≤ available f id → IsLawful pages (counted (record f { port = insert f.port (id, n) row }))
+    port_added row born good free pays =
+        more f.vp (insert f.port (id, n) row) f.conn f.mail (f.served + 1) (omega arith) (port_more f.served f.port (id, n) row born good f.mail (mailed_of pages f l))
+        id 1 active pays (λ q. by q (id == q) (added_owned f.port id n row free q))
       where
         by : (q : ℕ) (b : Bool) → owned (insert f.port (id, n) row) q ≡ owned f.port q + cond b 1 0 → in_use (record f { port = insert f.port (id, n) row }) q ≡ in_use f q + cond b 1 0
         by q true more = omega arith
         by q false more = omega arith
 
     pub conn_added : (row : ConnRow) → contains_key f.conn (id, n) ≡ false → 1 ≤ available f id → IsLawful pages (record f { conn = insert f.conn (id, n) row })
-    conn_added row free pays = more f.vp f.port (insert f.conn (id, n) row) f.mail id 1 active pays (λ q. by q (id == q) (added_owned f.conn id n row free q))
+    conn_added row free pays = more f.vp f.port (insert f.conn (id, n) row) f.mail f.served (omega arith) (mailed_of pages f l) id 1 active pays (λ q. by q (id == q) (added_owned f.conn id n row free q))
       where
         by : (q : ℕ) (b : Bool) → owned (insert f.conn (id, n) row) q ≡ owned f.conn q + cond b 1 0 → in_use (record f { conn = insert f.conn (id, n) row }) q ≡ in_use f q + cond b 1 0
         by q true more = omega arith

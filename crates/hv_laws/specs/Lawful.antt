@@ -1,10 +1,28 @@
 -- What holds of every state of the flat model.
-use Rattle.std.specs.Prelude.{◌≡◌, ℕ, ◌+◌, ◌≤◌, ◌<◌, true, false, nat_lt, Some}
+use Rattle.std.specs.Prelude.{◌≡◌, ℕ, ◌+◌, ◌≤◌, ◌<◌, ◌==◌, ◌&&◌, ◌||◌, not, Bool, true, false, nat_le, nat_lt, Option, None, Some}
+use Rattle.std.specs.List.{AllByRecursion}
 use Rattle.std.specs.FinMap.{get, contains_key}
+use Rattle.hv_defs.specs.declared.sizes.TheConstants.{EVENT_FLAGS, SINTS}
 use Rattle.hv_policy.specs.Count.{in_use, pooled_count}
-use Rattle.hv_policy.specs.Flat.{Flat, PartRow, PageRow}
+use Rattle.hv_policy.specs.Flat.{Flat, MailRow, PartRow, PageRow, PortRow}
 use Rattle.hv_policy.specs.Allowed.{is_running}
 use Rattle.hv_privs.specs.Privileges.{IsSubset}
+
+-- what holds of a port once so many events were served
+pub record IsPort (served : ℕ) (port : PortRow) : Type 0 where
+  -- it aims at a SINT that there is, and its flags are flags of that SINT
+  pub sint : port.sint < SINTS
+  pub flags : port.base + port.count ≤ EVENT_FLAGS
+  -- its birth is past
+  pub born : port.born ≤ served
+
+abbrev pub is_aimed : MailRow → Option PortRow → Bool
+is_aimed row None = true
+is_aimed row (Some port) = not (port.born == row.born) || ((row.vp == port.vp) && (row.sint == port.sint))
+
+-- a message came through a port whose birth is past, and as long as that port is there it stands where the port aims
+abbrev pub is_placed : Flat → MailRow → Bool
+is_placed f row = nat_le row.born f.served && is_aimed row (get f.port (row.part, row.port))
 
 -- of a state with so many pages
 pub record IsLawful (pages : ℕ) (f : Flat) : Type 0 where
@@ -23,3 +41,6 @@ pub record IsLawful (pages : ℕ) (f : Flat) : Type 0 where
   pub owned : (page : ℕ) (row : PageRow) → get f.page page ≡ Some row → contains_key f.part row.owner ≡ true
   -- each partition but the root took a served event to make
   pub few : f.next ≤ f.served + 2
+  -- ports, and the messages that came through them
+  pub ports : (key : ℕ × ℕ) (port : PortRow) → get f.port key ≡ Some port → IsPort f.served port
+  pub placed : AllByRecursion (λ row. is_placed f row ≡ true) f.mail

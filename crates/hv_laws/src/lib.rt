@@ -10,8 +10,10 @@ ghost use Rattle.hv_policy.specs.Boot.{boot};
 ghost use Rattle.hv_policy.specs.Effect.{effect};
 ghost use Rattle.hv_policy.specs.Flat.{Flat, PartRow, VpRow, PortRow, ConnRow};
 ghost use Rattle.hv_abi.specs.declared.frame.Frame.{Frame};
+ghost use Rattle.hv_policy.specs.Mail.{kept_of, mail_at};
+ghost use Rattle.hv_policy.specs.Same.{IsSame};
 ghost use Rattle.hv_policy.specs.Result.{HasResult};
-ghost use Rattle.hv_policy.specs.Step.{NamesAsked, run, step, unmet};
+ghost use Rattle.hv_policy.specs.Step.{NamesAsked, run, run_from, step, unmet};
 ghost use Rattle.hv_policy.specs.declared.event.Action.TheVariants.{Hypercall};
 ghost use Rattle.hv_policy.specs.declared.event.Caller.{Caller};
 ghost use Rattle.hv_policy.specs.declared.config.Config.{Config};
@@ -34,6 +36,20 @@ pub fn each_row_is_of_a_running_partition()
     ensures ports { (pages : ℕ) (f : Flat) → IsLawful pages f → (key : ℕ × ℕ) (row : PortRow) → get f.port key ≡ Some row → is_running f key.0 ≡ true }
     ensures conns { (pages : ℕ) (f : Flat) → IsLawful pages f → (key : ℕ × ℕ) (row : ConnRow) → get f.conn key ≡ Some row → is_running f key.0 ≡ true }
     ensures parents { (pages : ℕ) (f : Flat) → IsLawful pages f → (id parent : ℕ) (row : PartRow) → get f.part id ≡ Some row → row.parent ≡ Some parent → is_running f parent ≡ true }
+{}
+
+/// In a lawful state all messages of a port that is there stand where it aims, so that those that stand there are all that it
+/// has.
+pub fn each_message_is_counted_where_its_port_aims()
+    ensures kept { (pages : ℕ) (f : Flat) → IsLawful pages f → (part port born : ℕ) (row : PortRow) → get f.port (part, port) ≡ Some row → row.born ≡ born → kept_of part port born f.mail ≡ kept_of part port born (mail_at (record { part = part; vp = row.vp; sint = row.sint }) f.mail) }
+{}
+
+/// The order of messages counts at each place alone: two states that differ in nothing but the order across places give the
+/// same replies to the same events, and stay such states.
+pub fn order_across_places_does_not_count<A>()
+    ensures steps { (f g : Flat) (e : Event A) → IsSame f g → ((step f e).1 ≡ (step g e).1) × IsSame (step f e).0 (step g e).0 }
+    ensures runs { (f g : Flat) (events : List (Event A)) → IsSame f g → ((run_from f events).1 ≡ (run_from g events).1) × IsSame (run_from f events).0 (run_from g events).0 }
+    ensures lawful { (pages : ℕ) (f g : Flat) → IsSame f g → IsLawful pages f → IsLawful pages g }
 {}
 
 /// A refusal names a rule that its event is asked, and each reply to a hypercall has a result value.

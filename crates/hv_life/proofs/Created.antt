@@ -1,5 +1,5 @@
 -- A partition that was made.
-use Rattle.std.proofs.Common.{◌≡◌, ℕ, ◌+◌, ◌==◌, Bool, true, false, cond, Some, None, refl, sym, ap, subst, ◌∙◌}
+use Rattle.std.proofs.Common.{◌≡◌, ℕ, ◌+◌, ◌==◌, Bool, true, false, cond, Option, Some, None, refl, sym, ap, subst, ◌∙◌}
 use Rattle.std.proofs.lemmas.Bool.{eqb-true}
 use Rattle.std.specs.FinMap.{get, get-empty, insert}
 use Rattle.std.specs.FinSet as set
@@ -10,8 +10,9 @@ use Rattle.hv_partition.specs.Partition.{PartitionState}
 use Rattle.hv_policy.specs.Effect.{new_row, mask_of}
 use Rattle.hv_policy.specs.Flat.{Flat}
 use Rattle.hv_tie.proofs.Changed.{same_shows}
-use Rattle.hv_tie.specs.Tie.{IsTied, Shows, conn_row_of, holds, part_row, port_row_of, vp_row_of}
+use Rattle.hv_tie.specs.Tie.{IsTied, Shows, conn_row_of, here, holds, part_row, port_row_of, rows_of, sint_mail, vp_row_of}
 use Rattle.hv_tree.specs.Rows.{Row, Rows}
+use Rattle.hv_vp.specs.Vp.{VpState}
 use Rattle.hv_life.specs.Change.{child_of}
 
 module _ (rows : Rows PartitionState) (f : Flat) (flat : IsTied rows f) where
@@ -34,7 +35,7 @@ module _ (rows : Rows PartitionState) (f : Flat) (flat : IsTied rows f) where
     created_shows id = subst (Shows created id) (sym (get_at-insert rows f.next (child_of parent creator) id)) (by (id == f.next) refl)
       where
         by : (b : Bool) → id == f.next ≡ b → Shows created id (cond b (Some (child_of parent creator)) (get rows id))
-        by false is = same_shows f created id (get rows id) (part_after id false is) (λ _. refl) (λ _. refl) (λ _. refl) (λ _. refl) (flat.rows id)
+        by false is = same_shows f created id (get rows id) (part_after id false is) (λ _. refl) (λ _. refl) (λ _. refl) (λ _. refl) (λ _ _. refl) (flat.rows id)
         by true is =
             let none : get rows id ≡ None = ap (get rows) (eqb-true id f.next is) ∙ free in
             let old : Shows f id None = subst (Shows f id) none (flat.rows id) in
@@ -44,7 +45,8 @@ module _ (rows : Rows PartitionState) (f : Flat) (flat : IsTied rows f) where
               vp = λ index. old.vp index ∙ sym (ap (option_map vp_row_of) (get-empty nat_cmp index));
               port = λ port. old.port port ∙ sym (ap (option_map port_row_of) (get-empty nat_cmp port));
               conn = λ conn. old.conn conn ∙ sym (ap (option_map conn_row_of) (get-empty nat_cmp conn));
+              mail = λ vp sint. old.mail vp sint ∙ sym (ap (λ (v : Option VpState). rows_of (here id vp sint) (sint_mail sint v)) (get-empty nat_cmp vp));
             }
 
     pub created_tied : IsTied (insert rows f.next (child_of parent creator)) created
-    created_tied = record { rows = created_shows; mail = flat.mail }
+    created_tied = record { rows = created_shows }

@@ -15,7 +15,7 @@ use Rattle.hv_ports.specs.declared.ports.Port.{Port}
 use Rattle.hv_tree.specs.Rows.{Row, Rows}
 use Rattle.hv_life.specs.Change.{IsDeleted, heir_of}
 use Rattle.hv_tie.proofs.Lawful.{UsesNothing}
-use Rattle.hv_tie.specs.Tie.{IsTied, Shows, conn_row_of, is_held, holds, port_row_of, vp_row_of}
+use Rattle.hv_tie.specs.Tie.{IsTied, Shows, conn_row_of, here, is_held, holds, port_row_of, rows_of, sint_mail, vp_row_of}
 use Rattle.hv_vp.specs.Vp.{VpState}
 
 -- a row after a deletion
@@ -131,24 +131,26 @@ module _ (rows : Rows PartitionState) (f : Flat) (flat : IsTied rows f) (new : R
     where
       by : (s t : Bool) → q == heir ≡ s → q == id ≡ t → Shows deleted q (cond s (Some owner_after) (cond t None (get rows q)))
       by true t is at =
-          let here : q ≡ heir = eqb-true q heir is in
-          let old : Shows f q (Some d.owner) = subst (Shows f q) (ap (get rows) here ∙ d.there) (flat.rows q) in
+          let same : q ≡ heir = eqb-true q heir is in
+          let old : Shows f q (Some d.owner) = subst (Shows f q) (ap (get rows) same ∙ d.there) (flat.rows q) in
           record {
-            part = part_after q false (ap (λ n. n == id) here ∙ apart_back) ∙ old.part;
-            page = λ page pooled. ap (λ n. is_held n pooled (get deleted.page page)) here ∙ own_page page pooled;
+            part = part_after q false (ap (λ n. n == id) same ∙ apart_back) ∙ old.part;
+            page = λ page pooled. ap (λ n. is_held n pooled (get deleted.page page)) same ∙ own_page page pooled;
             vp = old.vp;
             port = old.port;
             conn = old.conn;
+            mail = old.mail;
           }
       by false true is at =
-          let here : q ≡ id = eqb-true q id at in
-          let old : Shows f q (Some d.gone) = subst (Shows f q) (ap (get rows) here ∙ d.was) (flat.rows q) in
+          let same : q ≡ id = eqb-true q id at in
+          let old : Shows f q (Some d.gone) = subst (Shows f q) (ap (get rows) same ∙ d.was) (flat.rows q) in
           record {
             part = part_after q true at;
-            page = λ page pooled. ap (λ n. is_held n pooled (get deleted.page page)) here ∙ ap (is_held id pooled) (page_after page) ∙ held_gone id heir apart pooled (get f.page page) ∙ no_page pooled page;
+            page = λ page pooled. ap (λ n. is_held n pooled (get deleted.page page)) same ∙ ap (is_held id pooled) (page_after page) ∙ held_gone id heir apart pooled (get f.page page) ∙ no_page pooled page;
             vp = λ n. old.vp n ∙ ap (λ (vps : FinMap nat_cmp VpState). option_map vp_row_of (get vps n)) idle.vps ∙ ap (option_map vp_row_of) (get-empty nat_cmp n);
             port = λ n. old.port n ∙ ap (λ (ports : FinMap nat_cmp Port). option_map port_row_of (get ports n)) idle.ports ∙ ap (option_map port_row_of) (get-empty nat_cmp n);
             conn = λ n. old.conn n ∙ ap (λ (conns : FinMap nat_cmp Conn). option_map conn_row_of (get conns n)) idle.conns ∙ ap (option_map conn_row_of) (get-empty nat_cmp n);
+            mail = λ n sint. old.mail n sint ∙ ap (λ (v : Option VpState). rows_of (here q n sint) (sint_mail sint v)) (ap (λ (vps : FinMap nat_cmp VpState). get vps n) idle.vps ∙ get-empty nat_cmp n);
           }
         where
           no_page : (pooled : Bool) (page : ℕ) → false ≡ holds pooled page None
@@ -162,7 +164,8 @@ module _ (rows : Rows PartitionState) (f : Flat) (flat : IsTied rows f) (new : R
             vp = old.vp;
             port = old.port;
             conn = old.conn;
+            mail = old.mail;
           }
 
   pub deleted_tied : IsTied new deleted
-  deleted_tied = record { rows = deleted_shows; mail = flat.mail }
+  deleted_tied = record { rows = deleted_shows }

@@ -6,13 +6,17 @@ use Rattle.std.specs.Option.{option_map}
 use Rattle.std.specs.Ordering.{nat_cmp}
 use Rattle.hv_defs.specs.declared.life.Life.TheVariants.{Active, Finalized}
 use Rattle.hv_partition.specs.Partition.{PartitionState, finalized}
+use Rattle.hv_policy.proofs.Places.{but_part_there}
 use Rattle.hv_policy.proofs.Rows.{get-rows_but, get-with_row}
-use Rattle.hv_policy.specs.Effect.{with_row, rows_but, mail_but}
-use Rattle.hv_policy.specs.Flat.{Flat, PartRow, pair_cmp}
+use Rattle.hv_policy.specs.Effect.{with_row, rows_but}
+use Rattle.hv_defs.specs.Flags.{pair_cmp}
+use Rattle.hv_policy.specs.Flat.{Flat, PartRow}
+use Rattle.hv_policy.specs.Mail.{mail_but}
 use Rattle.hv_tie.proofs.Changed.{changed_tied, holds_alike, same_shows}
-use Rattle.hv_tie.specs.Tie.{IsTied, Shows, conn_row_of, part_row, port_row_of, vp_row_of}
+use Rattle.hv_tie.specs.Tie.{IsTied, Shows, conn_row_of, here, part_row, port_row_of, rows_of, sint_mail, vp_row_of}
 use Rattle.hv_tree.proofs.Laws.{get-change}
 use Rattle.hv_tree.specs.Rows.{Row, Rows, change}
+use Rattle.hv_vp.specs.Vp.{VpState}
 
 abbrev made_active : PartRow → PartRow
 made_active row = record row { life = Active }
@@ -52,6 +56,7 @@ module _ (rows : Rows PartitionState) (f : Flat) (flat : IsTied rows f) where
           vp = λ n. closed_rows f.vp id n true at;
           port = λ n. closed_rows f.port id n true at;
           conn = λ n. closed_rows f.conn id n true at;
+          mail = λ n sint. but_part_there target (here id n sint) true at f.mail;
         }
         one (Some r) is at old = record {
           part = closed_part id true at ∙ ap (option_map made_final) ((flat.rows target).part ∙ ap (option_map part_row) is);
@@ -59,11 +64,12 @@ module _ (rows : Rows PartitionState) (f : Flat) (flat : IsTied rows f) where
           vp = λ n. closed_rows f.vp id n true at ∙ sym (ap (option_map vp_row_of) (get-empty nat_cmp n));
           port = λ n. closed_rows f.port id n true at ∙ sym (ap (option_map port_row_of) (get-empty nat_cmp n));
           conn = λ n. closed_rows f.conn id n true at ∙ sym (ap (option_map conn_row_of) (get-empty nat_cmp n));
+          mail = λ n sint. but_part_there target (here id n sint) true at f.mail ∙ sym (ap (λ (v : Option VpState). rows_of (here id n sint) (sint_mail sint v)) (get-empty nat_cmp n));
         }
 
         by : (b : Bool) → id == target ≡ b → Shows closed id (cond b (option_map (λ r. (r.0, finalized r.1)) (get rows target)) (get rows id))
-        by false is = same_shows f closed id (get rows id) (closed_part id false is) (λ _. refl) (λ n. closed_rows f.vp id n false is) (λ n. closed_rows f.port id n false is) (λ n. closed_rows f.conn id n false is) (flat.rows id)
+        by false is = same_shows f closed id (get rows id) (closed_part id false is) (λ _. refl) (λ n. closed_rows f.vp id n false is) (λ n. closed_rows f.port id n false is) (λ n. closed_rows f.conn id n false is) (λ n sint. but_part_there target (here id n sint) false is f.mail) (flat.rows id)
         by true is = one (get rows target) refl is (subst (Shows f id) (ap (get rows) (eqb-true id target is)) (flat.rows id))
 
     pub closed_tied : IsTied (change rows target finalized) closed
-    closed_tied = record { rows = closed_shows; mail = ap (mail_but target) flat.mail }
+    closed_tied = record { rows = closed_shows }

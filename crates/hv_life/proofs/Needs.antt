@@ -7,7 +7,6 @@ use Rattle.hv_calls.specs.declared.call.Call.TheVariants.{CreatePartition, Delet
 use Rattle.hv_defs.specs.declared.life.Life.{Life}
 use Rattle.hv_defs.specs.declared.life.Life.TheVariants.{Created, Active, Finalized}
 use Rattle.hv_defs.specs.declared.sizes.TheConstants.{MAX_PAGES}
-use Rattle.hv_laws.proofs.Creation.{free_next}
 use Rattle.hv_laws.proofs.Granted as granted
 use Rattle.hv_laws.specs.Lawful.{IsLawful}
 use Rattle.hv_partition.specs.Partition.{PartitionState}
@@ -36,11 +35,11 @@ true≢false e = cc
 module _ (rows : Rows PartitionState) (f : Flat) (flat : IsTied rows f) (pages : ℕ) (bounded : pages ≤ MAX_PAGES) (l : IsLawful pages f) (caller : ℕ) where
   -- the next id is free
   pub free_row : get rows f.next ≡ None
-  free_row = by (get rows f.next) (sym (flat.rows f.next).part ∙ free_next pages f l)
+  free_row = by (get rows f.next) refl
     where
-      by : (r : Option (Row PartitionState)) → option_map part_row r ≡ None → r ≡ None
-      by None h = refl
-      by (Some r) h = cc
+      by : (r : Option (Row PartitionState)) → get rows f.next ≡ r → r ≡ None
+      by None is = refl
+      by (Some r) is = absurd (let below = l.below f.next (part_row r) ((flat.rows f.next).part ∙ ap (option_map part_row) is) in omega arith)
 
   pub create_needs : (flags : ℕ) → IsAllowed f caller (CreatePartition flags) → MayCreate rows caller f.next
   create_needs flags a =

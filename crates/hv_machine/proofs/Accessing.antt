@@ -1,5 +1,6 @@
 -- From what a chapter made of an access to the machine.
 use Rattle.std.proofs.Common.{◌≡◌, ℕ, ◌+◌, false, Option, None, Some, refl, ap, ◌∙◌}
+use Rattle.hv_defs.specs.Registers.{name_of_msr}
 use Rattle.hv_laws.proofs.Laws.{lawful_effect}
 use Rattle.hv_partition.specs.Partition.{PartitionState}
 use Rattle.hv_policy.proofs.Unmet.{past_caller, unmet_by_caller}
@@ -9,7 +10,7 @@ use Rattle.hv_policy.specs.Effect.{action_effect, counted}
 use Rattle.hv_policy.specs.Flat.{Flat}
 use Rattle.hv_policy.specs.Step.{first_unmet, refusal, step, step_by, unmet}
 use Rattle.hv_policy.specs.declared.event.Action.{Action}
-use Rattle.hv_policy.specs.declared.event.Action.TheVariants.{Hypercall, ReadMsr, WriteMsr}
+use Rattle.hv_policy.specs.declared.event.Action.TheVariants.{Hypercall, ReadMsr, WriteMsr, ReadSlot, ClearSlot, ReadFlags, ClearFlag, TakeInterrupt}
 use Rattle.hv_policy.specs.declared.event.Caller.{Caller}
 use Rattle.hv_policy.specs.declared.event.Event.{Event}
 use Rattle.hv_policy.specs.declared.reply.Reply.TheVariants.{Fault}
@@ -17,6 +18,7 @@ use Rattle.hv_policy.specs.declared.rule.Rule.{Rule}
 use Rattle.hv_tie.proofs.Room.{roomless_tied}
 use Rattle.hv_tie.specs.Tie.{IsTied}
 use Rattle.hv_tree.specs.Rows.{Rows}
+use Rattle.hv_machine.proofs.Ended.{write_next_is, write_served_is}
 use Rattle.hv_machine.proofs.Serving.{state_of}
 use Rattle.hv_machine.specs.IsFlat.{IsFlat}
 use Rattle.hv_machine.specs.Lasting.{IsLasting}
@@ -27,16 +29,31 @@ module _ {A : Type 0} where
   fault_is (Hypercall frame) rule h = cc
   fault_is (ReadMsr msr) rule h = refl
   fault_is (WriteMsr msr value) rule h = refl
+  fault_is (ReadSlot sint) rule h = refl
+  fault_is (ClearSlot sint) rule h = refl
+  fault_is (ReadFlags sint) rule h = refl
+  fault_is (ClearFlag sint flag) rule h = refl
+  fault_is TakeInterrupt rule h = refl
 
   next_is : (what : Action A) (f : Flat) (by : Caller) → is_call what ≡ false → (action_effect f by what).next ≡ f.next
   next_is (Hypercall frame) f by h = cc
   next_is (ReadMsr msr) f by h = refl
-  next_is (WriteMsr msr value) f by h = refl
+  next_is (WriteMsr msr value) f by h = write_next_is by.part by.vp (name_of_msr msr) value f
+  next_is (ReadSlot sint) f by h = refl
+  next_is (ClearSlot sint) f by h = refl
+  next_is (ReadFlags sint) f by h = refl
+  next_is (ClearFlag sint flag) f by h = refl
+  next_is TakeInterrupt f by h = refl
 
   served_is : (what : Action A) (f : Flat) (by : Caller) → is_call what ≡ false → (action_effect f by what).served ≡ f.served
   served_is (Hypercall frame) f by h = cc
   served_is (ReadMsr msr) f by h = refl
-  served_is (WriteMsr msr value) f by h = refl
+  served_is (WriteMsr msr value) f by h = write_served_is by.part by.vp (name_of_msr msr) value f
+  served_is (ReadSlot sint) f by h = refl
+  served_is (ClearSlot sint) f by h = refl
+  served_is (ReadFlags sint) f by h = refl
+  served_is (ClearFlag sint flag) f by h = refl
+  served_is TakeInterrupt f by h = refl
 
   module _ (f : Flat) (e : Event A) where
     -- the flat step of an event that is refused, and of one that isn't
@@ -59,7 +76,7 @@ module _ {A : Type 0} (tree new : Rows PartitionState) (pages next served : ℕ)
   accessed_flat f flat tied =
       let shown = roomless_tied new (action_effect f e.by e.what) tied in
       record {
-        tied = record { rows = λ id. (let old = shown.rows id in record { part = old.part; page = old.page; vp = old.vp; port = old.port; conn = old.conn }); mail = shown.mail };
+        tied = record { rows = λ id. (let old = shown.rows id in record { part = old.part; page = old.page; vp = old.vp; port = old.port; conn = old.conn; mail = old.mail }) };
         next = next_is e.what f e.by access ∙ flat.next;
         served = ap (λ n. n + 1) (served_is e.what f e.by access ∙ flat.served);
       }

@@ -10,11 +10,14 @@ use Rattle.hv_laws.proofs.Booting.{fits_most, fits_pages, lawful_boot, page_at, 
 use Rattle.hv_partition.specs.Partition.{PartitionState}
 use Rattle.hv_policy.specs.Boot.{boot, boot_page, root_row, start_vp}
 use Rattle.hv_policy.specs.BootFault.{boot_fault}
-use Rattle.hv_policy.specs.Flat.{pair_cmp}
+use Rattle.hv_defs.specs.Flags.{pair_cmp}
 use Rattle.hv_policy.specs.declared.config.Config.{Config}
+use Rattle.hv_policy.specs.Mail.{mail_at}
+use Rattle.hv_mail.specs.Mail.{no_mail}
 use Rattle.hv_tie.proofs.Room.{roomless_tied}
+use Rattle.hv_tie.proofs.Staff.{new_mail}
 use Rattle.hv_tie.specs.Room.{roomless}
-use Rattle.hv_tie.specs.Tie.{IsTied, Shows, conn_row, conn_row_of, holds, is_held, part_row, port_row, port_row_of, vp_row, vp_row_of}
+use Rattle.hv_tie.specs.Tie.{IsTied, Shows, conn_row, conn_row_of, here, holds, is_held, mail_there, part_row, port_row, port_row_of, rows_of, sint_mail, vp_row, vp_row_of}
 use Rattle.hv_tree.specs.Rows.{Row, Rows}
 use Rattle.hv_machine.specs.BootTree.{IsBootTree}
 use Rattle.hv_machine.specs.IsFlat.{IsFlat}
@@ -103,6 +106,15 @@ module _ (config : Config) (rows : Rows PartitionState) (made : IsBootTree confi
       ∙ sym (ap {A = PartitionState} (λ q. option_map conn_row_of (get q.conns.rows conn)) made.root.start ∙ ap (option_map conn_row_of) (get-empty nat_cmp conn))
   shown_conn id false conn = get-empty pair_cmp (id, conn)
 
+  -- and no messages
+  none_there : (index sint : ℕ) (b : Bool) → sint_mail sint (cond b (Some (new_vp index)) None) ≡ no_mail
+  none_there index sint true = new_mail index sint
+  none_there index sint false = refl
+
+  shown_mail : (id : ℕ) (b : Bool) (index sint : ℕ) → mail_at (here id index sint) (boot config).mail ≡ rows_of (here id index sint) (mail_there index sint (root_only b))
+  shown_mail id true index sint = ap (rows_of (here id index sint)) (sym (ap (sint_mail sint) (made.root.vps index) ∙ none_there index sint (nat_lt index config.vps)))
+  shown_mail id false index sint = refl
+
   shown : (id : ℕ) → Shows (boot config) id (root_only (id == 1))
   shown id = record {
     part = shown_part id (id == 1) refl;
@@ -110,11 +122,12 @@ module _ (config : Config) (rows : Rows PartitionState) (made : IsBootTree confi
     vp = shown_vp id (id == 1) refl;
     port = shown_port id (id == 1);
     conn = shown_conn id (id == 1);
+    mail = shown_mail id (id == 1);
   }
 
   -- the tree that boot makes is tied to boot's flat state
   booted_tied : IsTied rows (boot config)
-  booted_tied = record { rows = λ id. subst (λ r. Shows (boot config) id r) (sym (row_at id)) (shown id); mail = refl }
+  booted_tied = record { rows = λ id. subst (λ r. Shows (boot config) id r) (sym (row_at id)) (shown id) }
 
   -- so the machine that boots stands for it
   pub booted_flat : IsFlat (booted_state config rows) (boot config)

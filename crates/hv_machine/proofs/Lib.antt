@@ -1,6 +1,8 @@
 pub mod Accessing
 pub mod Booted
 pub mod Calls
+pub mod Ended
+pub mod Root
 pub mod Serving
 pub mod Sound
 pub mod Staffed

@@ -4,7 +4,9 @@ use Rattle.std.specs.declared.result.Result.TheVariants.{Err}
 use Rattle.hv_calls.specs.declared.call.Call.{Call}
 use Rattle.hv_calls.specs.declared.call.Call.TheVariants.{CreatePartition, InitializePartition, FinalizePartition, DeletePartition, GetPartitionProperty, SetPartitionProperty, GetPartitionId, GetNextChildPartition, DepositMemory, WithdrawMemory, GetMemoryBalance, CreateVp, DeleteVp, GetVpRegisters, SetVpRegisters, DeletePort, DisconnectPort, PostMessage, SignalEvent, CreatePort, ConnectPort}
 use Rattle.hv_laws.proofs.Laws.{granted_lawful}
+use Rattle.hv_laws.specs.Bounded.{IsBounded}
 use Rattle.hv_partition.specs.Partition.{PartitionState}
+use Rattle.hv_policy.specs.Aim.{aim_of}
 use Rattle.hv_policy.specs.Call.{target_of}
 use Rattle.hv_policy.specs.Effect.{call_effect, counted}
 use Rattle.hv_policy.specs.Flat.{Flat}
@@ -16,6 +18,7 @@ use Rattle.hv_tie.specs.Tie.{IsTied}
 use Rattle.hv_tie.specs.declared.refused.Refused.{Refused}
 use Rattle.hv_tie.specs.declared.refused.Refused.TheVariants.{Unmet, Memory}
 use Rattle.hv_tree.specs.Rows.{Rows}
+use Rattle.hv_machine.proofs.Ended.{posted_counted, register_counted, signalled_counted}
 use Rattle.hv_machine.specs.Access.{HasAccess}
 use Rattle.hv_machine.specs.IsFlat.{IsFlat}
 use Rattle.hv_machine.specs.Lasting.{IsLasting}
@@ -39,11 +42,11 @@ next_is (GetMemoryBalance partition) f caller target = refl
 next_is (CreateVp partition vp) f caller target = refl
 next_is (DeleteVp partition vp) f caller target = refl
 next_is (GetVpRegisters partition vp name) f caller target = refl
-next_is (SetVpRegisters partition vp name value) f caller target = refl
+next_is (SetVpRegisters partition vp name value) f caller target = (register_counted target vp name value f).next
 next_is (DeletePort partition port) f caller target = refl
 next_is (DisconnectPort partition connection) f caller target = refl
-next_is (PostMessage connection message_type payload) f caller target = refl
-next_is (SignalEvent connection flag) f caller target = refl
+next_is (PostMessage connection message_type payload) f caller target = (posted_counted (aim_of f (target, connection)) message_type payload f).next
+next_is (SignalEvent connection flag) f caller target = (signalled_counted (aim_of f (target, connection)) flag f).next
 next_is (CreatePort partition port peer port_kind sint vp base count) f caller target = refl
 next_is (ConnectPort partition connection port_partition port port_kind) f caller target = refl
 
@@ -62,11 +65,11 @@ served_is (GetMemoryBalance partition) f caller target = refl
 served_is (CreateVp partition vp) f caller target = refl
 served_is (DeleteVp partition vp) f caller target = refl
 served_is (GetVpRegisters partition vp name) f caller target = refl
-served_is (SetVpRegisters partition vp name value) f caller target = refl
+served_is (SetVpRegisters partition vp name value) f caller target = (register_counted target vp name value f).served
 served_is (DeletePort partition port) f caller target = refl
 served_is (DisconnectPort partition connection) f caller target = refl
-served_is (PostMessage connection message_type payload) f caller target = refl
-served_is (SignalEvent connection flag) f caller target = refl
+served_is (PostMessage connection message_type payload) f caller target = (posted_counted (aim_of f (target, connection)) message_type payload f).served
+served_is (SignalEvent connection flag) f caller target = (signalled_counted (aim_of f (target, connection)) flag f).served
 served_is (CreatePort partition port peer port_kind sint vp base count) f caller target = refl
 served_is (ConnectPort partition connection port_partition port port_kind) f caller target = refl
 
@@ -89,17 +92,17 @@ module _ (tree new : Rows PartitionState) (pages next served caller : ℕ) (call
   done_flat f flat tied =
       let shown = roomless_tied new (call_effect call f caller (target_of call caller)) tied in
       record {
-        tied = record { rows = λ id. (let old = shown.rows id in record { part = old.part; page = old.page; vp = old.vp; port = old.port; conn = old.conn }); mail = shown.mail };
+        tied = record { rows = λ id. (let old = shown.rows id in record { part = old.part; page = old.page; vp = old.vp; port = old.port; conn = old.conn; mail = old.mail }) };
         next = next_is call f caller (target_of call caller) ∙ ap (next_after call) flat.next;
         served = ap (λ n. n + 1) (served_is call f caller (target_of call caller) ∙ flat.served);
       }
 
   -- and that is lawful
-  pub done_lasting : (l : IsLasting (state_of tree pages next served)) → HasAccess l.flat caller call → unmet_further l.flat caller call ≡ None → IsTied new (call_effect call l.flat caller (target_of call caller)) → IsLasting (state_of new pages (next_after call next) (served + 1))
-  done_lasting l a met tied = record {
+  pub done_lasting : (l : IsLasting (state_of tree pages next served)) → HasAccess l.flat caller call → IsBounded call → unmet_further l.flat caller call ≡ None → IsTied new (call_effect call l.flat caller (target_of call caller)) → IsLasting (state_of new pages (next_after call next) (served + 1))
+  done_lasting l a bounded met tied = record {
     flat = counted (call_effect call l.flat caller (target_of call caller));
     stands = done_flat l.flat l.stands tied;
-    lawful = granted_lawful pages l.flat l.lawful caller call (admitted_allowed tree caller call (record { rows = lawful_tree tree pages next served l; active = a.active; access = a.access }) met);
+    lawful = granted_lawful pages l.flat l.lawful caller call (admitted_allowed tree caller call (record { rows = lawful_tree tree pages next served l; active = a.active; access = a.access }) met) bounded;
     bounded = l.bounded;
   }
 

@@ -5,8 +5,8 @@ use Rattle.std.specs.FinMap as map
 use Rattle.hv_partition.specs.Partition.{PartitionState, partition_code}
 use Rattle.hv_tree.specs.Rows.{Rows}
 
--- the partitions by id, each with its parent and without the room of its page sets; how many pages boot gave, the id that the
--- next partition gets, and how many events were served
+-- the partitions by id, each with its parent and without the room of its page sets, processors and
+-- tables; how many pages boot gave, the id that the next partition gets, and how many events were served
 pub record State : Type 0 where
   pub rows : Rows PartitionState
   pub pages : ℕ

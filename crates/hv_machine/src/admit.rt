@@ -1,8 +1,7 @@
 // The rules up to P10, asked in the policy's order.
-ghost use Rattle.std.specs.Prelude.{◌≡◌, Some, IfOk, IfErr, IsTrue};
+ghost use Rattle.std.specs.Prelude.{◌≡◌, Some, IfOk, IfErr};
 ghost use Rattle.hv_abi.specs.Check.{IsShape};
-ghost use Rattle.hv_calls.specs.Call.{kind_of_call};
-ghost use Rattle.hv_policy.specs.Call.{is_served};
+ghost use Rattle.hv_laws.specs.Bounded.{IsBounded};
 ghost use Rattle.hv_policy.specs.CallEvent.{IsCall, call_event};
 ghost use Rattle.hv_policy.specs.Flat.{Flat};
 ghost use Rattle.hv_policy.specs.Step.{unmet};
@@ -23,7 +22,7 @@ impl<A: Allocator> Machine<A> {
     pub fn admit(&self, by: Caller, frame: &Frame<A>) -> Result<(Shape, Call), Rule>
         ensures shape { IfOk result (λ asked. IsShape frame.now asked.0) }
         ensures call { IfOk result (λ asked. IsCall frame.now asked.0 asked.1) }
-        ensures known { IfOk result (λ asked. IsTrue (is_served (kind_of_call asked.1))) }
+        ensures bounded { IfOk result (λ asked. IsBounded asked.1) }
         ensures access { IfOk result (λ asked. (f : Flat) → IsFlat self.now f → HasAccess f by.part asked.1) }
         ensures further { IfOk result (λ asked. (f : Flat) → IsFlat self.now f → unmet f (call_event by frame.now) ≡ unmet_further f by.part asked.1) }
         ensures first { IfErr result (λ rule. (f : Flat) → IsFlat self.now f → unmet f (call_event by frame.now) ≡ Some rule) }

@@ -1,8 +1,7 @@
 // The calls and accesses, each to its chapter.
-ghost use Rattle.std.specs.Prelude.{◌≡◌, false, ◌+◌, ◌-◌, ◌^◌, ◌<◌, IsTrue};
-ghost use Rattle.hv_calls.specs.Call.{kind_of_call};
+ghost use Rattle.std.specs.Prelude.{◌≡◌, false, ◌+◌, ◌-◌, ◌^◌, ◌<◌};
 ghost use Rattle.hv_defs.specs.declared.sizes.TheConstants.{MAX_SERVED};
-ghost use Rattle.hv_policy.specs.Call.{is_call, is_served};
+ghost use Rattle.hv_policy.specs.Call.{is_call};
 ghost use Rattle.hv_policy.specs.Flat.{Flat};
 ghost use Rattle.hv_tie.specs.Access.{IsAccess};
 ghost use Rattle.hv_tie.specs.Served.{IsAdmitted, IsOutcome};
@@ -15,6 +14,9 @@ use hv_life::{
     get_partition_id, initialize_partition,
 };
 use hv_links::{NewPort, connect_port, create_port, delete_port, disconnect_port};
+use hv_messages::{
+    clear_flag, clear_slot, post_message, read_flags, read_slot, signal_event, take_interrupt,
+};
 use hv_partition::Partition;
 use hv_policy::{Action, Caller, Output, Rule};
 use hv_pools::{deposit_memory, get_memory_balance, withdraw_memory};
@@ -37,7 +39,6 @@ pub fn dispatch<A: Allocator + Clone>(
     call: &Call,
 ) -> Result<Output, Refused>
     requires admitted { (a : IsAdmitted tree.old caller call.now) × (a.rows.flat.next ≡ next) }
-    requires known { IsTrue (is_served (kind_of_call call.now)) }
     requires count { served < MAX_SERVED }
     ensures { (f : Flat) → IsTied tree.old f → f.next ≡ next → f.served ≡ served → IsOutcome f caller call.now tree.old result tree.new }
 {
@@ -116,7 +117,12 @@ pub fn dispatch<A: Allocator + Clone>(
             *port,
             *kind,
         ),
-        Call::PostMessage { .. } | Call::SignalEvent { .. } => unreachable!(),
+        Call::PostMessage {
+            connection,
+            message_type,
+            payload,
+        } => post_message(tree, caller, *connection, *message_type, payload),
+        Call::SignalEvent { connection, flag } => signal_event(tree, caller, *connection, *flag),
     }
 }
 
@@ -133,6 +139,11 @@ pub fn dispatch_access<A: Allocator>(
         Action::Hypercall(_) => unreachable!(),
         Action::ReadMsr(msr) => read_msr(tree, by, *msr),
         Action::WriteMsr(msr, value) => write_msr(tree, by, *msr, *value),
+        Action::ReadSlot(sint) => read_slot(tree, by, *sint),
+        Action::ClearSlot(sint) => clear_slot(tree, by, *sint),
+        Action::ReadFlags(sint) => read_flags(tree, by, *sint),
+        Action::ClearFlag(sint, flag) => clear_flag(tree, by, *sint, *flag),
+        Action::TakeInterrupt => take_interrupt(tree, by),
     }
 }
 

@@ -1,9 +1,9 @@
 // The machine and its one step.
 ghost use Rattle.std.specs.Prelude.{◌≡◌, ◌<◌, None, false, IsTrue, IfOk, OnOk, OnErr};
-ghost use Rattle.hv_calls.specs.Call.{kind_of_call};
 ghost use Rattle.hv_defs.specs.declared.sizes.TheConstants.{MAX_SERVED};
 ghost use Rattle.hv_abi.specs.declared.frame.Frame.{Frame as CallFrame};
-ghost use Rattle.hv_policy.specs.Call.{is_call, is_served, may_take_memory};
+ghost use Rattle.hv_laws.specs.Bounded.{IsBounded};
+ghost use Rattle.hv_policy.specs.Call.{is_call, may_take_memory};
 ghost use Rattle.hv_policy.specs.CallEvent.{call_event};
 ghost use Rattle.hv_policy.specs.Flat.{Flat};
 ghost use Rattle.hv_policy.specs.Result.{HasResult};
@@ -86,7 +86,13 @@ impl<A: Allocator + Clone> Machine<A> {
     {
         match &event.what {
             Action::Hypercall(frame) => self.hypercall(event.by, frame),
-            Action::ReadMsr(_) | Action::WriteMsr(_, _) => Ok(self.access(event)),
+            Action::ReadMsr(_)
+            | Action::WriteMsr(_, _)
+            | Action::ReadSlot(_)
+            | Action::ClearSlot(_)
+            | Action::ReadFlags(_)
+            | Action::ClearFlag(_, _)
+            | Action::TakeInterrupt => Ok(self.access(event)),
         }
     }
 
@@ -141,7 +147,7 @@ impl<A: Allocator + Clone> Machine<A> {
     // Serves a call for which P1 to P10 are met, where its own rules are met too.
     fn serve(&mut self, by: Caller, call: &Call) -> Result<Output, Refused>
         requires count { self.old.served < MAX_SERVED }
-        requires known { IsTrue (is_served (kind_of_call call.now)) }
+        requires bounded { IsBounded call.now }
         requires access { (f : Flat) → IsFlat self.old f → HasAccess f by.part call.now }
         ensures outcome { (f : Flat) → IsFlat self.old f → IsResult f by.part call.now self.old result self.new }
         ensures lasting { IsLasting self.new }
@@ -180,7 +186,8 @@ impl<A: Allocator> Machine<A> {
         self.next
     }
 
-    /// The partitions, as a tree. What contracts see of a machine is this tree without the room of its page sets.
+    /// The partitions, as a tree. What contracts see of a machine is this tree without the room of its page sets,
+    /// processors and tables.
     pub fn tree(&self) -> &IdTree<Partition<A>, A>
         ensures { roomless result.now ≡ self.now.rows }
     {

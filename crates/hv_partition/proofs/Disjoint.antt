@@ -12,5 +12,3 @@ IsDisjoint-union s t others first second = λ page held. elim (or_cases _ _ (sym
   | inl here ↦ first page here
   | inr there ↦ second page there
 ]
-
-pub ruleset disjoint = (IsDisjoint-union)

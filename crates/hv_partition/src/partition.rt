@@ -327,7 +327,6 @@ impl<A: Allocator> Partition<A> {
     /// partition's memory back.
     ///
     /// The pages must find room. The time is proportional to the three counts at most.
-    #[tactic(auto, using(crate::proofs::Disjoint::disjoint))]
     pub fn take_over(&mut self, gone: Partition<A>)
         requires room { set.len gone.loose.pages + set.len gone.pooled.pages ≤ self.old.loose.room }
         requires loose { IsDisjoint self.old.loose.pages gone.loose.pages }

@@ -9,7 +9,6 @@ use Rattle.hv_abi.specs.declared.frame.Frame.{Frame}
 use Rattle.hv_abi.specs.Check.{call_of, is_input_valid, are_lists_placed, fault_at, first_fault}
 use Rattle.hv_abi.specs.CallRow.{row_of}
 use Rattle.hv_policy.specs.Asked.{call_rules}
-use Rattle.hv_policy.specs.Call.{is_served_code, served_kind}
 use Rattle.hv_policy.specs.Flat.{Flat}
 use Rattle.hv_policy.specs.Result.{start_if_valid, refused_reps}
 use Rattle.hv_policy.specs.Step.{first_unmet}
@@ -30,22 +29,11 @@ abbrev pub first_of : Option CallKind → Bool → Bool → Option Rule → Opti
 first_of None valid placed rest = Some CallCode
 first_of (Some call) valid placed rest = cond (not valid) (Some InputValue) (cond (not placed) (Some Alignment) rest)
 
-pub is_call : {A : Type 0} (frame : Frame A) → is_served_code (bits frame.rcx 0 16) ≡ true → served_kind frame ≡ call_of frame
-is_call frame h = ap (λ b. cond b (call_of frame) None) h
-
--- a call that is served has a served code
-pub code_of_call : {A : Type 0} (frame : Frame A) → is_some (served_kind frame) ≡ true → is_served_code (bits frame.rcx 0 16) ≡ true
-code_of_call frame h = by (is_served_code (bits frame.rcx 0 16)) refl h
-  where
-    by : (b : Bool) → is_served_code (bits frame.rcx 0 16) ≡ b → is_some (cond b (call_of frame) None) ≡ true → b ≡ true
-    by true is h = refl
-    by false is h = cc
-
 module _ {A : Type 0} (f : Flat) (caller : Caller) (frame : Frame A) where
   abbrev event : Event A
   event = record { by = caller; what = Hypercall frame }
 
-  faulty : (c : Option CallKind) → served_kind frame ≡ c → (wrong : AbiFault) → fault_at frame c ≡ Some wrong → first_unmet f event (call_rules c) ≡ Some (rule_of wrong)
+  faulty : (c : Option CallKind) → call_of frame ≡ c → (wrong : AbiFault) → fault_at frame c ≡ Some wrong → first_unmet f event (call_rules c) ≡ Some (rule_of wrong)
   faulty None s wrong h = rw s (known wrong h)
     where
       known : (wrong : AbiFault) → Some UnknownCode ≡ Some wrong → Some CallCode ≡ Some (rule_of wrong)
@@ -63,9 +51,9 @@ module _ {A : Type 0} (f : Flat) (caller : Caller) (frame : Frame A) where
       by true false valid placed fault.Alignment h = rw (s, valid, placed) refl
       by true true valid placed wrong h = cc
 
-  -- a frame of a served code is refused by the rule that its first fault breaks
-  pub unmet_fault : is_served_code (bits frame.rcx 0 16) ≡ true → (wrong : AbiFault) → first_fault frame ≡ Some wrong → first_unmet f event (call_rules (served_kind frame)) ≡ Some (rule_of wrong)
-  unmet_fault served wrong h = subst (λ c. first_unmet f event (call_rules c) ≡ Some (rule_of wrong)) (sym (is_call frame served)) (faulty (call_of frame) (is_call frame served) wrong h)
+  -- a frame is refused by the rule that its first fault breaks
+  pub unmet_fault : (wrong : AbiFault) → first_fault frame ≡ Some wrong → first_unmet f event (call_rules (call_of frame)) ≡ Some (rule_of wrong)
+  unmet_fault wrong h = faulty (call_of frame) refl wrong h
 
 -- the reps of a refused call, by the frame's first fault
 abbrev pub reps_by : ℕ → AbiFault → ℕ
@@ -73,7 +61,7 @@ reps_by start UnknownCode = 0
 reps_by start Input = 0
 reps_by start fault.Alignment = start
 
-module _ {A : Type 0} (frame : Frame A) (served : is_served_code (bits frame.rcx 0 16) ≡ true) where
+module _ {A : Type 0} (frame : Frame A) where
   reps_at : (c : Option CallKind) (wrong : AbiFault) → fault_at frame c ≡ Some wrong → start_if_valid frame.rcx c ≡ reps_by (bits frame.rcx 48 12) wrong
   reps_at None UnknownCode h = refl
   reps_at None Input h = cc
@@ -90,4 +78,4 @@ module _ {A : Type 0} (frame : Frame A) (served : is_served_code (bits frame.rcx
       by true true wrong h = cc
 
   pub reps_of_fault : (wrong : AbiFault) → first_fault frame ≡ Some wrong → refused_reps frame ≡ reps_by (bits frame.rcx 48 12) wrong
-  reps_of_fault wrong h = ap (start_if_valid frame.rcx) (is_call frame served) ∙ reps_at (call_of frame) wrong h
+  reps_of_fault wrong h = reps_at (call_of frame) wrong h

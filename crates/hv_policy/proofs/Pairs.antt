@@ -12,7 +12,7 @@ use Rattle.std.specs.Map.{keys_of}
 use Rattle.std.specs.Ordering.{nat_cmp, eq_by_cmp, is_eq}
 use Rattle.std.proofs.lemmas.Map.Lookups.{exact_pairs}
 use Rattle.hv_defs.proofs.Counts.{passes, distinct_keys, passing_keys, len-from_list}
-use Rattle.hv_policy.specs.Flat.{pair_cmp}
+use Rattle.hv_defs.specs.Flags.{pair_cmp}
 
 pub pair_cmp_total : IsTotalOrder pair_cmp
 pair_cmp_total = then_total (on_total (λ (p : ℕ × ℕ). p.0) nat_cmp_total) (on_total (λ (p : ℕ × ℕ). p.1) nat_cmp_total)

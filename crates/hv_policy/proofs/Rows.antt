@@ -9,7 +9,8 @@ use Rattle.std.specs.Ordering.{nat_cmp, eq_by_cmp}
 use Rattle.hv_defs.proofs.Maps.{get_at-insert}
 use Rattle.hv_policy.proofs.Pairs.{pair_cmp_total, pair_cmp_exact}
 use Rattle.hv_policy.specs.Effect.{with_row, with_vp, changed_at, vp_changed_at, rows_but}
-use Rattle.hv_policy.specs.Flat.{Flat, PartRow, VpRow, pair_cmp}
+use Rattle.hv_defs.specs.Flags.{pair_cmp}
+use Rattle.hv_policy.specs.Flat.{Flat, PartRow, VpRow}
 use Rattle.hv_policy.specs.Met.{test_row, on_part}
 use Rattle.hv_policy.specs.declared.rule.Rule.{Rule}
 

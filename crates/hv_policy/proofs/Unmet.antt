@@ -12,7 +12,8 @@ use Rattle.hv_policy.specs.declared.event.Event.{Event}
 use Rattle.hv_policy.specs.declared.rule.Rule.{Rule}
 use Rattle.hv_policy.specs.declared.rule.Rule.TheVariants.{CallerExists, CallerActive, CallerVpExists}
 use Rattle.hv_policy.specs.Asked.{caller_rules, call_rules, frame_rules, access_rules, action_rules}
-use Rattle.hv_policy.specs.Call.{served_call, served_kind, test_call}
+use Rattle.hv_policy.specs.Call.{called, test_call}
+use Rattle.hv_abi.specs.Check.{call_of}
 use Rattle.hv_policy.specs.Flat.{Flat}
 use Rattle.hv_policy.specs.Met.{met, call_met, unmet_of, on_part, is_active}
 use Rattle.hv_policy.specs.Needs.{further_rules}
@@ -60,12 +61,12 @@ module _ {A : Type 0} (f : Flat) (caller : Caller) (frame : Frame A) where
 
   module _ (caller_met : first_unmet f event caller_rules ≡ None) where
     -- one of P4 to P7 refuses
-    pub unmet_by_frame : (rule : Rule) → first_unmet f event (call_rules (served_kind frame)) ≡ Some rule → unmet f event ≡ Some rule
+    pub unmet_by_frame : (rule : Rule) → first_unmet f event (call_rules (call_of frame)) ≡ Some rule → unmet f event ≡ Some rule
     unmet_by_frame rule h = past_caller f event caller_met ∙ h
 
-    module _ (call : Call) (is : served_kind frame ≡ Some (kind_of_call call)) (served : served_call frame ≡ Some call) (frame_met : first_unmet f event frame_rules ≡ None) where
+    module _ (call : Call) (is : call_of frame ≡ Some (kind_of_call call)) (served : called frame ≡ Some call) (frame_met : first_unmet f event frame_rules ≡ None) where
       -- the rules that look at the parameters ask the call alone
-      of_call : (rules : List Rule) → find (λ rule. not (test_call (call_met rule f caller.part) (served_call frame))) rules ≡ unmet_of f caller.part call rules
+      of_call : (rules : List Rule) → find (λ rule. not (test_call (call_met rule f caller.part) (called frame))) rules ≡ unmet_of f caller.part call rules
       of_call rules = ap (λ c. find (λ rule. not (test_call (call_met rule f caller.part) c)) rules) served
 
       by_kind : (kind : CallKind) → first_unmet f event (access_rules ++ further_rules kind) ≡ unmet_of f caller.part call (access_rules ++ further_rules kind)

@@ -1,23 +1,28 @@
 -- What a served event answers.
-use Rattle.std.specs.Prelude.{ℕ, ◌+◌, ◌&&◌, Bool, true, nat_lt, if◌then◌else◌, List, [], ◌++◌, find, Option, None, Some}
+use Rattle.std.specs.Prelude.{ℕ, ◌+◌, ◌&&◌, Bool, true, nat_lt, if◌then◌else◌, List, [], ◌∷◌, ◌++◌, find, Option, None, Some}
 use Rattle.std.specs.FinMap.{get, entries}
 use Rattle.std.specs.Int.{w64, to_le_bytes}
 use Rattle.std.specs.Option.{option_map_or}
 use Rattle.hv_defs.specs.Bits.{bits}
+use Rattle.hv_defs.specs.Flags.{flag_bytes}
 use Rattle.hv_defs.specs.Registers.{name_of_msr}
+use Rattle.hv_defs.specs.Slot.{zeros}
+use Rattle.hv_defs.specs.Vectors.{highest}
+use Rattle.hv_abi.specs.Check.{call_of}
 use Rattle.hv_abi.specs.declared.call_kind.CallKind.{CallKind}
 use Rattle.hv_abi.specs.declared.frame.Frame.{Frame}
 use Rattle.hv_calls.specs.declared.call.Call.{Call}
 use Rattle.hv_calls.specs.declared.call.Call.TheVariants.{CreatePartition, InitializePartition, FinalizePartition, DeletePartition, GetPartitionProperty, SetPartitionProperty, GetPartitionId, GetNextChildPartition, DepositMemory, WithdrawMemory, GetMemoryBalance, CreateVp, DeleteVp, GetVpRegisters, SetVpRegisters, DeletePort, DisconnectPort, PostMessage, SignalEvent, CreatePort, ConnectPort}
 use Rattle.hv_policy.specs.declared.event.Action.{Action}
-use Rattle.hv_policy.specs.declared.event.Action.TheVariants.{Hypercall, ReadMsr, WriteMsr}
+use Rattle.hv_policy.specs.declared.event.Action.TheVariants.{Hypercall, ReadMsr, WriteMsr, ReadSlot, ClearSlot, ReadFlags, ClearFlag, TakeInterrupt}
 use Rattle.hv_policy.specs.declared.event.Caller.{Caller}
 use Rattle.hv_policy.specs.declared.event.Event.{Event}
 use Rattle.hv_policy.specs.declared.reply.Reply.{Reply}
 use Rattle.hv_policy.specs.declared.reply.Reply.TheVariants.{Served, More}
-use Rattle.hv_policy.specs.Call.{served_call, served_kind, is_last, target_of}
+use Rattle.hv_policy.specs.Call.{called, is_last, target_of}
 use Rattle.hv_policy.specs.Count.{is_parent, lowest_pooled, available, in_use}
 use Rattle.hv_policy.specs.Flat.{Flat, PartRow, VpRow}
+use Rattle.hv_policy.specs.Mail.{place_at, slot_at}
 use Rattle.hv_policy.specs.Property.{property_of, property_value}
 use Rattle.hv_policy.specs.declared.property.Property.{Property}
 
@@ -48,6 +53,16 @@ register_of (Some row) name = option_map_or (λ value. value) (get row.registers
 abbrev pub msr_of : Option VpRow → Option ℕ → ℕ
 msr_of row None = 0
 msr_of row (Some name) = register_of row name
+
+-- the bytes of the event flags of a SINT of the processor with this row, and zeros where it is missing
+abbrev pub flags_at : Option VpRow → ℕ → List ℕ
+flags_at None sint = zeros 256
+flags_at (Some row) sint = flag_bytes row.flags sint
+
+-- the highest vector that is pending, and 0 where none is
+abbrev pub vector_of : Option VpRow → ℕ
+vector_of None = 0
+vector_of (Some row) = option_map_or (λ vector. vector) (highest row.pending) 0
 
 -- the output bytes of a call, about its target; of a rep call those of its own element
 abbrev pub output : Call → Flat → ℕ → ℕ → List ℕ
@@ -85,13 +100,18 @@ is_done frame (Some kind) = is_last kind frame
 
 -- the reply to a call that is served, which is done with its last element
 abbrev pub reply_with : {A : Type 0} → Frame A → List ℕ → Reply
-reply_with frame bytes = if is_done frame (served_kind frame) then Served bytes else More (bits frame.rcx 48 12 + 1) bytes
+reply_with frame bytes = if is_done frame (call_of frame) then Served bytes else More (bits frame.rcx 48 12 + 1) bytes
 
 -- the reply to an action that is served; an access reads its own processor
 abbrev pub action_answer : {A : Type 0} → Flat → Caller → Action A → Reply
-action_answer f by (Hypercall frame) = reply_with frame (output_of f by.part (served_call frame))
+action_answer f by (Hypercall frame) = reply_with frame (output_of f by.part (called frame))
 action_answer f by (ReadMsr msr) = Served (to_le_bytes w64 (msr_of (get f.vp (by.part, by.vp)) (name_of_msr msr)))
 action_answer f by (WriteMsr msr value) = Served []
+action_answer f by (ReadSlot sint) = Served (slot_at (place_at by sint) f.mail)
+action_answer f by (ClearSlot sint) = Served []
+action_answer f by (ReadFlags sint) = Served (flags_at (get f.vp (by.part, by.vp)) sint)
+action_answer f by (ClearFlag sint flag) = Served []
+action_answer f by TakeInterrupt = Served (vector_of (get f.vp (by.part, by.vp)) ∷ [])
 
 -- the reply to an event that is served
 abbrev pub answer : {A : Type 0} → Flat → Event A → Reply

@@ -1,26 +1,32 @@
 -- What a served event changes.
-use Rattle.std.specs.Prelude.{ℕ, ◌+◌, ◌==◌, ◌&&◌, not, true, false, if◌then◌else◌, List, map, Option, None, Some}
-use Rattle.std.specs.List.{filter}
+use Rattle.std.specs.Prelude.{ℕ, zero, suc, ◌+◌, ◌==◌, not, true, false, Bool, cond, if◌then◌else◌, List, [], ◌∷◌, ◌++◌, map, Option, None, Some}
 use Rattle.std.specs.Ordering.{nat_cmp}
+use Rattle.std.specs.FinSet as set
 use Rattle.std.specs.FinMap.{FinMap, get, insert, remove, entries, from_entries, retain_keys}
 use Rattle.hv_calls.specs.declared.call.Call.{Call}
 use Rattle.hv_calls.specs.declared.call.Call.TheVariants.{CreatePartition, InitializePartition, FinalizePartition, DeletePartition, GetPartitionProperty, SetPartitionProperty, GetPartitionId, GetNextChildPartition, DepositMemory, WithdrawMemory, GetMemoryBalance, CreateVp, DeleteVp, GetVpRegisters, SetVpRegisters, DeletePort, DisconnectPort, PostMessage, SignalEvent, CreatePort, ConnectPort}
 use Rattle.hv_defs.specs.Registers as register
+use Rattle.hv_defs.specs.Vectors as vectors
 use Rattle.hv_defs.specs.declared.life.Life.TheVariants.{Created, Active, Finalized}
 use Rattle.hv_defs.specs.declared.port_kind.PortKind.{PortKind}
 use Rattle.hv_defs.specs.declared.port_kind.PortKind.TheVariants as port_type
-use Rattle.hv_defs.specs.declared.sizes.TheConstants.{CPU_RESERVE_START, CPU_CAP_START, CPU_WEIGHT_START}
+use Rattle.hv_defs.specs.declared.sizes.TheConstants.{CPU_RESERVE_START, CPU_CAP_START, CPU_WEIGHT_START, SINTS}
+use Rattle.hv_defs.specs.declared.registers.TheConstants.{EOM}
 use Rattle.hv_privs.specs.declared.Privileges.{Privileges}
 use Rattle.hv_privs.specs.declared.TheConstants.Privileges as privilege
 use Rattle.hv_privs.specs.Privileges.{of, restrict}
 use Rattle.hv_policy.specs.declared.event.Action.{Action}
-use Rattle.hv_policy.specs.declared.event.Action.TheVariants.{Hypercall, ReadMsr, WriteMsr}
+use Rattle.hv_policy.specs.declared.event.Action.TheVariants.{Hypercall, ReadMsr, WriteMsr, ReadSlot, ClearSlot, ReadFlags, ClearFlag, TakeInterrupt}
 use Rattle.hv_policy.specs.declared.event.Caller.{Caller}
 use Rattle.hv_policy.specs.declared.event.Event.{Event}
+use Rattle.hv_policy.specs.Aim.{Aim, aim_of, on_vp, vp_key}
 use Rattle.hv_policy.specs.Boot.{start_vp}
-use Rattle.hv_policy.specs.Call.{meant_id, served_call, target_of}
+use Rattle.hv_policy.specs.Call.{called, meant_id, target_of}
 use Rattle.hv_policy.specs.Count.{lowest_pooled}
-use Rattle.hv_policy.specs.Flat.{Flat, PartRow, PageRow, VpRow, PortRow, ConnRow, MailRow, pair_cmp}
+use Rattle.hv_defs.specs.Flags.{pair_cmp}
+use Rattle.hv_policy.specs.Flat.{Flat, PartRow, PageRow, VpRow, PortRow, ConnRow, MailRow}
+use Rattle.hv_policy.specs.Mail as mail
+use Rattle.hv_policy.specs.Mail.{Place, place_at}
 use Rattle.hv_policy.specs.Property.{property_of, with_property}
 use Rattle.hv_policy.specs.declared.property.Property.{Property}
 
@@ -52,22 +58,9 @@ with_row part id change = changed_at part id change (get part id)
 abbrev pub rows_but : {X : Type 0} → ℕ → FinMap pair_cmp X → FinMap pair_cmp X
 rows_but id rows = retain_keys rows (λ key. not (key.0 == id))
 
--- the messages at the processors of all other partitions
-abbrev pub mail_but : ℕ → List MailRow → List MailRow
-mail_but id mail = filter (λ row. not (row.part == id)) mail
-
--- the messages at all other processors
-abbrev pub mail_but_at : ℕ → ℕ → List MailRow → List MailRow
-mail_but_at id vp mail = filter (λ row. not (row.part == id && row.vp == vp)) mail
-
 -- a processor's row once a value was written to the register with this name, if it took it
 abbrev pub written : ℕ → ℕ → VpRow → VpRow
 written name value row = record row { registers = register.after_write row.registers name (register.kept (register.row_of name) value) }
-
--- the same for a model-specific register, by the name that it has
-abbrev pub written_msr : Option ℕ → ℕ → VpRow → VpRow
-written_msr None value row = row
-written_msr (Some name) value row = written name value row
 
 abbrev pub vp_changed_at : FinMap pair_cmp VpRow → ℕ × ℕ → (VpRow → VpRow) → Option VpRow → FinMap pair_cmp VpRow
 vp_changed_at vps key change None = vps
@@ -101,6 +94,68 @@ abbrev pub given : Option Property → ℕ → PartRow → PartRow
 given None value row = row
 given (Some property) value row = with_property property value row
 
+-- a processor's row once a SINT raised its vector, where it did
+abbrev pub row_raised : Bool → ℕ → VpRow → VpRow
+row_raised did sint row = record row { pending = cond did (vectors.raised row.registers sint row.pending) row.pending }
+
+-- Show at a place: where none is shown and one waits, the oldest is shown and the SINT raises its vector
+abbrev pub show : Place → Flat → Flat
+show place f = record f {
+  mail = mail.shown_next place f.mail;
+  vp = with_vp f.vp (place.part, place.vp) (row_raised (mail.has_next place f.mail) place.sint);
+}
+
+-- Show at each of the first so many SINTs of a processor
+unfoldable pub show_each : ℕ → ℕ → ℕ → Flat → Flat
+show_each part vp zero f = f
+show_each part vp (suc sint) f = show (record { part = part; vp = vp; sint = sint }) (show_each part vp sint f)
+
+-- a message ends: where the processor takes messages, Show at each of its SINTs
+abbrev pub end_message : ℕ → ℕ → Flat → Flat
+end_message part vp f = cond (on_vp f (part, vp) (λ row. register.takes_messages row.registers)) (show_each part vp SINTS f) f
+
+abbrev pub end_if : Bool → ℕ → ℕ → Flat → Flat
+end_if is part vp f = cond is (end_message part vp f) f
+
+-- a value is written to a register of a processor; the write of EOM ends a message
+abbrev pub write_register : ℕ → ℕ → ℕ → ℕ → Flat → Flat
+write_register part vp name value f = end_if (name == EOM) part vp (record f { vp = with_vp f.vp (part, vp) (written name value) })
+
+-- the same for a model-specific register, by the name that it has
+abbrev pub write_msr : ℕ → ℕ → Option ℕ → ℕ → Flat → Flat
+write_msr part vp None value f = f
+write_msr part vp (Some name) value f = write_register part vp name value f
+
+-- a message is posted: it goes last, and then Show at its place
+abbrev pub post : MailRow → Flat → Flat
+post row f = show (mail.place_of row) (record f { mail = f.mail ++ row ∷ [] })
+
+-- through a connection, to the SINT at which its port aims
+abbrev pub post_to : Option Aim → ℕ → List ℕ → Flat → Flat
+post_to None type payload f = f
+post_to (Some aim) type payload f =
+    post (record {
+      part = aim.conn.part;
+      vp = aim.port.vp;
+      sint = aim.port.sint;
+      port = aim.conn.port;
+      born = aim.conn.born;
+      type = type;
+      payload = payload;
+      shown = false;
+    }) f
+
+-- a processor's row once a flag of a SINT was set, which raises the SINT's vector where it was clear
+abbrev pub row_signalled : ℕ → ℕ → VpRow → VpRow
+row_signalled sint flag row =
+    row_raised (not (set.contains row.flags (sint, flag))) sint (record row { flags = set.insert row.flags (sint, flag) })
+
+-- a flag is set through a connection, counted from the first of its port
+abbrev pub signal_to : Option Aim → ℕ → Flat → Flat
+signal_to None flag f = f
+signal_to (Some aim) flag f =
+    record f { vp = with_vp f.vp (vp_key aim) (row_signalled aim.port.sint (aim.port.base + flag)) }
+
 -- what a call changes, about its target, beside the count of served events
 abbrev pub call_effect : Call → Flat → ℕ → ℕ → Flat
 call_effect (CreatePartition flags) f caller target = record f {
@@ -113,7 +168,7 @@ call_effect (FinalizePartition partition) f caller target = record f {
   vp = rows_but target f.vp;
   port = rows_but target f.port;
   conn = rows_but target f.conn;
-  mail = mail_but target f.mail;
+  mail = mail.mail_but target f.mail;
 }
 call_effect (DeletePartition partition) f caller target = record f {
   part = remove f.part target;
@@ -131,14 +186,14 @@ call_effect (GetNextChildPartition partition previous) f caller target = f
 call_effect (GetMemoryBalance partition) f caller target = f
 call_effect (CreateVp partition vp) f caller target = record f { vp = insert f.vp (target, vp) (start_vp vp) }
 call_effect (DeleteVp partition vp) f caller target =
-    record f { vp = remove f.vp (target, vp); mail = mail_but_at target vp f.mail }
+    record f { vp = remove f.vp (target, vp); mail = mail.mail_but_at target vp f.mail }
 call_effect (SetVpRegisters partition vp name value) f caller target =
-    record f { vp = with_vp f.vp (target, vp) (written name value) }
+    write_register target vp name value f
 call_effect (GetVpRegisters partition vp name) f caller target = f
 call_effect (DeletePort partition port) f caller target = record f { port = remove f.port (target, port) }
 call_effect (DisconnectPort partition connection) f caller target = record f { conn = remove f.conn (target, connection) }
-call_effect (PostMessage connection message_type payload) f caller target = f
-call_effect (SignalEvent connection flag) f caller target = f
+call_effect (PostMessage connection message_type payload) f caller target = post_to (aim_of f (target, connection)) message_type payload f
+call_effect (SignalEvent connection flag) f caller target = signal_to (aim_of f (target, connection)) flag f
 call_effect (CreatePort partition port peer port_kind sint vp base count) f caller target = record f {
   port = insert f.port (target, port) (record {
     kind = port_kind;
@@ -165,10 +220,16 @@ served_effect f caller (Some call) = call_effect call f caller (target_of call c
 
 -- what an access changes is at the calling processor
 abbrev pub action_effect : {A : Type 0} → Flat → Caller → Action A → Flat
-action_effect f by (Hypercall frame) = served_effect f by.part (served_call frame)
+action_effect f by (Hypercall frame) = served_effect f by.part (called frame)
 action_effect f by (ReadMsr msr) = f
-action_effect f by (WriteMsr msr value) =
-    record f { vp = with_vp f.vp (by.part, by.vp) (written_msr (register.name_of_msr msr) value) }
+action_effect f by (WriteMsr msr value) = write_msr by.part by.vp (register.name_of_msr msr) value f
+action_effect f by (ReadSlot sint) = f
+action_effect f by (ClearSlot sint) = record f { mail = mail.cleared (place_at by sint) f.mail }
+action_effect f by (ReadFlags sint) = f
+action_effect f by (ClearFlag sint flag) =
+    record f { vp = with_vp f.vp (by.part, by.vp) (λ row. record row { flags = set.remove row.flags (sint, flag) }) }
+action_effect f by TakeInterrupt =
+    record f { vp = with_vp f.vp (by.part, by.vp) (λ row. record row { pending = vectors.without row.pending (vectors.highest row.pending) }) }
 
 -- a state with 1 more served event
 abbrev pub counted : Flat → Flat

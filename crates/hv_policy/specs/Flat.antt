@@ -1,16 +1,12 @@
 -- The flat state: finite maps of rows, without trees, queues or sizes kept.
 use Rattle.std.specs.Prelude.{ℕ, Bool, List, Option}
-use Rattle.std.specs.Ordering.{nat_cmp, ordering_then}
-use Rattle.std.specs.declared.cmp.Ordering.{Ordering}
+use Rattle.std.specs.Ordering.{nat_cmp}
 use Rattle.std.specs.FinMap.{FinMap}
-use Rattle.std.specs.FinSet.{FinSet}
+use Rattle.hv_defs.specs.Flags.{FlagSet, pair_cmp}
+use Rattle.hv_defs.specs.Vectors.{VectorSet}
 use Rattle.hv_defs.specs.declared.life.Life.{Life}
 use Rattle.hv_defs.specs.declared.port_kind.PortKind.{PortKind}
 use Rattle.hv_privs.specs.declared.Privileges.{Privileges}
-
--- pairs in order, as (partition, number)
-abbrev pub pair_cmp : ℕ × ℕ → ℕ × ℕ → Ordering
-pair_cmp a b = ordering_then (nat_cmp a.0 b.0) (nat_cmp a.1 b.1)
 
 -- a partition: its parent, none for the root, its life state, its mask and its CPU properties
 pub record PartRow : Type 0 where
@@ -30,8 +26,8 @@ pub record PageRow : Type 0 where
 -- vectors that are pending
 pub record VpRow : Type 0 where
   pub registers : FinMap nat_cmp ℕ
-  pub flags : FinSet pair_cmp
-  pub pending : FinSet nat_cmp
+  pub flags : FlagSet
+  pub pending : VectorSet
 
 -- a port: what it takes, the partition that may connect, the SINT and the processor it aims at, the first
 -- of its event flags and their count, and the count of served events that its making gave

@@ -1,3 +1,4 @@
+pub mod Aim
 pub mod Allowed
 pub mod Answer
 pub mod Asked
@@ -8,9 +9,11 @@ pub mod CallEvent
 pub mod Count
 pub mod Effect
 pub mod Flat
+pub mod Mail
 pub mod Met
 pub mod Needs
 pub mod Property
 pub mod Result
 pub mod Rule
+pub mod Same
 pub mod Step

@@ -7,7 +7,7 @@ use Rattle.hv_defs.specs.Registers as register
 use Rattle.hv_defs.specs.declared.port_kind.PortKind.{PortKind}
 use Rattle.hv_defs.specs.declared.port_kind.PortKind.TheVariants as port_type
 use Rattle.hv_defs.specs.declared.registers.RegisterRow.{RegisterRow}
-use Rattle.hv_defs.specs.declared.sizes.TheConstants.{MAX_DEPTH, MAX_VPS}
+use Rattle.hv_defs.specs.declared.sizes.TheConstants.{MAX_DEPTH, MAX_MESSAGES, MAX_VPS}
 use Rattle.hv_abi.specs.CallRow.{row_of}
 use Rattle.hv_abi.specs.Check.{is_input_valid, are_lists_placed}
 use Rattle.hv_calls.specs.Call.{kind_of_call}
@@ -22,9 +22,11 @@ use Rattle.hv_policy.specs.declared.property.Property.{Property}
 use Rattle.hv_policy.specs.declared.property.Property.TheVariants.{PrivilegeFlags, CpuReserve, CpuCap, CpuWeight}
 use Rattle.hv_policy.specs.declared.rule.Rule.{Rule}
 use Rattle.hv_policy.specs.declared.rule.Rule.TheVariants.{CallerExists, CallerActive, CallerVpExists, CallCode, InputValue, Alignment, Parameters, Privilege, TargetExists, Kinship, PropertyKnown, TargetState, NoChildren, Depth, OtherExists, Connection, Port, Right, VpExists, PropertyRange, Subject, VpReady, PortRoom, Pages, MsrKnown, MsrPrivilege, MsrWrite}
-use Rattle.hv_policy.specs.Call.{on_frame, on_call, on_msr, on_write, meant_id, target_of}
+use Rattle.hv_policy.specs.Aim.{is_same_birth, on_aim, on_vp, vp_key}
+use Rattle.hv_policy.specs.Call.{action_subject, on_frame, on_call, on_msr, on_write, meant_id, target_of}
 use Rattle.hv_policy.specs.Count.{is_parent, child_count, available, depth}
 use Rattle.hv_policy.specs.Flat.{Flat, PartRow, PageRow, PortRow}
+use Rattle.hv_policy.specs.Mail.{kept_of}
 use Rattle.hv_policy.specs.Needs.{needs_of, is_among, charge_of}
 use Rattle.hv_policy.specs.Property.{property_of, takes_value}
 
@@ -149,11 +151,12 @@ is_conn_good (DeleteVp partition vp) f target = false
 is_conn_good (GetVpRegisters partition vp name) f target = false
 is_conn_good (SetVpRegisters partition vp name value) f target = false
 is_conn_good (DeletePort partition port) f target = false
-is_conn_good (PostMessage connection message_type payload) f target = false
-is_conn_good (SignalEvent connection flag) f target = false
+is_conn_good (PostMessage connection message_type payload) f target = contains_key f.conn (target, connection)
+is_conn_good (SignalEvent connection flag) f target = contains_key f.conn (target, connection)
 is_conn_good (CreatePort partition port peer port_kind sint vp base count) f target = false
 
--- the port that a call names: the id of one to be made is free, and each other is there
+-- the port that a call names: the id of one to be made is free, and each other is there; that of a connection is there with
+-- the birth that the connection keeps
 abbrev pub is_port_good : Call → Flat → ℕ → ℕ → Bool
 is_port_good (CreatePort partition port peer port_kind sint vp base count) f caller target = not (contains_key f.port (target, port))
 is_port_good (DeletePort partition port) f caller target = contains_key f.port (target, port)
@@ -174,8 +177,8 @@ is_port_good (DeleteVp partition vp) f caller target = false
 is_port_good (GetVpRegisters partition vp name) f caller target = false
 is_port_good (SetVpRegisters partition vp name value) f caller target = false
 is_port_good (DisconnectPort partition connection) f caller target = false
-is_port_good (PostMessage connection message_type payload) f caller target = false
-is_port_good (SignalEvent connection flag) f caller target = false
+is_port_good (PostMessage connection message_type payload) f caller target = on_aim f (target, connection) is_same_birth
+is_port_good (SignalEvent connection flag) f caller target = on_aim f (target, connection) is_same_birth
 
 -- whether the caller has the right to what a call makes, or to the register that it names; a port's peer is the partition
 -- that connects
@@ -204,7 +207,7 @@ is_right (ConnectPort partition connection port_partition port port_kind) f call
     on_port f (meant_id caller port_partition, port) (λ row. row.peer == meant_id caller partition)
 
 -- the processor that a call names: one to be made has an index below the most and that is free, and each other is there, also
--- the one that a new port aims at
+-- the one that a new port aims at, or the port of a connection
 abbrev pub is_vp_good : Call → Flat → ℕ → Bool
 is_vp_good (CreateVp partition vp) f target = nat_lt vp MAX_VPS && not (contains_key f.vp (target, vp))
 is_vp_good (DeleteVp partition vp) f target = contains_key f.vp (target, vp)
@@ -223,8 +226,8 @@ is_vp_good (WithdrawMemory partition) f target = false
 is_vp_good (GetMemoryBalance partition) f target = false
 is_vp_good (DeletePort partition port) f target = false
 is_vp_good (DisconnectPort partition connection) f target = false
-is_vp_good (PostMessage connection message_type payload) f target = false
-is_vp_good (SignalEvent connection flag) f target = false
+is_vp_good (PostMessage connection message_type payload) f target = on_aim f (target, connection) (λ aim. contains_key f.vp (vp_key aim))
+is_vp_good (SignalEvent connection flag) f target = on_aim f (target, connection) (λ aim. contains_key f.vp (vp_key aim))
 is_vp_good (CreatePort partition port peer port_kind sint vp base count) f target = contains_key f.vp (target, vp)
 is_vp_good (ConnectPort partition connection port_partition port port_kind) f target = false
 
@@ -262,7 +265,8 @@ is_loose id None = false
 is_loose id (Some page) = (page.owner == id) && not page.pooled
 
 -- what a call is about: the page of a deposit is a loose page of the caller, a register is one that there is, and that takes a
--- value that is written, and the port to connect to takes what the call says
+-- value that is written, the port to connect to takes what the call says, and that of a connection takes messages or, if it has
+-- the flag, event flags
 abbrev pub is_subject_good : Call → Flat → ℕ → Bool
 is_subject_good (DepositMemory partition page) f caller = is_loose caller (get f.page page)
 is_subject_good (CreatePartition flags) f caller = false
@@ -281,14 +285,65 @@ is_subject_good (GetVpRegisters partition vp name) f caller = is_some (register.
 is_subject_good (SetVpRegisters partition vp name value) f caller = is_ok (register.kept (register.row_of name) value)
 is_subject_good (DeletePort partition port) f caller = false
 is_subject_good (DisconnectPort partition connection) f caller = false
-is_subject_good (PostMessage connection message_type payload) f caller = false
-is_subject_good (SignalEvent connection flag) f caller = false
+is_subject_good (PostMessage connection message_type payload) f caller = on_aim f (caller, connection) (λ aim. is_kind aim.port.kind port_type.Message)
+is_subject_good (SignalEvent connection flag) f caller =
+    on_aim f (caller, connection) (λ aim. is_kind aim.port.kind port_type.Event && nat_lt flag aim.port.count)
 is_subject_good (CreatePort partition port peer port_kind sint vp base count) f caller = false
 is_subject_good (ConnectPort partition connection port_partition port port_kind) f caller =
     on_port f (meant_id caller port_partition, port) (λ row. is_kind row.kind port_kind)
 
--- P8 to P24, of a call by a processor of `caller`. No call is asked the others, and none that is served so far those that
--- ask for a processor's readiness and a port's messages
+-- whether the processor at which a connection's port aims takes what the call places there
+abbrev pub is_ready_for : Call → Flat → ℕ → Bool
+is_ready_for (PostMessage connection message_type payload) f caller =
+    on_aim f (caller, connection) (λ aim. on_vp f (vp_key aim) (λ row. register.takes_messages row.registers))
+is_ready_for (SignalEvent connection flag) f caller =
+    on_aim f (caller, connection) (λ aim. on_vp f (vp_key aim) (λ row. register.takes_flags row.registers))
+is_ready_for (CreatePartition flags) f caller = false
+is_ready_for (InitializePartition partition) f caller = false
+is_ready_for (FinalizePartition partition) f caller = false
+is_ready_for (DeletePartition partition) f caller = false
+is_ready_for (GetPartitionProperty partition code) f caller = false
+is_ready_for (SetPartitionProperty partition code value) f caller = false
+is_ready_for GetPartitionId f caller = false
+is_ready_for (GetNextChildPartition partition previous) f caller = false
+is_ready_for (DepositMemory partition page) f caller = false
+is_ready_for (WithdrawMemory partition) f caller = false
+is_ready_for (GetMemoryBalance partition) f caller = false
+is_ready_for (CreateVp partition vp) f caller = false
+is_ready_for (DeleteVp partition vp) f caller = false
+is_ready_for (GetVpRegisters partition vp name) f caller = false
+is_ready_for (SetVpRegisters partition vp name value) f caller = false
+is_ready_for (DeletePort partition port) f caller = false
+is_ready_for (DisconnectPort partition connection) f caller = false
+is_ready_for (CreatePort partition port peer port_kind sint vp base count) f caller = false
+is_ready_for (ConnectPort partition connection port_partition port port_kind) f caller = false
+
+-- whether fewer than the most messages of a connection's port and birth are kept, of all that are
+abbrev pub has_message_room : Call → Flat → ℕ → Bool
+has_message_room (PostMessage connection message_type payload) f caller =
+    on_aim f (caller, connection) (λ aim. nat_lt (kept_of aim.conn.part aim.conn.port aim.conn.born f.mail) MAX_MESSAGES)
+has_message_room (SignalEvent connection flag) f caller = false
+has_message_room (CreatePartition flags) f caller = false
+has_message_room (InitializePartition partition) f caller = false
+has_message_room (FinalizePartition partition) f caller = false
+has_message_room (DeletePartition partition) f caller = false
+has_message_room (GetPartitionProperty partition code) f caller = false
+has_message_room (SetPartitionProperty partition code value) f caller = false
+has_message_room GetPartitionId f caller = false
+has_message_room (GetNextChildPartition partition previous) f caller = false
+has_message_room (DepositMemory partition page) f caller = false
+has_message_room (WithdrawMemory partition) f caller = false
+has_message_room (GetMemoryBalance partition) f caller = false
+has_message_room (CreateVp partition vp) f caller = false
+has_message_room (DeleteVp partition vp) f caller = false
+has_message_room (GetVpRegisters partition vp name) f caller = false
+has_message_room (SetVpRegisters partition vp name value) f caller = false
+has_message_room (DeletePort partition port) f caller = false
+has_message_room (DisconnectPort partition connection) f caller = false
+has_message_room (CreatePort partition port peer port_kind sint vp base count) f caller = false
+has_message_room (ConnectPort partition connection port_partition port port_kind) f caller = false
+
+-- P8 to P24, of a call by a processor of `caller`. No call is asked the others
 abbrev pub call_met : Rule → Flat → ℕ → Call → Bool
 call_met CallerExists f caller call = false
 call_met CallerActive f caller call = false
@@ -311,8 +366,8 @@ call_met Right f caller call = is_right call f caller
 call_met VpExists f caller call = is_vp_good call f (target_of call caller)
 call_met PropertyRange f caller call = is_value_good call
 call_met Subject f caller call = is_subject_good call f caller
-call_met VpReady f caller call = false
-call_met PortRoom f caller call = false
+call_met VpReady f caller call = is_ready_for call f caller
+call_met PortRoom f caller call = has_message_room call f caller
 call_met Pages f caller call = nat_le (charge_of (kind_of_call call)) (available f (target_of call caller))
 call_met MsrKnown f caller call = false
 call_met MsrPrivilege f caller call = false
@@ -350,7 +405,7 @@ met Port f e = on_call (call_met Port f e.by.part) e
 met Right f e = on_call (call_met Right f e.by.part) e
 met VpExists f e = on_call (call_met VpExists f e.by.part) e
 met PropertyRange f e = on_call (call_met PropertyRange f e.by.part) e
-met Subject f e = on_call (call_met Subject f e.by.part) e
+met Subject f e = action_subject (call_met Subject f e.by.part) e.what
 met VpReady f e = on_call (call_met VpReady f e.by.part) e
 met PortRoom f e = on_call (call_met PortRoom f e.by.part) e
 met Pages f e = on_call (call_met Pages f e.by.part) e

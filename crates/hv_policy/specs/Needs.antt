@@ -1,5 +1,4 @@
 -- The table of calls: what each needs of its caller and its target, and which rules it is asked beyond P10.
--- It has a row for every call of the profile, also for those that are not served yet.
 use Rattle.std.specs.Prelude.{ℕ, Bool, true, false, List, [], ◌∷◌, Option, None, Some}
 use Rattle.hv_abi.specs.declared.call_kind.CallKind.{CallKind}
 use Rattle.hv_abi.specs.declared.call_kind.CallKind.TheVariants.{CreatePartition, InitializePartition, FinalizePartition, DeletePartition, GetPartitionProperty, SetPartitionProperty, GetPartitionId, GetNextChildPartition, DepositMemory, WithdrawMemory, GetMemoryBalance, CreateVp, DeleteVp, GetVpRegisters, SetVpRegisters, DeletePort, DisconnectPort, PostMessage, SignalEvent, CreatePort, ConnectPort}

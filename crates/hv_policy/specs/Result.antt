@@ -3,7 +3,7 @@ use Rattle.std.specs.Prelude.{ℕ, ◌<◌, if◌then◌else◌, Option, None, S
 use Rattle.hv_defs.specs.declared.sizes.TheConstants.{REPS_END}
 use Rattle.hv_defs.specs.Bits.{bits}
 use Rattle.hv_abi.specs.CallRow.{row_of}
-use Rattle.hv_abi.specs.Check.{is_input_valid}
+use Rattle.hv_abi.specs.Check.{call_of, is_input_valid}
 use Rattle.hv_abi.specs.InputValue.{result_value}
 use Rattle.hv_abi.specs.Status.{status_code}
 use Rattle.hv_abi.specs.declared.call_kind.CallKind.{CallKind}
@@ -11,7 +11,6 @@ use Rattle.hv_abi.specs.declared.frame.Frame.{Frame}
 use Rattle.hv_abi.specs.declared.status.Status.TheVariants.{Success}
 use Rattle.hv_policy.specs.declared.reply.Reply.{Reply}
 use Rattle.hv_policy.specs.declared.reply.Reply.TheVariants.{Served, More, Denied, Fault}
-use Rattle.hv_policy.specs.Call.{served_kind}
 
 abbrev pub start_if_valid : ℕ → Option CallKind → ℕ
 start_if_valid rcx None = 0
@@ -19,7 +18,7 @@ start_if_valid rcx (Some kind) = if is_input_valid (row_of kind) rcx then bits r
 
 -- the reps completed of a call that was refused: its start index where P4 and P5 are met, else 0
 abbrev pub refused_reps : {A : Type 0} → Frame A → ℕ
-refused_reps frame = start_if_valid frame.rcx (served_kind frame)
+refused_reps frame = start_if_valid frame.rcx (call_of frame)
 
 abbrev pub count_if_rep : ℕ → Option CallKind → ℕ
 count_if_rep rcx None = 0
@@ -27,7 +26,7 @@ count_if_rep rcx (Some kind) = if (row_of kind).rep then bits rcx 32 12 else 0
 
 -- the reps completed of a call whose last element was served: all of them, and none of a simple call
 abbrev pub completed_reps : {A : Type 0} → Frame A → ℕ
-completed_reps frame = count_if_rep frame.rcx (served_kind frame)
+completed_reps frame = count_if_rep frame.rcx (call_of frame)
 
 -- the result value of a frame and its reply, which counts reps from the first element of the list
 abbrev pub result_of : {A : Type 0} → Frame A → Reply → ℕ

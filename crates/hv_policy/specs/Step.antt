@@ -1,11 +1,12 @@
 -- The flat machine.
 use Rattle.std.specs.Prelude.{not, List, [], ◌∷◌, Option, None, Some, find}
 use Rattle.std.specs.List.{Contains}
+use Rattle.hv_abi.specs.Check.{call_of}
 use Rattle.hv_abi.specs.declared.status.Status.{Status}
 use Rattle.hv_abi.specs.declared.frame.Frame.{Frame}
 use Rattle.hv_policy.specs.declared.config.Config.{Config}
 use Rattle.hv_policy.specs.declared.event.Action.{Action}
-use Rattle.hv_policy.specs.declared.event.Action.TheVariants.{Hypercall, ReadMsr, WriteMsr}
+use Rattle.hv_policy.specs.declared.event.Action.TheVariants.{Hypercall, ReadMsr, WriteMsr, ReadSlot, ClearSlot, ReadFlags, ClearFlag, TakeInterrupt}
 use Rattle.hv_policy.specs.declared.event.Event.{Event}
 use Rattle.hv_policy.specs.declared.reply.Reply.{Reply}
 use Rattle.hv_policy.specs.declared.reply.Reply.TheVariants.{Served, More, Denied, Fault}
@@ -13,7 +14,6 @@ use Rattle.hv_policy.specs.declared.rule.Rule.{Rule}
 use Rattle.hv_policy.specs.Answer.{answer}
 use Rattle.hv_policy.specs.Asked.{asked}
 use Rattle.hv_policy.specs.Boot.{boot}
-use Rattle.hv_policy.specs.Call.{served_kind}
 use Rattle.hv_policy.specs.Effect.{effect}
 use Rattle.hv_policy.specs.Flat.{Flat}
 use Rattle.hv_policy.specs.Met.{met}
@@ -34,9 +34,14 @@ denied_with frame rule (Some status) = Denied rule status (refused_reps frame)
 
 -- the reply to an event that a rule refuses: a call is denied with the rule's status, an access has a fault
 abbrev pub refusal : {A : Type 0} → Action A → Rule → Reply
-refusal (Hypercall frame) rule = denied_with frame rule (rule_status rule (served_kind frame))
+refusal (Hypercall frame) rule = denied_with frame rule (rule_status rule (call_of frame))
 refusal (ReadMsr msr) rule = Fault rule
 refusal (WriteMsr msr value) rule = Fault rule
+refusal (ReadSlot sint) rule = Fault rule
+refusal (ClearSlot sint) rule = Fault rule
+refusal (ReadFlags sint) rule = Fault rule
+refusal (ClearFlag sint flag) rule = Fault rule
+refusal TakeInterrupt rule = Fault rule
 
 abbrev pub step_by : {A : Type 0} → Flat → Event A → Option Rule → Flat × Reply
 step_by f event None = (effect f event, answer f event)

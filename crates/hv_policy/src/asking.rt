@@ -1,17 +1,14 @@
 // The rules that look at a frame alone.
-ghost use Rattle.std.specs.Prelude.{◌≡◌, None, Some, IfOk, IfErr, OnOk, IsTrue};
-ghost use Rattle.hv_abi.specs.Check.{IsShape};
-ghost use Rattle.hv_calls.specs.Call.{kind_of_call};
+ghost use Rattle.std.specs.Prelude.{◌≡◌, None, Some, IfOk, IfErr, OnOk};
+ghost use Rattle.hv_abi.specs.Check.{IsShape, call_of};
 ghost use Rattle.hv_policy.specs.Asked.{call_rules, frame_rules};
-ghost use Rattle.hv_policy.specs.Call.{is_served, served_kind};
 ghost use Rattle.hv_policy.specs.CallEvent.{IsCall, call_event};
 ghost use Rattle.hv_policy.specs.Flat.{Flat};
 ghost use Rattle.hv_policy.specs.Step.{first_unmet};
 ghost use Rattle.hv_policy.specs.declared.event.Caller.{Caller as By};
 
-use crate::need::SERVED_CODES;
 use crate::rule::Rule;
-use hv_abi::{AbiFault, Frame, InputValue, Shape};
+use hv_abi::{AbiFault, Frame, Shape};
 use hv_calls::{Call, Malformed, decode};
 use std::alloc::Allocator;
 
@@ -19,13 +16,9 @@ use std::alloc::Allocator;
 pub fn ask_frame<A: Allocator>(frame: &Frame<A>) -> Result<(Shape, Call), Rule>
     ensures shape { IfOk result (λ asked. IsShape frame.now asked.0) }
     ensures call { IfOk result (λ asked. IsCall frame.now asked.0 asked.1) }
-    ensures known { IfOk result (λ asked. IsTrue (is_served (kind_of_call asked.1))) }
     ensures met { OnOk result ((f : Flat) (by : By) → first_unmet f (call_event by frame.now) frame_rules ≡ None) }
-    ensures first { IfErr result (λ rule. (f : Flat) (by : By) → first_unmet f (call_event by frame.now) (call_rules (served_kind frame.now)) ≡ Some rule) }
+    ensures first { IfErr result (λ rule. (f : Flat) (by : By) → first_unmet f (call_event by frame.now) (call_rules (call_of frame.now)) ≡ Some rule) }
 {
-    if !SERVED_CODES.contains(&InputValue::read(frame.rcx).call) {
-        return Err(Rule::CallCode);
-    }
     let shape = match frame.check() {
         Ok(shape) => shape,
         Err(AbiFault::UnknownCode) => return Err(Rule::CallCode),

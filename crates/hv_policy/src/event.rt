@@ -19,6 +19,16 @@ pub enum Action<A: Allocator> {
     ReadMsr(u32),
     /// Writes a value to a model-specific register of its own.
     WriteMsr(u32, u64),
+    /// Reads the message slot of a SINT of its own.
+    ReadSlot(u8),
+    /// Removes the message that a SINT of its own shows. None is shown in its place.
+    ClearSlot(u8),
+    /// Reads the event flags of a SINT of its own.
+    ReadFlags(u8),
+    /// Clears an event flag of a SINT of its own: the SINT, then the flag's number.
+    ClearFlag(u8, u16),
+    /// Takes the highest of the interrupt vectors that are pending.
+    TakeInterrupt,
 }
 
 /// One event: a simple hypercall, one element of a rep hypercall, or one access.

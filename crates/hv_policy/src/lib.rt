@@ -23,7 +23,7 @@ mod rule;
 pub use asking::ask_frame;
 pub use config::{BootRefused, Config};
 pub use event::{Action, Caller, Event};
-pub use need::{Kin, Need, SERVED_CODES, States, needs, states_to_set};
+pub use need::{Kin, Need, States, needs, states_to_set};
 pub use property::{ALL_PROPERTIES, Property};
 pub use reply::{Output, Reply};
 pub use result::{refused_reply, result_of, served_reply};

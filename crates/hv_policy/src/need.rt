@@ -52,12 +52,6 @@ pub struct Need {
     pub states: States,
 }
 
-/// The codes of the calls that are served so far, rising. Every other code is refused by P4.
-pub const SERVED_CODES: [u16; 19] = [
-    0x40, 0x41, 0x42, 0x43, 0x44, 0x45, 0x46, 0x47, 0x48, 0x49, 0x4A, 0x4E, 0x4F, 0x50, 0x51, 0x58,
-    0x5B, 0x95, 0x96,
-];
-
 /// The row of a call in the table of needs. One cell looks at the call's parameters: the life states in which a
 /// property may be set.
 pub fn needs(call: &Call) -> Need

@@ -1,5 +1,5 @@
 // What an event is answered.
-ghost use Rattle.std.specs.Prelude.{◌≡◌, ◌+◌, ◌≤◌, ◌++◌, [], length};
+ghost use Rattle.std.specs.Prelude.{◌≡◌, ◌+◌, ◌≤◌, ◌++◌, [], ◌∷◌, length};
 ghost use Rattle.std.specs.Int.{w64, to_le_bytes};
 
 use crate::rule::Rule;
@@ -39,6 +39,25 @@ impl Output {
         for byte in number.to_le_bytes() {
             self.bytes.push(byte);
         }
+    }
+
+    /// Adds one byte.
+    pub fn push_byte(&mut self, value: u8)
+        requires { length self.old + 1 ≤ 256 }
+        ensures { self.new ≡ self.old ++ value ∷ [] }
+    {
+        self.bytes.push(value);
+    }
+
+    /// The 256 bytes of a message slot, or of a SINT's event flags.
+    pub fn whole(bytes: &[u8; 256]) -> Output
+        ensures { result ≡ bytes.now }
+    {
+        let mut whole = ArrayVec::new();
+        let Ok(()) = whole.try_extend_from_slice(bytes) else {
+            unreachable!()
+        };
+        Output { bytes: whole }
     }
 
     pub fn as_slice(&self) -> &[u8]

@@ -1,14 +1,12 @@
 // What a call is answered: its reply where a rule refuses it, and its result value.
 ghost use Rattle.std.specs.Prelude.{◌≡◌, ◌<◌, Some};
 ghost use Rattle.hv_defs.specs.declared.sizes.TheConstants.{REPS_END};
-ghost use Rattle.hv_abi.specs.Check.{IsShape};
+ghost use Rattle.hv_abi.specs.Check.{IsShape, call_of};
 ghost use Rattle.hv_policy.specs.Answer.{reply_with};
-ghost use Rattle.hv_policy.specs.Call.{served_kind as served_kind_of};
 ghost use Rattle.hv_policy.specs.Result.{HasResult, refused_reps as refused_reps_of, completed_reps as completed_reps_of, result_of as result_value_of};
 ghost use Rattle.hv_policy.specs.Step.{refusal};
 ghost use Rattle.hv_policy.specs.declared.event.Action.TheVariants.{Hypercall};
 
-use crate::need::SERVED_CODES;
 use crate::reply::{Output, Reply};
 use crate::rule::Rule;
 use hv_abi::{AbiFault, CallKind, Frame, InputValue, ResultValue, Shape, Status};
@@ -35,7 +33,7 @@ pub fn result_of<A: Allocator>(frame: &Frame<A>, reply: &Reply) -> ResultValue
 /// The reply to an element that is served: more are to come, or it is the last, as a simple call is.
 pub fn served_reply<A: Allocator>(frame: &Frame<A>, shape: Shape, output: Output) -> Reply
     requires shape { IsShape frame.now shape }
-    requires named { served_kind_of frame.now ≡ Some shape.kind }
+    requires named { call_of frame.now ≡ Some shape.kind }
     ensures { result ≡ reply_with frame.now output }
 {
     if shape.kind.is_rep() && shape.start + 1 < shape.reps {
@@ -52,7 +50,7 @@ pub fn served_reply<A: Allocator>(frame: &Frame<A>, shape: Shape, output: Output
 pub fn refused_reply<A: Allocator>(frame: &Frame<A>, rule: Rule) -> Reply
     ensures { result ≡ refusal (Hypercall frame.now) rule }
 {
-    match rule.status(served_kind(frame)) {
+    match rule.status(kind_of(frame)) {
         None => Reply::Fault { rule },
         Some(status) => Reply::Denied {
             rule,
@@ -62,16 +60,11 @@ pub fn refused_reply<A: Allocator>(frame: &Frame<A>, rule: Rule) -> Reply
     }
 }
 
-// The call of a frame, if it is one that is served.
-fn served_kind<A: Allocator>(frame: &Frame<A>) -> Option<CallKind>
-    ensures { result ≡ served_kind_of frame.now }
+// The call of a frame, if one has its code.
+fn kind_of<A: Allocator>(frame: &Frame<A>) -> Option<CallKind>
+    ensures { result ≡ call_of frame.now }
 {
-    let code = InputValue::read(frame.rcx).call;
-    if SERVED_CODES.contains(&code) {
-        CallKind::of(code)
-    } else {
-        None
-    }
+    CallKind::of(InputValue::read(frame.rcx).call)
 }
 
 // The reps completed of a call that was refused: its start index where P4 and P5 are met.
@@ -79,9 +72,6 @@ fn refused_reps<A: Allocator>(frame: &Frame<A>) -> u16
     ensures value { result ≡ refused_reps_of frame.now }
     ensures fits { result < REPS_END }
 {
-    if served_kind(frame).is_none() {
-        return 0;
-    }
     match frame.check() {
         Ok(shape) => shape.start,
         Err(AbiFault::Alignment) => InputValue::read(frame.rcx).start,
@@ -94,7 +84,7 @@ fn completed_reps<A: Allocator>(frame: &Frame<A>) -> u16
     ensures value { result ≡ completed_reps_of frame.now }
     ensures fits { result < REPS_END }
 {
-    match served_kind(frame) {
+    match kind_of(frame) {
         Some(kind) if kind.is_rep() => InputValue::read(frame.rcx).reps,
         _ => 0,
     }

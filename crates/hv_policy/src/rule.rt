@@ -14,7 +14,7 @@ pub enum Rule {
     CallerActive = 2,
     /// P3: the caller's virtual processor is there.
     CallerVpExists = 3,
-    /// P4: the call code is one of those served.
+    /// P4: the call code is one of the 21.
     CallCode = 4,
     /// P5: reserved bits are zero; the fast bit stands only where it is accepted; a simple call has
     /// no rep count and start; a rep call has a count of at least 1 and starts below it.

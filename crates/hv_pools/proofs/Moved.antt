@@ -16,7 +16,7 @@ use Rattle.hv_pools.proofs.Moves.{alike, get-with_pages, is_pooled, pages_after,
 use Rattle.hv_defs.proofs.Maps.{get_at-insert}
 use Rattle.hv_tie.proofs.Held.{apart_sets}
 use Rattle.hv_pools.specs.Change.{IsMoved, IsWithdrawn, other, pages_at, with_pages_at}
-use Rattle.hv_tie.specs.Tie.{IsTied, is_held, conn_row, holds, part_row, port_row, vp_row}
+use Rattle.hv_tie.specs.Tie.{IsTied, is_held, conn_row, here, holds, mail_there, part_row, port_row, rows_of, vp_row}
 
 -- a row without its pages
 abbrev still : Row PartitionState → Row PartitionState
@@ -37,6 +37,10 @@ port_still id (Some r) = refl
 conn_still : (id : ℕ) (r : Option (Row PartitionState)) → conn_row id r ≡ conn_row id (option_map still r)
 conn_still id None = refl
 conn_still id (Some r) = refl
+
+mail_still : (index sint : ℕ) (r : Option (Row PartitionState)) → mail_there index sint r ≡ mail_there index sint (option_map still r)
+mail_still index sint None = refl
+mail_still index sint (Some r) = refl
 
 -- the kind of pages that the model calls pooled, or not
 abbrev kind_of : Bool → PageKind
@@ -68,8 +72,8 @@ module _ (rows : Rows PartitionState) (f : Flat) (flat : IsTied rows f) (new : R
       vp = λ index. old.vp index ∙ vp_still index (get rows id) ∙ ap (vp_row index) (sym (moved.rest id)) ∙ sym (vp_still index (get new id));
       port = λ port. old.port port ∙ port_still port (get rows id) ∙ ap (port_row port) (sym (moved.rest id)) ∙ sym (port_still port (get new id));
       conn = λ conn. old.conn conn ∙ conn_still conn (get rows id) ∙ ap (conn_row conn) (sym (moved.rest id)) ∙ sym (conn_still conn (get new id));
+      mail = λ vp sint. old.mail vp sint ∙ ap (rows_of (here id vp sint)) (mail_still vp sint (get rows id) ∙ ap (mail_there vp sint) (sym (moved.rest id)) ∙ sym (mail_still vp sint (get new id)));
     };
-    mail = flat.mail;
   }
 
 tied : (q page : ℕ) → eq_by_cmp nat_cmp q page ≡ (q == page)

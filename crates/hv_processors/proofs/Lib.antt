@@ -1,3 +1,3 @@
 pub mod Lent
+pub mod Made
 pub mod Outcomes
-pub mod Written

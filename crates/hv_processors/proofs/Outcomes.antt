@@ -7,17 +7,18 @@ use Rattle.hv_calls.specs.declared.call.Call.TheVariants.{CreateVp, DeleteVp, Se
 use Rattle.hv_defs.specs.Registers.{name_of_msr}
 use Rattle.hv_partition.specs.Partition.{PartitionState}
 use Rattle.hv_policy.specs.Call.{target_of}
-use Rattle.hv_policy.specs.Effect.{call_effect, mail_but_at, with_vp, written as row_written, written_msr as row_written_msr}
+use Rattle.hv_policy.specs.Effect.{call_effect, write_msr}
 use Rattle.hv_policy.specs.Flat.{Flat}
 use Rattle.hv_policy.specs.declared.event.Caller.{Caller}
 use Rattle.hv_tie.proofs.Allowed.{admitted_allowed, target_row}
-use Rattle.hv_tie.proofs.Changed.{same_shows}
+use Rattle.hv_tie.proofs.Mailed.{written_msr_tied, written_tied}
 use Rattle.hv_tie.specs.Served.{IsAdmitted, unmet_further}
 use Rattle.hv_tie.specs.Tie.{IsTied, vp_row, vp_row_of}
+use Rattle.hv_tie.specs.Vp.{with_state_of}
 use Rattle.hv_tree.specs.Rows.{Rows, change}
-use Rattle.hv_vp.specs.Vp.{VpState, new_vp}
-use Rattle.hv_processors.proofs.Written.{added_tied, changed_tied, removed_tied}
-use Rattle.hv_processors.specs.Change.{HasVps, MayAdd, with_state_of, written, written_msr}
+use Rattle.hv_vp.specs.Vp.{VpState, new_vp, written, written_msr}
+use Rattle.hv_processors.proofs.Made.{added_tied, removed_tied}
+use Rattle.hv_processors.specs.Change.{HasVps, MayAdd}
 
 unless : (b : Bool) → not b ≡ true → b ≡ false
 unless true h = cc
@@ -25,48 +26,38 @@ unless false h = refl
 
 module _ (rows : Rows PartitionState) (caller partition vp : ℕ) (a : IsAdmitted rows caller (CreateVp partition vp)) (met : unmet_further a.rows.flat caller (CreateVp partition vp) ≡ None) where
   -- what a call that is served needs of the rows
-  pub may_add : MayAdd rows (target_of (CreateVp partition vp) caller) vp
-  may_add =
-      let target = target_of (CreateVp partition vp) caller in
-      let f = a.rows.flat in
-      let allowed = admitted_allowed rows caller (CreateVp partition vp) a met in
-      let (row, there) = target_row rows f a.rows.tied caller (CreateVp partition vp) allowed in
-      let (below, free) = and_parts (nat_lt vp 64) (not (contains_key f.vp (target, vp))) allowed.further.1.0 in
-      record {
-        row = row;
-        there = there;
-        free = sym (mapped (get row.1.vps.vps vp)) ∙ sym (ap is_some ((a.rows.tied.rows target).vp vp ∙ ap (vp_row vp) there)) ∙ unless (contains_key f.vp (target, vp)) free;
-      }
+  pub may_add : (target : ℕ) → target ≡ target_of (CreateVp partition vp) caller → MayAdd rows target vp
+  may_add target at = subst (λ id. MayAdd rows id vp) (sym at) there
     where
       mapped : (o : Option VpState) → is_some (option_map vp_row_of o) ≡ is_some o
       mapped None = refl
       mapped (Some vp) = refl
 
+      there : MayAdd rows (target_of (CreateVp partition vp) caller) vp
+      there =
+          let target = target_of (CreateVp partition vp) caller in
+          let f = a.rows.flat in
+          let allowed = admitted_allowed rows caller (CreateVp partition vp) a met in
+          let (row, is) = target_row rows f a.rows.tied caller (CreateVp partition vp) allowed in
+          let (below, free) = and_parts (nat_lt vp 64) (not (contains_key f.vp (target, vp))) allowed.further.1.0 in
+          record {
+            row = row;
+            there = is;
+            free = sym (mapped (get row.1.vps.vps vp)) ∙ sym (ap is_some ((a.rows.tied.rows target).vp vp ∙ ap (vp_row vp) is)) ∙ unless (contains_key f.vp (target, vp)) free;
+          }
+
 module _ (rows new : Rows PartitionState) (f : Flat) (flat : IsTied rows f) (caller partition vp target : ℕ) where
-  pub created : target ≡ target_of (CreateVp partition vp) caller → HasVps rows new target (λ vps. insert vps vp (new_vp vp)) → IsTied new (call_effect (CreateVp partition vp) f caller (target_of (CreateVp partition vp) caller))
-  created at h = subst (λ t. IsTied new (call_effect (CreateVp partition vp) f caller t)) at (added_tied rows f flat target vp new h)
+  pub created : target ≡ target_of (CreateVp partition vp) caller → MayAdd rows target vp → HasVps rows new target (λ vps. insert vps vp (new_vp vp)) → IsTied new (call_effect (CreateVp partition vp) f caller (target_of (CreateVp partition vp) caller))
+  created at may h = subst (λ t. IsTied new (call_effect (CreateVp partition vp) f caller t)) at (added_tied rows new f flat target vp may h)
 
   pub deleted : target ≡ target_of (DeleteVp partition vp) caller → HasVps rows new target (λ vps. remove vps vp) → IsTied new (call_effect (DeleteVp partition vp) f caller (target_of (DeleteVp partition vp) caller))
-  deleted at h =
-      subst (λ t. IsTied new (call_effect (DeleteVp partition vp) f caller t)) at
-      (let tied = removed_tied rows f flat target vp new h in
-      record {
-        rows = λ id. same_shows (record f { vp = remove f.vp (target, vp) }) (call_effect (DeleteVp partition vp) f caller target) id (get new id) refl (λ _. refl) (λ _. refl) (λ _. refl) (λ _. refl) (tied.rows id);
-        mail = ap (mail_but_at target vp) flat.mail;
-      })
+  deleted at h = subst (λ t. IsTied new (call_effect (DeleteVp partition vp) f caller t)) at (removed_tied rows new f flat target vp h)
 
   pub set : (name value : ℕ) → target ≡ target_of (SetVpRegisters partition vp name value) caller → new ≡ change rows target (with_state_of vp (written name value)) → IsTied new (call_effect (SetVpRegisters partition vp name value) f caller (target_of (SetVpRegisters partition vp name value) caller))
   set name value at is =
       subst (λ t. IsTied new (call_effect (SetVpRegisters partition vp name value) f caller t)) at
-      (subst (λ rows. IsTied rows (call_effect (SetVpRegisters partition vp name value) f caller target)) (sym is)
-      (changed_tied rows f flat target vp (written name value) (row_written name value) (λ _. refl)))
-
-alike : (name : Option ℕ) (value : ℕ) (vp : VpState) → row_written_msr name value (vp_row_of vp) ≡ vp_row_of (written_msr name value vp)
-alike None value vp = refl
-alike (Some name) value vp = refl
+      (subst (λ rows. IsTied rows (call_effect (SetVpRegisters partition vp name value) f caller target)) (sym is) (written_tied rows f flat target vp name value))
 
 module _ (rows new : Rows PartitionState) (f : Flat) (flat : IsTied rows f) (by : Caller) (msr value : ℕ) where
-  pub msr_set : new ≡ change rows by.part (with_state_of by.vp (written_msr (name_of_msr msr) value)) → IsTied new (record f { vp = with_vp f.vp (by.part, by.vp) (row_written_msr (name_of_msr msr) value) })
-  msr_set is =
-      subst (λ rows. IsTied rows (record f { vp = with_vp f.vp (by.part, by.vp) (row_written_msr (name_of_msr msr) value) })) (sym is)
-      (changed_tied rows f flat by.part by.vp (written_msr (name_of_msr msr) value) (row_written_msr (name_of_msr msr) value) (alike (name_of_msr msr) value))
+  pub msr_set : new ≡ change rows by.part (with_state_of by.vp (written_msr (name_of_msr msr) value)) → IsTied new (write_msr by.part by.vp (name_of_msr msr) value f)
+  msr_set is = subst (λ rows. IsTied rows (write_msr by.part by.vp (name_of_msr msr) value f)) (sym is) (written_msr_tied rows f flat by.part by.vp (name_of_msr msr) value)

@@ -4,8 +4,9 @@ ghost use Rattle.std.specs.FinMap.{contains_key, insert};
 ghost use Rattle.std.specs.FinMap as map;
 ghost use Rattle.hv_defs.specs.Registers.{name_of_msr};
 ghost use Rattle.hv_tree.specs.Rows.{change as changed};
-ghost use Rattle.hv_vp.specs.Vp.{new_vp};
-ghost use Rattle.hv_processors.specs.Change.{HasVps, MayAdd, with_state_of, written, written_msr};
+ghost use Rattle.hv_vp.specs.Vp.{new_vp, written, written_msr};
+ghost use Rattle.hv_tie.specs.Vp.{with_state_of};
+ghost use Rattle.hv_processors.specs.Change.{HasVps, MayAdd};
 
 use hv_partition::Partition;
 use hv_tree::IdTree;

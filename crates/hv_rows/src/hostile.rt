@@ -11,9 +11,8 @@ use std::alloc::Global;
 use std::process::Abort;
 use std::test::Fail;
 
-// Calls once the root has the child 2: the input value, RDX and the input. All are served, but the last two, whose
-// codes aren't.
-const CALLS: [(u64, u64, &[u8]); 21] = [
+// Calls once the root has the child 2: the input value, RDX and the input. No call has the last one's code.
+const CALLS: [(u64, u64, &[u8]); 22] = [
     (0x40, 0, &[0; 8]),
     (0x10041, 2, &[]),
     (0x10042, 2, &[]),
@@ -77,11 +76,12 @@ const CALLS: [(u64, u64, &[u8]); 21] = [
         0,
         &[7, 0, 0, 0, 0, 0, 0, 0, 1, 0, 0, 0, 1, 0, 0, 0, 0xaa],
     ),
+    (0x1005d, 0x0003_0000_0007, &[]),
     (0x7fff, 0, &[]),
 ];
 
 // By call code, the numbers of the rules that are asked beyond P10. Every other code is refused by P4.
-const FURTHER: [(u64, &[u8]); 19] = [
+const FURTHER: [(u64, &[u8]); 21] = [
     (0x40, &[14, 24]),
     (0x41, &[12]),
     (0x42, &[12, 13]),
@@ -99,6 +99,8 @@ const FURTHER: [(u64, &[u8]); 19] = [
     (0x51, &[12, 18, 19, 21]),
     (0x58, &[12, 17]),
     (0x5b, &[12, 16]),
+    (0x5c, &[16, 17, 19, 21, 22, 23]),
+    (0x5d, &[16, 17, 19, 21, 22]),
     (0x95, &[12, 15, 17, 19, 24]),
     (0x96, &[12, 15, 16, 17, 18, 21, 24]),
 ];
@@ -144,7 +146,13 @@ fn make(
             let value = result_of(frame, &reply).bits();
             look_at(rt, rcx, &reply, value);
         }
-        Action::ReadMsr(_) | Action::WriteMsr(_, _) => panic!(rt; "an access"),
+        Action::ReadMsr(_)
+        | Action::WriteMsr(_, _)
+        | Action::ReadSlot(_)
+        | Action::ClearSlot(_)
+        | Action::ReadFlags(_)
+        | Action::ClearFlag(_, _)
+        | Action::TakeInterrupt => panic!(rt; "an access"),
     }
     assert_eq!(rt; machine.served(), before + served_by(&reply));
     Ok(())

@@ -43,6 +43,11 @@ fn print_asked<W: Write>(out: &mut W, asked: Asked) -> io::Result<()> {
         Asked::Call { rcx } => write!(out, "call {rcx:016x} "),
         Asked::ReadMsr { msr } => write!(out, "rdmsr {msr:08x} "),
         Asked::WriteMsr { msr, value } => write!(out, "wrmsr {msr:08x} {value:016x} "),
+        Asked::ReadSlot { sint } => write!(out, "slot {sint} "),
+        Asked::ClearSlot { sint } => write!(out, "clearslot {sint} "),
+        Asked::ReadFlags { sint } => write!(out, "flags {sint} "),
+        Asked::ClearFlag { sint, flag } => write!(out, "clearflag {sint} {flag} "),
+        Asked::TakeInterrupt => out.write_all(b"interrupt "),
     }
 }
 

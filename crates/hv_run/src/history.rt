@@ -30,6 +30,16 @@ pub enum Asked {
     ReadMsr { msr: u32 },
     /// A write of this value to this model-specific register.
     WriteMsr { msr: u32, value: u64 },
+    /// A read of the message slot of this SINT.
+    ReadSlot { sint: u8 },
+    /// The removal of the message that this SINT shows.
+    ClearSlot { sint: u8 },
+    /// A read of the event flags of this SINT.
+    ReadFlags { sint: u8 },
+    /// The clearing of this event flag of this SINT.
+    ClearFlag { sint: u8, flag: u16 },
+    /// The taking of the highest pending interrupt vector.
+    TakeInterrupt,
 }
 
 /// An event that happened, with its answer.
@@ -145,6 +155,14 @@ fn asked_of(what: &Action<Global>) -> Asked
             msr: *msr,
             value: *value,
         },
+        Action::ReadSlot(sint) => Asked::ReadSlot { sint: *sint },
+        Action::ClearSlot(sint) => Asked::ClearSlot { sint: *sint },
+        Action::ReadFlags(sint) => Asked::ReadFlags { sint: *sint },
+        Action::ClearFlag(sint, flag) => Asked::ClearFlag {
+            sint: *sint,
+            flag: *flag,
+        },
+        Action::TakeInterrupt => Asked::TakeInterrupt,
     }
 }
 
@@ -179,7 +197,13 @@ fn answer_of(reply: &Reply) -> Answer {
 fn result_bits(what: &Action<Global>, reply: &Reply) -> Option<u64> {
     match what {
         Action::Hypercall(frame) => call_result(frame, reply),
-        Action::ReadMsr(_) | Action::WriteMsr(_, _) => None,
+        Action::ReadMsr(_)
+        | Action::WriteMsr(_, _)
+        | Action::ReadSlot(_)
+        | Action::ClearSlot(_)
+        | Action::ReadFlags(_)
+        | Action::ClearFlag(_, _)
+        | Action::TakeInterrupt => None,
     }
 }
 

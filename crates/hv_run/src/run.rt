@@ -142,7 +142,13 @@ fn drive(
         };
         let frame = match event.what {
             Action::Hypercall(frame) => frame,
-            Action::ReadMsr(_) | Action::WriteMsr(_, _) => return Ok(()),
+            Action::ReadMsr(_)
+            | Action::WriteMsr(_, _)
+            | Action::ReadSlot(_)
+            | Action::ClearSlot(_)
+            | Action::ReadFlags(_)
+            | Action::ClearFlag(_, _)
+            | Action::TakeInterrupt => return Ok(()),
         };
         event = Event {
             by,

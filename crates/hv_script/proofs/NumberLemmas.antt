@@ -1,11 +1,18 @@
 -- Digits, one after the other.
-use Rattle.std.proofs.Common.{◌≡◌, ℕ, ◌+◌, ◌*◌, ◌%◌, ◌<◌, ◌≤◌, List, [], ◌∷◌, ◌++◌, refl, length, get_or, take, drop, zero, suc, true, Option, Some, None, ◌^◌, ap, sym, ◌∙◌, append_assoc, arith}
+use Rattle.std.proofs.Common.{◌≡◌, ℕ, ◌+◌, ◌*◌, ◌%◌, ◌<◌, ◌≤◌, ◌&&◌, nat_eq, nat_lt, nat_le, Bool, true, false, cond, List, [], ◌∷◌, ◌++◌, refl, length, get_or, take, drop, codes, zero, suc, Option, Some, None, option_and_then, Result, Ok, Err, ◌==◌, ◌^◌, ap, sym, ◌∙◌, append_assoc, arith}
 use Rattle.std.proofs.lemmas.List.{length-append}
 use Rattle.std.specs.Option.{SomeIff}
 use Rattle.std.specs.Char.{digit_value}
 use Rattle.std.specs.Str.Parse.{AllDigits, IsNumeral, digits_value}
 use Rattle.std.proofs.lemmas.Int.Digits.{digits_value-lt, digits_value_more}
-use Rattle.hv_script.specs.Number.{IsNumber, bytes_of, is_hex, number_of}
+use Rattle.std.specs.Bool.{Decides}
+use Rattle.std.specs.Result.{OkIff, result_ok}
+use Rattle.std.specs.Str.{bytes_eq}
+use Rattle.hv_script.specs.declared.fault.FaultKind.TheVariants.{Hex}
+use Rattle.std.specs.List.{starts_with}
+use Rattle.std.proofs.lemmas.Bool.{false≢true}
+use Rattle.std.proofs.lemmas.Bool.Decides.{Decides-and, Decides-eqb, Decides-ltb, nat_tests}
+use Rattle.hv_script.specs.Number.{are_digits, bytes_in, bytes_of, decimal_in, digits_in, fitting, number_in}
 use Rattle.std.proofs.Math.Nat.{pow-le-pow_right}
 use Rattle.std.proofs.lemmas.Str.Parse.{digits_value-take-le}
 
@@ -22,24 +29,122 @@ one_more_le base value ds i least lt is =
     let le = digits_value-take-le base ds (i + 1) least in
     rw is (rw (← more) le)
 
--- 16 hexadecimal digits fit 64 bits
-pub hex_fits : (ds : List ℕ) → AllDigits 16 ds → length ds ≤ 16 → digits_value 16 ds < 2 ^ 64
-hex_fits ds digits short =
-    let most : 16 ^ length ds ≤ 16 ^ 16 = pow-le-pow_right {n = 16} (omega arith) short in
-    omega (arith, digits_value-lt 16 ds digits, most)
+not_from_true : (t : Bool) → (t ≡ true → ⊥) → t ≡ false
+not_from_true true no_way = absurd (no_way refl)
+not_from_true false no_way = refl
+
+-- the test of digits
+pub are_digits-Decides : (base : ℕ) (word : List ℕ) → Decides (are_digits base word) (AllDigits base word)
+are_digits-Decides base [] = (λ _. tt, λ _. refl)
+are_digits-Decides base (c ∷ cs) =
+    Decides-and (nat_lt (digit_value c) base) (are_digits base cs) (Decides-ltb (digit_value c) base) (are_digits-Decides base cs)
+
+some_iff : {P Q : Type 0} (t u : Bool) (r : Option ℕ) (v : ℕ) → Decides t P → Decides u Q → SomeIff r (P × Q) v
+    → r ≡ cond t (cond u (Some v) None) None
+some_iff true true None v p q is = absurd (is (p.0 refl, q.0 refl))
+some_iff true true (Some x) v p q is = ap Some is.1
+some_iff true false None v p q is = refl
+some_iff true false (Some x) v p q is = absurd (false≢true (q.1 is.0.1))
+some_iff false u None v p q is = refl
+some_iff false u (Some x) v p q is = absurd (false≢true (p.1 is.0.0))
+
+-- what was read of digits is the number that they write
+pub read_digits : (base bits : ℕ) (word : List ℕ) (r : Option ℕ)
+    → SomeIff r (IsNumeral base word × (digits_value base word < 2 ^ bits)) (digits_value base word) → r ≡ digits_in base bits word
+read_digits base bits word r is =
+    let digits = Decides-and (nat_lt 0 (length word)) (are_digits base word) (Decides-ltb 0 (length word)) (are_digits-Decides base word) in
+    some_iff (nat_lt 0 (length word) && are_digits base word) (nat_lt (digits_value base word) (2 ^ bits)) r (digits_value base word) digits
+    (Decides-ltb (digits_value base word) (2 ^ bits)) is
+
+-- a number that fits few bits fits 64
+narrower_fits : (bits number : ℕ) → bits ≤ 64 → fitting bits number ≡ option_and_then (fitting bits) (fitting 64 number)
+narrower_fits bits number few =
+    let most : 2 ^ bits ≤ 2 ^ 64 = pow-le-pow_right {n = 2} (omega arith) few in
+    grind (arith, nat_tests, most)
+
+under_cond : (t : Bool) (f : ℕ → Option ℕ) (o o' p p' : Option ℕ) → o ≡ option_and_then f p → o' ≡ option_and_then f p'
+    → cond t o o' ≡ option_and_then f (cond t p p')
+under_cond true f o o' p p' first other = first
+under_cond false f o o' p p' first other = other
+
+narrower_digits : (base bits : ℕ) (word : List ℕ) → bits ≤ 64 → digits_in base bits word ≡ option_and_then (fitting bits) (digits_in base 64 word)
+narrower_digits base bits word few =
+    under_cond (nat_lt 0 (length word) && are_digits base word) (fitting bits) (fitting bits (digits_value base word)) None
+    (fitting 64 (digits_value base word)) None (narrower_fits bits (digits_value base word) few) refl
+
+-- a number of few bits is a number of 64 bits that fits them
+pub narrower_decimal : (bits : ℕ) (word : List ℕ) → bits ≤ 64 → decimal_in bits word ≡ option_and_then (fitting bits) (decimal_in 64 word)
+unfolding decimal_in
+narrower_decimal bits word few = narrower_digits 10 bits word few
+
+pub narrower_number : (bits : ℕ) (word : List ℕ) → bits ≤ 64 → number_in bits word ≡ option_and_then (fitting bits) (number_in 64 word)
+unfolding number_in
+narrower_number bits word few =
+    let hex = drop 2 word in
+    under_cond (starts_with nat_eq word (codes "0x")) (fitting bits) _ _ _ _
+    (under_cond (nat_le (length hex) 16) (fitting bits) _ _ _ _ (narrower_digits 16 bits hex few) refl)
+    (narrower_digits 10 bits word few)
+
+within : {E : Type 0} {P : Type 0} (t : Bool) (r : Result ℕ E) (n : ℕ) → Decides t P → OkIff r P n → result_ok r ≡ cond t (Some n) None
+within true (Ok x) n p is = ap Some is.1
+within true (Err e) n p is = absurd (is (p.0 refl))
+within false (Ok x) n p is = absurd (false≢true (p.1 is.0))
+within false (Err e) n p is = refl
+
+-- where a word is no number of 64 bits it is none of fewer
+pub no_narrower : (bits : ℕ) (whole narrow : Option ℕ) → narrow ≡ option_and_then (fitting bits) whole → None ≡ whole → narrow ≡ None
+no_narrower bits whole narrow is none = is ∙ ap (option_and_then (fitting bits)) (sym none)
+
+-- a number of 64 bits that was tried as one of fewer
+pub one_narrower : {E : Type 0} (bits n : ℕ) (whole narrow : Option ℕ) (r : Result ℕ E) → narrow ≡ option_and_then (fitting bits) whole
+    → Some n ≡ whole → OkIff r (n < 2 ^ bits) n → result_ok r ≡ narrow
+one_narrower bits n whole narrow r is some tried =
+    within (nat_lt n (2 ^ bits)) r n (Decides-ltb n (2 ^ bits)) tried ∙ sym (is ∙ ap (option_and_then (fitting bits)) (sym some))
 
 -- a number after `0x`
-pub hex_number : (word hex : List ℕ) (r : Option ℕ) → is_hex word ≡ true → hex ≡ drop 2 word → length hex ≤ 16
-    → SomeIff r (IsNumeral 16 hex × (digits_value 16 hex < 2 ^ 64)) (digits_value 16 hex) → SomeIff r (IsNumber word) (number_of word)
-hex_number word hex None is rest short none = λ n.
-    let number : IsNumeral 16 (drop 2 word) × (length (drop 2 word) ≤ 16) = rw is at n in
-    let numeral : IsNumeral 16 hex = rw rest number.0 in
-    none (numeral, hex_fits hex numeral.1 short)
-hex_number word hex (Some x) is rest short some =
-    let numeral : IsNumeral 16 (drop 2 word) = rw rest at some.0.0 in
-    let few : length (drop 2 word) ≤ 16 = rw rest at short in
-    let value : x ≡ digits_value 16 (drop 2 word) = rw rest at some.1 in
-    (rw is (numeral, few), rw is value)
+pub hex_number : (word hex : List ℕ) (r : Option ℕ) → starts_with nat_eq word (codes "0x") ≡ true → hex ≡ drop 2 word → length hex ≤ 16
+    → SomeIff r (IsNumeral 16 hex × (digits_value 16 hex < 2 ^ 64)) (digits_value 16 hex) → r ≡ number_in 64 word
+unfolding number_in
+hex_number word hex r is rest short read =
+    let few : nat_le (length (drop 2 word)) 16 ≡ true = let fits : length (drop 2 word) ≤ 16 = rw rest at short in grind (arith, nat_tests) in
+    let there : SomeIff r (IsNumeral 16 (drop 2 word) × (digits_value 16 (drop 2 word) < 2 ^ 64)) (digits_value 16 (drop 2 word)) = rw rest at read in
+    rw (is, few) (read_digits 16 64 (drop 2 word) r there)
+
+-- more than 16 digits after `0x`
+pub long_number : (word hex : List ℕ) → starts_with nat_eq word (codes "0x") ≡ true → hex ≡ drop 2 word → 16 < length hex → None ≡ number_in 64 word
+unfolding number_in
+long_number word hex is rest long =
+    let many : nat_le (length (drop 2 word)) 16 ≡ false = let over : 16 < length (drop 2 word) = rw rest at long in grind (arith, nat_tests) in
+    rw (is, many) refl
+
+-- a number without `0x`
+pub plain_number : (word : List ℕ) (r : Option ℕ) → starts_with nat_eq word (codes "0x") ≡ false
+    → SomeIff r (IsNumeral 10 word × (digits_value 10 word < 2 ^ 64)) (digits_value 10 word) → r ≡ number_in 64 word
+unfolding number_in
+plain_number word r is read = rw is (read_digits 10 64 word r read)
+
+pairs-Decides : (word : List ℕ) → Decides (are_digits 16 word && (length word % 2 == 0) && nat_le (length word) 8192)
+    ((AllDigits 16 word × (length word % 2 ≡ 0)) × (length word ≤ 8192))
+pairs-Decides word =
+    let short : Decides (nat_le (length word) 8192) (length word ≤ 8192) = (λ e. grind (arith, nat_tests), λ e. grind (arith, nat_tests)) in
+    Decides-and (are_digits 16 word && (length word % 2 == 0)) (nat_le (length word) 8192)
+    (Decides-and (are_digits 16 word) (length word % 2 == 0) (are_digits-Decides 16 word) (Decides-eqb (length word % 2) 0)) short
+
+pub no_bytes : (word : List ℕ) → bytes_eq word (codes "-") ≡ true → bytes_in word ≡ Ok []
+unfolding bytes_in
+no_bytes word dash = rw dash refl
+
+pub pairs_of_bytes : (word : List ℕ) → bytes_eq word (codes "-") ≡ false → AllDigits 16 word → length word % 2 ≡ 0 → length word ≤ 8192
+    → bytes_in word ≡ Ok (bytes_of word)
+unfolding bytes_in
+pairs_of_bytes word dash digits even short = rw (dash, (pairs-Decides word).1 ((digits, even), short)) refl
+
+pub not_pairs : (word : List ℕ) → bytes_eq word (codes "-") ≡ false → (AllDigits 16 word → length word % 2 ≡ 0 → length word ≤ 8192 → ⊥)
+    → bytes_in word ≡ Err Hex
+unfolding bytes_in
+not_pairs word dash bad =
+    let fails = not_from_true _ (λ e. let pairs = (pairs-Decides word).0 e in bad pairs.0.0 pairs.0.1 pairs.1) in
+    rw (dash, fails) refl
 
 pub all_digits_append : (base : ℕ) (xs ys : List ℕ) → AllDigits base xs → AllDigits base ys → AllDigits base (xs ++ ys)
 all_digits_append base [] ys xd yd = yd

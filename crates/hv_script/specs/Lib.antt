@@ -1,3 +1,4 @@
 pub mod Fault
 pub mod Number
 pub mod Processors
+pub mod Verb

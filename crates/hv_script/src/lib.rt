@@ -13,6 +13,7 @@ mod line;
 mod number;
 mod processors;
 mod script;
+mod verb;
 
 pub use fault::{FaultKind, ScriptError};
 pub use line::{Boot, Line};

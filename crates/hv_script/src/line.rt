@@ -1,10 +1,8 @@
 // One line of a script.
-ghost use Rattle.std.specs.Prelude.{◌^◌, ◌<◌};
-ghost use Rattle.std.specs.Option.{SomeIff};
-ghost use Rattle.hv_script.specs.Number.{IsNumber, number_of};
 
 use crate::fault::FaultKind;
 use crate::number;
+use crate::verb::Verb;
 use hv_abi::{Bytes, Frame};
 use hv_policy::{Action, Caller, Config};
 use hv_privs::Privileges;
@@ -96,22 +94,24 @@ impl<'a> Words<'a> {
 
     // What a processor's line asks for.
     fn action(&self, alloc: Global) -> Result<Action<Global>, FaultKind> {
-        let word = self.first[1];
-        if word == b"call".as_slice() {
-            self.call(alloc)
-        } else if word == b"rdmsr".as_slice() {
-            self.rdmsr()
-        } else if word == b"wrmsr".as_slice() {
-            self.wrmsr()
-        } else {
-            Err(FaultKind::Word)
+        let verb = Verb::of(self.first[1]).ok_or(FaultKind::Word)?;
+        if self.count != verb.words() {
+            return Err(FaultKind::Count);
+        }
+        let [_, _, third, fourth, _, _] = self.first;
+        match verb {
+            Verb::Call => self.call(alloc),
+            Verb::ReadMsr => read_msr(third),
+            Verb::WriteMsr => write_msr(third, fourth),
+            Verb::ReadSlot => Ok(Action::ReadSlot(sint(third)?)),
+            Verb::ClearSlot => Ok(Action::ClearSlot(sint(third)?)),
+            Verb::ReadFlags => Ok(Action::ReadFlags(sint(third)?)),
+            Verb::ClearFlag => clear_flag(third, fourth),
+            Verb::TakeInterrupt => Ok(Action::TakeInterrupt),
         }
     }
 
     fn call(&self, alloc: Global) -> Result<Action<Global>, FaultKind> {
-        if self.count != MOST_WORDS {
-            return Err(FaultKind::Count);
-        }
         let [_, _, rcx, rdx, r8, input] = self.first;
         let (rcx, rdx, r8) = registers(rcx, rdx, r8).ok_or(FaultKind::Number)?;
         let input = Bytes::from_vec(number::bytes(alloc, input)?);
@@ -122,29 +122,10 @@ impl<'a> Words<'a> {
             input,
         }))
     }
-
-    fn rdmsr(&self) -> Result<Action<Global>, FaultKind> {
-        if self.count != 3 {
-            return Err(FaultKind::Count);
-        }
-        let msr = number::number_32(self.first[2]).ok_or(FaultKind::Number)?;
-        Ok(Action::ReadMsr(msr))
-    }
-
-    fn wrmsr(&self) -> Result<Action<Global>, FaultKind> {
-        if self.count != 4 {
-            return Err(FaultKind::Count);
-        }
-        let (msr, value) = register(self.first[2], self.first[3]).ok_or(FaultKind::Number)?;
-        Ok(Action::WriteMsr(msr, value))
-    }
 }
 
 // The numbers of RCX, RDX and R8.
-fn registers(rcx: &[u8], rdx: &[u8], r8: &[u8]) -> Option<(u64, u64, u64)>
-    ensures { SomeIff result (IsNumber rcx.now × IsNumber rdx.now × IsNumber r8.now)
-        (number_of rcx.now, number_of rdx.now, number_of r8.now) }
-{
+fn registers(rcx: &[u8], rdx: &[u8], r8: &[u8]) -> Option<(u64, u64, u64)> {
     Some((
         number::number(rcx)?,
         number::number(rdx)?,
@@ -152,11 +133,26 @@ fn registers(rcx: &[u8], rdx: &[u8], r8: &[u8]) -> Option<(u64, u64, u64)>
     ))
 }
 
-// The number of an MSR, of 32 bits, and its value.
-fn register(msr: &[u8], value: &[u8]) -> Option<(u32, u64)>
-    ensures { SomeIff result (IsNumber msr.now × (number_of msr.now < 2 ^ 32) × IsNumber value.now) (number_of msr.now, number_of value.now) }
-{
-    Some((number::number_32(msr)?, number::number(value)?))
+fn read_msr(msr: &[u8]) -> Result<Action<Global>, FaultKind> {
+    let msr = number::number_32(msr).ok_or(FaultKind::Number)?;
+    Ok(Action::ReadMsr(msr))
+}
+
+fn write_msr(msr: &[u8], value: &[u8]) -> Result<Action<Global>, FaultKind> {
+    let msr = number::number_32(msr).ok_or(FaultKind::Number)?;
+    let value = number::number(value).ok_or(FaultKind::Number)?;
+    Ok(Action::WriteMsr(msr, value))
+}
+
+fn clear_flag(sint: &[u8], flag: &[u8]) -> Result<Action<Global>, FaultKind> {
+    let sint = number::number_8(sint).ok_or(FaultKind::Number)?;
+    let flag = number::number_16(flag).ok_or(FaultKind::Number)?;
+    Ok(Action::ClearFlag(sint, flag))
+}
+
+// The number of a SINT, of 8 bits.
+fn sint(word: &[u8]) -> Result<u8, FaultKind> {
+    number::number_8(word).ok_or(FaultKind::Number)
 }
 
 // The processor `ID.VP`, of a 64-bit and a 32-bit number, both decimal.

@@ -1,25 +1,33 @@
 // Numbers and bytes, as words of a script.
-ghost use Rattle.std.specs.Prelude.{◌≡◌, ◌≢◌, ◌⊎◌, ◌^◌, ◌<◌, ◌≤◌, ◌*◌, ◌+◌, ◌%◌, ◌++◌, IfErr, IfOk, OnOk, length};
+ghost use Rattle.std.specs.Prelude.{◌≡◌, ◌≢◌, ◌⊎◌, ◌^◌, ◌<◌, ◌≤◌, ◌*◌, ◌+◌, ◌%◌, ◌++◌, IfErr, OnOk, length};
 ghost use Rattle.std.specs.Option.{SomeIff};
 ghost use Rattle.std.specs.Str.Parse.{AllDigits, IsNumeral, digits_value};
-ghost use Rattle.hv_script.specs.Number.{IsBytes, IsNumber, bytes_of, number_of};
+ghost use Rattle.hv_script.specs.Fault.{IsRead};
+ghost use Rattle.hv_script.specs.Number.{bytes_in, bytes_of, decimal_in, number_in};
 
 use crate::fault::FaultKind;
-use std::alloc::Global;
+use std::alloc::Allocator;
 
 // The most digits that a word for bytes has.
 const MOST_DIGITS: usize = 8192;
 
-/// A number in decimal digits, with any number of leading zeros.
+/// A number of 64 bits in decimal digits, with any number of leading zeros.
 pub fn decimal(word: &[u8]) -> Option<u64>
-    ensures { SomeIff result (IsNumeral 10 word.now × (digits_value 10 word.now < 2 ^ 64)) (digits_value 10 word.now) }
+    ensures { result ≡ decimal_in 64 word.now }
 {
     digits(word, 10)
 }
 
-/// A number in decimal digits, or `0x` and 1 to 16 hexadecimal digits of either case.
+/// A number of 32 bits in decimal digits, with any number of leading zeros.
+pub fn decimal_32(word: &[u8]) -> Option<u32>
+    ensures { result ≡ decimal_in 32 word.now }
+{
+    u32::try_from(decimal(word)?).ok()
+}
+
+/// A number of 64 bits in decimal digits, or in `0x` and 1 to 16 hexadecimal digits of either case.
 pub fn number(word: &[u8]) -> Option<u64>
-    ensures { SomeIff result (IsNumber word.now) (number_of word.now) }
+    ensures { result ≡ number_in 64 word.now }
 {
     match word.strip_prefix(b"0x".as_slice()) {
         Some(hex) if hex.len() <= 16 => digits(hex, 16),
@@ -28,19 +36,30 @@ pub fn number(word: &[u8]) -> Option<u64>
     }
 }
 
-/// The same, where the number fits 32 bits.
+/// The same, of 32 bits.
 pub fn number_32(word: &[u8]) -> Option<u32>
-    ensures { SomeIff result (IsNumber word.now × (number_of word.now < 2 ^ 32)) (number_of word.now) }
+    ensures { result ≡ number_in 32 word.now }
 {
     u32::try_from(number(word)?).ok()
 }
 
+/// The same, of 16 bits.
+pub fn number_16(word: &[u8]) -> Option<u16>
+    ensures { result ≡ number_in 16 word.now }
+{
+    u16::try_from(number(word)?).ok()
+}
+
+/// The same, of 8 bits.
+pub fn number_8(word: &[u8]) -> Option<u8>
+    ensures { result ≡ number_in 8 word.now }
+{
+    u8::try_from(number(word)?).ok()
+}
+
 /// Bytes as an even number of hexadecimal digits of either case, at most 8,192, or `-` for none.
-pub fn bytes(alloc: Global, word: &[u8]) -> Result<Vec<u8>, FaultKind>
-    ensures bytes { IfOk result (λ bytes. bytes.items ≡ bytes_of word.now) }
-    ensures ok { OnOk result (IsBytes word.now) }
-    ensures err { IfErr result (λ kind. kind ≢ FaultKind.Memory → IsBytes word.now → ⊥) }
-    ensures kinds { IfErr result (λ kind. (kind ≡ FaultKind.Hex) ⊎ (kind ≡ FaultKind.Memory)) }
+pub fn bytes<A: Allocator>(alloc: A, word: &[u8]) -> Result<Vec<u8, A>, FaultKind>
+    ensures { IsRead result (λ bytes. bytes.items) (bytes_in word.now) }
 {
     if word == b"-".as_slice() {
         return Ok(Vec::new(alloc));
@@ -54,7 +73,7 @@ pub fn bytes(alloc: Global, word: &[u8]) -> Result<Vec<u8>, FaultKind>
 }
 
 // Pushes the bytes that pairs of hexadecimal digits write.
-fn push_bytes(bytes: &mut Vec<u8>, word: &[u8]) -> Result<(), FaultKind>
+fn push_bytes<A: Allocator>(bytes: &mut Vec<u8, A>, word: &[u8]) -> Result<(), FaultKind>
     requires { length word.now % 2 ≡ 0 }
     ensures bytes { OnOk result (bytes.new.items ≡ bytes.old.items ++ bytes_of word.now) }
     ensures ok { OnOk result (AllDigits 16 word.now) }

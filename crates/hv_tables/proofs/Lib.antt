@@ -1,1 +1,2 @@
+pub mod FlagLines
 pub mod Starts

@@ -1,5 +1,6 @@
 -- The lines of the tables, made of the definitions and constants that contracts cite.
-use Rattle.std.specs.Prelude.{ℕ, ◌==◌, Bool, List, [], ◌∷◌, find, map, Option}
+use Rattle.std.specs.Prelude.{ℕ, ◌==◌, Bool, false, List, [], ◌∷◌, find, map, Option}
+use Rattle.std.specs.FinSet.{from_list}
 use Rattle.std.specs.List.{filter}
 use Rattle.std.specs.Option.{option_map}
 use Rattle.hv_abi.specs.CallRow.{row_of, input_len, output_len}
@@ -10,12 +11,14 @@ use Rattle.hv_abi.specs.declared.frame.AbiFault.{AbiFault}
 use Rattle.hv_abi.specs.declared.frame.Frame.{Frame}
 use Rattle.hv_abi.specs.declared.status.Status.{Status}
 use Rattle.hv_calls.specs.declared.call.Call.{Call}
+use Rattle.hv_defs.specs.Flags.{flag_bytes}
 use Rattle.hv_defs.specs.declared.life.Life.{Life}
 use Rattle.hv_defs.specs.declared.life.Life.TheVariants.{Created, Active, Finalized}
 use Rattle.hv_defs.specs.declared.registers.Takes.{Takes}
 use Rattle.hv_defs.specs.declared.registers.TheConstants.{REGISTERS}
 use Rattle.hv_privs.specs.Privileges.{bits_of}
 use Rattle.hv_policy.specs.Asked.{action_rules}
+use Rattle.hv_policy.specs.Call.{action_subject}
 use Rattle.hv_policy.specs.Needs.{needs_of, is_among, further_rules, charge_of, takes_memory}
 use Rattle.hv_policy.specs.Rule.{rule_number, rule_name, rule_status}
 use Rattle.hv_policy.specs.declared.event.Action.{Action}
@@ -47,6 +50,10 @@ rules_line kind = (map rule_number (further_rules kind), charge_of kind, takes_m
 abbrev pub asked_line : Action (Unit {0}) → List ℕ
 asked_line action = map rule_number (action_rules action)
 
+-- whether the SINT and the flag that an access names are there
+abbrev pub subject_line : Action (Unit {0}) → Bool
+subject_line access = action_subject (λ call. false) access
+
 -- a rule's number, its name, and the number of the status with which it refuses a call
 abbrev pub rule_line : Rule → Option CallKind → ℕ × List ℕ × Option ℕ
 rule_line rule call = (rule_number rule, rule_name rule, option_map status_code (rule_status rule call))
@@ -70,3 +77,7 @@ fault_line rcx rdx r8 = first_fault (bare_frame rcx rdx r8)
 -- the bytes of its input, if its registers are fast
 abbrev pub input_line : ℕ → ℕ → Bool → List ℕ
 input_line rdx r8 fast = input_of (bare_frame 0 rdx r8) fast
+
+-- the bytes of a SINT's event flags, where these, as (SINT, flag), are set
+abbrev pub flags_line : List (ℕ × ℕ) → ℕ → List ℕ
+flags_line flags sint = flag_bytes (from_list flags) sint

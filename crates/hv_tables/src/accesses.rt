@@ -5,13 +5,31 @@ ghost use Rattle.hv_calls.specs.declared.call.Call.TheVariants.{CreateVp};
 ghost use Rattle.hv_defs.specs.Registers.{name_of_msr};
 ghost use Rattle.hv_policy.specs.Flat.{Flat};
 ghost use Rattle.hv_policy.specs.Met.{is_vp_good};
-ghost use Rattle.hv_policy.specs.declared.event.Action.TheVariants.{ReadMsr, WriteMsr};
-ghost use Rattle.hv_tables.specs.Lines.{asked_line};
+ghost use Rattle.hv_policy.specs.declared.event.Action.TheVariants.{ReadMsr, WriteMsr, ReadSlot, ClearSlot, ReadFlags, ClearFlag, TakeInterrupt};
+ghost use Rattle.hv_tables.specs.Lines.{asked_line, subject_line};
 
 /// The rules of each access beside P1 to P3, by their numbers.
 pub fn each_access_has_its_rules()
     ensures read_msr { (msr : ℕ) → asked_line (ReadMsr msr) ≡ 25 ∷ 26 ∷ [] }
     ensures write_msr { (msr value : ℕ) → asked_line (WriteMsr msr value) ≡ 25 ∷ 26 ∷ 27 ∷ [] }
+    ensures read_slot { (sint : ℕ) → asked_line (ReadSlot sint) ≡ 21 ∷ [] }
+    ensures clear_slot { (sint : ℕ) → asked_line (ClearSlot sint) ≡ 21 ∷ [] }
+    ensures read_flags { (sint : ℕ) → asked_line (ReadFlags sint) ≡ 21 ∷ [] }
+    ensures clear_flag { (sint flag : ℕ) → asked_line (ClearFlag sint flag) ≡ 21 ∷ [] }
+    ensures take_interrupt { asked_line TakeInterrupt ≡ [] }
+{}
+
+/// The last SINT and flag that an access may name, and those behind them, which rule P21 refuses.
+pub fn each_access_has_its_edges()
+    ensures read_slot { subject_line (ReadSlot 15) ≡ true }
+    ensures read_slot_beyond { subject_line (ReadSlot 16) ≡ false }
+    ensures clear_slot { subject_line (ClearSlot 15) ≡ true }
+    ensures clear_slot_beyond { subject_line (ClearSlot 16) ≡ false }
+    ensures read_flags { subject_line (ReadFlags 15) ≡ true }
+    ensures read_flags_beyond { subject_line (ReadFlags 16) ≡ false }
+    ensures clear_flag { subject_line (ClearFlag 15 2047) ≡ true }
+    ensures clear_flag_beyond_the_sints { subject_line (ClearFlag 16 0) ≡ false }
+    ensures clear_flag_beyond_the_flags { subject_line (ClearFlag 0 2048) ≡ false }
 {}
 
 /// The register of each MSR, by its name in a call, and the numbers beside them, which are no MSR.

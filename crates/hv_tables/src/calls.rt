@@ -11,13 +11,11 @@ ghost use Rattle.hv_policy.specs.Flat.{Flat};
 ghost use Rattle.hv_policy.specs.Property.{property_of};
 ghost use Rattle.hv_policy.specs.Met.{is_kin, is_child};
 ghost use Rattle.hv_policy.specs.declared.need.Kin.TheVariants as kin;
-ghost use Rattle.hv_policy.specs.declared.need.TheConstants.{SERVED_CODES};
 ghost use Rattle.hv_tables.specs.Lines.{frame_line, list_line, need_line, rules_line};
 
-/// How many calls the profile has, and the codes of those that are served so far.
+/// How many calls the profile has, and that the codes beside them are no call's.
 pub fn the_profile_has_its_calls()
     ensures profile { length ALL_CALLS ≡ 21 }
-    ensures served { SERVED_CODES ≡ 0x40 ∷ 0x41 ∷ 0x42 ∷ 0x43 ∷ 0x44 ∷ 0x45 ∷ 0x46 ∷ 0x47 ∷ 0x48 ∷ 0x49 ∷ 0x4A ∷ 0x4E ∷ 0x4F ∷ 0x50 ∷ 0x51 ∷ 0x58 ∷ 0x5B ∷ 0x95 ∷ 0x96 ∷ [] }
     ensures before { kind_of 0x3F ≡ None }
     ensures after_memory_balance { kind_of 0x4B ≡ None }
     ensures before_create_vp { kind_of 0x4D ≡ None }

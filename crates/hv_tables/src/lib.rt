@@ -1,5 +1,6 @@
 //! The tables of the policy, a second time: each value as a literal, typed from the policy in words, `docs/POLICY.md`, and
-//! not from the definitions. Beside the tables stand worked frames: what is wrong with an input value or an address.
+//! not from the definitions. Beside the tables stand worked frames, what is wrong with an input value or an address, and worked
+//! pages, the bytes that slots and event flags show.
 //!
 //! The crate has no code. Code and definition that read one constant or one table can be wrong together, and no
 //! proof sees it. Here each function's contract says of a table, line by line, what the definitions and
@@ -12,6 +13,7 @@ mod blocks;
 mod calls;
 mod frames;
 mod links;
+mod messages;
 mod privileges;
 mod properties;
 mod registers;
@@ -20,7 +22,8 @@ mod sizes;
 mod statuses;
 
 pub use accesses::{
-    each_access_has_its_rules, each_msr_has_its_register, each_processor_has_its_index,
+    each_access_has_its_edges, each_access_has_its_rules, each_msr_has_its_register,
+    each_processor_has_its_index,
 };
 pub use blocks::{
     each_block_has_its_fields, each_call_has_its_checks, each_check_has_its_edges,
@@ -35,6 +38,10 @@ pub use frames::{
     each_frame_has_its_fault, each_input_value_has_its_parts, each_result_has_its_value,
 };
 pub use links::{each_port_has_its_type, each_port_keeps_its_flags};
+pub use messages::{
+    each_flag_has_its_bit, each_page_is_on_by_its_bit, each_sint_raises_its_vector,
+    each_slot_has_its_bytes,
+};
 pub use privileges::each_privilege_has_its_bit;
 pub use properties::{
     each_property_has_its_code, each_property_has_its_range, each_property_has_its_start,

@@ -4,7 +4,7 @@ ghost use Rattle.std.specs.FinMap.{get};
 ghost use Rattle.hv_defs.specs.Registers.{start_registers, take};
 ghost use Rattle.hv_defs.specs.declared.registers.RegFault.TheVariants.{ReadOnly, Value};
 ghost use Rattle.hv_defs.specs.declared.registers.Takes.TheVariants.{Nothing, Any, SintValue, EndOfMessage};
-ghost use Rattle.hv_defs.specs.declared.registers.TheConstants.{REGISTERS, SCONTROL, SIEFP, SIMP, VP_INDEX};
+ghost use Rattle.hv_defs.specs.declared.registers.TheConstants.{EOM, REGISTERS, SCONTROL, SIEFP, SIMP, SINT0, VP_INDEX};
 ghost use Rattle.hv_tables.specs.Lines.{access_line};
 
 /// What each register holds in a processor of this index that was just made. The table has 40 of them, and no others.
@@ -13,9 +13,11 @@ pub fn each_register_has_its_start()
     ensures vp_index_name { VP_INDEX ≡ 0x00090003 }
     ensures vp_index_row { is_some (find (λ row. row.name == 0x00090003) REGISTERS) ≡ true }
     ensures count { length REGISTERS ≡ 40 }
+    ensures sint0_name { SINT0 ≡ 0x000A0000 }
     ensures scontrol_name { SCONTROL ≡ 0x000A0010 }
     ensures siefp_name { SIEFP ≡ 0x000A0012 }
     ensures simp_name { SIMP ≡ 0x000A0013 }
+    ensures eom_name { EOM ≡ 0x000A0014 }
     ensures rax { (index : ℕ) → get (start_registers index) 0x00020000 ≡ Some 0 }
     ensures rcx { (index : ℕ) → get (start_registers index) 0x00020001 ≡ Some 0 }
     ensures rdx { (index : ℕ) → get (start_registers index) 0x00020002 ≡ Some 0 }

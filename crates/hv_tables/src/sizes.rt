@@ -1,6 +1,6 @@
 // The numbers of the profile, and what boot, blocks and start values take from them.
 ghost use Rattle.std.specs.Prelude.{◌≡◌};
-ghost use Rattle.hv_defs.specs.declared.sizes.TheConstants.{PAGE_SIZE, MAX_PAGES, MAX_VPS, SELF_ID, ROOT_ID, MAX_DEPTH, FIRST_CHILD_ID, PARTITION_CHARGE, VP_CHARGE, PORT_CHARGE, CONNECTION_CHARGE, CPU_RESERVE_START, CPU_CAP_START, CPU_WEIGHT_START, MAX_CPU_RESERVE, MAX_CPU_CAP, MIN_CPU_WEIGHT, MAX_CPU_WEIGHT, SINTS, EVENT_FLAGS, MAX_PAYLOAD, MAX_PORT_ID, MAX_MESSAGE_TYPE, ANY_VP, REPS_END, MAX_SERVED};
+ghost use Rattle.hv_defs.specs.declared.sizes.TheConstants.{PAGE_SIZE, MAX_PAGES, MAX_VPS, SELF_ID, ROOT_ID, MAX_DEPTH, FIRST_CHILD_ID, PARTITION_CHARGE, VP_CHARGE, PORT_CHARGE, CONNECTION_CHARGE, CPU_RESERVE_START, CPU_CAP_START, CPU_WEIGHT_START, MAX_CPU_RESERVE, MAX_CPU_CAP, MIN_CPU_WEIGHT, MAX_CPU_WEIGHT, SINTS, EVENT_FLAGS, MAX_MESSAGES, MAX_PAYLOAD, MAX_PORT_ID, MAX_MESSAGE_TYPE, ANY_VP, REPS_END, MAX_SERVED};
 
 /// The numbers of the profile.
 pub fn each_size_has_its_value()
@@ -24,6 +24,7 @@ pub fn each_size_has_its_value()
     ensures max_cpu_weight { MAX_CPU_WEIGHT ≡ 10000 }
     ensures sints { SINTS ≡ 16 }
     ensures event_flags { EVENT_FLAGS ≡ 2048 }
+    ensures max_messages { MAX_MESSAGES ≡ 8 }
     ensures max_payload { MAX_PAYLOAD ≡ 240 }
     ensures max_port_id { MAX_PORT_ID ≡ 0x00FFFFFF }
     ensures max_message_type { MAX_MESSAGE_TYPE ≡ 0x7FFFFFFF }

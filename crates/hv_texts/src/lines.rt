@@ -2,7 +2,9 @@
 
 use hv_policy::{Action, Caller, Config};
 use hv_privs::Privileges;
+use hv_run::Asked;
 use hv_script::{Boot, Line, parse};
+use std::alloc::Global;
 use std::process::Abort;
 use std::test::Fail;
 
@@ -123,49 +125,183 @@ fn call_lines(rt: HostRuntime) -> Result<(), Fail> {
     Ok(())
 }
 
-// A line of an access, and what it says: the processor, the MSR, and the value that is written.
-const ACCESSES: [(&str, u64, u32, u32, Option<u64>); 5] = [
+// A line of an access, and what it says: the processor, and what it asks for.
+const ACCESSES: [(&str, u64, u32, Asked); 21] = [
     (
         "18364758544493064720.4023233417 rdmsr 0xfedcba98",
         0xfedc_ba98_7654_3210,
         0xefcd_ab89,
-        0xfedc_ba98,
-        None,
+        Asked::ReadMsr { msr: 0xfedc_ba98 },
     ),
-    (" 1.63  rdmsr  19088743 ", 1, 63, 0x0123_4567, None),
-    ("1.0 rdmsr 4294967295", 1, 0, 0xffff_ffff, None),
+    (
+        " 1.63  rdmsr  19088743 ",
+        1,
+        63,
+        Asked::ReadMsr { msr: 0x0123_4567 },
+    ),
+    (
+        "1.0 rdmsr 4294967295",
+        1,
+        0,
+        Asked::ReadMsr { msr: 0xffff_ffff },
+    ),
     (
         "81985529216486895.271733878 wrmsr 0x89abcdef 0xf0E1d2C3b4A59687",
         0x0123_4567_89ab_cdef,
         0x1032_5476,
-        0x89ab_cdef,
-        Some(0xf0e1_d2c3_b4a5_9687),
+        Asked::WriteMsr {
+            msr: 0x89ab_cdef,
+            value: 0xf0e1_d2c3_b4a5_9687,
+        },
     ),
     (
         "1.0 wrmsr 0x76543210 1084818905618843912",
         1,
         0,
-        0x7654_3210,
-        Some(0x0f0e_0d0c_0b0a_0908),
+        Asked::WriteMsr {
+            msr: 0x7654_3210,
+            value: 0x0f0e_0d0c_0b0a_0908,
+        },
     ),
+    (
+        "18364758544493064720.4023233417 slot 255",
+        0xfedc_ba98_7654_3210,
+        0xefcd_ab89,
+        Asked::ReadSlot { sint: 255 },
+    ),
+    ("1.0 slot 16", 1, 0, Asked::ReadSlot { sint: 16 }),
+    (" 1.0  slot  0xa5 ", 1, 0, Asked::ReadSlot { sint: 165 }),
+    ("2.1 slot 0005", 2, 1, Asked::ReadSlot { sint: 5 }),
+    (
+        "81985529216486895.271733878 clearslot 0xFf",
+        0x0123_4567_89ab_cdef,
+        0x1032_5476,
+        Asked::ClearSlot { sint: 255 },
+    ),
+    ("1.0 clearslot 16", 1, 0, Asked::ClearSlot { sint: 16 }),
+    ("1.0 clearslot 0x5A", 1, 0, Asked::ClearSlot { sint: 90 }),
+    ("3.7 flags 255", 3, 7, Asked::ReadFlags { sint: 255 }),
+    ("1.0 flags 0x10", 1, 0, Asked::ReadFlags { sint: 16 }),
+    ("1.0 flags 00000150", 1, 0, Asked::ReadFlags { sint: 150 }),
+    (
+        "18364758544493064720.4023233417 clearflag 255 65535",
+        0xfedc_ba98_7654_3210,
+        0xefcd_ab89,
+        Asked::ClearFlag {
+            sint: 255,
+            flag: 65535,
+        },
+    ),
+    (
+        "1.0 clearflag 0x5a 0xA5c3",
+        1,
+        0,
+        Asked::ClearFlag {
+            sint: 90,
+            flag: 42435,
+        },
+    ),
+    (
+        " 1.0 clearflag  016  0023130 ",
+        1,
+        0,
+        Asked::ClearFlag {
+            sint: 16,
+            flag: 23130,
+        },
+    ),
+    (
+        "1.0 clearflag 0x0000000000000001 2048",
+        1,
+        0,
+        Asked::ClearFlag {
+            sint: 1,
+            flag: 2048,
+        },
+    ),
+    (
+        "81985529216486895.271733878 interrupt",
+        0x0123_4567_89ab_cdef,
+        0x1032_5476,
+        Asked::TakeInterrupt,
+    ),
+    (" 01.002  interrupt ", 1, 2, Asked::TakeInterrupt),
 ];
 
 #[test]
 fn access_lines(rt: HostRuntime) -> Result<(), Fail> {
     let alloc = rt.alloc();
-    for (text, part, vp, msr, value) in ACCESSES {
+    for (text, part, vp, asked) in ACCESSES {
         let mut script = String::from_str(alloc, "boot 1 0 1 0 0\n")?;
         script.push_str(text)?;
         let script = parse(alloc, script.as_bytes())?;
         assert_eq!(rt; script.lines.len(), 1, "{text}");
         let line = &script.lines[0];
         assert_eq!(rt; line.by, Caller { part, vp }, "{text}");
-        let said = match &line.action {
-            Action::Hypercall(_) => panic!(rt; "a call: {text}"),
-            Action::ReadMsr(msr) => (*msr, None),
-            Action::WriteMsr(msr, value) => (*msr, Some(*value)),
-        };
-        assert_eq!(rt; said, (msr, value), "{text}");
+        assert_eq!(rt; access(&line.action), Some(asked), "{text}");
+    }
+    Ok(())
+}
+
+// The access that a line asks for. A call is none.
+fn access(action: &Action<Global>) -> Option<Asked> {
+    match action {
+        Action::Hypercall(_) => None,
+        Action::ReadMsr(msr) => Some(Asked::ReadMsr { msr: *msr }),
+        Action::WriteMsr(msr, value) => Some(Asked::WriteMsr {
+            msr: *msr,
+            value: *value,
+        }),
+        Action::ReadSlot(sint) => Some(Asked::ReadSlot { sint: *sint }),
+        Action::ClearSlot(sint) => Some(Asked::ClearSlot { sint: *sint }),
+        Action::ReadFlags(sint) => Some(Asked::ReadFlags { sint: *sint }),
+        Action::ClearFlag(sint, flag) => Some(Asked::ClearFlag {
+            sint: *sint,
+            flag: *flag,
+        }),
+        Action::TakeInterrupt => Some(Asked::TakeInterrupt),
+    }
+}
+
+// A line that is refused as the second one, and with which text.
+const REFUSED: [(&str, &str); 22] = [
+    ("1.0 slot", "line 2: word count"),
+    ("1.0 slot x 1", "line 2: word count"),
+    ("1.0 slot 256", "line 2: bad number"),
+    ("1.0 slot 0x100", "line 2: bad number"),
+    ("1.0 clearslot", "line 2: word count"),
+    ("1.0 clearslot 1 x", "line 2: word count"),
+    ("1.0 clearslot 511", "line 2: bad number"),
+    ("1.0 flags", "line 2: word count"),
+    ("1.0 flags 1 1", "line 2: word count"),
+    ("1.0 flags -", "line 2: bad number"),
+    ("1.0 clearflag", "line 2: word count"),
+    ("1.0 clearflag x", "line 2: word count"),
+    ("1.0 clearflag 1 1 1", "line 2: word count"),
+    ("1.0 clearflag 256 1", "line 2: bad number"),
+    ("1.0 clearflag 1 65536", "line 2: bad number"),
+    ("1.0 clearflag 1 0x10000", "line 2: bad number"),
+    ("1.0 interrupt 0", "line 2: word count"),
+    ("1.0 interrupts", "line 2: unknown word"),
+    ("1.0 Slot 1", "line 2: unknown word"),
+    ("1.0 clear", "line 2: unknown word"),
+    ("1.0 slo 1", "line 2: unknown word"),
+    ("1. slot", "line 2: bad processor"),
+];
+
+#[test]
+fn refused_lines(rt: HostRuntime) -> Result<(), Fail> {
+    let alloc = rt.alloc();
+    for (line, wanted) in REFUSED {
+        let mut script = String::from_str(alloc, "boot 1 0 1 0 0\n")?;
+        script.push_str(line)?;
+        match parse(alloc, script.as_bytes()) {
+            Ok(_) => panic!(rt; "no refusal: {line}"),
+            Err(error) => {
+                let text = format!(in alloc; "{error}")?;
+                assert_eq!(rt; text.as_str(), wanted, "{line}");
+            }
+        }
     }
     Ok(())
 }
@@ -181,6 +317,12 @@ fn assert_call(rt: &impl Abort, line: &Line, row: &Row<'_>) {
             assert_eq!(rt; [frame.rcx, frame.rdx, frame.r8], row.registers);
             assert_eq!(rt; frame.input.as_slice(), row.input);
         }
-        Action::ReadMsr(_) | Action::WriteMsr(_, _) => panic!(rt; "an access"),
+        Action::ReadMsr(_)
+        | Action::WriteMsr(_, _)
+        | Action::ReadSlot(_)
+        | Action::ClearSlot(_)
+        | Action::ReadFlags(_)
+        | Action::ClearFlag(_, _)
+        | Action::TakeInterrupt => panic!(rt; "an access"),
     }
 }

@@ -8,22 +8,24 @@ use Rattle.hv_partition.specs.Partition.{PartitionState}
 use Rattle.hv_policy.proofs.Rows.{get-with_row}
 use Rattle.hv_policy.specs.Effect.{with_row}
 use Rattle.hv_policy.specs.Flat.{Flat, PartRow}
+use Rattle.hv_policy.specs.Mail.{mail_at}
 use Rattle.hv_ports.specs.Table.{TableState}
 use Rattle.hv_ports.specs.declared.ports.Conn.{Conn}
 use Rattle.hv_ports.specs.declared.ports.Port.{Port}
 use Rattle.hv_tree.proofs.Laws.{get-change}
 use Rattle.hv_tree.specs.Rows.{Row, Rows, change}
-use Rattle.hv_tie.specs.Tie.{IsTied, Shows, conn_row_of, is_held, holds, part_row, port_row_of, vp_row_of}
+use Rattle.hv_tie.specs.Tie.{IsTied, Shows, conn_row_of, here, is_held, holds, part_row, port_row_of, rows_of, sint_mail, vp_row_of}
 use Rattle.hv_vp.specs.Vps.{VpsState}
 
 -- what shows a row shows it in each state with the same maps under that id
-pub same_shows : (f g : Flat) (id : ℕ) (row : Option (Row PartitionState)) → get g.part id ≡ get f.part id → ((page : ℕ) → get g.page page ≡ get f.page page) → ((n : ℕ) → get g.vp (id, n) ≡ get f.vp (id, n)) → ((n : ℕ) → get g.port (id, n) ≡ get f.port (id, n)) → ((n : ℕ) → get g.conn (id, n) ≡ get f.conn (id, n)) → Shows f id row → Shows g id row
-same_shows f g id row part page vp port conn s = record {
+pub same_shows : (f g : Flat) (id : ℕ) (row : Option (Row PartitionState)) → get g.part id ≡ get f.part id → ((page : ℕ) → get g.page page ≡ get f.page page) → ((n : ℕ) → get g.vp (id, n) ≡ get f.vp (id, n)) → ((n : ℕ) → get g.port (id, n) ≡ get f.port (id, n)) → ((n : ℕ) → get g.conn (id, n) ≡ get f.conn (id, n)) → ((vp sint : ℕ) → mail_at (here id vp sint) g.mail ≡ mail_at (here id vp sint) f.mail) → Shows f id row → Shows g id row
+same_shows f g id row part page vp port conn mail s = record {
   part = part ∙ s.part;
   page = λ p pooled. ap (is_held id pooled) (page p) ∙ s.page p pooled;
   vp = λ n. vp n ∙ s.vp n;
   port = λ n. port n ∙ s.port n;
   conn = λ n. conn n ∙ s.conn n;
+  mail = λ vp sint. mail vp sint ∙ s.mail vp sint;
 }
 
 pub holds_alike : (pooled : Bool) (page : ℕ) (r s : Row PartitionState) → r.1.loose.pages ≡ s.1.loose.pages → r.1.pooled.pages ≡ s.1.pooled.pages → holds pooled page (Some r) ≡ holds pooled page (Some s)
@@ -49,6 +51,7 @@ module _ (rows : Rows PartitionState) (f : Flat) (flat : IsTied rows f) where
           vp = old.vp;
           port = old.port;
           conn = old.conn;
+          mail = old.mail;
         }
         one (Some r) is at old = record {
           part = changed_part id true at ∙ ap (option_map g) ((flat.rows target).part ∙ ap (option_map part_row) is) ∙ ap Some (sym (alike r));
@@ -56,11 +59,12 @@ module _ (rows : Rows PartitionState) (f : Flat) (flat : IsTied rows f) where
           vp = λ index. old.vp index ∙ ap (λ (s : VpsState). option_map vp_row_of (get s.vps index)) (sym (vps r.1));
           port = λ port. old.port port ∙ ap (λ (s : TableState Port). option_map port_row_of (get s.rows port)) (sym (ports r.1));
           conn = λ conn. old.conn conn ∙ ap (λ (s : TableState Conn). option_map conn_row_of (get s.rows conn)) (sym (conns r.1));
+          mail = λ index sint. old.mail index sint ∙ ap (λ (s : VpsState). rows_of (here id index sint) (sint_mail sint (get s.vps index))) (sym (vps r.1));
         }
 
         by : (b : Bool) → id == target ≡ b → Shows changed id (cond b (option_map (λ r. (r.0, h r.1)) (get rows target)) (get rows id))
-        by false is = same_shows f changed id (get rows id) (changed_part id false is) (λ _. refl) (λ _. refl) (λ _. refl) (λ _. refl) (flat.rows id)
+        by false is = same_shows f changed id (get rows id) (changed_part id false is) (λ _. refl) (λ _. refl) (λ _. refl) (λ _. refl) (λ _ _. refl) (flat.rows id)
         by true is = one (get rows target) refl is (subst (Shows f id) (ap (get rows) (eqb-true id target is)) (flat.rows id))
 
     pub changed_tied : IsTied (change rows target h) changed
-    changed_tied = record { rows = changed_shows; mail = flat.mail }
+    changed_tied = record { rows = changed_shows }

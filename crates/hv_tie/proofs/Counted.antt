@@ -15,7 +15,8 @@ use Rattle.hv_defs.proofs.Counts.{both_parts, less_apart, passes, count_by-keys,
 use Rattle.hv_partition.specs.Partition.{PartitionState, in_use as uses, available as may_use}
 use Rattle.hv_policy.proofs.Pairs.{count_by-pairs}
 use Rattle.hv_policy.specs.Count.{is_parent, child_count, vp_count, port_count, conn_count, pooled_count, in_use, available}
-use Rattle.hv_policy.specs.Flat.{Flat, PageRow, pair_cmp}
+use Rattle.hv_defs.specs.Flags.{pair_cmp}
+use Rattle.hv_policy.specs.Flat.{Flat, PageRow}
 use Rattle.hv_tree.specs.Rows as tree
 use Rattle.hv_tree.specs.Rows.{Row, Rows, children, children_in, parent}
 use Rattle.hv_tree.proofs.ChildLaws.{parent-child, child-parent}

@@ -1,10 +1,15 @@
 pub mod Allowed
+pub mod Boxes
 pub mod Changed
 pub mod Counted
 pub mod Found
 pub mod Held
+pub mod Kept
 pub mod Lawful
 pub mod Links
+pub mod Mailed
 pub mod One
 pub mod Processors
 pub mod Room
+pub mod Staff
+pub mod Twice

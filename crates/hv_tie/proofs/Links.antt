@@ -5,7 +5,8 @@ use Rattle.std.specs.FinMap.{FinMap, get, insert}
 use Rattle.std.specs.Option.{option_map}
 use Rattle.hv_defs.proofs.Maps.{get_at-insert}
 use Rattle.hv_partition.specs.Partition.{PartitionState}
-use Rattle.hv_policy.specs.Flat.{ConnRow, Flat, PortRow, pair_cmp}
+use Rattle.hv_defs.specs.Flags.{pair_cmp}
+use Rattle.hv_policy.specs.Flat.{ConnRow, Flat, PortRow}
 use Rattle.hv_ports.specs.Table.{TableState}
 use Rattle.hv_ports.specs.declared.ports.Conn.{Conn}
 use Rattle.hv_ports.specs.declared.ports.Port.{Port}
@@ -27,11 +28,12 @@ module _ (rows : Rows PartitionState) (f : Flat) (flat : IsTied rows f) (id : �
           vp = old.vp;
           port = λ n. ports_if q n true at;
           conn = old.conn;
+          mail = old.mail;
         }
-    ports_shown q false at = same_shows f (record f { port = m }) q (get rows q) refl (λ _. refl) (λ _. refl) (λ n. ports_if q n false at) (λ _. refl) (flat.rows q)
+    ports_shown q false at = same_shows f (record f { port = m }) q (get rows q) refl (λ _. refl) (λ _. refl) (λ n. ports_if q n false at) (λ _. refl) (λ _ _. refl) (flat.rows q)
 
     pub ports_tied : IsTied (insert rows id (r.0, record r.1 { ports = v })) (record f { port = m })
-    ports_tied = record { rows = λ q. subst (Shows (record f { port = m }) q) (sym (get_at-insert rows id (r.0, record r.1 { ports = v }) q)) (ports_shown q (q == id) refl); mail = flat.mail }
+    ports_tied = record { rows = λ q. subst (Shows (record f { port = m }) q) (sym (get_at-insert rows id (r.0, record r.1 { ports = v }) q)) (ports_shown q (q == id) refl) }
 
   module _ (v : TableState Conn) (m : FinMap pair_cmp ConnRow) (made : (q n : ℕ) → get m (q, n) ≡ cond (q == id) (option_map conn_row_of (get v.rows n)) (get f.conn (q, n))) where
     conns_if : (q n : ℕ) (b : Bool) → q == id ≡ b → get m (q, n) ≡ cond b (option_map conn_row_of (get v.rows n)) (get f.conn (q, n))
@@ -46,8 +48,9 @@ module _ (rows : Rows PartitionState) (f : Flat) (flat : IsTied rows f) (id : �
           vp = old.vp;
           port = old.port;
           conn = λ n. conns_if q n true at;
+          mail = old.mail;
         }
-    conns_shown q false at = same_shows f (record f { conn = m }) q (get rows q) refl (λ _. refl) (λ _. refl) (λ _. refl) (λ n. conns_if q n false at) (flat.rows q)
+    conns_shown q false at = same_shows f (record f { conn = m }) q (get rows q) refl (λ _. refl) (λ _. refl) (λ _. refl) (λ n. conns_if q n false at) (λ _ _. refl) (flat.rows q)
 
     pub conns_tied : IsTied (insert rows id (r.0, record r.1 { conns = v })) (record f { conn = m })
-    conns_tied = record { rows = λ q. subst (Shows (record f { conn = m }) q) (sym (get_at-insert rows id (r.0, record r.1 { conns = v }) q)) (conns_shown q (q == id) refl); mail = flat.mail }
+    conns_tied = record { rows = λ q. subst (Shows (record f { conn = m }) q) (sym (get_at-insert rows id (r.0, record r.1 { conns = v }) q)) (conns_shown q (q == id) refl) }

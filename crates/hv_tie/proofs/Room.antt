@@ -8,7 +8,7 @@ use Rattle.hv_partition.specs.Partition.{PartitionState}
 use Rattle.hv_policy.specs.Flat.{Flat}
 use Rattle.hv_tree.specs.Rows.{Row, Rows}
 use Rattle.hv_tie.specs.Room.{IsSameButRoom, bare, roomless}
-use Rattle.hv_tie.specs.Tie.{IsTied, Shows, conn_row, holds, part_row, port_row, vp_row}
+use Rattle.hv_tie.specs.Tie.{IsTied, Shows, conn_row, here, holds, mail_there, part_row, port_row, rows_of, vp_row}
 
 -- what a flat state shows of a row doesn't look at room
 bare_part : (r : Option (Row PartitionState)) → option_map part_row r ≡ option_map part_row (option_map bare r)
@@ -32,6 +32,10 @@ bare_conn : (id : ℕ) (r : Option (Row PartitionState)) → conn_row id r ≡ c
 bare_conn id None = refl
 bare_conn id (Some r) = refl
 
+bare_mail : (index sint : ℕ) (r : Option (Row PartitionState)) → mail_there index sint r ≡ mail_there index sint (option_map bare r)
+bare_mail index sint None = refl
+bare_mail index sint (Some r) = refl
+
 shown_alike : (f : Flat) (id : ℕ) (r s : Option (Row PartitionState)) → option_map bare s ≡ option_map bare r → Shows f id r → Shows f id s
 shown_alike f id r s same shows = record {
   part = shows.part ∙ bare_part r ∙ ap (option_map part_row) (sym same) ∙ sym (bare_part s);
@@ -39,11 +43,12 @@ shown_alike f id r s same shows = record {
   vp = λ index. shows.vp index ∙ bare_vp index r ∙ ap (vp_row index) (sym same) ∙ sym (bare_vp index s);
   port = λ port. shows.port port ∙ bare_port port r ∙ ap (port_row port) (sym same) ∙ sym (bare_port port s);
   conn = λ conn. shows.conn conn ∙ bare_conn conn r ∙ ap (conn_row conn) (sym same) ∙ sym (bare_conn conn s);
+  mail = λ index sint. shows.mail index sint ∙ ap (rows_of (here id index sint)) (bare_mail index sint r ∙ ap (mail_there index sint) (sym same) ∙ sym (bare_mail index sint s));
 }
 
 -- rows that are the same but for room are tied to the same flat states
 pub kept_tied : (old new : Rows PartitionState) → IsSameButRoom old new → (f : Flat) → IsTied old f → IsTied new f
-kept_tied old new same f flat = record { rows = λ id. shown_alike f id (get old id) (get new id) (same id) (flat.rows id); mail = flat.mail }
+kept_tied old new same f flat = record { rows = λ id. shown_alike f id (get old id) (get new id) (same id) (flat.rows id) }
 
 get-roomless : (rows : Rows PartitionState) (id : ℕ) → get (roomless rows) id ≡ option_map bare (get rows id)
 get-roomless rows id = get-mapped bare rows id

@@ -4,7 +4,7 @@ use Rattle.std.specs.List.{zip, position_from}
 use lib.ListN.{get_or}
 use Rattle.std.specs.Ordering.{nat_cmp}
 use Rattle.std.specs.FinMap.{FinMap, from_entries, get}
-use Rattle.hv_defs.specs.Registers.{after_write, has_msr, kept, row_of}
+use Rattle.hv_defs.specs.Registers.{has_msr, kept, row_of}
 use Rattle.hv_defs.specs.declared.registers.RegFault.{RegFault}
 use Rattle.hv_defs.specs.declared.registers.RegFault.TheVariants.{Unknown}
 use Rattle.hv_defs.specs.declared.registers.RegisterRow.{RegisterRow}
@@ -33,10 +33,6 @@ read_of_msr registers (Some name) = read_of registers name
 abbrev pub kept_msr : Option ℕ → ℕ → Result ℕ RegFault
 kept_msr None value = Err Unknown
 kept_msr (Some name) value = kept (row_of name) value
-
-abbrev pub after_write_msr : FinMap nat_cmp ℕ → Option ℕ → ℕ → FinMap nat_cmp ℕ
-after_write_msr registers None value = registers
-after_write_msr registers (Some name) value = after_write registers name (kept (row_of name) value)
 
 -- the place of a register in the table
 unfoldable pub place_of : ℕ → Option ℕ

@@ -1,42 +1,65 @@
-// The virtual processor.
-ghost use Rattle.std.specs.Prelude.{◌≡◌, ◌&&◌, IfOk};
-ghost use Rattle.hv_defs.specs.Registers.{after_write, is_on, kept, name_of_msr, row_of};
-ghost use Rattle.hv_defs.specs.declared.registers.TheConstants.{SCONTROL, SIEFP, SIMP};
-ghost use Rattle.hv_vp.specs.Registers.{after_write_msr, answer, kept_msr, read_of, read_of_msr};
-ghost use Rattle.hv_vp.specs.Vp.{new_vp};
+// The virtual processor, and its registers.
+ghost use Rattle.std.specs.Prelude.{◌≡◌, IfOk};
+ghost use Rattle.hv_defs.specs.Registers.{is_on, kept, name_of_msr, row_of, takes_flags, takes_messages};
+ghost use Rattle.hv_vp.specs.Registers.{answer, kept_msr, read_of, read_of_msr};
+ghost use Rattle.hv_vp.specs.Vp.{new_vp, written, written_msr};
 
 use crate::registers::Registers;
 use crate::table::name_of_msr;
-use hv_defs::{RegFault, SCONTROL, SIEFP, SIMP};
+use hv_defs::{EOM, RegFault, SCONTROL, SIEFP, SIMP};
+use hv_mail::{Flags, Mailbox, Pending};
 use std::alloc::{AllocError, Allocator};
 use std::marker::Model;
 
-/// A virtual processor.
+/// A virtual processor: its registers, the messages and event flags at its 16 SINTs, and the interrupt vectors that wait for it
+/// (TLFS 4.0, "Virtual Processor Management" and "Synthetic Interrupt Controller").
+///
+/// It takes 4 KB of its allocator for the event flags when it is made, and memory for messages when room for one is reserved.
 #[derive(Drop)]
 pub struct Vp<A: Allocator> {
-    // Messages, which are yet to come, take their memory from it.
-    alloc: A,
-    registers: Registers,
+    pub(crate) registers: Registers,
+    pub(crate) mailbox: Mailbox<A>,
+    // Their 4 KB stand apart, so that a processor is cheap to move.
+    pub(crate) flags: Box<Flags, A>,
+    pub(crate) pending: Pending,
+    // Whether room for a message is reserved, and then the mailbox has it.
+    pub(crate) room: bool,
 }
 
 impl<A: Allocator> Model for Vp<A> {
+    ghost use Rattle.std.specs.Prelude.{◌≡◌, true};
     ghost use Rattle.hv_vp.specs.Vp.{VpState, vp_code};
 
     ghost Value = { VpState };
 
     ghost coded = { vp_code };
 
-    ghost view = { λ v. record { registers = v.registers } };
+    ghost view = { λ v. record {
+      registers = v.registers;
+      mail = v.mailbox.mail;
+      flags = v.flags.value;
+      pending = v.pending;
+      room = v.room;
+    } };
+
+    ghost invariant = { λ v. v.room ≡ true → v.mailbox.room ≡ true };
 }
 
 impl<A: Allocator> Vp<A> {
-    /// A processor with this index that was just made, or want of memory, of which there is none as long as it has registers
-    /// alone.
+    /// A processor with this index that was just made, or want of memory for its event flags.
     pub fn new(alloc: A, index: u32) -> Result<Vp<A>, AllocError>
+    where
+        A: Clone,
         ensures { IfOk result (λ vp. vp ≡ new_vp index) }
     {
-        let registers = Registers::new(index);
-        Ok(Vp { alloc, registers })
+        let flags = Box::new(alloc.clone()?, Flags::new())?;
+        Ok(Vp {
+            registers: Registers::new(index),
+            mailbox: Mailbox::new(alloc),
+            flags,
+            pending: Pending::new(),
+            room: false,
+        })
     }
 
     /// The value of the register with this name, HV_REGISTER_NAME.
@@ -47,11 +70,18 @@ impl<A: Allocator> Vp<A> {
     }
 
     /// Writes the register with this name. A fault changes nothing.
+    ///
+    /// A write of EOM ends a message: where the processor takes messages, each SINT from 0 to 15 that shows none shows the oldest
+    /// that waits there, and raises its vector if one became shown (TLFS 4.0, "Synthetic Interrupt Controller").
     pub fn write_reg(&mut self, name: u32, value: u64) -> Result<(), RegFault>
         ensures answer { result ≡ answer (kept (row_of name) value) }
-        ensures registers { self.new ≡ record self.old { registers = after_write self.old.registers name (kept (row_of name) value) } }
+        ensures state { self.new ≡ written name value self.old }
     {
-        self.registers.write(name, value)
+        self.registers.write(name, value)?;
+        if name == EOM {
+            self.end_message();
+        }
+        Ok(())
     }
 
     /// The value of a model-specific register.
@@ -64,10 +94,10 @@ impl<A: Allocator> Vp<A> {
         }
     }
 
-    /// Writes a model-specific register. A fault changes nothing.
+    /// Writes a model-specific register, as by its name. A fault changes nothing.
     pub fn write_msr(&mut self, msr: u32, value: u64) -> Result<(), RegFault>
         ensures answer { result ≡ answer (kept_msr (name_of_msr msr) value) }
-        ensures registers { self.new ≡ record self.old { registers = after_write_msr self.old.registers (name_of_msr msr) value } }
+        ensures state { self.new ≡ written_msr (name_of_msr msr) value self.old }
     {
         match name_of_msr(msr) {
             Some(name) => self.write_reg(name, value),
@@ -77,14 +107,14 @@ impl<A: Allocator> Vp<A> {
 
     /// Whether it takes messages: its synthetic interrupt controller and its message page are on.
     pub fn ready_for_messages(&self) -> bool
-        ensures { result ≡ is_on self.now.registers SCONTROL && is_on self.now.registers SIMP }
+        ensures { result ≡ takes_messages self.now.registers }
     {
         self.is_on(SCONTROL) && self.is_on(SIMP)
     }
 
     /// Whether it takes event flags: its synthetic interrupt controller and its page of event flags are on.
     pub fn ready_for_flags(&self) -> bool
-        ensures { result ≡ is_on self.now.registers SCONTROL && is_on self.now.registers SIEFP }
+        ensures { result ≡ takes_flags self.now.registers }
     {
         self.is_on(SCONTROL) && self.is_on(SIEFP)
     }

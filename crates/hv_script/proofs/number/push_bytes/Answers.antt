@@ -5,7 +5,7 @@ use Rattle.hv_script.proofs.NumberLemmas.{all_digits_append, all_digits_back, al
 use Rattle.hv_script.proofs.number.push_bytes.Goals as goal
 
 pub returns-in_err-byte-clause-err : goal.returns-in_err-byte-clause-err
-returns-in_err-byte-clause-err c =
+returns-in_err-byte-clause-err g c =
     let pair = c.in-Some.pair.now in
     let back = chunks_exact_rest c.next.new.self in
     let parts : chunks_exact_rest c.loop-pair.pair-iterator ≡ pair ++ back = search rules in
@@ -17,7 +17,7 @@ returns-in_err-byte-clause-err c =
     search (rules, fails)
 
 pub overflow_cast-byte : goal.overflow_cast-byte
-overflow_cast-byte c =
+overflow_cast-byte g c =
     let pair = c.in-Some.pair.now in
     let two : length pair ≡ 2 = search rules in
     let some : c.digits.result ≡ Some c.in_ok-byte.byte = search rules in
@@ -26,7 +26,7 @@ overflow_cast-byte c =
     omega (arith, fits, read.1)
 
 pub loop-pair-preserved : goal.loop-pair-preserved
-loop-pair-preserved c =
+loop-pair-preserved g c =
     let pair = c.in-Some.pair.now in
     let back = chunks_exact_rest c.next.new.self in
     let parts : chunks_exact_rest c.loop-pair.pair-iterator ≡ pair ++ back = search rules in

@@ -5,9 +5,9 @@ use Rattle.hv_script.specs.Number.{bytes_of}
 use Rattle.hv_script.proofs.number.push_bytes.Given as goal
 
 abbrev pub invariant-loop-pair : goal.invariant-loop-pair
-invariant-loop-pair l = record {
-  can : (goal.iterator-loop-pair).can_next l.pair-iterator;
-  finite : (goal.iterator-loop-pair).is_finite l.pair-iterator;
+invariant-loop-pair g l = record {
+  can : (goal.iterator-loop-pair g).can_next l.pair-iterator;
+  finite : (goal.iterator-loop-pair g).is_finite l.pair-iterator;
   size : chunks_exact_size l.pair-iterator ≡ 2;
   even : length (chunks_exact_rest l.pair-iterator) % 2 ≡ 0;
   bytes : l.bytes.items ++ bytes_of (chunks_exact_rest l.pair-iterator) ≡ l.fn.bytes.items ++ bytes_of l.word;

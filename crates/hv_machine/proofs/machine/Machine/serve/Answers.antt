@@ -18,7 +18,7 @@ invariant_of-self g c =
     let access = c.requires.access l.flat (rw (← c.self.view_is) l.stands) in
     let done = c.in-Ok.ensures l.flat (tied_tree c.self.inside.tree c.self.inside.pages c.self.inside.next c.self.inside.served l.flat l.stands) l.stands.next l.stands.served in
     rw c.next_after-self-inside.ensures
-    (done_lasting c.self.inside.tree c.dispatch.new.tree c.self.inside.pages c.self.inside.next c.self.inside.served c.args.by.part c.args.call.now l access done.met done.rows)
+    (done_lasting c.self.inside.tree c.dispatch.new.tree c.self.inside.pages c.self.inside.next c.self.inside.served c.args.by.part c.args.call.now l access c.requires.bounded done.met done.rows)
 
 pub invariant_of-self-in-Err : goal.invariant_of-self-in-Err
 invariant_of-self-in-Err g c =

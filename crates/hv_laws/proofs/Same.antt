@@ -1,0 +1,317 @@
+-- States that differ in nothing but the order of messages across places do the same.
+use Rattle.std.proofs.Common.{◌≡◌, ℕ, zero, suc, ◌+◌, ◌==◌, ◌&&◌, not, nat_le, nat_lt, Bool, true, false, cond, List, [], ◌∷◌, ◌++◌, Option, Some, None, find, refl, sym, ap, subst, ◌∙◌}
+use Rattle.std.proofs.lemmas.List.Elements.{filter-append}
+use Rattle.std.specs.FinMap.{get}
+use Rattle.std.specs.List.{filter, list_any}
+use Rattle.hv_calls.specs.declared.call.Call.{Call}
+use Rattle.hv_calls.specs.declared.call.Call.TheVariants.{CreatePartition, FinalizePartition, SetPartitionProperty, DeleteVp, GetVpRegisters, SetVpRegisters, PostMessage, SignalEvent}
+use Rattle.hv_defs.specs.Registers.{name_of_msr, row_of, takes_messages}
+use Rattle.hv_defs.specs.declared.registers.RegisterRow.{RegisterRow}
+use Rattle.hv_defs.specs.declared.registers.TheConstants.{EOM}
+use Rattle.hv_defs.specs.declared.sizes.TheConstants.{MAX_DEPTH, MAX_MESSAGES, SINTS}
+use Rattle.hv_policy.proofs.SameMail.{all_same, kept_same, left_same, next_same, slot_same}
+use Rattle.hv_policy.specs.Aim.{Aim, aim_by, aim_of, is_same_birth, on_vp, test_aim, test_vp}
+use Rattle.hv_policy.specs.Answer.{answer, output, output_of, reply_with}
+use Rattle.hv_policy.specs.Asked.{asked}
+use Rattle.hv_policy.specs.Call.{action_subject, called, on_call, on_msr, target_of}
+use Rattle.hv_policy.specs.Count.{depth_within, one_more, parent_of}
+use Rattle.hv_policy.specs.Effect.{action_effect, call_effect, counted, effect, end_if, post, post_to, row_raised, served_effect, show, show_each, signal_to, with_vp, write_msr, write_register, written}
+use Rattle.hv_policy.specs.Flat.{ConnRow, Flat, MailRow}
+use Rattle.hv_policy.specs.Mail.{Place, has_next, is_shown, is_some_row, place_at, place_of, stands_at}
+use Rattle.hv_policy.specs.Met.{call_met, has_message_room, is_conn_good, is_kin, is_other_there, is_port_good, is_ready_for, is_right, is_subject_good, is_vp_good, may_access, may_access_msr, may_give, met, on_part}
+use Rattle.hv_policy.specs.Needs.{needs_of}
+use Rattle.hv_policy.specs.Property.{property_of}
+use Rattle.hv_policy.specs.Same.{IsSame, IsSameMail}
+use Rattle.hv_policy.specs.Step.{run_from, step, step_by, unmet}
+use Rattle.hv_policy.specs.declared.event.Action.{Action}
+use Rattle.hv_policy.specs.declared.event.Action.TheVariants.{Hypercall, WriteMsr, ReadSlot, ClearSlot}
+use Rattle.hv_policy.specs.declared.event.Caller.{Caller}
+use Rattle.hv_policy.specs.declared.event.Event.{Event}
+use Rattle.hv_policy.specs.declared.need.Kin.{Kin}
+use Rattle.hv_policy.specs.declared.need.Kin.TheVariants as kin
+use Rattle.hv_policy.specs.declared.property.Property.{Property}
+use Rattle.hv_policy.specs.declared.property.Property.TheVariants.{PrivilegeFlags}
+use Rattle.hv_policy.specs.declared.reply.Reply.TheVariants.{Served}
+use Rattle.hv_policy.specs.declared.rule.Rule.{Rule}
+use Rattle.hv_policy.specs.declared.rule.Rule.TheVariants.{CallerExists, CallerActive, CallerVpExists, CallCode, InputValue, Alignment, Parameters, Kinship, Depth, OtherExists, Connection, Port, Right, VpExists, Subject, VpReady, PortRoom, MsrKnown, MsrPrivilege, MsrWrite}
+use Rattle.hv_laws.specs.Lawful.{IsLawful, is_placed}
+
+-- a state with its messages in another order
+alike : (f : Flat) (mail others : List MailRow) → IsSameMail mail others → IsSame (record f { mail = mail }) (record f { mail = others })
+alike f mail others same = record {
+  part = refl;
+  page = refl;
+  vp = refl;
+  port = refl;
+  conn = refl;
+  mail = same;
+  next = refl;
+  served = refl;
+}
+
+-- Show at a place, and at each SINT of a processor
+shown_same : (place : Place) (f g : Flat) → IsSame f g → IsSame (show place f) (show place g)
+shown_same place f g s = record {
+  part = s.part;
+  page = s.page;
+  vp = λ i. with_vp (s.vp i) (place.part, place.vp) (row_raised (has i) place.sint);
+  port = s.port;
+  conn = s.conn;
+  mail = next_same f.mail g.mail s.mail place;
+  next = s.next;
+  served = s.served;
+}
+  where
+    has : has_next place f.mail ≡ has_next place g.mail
+    has = ap (λ rows. not (list_any is_shown rows) && is_some_row rows) (s.mail place)
+
+each_same : (part vp n : ℕ) (f g : Flat) → IsSame f g → IsSame (show_each part vp n f) (show_each part vp n g)
+unfolding show_each
+each_same part vp zero f g s = s
+each_same part vp (suc sint) f g s = shown_same (record { part = part; vp = vp; sint = sint }) (show_each part vp sint f) (show_each part vp sint g) (each_same part vp sint f g s)
+
+-- a message ends, by a write of EOM
+ended_same : (is : Bool) (part vp : ℕ) (f g : Flat) → IsSame f g → IsSame (end_if is part vp f) (end_if is part vp g)
+ended_same false part vp f g s = s
+ended_same true part vp f g s =
+    subst (λ b. IsSame (end_if true part vp f) (cond b (show_each part vp SINTS g) g)) (ap (λ vps. test_vp (λ row. takes_messages row.registers) (get vps (part, vp))) s.vp)
+    (by (on_vp f (part, vp) (λ row. takes_messages row.registers)))
+  where
+    by : (b : Bool) → IsSame (cond b (show_each part vp SINTS f) f) (cond b (show_each part vp SINTS g) g)
+    by true = each_same part vp SINTS f g s
+    by false = s
+
+-- one more message
+last_same : (row : MailRow) (mail others : List MailRow) → IsSameMail mail others → IsSameMail (mail ++ row ∷ []) (others ++ row ∷ [])
+last_same row mail others same place =
+    filter-append (stands_at place) mail (row ∷ []) ∙ ap (λ rows. rows ++ filter (stands_at place) (row ∷ [])) (same place)
+    ∙ sym (filter-append (stands_at place) others (row ∷ []))
+
+counted_same : (f g : Flat) → IsSame f g → IsSame (counted f) (counted g)
+counted_same f g s = record {
+  part = s.part;
+  page = s.page;
+  vp = s.vp;
+  port = s.port;
+  conn = s.conn;
+  mail = s.mail;
+  next = s.next;
+  served = ap (λ n. n + 1) s.served;
+}
+
+module _ (f : Flat) (mail : List MailRow) (same : IsSameMail f.mail mail) where
+  abbrev g : Flat
+  g = record f { mail = mail }
+
+  -- no rule but P23 looks at the messages, and it counts them
+  depth_same : (steps id : ℕ) → depth_within steps f id ≡ depth_within steps g id
+  depth_same zero id = refl
+  depth_same (suc steps) id = ap (λ depth_of. one_more depth_of (parent_of f id)) (λ i id. depth_same steps id i)
+
+  kin_same : (k : Kin) (caller id : ℕ) → is_kin k f caller id ≡ is_kin k g caller id
+  kin_same kin.Caller caller id = refl
+  kin_same k caller id = refl
+
+  give_same : (property : Option Property) (value caller : ℕ) → may_give property value f caller ≡ may_give property value g caller
+  give_same None value caller = refl
+  give_same (Some PrivilegeFlags) value caller = refl
+  give_same (Some property) value caller = refl
+
+  access_same : (row : Option RegisterRow) (id : ℕ) → may_access f id row ≡ may_access g id row
+  access_same None id = refl
+  access_same (Some row) id = refl
+
+  access_msr_same : (name : Option ℕ) (id : ℕ) → may_access_msr f id name ≡ may_access_msr g id name
+  access_msr_same None id = refl
+  access_msr_same (Some name) id = access_same (row_of name) id
+
+  aim_same : (conn : Option ConnRow) → aim_by f conn ≡ aim_by g conn
+  aim_same None = refl
+  aim_same (Some conn) = refl
+
+  aims : (key : ℕ × ℕ) → aim_of f key ≡ aim_of g key
+  aims key = aim_same (get f.conn key)
+
+  other_same : (call : Call) (caller target : ℕ) → is_other_there call f caller target ≡ is_other_there call g caller target
+  other_same (CreatePartition flags) caller target = refl
+  other_same call caller target = refl
+
+  conn_same : (call : Call) (target : ℕ) → is_conn_good call f target ≡ is_conn_good call g target
+  conn_same (CreatePartition flags) target = refl
+  conn_same call target = refl
+
+  port_same : (call : Call) (caller target : ℕ) → is_port_good call f caller target ≡ is_port_good call g caller target
+  port_same (PostMessage connection message_type payload) caller target = ap (test_aim is_same_birth) (aims (target, connection))
+  port_same (SignalEvent connection flag) caller target = ap (test_aim is_same_birth) (aims (target, connection))
+  port_same call caller target = refl
+
+  right_same : (call : Call) (caller : ℕ) → is_right call f caller ≡ is_right call g caller
+  right_same (SetPartitionProperty partition code value) caller = give_same (property_of code) value caller
+  right_same (GetVpRegisters partition vp name) caller = access_same (row_of name) caller
+  right_same (SetVpRegisters partition vp name value) caller = access_same (row_of name) caller
+  right_same call caller = refl
+
+  vp_same : (call : Call) (target : ℕ) → is_vp_good call f target ≡ is_vp_good call g target
+  vp_same (PostMessage connection message_type payload) target = ap (test_aim _) (aims (target, connection))
+  vp_same (SignalEvent connection flag) target = ap (test_aim _) (aims (target, connection))
+  vp_same call target = refl
+
+  subject_same : (call : Call) (caller : ℕ) → is_subject_good call f caller ≡ is_subject_good call g caller
+  subject_same (PostMessage connection message_type payload) caller = ap (test_aim _) (aims (caller, connection))
+  subject_same (SignalEvent connection flag) caller = ap (test_aim _) (aims (caller, connection))
+  subject_same call caller = refl
+
+  ready_same : (call : Call) (caller : ℕ) → is_ready_for call f caller ≡ is_ready_for call g caller
+  ready_same (PostMessage connection message_type payload) caller = ap (test_aim _) (aims (caller, connection))
+  ready_same (SignalEvent connection flag) caller = ap (test_aim _) (aims (caller, connection))
+  ready_same call caller = refl
+
+  room_same : (call : Call) (caller : ℕ) → has_message_room call f caller ≡ has_message_room call g caller
+  room_same (PostMessage connection message_type payload) caller = λ i. test_aim (λ aim. nat_lt (kept_same aim.conn.part aim.conn.port aim.conn.born f.mail mail same i) MAX_MESSAGES) (aims (caller, connection) i)
+  room_same call caller = refl
+
+  call_same : (rule : Rule) (caller : ℕ) (call : Call) → call_met rule f caller call ≡ call_met rule g caller call
+  call_same Kinship caller call = kin_same (needs_of call).kin caller (target_of call caller)
+  call_same Depth caller call = ap (λ depth. on_part f caller (λ row. nat_le (depth + 1) MAX_DEPTH)) (depth_same caller caller)
+  call_same OtherExists caller call = other_same call caller (target_of call caller)
+  call_same Connection caller call = conn_same call (target_of call caller)
+  call_same Port caller call = port_same call caller (target_of call caller)
+  call_same Right caller call = right_same call caller
+  call_same VpExists caller call = vp_same call (target_of call caller)
+  call_same Subject caller call = subject_same call caller
+  call_same VpReady caller call = ready_same call caller
+  call_same PortRoom caller call = room_same call caller
+  call_same rule caller call = refl
+
+  module _ {A : Type 0} where
+    met_same : (rule : Rule) (e : Event A) → met rule f e ≡ met rule g e
+    met_same CallerExists e = refl
+    met_same CallerActive e = refl
+    met_same CallerVpExists e = refl
+    met_same CallCode e = refl
+    met_same InputValue e = refl
+    met_same Alignment e = refl
+    met_same Parameters e = refl
+    met_same Subject e = ap (λ test. action_subject test e.what) (λ i call. call_same Subject e.by.part call i)
+    met_same MsrKnown e = refl
+    met_same MsrPrivilege e = ap (λ test. on_msr test e) (λ i msr. access_msr_same (name_of_msr msr) e.by.part i)
+    met_same MsrWrite e = refl
+    met_same rule e = ap (λ test. on_call test e) (λ i call. call_same rule e.by.part call i)
+
+    unmet_same : (e : Event A) → unmet f e ≡ unmet g e
+    unmet_same e = ap {A = Rule → Bool} (λ test. find (λ rule. not (test rule)) (asked e)) (λ i rule. met_same rule e i)
+
+  -- no reply but that of a slot shows them, and it shows its own place
+  output_same : (call : Call) (caller target : ℕ) → output call f caller target ≡ output call g caller target
+  output_same (CreatePartition flags) caller target = refl
+  output_same call caller target = refl
+
+  called_same : (caller : ℕ) (call : Option Call) → output_of f caller call ≡ output_of g caller call
+  called_same caller None = refl
+  called_same caller (Some call) = output_same call caller (target_of call caller)
+
+  module _ {A : Type 0} (by : Caller) where
+    answer_same : (what : Action A) → answer f (record { by = by; what = what }) ≡ answer g (record { by = by; what = what })
+    answer_same (Hypercall frame) = ap (reply_with frame) (called_same by.part (called frame))
+    answer_same (ReadSlot sint) = ap Served (slot_same f.mail mail same (place_at by sint))
+    answer_same what = refl
+
+  -- and each change leaves them the same place by place
+  written_same : (part vp name value : ℕ) → IsSame (write_register part vp name value f) (write_register part vp name value g)
+  written_same part vp name value = ended_same (name == EOM) part vp _ _ (alike (record f { vp = with_vp f.vp (part, vp) (written name value) }) f.mail mail same)
+
+  msr_same : (part vp : ℕ) (name : Option ℕ) (value : ℕ) → IsSame (write_msr part vp name value f) (write_msr part vp name value g)
+  msr_same part vp None value = alike f f.mail mail same
+  msr_same part vp (Some name) value = written_same part vp name value
+
+  posted_alike : (row : MailRow) → IsSame (post row f) (post row g)
+  posted_alike row = shown_same (place_of row) _ _ (alike f (f.mail ++ row ∷ []) (mail ++ row ∷ []) (last_same row f.mail mail same))
+
+  through_same : (aim : Option Aim) (type : ℕ) (payload : List ℕ) → IsSame (post_to aim type payload f) (post_to aim type payload g)
+  through_same None type payload = alike f f.mail mail same
+  through_same (Some aim) type payload = posted_alike _
+
+  signal_same : (aim : Option Aim) (flag : ℕ) → IsSame (signal_to aim flag f) (signal_to aim flag g)
+  signal_same None flag = alike f f.mail mail same
+  signal_same (Some aim) flag = alike (signal_to (Some aim) flag f) f.mail mail same
+
+  call_effect_same : (call : Call) (caller target : ℕ) → IsSame (call_effect call f caller target) (call_effect call g caller target)
+  call_effect_same (FinalizePartition partition) caller target =
+      alike (call_effect (FinalizePartition partition) f caller target) _ _ (left_same f.mail mail same (λ row. not (row.part == target)))
+  call_effect_same (DeleteVp partition vp) caller target =
+      alike (call_effect (DeleteVp partition vp) f caller target) _ _ (left_same f.mail mail same (λ row. not (row.part == target && row.vp == vp)))
+  call_effect_same (SetVpRegisters partition vp name value) caller target = written_same target vp name value
+  call_effect_same (PostMessage connection message_type payload) caller target =
+      subst (λ aim. IsSame (post_to (aim_of f (target, connection)) message_type payload f) (post_to aim message_type payload g)) (aims (target, connection))
+      (through_same (aim_of f (target, connection)) message_type payload)
+  call_effect_same (SignalEvent connection flag) caller target =
+      subst (λ aim. IsSame (signal_to (aim_of f (target, connection)) flag f) (signal_to aim flag g)) (aims (target, connection))
+      (signal_same (aim_of f (target, connection)) flag)
+  call_effect_same call caller target = alike (call_effect call f caller target) f.mail mail same
+
+  served_same : (caller : ℕ) (call : Option Call) → IsSame (served_effect f caller call) (served_effect g caller call)
+  served_same caller None = alike f f.mail mail same
+  served_same caller (Some call) = call_effect_same call caller (target_of call caller)
+
+  module _ {A : Type 0} where
+    action_same : (by : Caller) (what : Action A) → IsSame (action_effect f by what) (action_effect g by what)
+    action_same by (Hypercall frame) = served_same by.part (called frame)
+    action_same by (WriteMsr msr value) = msr_same by.part by.vp (name_of_msr msr) value
+    action_same by (ClearSlot sint) = alike f _ _ (left_same f.mail mail same (λ row. not (stands_at (place_at by sint) row && row.shown)))
+    action_same by what = alike (action_effect f by what) f.mail mail same
+
+    effect_same : (e : Event A) → IsSame (effect f e) (effect g e)
+    effect_same e = counted_same _ _ (action_same e.by e.what)
+
+    abbrev AreAlike : Event A → Option Rule → Option Rule → Type 0
+    AreAlike e rule other = ((step_by f e rule).1 ≡ (step_by g e other).1) × IsSame (step_by f e rule).0 (step_by g e other).0
+
+    step_alike : (e : Event A) → AreAlike e (unmet f e) (unmet g e)
+    step_alike e = subst (AreAlike e (unmet f e)) (unmet_same e) (by_rule (unmet f e))
+      where
+        by_rule : (rule : Option Rule) → AreAlike e rule rule
+        by_rule None = (answer_same e.by e.what, effect_same e)
+        by_rule (Some rule) = (refl, alike f f.mail mail same)
+
+  lawful_alike : (pages : ℕ) → IsLawful pages f → IsLawful pages g
+  lawful_alike pages l = record {
+    below = l.below;
+    above = l.above;
+    within = l.within;
+    idle = l.idle;
+    masks = l.masks;
+    paged = l.paged;
+    owned = l.owned;
+    few = l.few;
+    ports = l.ports;
+    placed = all_same (is_placed f) f.mail mail same l.placed;
+  }
+
+-- a state is the other one with its own messages
+other_order : (f g : Flat) → IsSame f g → record f { mail = g.mail } ≡ g
+other_order f g s = λ i. record {
+  part = s.part i;
+  page = s.page i;
+  vp = s.vp i;
+  port = s.port i;
+  conn = s.conn i;
+  mail = g.mail;
+  next = s.next i;
+  served = s.served i;
+}
+
+pub lawful_same : (pages : ℕ) (f g : Flat) → IsSame f g → IsLawful pages f → IsLawful pages g
+lawful_same pages f g s l = subst (IsLawful pages) (other_order f g s) (lawful_alike f g.mail s.mail pages l)
+
+module _ {A : Type 0} where
+  -- one event
+  pub step_same : (f g : Flat) (e : Event A) → IsSame f g → ((step f e).1 ≡ (step g e).1) × IsSame (step f e).0 (step g e).0
+  step_same f g e s = subst (λ g. ((step f e).1 ≡ (step g e).1) × IsSame (step f e).0 (step g e).0) (other_order f g s) (step_alike f g.mail s.mail e)
+
+  -- any events
+  pub run_same : (f g : Flat) (events : List (Event A)) → IsSame f g → ((run_from f events).1 ≡ (run_from g events).1) × IsSame (run_from f events).0 (run_from g events).0
+  run_same f g [] s = (refl, s)
+  run_same f g (e ∷ events) s =
+      let (first, left) = step_same f g e s in
+      let (rest, last) = run_same (step f e).0 (step g e).0 events left in
+      ((λ i. first i ∷ rest i), last)

@@ -1,0 +1,6 @@
+pub mod Flags
+pub mod Mail
+pub mod Message
+pub mod Queue
+pub mod Slot
+pub mod Words

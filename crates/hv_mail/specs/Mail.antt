@@ -1,0 +1,120 @@
+-- What contracts see of a mailbox.
+use Rattle.std.specs.Prelude.{ℕ, zero, suc, ◌+◌, ◌^◌, ◌==◌, ◌&&◌, Bool, true, false, if◌then◌else◌, List, [], ◌∷◌, ◌++◌, Option, None, Some, count_by, refl}
+use Rattle.std.specs.Coded.{Coded, code_by, coded×, coded_ℕ, coded_bool, coded_list, coded_option}
+use Rattle.std.specs.List.{sum_by}
+use Rattle.std.specs.Ordering.{nat_cmp}
+use Rattle.std.specs.FinMap as map
+use Rattle.hv_mail.specs.Message.{message_code}
+use Rattle.hv_mail.specs.declared.message.Message.{Message}
+
+-- what stands at one SINT: the message that its slot shows, if it shows one, and those that wait, the oldest first
+pub record SintMail : Type 0 where
+  pub slot : Option Message
+  pub waiting : List Message
+
+-- nothing
+abbrev pub no_mail : SintMail
+no_mail = record { slot = None; waiting = [] }
+
+-- Show: where none is shown, the oldest that waits is
+abbrev pub show_next : Option Message → List Message → SintMail
+show_next (Some message) waiting = record { slot = Some message; waiting = waiting }
+show_next None [] = no_mail
+show_next None (oldest ∷ waiting) = record { slot = Some oldest; waiting = waiting }
+
+-- Show at a SINT
+abbrev pub with_next : SintMail → SintMail
+with_next mail = show_next mail.slot mail.waiting
+
+-- whether Show makes one shown
+abbrev pub is_next : Option Message → List Message → Bool
+is_next (Some message) waiting = false
+is_next None [] = false
+is_next None (oldest ∷ waiting) = true
+
+-- and at a SINT
+abbrev pub has_next : SintMail → Bool
+has_next mail = is_next mail.slot mail.waiting
+
+-- a message more, behind all others
+abbrev pub with_last : SintMail → Message → SintMail
+with_last mail message = record mail { waiting = mail.waiting ++ message ∷ [] }
+
+-- and then Show
+abbrev pub posted : SintMail → Message → SintMail
+posted mail message = with_next (with_last mail message)
+
+-- the shown message goes
+abbrev pub cleared : SintMail → SintMail
+cleared mail = record mail { slot = None }
+
+-- whether a message came through this port of this birth
+abbrev pub is_of : ℕ → ℕ → Message → Bool
+is_of port born message = (message.port == port) && (message.born == born)
+
+-- how many did of the message that is shown, and of all at a SINT
+abbrev pub count_shown : ℕ → ℕ → Option Message → ℕ
+count_shown port born None = 0
+count_shown port born (Some message) = if is_of port born message then 1 else 0
+
+abbrev pub count_at : ℕ → ℕ → SintMail → ℕ
+count_at port born mail = count_shown port born mail.slot + count_by (is_of port born) mail.waiting
+
+-- the mail of a processor by SINT, with no row for a SINT where nothing stands
+abbrev pub Mail : Type 0
+Mail = map.FinMap nat_cmp SintMail
+
+-- what a row has, and nothing where there is none
+abbrev pub mail_or_none : Option SintMail → SintMail
+mail_or_none None = no_mail
+mail_or_none (Some mail) = mail
+
+-- what stands at a SINT
+abbrev pub at : Mail → ℕ → SintMail
+at mail sint = mail_or_none (map.get mail sint)
+
+-- the mail with this row, or without one where it has nothing
+abbrev pub with_row : Mail → ℕ → Option Message → List Message → Mail
+with_row mail sint None [] = map.remove mail sint
+with_row mail sint slot waiting = map.insert mail sint (record { slot = slot; waiting = waiting })
+
+-- the mail with this at a SINT
+abbrev pub with_at : Mail → ℕ → SintMail → Mail
+with_at mail sint there = with_row mail sint there.slot there.waiting
+
+-- Show at each of the first so many SINTs
+abbrev pub all_next : ℕ → Mail → Mail
+all_next zero mail = mail
+all_next (suc sint) mail = with_at (all_next sint mail) sint (with_next (at (all_next sint mail) sint))
+
+-- and which of them then got a shown message: bit n for SINT n
+abbrev pub next_mask : ℕ → Mail → ℕ
+next_mask zero mail = 0
+next_mask (suc sint) mail = next_mask sint mail + (if has_next (at (all_next sint mail) sint) then 2 ^ sint else 0)
+
+-- how many messages of a port and birth a processor has
+abbrev pub count_of : ℕ → ℕ → Mail → ℕ
+count_of port born mail = sum_by (λ e. count_at port born e.1) (map.entries mail)
+
+-- the mail, and whether each SINT can take one message more without memory
+pub record MailboxState : Type 0 where
+  pub mail : Mail
+  pub room : Bool
+
+-- no message, and no room
+abbrev pub no_messages : MailboxState
+no_messages = record { mail = map.empty; room = false }
+
+-- they are stored as the pairs of their fields, and mail as its map
+abbrev pub sint_mail_code : Coded SintMail
+sint_mail_code =
+    code_by (Option Message × List Message) (coded× (coded_option message_code) (coded_list message_code))
+    (λ m. (m.slot, m.waiting)) (λ t. record { slot = t.0; waiting = t.1 }) (λ _. refl)
+
+abbrev pub mail_code : Coded Mail
+mail_code = map.code coded_ℕ sint_mail_code
+
+abbrev pub mailbox_code : Coded MailboxState
+mailbox_code =
+    code_by (Mail × Bool) (coded× mail_code coded_bool)
+    (λ m. (m.mail, m.room)) (λ t. record { mail = t.0; room = t.1 }) (λ _. refl)

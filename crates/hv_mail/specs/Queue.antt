@@ -1,0 +1,29 @@
+-- What contracts see of one SINT's queue, and of all sixteen.
+use Rattle.std.specs.Prelude.{ℕ, suc, ◌==◌, ◌||◌, ◌&&◌, not, Bool, List, [], ◌∷◌, length, refl}
+use Rattle.std.specs.Coded.{Coded, code_by, coded×, coded_bool}
+use Rattle.std.specs.FinMap as map
+use Rattle.std.specs.List.{list_all}
+use Rattle.hv_defs.specs.declared.sizes.TheConstants.{SINTS}
+use Rattle.hv_mail.specs.Mail.{Mail, SintMail, sint_mail_code, with_at}
+
+-- what stands there, and whether one message more has its memory
+pub record QueueState : Type 0 where
+  pub mail : SintMail
+  pub room : Bool
+
+-- it is stored as the pair of its fields
+abbrev pub queue_code : Coded QueueState
+queue_code = code_by (SintMail × Bool) (coded× sint_mail_code coded_bool) (λ q. (q.mail, q.room)) (λ t. record { mail = t.0; room = t.1 }) (λ _. refl)
+
+-- the mail of queues whose first one is that of this SINT
+abbrev pub mail_from : ℕ → List QueueState → Mail
+mail_from sint [] = map.empty
+mail_from sint (queue ∷ queues) = with_at (mail_from (suc sint) queues) sint queue.mail
+
+-- whether there are queues, each with room
+abbrev pub is_roomy : List QueueState → Bool
+is_roomy queues = not (length queues == 0) && list_all (λ q. q.room) queues
+
+-- no queues yet, or one for each SINT
+abbrev pub is_whole : List QueueState → Bool
+is_whole queues = (length queues == 0) || (length queues == SINTS)

@@ -1,0 +1,19 @@
+-- What a message slot reads as.
+use Rattle.std.specs.Prelude.{ℕ, Bool, true, false, List, [], ◌∷◌, Option, None, Some}
+use Rattle.hv_defs.specs.Slot.{zeros, message_bytes}
+use Rattle.hv_mail.specs.Mail.{SintMail}
+use Rattle.hv_mail.specs.declared.message.Message.{Message}
+
+-- whether a list has an element
+abbrev pub is_some_of : {X : Type 0} → List X → Bool
+is_some_of [] = false
+is_some_of (x ∷ xs) = true
+
+-- the bytes of the message that is shown, and 256 zeros where none is
+abbrev pub bytes_of : Option Message → Bool → List ℕ
+bytes_of None pending = zeros 256
+bytes_of (Some m) pending = message_bytes m.kind m.port m.payload.items pending
+
+-- and of what stands at a SINT: another message is pending where one waits
+abbrev pub slot_bytes : SintMail → List ℕ
+slot_bytes mail = bytes_of mail.slot (is_some_of mail.waiting)

@@ -1,0 +1,197 @@
+// The messages of one processor: a queue for each SINT, made when room for the first message is.
+ghost use Rattle.std.specs.Prelude.{◌≡◌, ◌<◌, ◌≤◌, ◌^◌, true, IfOk, IsOk, OnOk, length};
+ghost use Rattle.std.specs.List.{list_all, sum_by};
+ghost use Rattle.std.specs.FinMap as map;
+ghost use Rattle.hv_defs.specs.declared.sizes.TheConstants.{SINTS};
+ghost use Rattle.hv_mail.specs.Mail.{no_messages, with_next, has_next, with_last, posted, cleared, count_at, count_of, next_mask, at, with_at, all_next};
+ghost use Rattle.hv_mail.specs.Queue.{mail_from};
+ghost use Rattle.hv_mail.specs.Slot.{slot_bytes};
+
+use crate::message::Message;
+use crate::sint_queue::SintQueue;
+use hv_defs::SINTS;
+use std::alloc::{AllocError, Allocator};
+use std::marker::Model;
+
+/// The messages at the 16 SINTs of a virtual processor: one shown at each, and others waiting, in memory of an allocator `A`.
+///
+/// No memory is taken before the first message. A mailbox that is dropped gives its memory back.
+#[derive(Drop)]
+pub struct Mailbox<A: Allocator> {
+    queues: Vec<SintQueue<A>, A>,
+}
+
+impl<A: Allocator> Model for Mailbox<A> {
+    ghost use Rattle.std.specs.Prelude.{true, ◌≡◌};
+    ghost use Rattle.hv_mail.specs.Mail.{MailboxState, mailbox_code};
+    ghost use Rattle.hv_mail.specs.Queue.{mail_from, is_roomy, is_whole};
+
+    ghost Value = { MailboxState };
+
+    ghost coded = { mailbox_code };
+
+    ghost view = { λ m. record { mail = mail_from 0 m.queues.items; room = is_roomy m.queues.items } };
+
+    ghost invariant = { λ m. is_whole m.queues.items ≡ true };
+}
+
+impl<A: Allocator> Mailbox<A> {
+    /// No message, and no memory for any.
+    pub fn new(alloc: A) -> Mailbox<A>
+        ensures { result ≡ no_messages }
+    {
+        Mailbox {
+            queues: Vec::new(alloc),
+        }
+    }
+
+    /// Whether there is room for one message more at each SINT.
+    pub fn has_room(&self) -> bool
+        ensures { result ≡ self.now.room }
+    {
+        !self.queues.is_empty() && are_roomy(&self.queues)
+    }
+
+    /// Makes room for one message more at each SINT. Room that is there already always suffices.
+    ///
+    /// `Err` where there is no memory for it, or where 2^59 messages wait at a SINT. No message is lost then either.
+    pub fn reserve_one(&mut self) -> Result<(), AllocError>
+    where
+        A: Clone,
+        ensures room { OnOk result (self.new.room ≡ true) }
+        ensures enough { self.old.room ≡ true → IsOk result }
+        ensures mail { self.new.mail ≡ self.old.mail }
+        ensures kept { self.old.room ≡ true → self.new.room ≡ true }
+    {
+        if self.has_room() {
+            return Ok(());
+        }
+        if self.queues.is_empty() {
+            self.queues = quiet_queues(self.queues.allocator().clone()?)?;
+        }
+        reserve_each(&mut self.queues)
+    }
+
+    /// Adds a message behind those that stand at a SINT below 16, and shows it where none does. It must find room.
+    /// True where a message became shown.
+    pub fn post(&mut self, sint: u8, message: Message) -> bool
+        requires sint { sint < SINTS }
+        requires room { self.old.room ≡ true }
+        ensures mail { self.new.mail ≡ with_at self.old.mail sint (posted (at self.old.mail sint) message) }
+        ensures shown { result ≡ has_next (with_last (at self.old.mail sint) message) }
+    {
+        let queue = &mut self.queues[usize::from(sint)];
+        queue.post(message)
+    }
+
+    /// The 256 bytes of the message slot of a SINT below 16, which are zeros where it shows no message: the type in 4 bytes,
+    /// the payload's size, a byte that is 1 where another message waits and 0 otherwise, two zeros, the port's id in 8, and
+    /// the payload with zeros after it. Numbers are little-endian.
+    pub fn slot(&self, sint: u8) -> [u8; 256]
+        requires { sint < SINTS }
+        ensures { result ≡ slot_bytes (at self.now.mail sint) }
+    {
+        let at = usize::from(sint);
+        if at < self.queues.len() {
+            self.queues[at].slot()
+        } else {
+            [0; 256]
+        }
+    }
+
+    /// Removes the message that a SINT below 16 shows, if it shows one. None is shown in its place.
+    pub fn clear(&mut self, sint: u8)
+        requires { sint < SINTS }
+        ensures mail { self.new.mail ≡ with_at self.old.mail sint (cleared (at self.old.mail sint)) }
+        ensures kept { self.old.room ≡ true → self.new.room ≡ true }
+    {
+        let at = usize::from(sint);
+        if at < self.queues.len() {
+            let queue = &mut self.queues[at];
+            queue.clear();
+        }
+    }
+
+    /// Shows the oldest message that waits at a SINT below 16, where one waits and none is shown. True where one became
+    /// shown. It moves no other message.
+    pub fn advance(&mut self, sint: u8) -> bool
+        requires { sint < SINTS }
+        ensures mail { self.new.mail ≡ with_at self.old.mail sint (with_next (at self.old.mail sint)) }
+        ensures shown { result ≡ has_next (at self.old.mail sint) }
+        ensures kept { self.old.room ≡ true → self.new.room ≡ true }
+    {
+        let at = usize::from(sint);
+        if at < self.queues.len() {
+            let queue = &mut self.queues[at];
+            queue.advance()
+        } else {
+            false
+        }
+    }
+
+    /// The same at each SINT. Bit n of the answer is 1 where a message became shown at SINT n.
+    pub fn advance_all(&mut self) -> u16
+        ensures mail { self.new.mail ≡ all_next SINTS self.old.mail }
+        ensures shown { result ≡ next_mask SINTS self.old.mail }
+    {
+        let mut shown = 0u16;
+        for sint in 0..SINTS as u8 {
+            if self.advance(sint) {
+                shown += 1 << sint;
+            }
+        }
+        shown
+    }
+
+    /// How many messages there are, shown or waiting, that came through this port of this birth. The time is proportional to
+    /// the number of all messages.
+    pub fn of_port(&self, port: u32, born: u64) -> usize
+        ensures { result ≡ count_of port born self.now.mail }
+    {
+        count_each(&self.queues, port, born)
+    }
+}
+
+// How many messages of a port and birth there are in 16 queues at most.
+fn count_each<A: Allocator>(queues: &[SintQueue<A>], port: u32, born: u64) -> usize
+    requires { length queues.now ≤ SINTS }
+    ensures { result ≡ sum_by (λ q. count_at port born q.mail) queues.now }
+{
+    let mut count = 0;
+    for queue in queues {
+        count += queue.count_of(port, born);
+    }
+    count
+}
+
+// Whether each queue has room.
+fn are_roomy<A: Allocator>(queues: &[SintQueue<A>]) -> bool
+    ensures { result ≡ list_all (λ q. q.room) queues.now }
+{
+    queues.iter().all(|queue| queue.has_room())
+}
+
+// A queue for each SINT, with nothing in it.
+fn quiet_queues<A: Allocator + Clone>(alloc: A) -> Result<Vec<SintQueue<A>, A>, AllocError>
+    ensures count { IfOk result (λ queues. length queues.items ≡ SINTS) }
+    ensures quiet { IfOk result (λ queues. mail_from 0 queues.items ≡ map.empty) }
+{
+    let mut queues = Vec::new(alloc.clone()?);
+    for _ in 0..SINTS {
+        queues.push(SintQueue::new(alloc.clone()?))?;
+    }
+    Ok(queues)
+}
+
+// Makes room in each queue.
+fn reserve_each<A: Allocator>(queues: &mut [SintQueue<A>]) -> Result<(), AllocError>
+    ensures ok { OnOk result (list_all (λ q. q.room) queues.new ≡ true) }
+    ensures mail { mail_from 0 queues.new ≡ mail_from 0 queues.old }
+    ensures count { length queues.new ≡ length queues.old }
+{
+    for i in 0..queues.len() {
+        let queue = &mut queues[i];
+        queue.reserve_one()?;
+    }
+    Ok(())
+}

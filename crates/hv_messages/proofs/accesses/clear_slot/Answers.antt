@@ -1,0 +1,10 @@
+use Rattle.std.proofs.Common.{rules}
+use Rattle.hv_messages.proofs.Outcomes.{slot_gone}
+use Rattle.hv_messages.proofs.accesses.clear_slot.Goals as goal
+
+pub returns : goal.returns
+returns g c f flat = record {
+  met = search rules;
+  reply = search rules;
+  rows = slot_gone c.args.tree.now c.clear.new.tree f flat c.args.by c.args.sint c.clear.ensures;
+}

@@ -1,0 +1,13 @@
+use Rattle.std.proofs.Common.{rules}
+use Rattle.hv_messages.proofs.Outcomes.{flag_set, sint_bound}
+use Rattle.hv_messages.proofs.messages.signal_event.Goals as goal
+
+pub returns : goal.returns
+returns g c f flat =
+    let reached = c.in-Ok.ensures.reached in
+    let low = sint_bound c.args.tree.now c.requires.rows (c.args.caller, c.args.connection) c.in-Ok.target reached in
+    record {
+      met = c.in-Ok.ensures.met f flat;
+      output = search rules;
+      rows = flag_set c.args.tree.now c.signal.new.tree f flat c.args.caller c.args.connection c.in-Ok.target (reached f flat) _ c.args.flag _ (search rules) (search rules) c.signal.ensures;
+    }

@@ -1,0 +1,85 @@
+// The accesses of this chapter. No access asks for a privilege.
+ghost use Rattle.std.specs.Prelude.{◌≡◌};
+ghost use Rattle.hv_policy.specs.Flat.{Flat};
+ghost use Rattle.hv_policy.specs.declared.event.Action.TheVariants as action;
+ghost use Rattle.hv_tie.specs.Access.{IsAccess};
+ghost use Rattle.hv_tie.specs.Tie.{IsTied};
+
+use crate::rows::{clear, clear_one_flag, flags, slot, take};
+use hv_defs::{EVENT_FLAGS, SINTS};
+use hv_partition::Partition;
+use hv_policy::{Caller, Output, Rule};
+use hv_tree::IdTree;
+use std::alloc::Allocator;
+
+/// A read of the message slot of one of the caller's SINTs, in 256 bytes.
+pub fn read_slot<A: Allocator>(
+    tree: &IdTree<Partition<A>, A>,
+    by: Caller,
+    sint: u8,
+) -> Result<Output, Rule>
+    ensures { (f : Flat) → IsTied tree.now f → IsAccess {A = A} f by (action.ReadSlot sint) tree.now result tree.now }
+{
+    if u32::from(sint) >= SINTS {
+        return Err(Rule::Subject);
+    }
+    Ok(Output::whole(&slot(tree, by.part, by.vp, sint)))
+}
+
+/// The message that one of the caller's SINTs shows is removed, if it shows one. None is shown in its place.
+pub fn clear_slot<A: Allocator>(
+    tree: &mut IdTree<Partition<A>, A>,
+    by: Caller,
+    sint: u8,
+) -> Result<Output, Rule>
+    ensures { (f : Flat) → IsTied tree.old f → IsAccess {A = A} f by (action.ClearSlot sint) tree.old result tree.new }
+{
+    if u32::from(sint) >= SINTS {
+        return Err(Rule::Subject);
+    }
+    clear(tree, by.part, by.vp, sint);
+    Ok(Output::new())
+}
+
+/// A read of the event flags of one of the caller's SINTs, in 256 bytes.
+pub fn read_flags<A: Allocator>(
+    tree: &IdTree<Partition<A>, A>,
+    by: Caller,
+    sint: u8,
+) -> Result<Output, Rule>
+    ensures { (f : Flat) → IsTied tree.now f → IsAccess {A = A} f by (action.ReadFlags sint) tree.now result tree.now }
+{
+    if u32::from(sint) >= SINTS {
+        return Err(Rule::Subject);
+    }
+    Ok(Output::whole(&flags(tree, by.part, by.vp, sint)))
+}
+
+/// An event flag of one of the caller's SINTs is cleared.
+pub fn clear_flag<A: Allocator>(
+    tree: &mut IdTree<Partition<A>, A>,
+    by: Caller,
+    sint: u8,
+    flag: u16,
+) -> Result<Output, Rule>
+    ensures { (f : Flat) → IsTied tree.old f → IsAccess {A = A} f by (action.ClearFlag sint flag) tree.old result tree.new }
+{
+    if u32::from(sint) >= SINTS || u32::from(flag) >= EVENT_FLAGS {
+        return Err(Rule::Subject);
+    }
+    clear_one_flag(tree, by.part, by.vp, sint, flag);
+    Ok(Output::new())
+}
+
+/// The highest of the vectors that are pending at the caller is taken, in 1 byte, which is 0 where none is.
+pub fn take_interrupt<A: Allocator>(
+    tree: &mut IdTree<Partition<A>, A>,
+    by: Caller,
+) -> Result<Output, Rule>
+    ensures { (f : Flat) → IsTied tree.old f → IsAccess {A = A} f by action.TakeInterrupt tree.old result tree.new }
+{
+    let vector = take(tree, by.part, by.vp);
+    let mut output = Output::new();
+    output.push_byte(vector);
+    Ok(output)
+}

@@ -1,0 +1,148 @@
+// The calls of this chapter.
+ghost use Rattle.std.specs.Prelude.{◌≡◌, ◌&&◌, ◌<◌, ℕ, List, nat_lt, None, Some, IfOk, IfErr};
+ghost use Rattle.hv_calls.specs.declared.call.Call.TheVariants as call;
+ghost use Rattle.hv_defs.specs.declared.port_kind.PortKind.TheVariants as port_type;
+ghost use Rattle.hv_policy.specs.Flat.{Flat};
+ghost use Rattle.hv_policy.specs.Met.{is_kind};
+ghost use Rattle.hv_tie.specs.Served.{AreLawful, IsAdmitted, IsOutcome, unmet_further};
+ghost use Rattle.hv_tie.specs.Tie.{IsTied};
+ghost use Rattle.hv_messages.specs.Aimed.{IsReached};
+
+use crate::aims::{Target, has_message_room, reach, takes_flags, takes_messages};
+use crate::rows::{post, signal};
+use hv_calls::Payload;
+use hv_defs::PortKind;
+use hv_mail::Message;
+use hv_partition::Partition;
+use hv_policy::{Output, Rule};
+use hv_ports::Port;
+use hv_tie::Refused;
+use hv_tree::IdTree;
+use std::alloc::{AllocError, Allocator};
+
+/// HvPostMessage: a message goes last among those at the SINT at which the connection's port aims. Where none is shown there, the
+/// oldest is, and the SINT raises its vector.
+pub fn post_message<A: Allocator + Clone>(
+    tree: &mut IdTree<Partition<A>, A>,
+    caller: u64,
+    connection: u32,
+    message_type: u32,
+    payload: &Payload,
+) -> Result<Output, Refused>
+    requires { IsAdmitted tree.old caller (call.PostMessage connection message_type payload.now) }
+    ensures { (f : Flat) → IsTied tree.old f → IsOutcome f caller (call.PostMessage connection message_type payload.now) tree.old result tree.new }
+{
+    let target = match ask_post(tree, caller, connection) {
+        Ok(target) => target,
+        Err(rule) => return Err(Refused::Unmet(rule)),
+    };
+    let message = Message {
+        port: target.conn.port,
+        born: target.conn.born,
+        kind: message_type,
+        payload: payload.to_array(),
+    };
+    let sint = target.port.sint as u8;
+    match post(tree, target.conn.part, target.port.vp, sint, message) {
+        Ok(()) => Ok(Output::new()),
+        Err(AllocError) => Err(Refused::Memory),
+    }
+}
+
+// P16, P17, P19, P21, P22 and P23: where the connection leads, or the first of them that isn't met.
+fn ask_post<A: Allocator>(
+    tree: &IdTree<Partition<A>, A>,
+    caller: u64,
+    connection: u32,
+) -> Result<Target, Rule>
+    requires { AreLawful tree.now }
+    ensures reached { IfOk result (λ target. (f : Flat) → IsTied tree.now f → IsReached f (caller, connection) target) }
+    ensures met { IfOk result (λ _. (f : Flat) (type : ℕ) (payload : List ℕ) → IsTied tree.now f → unmet_further f caller (call.PostMessage connection type payload) ≡ None) }
+    ensures first { IfErr result (λ rule. (f : Flat) (type : ℕ) (payload : List ℕ) → IsTied tree.now f → unmet_further f caller (call.PostMessage connection type payload) ≡ Some rule) }
+{
+    let target = match reach(tree, caller, connection) {
+        Ok(target) => target,
+        Err(rule) => return Err(rule),
+    };
+    if !is_for_messages(target.port) {
+        return Err(Rule::Subject);
+    }
+    if !takes_messages(tree, target) {
+        return Err(Rule::VpReady);
+    }
+    if !has_message_room(tree, caller, connection, target) {
+        return Err(Rule::PortRoom);
+    }
+    Ok(target)
+}
+
+// P21 of a post: whether the port takes messages.
+fn is_for_messages(port: Port) -> bool
+    ensures { result ≡ is_kind port.kind port_type.Message }
+{
+    match port.kind {
+        PortKind::Message => true,
+        PortKind::Event => false,
+    }
+}
+
+/// HvSignalEvent: an event flag of the SINT at which the connection's port aims is set, counted from the port's first flag. Where
+/// it was clear, the SINT raises its vector.
+pub fn signal_event<A: Allocator>(
+    tree: &mut IdTree<Partition<A>, A>,
+    caller: u64,
+    connection: u32,
+    flag: u16,
+) -> Result<Output, Refused>
+    requires { IsAdmitted tree.old caller (call.SignalEvent connection flag) }
+    ensures { (f : Flat) → IsTied tree.old f → IsOutcome f caller (call.SignalEvent connection flag) tree.old result tree.new }
+{
+    let target = match ask_signal(tree, caller, connection, flag) {
+        Ok(target) => target,
+        Err(rule) => return Err(Refused::Unmet(rule)),
+    };
+    let sint = target.port.sint as u8;
+    signal(
+        tree,
+        target.conn.part,
+        target.port.vp,
+        sint,
+        target.port.base + flag,
+    );
+    Ok(Output::new())
+}
+
+// P16, P17, P19, P21 and P22: where the connection leads, or the first of them that isn't met.
+fn ask_signal<A: Allocator>(
+    tree: &IdTree<Partition<A>, A>,
+    caller: u64,
+    connection: u32,
+    flag: u16,
+) -> Result<Target, Rule>
+    ensures reached { IfOk result (λ target. (f : Flat) → IsTied tree.now f → IsReached f (caller, connection) target) }
+    ensures flag { IfOk result (λ target. flag < target.port.count) }
+    ensures met { IfOk result (λ _. (f : Flat) → IsTied tree.now f → unmet_further f caller (call.SignalEvent connection flag) ≡ None) }
+    ensures first { IfErr result (λ rule. (f : Flat) → IsTied tree.now f → unmet_further f caller (call.SignalEvent connection flag) ≡ Some rule) }
+{
+    let target = match reach(tree, caller, connection) {
+        Ok(target) => target,
+        Err(rule) => return Err(rule),
+    };
+    if !has_flag(target.port, flag) {
+        return Err(Rule::Subject);
+    }
+    if !takes_flags(tree, target) {
+        return Err(Rule::VpReady);
+    }
+    Ok(target)
+}
+
+// P21 of a signal: whether the port takes event flags and has one of this number.
+fn has_flag(port: Port, flag: u16) -> bool
+    ensures { result ≡ is_kind port.kind port_type.Event && nat_lt flag port.count }
+{
+    match port.kind {
+        PortKind::Message => false,
+        PortKind::Event => flag < port.count,
+    }
+}

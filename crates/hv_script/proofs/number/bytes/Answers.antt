@@ -1,0 +1,44 @@
+use Rattle.std.proofs.Common.{◌≡◌, ◌≢◌, ◌⊎◌, inl, inr, ◌≤◌, ◌%◌, true, false, length, codes, Err, refl, ap, sym, ◌∙◌, arith, rules}
+use Rattle.std.proofs.lemmas.Result.{err_from_is_err_and}
+use Rattle.hv_script.specs.Number.{bytes_of}
+use Rattle.hv_script.specs.declared.fault.FaultKind.{FaultKind}
+use Rattle.hv_script.specs.declared.fault.FaultKind.TheVariants.{Hex, Memory}
+use Rattle.std.specs.Str.{bytes_eq}
+use Rattle.hv_script.proofs.NumberLemmas.{no_bytes, not_pairs, pairs_of_bytes}
+use Rattle.hv_script.proofs.number.bytes.Goals as goal
+use Rattle.hv_script.proofs.number.bytes.Goals.{then-word-ne0-via-then-word-ne0, then-word-ne0-via-else-word-ne0+then-word-gt-MOST_DIGITS}
+
+pub returns-then-eq : goal.returns-then-eq
+returns-then-eq g c =
+    let dash : bytes_eq c.args.word.now (codes "-") ≡ true = search rules in
+    rw (no_bytes c.args.word.now dash, c.new.ensures.items) refl
+
+pub returns-then-word-ne0 : goal.returns-then-word-ne0
+returns-then-word-ne0 g c =
+    let dash : bytes_eq c.args.word.now (codes "-") ≡ false = search rules in
+    λ _. not_pairs c.args.word.now dash (λ digits even short. elim c.then-word-ne0.branch [
+      | then-word-ne0-via-then-word-ne0 w ↦ w.if-word-ne0.true even
+      | then-word-ne0-via-else-word-ne0+then-word-gt-MOST_DIGITS w ↦ omega (arith, w.if-word-gt-MOST_DIGITS.true, short)
+    ])
+
+hex_only : (kind : FaultKind) → (kind ≡ Hex) ⊎ (kind ≡ Memory) → kind ≢ Memory → Hex ≡ kind
+hex_only kind (inl hex) not_memory = sym hex
+hex_only kind (inr memory) not_memory = absurd (not_memory memory)
+
+pub returns-in_err-push_bytes : goal.returns-in_err-push_bytes
+returns-in_err-push_bytes g c =
+    let word = c.args.word.now in
+    let kind = c.in_err-push_bytes.field-0.0 in
+    let dash : bytes_eq word (codes "-") ≡ false = search rules in
+    let p = err_from_is_err_and c.from_residual-in_err-push_bytes.result c.from_residual-in_err-push_bytes.ensures.1 in
+    rw (p.1, p.2) (λ not_memory. not_pairs word dash (λ digits even short. c.in_err-push_bytes.ensures.err not_memory digits)
+    ∙ ap Err (hex_only kind c.in_err-push_bytes.ensures.kinds not_memory))
+
+pub returns : goal.returns
+returns g c =
+    let word = c.args.word.now in
+    let dash : bytes_eq word (codes "-") ≡ false = search rules in
+    let short : length word ≤ 8192 = omega (arith, c.if-word-gt-MOST_DIGITS.false) in
+    let even : length word % 2 ≡ 0 = search rules in
+    let whole : c.push_bytes.new.bytes.items ≡ bytes_of word = search rules in
+    rw (pairs_of_bytes word dash c.in_ok-push_bytes.ensures.ok even short, whole) refl

@@ -1,0 +1,6 @@
+use Rattle.std.proofs.Common.{◌≡◌}
+use Rattle.hv_vp.specs.Vp.{shown_each}
+use Rattle.hv_vp.proofs.vp.Vp.end_message.Given as goal
+
+abbrev pub invariant-loop-sint : goal.invariant-loop-sint
+invariant-loop-sint g l = l.self ≡ shown_each l.sint l.fn.self
