@@ -13,100 +13,80 @@ trap 'rm -rf -- "$folder"' EXIT
 source "$root/bench/measure.sh"
 "$root/bin/hvpm" --help >/dev/null
 
-turns=1600
+# Makes a script of 1,600 turns, by the kind of script and its numbers. Connections have the ids of their ports.
+make() {
+    awk -v kind="$1" -v a="$2" -v b="${3:-0}" -v turns=1600 '
+        # The k bytes of a number, the lowest first.
+        function bytes(n, k,    s) { s = ""; for (; k > 0; k--) { s = s sprintf("%02x", n % 256); n = int(n / 256) } return s }
 
-# A message port of each number has that id, and the port for event flags of that number has this one added. Connections have
-# the ids of their ports.
-events=4096
+        function call(by, rcx, block) { print by " call " rcx " 0 0 " block }
 
-payload=$(for ((i = 0; i < 32; i++)); do field $((i + 1)) 1; done)
+        # A processor turns on all that a port may ask of it, and aims each SINT at a vector of its own.
+        function ready(vp,    s) {
+            print vp " wrmsr 0x40000080 1\n" vp " wrmsr 0x40000082 1\n" vp " wrmsr 0x40000083 1"
+            for (s = 0; s < 16; s++) printf "%s wrmsr 0x%x 0x%x\n", vp, 1073741968 + s, 32 + s
+        }
 
-# By number, what a processor's line says to post to the message port, and to set the first flag of the event port.
-posts=()
-signals=()
-for ((i = 0; i <= 100; i++)); do
-    posts+=("call 0x5c 0 0 $(field "$i" 8)$(field 1 4)$(field 32 4)$payload")
-    signals+=("call 0x1005d $(printf '0x%x' $((events + i))) 0 -")
-done
+        # The message port of number n of a partition, and the port for event flags of that number, which has 4096 added to its
+        # id, have the root as their peer and aim at a SINT of a processor. The root connects to both. The event port has 16
+        # flags, and its first is 16 times the number.
+        function ports(n, part, vp, sint,    type, id) {
+            for (type = 1; type <= 2; type++) {
+                id = n + (type - 1) * 4096
+                call("1.0", "0x95", bytes(part, 8) bytes(id, 8) bytes(1, 8) bytes(type, 8) bytes(sint, 4) bytes(vp, 4) \
+                    bytes(type == 2 ? 16 * n : 0, 2) bytes(16, 6))
+                call("1.0", "0x96", bytes(1, 8) bytes(id, 8) bytes(part, 8) bytes(id, 8) bytes(type, 4))
+            }
+        }
 
-# Boots the root with $1 processors.
-boot() {
-    echo "boot 2048 1024 $1 0x000000f700000044 4294967295"
-}
+        function post(vp, n) { call(vp, "0x5c", bytes(n, 8) bytes(1, 4) bytes(32, 4) payload) }
 
-# Processor $1 turns on all that a port may ask of it, and aims each SINT at a vector of its own.
-ready() {
-    for msr in 0x40000080 0x40000082 0x40000083; do echo "$1 wrmsr $msr 1"; done
-    for ((i = 0; i < 16; i++)); do printf '%s wrmsr 0x%x 0x%x\n' "$1" $((0x40000090 + i)) $((0x20 + i)); done
-}
+        # One turn: a processor posts and signals by the connections of number n, which lead to a SINT of another one.
+        function turn(vp, n, to, sint) {
+            post(vp, n); post(vp, n)
+            print to " slot " sint "\n" to " interrupt\n" to " clearslot " sint
+            print to " wrmsr 0x40000084 0\n" to " interrupt\n" to " clearslot " sint
+            printf "%s call 0x1005d 0x%x 0 -\n", vp, 4096 + n
+            print to " flags " sint "\n" to " interrupt\n" to " clearflag " sint " " 16 * n
+        }
 
-# The two ports of number $1, of partition $2, with the root as their peer, aim at SINT $4 of processor $3. The root connects
-# to both. The event port has 16 flags, and its first is 16 times the number.
-ports() {
-    local kind base
-    for kind in 1 2; do
-        base=$((kind == 2 ? 16 * $1 : 0))
-        printf '1.0 call 0x95 0 0 %s%s%s%s%s%s%s\n' "$(field "$2" 8)" "$(field $(($1 + (kind - 1) * events)) 8)" \
-            "$(field 1 8)" "$(field "$kind" 8)" "$(field "$4" 4)$(field "$3" 4)" "$(field "$base" 2)" "$(field 16 6)"
-        printf '1.0 call 0x96 0 0 %s%s%s%s%s\n' "$(field 1 8)" "$(field $(($1 + (kind - 1) * events)) 8)" \
-            "$(field "$2" 8)" "$(field $(($1 + (kind - 1) * events)) 8)" "$(field "$kind" 4)"
-    done
-}
+        BEGIN {
+            for (i = 1; i <= 32; i++) payload = payload bytes(i, 1)
+            print "boot 2048 1024 " (kind == "processors" ? a : 1) " 0x000000f700000044 4294967295"
 
-# One turn: processor $1 posts and signals by the connections of number $2, which lead to SINT $4 of processor $3.
-turn() {
-    printf '%s\n' "$1 ${posts[$2]}" "$1 ${posts[$2]}" "$3 slot $4" "$3 interrupt" "$3 clearslot $4" \
-        "$3 wrmsr 0x40000084 0" "$3 interrupt" "$3 clearslot $4" \
-        "$1 ${signals[$2]}" "$3 flags $4" "$3 interrupt" "$3 clearflag $4 $((16 * $2))"
-}
+            # a processors of the root post and signal to each other, by b ports of each kind.
+            if (kind == "processors") {
+                for (n = 0; n < a; n++) ready("1." n)
+                for (n = 1; n <= b; n++) ports(n, 1, n % a, n % 16)
+                for (t = 0; t < turns; t++) { n = t % b + 1; turn("1." t % a, n, "1." n % a, n % 16) }
+            }
 
-# Makes a script in which $1 processors of the root post and signal to each other, by $2 ports for messages and as many for
-# event flags.
-processors_script() {
-    local to
-    boot "$1"
-    for ((n = 0; n < $1; n++)); do ready "1.$n"; done
-    for ((n = 1; n <= $2; n++)); do ports "$n" 1 $((n % $1)) $((n % 16)); done
-    for ((t = 0; t < turns; t++)); do
-        to=$((t % $2 + 1))
-        turn "1.$((t % $1))" "$to" "1.$((to % $1))" $((to % 16))
-    done
-}
+            # The root makes a partitions, each with a processor and two ports, and posts and signals to them in turn. A script
+            # names at most 64 processors, so the posts go to 60 of the partitions.
+            if (kind == "partitions") {
+                for (n = 1; n <= a; n++) {
+                    call("1.0", "0x40", "-")
+                    print "1.0 call 0x10041 " n + 1 " 0 -"
+                    block = bytes(n + 1, 8)
+                    for (i = 0; i < 6; i++) block = block bytes(1018 + 6 * n + i, 8)
+                    call("1.0", "0x0000000600000048", block)
+                    print "1.0 call 0x1004e " n + 1 " 0 -"
+                    ports(n, n + 1, 0, n % 16)
+                }
+                for (t = 0; t < 60 && t < a; t++) ready(int(t * a / (a < 60 ? a : 60)) + 2 ".0")
+                for (t = 0; t < turns; t++) { n = int(t % 60 * a / 60) + 1; turn("1.0", n, n + 1 ".0", n % 16) }
+            }
 
-# Makes a script in which the root makes $1 partitions, each with a processor and two ports, and posts and signals to them in
-# turn. A script names at most 64 processors, so the posts go to 60 of the partitions.
-partitions_script() {
-    local id to
-    boot 1
-    for ((n = 1; n <= $1; n++)); do
-        id=$((n + 1))
-        echo "1.0 call 0x40 0 0 -"
-        echo "1.0 call 0x10041 $id 0 -"
-        printf '1.0 call 0x0000000600000048 0 0 %s' "$(field "$id" 8)"
-        for ((i = 0; i < 6; i++)); do field $((1018 + 6 * n + i)) 8; done
-        echo
-        echo "1.0 call 0x1004e $id 0 -"
-        ports "$n" "$id" 0 $((n % 16))
-    done
-    for ((t = 0; t < 60; t++)); do
-        if ((t < $1)); then ready "$((t * $1 / ($1 < 60 ? $1 : 60) + 2)).0"; fi
-    done
-    for ((t = 0; t < turns; t++)); do
-        to=$((t % 60 * $1 / 60 + 1))
-        turn 1.0 "$to" "$((to + 1)).0" $((to % 16))
-    done
-}
-
-# Makes a script with 100 ports of each kind at one processor, in which $1 messages of the others are kept there while turns
-# go by the ports of number 1.
-kept_script() {
-    boot 1
-    ready 1.0
-    ports 1 1 0 0
-    for ((n = 2; n <= 100; n++)); do ports "$n" 1 0 $((1 + n % 15)); done
-    for ((m = 0; m < $1; m++)); do echo "1.0 ${posts[2 + m % 99]}"; done
-    for ((i = 0; i < 16; i++)); do echo "1.0 interrupt"; done
-    for ((t = 0; t < turns; t++)); do turn 1.0 1 1.0 0; done
+            # 100 ports of each kind at one processor, where a messages of the others are kept while turns go by the first ones.
+            if (kind == "kept") {
+                ready("1.0")
+                ports(1, 1, 0, 0)
+                for (n = 2; n <= 100; n++) ports(n, 1, 0, 1 + n % 15)
+                for (m = 0; m < a; m++) post("1.0", 2 + m % 99)
+                for (i = 0; i < 16; i++) print "1.0 interrupt"
+                for (t = 0; t < turns; t++) turn("1.0", 1, "1.0", 0)
+            }
+        }' >"$folder/messages.hv"
 }
 
 run() {
@@ -115,18 +95,18 @@ run() {
 }
 
 for processors in 1 10 64; do
-    processors_script "$processors" 100 >"$folder/messages.hv"
+    make processors "$processors" 100
     run "processors of the root, with 100 ports of each kind: $processors"
 done
 for ports in 1 10 100; do
-    processors_script 1 "$ports" >"$folder/messages.hv"
+    make processors 1 "$ports"
     run "ports of each kind at one processor: $ports"
 done
 for partitions in 1 10 100; do
-    partitions_script "$partitions" >"$folder/messages.hv"
+    make partitions "$partitions"
     run "partitions beside the root: $partitions"
 done
 for kept in 1 10 100 700; do
-    kept_script "$kept" >"$folder/messages.hv"
+    make kept "$kept"
     run "kept messages at the processor: $kept"
 done
