@@ -35,6 +35,27 @@ fn look_at(
     Ok(())
 }
 
+// The accesses to one SINT, whether or not there is such a one.
+fn look_at_sint(rt: &impl Abort, machine: &mut Machine<Global>, sint: u8) -> Result<(), Fail> {
+    let (read, changed) = if sint <= 15 {
+        (Told::Bytes(256), Told::Bytes(0))
+    } else {
+        (Told::Fault(21), Told::Fault(21))
+    };
+    look_at(rt, machine, Action::ReadSlot(sint), read)?;
+    look_at(rt, machine, Action::ClearSlot(sint), changed)?;
+    look_at(rt, machine, Action::ReadFlags(sint), read)?;
+    look_at(rt, machine, Action::ClearFlag(sint, 2047), changed)?;
+    look_at(rt, machine, Action::ClearFlag(sint, 2048), Told::Fault(21))
+}
+
+fn look_at_each(rt: &impl Abort, machine: &mut Machine<Global>) -> Result<(), Fail> {
+    for sint in 0..=255u8 {
+        look_at_sint(rt, machine, sint)?;
+    }
+    look_at(rt, machine, Action::TakeInterrupt, Told::Bytes(1))
+}
+
 // A SINT is below 16, and a flag below 2,048: the others are P21.
 #[test]
 fn each_number_is_answered(rt: HostRuntime) -> Result<(), Fail> {
@@ -45,22 +66,5 @@ fn each_number_is_answered(rt: HostRuntime) -> Result<(), Fail> {
         mask: Privileges::of(0),
     };
     let mut machine = Machine::boot(rt.alloc(), config)?;
-    for sint in 0..=255u8 {
-        let (read, changed) = if sint <= 15 {
-            (Told::Bytes(256), Told::Bytes(0))
-        } else {
-            (Told::Fault(21), Told::Fault(21))
-        };
-        look_at(&rt, &mut machine, Action::ReadSlot(sint), read)?;
-        look_at(&rt, &mut machine, Action::ClearSlot(sint), changed)?;
-        look_at(&rt, &mut machine, Action::ReadFlags(sint), read)?;
-        look_at(&rt, &mut machine, Action::ClearFlag(sint, 2047), changed)?;
-        look_at(
-            &rt,
-            &mut machine,
-            Action::ClearFlag(sint, 2048),
-            Told::Fault(21),
-        )?;
-    }
-    look_at(&rt, &mut machine, Action::TakeInterrupt, Told::Bytes(1))
+    look_at_each(&rt, &mut machine)
 }
