@@ -1,7 +1,8 @@
 -- Which failure a script's error is, and the exit status of each.
-use Rattle.std.specs.Prelude.{◌≡◌, ◌⊎◌}
-use Rattle.hv_script.specs.declared.fault.ScriptError.{ScriptError}
-use Rattle.hv_script.specs.declared.fault.ScriptError.TheVariants as error
+use Rattle.std.specs.Prelude.{◌≡◌, ◌⊎◌, ℕ}
+use Rattle.hv_script.specs.declared.fault.FaultKind.{FaultKind}
+use Rattle.hv_script.specs.declared.fault.FaultKind.TheVariants.{Memory}
+use Rattle.hv_script.specs.declared.fault.ScriptFault.{ScriptFault}
 use Rattle.hv_run.specs.declared.failure.Exit.{Exit}
 use Rattle.hv_run.specs.declared.failure.Exit.TheVariants.{Script, Host}
 use Rattle.hv_run.specs.declared.failure.Failure.{Failure}
@@ -19,10 +20,13 @@ exit_of failure.Memory = Host
 exit_of failure.HistoryFull = Host
 exit_of failure.Write = Host
 
--- a line's fault is told with its line, and want of memory has none
-abbrev pub failure_of : ScriptError → Failure
-failure_of (error.Fault line kind) = failure.Fault line kind
-failure_of error.Memory = failure.Memory
+-- a line's fault is told with its line, and want of memory without
+abbrev pub failure_at : ℕ → FaultKind → Failure
+failure_at line Memory = failure.Memory
+failure_at line kind = failure.Fault line kind
+
+abbrev pub failure_of : ScriptFault → Failure
+failure_of fault = failure_at fault.line fault.kind
 
 -- a script whose bytes don't come can't be read, or there is no memory for it
 abbrev pub IsUnread : Failure → Type 0

@@ -3,7 +3,7 @@ ghost use Rattle.std.specs.Prelude.{◌≡◌};
 ghost use Rattle.hv_run.specs.Failure.{exit_of, failure_of};
 
 use hv_machine::BootRefused;
-use hv_script::{FaultKind, ScriptError, Stop};
+use hv_script::{FaultKind, ScriptFault, Stop};
 use std::io::Write;
 use thiserror::Error;
 
@@ -76,13 +76,14 @@ impl From<BootRefused> for Failure {
     }
 }
 
-impl From<ScriptError> for Failure {
-    ghost from_gives = { λ error failure. failure ≡ failure_of error };
+impl From<ScriptFault> for Failure {
+    ghost from_gives = { λ fault failure. failure ≡ failure_of fault };
 
-    fn from(error: ScriptError) -> Failure {
-        match error {
-            ScriptError::Fault { line, kind } => Failure::Fault { line, kind },
-            ScriptError::Memory => Failure::Memory,
+    fn from(fault: ScriptFault) -> Failure {
+        let ScriptFault { line, kind } = fault;
+        match kind {
+            FaultKind::Memory => Failure::Memory,
+            kind => Failure::Fault { line, kind },
         }
     }
 }

@@ -68,31 +68,50 @@ fn run_script<W: Write>(alloc: Global, text: &[u8], out: &mut W) -> Result<(), F
     ensures silent { IfErr result (λ failure. exit_of failure ≡ Exit.Script → out.new ≡ out.old) }
 {
     let script = parse(alloc, text)?;
-    let machine = Machine::boot(alloc, script.boot.config)?;
+    let machine = Machine::boot(alloc, script.config)?;
     run_lines(alloc, script, machine, out)
 }
 
 // Runs the lines and prints their audit.
 fn run_lines<W: Write>(
     alloc: Global,
-    script: Script,
+    script: Script<Global>,
     machine: Machine<Global>,
     out: &mut W,
 ) -> Result<(), Failure>
     ensures { IfErr result (λ failure. exit_of failure ≡ Exit.Host) }
 {
-    let Script {
-        boot,
-        lines,
-        mut processors,
-    } = script;
     let mut machine = machine;
-    let mut history = History::new(alloc, boot.limit);
-    for line in lines {
-        run_line(&mut history, &mut machine, &mut processors, line);
-    }
+    let mut history = History::new(alloc, script.limit);
+    let stop = run_phases(alloc, &mut history, &mut machine, script.lines);
     let written = audit::print(&history, out);
-    ended(processors.first_stop(), written)
+    ended(stop, written)
+}
+
+// Runs the lines in their order, and tells which stop comes first, if there is one. No phase begins after a phase in which
+// a processor stopped.
+fn run_phases(
+    alloc: Global,
+    history: &mut History,
+    machine: &mut Machine<Global>,
+    lines: Vec<Line<Global>>,
+) -> Option<Stop> {
+    let mut processors = Processors::new(alloc);
+    let mut phase = 0;
+    for line in lines {
+        if line.phase != phase {
+            if processors.first_stop().is_some() {
+                break;
+            }
+            processors = Processors::new(alloc);
+            phase = line.phase;
+        }
+        if processors.add(line.by).is_err() {
+            return Some(processors.first_stop().unwrap_or(Stop::Memory));
+        }
+        run_line(history, machine, &mut processors, line);
+    }
+    processors.first_stop()
 }
 
 // Drives a line, unless its processor stopped. Where the host refuses an event of it, that processor stops, and no other.
@@ -100,7 +119,7 @@ fn run_line(
     history: &mut History,
     machine: &mut Machine<Global>,
     processors: &mut Processors,
-    line: Line,
+    line: Line<Global>,
 )
     ensures stays { HasStopped processors.old line.by → (history.new ≡ history.old) × (machine.new ≡ machine.old) }
     ensures others { (other : Caller) → other ≢ line.by → HasStopped processors.new other ↔ HasStopped processors.old other }

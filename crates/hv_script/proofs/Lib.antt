@@ -1,1 +1,3 @@
+pub mod CallerLemmas
+mod CutLemmas
 mod NumberLemmas

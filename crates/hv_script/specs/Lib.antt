@@ -1,4 +1,9 @@
+pub mod Callers
 pub mod Fault
+pub mod Line
 pub mod Number
 pub mod Processors
+pub mod Reading
+pub mod Script
 pub mod Verb
+pub mod Words

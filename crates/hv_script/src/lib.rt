@@ -1,21 +1,25 @@
-//! The language of scripts, which is this project's own: from a script's bytes to its boot line, the lines of its
-//! processors and the processors that it names.
+//! The language of scripts, which is this project's own: from a script's bytes to its boot line's numbers and the lines
+//! of its processors.
 //!
 //! [`parse`] reads a whole script or finds its first fault, by line and [`FaultKind`], whose `Display` is the fault's
-//! text. The numbers of a script are read exactly: `specs/Number.antt` says what a number is and which one. Words,
-//! bytes and lines are read safely and to an end, and tests show which.
+//! text. `script_of` in `specs/Script.antt` says which script or which fault a text is, and the contract of `parse` is that
+//! it gives that one, want of memory apart. What a number, the bytes, a word and a line are stands beside it.
 //!
-//! [`Processors`] also keeps which of them stopped, for a run of the lines.
+//! [`Processors`] keeps which processors of a phase stopped, for a run of its lines.
 #![tactic(auto)]
 
+mod boot;
 mod fault;
+mod fields;
 mod line;
 mod number;
 mod processors;
+mod reading;
 mod script;
 mod verb;
+mod words;
 
-pub use fault::{FaultKind, ScriptError};
-pub use line::{Boot, Line};
+pub use fault::{FaultKind, ScriptFault};
+pub use line::Line;
 pub use processors::{Processors, Stop};
 pub use script::{MOST_BYTES, Script, parse};

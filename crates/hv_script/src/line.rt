@@ -1,165 +1,117 @@
-// One line of a script.
+// A line of a processor.
+ghost use Rattle.std.specs.Prelude.{◌≡◌, ◌==◌};
+ghost use Rattle.std.specs.List.{after_first, before_first};
+ghost use Rattle.hv_script.specs.Fault.{IsRead};
+ghost use Rattle.hv_script.specs.Line.{action_of, fields_of, processor_of};
+ghost use Rattle.hv_script.specs.declared.verb.Verb.TheVariants as kind;
 
 use crate::fault::FaultKind;
 use crate::number;
 use crate::verb::Verb;
+use crate::words::Words;
 use hv_abi::{Bytes, Frame};
-use hv_policy::{Action, Caller, Config};
-use hv_privs::Privileges;
-use std::alloc::Global;
-
-// The most words that a line has.
-const MOST_WORDS: usize = 6;
-
-/// What a script's `boot` line says.
-#[derive(Clone, Copy, Debug)]
-pub struct Boot {
-    /// What the root partition is given, not yet checked for a boot.
-    pub config: Config,
-    /// The most events that the history keeps.
-    pub limit: u32,
-}
+use hv_policy::{Action, Caller};
+use std::alloc::Allocator;
 
 /// A line of a processor.
 #[derive(Drop)]
-pub struct Line {
+pub struct Line<A: Allocator> {
+    /// How many `phase` lines stand before it.
+    pub phase: u32,
     /// The processor that the line names.
     pub by: Caller,
     /// What it asks for: a hypercall with its frame as it is written, or an access.
-    pub action: Action<Global>,
+    pub action: Action<A>,
 }
 
-/// The words of a line, which stand between spaces.
-#[derive(Clone, Copy)]
-pub struct Words<'a> {
-    // The first words.
-    first: [&'a [u8]; MOST_WORDS],
-    // How many words the line has, first and others.
-    count: usize,
+/// Reads the processor `ID.VP`, of a 64-bit and a 32-bit number, both decimal.
+#[tactic(auto, unfolding(crate::specs::Line::processor_of))]
+pub fn processor(word: &[u8]) -> Result<Caller, FaultKind>
+    ensures { result ≡ processor_of word.now }
+{
+    let (part, vp) = around_dot(word);
+    let part = number::decimal(part).ok_or(FaultKind::Processor)?;
+    let vp = number::decimal_32(vp).ok_or(FaultKind::Processor)?;
+    Ok(Caller { part, vp })
 }
 
-impl<'a> Words<'a> {
-    pub fn of(line: &'a [u8]) -> Words<'a> {
-        let none: &'a [u8] = &[];
-        let mut first = [none; MOST_WORDS];
-        let mut count = 0usize;
-        for word in line.split(|byte| *byte == b' ') {
-            if word.is_empty() {
-                continue;
-            }
-            if let Some(place) = first.get_mut(count) {
-                *place = word;
-            }
-            count = count.saturating_add(1);
-        }
-        Words { first, count }
-    }
-
-    /// Whether the line is skipped: it has no words, or is a comment.
-    pub fn are_skipped(&self) -> bool {
-        match self.first[0].first() {
-            Some(byte) => *byte == b'#',
-            None => true,
-        }
-    }
-
-    /// Whether the line is a `boot` line, right or not.
-    pub fn are_boot(&self) -> bool {
-        self.first[0] == b"boot".as_slice()
-    }
-
-    /// Reads a `boot` line.
-    pub fn boot(&self) -> Result<Boot, FaultKind> {
-        if self.count != MOST_WORDS {
-            return Err(FaultKind::Count);
-        }
-        let [_, pages, pool, vps, mask, limit] = self.first;
-        Ok(Boot {
-            config: Config {
-                pages: number::number_32(pages).ok_or(FaultKind::Number)?,
-                pool: number::number_32(pool).ok_or(FaultKind::Number)?,
-                vps: number::number_32(vps).ok_or(FaultKind::Number)?,
-                mask: Privileges::of(number::number(mask).ok_or(FaultKind::Number)?),
-            },
-            limit: number::number_32(limit).ok_or(FaultKind::Number)?,
-        })
-    }
-
-    /// Reads a processor's line.
-    pub fn line(&self, alloc: Global) -> Result<Line, FaultKind> {
-        let by = processor(self.first[0]).ok_or(FaultKind::Processor)?;
-        let action = self.action(alloc)?;
-        Ok(Line { by, action })
-    }
-
-    // What a processor's line asks for.
-    fn action(&self, alloc: Global) -> Result<Action<Global>, FaultKind> {
-        let verb = Verb::of(self.first[1]).ok_or(FaultKind::Word)?;
-        if self.count != verb.words() {
-            return Err(FaultKind::Count);
-        }
-        let [_, _, third, fourth, _, _] = self.first;
-        match verb {
-            Verb::Call => self.call(alloc),
-            Verb::ReadMsr => read_msr(third),
-            Verb::WriteMsr => write_msr(third, fourth),
-            Verb::ReadSlot => Ok(Action::ReadSlot(sint(third)?)),
-            Verb::ClearSlot => Ok(Action::ClearSlot(sint(third)?)),
-            Verb::ReadFlags => Ok(Action::ReadFlags(sint(third)?)),
-            Verb::ClearFlag => clear_flag(third, fourth),
-            Verb::TakeInterrupt => Ok(Action::TakeInterrupt),
-        }
-    }
-
-    fn call(&self, alloc: Global) -> Result<Action<Global>, FaultKind> {
-        let [_, _, rcx, rdx, r8, input] = self.first;
-        let (rcx, rdx, r8) = registers(rcx, rdx, r8).ok_or(FaultKind::Number)?;
-        let input = Bytes::from_vec(number::bytes(alloc, input)?);
-        Ok(Action::Hypercall(Frame {
-            rcx,
-            rdx,
-            r8,
-            input,
-        }))
+// What stands before and after a word's first dot. Where it has none, nothing stands after it.
+fn around_dot(word: &[u8]) -> (&[u8], &[u8])
+    ensures before { result.0.now ≡ before_first (λ byte. byte == 46) word.now }
+    ensures after { result.1.now ≡ after_first (λ byte. byte == 46) word.now }
+{
+    match word.iter().position(|byte| *byte == b'.') {
+        Some(dot) => (&word[..dot], &word[dot + 1..]),
+        None => (word, &[]),
     }
 }
 
-// The numbers of RCX, RDX and R8.
-fn registers(rcx: &[u8], rdx: &[u8], r8: &[u8]) -> Option<(u64, u64, u64)> {
-    Some((
-        number::number(rcx)?,
-        number::number(rdx)?,
-        number::number(r8)?,
-    ))
+/// Reads what a processor's line asks for.
+#[tactic(auto, unfolding(crate::specs::Line::action_of))]
+pub fn action<A: Allocator + Clone>(alloc: &A, words: &Words<'_>) -> Result<Action<A>, FaultKind>
+    ensures { IsRead result (λ action. action) (action_of words.now) }
+{
+    let verb = Verb::of(words.word(1)).ok_or(FaultKind::Word)?;
+    if words.count() != verb.words() {
+        return Err(FaultKind::Count);
+    }
+    fields(alloc, verb, words)
 }
 
-fn read_msr(msr: &[u8]) -> Result<Action<Global>, FaultKind> {
-    let msr = number::number_32(msr).ok_or(FaultKind::Number)?;
-    Ok(Action::ReadMsr(msr))
+// Reads the words after the second.
+fn fields<A: Allocator + Clone>(
+    alloc: &A,
+    verb: Verb,
+    words: &Words<'_>,
+) -> Result<Action<A>, FaultKind>
+    ensures { IsRead result (λ action. action) (fields_of verb words.now) }
+{
+    match verb {
+        Verb::Call => call(alloc, words),
+        Verb::ReadMsr => read_msr(words),
+        Verb::WriteMsr => write_msr(words),
+        Verb::ReadSlot => words.number_8(2).map(|sint| Action::ReadSlot(sint)),
+        Verb::ClearSlot => words.number_8(2).map(|sint| Action::ClearSlot(sint)),
+        Verb::ReadFlags => words.number_8(2).map(|sint| Action::ReadFlags(sint)),
+        Verb::ClearFlag => clear_flag(words),
+        Verb::TakeInterrupt => Ok(Action::TakeInterrupt),
+    }
 }
 
-fn write_msr(msr: &[u8], value: &[u8]) -> Result<Action<Global>, FaultKind> {
-    let msr = number::number_32(msr).ok_or(FaultKind::Number)?;
-    let value = number::number(value).ok_or(FaultKind::Number)?;
+fn call<A: Allocator + Clone>(alloc: &A, words: &Words<'_>) -> Result<Action<A>, FaultKind>
+    ensures { IsRead result (λ action. action) (fields_of kind.Call words.now) }
+{
+    let rcx = words.number(2)?;
+    let rdx = words.number(3)?;
+    let r8 = words.number(4)?;
+    let alloc = alloc.clone().map_err(|_| FaultKind::Memory)?;
+    let input = Bytes::from_vec(words.bytes(alloc, 5)?);
+    Ok(Action::Hypercall(Frame {
+        rcx,
+        rdx,
+        r8,
+        input,
+    }))
+}
+
+fn read_msr<A: Allocator>(words: &Words<'_>) -> Result<Action<A>, FaultKind>
+    ensures { result ≡ fields_of kind.ReadMsr words.now }
+{
+    Ok(Action::ReadMsr(words.number_32(2)?))
+}
+
+fn write_msr<A: Allocator>(words: &Words<'_>) -> Result<Action<A>, FaultKind>
+    ensures { result ≡ fields_of kind.WriteMsr words.now }
+{
+    let msr = words.number_32(2)?;
+    let value = words.number(3)?;
     Ok(Action::WriteMsr(msr, value))
 }
 
-fn clear_flag(sint: &[u8], flag: &[u8]) -> Result<Action<Global>, FaultKind> {
-    let sint = number::number_8(sint).ok_or(FaultKind::Number)?;
-    let flag = number::number_16(flag).ok_or(FaultKind::Number)?;
+fn clear_flag<A: Allocator>(words: &Words<'_>) -> Result<Action<A>, FaultKind>
+    ensures { result ≡ fields_of kind.ClearFlag words.now }
+{
+    let sint = words.number_8(2)?;
+    let flag = words.number_16(3)?;
     Ok(Action::ClearFlag(sint, flag))
-}
-
-// The number of a SINT, of 8 bits.
-fn sint(word: &[u8]) -> Result<u8, FaultKind> {
-    number::number_8(word).ok_or(FaultKind::Number)
-}
-
-// The processor `ID.VP`, of a 64-bit and a 32-bit number, both decimal.
-fn processor(word: &[u8]) -> Option<Caller> {
-    let dot = word.iter().position(|byte| *byte == b'.')?;
-    let part = number::decimal(&word[..dot])?;
-    let vp = number::decimal(&word[dot + 1..])?;
-    let vp = u32::try_from(vp).ok()?;
-    Some(Caller { part, vp })
 }

@@ -1,12 +1,12 @@
-// The processors of a script.
+// The processors of a phase.
 ghost use Rattle.std.specs.Prelude.{◌≡◌, ◌≢◌, ◌↔◌, ◌⊎◌, ◌<◌, ◌≤◌, ◌++◌, ◌∷◌, [], All, IfSome, IsNone, IsTrue, OnErr, OnOk, length, slice_index_or, vec_len};
 
 use crate::fault::FaultKind;
 use hv_policy::Caller;
 use std::alloc::Global;
 
-// The most processors that a script names.
-const MOST_PROCESSORS: usize = 64;
+/// The most processors that a phase has.
+pub const MOST_PROCESSORS: usize = 64;
 
 /// Why a processor stopped: its event was refused by the host, and not by a rule.
 #[derive(Clone, Copy, PartialEq, Eq, Debug)]
@@ -17,8 +17,7 @@ pub enum Stop {
     Memory,
 }
 
-/// The processors that a script names, in the order of their first lines, and why each stopped, if it
-/// did.
+/// The processors of a phase, in the order of their first lines, and why each stopped, if it did.
 #[derive(Drop)]
 pub struct Processors {
     rows: Vec<Row>,

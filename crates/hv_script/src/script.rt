@@ -1,92 +1,79 @@
 // Scripts.
-ghost use Rattle.std.specs.Prelude.{◌≡◌, ◌≢◌, ◌<◌, ◌≤◌, length};
+ghost use Rattle.std.specs.Prelude.{◌≡◌, ◌≢◌, ◌<◌, ◌≤◌, IfErr, IfOk, length};
+ghost use Rattle.hv_script.specs.Reading.{read_by, said};
+ghost use Rattle.hv_script.specs.Script.{read_lines, script_of};
+ghost use Rattle.hv_script.specs.Words.{lines_of};
 ghost use Rattle.hv_script.specs.declared.script.TheConstants.{MOST_BYTES as MOST};
 
-use crate::fault::{FaultKind, ScriptError};
-use crate::line::{Boot, Line, Words};
-use crate::processors::Processors;
-use std::alloc::Global;
+use crate::fault::{FaultKind, ScriptFault};
+use crate::line::Line;
+use crate::reading::Reading;
+use crate::words::cut_line;
+use hv_policy::Config;
+use std::alloc::Allocator;
 
 /// The most bytes that a script has.
 pub const MOST_BYTES: usize = 1_048_576;
 
 /// A script that has no fault.
 #[derive(Drop)]
-pub struct Script {
-    /// Its first line.
-    pub boot: Boot,
+pub struct Script<A: Allocator> {
+    /// What the root partition is given, not yet checked for a boot.
+    pub config: Config,
+    /// The most events that the history keeps.
+    pub limit: u32,
     /// The lines of its processors, in the text's order.
-    pub lines: Vec<Line>,
-    /// The processors of these lines, none of which stopped.
-    pub processors: Processors,
+    pub lines: Vec<Line<A>, A>,
 }
 
-/// Reads a script, or finds its first fault. Lines end at a line feed or at the end of the text.
-///
-/// The first line with a fault decides, and in a line the order of the kinds of faults. A script with no line to
-/// read has no boot, in line 0.
-pub fn parse(alloc: Global, text: &[u8]) -> Result<Script, ScriptError>
-    ensures long { MOST < length text.now → result ≡ Err (ScriptError.Fault 0 FaultKind.Long) }
-    ensures short { length text.now ≤ MOST → result ≢ Err (ScriptError.Fault 0 FaultKind.Long) }
+/// Reads a script, or finds its first fault: the first line with a fault decides, and in a line the order of the
+/// kinds of faults. Want of memory is told as one, whatever faults come after it.
+#[tactic(auto, unfolding(crate::specs::Script::script_of))]
+pub fn parse<A: Allocator + Clone>(alloc: A, text: &[u8]) -> Result<Script<A>, ScriptFault>
+    ensures script { IfOk result (λ script. script_of text.now ≡ Ok (said script)) }
+    ensures fault { IfErr result (λ fault. fault.kind ≢ FaultKind.Memory → script_of {A = A} text.now ≡ Err fault) }
+    ensures long { MOST < length text.now → result ≡ Err (record { line = 0; kind = FaultKind.Long }) }
 {
     if text.len() > MOST_BYTES {
-        return Err(ScriptError::of_line(0, FaultKind::Long));
+        return Err(ScriptFault {
+            line: 0,
+            kind: FaultKind::Long,
+        });
     }
-    let mut reader = Reader {
-        boot: None,
-        lines: Vec::new(alloc),
-        processors: Processors::new(alloc),
+    let reading = read_lines(&alloc, text)?;
+    let Some(Reading { boot, lines, .. }) = reading else {
+        return Err(ScriptFault {
+            line: 0,
+            kind: FaultKind::NoBoot,
+        });
     };
-    let mut number = 0usize;
-    for line in text.split(|byte| *byte == b'\n') {
-        number = number.saturating_add(1);
-        reader
-            .read(alloc, line)
-            .map_err(|kind| ScriptError::of_line(number, kind))?;
-    }
-    let Reader {
-        boot,
-        lines,
-        processors,
-    } = reader;
-    let boot = boot.ok_or(ScriptError::of_line(0, FaultKind::NoBoot))?;
     Ok(Script {
-        boot,
+        config: boot.config,
+        limit: boot.limit,
         lines,
-        processors,
     })
 }
 
-// What was read of a script so far.
-#[derive(Drop)]
-struct Reader {
-    boot: Option<Boot>,
-    lines: Vec<Line>,
-    processors: Processors,
-}
-
-impl Reader {
-    fn read(&mut self, alloc: Global, line: &[u8]) -> Result<(), FaultKind> {
-        let words = Words::of(line);
-        if words.are_skipped() {
-            return Ok(());
-        }
-        if !line.iter().all(|byte| matches!(*byte, 0x20..=0x7E)) {
-            return Err(FaultKind::Byte);
-        }
-        match (self.boot.is_some(), words.are_boot()) {
-            (false, false) => Err(FaultKind::NoBoot),
-            (true, true) => Err(FaultKind::BootTwice),
-            (false, true) => {
-                self.boot = Some(words.boot()?);
-                Ok(())
-            }
-            (true, false) => self.read_line(words.line(alloc)?),
-        }
+// Reads the lines of a text, which end at a line feed or at the end of the text.
+fn read_lines<A: Allocator + Clone>(
+    alloc: &A,
+    text: &[u8],
+) -> Result<Option<Reading<A>>, ScriptFault>
+    requires { length text.now ≤ MOST }
+    ensures read { IfOk result (λ reading. read_lines 1 None (lines_of text.now) ≡ Ok (read_by reading)) }
+    ensures fault { IfErr result (λ fault. fault.kind ≢ FaultKind.Memory → read_lines {A = A} 1 None (lines_of text.now) ≡ Err fault) }
+{
+    let mut reading = None;
+    let mut number = 0usize;
+    let mut left = Some(text);
+    'lines: while let Some(here) = left {
+        let (line, rest) = cut_line(here);
+        left = rest;
+        number += 1;
+        reading = Reading::read_line(alloc, reading, line).map_err(|kind| ScriptFault {
+            line: number,
+            kind,
+        })?;
     }
-
-    fn read_line(&mut self, line: Line) -> Result<(), FaultKind> {
-        self.processors.add(line.by)?;
-        self.lines.push(line).map_err(|_| FaultKind::Memory)
-    }
+    Ok(reading)
 }

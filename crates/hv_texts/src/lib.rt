@@ -9,6 +9,8 @@ mod bytes;
 #[cfg(test)]
 mod lines;
 #[cfg(test)]
+mod phases;
+#[cfg(test)]
 mod processors;
 #[cfg(test)]
 mod readers;

@@ -3,7 +3,7 @@
 use hv_policy::{Action, Caller, Config};
 use hv_privs::Privileges;
 use hv_run::Asked;
-use hv_script::{Boot, Line, parse};
+use hv_script::{Line, parse};
 use std::alloc::Global;
 use std::process::Abort;
 use std::test::Fail;
@@ -46,12 +46,8 @@ fn boot_lines(rt: HostRuntime) -> Result<(), Fail> {
             vps,
             mask: Privileges::of(mask),
         };
-        let Boot {
-            config: given,
-            limit: kept,
-        } = script.boot;
-        assert_eq!(rt; given, config, "{line}");
-        assert_eq!(rt; kept, limit, "{line}");
+        assert_eq!(rt; script.config, config, "{line}");
+        assert_eq!(rt; script.limit, limit, "{line}");
         assert!(rt; script.lines.is_empty(), "{line}");
     }
     Ok(())
@@ -306,7 +302,7 @@ fn refused_lines(rt: HostRuntime) -> Result<(), Fail> {
     Ok(())
 }
 
-fn assert_call(rt: &impl Abort, line: &Line, row: &Row<'_>) {
+fn assert_call(rt: &impl Abort, line: &Line<Global>, row: &Row<'_>) {
     let by = Caller {
         part: row.part,
         vp: row.vp,
