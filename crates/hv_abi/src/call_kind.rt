@@ -67,7 +67,31 @@ impl CallKind {
         ensures kind { result ≡ kind_of code }
         ensures every { (call : CallKind) → (row_of call).code ≡ code → result ≡ Some call }
     {
-        ALL_CALLS.into_iter().find(|kind| kind.code() == code)
+        // A jump by the code, and no search through the table, which the contract holds it to.
+        match code {
+            0x40 => Some(CallKind::CreatePartition),
+            0x41 => Some(CallKind::InitializePartition),
+            0x42 => Some(CallKind::FinalizePartition),
+            0x43 => Some(CallKind::DeletePartition),
+            0x44 => Some(CallKind::GetPartitionProperty),
+            0x45 => Some(CallKind::SetPartitionProperty),
+            0x46 => Some(CallKind::GetPartitionId),
+            0x47 => Some(CallKind::GetNextChildPartition),
+            0x48 => Some(CallKind::DepositMemory),
+            0x49 => Some(CallKind::WithdrawMemory),
+            0x4A => Some(CallKind::GetMemoryBalance),
+            0x4E => Some(CallKind::CreateVp),
+            0x4F => Some(CallKind::DeleteVp),
+            0x50 => Some(CallKind::GetVpRegisters),
+            0x51 => Some(CallKind::SetVpRegisters),
+            0x58 => Some(CallKind::DeletePort),
+            0x5B => Some(CallKind::DisconnectPort),
+            0x5C => Some(CallKind::PostMessage),
+            0x5D => Some(CallKind::SignalEvent),
+            0x95 => Some(CallKind::CreatePort),
+            0x96 => Some(CallKind::ConnectPort),
+            _ => None,
+        }
     }
 
     /// The call's row in the table.

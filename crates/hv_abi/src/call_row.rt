@@ -1,6 +1,8 @@
 // The table of calls, as far as the binary interface needs it.
 ghost use Rattle.std.specs.Prelude.{◌≡◌};
 
+use crate::input_value::InputValue;
+
 /// A call's row: its code, its kind of call and the lengths of its lists, in bytes (TLFS 4.0, the pages
 /// of the calls). The codes 0x95 and 0x96 and the lengths are this project's own.
 #[derive(Clone, Copy, PartialEq, Eq, Debug)]
@@ -24,6 +26,7 @@ pub struct CallRow {
 // What is promised here holds for any row, and so rests on none that the table has.
 impl CallRow {
     ghost use Rattle.hv_abi.specs.CallRow.{input_len, output_len};
+    ghost use Rattle.hv_abi.specs.Check.{is_input_valid};
 
     /// How many bytes the input list has, header and elements. A simple call's rep count is 0.
     pub fn input_len(self, reps: u16) -> u32
@@ -37,6 +40,20 @@ impl CallRow {
         ensures { result ≡ output_len self reps }
     {
         u32::from(self.output) + u32::from(self.output_element) * u32::from(reps)
+    }
+
+    /// Whether a call with this row takes the input value: no reserved bit is set, the fast bit is set only where the row
+    /// accepts it, a simple call has neither rep count nor start index, and a rep call starts below its count.
+    pub fn takes(self, rcx: u64) -> bool
+        ensures { result ≡ is_input_valid self rcx }
+    {
+        let value = InputValue::read(rcx);
+        let reps_valid = if self.rep {
+            value.reps >= 1 && value.start < value.reps
+        } else {
+            value.reps == 0 && value.start == 0
+        };
+        value.reserved_zero && (!value.fast || self.fast) && reps_valid
     }
 }
 

@@ -1,7 +1,7 @@
 // Frames and their check.
-ghost use Rattle.std.specs.Prelude.{◌≡◌, ◌<◌, IfOk, IfErr, slice_index};
+ghost use Rattle.std.specs.Prelude.{◌≡◌, ◌<◌, ◌↔◌, IfOk, IfErr, IsTrue, slice_index};
 ghost use Rattle.hv_defs.specs.declared.sizes.TheConstants.{REPS_END};
-ghost use Rattle.hv_abi.specs.Check.{is_input_valid, is_placed};
+ghost use Rattle.hv_abi.specs.Check.{is_placed};
 ghost use Rattle.hv_abi.specs.InputValue.{input_value, restarted};
 
 use crate::bytes::Bytes;
@@ -66,7 +66,7 @@ impl<A: Allocator> Frame<A> {
             return Err(AbiFault::UnknownCode);
         };
         let row = kind.row();
-        if !takes_input(row, self.rcx) {
+        if !row.takes(self.rcx) {
             return Err(AbiFault::Input);
         }
         if !self.places_lists(row) {
@@ -116,6 +116,16 @@ impl<A: Allocator> Frame<A> {
             input: self.input,
         }
     }
+
+    /// Whether both frames have the same registers and the same bytes.
+    pub fn is_same(&self, other: &Frame<A>) -> bool
+        ensures { IsTrue result ↔ (self.now ≡ other.now) }
+    {
+        self.rcx == other.rcx
+            && self.rdx == other.rdx
+            && self.r8 == other.r8
+            && self.input.is_same(&other.input)
+    }
 }
 
 // The bits of an input value below its rep start index.
@@ -134,19 +144,6 @@ impl<A: Allocator + Clone> Frame<A> {
             input,
         })
     }
-}
-
-// Whether a call with this row takes the input value.
-fn takes_input(row: CallRow, rcx: u64) -> bool
-    ensures { result ≡ is_input_valid row rcx }
-{
-    let value = InputValue::read(rcx);
-    let reps_valid = if row.rep {
-        value.reps >= 1 && value.start < value.reps
-    } else {
-        value.reps == 0 && value.start == 0
-    };
-    value.reserved_zero && (!value.fast || row.fast) && reps_valid
 }
 
 // Whether a list of `len` bytes may stand at an address: anywhere if it is empty.

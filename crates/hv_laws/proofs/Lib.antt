@@ -1,7 +1,9 @@
 pub mod Booting
 pub mod Changing
 pub mod Creation
+pub mod Counted
 pub mod Deleting
+pub mod Ended
 pub mod Granted
 pub mod Laws
 pub mod Lending

@@ -14,6 +14,7 @@ use Rattle.hv_policy.specs.Answer.{is_done}
 use Rattle.hv_policy.specs.Asked.{asked, call_rules}
 use Rattle.hv_policy.specs.Flat.{Flat}
 use Rattle.hv_policy.specs.Met.{met}
+use Rattle.hv_policy.specs.Next.{GoesOn}
 use Rattle.hv_policy.specs.Result.{HasResult}
 use Rattle.hv_policy.specs.Rule.{rule_status}
 use Rattle.hv_policy.specs.Step.{NamesAsked, denied_with, step, step_by, unmet}
@@ -131,3 +132,34 @@ module _ {A : Type 0} (f : Flat) where
 
   pub names_asked : (e : Event A) → NamesAsked e (step f e).1
   names_asked e = by_action e.by e.what (unmet f e) refl
+
+-- a call goes on with the element after the one that was served
+module _ {A : Type 0} (f : Flat) where
+  next_of : (by : Caller) (frame : Frame A) (b : Bool) → is_done frame (call_of frame) ≡ b → (bytes : List ℕ) → GoesOn (Hypercall frame) (cond b (Served bytes) (More (bits frame.rcx 48 12 + 1) bytes))
+  next_of by frame true is bytes = tt
+  next_of by frame false is bytes = (refl, more f by frame (call_of frame) is)
+
+  ended_by : (frame : Frame A) (rule : Rule) (status : Option Status) → GoesOn (Hypercall frame) (denied_with frame rule status)
+  ended_by frame rule None = tt
+  ended_by frame rule (Some status) = tt
+
+  went_on : (by : Caller) (what : Action A) (rule : Option Rule) → GoesOn what (step_by f (record { by = by; what = what }) rule).1
+  went_on by (Hypercall frame) None = next_of by frame (is_done frame (call_of frame)) refl _
+  went_on by (Hypercall frame) (Some rule) = ended_by frame rule (rule_status rule (call_of frame))
+  went_on by (ReadMsr msr) None = tt
+  went_on by (ReadMsr msr) (Some rule) = tt
+  went_on by (WriteMsr msr value) None = tt
+  went_on by (WriteMsr msr value) (Some rule) = tt
+  went_on by (ReadSlot sint) None = tt
+  went_on by (ReadSlot sint) (Some rule) = tt
+  went_on by (ClearSlot sint) None = tt
+  went_on by (ClearSlot sint) (Some rule) = tt
+  went_on by (ReadFlags sint) None = tt
+  went_on by (ReadFlags sint) (Some rule) = tt
+  went_on by (ClearFlag sint flag) None = tt
+  went_on by (ClearFlag sint flag) (Some rule) = tt
+  went_on by TakeInterrupt None = tt
+  went_on by TakeInterrupt (Some rule) = tt
+
+  pub goes_on : (e : Event A) → GoesOn e.what (step f e).1
+  goes_on e = went_on e.by e.what (unmet f e)

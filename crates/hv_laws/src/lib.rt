@@ -4,7 +4,7 @@
 //! definitions of `hv_policy`.
 #![tactic(auto)]
 
-ghost use Rattle.std.specs.Prelude.{◌≡◌, ℕ, Some, true, List, None};
+ghost use Rattle.std.specs.Prelude.{◌≡◌, ◌≤◌, ℕ, Some, true, List, None, length};
 ghost use Rattle.std.specs.FinMap.{get};
 ghost use Rattle.hv_policy.specs.Boot.{boot};
 ghost use Rattle.hv_policy.specs.Effect.{effect};
@@ -12,6 +12,7 @@ ghost use Rattle.hv_policy.specs.Flat.{Flat, PartRow, VpRow, PortRow, ConnRow};
 ghost use Rattle.hv_abi.specs.declared.frame.Frame.{Frame};
 ghost use Rattle.hv_policy.specs.Mail.{kept_of, mail_at};
 ghost use Rattle.hv_policy.specs.Same.{IsSame};
+ghost use Rattle.hv_policy.specs.Next.{GoesOn};
 ghost use Rattle.hv_policy.specs.Result.{HasResult};
 ghost use Rattle.hv_policy.specs.Step.{NamesAsked, run, run_from, step, unmet};
 ghost use Rattle.hv_policy.specs.declared.event.Action.TheVariants.{Hypercall};
@@ -52,8 +53,15 @@ pub fn order_across_places_does_not_count<A>()
     ensures lawful { (pages : ℕ) (f g : Flat) → IsSame f g → IsLawful pages f → IsLawful pages g }
 {}
 
-/// A refusal names a rule that its event is asked, and each reply to a hypercall has a result value.
+/// No more events of a run are served than there are.
+pub fn no_more_events_are_served_than_there_are<A>()
+    ensures runs { (config : Config) (events : List (Event A)) → (run config events).0.served ≤ length events }
+{}
+
+/// A refusal names a rule that its event is asked, each reply to a hypercall has a result value, and a call goes on with the
+/// element after the one that was served.
 pub fn each_reply_fits_its_event<A>()
     ensures asked { (f : Flat) (e : Event A) → NamesAsked e (step f e).1 }
     ensures result { (f : Flat) (by : Caller) (frame : Frame A) → HasResult (step f (record { by = by; what = Hypercall frame })).1 }
+    ensures next { (f : Flat) (e : Event A) → GoesOn e.what (step f e).1 }
 {}

@@ -1,6 +1,8 @@
 -- From what a chapter made of an access to the machine.
 use Rattle.std.proofs.Common.{◌≡◌, ℕ, ◌+◌, false, Option, None, Some, refl, ap, ◌∙◌}
 use Rattle.hv_defs.specs.Registers.{name_of_msr}
+use Rattle.hv_laws.proofs.Counted.{action_served}
+use Rattle.hv_laws.proofs.Ended.{write_next_is}
 use Rattle.hv_laws.proofs.Laws.{lawful_effect}
 use Rattle.hv_partition.specs.Partition.{PartitionState}
 use Rattle.hv_policy.proofs.Unmet.{past_caller, unmet_by_caller}
@@ -18,7 +20,6 @@ use Rattle.hv_policy.specs.declared.rule.Rule.{Rule}
 use Rattle.hv_tie.proofs.Room.{roomless_tied}
 use Rattle.hv_tie.specs.Tie.{IsTied}
 use Rattle.hv_tree.specs.Rows.{Rows}
-use Rattle.hv_machine.proofs.Ended.{write_next_is, write_served_is}
 use Rattle.hv_machine.proofs.Serving.{state_of}
 use Rattle.hv_machine.specs.IsFlat.{IsFlat}
 use Rattle.hv_machine.specs.Lasting.{IsLasting}
@@ -45,16 +46,6 @@ module _ {A : Type 0} where
   next_is (ClearFlag sint flag) f by h = refl
   next_is TakeInterrupt f by h = refl
 
-  served_is : (what : Action A) (f : Flat) (by : Caller) → is_call what ≡ false → (action_effect f by what).served ≡ f.served
-  served_is (Hypercall frame) f by h = cc
-  served_is (ReadMsr msr) f by h = refl
-  served_is (WriteMsr msr value) f by h = write_served_is by.part by.vp (name_of_msr msr) value f
-  served_is (ReadSlot sint) f by h = refl
-  served_is (ClearSlot sint) f by h = refl
-  served_is (ReadFlags sint) f by h = refl
-  served_is (ClearFlag sint flag) f by h = refl
-  served_is TakeInterrupt f by h = refl
-
   module _ (f : Flat) (e : Event A) where
     -- the flat step of an event that is refused, and of one that isn't
     pub refused_access : is_call e.what ≡ false → (rule : Rule) → unmet f e ≡ Some rule → step f e ≡ (f, Fault rule)
@@ -78,7 +69,7 @@ module _ {A : Type 0} (tree new : Rows PartitionState) (pages next served : ℕ)
       record {
         tied = record { rows = λ id. (let old = shown.rows id in record { part = old.part; page = old.page; vp = old.vp; port = old.port; conn = old.conn; mail = old.mail }) };
         next = next_is e.what f e.by access ∙ flat.next;
-        served = ap (λ n. n + 1) (served_is e.what f e.by access ∙ flat.served);
+        served = ap (λ n. n + 1) (action_served e.what f e.by ∙ flat.served);
       }
 
   -- and that is lawful

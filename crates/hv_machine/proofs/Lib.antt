@@ -1,7 +1,6 @@
 pub mod Accessing
 pub mod Booted
 pub mod Calls
-pub mod Ended
 pub mod Root
 pub mod Serving
 pub mod Sound

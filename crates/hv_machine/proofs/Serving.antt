@@ -3,6 +3,8 @@ use Rattle.std.proofs.Common.{◌≡◌, ℕ, ◌+◌, None, refl, ap, ◌∙◌
 use Rattle.std.specs.declared.result.Result.TheVariants.{Err}
 use Rattle.hv_calls.specs.declared.call.Call.{Call}
 use Rattle.hv_calls.specs.declared.call.Call.TheVariants.{CreatePartition, InitializePartition, FinalizePartition, DeletePartition, GetPartitionProperty, SetPartitionProperty, GetPartitionId, GetNextChildPartition, DepositMemory, WithdrawMemory, GetMemoryBalance, CreateVp, DeleteVp, GetVpRegisters, SetVpRegisters, DeletePort, DisconnectPort, PostMessage, SignalEvent, CreatePort, ConnectPort}
+use Rattle.hv_laws.proofs.Counted.{call_served}
+use Rattle.hv_laws.proofs.Ended.{posted_counted, register_counted, signalled_counted}
 use Rattle.hv_laws.proofs.Laws.{granted_lawful}
 use Rattle.hv_laws.specs.Bounded.{IsBounded}
 use Rattle.hv_partition.specs.Partition.{PartitionState}
@@ -18,7 +20,6 @@ use Rattle.hv_tie.specs.Tie.{IsTied}
 use Rattle.hv_tie.specs.declared.refused.Refused.{Refused}
 use Rattle.hv_tie.specs.declared.refused.Refused.TheVariants.{Unmet, Memory}
 use Rattle.hv_tree.specs.Rows.{Rows}
-use Rattle.hv_machine.proofs.Ended.{posted_counted, register_counted, signalled_counted}
 use Rattle.hv_machine.specs.Access.{HasAccess}
 use Rattle.hv_machine.specs.IsFlat.{IsFlat}
 use Rattle.hv_machine.specs.Lasting.{IsLasting}
@@ -26,7 +27,7 @@ use Rattle.hv_machine.specs.Next.{next_after}
 use Rattle.hv_machine.specs.Served.{IsResult}
 use Rattle.hv_machine.specs.State.{State}
 
--- what a call leaves as the next id and the count of served events
+-- what a call leaves as the next id
 next_is : (call : Call) (f : Flat) (caller target : ℕ) → (call_effect call f caller target).next ≡ next_after call f.next
 next_is (CreatePartition flags) f caller target = refl
 next_is (InitializePartition partition) f caller target = refl
@@ -50,29 +51,6 @@ next_is (SignalEvent connection flag) f caller target = (signalled_counted (aim_
 next_is (CreatePort partition port peer port_kind sint vp base count) f caller target = refl
 next_is (ConnectPort partition connection port_partition port port_kind) f caller target = refl
 
-served_is : (call : Call) (f : Flat) (caller target : ℕ) → (call_effect call f caller target).served ≡ f.served
-served_is (CreatePartition flags) f caller target = refl
-served_is (InitializePartition partition) f caller target = refl
-served_is (FinalizePartition partition) f caller target = refl
-served_is (DeletePartition partition) f caller target = refl
-served_is (GetPartitionProperty partition code) f caller target = refl
-served_is (SetPartitionProperty partition code value) f caller target = refl
-served_is GetPartitionId f caller target = refl
-served_is (GetNextChildPartition partition previous) f caller target = refl
-served_is (DepositMemory partition page) f caller target = refl
-served_is (WithdrawMemory partition) f caller target = refl
-served_is (GetMemoryBalance partition) f caller target = refl
-served_is (CreateVp partition vp) f caller target = refl
-served_is (DeleteVp partition vp) f caller target = refl
-served_is (GetVpRegisters partition vp name) f caller target = refl
-served_is (SetVpRegisters partition vp name value) f caller target = (register_counted target vp name value f).served
-served_is (DeletePort partition port) f caller target = refl
-served_is (DisconnectPort partition connection) f caller target = refl
-served_is (PostMessage connection message_type payload) f caller target = (posted_counted (aim_of f (target, connection)) message_type payload f).served
-served_is (SignalEvent connection flag) f caller target = (signalled_counted (aim_of f (target, connection)) flag f).served
-served_is (CreatePort partition port peer port_kind sint vp base count) f caller target = refl
-served_is (ConnectPort partition connection port_partition port port_kind) f caller target = refl
-
 -- a machine of this tree
 abbrev pub state_of : Rows PartitionState → ℕ → ℕ → ℕ → State
 state_of tree pages next served = record { rows = roomless tree; pages = pages; next = next; served = served }
@@ -94,7 +72,7 @@ module _ (tree new : Rows PartitionState) (pages next served caller : ℕ) (call
       record {
         tied = record { rows = λ id. (let old = shown.rows id in record { part = old.part; page = old.page; vp = old.vp; port = old.port; conn = old.conn; mail = old.mail }) };
         next = next_is call f caller (target_of call caller) ∙ ap (next_after call) flat.next;
-        served = ap (λ n. n + 1) (served_is call f caller (target_of call caller) ∙ flat.served);
+        served = ap (λ n. n + 1) (call_served call f caller (target_of call caller) ∙ flat.served);
       }
 
   -- and that is lawful

@@ -31,7 +31,7 @@ impl<A: Allocator + Clone> Machine<A> {
         ensures lasting { IfOk result IsLasting }
         ensures sound { IfOk result IsSound }
     {
-        check(config)?;
+        check_config(config)?;
         let Ok(tree) = make_tree(&alloc, config) else {
             return Err(BootRefused::Memory);
         };
@@ -45,8 +45,8 @@ impl<A: Allocator + Clone> Machine<A> {
     }
 }
 
-// The first fault of a configuration.
-fn check(config: Config) -> Result<(), BootRefused>
+/// Names the first fault of a configuration, if it has one.
+pub fn check_config(config: Config) -> Result<(), BootRefused>
     ensures ok { IfOk result (λ u. boot_fault config ≡ None) }
     ensures fault { IfErr result (λ e. boot_fault config ≡ Some e) }
 {

@@ -15,5 +15,6 @@ mod boot;
 mod dispatch;
 mod machine;
 
+pub use boot::check_config;
 pub use hv_policy::{Action, BootRefused, Caller, Config, Event, Output, Reply, Rule, result_of};
 pub use machine::{HostRefused, Machine};

@@ -1,15 +1,17 @@
 -- The command line, and what its words say.
-use Rattle.std.specs.Prelude.{◌≢◌, Bool, true, false, List, [], ◌∷◌, Option, Some}
+use Rattle.std.specs.Prelude.{◌≡◌, Bool, true, false, List, [], ◌∷◌, Option, Some}
 use Rattle.std.specs.Prelude.{codes, option_and_then, option_map}
+use Rattle.std.specs.List.{list_all, list_any}
 use Rattle.std.specs.Option.{option_map_or}
 use Rattle.std.specs.Str.{bytes_eq}
-use Rattle.clap.specs.Words.{App, IsAmong, Kinds, Row, Rule, Text, fault_of, first_of, new_app}
+use Rattle.clap.specs.Words.{App, Kinds, Row, Rule, Text, fault_of, first_of, new_app}
 use Rattle.clap.specs.Words.{subcommand_rows_of}
 use Rattle.clap.specs.declared.parser.matches.ArgMatches.{ArgMatches}
 use Rattle.clap.specs.Words.{new_rule, subcommand_of, with_rule, with_subcommand}
 use Rattle.clap.specs.Simple.{on_top}
 use Rattle.clap.specs.declared.builder.action.ArgAction.TheVariants.{SetTrue}
-use Rattle.clap.specs.declared.error.kind.ErrorKind.TheVariants.{DisplayHelp}
+use Rattle.clap.specs.declared.error.kind.ErrorKind.{ErrorKind}
+use Rattle.clap.specs.declared.error.kind.ErrorKind.TheVariants.{DisplayHelp, DisplayVersion}
 use Rattle.hv_options.specs.declared.usage.Usage.{Usage}
 use Rattle.hv_options.specs.declared.usage.Usage.TheVariants.{Help, Words, Memory}
 
@@ -26,9 +28,9 @@ abbrev pub run_line : App
 run_line = with_rule (with_rule (with_rule (new_app (codes "run")) script_rule)
     (flag_rule (codes "serial"))) (flag_rule (codes "table"))
 
--- `hvpm` alone, which needs a subcommand
+-- `hvpm` alone, which has a version and needs a subcommand
 abbrev pub bare_line : App
-bare_line = on_top (λ s. record s { subcommand_required = true }) (new_app (codes "hvpm"))
+bare_line = on_top (λ s. record s { has_version = true; subcommand_required = true }) (new_app (codes "hvpm"))
 
 -- the whole command line
 abbrev pub command_line : App
@@ -63,8 +65,19 @@ said_by words = option_and_then said_by_rows (run_matches words)
 unfoldable pub faults_of : List Text → Kinds
 faults_of words = fault_of command_line words
 
--- what a refusal says of these kinds: help was asked for, or it was not that alone
+-- the kind of error that is no mistake: help or the version is to be shown
+abbrev pub is_request : ErrorKind → Bool
+is_request DisplayHelp = true
+is_request DisplayVersion = true
+is_request _ = false
+
+-- help or the version was asked for, and nothing else can have been wrong
+abbrev pub is_request_alone : Kinds → Bool
+is_request_alone [] = false
+is_request_alone (kind ∷ more) = list_all is_request (kind ∷ more)
+
+-- what a refusal says of these kinds: help or the version was asked for, or it was not that alone
 abbrev pub Explains : Kinds → Usage → Type 0
-Explains kinds (Help text) = IsAmong DisplayHelp kinds
-Explains kinds (Words text) = kinds ≢ DisplayHelp ∷ []
+Explains kinds (Help text) = list_any is_request kinds ≡ true
+Explains kinds (Words text) = is_request_alone kinds ≡ false
 Explains kinds Memory = Unit {0}

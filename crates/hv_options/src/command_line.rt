@@ -1,8 +1,8 @@
 // The command line, and what its words ask for.
-ghost use Rattle.std.specs.Prelude.{◌≡◌, ◌∷◌, [], List, ℕ, Some, true, false, map, IfOk, IfErr, OnOk, codes};
+ghost use Rattle.std.specs.Prelude.{◌≡◌, [], Bool, List, ℕ, Some, true, false, map, IfOk, IfErr, OnOk};
 ghost use Rattle.clap.specs.Words.{HasKind, Kinds, app_of, found_of, kind_of, rows_of, rule_of};
 ghost use Rattle.clap.specs.declared.builder.command.Command.TheViews.{out-Command as fields_of};
-ghost use Rattle.hv_options.specs.Options.{Explains, command_line, faults_of, flag_rule, is_given, run_line, said_by, said_by_matches, script_rule};
+ghost use Rattle.hv_options.specs.Options.{Explains, command_line, faults_of, flag_rule, is_given, is_request, run_line, said_by, said_by_matches, script_rule};
 
 use crate::usage::{Options, Usage};
 use clap::error::ErrorKind;
@@ -10,16 +10,19 @@ use clap::{Arg, ArgAction, ArgMatches, Command, Error as ClapError};
 use std::alloc::{AllocError, Global};
 use std::convert::AsStr;
 
+// What `--version` shows after the program's name.
+const VERSION: &str = "0.1.0";
+
 /// Reads the words of the command line, of which the first is the program's name, as in `env::args`.
 ///
-/// For now `--serial` is required and `--table` is refused: `Words` says so.
+/// `--serial` is required for now: `Words` says so where it is left out. `--table` may be given or not.
 pub fn options<'a, S: AsStr>(alloc: Global, words: &'a [S]) -> Result<Options<'a>, Usage>
     ensures said { IfOk result (λ o. said_by (map S.text words.entry.now) ≡ Some (o.script.now, o.serial, o.table)) }
     ensures faultless { OnOk result (faults_of (map S.text words.entry.now) ≡ []) }
-    ensures for_now { IfOk result (λ o. (o.serial ≡ true) × (o.table ≡ false)) }
+    ensures for_now { IfOk result (λ o. o.serial ≡ true) }
     ensures refused { IfErr result (Explains (faults_of (map S.text words.entry.now))) }
-    ensures accepted { (script : List ℕ) → faults_of (map S.text words.entry.now) ≡ []
-        → said_by (map S.text words.entry.now) ≡ Some (script, true, false)
+    ensures accepted { (script : List ℕ) (table : Bool) → faults_of (map S.text words.entry.now) ≡ []
+        → said_by (map S.text words.entry.now) ≡ Some (script, true, table)
         → IfErr result (λ usage. usage ≡ Usage.Memory) }
 {
     let command = command(alloc)?;
@@ -35,6 +38,7 @@ fn command<'a>(alloc: Global) -> Result<Command<'a>, AllocError>
 {
     let run = run_command(alloc)?;
     Command::new(alloc, "hvpm")
+        .version(VERSION)
         .about("Runs a script of hypercalls on a model of Hyper-V's partition manager")
         .subcommand_required(true)
         .subcommand(run)
@@ -85,9 +89,9 @@ fn flag<'a>(alloc: Global, name: &'a str, help: &'a str) -> Arg<'a>
 // What the matches say, where clap took the words.
 fn read<'a>(alloc: Global, matches: &ArgMatches<'a>) -> Result<Options<'a>, Usage>
     ensures said { IfOk result (λ o. said_by_matches matches.now ≡ Some (o.script.now, o.serial, o.table)) }
-    ensures for_now { IfOk result (λ o. (o.serial ≡ true) × (o.table ≡ false)) }
+    ensures for_now { IfOk result (λ o. o.serial ≡ true) }
     ensures refused { IfErr result (Explains []) }
-    ensures accepted { (script : List ℕ) → said_by_matches matches.now ≡ Some (script, true, false)
+    ensures accepted { (script : List ℕ) (table : Bool) → said_by_matches matches.now ≡ Some (script, true, table)
         → IfErr result (λ usage. usage ≡ Usage.Memory) }
 {
     let Some((_, run)) = matches.subcommand() else {
@@ -103,9 +107,6 @@ fn read<'a>(alloc: Global, matches: &ArgMatches<'a>) -> Result<Options<'a>, Usag
             alloc,
             "error: `--serial` is required, since no threads are there yet\n",
         ));
-    }
-    if table {
-        return Err(Usage::mistake(alloc, "error: `--table` is not there yet\n"));
     }
     Ok(Options {
         script,
@@ -124,7 +125,7 @@ fn is_given(matches: &ArgMatches<'_>, name: &str) -> bool
     }
 }
 
-// A refusal of clap's, with its text.
+// A refusal of clap's, with its text, which is shown and no mistake where it is help or the version.
 fn refusal(alloc: Global, error: &ClapError) -> Usage
     ensures explains { (kinds : Kinds) → HasKind kinds error.now → Explains kinds result }
     ensures memory { kind_of error.now ≡ ErrorKind.OutOfMemory → result ≡ Usage.Memory }
@@ -134,8 +135,15 @@ fn refusal(alloc: Global, error: &ClapError) -> Usage
         return Usage::Memory;
     }
     match error.to_string(alloc) {
-        Ok(text) if kind == ErrorKind::DisplayHelp => Usage::Help(text),
+        Ok(text) if is_request(kind) => Usage::Help(text),
         Ok(text) => Usage::Words(text),
         Err(_) => Usage::Memory,
     }
+}
+
+// Whether clap's error of this kind is no mistake, and its text is what was asked for.
+fn is_request(kind: ErrorKind) -> bool
+    ensures { result ≡ is_request kind }
+{
+    matches!(kind, ErrorKind::DisplayHelp | ErrorKind::DisplayVersion)
 }

@@ -2,8 +2,8 @@
 //!
 //! [`options`] reads them by `clap`, and its contract says what they come to by clap's own words: where it answers
 //! Ok, the script and both flags are those of clap's matches of the words, and where it refuses, [`Usage`] says
-//! whether help was asked for. `specs/Options.antt` has the command line as clap takes it. Nothing is printed here,
-//! and no exit status is chosen.
+//! whether help or the version was asked for. `specs/Options.antt` has the command line as clap takes it. Nothing is
+//! printed here, and no exit status is chosen.
 #![tactic(auto)]
 
 mod command_line;

@@ -19,7 +19,7 @@ pub struct Options<'a> {
 /// Why there are no options.
 #[derive(Debug, Drop, Error)]
 pub enum Usage {
-    /// Help was asked for. The text is whole lines for standard output.
+    /// Help or the version was asked for. The text is whole lines for standard output.
     #[error("{0}")]
     Help(String),
     /// The words are wrong. The text is whole lines for standard error.

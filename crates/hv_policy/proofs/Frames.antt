@@ -10,7 +10,6 @@ use Rattle.hv_abi.specs.Check.{call_of, is_input_valid, are_lists_placed, fault_
 use Rattle.hv_abi.specs.CallRow.{row_of}
 use Rattle.hv_policy.specs.Asked.{call_rules}
 use Rattle.hv_policy.specs.Flat.{Flat}
-use Rattle.hv_policy.specs.Result.{start_if_valid, refused_reps}
 use Rattle.hv_policy.specs.Step.{first_unmet}
 use Rattle.hv_policy.specs.declared.event.Action.TheVariants.{Hypercall}
 use Rattle.hv_policy.specs.declared.event.Caller.{Caller}
@@ -54,28 +53,3 @@ module _ {A : Type 0} (f : Flat) (caller : Caller) (frame : Frame A) where
   -- a frame is refused by the rule that its first fault breaks
   pub unmet_fault : (wrong : AbiFault) → first_fault frame ≡ Some wrong → first_unmet f event (call_rules (call_of frame)) ≡ Some (rule_of wrong)
   unmet_fault wrong h = faulty (call_of frame) refl wrong h
-
--- the reps of a refused call, by the frame's first fault
-abbrev pub reps_by : ℕ → AbiFault → ℕ
-reps_by start UnknownCode = 0
-reps_by start Input = 0
-reps_by start fault.Alignment = start
-
-module _ {A : Type 0} (frame : Frame A) where
-  reps_at : (c : Option CallKind) (wrong : AbiFault) → fault_at frame c ≡ Some wrong → start_if_valid frame.rcx c ≡ reps_by (bits frame.rcx 48 12) wrong
-  reps_at None UnknownCode h = refl
-  reps_at None Input h = cc
-  reps_at None fault.Alignment h = cc
-  reps_at (Some call) wrong h = by (is_input_valid (row_of call) frame.rcx) (are_lists_placed (row_of call) frame) wrong h
-    where
-      by : (v p : Bool) (wrong : AbiFault) → cond (not v) (Some Input) (cond (not p) (Some fault.Alignment) None) ≡ Some wrong → cond v (bits frame.rcx 48 12) 0 ≡ reps_by (bits frame.rcx 48 12) wrong
-      by false p UnknownCode h = cc
-      by false p Input h = refl
-      by false p fault.Alignment h = cc
-      by true false UnknownCode h = cc
-      by true false Input h = cc
-      by true false fault.Alignment h = refl
-      by true true wrong h = cc
-
-  pub reps_of_fault : (wrong : AbiFault) → first_fault frame ≡ Some wrong → refused_reps frame ≡ reps_by (bits frame.rcx 48 12) wrong
-  reps_of_fault wrong h = reps_at (call_of frame) wrong h

@@ -12,6 +12,7 @@ pub mod Flat
 pub mod Mail
 pub mod Met
 pub mod Needs
+pub mod Next
 pub mod Property
 pub mod Result
 pub mod Rule

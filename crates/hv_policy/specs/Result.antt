@@ -2,8 +2,8 @@
 use Rattle.std.specs.Prelude.{ℕ, ◌<◌, if◌then◌else◌, Option, None, Some}
 use Rattle.hv_defs.specs.declared.sizes.TheConstants.{REPS_END}
 use Rattle.hv_defs.specs.Bits.{bits}
-use Rattle.hv_abi.specs.CallRow.{row_of}
-use Rattle.hv_abi.specs.Check.{call_of, is_input_valid}
+use Rattle.hv_abi.specs.CallRow.{kind_of, row_of}
+use Rattle.hv_abi.specs.Check.{is_input_valid}
 use Rattle.hv_abi.specs.InputValue.{result_value}
 use Rattle.hv_abi.specs.Status.{status_code}
 use Rattle.hv_abi.specs.declared.call_kind.CallKind.{CallKind}
@@ -12,27 +12,31 @@ use Rattle.hv_abi.specs.declared.status.Status.TheVariants.{Success}
 use Rattle.hv_policy.specs.declared.reply.Reply.{Reply}
 use Rattle.hv_policy.specs.declared.reply.Reply.TheVariants.{Served, More, Denied, Fault}
 
+-- the call that an input value names, if there is one with its code
+abbrev pub kind_in : ℕ → Option CallKind
+kind_in rcx = kind_of (bits rcx 0 16)
+
 abbrev pub start_if_valid : ℕ → Option CallKind → ℕ
 start_if_valid rcx None = 0
 start_if_valid rcx (Some kind) = if is_input_valid (row_of kind) rcx then bits rcx 48 12 else 0
 
 -- the reps completed of a call that was refused: its start index where P4 and P5 are met, else 0
-abbrev pub refused_reps : {A : Type 0} → Frame A → ℕ
-refused_reps frame = start_if_valid frame.rcx (call_of frame)
+abbrev pub refused_reps : ℕ → ℕ
+refused_reps rcx = start_if_valid rcx (kind_in rcx)
 
 abbrev pub count_if_rep : ℕ → Option CallKind → ℕ
 count_if_rep rcx None = 0
 count_if_rep rcx (Some kind) = if (row_of kind).rep then bits rcx 32 12 else 0
 
 -- the reps completed of a call whose last element was served: all of them, and none of a simple call
-abbrev pub completed_reps : {A : Type 0} → Frame A → ℕ
-completed_reps frame = count_if_rep frame.rcx (call_of frame)
+abbrev pub completed_reps : ℕ → ℕ
+completed_reps rcx = count_if_rep rcx (kind_in rcx)
 
 -- the result value of a frame and its reply, which counts reps from the first element of the list
 abbrev pub result_of : {A : Type 0} → Frame A → Reply → ℕ
-result_of frame (Served output) = result_value (status_code Success) (completed_reps frame)
+result_of frame (Served output) = result_value (status_code Success) (completed_reps frame.rcx)
 result_of frame (More next output) = result_value (status_code Success) next
-result_of frame (Denied rule status reps) = result_value (status_code status) (refused_reps frame)
+result_of frame (Denied rule status reps) = result_value (status_code status) (refused_reps frame.rcx)
 result_of frame (Fault rule) = 0
 
 -- a call's reply: no fault, and the next element of a rep call has an index

@@ -30,7 +30,7 @@ unmet f event = first_unmet f event (asked event)
 
 abbrev pub denied_with : {A : Type 0} → Frame A → Rule → Option Status → Reply
 denied_with frame rule None = Fault rule
-denied_with frame rule (Some status) = Denied rule status (refused_reps frame)
+denied_with frame rule (Some status) = Denied rule status (refused_reps frame.rcx)
 
 -- the reply to an event that a rule refuses: a call is denied with the rule's status, an access has a fault
 abbrev pub refusal : {A : Type 0} → Action A → Rule → Reply

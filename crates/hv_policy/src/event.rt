@@ -1,7 +1,8 @@
 // What happens, one at a time.
+ghost use Rattle.std.specs.Prelude.{◌≡◌, ◌↔◌, IfOk, IsTrue};
 
 use hv_abi::Frame;
-use std::alloc::Allocator;
+use std::alloc::{AllocError, Allocator};
 
 /// The virtual processor that asks: its partition's id, and its index there.
 #[derive(Clone, Copy, PartialEq, Eq, Debug)]
@@ -36,4 +37,64 @@ pub enum Action<A: Allocator> {
 pub struct Event<A: Allocator> {
     pub by: Caller,
     pub what: Action<A>,
+}
+
+impl<A: Allocator> Action<A> {
+    /// Whether both ask for the same.
+    pub fn is_same(&self, other: &Action<A>) -> bool
+        ensures { IsTrue result ↔ (self.now ≡ other.now) }
+    {
+        match (self, other) {
+            (Action::Hypercall(frame), Action::Hypercall(that)) => frame.is_same(that),
+            (Action::ReadMsr(msr), Action::ReadMsr(that)) => *msr == *that,
+            (Action::WriteMsr(msr, value), Action::WriteMsr(that, other_value)) => {
+                *msr == *that && *value == *other_value
+            }
+            (Action::ReadSlot(sint), Action::ReadSlot(that)) => *sint == *that,
+            (Action::ClearSlot(sint), Action::ClearSlot(that)) => *sint == *that,
+            (Action::ReadFlags(sint), Action::ReadFlags(that)) => *sint == *that,
+            (Action::ClearFlag(sint, flag), Action::ClearFlag(that, other_flag)) => {
+                *sint == *that && *flag == *other_flag
+            }
+            (Action::TakeInterrupt, Action::TakeInterrupt) => true,
+            _ => false,
+        }
+    }
+}
+
+impl<A: Allocator> Event<A> {
+    /// Whether the same processor asks for the same.
+    pub fn is_same(&self, other: &Event<A>) -> bool
+        ensures { IsTrue result ↔ (self.now ≡ other.now) }
+    {
+        self.by == other.by && self.what.is_same(&other.what)
+    }
+}
+
+impl<A: Allocator + Clone> Action<A> {
+    /// A second action that is equal, on the same allocator.
+    pub fn copy(&self) -> Result<Action<A>, AllocError>
+        ensures { IfOk result (λ a. a ≡ self.now) }
+    {
+        match self {
+            Action::Hypercall(frame) => Ok(Action::Hypercall(frame.copy()?)),
+            Action::ReadMsr(msr) => Ok(Action::ReadMsr(*msr)),
+            Action::WriteMsr(msr, value) => Ok(Action::WriteMsr(*msr, *value)),
+            Action::ReadSlot(sint) => Ok(Action::ReadSlot(*sint)),
+            Action::ClearSlot(sint) => Ok(Action::ClearSlot(*sint)),
+            Action::ReadFlags(sint) => Ok(Action::ReadFlags(*sint)),
+            Action::ClearFlag(sint, flag) => Ok(Action::ClearFlag(*sint, *flag)),
+            Action::TakeInterrupt => Ok(Action::TakeInterrupt),
+        }
+    }
+}
+
+impl<A: Allocator + Clone> Event<A> {
+    /// A second event that is equal, on the same allocator.
+    pub fn copy(&self) -> Result<Event<A>, AllocError>
+        ensures { IfOk result (λ e. e ≡ self.now) }
+    {
+        let what = self.what.copy()?;
+        Ok(Event { by: self.by, what })
+    }
 }

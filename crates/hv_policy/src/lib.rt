@@ -26,5 +26,5 @@ pub use event::{Action, Caller, Event};
 pub use need::{Kin, Need, States, needs, states_to_set};
 pub use property::{ALL_PROPERTIES, Property};
 pub use reply::{Output, Reply};
-pub use result::{refused_reply, result_of, served_reply};
+pub use result::{completed_reps, refused_reply, refused_reps, result_of, served_reply};
 pub use rule::Rule;

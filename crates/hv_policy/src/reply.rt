@@ -1,5 +1,5 @@
 // What an event is answered.
-ghost use Rattle.std.specs.Prelude.{◌≡◌, ◌+◌, ◌≤◌, ◌++◌, [], ◌∷◌, length};
+ghost use Rattle.std.specs.Prelude.{◌≡◌, ◌+◌, ◌≤◌, ◌↔◌, ◌++◌, [], ◌∷◌, IsTrue, length};
 ghost use Rattle.std.specs.Int.{w64, to_le_bytes};
 
 use crate::rule::Rule;
@@ -49,19 +49,28 @@ impl Output {
         self.bytes.push(value);
     }
 
+    /// These bytes.
+    pub fn of(bytes: &[u8]) -> Output
+        requires { length bytes.now ≤ 256 }
+        ensures { result ≡ bytes.now }
+    {
+        let mut own = ArrayVec::new();
+        let Ok(()) = own.try_extend_from_slice(bytes) else {
+            unreachable!()
+        };
+        Output { bytes: own }
+    }
+
     /// The 256 bytes of a message slot, or of a SINT's event flags.
     pub fn whole(bytes: &[u8; 256]) -> Output
         ensures { result ≡ bytes.now }
     {
-        let mut whole = ArrayVec::new();
-        let Ok(()) = whole.try_extend_from_slice(bytes) else {
-            unreachable!()
-        };
-        Output { bytes: whole }
+        Output::of(bytes)
     }
 
     pub fn as_slice(&self) -> &[u8]
-        ensures { result.now ≡ self.now }
+        ensures bytes { result.now ≡ self.now }
+        ensures most { length self.now ≤ 256 }
     {
         self.bytes.as_slice()
     }
@@ -88,4 +97,51 @@ pub enum Reply {
     Fault {
         rule: Rule,
     },
+}
+
+impl Reply {
+    /// The same reply again. It takes no memory.
+    pub fn copy(&self) -> Reply
+        ensures { result ≡ self.now }
+    {
+        match self {
+            Reply::Served(output) => Reply::Served(Output::of(output.as_slice())),
+            Reply::More { next, output } => Reply::More {
+                next: *next,
+                output: Output::of(output.as_slice()),
+            },
+            Reply::Denied { rule, status, reps } => Reply::Denied {
+                rule: *rule,
+                status: *status,
+                reps: *reps,
+            },
+            Reply::Fault { rule } => Reply::Fault { rule: *rule },
+        }
+    }
+
+    /// Whether both answer the same.
+    pub fn is_same(&self, other: &Reply) -> bool
+        ensures { IsTrue result ↔ (self.now ≡ other.now) }
+    {
+        match (self, other) {
+            (Reply::Served(output), Reply::Served(that)) => output.as_slice() == that.as_slice(),
+            (
+                Reply::More { next, output },
+                Reply::More {
+                    next: other_next,
+                    output: that,
+                },
+            ) => *next == *other_next && output.as_slice() == that.as_slice(),
+            (
+                Reply::Denied { rule, status, reps },
+                Reply::Denied {
+                    rule: other_rule,
+                    status: other_status,
+                    reps: other_reps,
+                },
+            ) => *rule == *other_rule && (*status == *other_status && *reps == *other_reps),
+            (Reply::Fault { rule }, Reply::Fault { rule: that }) => *rule == *that,
+            _ => false,
+        }
+    }
 }

@@ -3,13 +3,13 @@ ghost use Rattle.std.specs.Prelude.{◌≡◌, ◌<◌, Some};
 ghost use Rattle.hv_defs.specs.declared.sizes.TheConstants.{REPS_END};
 ghost use Rattle.hv_abi.specs.Check.{IsShape, call_of};
 ghost use Rattle.hv_policy.specs.Answer.{reply_with};
-ghost use Rattle.hv_policy.specs.Result.{HasResult, refused_reps as refused_reps_of, completed_reps as completed_reps_of, result_of as result_value_of};
+ghost use Rattle.hv_policy.specs.Result.{HasResult, kind_in, refused_reps as refused_reps_of, completed_reps as completed_reps_of, result_of as result_value_of};
 ghost use Rattle.hv_policy.specs.Step.{refusal};
 ghost use Rattle.hv_policy.specs.declared.event.Action.TheVariants.{Hypercall};
 
 use crate::reply::{Output, Reply};
 use crate::rule::Rule;
-use hv_abi::{AbiFault, CallKind, Frame, InputValue, ResultValue, Shape, Status};
+use hv_abi::{CallKind, Frame, InputValue, ResultValue, Shape, Status};
 use std::alloc::Allocator;
 
 /// The result value of a hypercall and its reply, as it stands in RAX: the status, and the reps completed,
@@ -19,13 +19,13 @@ pub fn result_of<A: Allocator>(frame: &Frame<A>, reply: &Reply) -> ResultValue
     ensures { result ≡ result_value_of frame.now reply.now }
 {
     match reply {
-        Reply::Served(_) => ResultValue::new(Status::Success, completed_reps(frame)),
+        Reply::Served(_) => ResultValue::new(Status::Success, completed_reps(frame.rcx)),
         Reply::More { next, output: _ } => ResultValue::new(Status::Success, *next),
         Reply::Denied {
             rule: _,
             status,
             reps: _,
-        } => ResultValue::new(*status, refused_reps(frame)),
+        } => ResultValue::new(*status, refused_reps(frame.rcx)),
         Reply::Fault { rule: _ } => unreachable!(),
     }
 }
@@ -50,42 +50,41 @@ pub fn served_reply<A: Allocator>(frame: &Frame<A>, shape: Shape, output: Output
 pub fn refused_reply<A: Allocator>(frame: &Frame<A>, rule: Rule) -> Reply
     ensures { result ≡ refusal (Hypercall frame.now) rule }
 {
-    match rule.status(kind_of(frame)) {
+    match rule.status(kind_of(frame.rcx)) {
         None => Reply::Fault { rule },
         Some(status) => Reply::Denied {
             rule,
             status,
-            reps: refused_reps(frame),
+            reps: refused_reps(frame.rcx),
         },
     }
 }
 
-// The call of a frame, if one has its code.
-fn kind_of<A: Allocator>(frame: &Frame<A>) -> Option<CallKind>
-    ensures { result ≡ call_of frame.now }
+// The call that an input value names, if there is one with its code.
+fn kind_of(rcx: u64) -> Option<CallKind>
+    ensures { result ≡ kind_in rcx }
 {
-    CallKind::of(InputValue::read(frame.rcx).call)
+    CallKind::of(InputValue::read(rcx).call)
 }
 
-// The reps completed of a call that was refused: its start index where P4 and P5 are met.
-fn refused_reps<A: Allocator>(frame: &Frame<A>) -> u16
-    ensures value { result ≡ refused_reps_of frame.now }
+/// The reps completed of a call with this input value that was refused: its start index where P4 and P5 are met, else 0.
+pub fn refused_reps(rcx: u64) -> u16
+    ensures value { result ≡ refused_reps_of rcx }
     ensures fits { result < REPS_END }
 {
-    match frame.check() {
-        Ok(shape) => shape.start,
-        Err(AbiFault::Alignment) => InputValue::read(frame.rcx).start,
-        Err(AbiFault::UnknownCode) | Err(AbiFault::Input) => 0,
+    match kind_of(rcx) {
+        Some(kind) if kind.row().takes(rcx) => InputValue::read(rcx).start,
+        _ => 0,
     }
 }
 
-// The reps completed of a call whose last element was served.
-fn completed_reps<A: Allocator>(frame: &Frame<A>) -> u16
-    ensures value { result ≡ completed_reps_of frame.now }
+/// The reps completed of a call with this input value whose last element was served: all of them, and none of a simple call.
+pub fn completed_reps(rcx: u64) -> u16
+    ensures value { result ≡ completed_reps_of rcx }
     ensures fits { result < REPS_END }
 {
-    match kind_of(frame) {
-        Some(kind) if kind.is_rep() => InputValue::read(frame.rcx).reps,
+    match kind_of(rcx) {
+        Some(kind) if kind.is_rep() => InputValue::read(rcx).reps,
         _ => 0,
     }
 }

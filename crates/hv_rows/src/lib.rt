@@ -7,4 +7,6 @@ mod accesses;
 #[cfg(test)]
 mod hostile;
 #[cfg(test)]
+mod kept;
+#[cfg(test)]
 mod stepped;

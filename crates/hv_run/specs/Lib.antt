@@ -1,3 +1,3 @@
 pub mod Failure
-pub mod History
+pub mod Told
 pub mod Usage

@@ -1,9 +1,10 @@
 // What ends a run other than well, and with which exit status.
-ghost use Rattle.std.specs.Prelude.{◌≡◌};
+ghost use Rattle.std.specs.Prelude.{◌≡◌, ◌⊎◌};
 ghost use Rattle.hv_run.specs.Failure.{exit_of, failure_of};
 
 use hv_machine::BootRefused;
 use hv_script::{FaultKind, ScriptFault, Stop};
+use hv_text::PrintFault;
 use std::io::Write;
 use thiserror::Error;
 
@@ -52,7 +53,8 @@ pub enum Failure {
 impl Failure {
     /// The exit status.
     pub fn exit(self) -> Exit
-        ensures { result ≡ exit_of self }
+        ensures value { result ≡ exit_of self }
+        ensures failed { (result ≡ Exit.Script) ⊎ (result ≡ Exit.Host) }
     {
         match self {
             Failure::Unreadable
@@ -101,9 +103,24 @@ impl From<Stop> for Failure {
     }
 }
 
+impl From<PrintFault> for Failure {
+    ghost use Rattle.std.specs.Prelude.{◌≡◌};
+    ghost use Rattle.hv_run.specs.declared.failure.Exit.TheVariants.{Host};
+
+    ghost from_gives = { λ _ failure. exit_of failure ≡ Host };
+
+    fn from(fault: PrintFault) -> Failure {
+        match fault {
+            PrintFault::Write { .. } => Failure::Write,
+            PrintFault::Memory => Failure::Memory,
+        }
+    }
+}
+
 /// Tells a failure on standard error, and gives its exit status, whether or not the line goes out.
 pub fn tell<E: Write>(failure: Failure, err: &mut E) -> Exit
-    ensures { result ≡ exit_of failure }
+    ensures status { result ≡ exit_of failure }
+    ensures failed { (result ≡ Exit.Script) ⊎ (result ≡ Exit.Host) }
 {
     let _ = writeln!(err, "hvpm: {failure}");
     failure.exit()

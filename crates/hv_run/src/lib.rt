@@ -1,21 +1,17 @@
-//! A run of a script, from its bytes to the exit status of the program `hvpm`: reading, running, the history of what
-//! happened, and its audit.
+//! A run of a script, from its bytes to the exit status of the program `hvpm`: reading, running, and printing the audit and
+//! the table.
 //!
 //! [`run_reader`] reads a script to its end and runs it on a machine of its own over two writers; [`run_text`] does so with a
 //! script that is in memory; [`tell_usage`] tells of a command line that asks for no run. Nothing here opens a file or ends
 //! the process.
 #![tactic(auto)]
 
-mod audit;
 mod failure;
-mod history;
 mod reading;
 mod run;
 mod usage;
 
-pub use audit::print_entries;
 pub use failure::{Exit, Failure, tell};
-pub use history::{Answer, Asked, Entry};
 pub use reading::unread;
 pub use run::{run_reader, run_text};
 pub use usage::tell_usage;

@@ -1,10 +1,13 @@
 -- A text that is cut at its first byte that passes a test.
-use Rattle.std.proofs.Common.{◌≡◌, ℕ, ◌+◌, ◌-◌, ◌<◌, ◌≤◌, Bool, true, false, not, List, [], ◌∷◌, length, take, drop, cond, nat_lt, Option, Some, None, refl, ap, sym, ◌∙◌, arith}
+use Rattle.std.proofs.Common.{◌≡◌, ◌==◌, ℕ, ◌+◌, ◌-◌, ◌<◌, ◌≤◌, ◌&&◌, Bool, true, false, not, List, [], ◌∷◌, length, take, drop, get_or, cond, nat_le, nat_lt, Option, Some, None, refl, ap, sym, ◌∙◌, arith}
 use Rattle.std.specs.List.{after_first, before_first, onto_first, position_or_len, slice_split}
 use Rattle.std.proofs.lemmas.Bool.Decides.{nat_tests}
-use Rattle.std.proofs.lemmas.List.{take_all, drop_all, length-drop}
+use Rattle.std.proofs.lemmas.Bool.{false≢true}
+use Rattle.std.proofs.lemmas.List.{take_all, drop_all, get_or-take, length-drop, length-take-le}
 use Rattle.std.proofs.lemmas.List.Splits.{slice_split_first}
+use Rattle.std.proofs.lemmas.List.Sums.{fails_before_first, list_all-from_AllPass, position_or_len_is}
 use Rattle.std.proofs.lemmas.Option.{cond_some}
+use Rattle.hv_script.specs.Words.{has_good_bytes}
 
 -- the place of the first byte that passes, if one does
 abbrev pub found_in : (ℕ → Bool) → List ℕ → Option ℕ
@@ -54,3 +57,37 @@ whole test (x ∷ xs) none = one_part (test x) x xs (slice_split test xs) (posit
 -- the one part of a text in which no byte passes
 pub split_uncut : (test : ℕ → Bool) (text : List ℕ) (r : Option ℕ) → r ≡ found_in test text → r ≡ None → slice_split test text ≡ text ∷ []
 split_uncut test text r found none = whole test text (uncut test text r found none)
+
+-- a byte that may not stand in a script
+abbrev pub is_bad : ℕ → Bool
+is_bad byte = not (nat_le 0x20 byte && nat_le byte 0x7E)
+
+not_bad : (t : Bool) → not t ≡ false → t ≡ true
+not_bad true e = refl
+not_bad false e = absurd (false≢true (sym e))
+
+no_feed : (byte : ℕ) → (nat_le 0x20 byte && nat_le byte 0x7E) ≡ true → (byte == 10) ≡ false
+no_feed byte good = grind (arith, nat_tests)
+
+good_at : (text : List ℕ) (k d : ℕ) → k < position_or_len is_bad text → (nat_le 0x20 (get_or text k d) && nat_le (get_or text k d) 0x7E) ≡ true
+good_at text k d before = not_bad _ (fails_before_first is_bad text k d before)
+
+-- the first bad byte of a text, where it is a line feed, is its first line feed
+pub first_feed : (text : List ℕ) (r : Option ℕ) (at : ℕ) → r ≡ found_in is_bad text → r ≡ Some at → get_or text at 0 ≡ 10 → r ≡ found_in (λ byte. byte == 10) text
+first_feed text r at found some feed =
+    let there = place is_bad text r at found some in
+    let inside : at < length text = let passes = there.0 in let is = there.1 in grind (arith, nat_tests) in
+    let first : position_or_len (λ byte. byte == 10) text ≡ at =
+    position_or_len_is (λ byte. byte == 10) text at 0 (omega (arith, inside)) (λ k before. no_feed (get_or text k 0) (good_at text k 0 (rw there.1 before))) (λ _. rw feed refl) in
+    let passes : nat_lt at (length text) ≡ true = grind (arith, nat_tests) in
+    some ∙ rw (first, passes) refl
+
+-- what stands before it has good bytes
+pub good_before : (text : List ℕ) (r : Option ℕ) (at : ℕ) → r ≡ found_in is_bad text → r ≡ Some at → true ≡ has_good_bytes (take at text)
+good_before text r at found some =
+    let there = place is_bad text r at found some in
+    let inside : at ≤ length text = let passes = there.0 in let is = there.1 in grind (arith, nat_tests) in
+    let long = length-take-le at text inside in
+    sym (list_all-from_AllPass (λ byte. nat_le 0x20 byte && nat_le byte 0x7E) (take at text) (λ k d lt.
+    let before : k < at = omega (arith, long, lt) in
+    rw (get_or-take at text k d before) (good_at text k d (rw there.1 before))))

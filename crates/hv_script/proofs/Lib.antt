@@ -1,3 +1,4 @@
 pub mod CallerLemmas
 mod CutLemmas
 mod NumberLemmas
+mod WordLemmas

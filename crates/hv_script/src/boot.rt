@@ -11,7 +11,7 @@ use hv_privs::Privileges;
 const BOOT_WORDS: usize = 6;
 
 /// What a script's `boot` line says.
-#[derive(Clone, Copy, Debug)]
+#[derive(Clone, Copy)]
 pub struct Boot {
     /// What the root partition is given, not yet checked for a boot.
     pub config: Config,
@@ -24,7 +24,7 @@ pub struct Boot {
 pub fn read_boot(words: &Words<'_>) -> Result<Boot, FaultKind>
     ensures { result ≡ boot_of words.now }
 {
-    if words.count() != BOOT_WORDS {
+    if !words.are(BOOT_WORDS) {
         return Err(FaultKind::Count);
     }
     Ok(Boot {

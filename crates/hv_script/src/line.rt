@@ -52,7 +52,7 @@ pub fn action<A: Allocator + Clone>(alloc: &A, words: &Words<'_>) -> Result<Acti
     ensures { IsRead result (λ action. action) (action_of words.now) }
 {
     let verb = Verb::of(words.word(1)).ok_or(FaultKind::Word)?;
-    if words.count() != verb.words() {
+    if !words.are(verb.words()) {
         return Err(FaultKind::Count);
     }
     fields(alloc, verb, words)

@@ -6,7 +6,7 @@ use crate::boot::{Boot, read_boot};
 use crate::fault::FaultKind;
 use crate::line::{Line, action, processor};
 use crate::processors::MOST_PROCESSORS;
-use crate::words::{Words, has_good_bytes};
+use crate::words::Words;
 use hv_policy::{Action, Caller};
 use std::alloc::Allocator;
 
@@ -29,15 +29,18 @@ impl<A: Allocator + Clone> Reading<A> {
     ghost use Rattle.hv_script.specs.Fault.{IsRead};
     ghost use Rattle.hv_script.specs.Reading.{phase_by, read_by, so_far};
     ghost use Rattle.hv_script.specs.Script.{first_line, later_line, phase_line, processor_line, read_line, with_line};
+    ghost use Rattle.hv_script.specs.Words.{has_good_bytes};
 
-    /// Reads a line, by what was read before it.
+    /// Reads a line, which has good bytes or not, by what was read before it.
     #[tactic(auto, unfolding(crate::specs::Script::read_line))]
     pub fn read_line(
         alloc: &A,
         before: Option<Reading<A>>,
         line: &[u8],
+        is_good: bool,
     ) -> Result<Option<Reading<A>>, FaultKind>
-        requires { phase_by before + 1 < 2 ^ 32 }
+        requires phases { phase_by before + 1 < 2 ^ 32 }
+        requires good { is_good ≡ has_good_bytes line.now }
         ensures read { IsRead result read_by (read_line (read_by before) line.now) }
         ensures phase { IfOk result (λ after. phase_by after ≤ phase_by before + 1) }
     {
@@ -45,7 +48,7 @@ impl<A: Allocator + Clone> Reading<A> {
         if words.are_skipped() {
             return Ok(before);
         }
-        if !has_good_bytes(line) {
+        if !is_good {
             return Err(FaultKind::Byte);
         }
         match before {
@@ -96,7 +99,7 @@ impl<A: Allocator + Clone> Reading<A> {
         ensures read { IsRead result so_far (phase_line (so_far self) words.now) }
         ensures phase { IfOk result (λ reading. reading.phase ≤ self.phase + 1) }
     {
-        if words.count() != 1 {
+        if !words.are(1) {
             return Err(FaultKind::Count);
         }
         let Reading {

@@ -8,7 +8,7 @@ ghost use Rattle.hv_script.specs.declared.script.TheConstants.{MOST_BYTES as MOS
 use crate::fault::{FaultKind, ScriptFault};
 use crate::line::Line;
 use crate::reading::Reading;
-use crate::words::cut_line;
+use crate::words::next_line;
 use hv_policy::Config;
 use std::alloc::Allocator;
 
@@ -67,10 +67,10 @@ fn read_lines<A: Allocator + Clone>(
     let mut number = 0usize;
     let mut left = Some(text);
     'lines: while let Some(here) = left {
-        let (line, rest) = cut_line(here);
+        let (line, is_good, rest) = next_line(here);
         left = rest;
         number += 1;
-        reading = Reading::read_line(alloc, reading, line).map_err(|kind| ScriptFault {
+        reading = Reading::read_line(alloc, reading, line, is_good).map_err(|kind| ScriptFault {
             line: number,
             kind,
         })?;

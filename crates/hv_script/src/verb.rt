@@ -1,5 +1,5 @@
 // What a processor's line may ask for.
-ghost use Rattle.std.specs.Prelude.{◌≡◌};
+ghost use Rattle.std.specs.Prelude.{◌≡◌, ◌<◌};
 ghost use Rattle.hv_script.specs.Verb.{verb_of, word_of, count_of};
 
 /// What a processor's line asks for, by its second word.
@@ -52,7 +52,8 @@ impl Verb {
 
     /// How many words its line has, the processor and this word among them.
     pub fn words(self) -> usize
-        ensures { result ≡ count_of self }
+        ensures count { result ≡ count_of self }
+        ensures few { result < 7 }
     {
         match self {
             Verb::TakeInterrupt => 2,

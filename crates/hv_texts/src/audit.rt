@@ -1,132 +1,196 @@
-// The lines of the audit, by entries that differ in each bit.
+// The lines of the audit, by events that differ in each bit, and writers that fail on the way.
 
 use crate::writers::text_of;
-use hv_policy::{Caller, Rule};
-use hv_run::{Answer, Asked, Entry, print_entries};
+use hv_abi::{Bytes, Frame};
+use hv_history::Kept;
+use hv_policy::{Action, Caller, Config, Event};
+use hv_privs::Privileges;
+use hv_text::{PrintFault, audit, table};
+use std::alloc::Global;
+use std::io;
+use std::io::{ErrorKind, Write};
+use std::process::Abort;
 use std::test::Fail;
 
-const BY: Caller = Caller {
+// No partition has this processor, so that each event of it is refused.
+const STRANGER: Caller = Caller {
     part: 0xfedc_ba98_7654_3210,
     vp: 0xefcd_ab89,
 };
 
-fn call(answer: Answer, value: u64, output_len: usize) -> Entry {
-    Entry {
-        by: BY,
-        asked: Asked::Call {
-            rcx: 0x0f1e_2d3c_4b5a_6978,
-        },
-        answer,
-        result: Some(value),
-        output_len,
-    }
-}
+const ROOT: Caller = Caller { part: 1, vp: 0 };
 
-fn access(asked: Asked, answer: Answer, output_len: usize) -> Entry {
-    Entry {
-        by: BY,
-        asked,
-        answer,
-        result: None,
-        output_len,
-    }
+fn boot(alloc: Global, limit: u32) -> Result<Kept<Global>, Fail> {
+    let config = Config {
+        pages: 32,
+        pool: 12,
+        vps: 2,
+        mask: Privileges::of(0x0000_00f7_0000_0044),
+    };
+    Ok(Kept::boot(alloc, config, limit)?)
 }
-
-const OUTPUTS: [u8; 43] = [
-    0xf0, 0xe1, 0xd2, 0xc3, 0xb4, 0xa5, 0x96, 0x87, 0x78, 0x69, 0x5a, 0x4b, 0x3c, 0x2d, 0x1e, 0x0f,
-    0x10, 0x32, 0x54, 0x76, 0x98, 0xba, 0xdc, 0xfe, 0xab, 0x80, 0x01, 0x78, 0x96, 0xb4, 0xd2, 0xf0,
-    0x1e, 0x3c, 0x5a, 0xf0, 0x1e, 0x3c, 0x5a, 0xa5, 0xc3, 0xfe, 0x00,
-];
 
 const LINES: &str =
-    "1 18364758544493064720.4023233417 call 0f1e2d3c4b5a6978 ok 8192a3b4c5d6e7f0 f0e1d2c3b4a5968778695a4b3c2d1e0f
-2 18364758544493064720.4023233417 call 0f1e2d3c4b5a6978 more 7e6d5c4b3a29180f 1032547698badcfe
-3 18364758544493064720.4023233417 call 0f1e2d3c4b5a6978 denied fedcba9876543210 P27
-4 18364758544493064720.4023233417 call 0f1e2d3c4b5a6978 more 0000000000000001 -
-5 18364758544493064720.4023233417 call 0f1e2d3c4b5a6978 ok 8000000000000000 ab8001
-6 18364758544493064720.4023233417 rdmsr fedcba98 ok 7896b4d2f01e3c5a
-7 18364758544493064720.4023233417 rdmsr 01234567 fault P26
-8 18364758544493064720.4023233417 wrmsr 89abcdef 8192a3b4c5d6e7f0 ok -
-9 18364758544493064720.4023233417 wrmsr 00000040 0000000000000001 fault P3
-10 18364758544493064720.4023233417 slot 15 ok f01e3c5a
-11 18364758544493064720.4023233417 slot 16 fault P21
-12 18364758544493064720.4023233417 clearslot 255 fault P21
-13 18364758544493064720.4023233417 clearslot 0 ok -
-14 18364758544493064720.4023233417 flags 9 ok a5c3
-15 18364758544493064720.4023233417 flags 240 fault P21
-16 18364758544493064720.4023233417 clearflag 15 2047 ok -
-17 18364758544493064720.4023233417 clearflag 165 65535 fault P21
-18 18364758544493064720.4023233417 clearflag 10 43981 fault P2
-19 18364758544493064720.4023233417 interrupt ok fe
-20 18364758544493064720.4023233417 interrupt ok 00
-21 18364758544493064720.4023233417 interrupt fault P3
-events 21
+    "1 18364758544493064720.4023233417 call 0f1e2d3c4b5a6978 denied 000000000000000d P1
+2 18364758544493064720.4023233417 call 0abc0fff00000048 denied 00000abc0000000d P1
+3 18364758544493064720.4023233417 rdmsr fedcba98 fault P1
+4 18364758544493064720.4023233417 wrmsr 89abcdef 8192a3b4c5d6e7f0 fault P1
+5 18364758544493064720.4023233417 slot 255 fault P1
+6 18364758544493064720.4023233417 clearslot 16 fault P1
+7 18364758544493064720.4023233417 flags 240 fault P1
+8 18364758544493064720.4023233417 clearflag 165 43981 fault P1
+9 18364758544493064720.4023233417 interrupt fault P1
+10 1.0 wrmsr 40000083 0f1e2d3c4b5a6978 ok -
+11 1.0 rdmsr 40000083 ok 78695a4b3c2d1e0f
+12 1.0 call 0abc0bad00000048 denied 00000abc00000004 P6
+13 1.0 call 0000000000000046 ok 0000000000000000 0100000000000000
+14 1.0 interrupt ok 00
+15 1.0 clearflag 15 2047 ok -
+events 15
 ";
 
-// Calls and accesses of registers, the first 9 lines.
-fn calls_and_registers() -> [Entry; 9] {
-    [
-        call(Answer::Served, 0x8192_a3b4_c5d6_e7f0, 16),
-        call(Answer::More, 0x7e6d_5c4b_3a29_180f, 8),
-        call(Answer::Denied(Rule::MsrWrite), 0xfedc_ba98_7654_3210, 0),
-        call(Answer::More, 1, 0),
-        call(Answer::Served, 0x8000_0000_0000_0000, 3),
-        access(Asked::ReadMsr { msr: 0xfedc_ba98 }, Answer::Served, 8),
-        access(
-            Asked::ReadMsr { msr: 0x0123_4567 },
-            Answer::Fault(Rule::MsrPrivilege),
-            0,
-        ),
-        access(
-            Asked::WriteMsr {
-                msr: 0x89ab_cdef,
-                value: 0x8192_a3b4_c5d6_e7f0,
-            },
-            Answer::Served,
-            0,
-        ),
-        access(
-            Asked::WriteMsr {
-                msr: 0x40,
-                value: 1,
-            },
-            Answer::Fault(Rule::CallerVpExists),
-            0,
-        ),
-    ]
+const TABLE: &str =
+    "partition 1 parent - Active mask 000000f700000044 loose 20 pooled 12 inuse 8 vps 2 ports 0 connections 0
+pages 32
+";
+
+fn call(rcx: u64, alloc: Global) -> Action<Global> {
+    Action::Hypercall(Frame {
+        rcx,
+        rdx: 0,
+        r8: 0,
+        input: Bytes::from_vec(Vec::new(alloc)),
+    })
 }
 
-// Accesses of slots, flags and interrupts, the other lines.
-fn mail_accesses() -> [Entry; 12] {
-    let unmet = Answer::Fault(Rule::Subject);
-    let absent = Answer::Fault(Rule::CallerVpExists);
-    let inactive = Answer::Fault(Rule::CallerActive);
-    [
-        access(Asked::ReadSlot { sint: 15 }, Answer::Served, 4),
-        access(Asked::ReadSlot { sint: 16 }, unmet, 0),
-        access(Asked::ClearSlot { sint: 255 }, unmet, 0),
-        access(Asked::ClearSlot { sint: 0 }, Answer::Served, 0),
-        access(Asked::ReadFlags { sint: 9 }, Answer::Served, 2),
-        access(Asked::ReadFlags { sint: 240 }, unmet, 0),
-        access(flag(15, 2047), Answer::Served, 0),
-        access(flag(0xa5, 0xffff), unmet, 0),
-        access(flag(10, 0xabcd), inactive, 0),
-        access(Asked::TakeInterrupt, Answer::Served, 1),
-        access(Asked::TakeInterrupt, Answer::Served, 1),
-        access(Asked::TakeInterrupt, absent, 0),
-    ]
+fn happens(kept: &mut Kept<Global>, by: Caller, what: Action<Global>) -> Result<(), Fail> {
+    kept.apply(Event { by, what })?;
+    Ok(())
 }
 
-fn flag(sint: u8, flag: u16) -> Asked {
-    Asked::ClearFlag { sint, flag }
+// What the processor that no partition has asks for.
+fn refused_events(kept: &mut Kept<Global>, alloc: Global) -> Result<(), Fail> {
+    happens(kept, STRANGER, call(0x0f1e_2d3c_4b5a_6978, alloc))?;
+    happens(kept, STRANGER, call(0x0abc_0fff_0000_0048, alloc))?;
+    happens(kept, STRANGER, Action::ReadMsr(0xfedc_ba98))?;
+    let write = Action::WriteMsr(0x89ab_cdef, 0x8192_a3b4_c5d6_e7f0);
+    happens(kept, STRANGER, write)?;
+    happens(kept, STRANGER, Action::ReadSlot(255))?;
+    happens(kept, STRANGER, Action::ClearSlot(16))?;
+    happens(kept, STRANGER, Action::ReadFlags(240))?;
+    happens(kept, STRANGER, Action::ClearFlag(0xa5, 0xabcd))?;
+    happens(kept, STRANGER, Action::TakeInterrupt)
+}
+
+// What processor 0 of the root asks for.
+fn roots_events(kept: &mut Kept<Global>, alloc: Global) -> Result<(), Fail> {
+    let write = Action::WriteMsr(0x4000_0083, 0x0f1e_2d3c_4b5a_6978);
+    happens(kept, ROOT, write)?;
+    happens(kept, ROOT, Action::ReadMsr(0x4000_0083))?;
+    happens(kept, ROOT, call(0x0abc_0bad_0000_0048, alloc))?;
+    happens(kept, ROOT, call(0x46, alloc))?;
+    happens(kept, ROOT, Action::TakeInterrupt)?;
+    happens(kept, ROOT, Action::ClearFlag(15, 2047))
+}
+
+// Prints the audit and the table.
+fn print<W: Write>(
+    kept: &Kept<Global>,
+    out: &mut W,
+) -> (Result<(), PrintFault>, Result<(), PrintFault>) {
+    (audit(out, kept), table(out, kept))
 }
 
 #[test]
 fn lines(rt: HostRuntime) -> Result<(), Fail> {
-    let mut entries = Vec::from_slice(rt.alloc(), &calls_and_registers())?;
-    entries.extend_from_slice(&mail_accesses())?;
-    let mut out: Vec<u8> = Vec::new(rt.alloc());
-    print_entries(&mut out, entries.as_slice(), &OUTPUTS)?;
-    assert_eq!(rt; text_of(&out), LINES);
+    let alloc = rt.alloc();
+    let mut kept = boot(alloc, 15)?;
+    refused_events(&mut kept, alloc)?;
+    roots_events(&mut kept, alloc)?;
+    let mut out: Vec<u8> = Vec::new(alloc);
+    assert_eq!(rt; print(&kept, &mut out), (Ok(()), Ok(())));
+    let text = text_of(&out);
+    assert_eq!(rt; text.strip_suffix(TABLE), Some(LINES));
+    Ok(())
+}
+
+// A writer that takes a few bytes at a time, and so many in all.
+#[derive(Drop)]
+struct Short {
+    taken: Vec<u8>,
+    step: usize,
+    left: usize,
+    // Whether it then takes 0 bytes in place of an error.
+    takes_none: bool,
+}
+
+impl Write for Short {
+    fn write(&mut self, bytes: &[u8]) -> io::Result<usize> {
+        let len = bytes.len().min(self.step).min(self.left);
+        if len == 0 {
+            if self.takes_none {
+                return Ok(0);
+            }
+            return Err(io::Error::from(ErrorKind::BrokenPipe));
+        }
+        self.left -= len;
+        match self.taken.extend_from_slice(&bytes[..len]) {
+            Ok(()) => Ok(len),
+            Err(_) => Err(io::Error::from(ErrorKind::OutOfMemory)),
+        }
+    }
+
+    fn flush(&mut self) -> io::Result<()> {
+        Ok(())
+    }
+}
+
+// Asserts that of a text just the first bytes went out, and that the fault tells how many.
+fn assert_cut(rt: &impl Abort, told: Result<(), PrintFault>, out: &Short, text: &str, left: usize) {
+    let wanted = if left < text.len() {
+        Err(PrintFault::Write {
+            written: left as u64,
+        })
+    } else {
+        Ok(())
+    };
+    assert_eq!(rt; told, wanted);
+    let len = left.min(text.len());
+    assert_eq!(rt; out.taken.as_slice(), &text.as_bytes()[..len]);
+}
+
+const TWO_LINES: &str = "1 18364758544493064720.4023233417 interrupt fault P1\nevents 1\n";
+
+// Both are written to writers that fail after each number of bytes.
+fn assert_cuts(rt: &impl Abort, kept: &Kept<Global>, alloc: Global, step: usize) {
+    for left in 0..130 {
+        for takes_none in [false, true] {
+            let mut out = taking(alloc, step, left, takes_none);
+            let told = audit(&mut out, kept);
+            assert_cut(rt, told, &out, TWO_LINES, left);
+            let mut out = taking(alloc, step, left, takes_none);
+            let told = table(&mut out, kept);
+            assert_cut(rt, told, &out, TABLE, left);
+        }
+    }
+}
+
+fn taking(alloc: Global, step: usize, left: usize, takes_none: bool) -> Short {
+    Short {
+        taken: Vec::new(alloc),
+        step,
+        left,
+        takes_none,
+    }
+}
+
+#[test]
+fn cut_texts(rt: HostRuntime) -> Result<(), Fail> {
+    let alloc = rt.alloc();
+    let mut kept = boot(alloc, 1)?;
+    happens(&mut kept, STRANGER, Action::TakeInterrupt)?;
+    for step in [1, 7, 1000] {
+        assert_cuts(&rt, &kept, alloc, step);
+    }
     Ok(())
 }

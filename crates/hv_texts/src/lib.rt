@@ -7,6 +7,8 @@ mod audit;
 #[cfg(test)]
 mod bytes;
 #[cfg(test)]
+mod cuts;
+#[cfg(test)]
 mod lines;
 #[cfg(test)]
 mod phases;

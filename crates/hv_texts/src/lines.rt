@@ -1,8 +1,8 @@
 // What lines say, with values that differ in each bit of each field.
 
+use hv_history::Asked;
 use hv_policy::{Action, Caller, Config};
 use hv_privs::Privileges;
-use hv_run::Asked;
 use hv_script::{Line, parse};
 use std::alloc::Global;
 use std::process::Abort;
@@ -127,93 +127,70 @@ const ACCESSES: [(&str, u64, u32, Asked); 21] = [
         "18364758544493064720.4023233417 rdmsr 0xfedcba98",
         0xfedc_ba98_7654_3210,
         0xefcd_ab89,
-        Asked::ReadMsr { msr: 0xfedc_ba98 },
+        Asked::ReadMsr(0xfedc_ba98),
     ),
     (
         " 1.63  rdmsr  19088743 ",
         1,
         63,
-        Asked::ReadMsr { msr: 0x0123_4567 },
+        Asked::ReadMsr(0x0123_4567),
     ),
-    (
-        "1.0 rdmsr 4294967295",
-        1,
-        0,
-        Asked::ReadMsr { msr: 0xffff_ffff },
-    ),
+    ("1.0 rdmsr 4294967295", 1, 0, Asked::ReadMsr(0xffff_ffff)),
     (
         "81985529216486895.271733878 wrmsr 0x89abcdef 0xf0E1d2C3b4A59687",
         0x0123_4567_89ab_cdef,
         0x1032_5476,
-        Asked::WriteMsr {
-            msr: 0x89ab_cdef,
-            value: 0xf0e1_d2c3_b4a5_9687,
-        },
+        Asked::WriteMsr(0x89ab_cdef, 0xf0e1_d2c3_b4a5_9687),
     ),
     (
         "1.0 wrmsr 0x76543210 1084818905618843912",
         1,
         0,
-        Asked::WriteMsr {
-            msr: 0x7654_3210,
-            value: 0x0f0e_0d0c_0b0a_0908,
-        },
+        Asked::WriteMsr(0x7654_3210, 0x0f0e_0d0c_0b0a_0908),
     ),
     (
         "18364758544493064720.4023233417 slot 255",
         0xfedc_ba98_7654_3210,
         0xefcd_ab89,
-        Asked::ReadSlot { sint: 255 },
+        Asked::ReadSlot(255),
     ),
-    ("1.0 slot 16", 1, 0, Asked::ReadSlot { sint: 16 }),
-    (" 1.0  slot  0xa5 ", 1, 0, Asked::ReadSlot { sint: 165 }),
-    ("2.1 slot 0005", 2, 1, Asked::ReadSlot { sint: 5 }),
+    ("1.0 slot 16", 1, 0, Asked::ReadSlot(16)),
+    (" 1.0  slot  0xa5 ", 1, 0, Asked::ReadSlot(165)),
+    ("2.1 slot 0005", 2, 1, Asked::ReadSlot(5)),
     (
         "81985529216486895.271733878 clearslot 0xFf",
         0x0123_4567_89ab_cdef,
         0x1032_5476,
-        Asked::ClearSlot { sint: 255 },
+        Asked::ClearSlot(255),
     ),
-    ("1.0 clearslot 16", 1, 0, Asked::ClearSlot { sint: 16 }),
-    ("1.0 clearslot 0x5A", 1, 0, Asked::ClearSlot { sint: 90 }),
-    ("3.7 flags 255", 3, 7, Asked::ReadFlags { sint: 255 }),
-    ("1.0 flags 0x10", 1, 0, Asked::ReadFlags { sint: 16 }),
-    ("1.0 flags 00000150", 1, 0, Asked::ReadFlags { sint: 150 }),
+    ("1.0 clearslot 16", 1, 0, Asked::ClearSlot(16)),
+    ("1.0 clearslot 0x5A", 1, 0, Asked::ClearSlot(90)),
+    ("3.7 flags 255", 3, 7, Asked::ReadFlags(255)),
+    ("1.0 flags 0x10", 1, 0, Asked::ReadFlags(16)),
+    ("1.0 flags 00000150", 1, 0, Asked::ReadFlags(150)),
     (
         "18364758544493064720.4023233417 clearflag 255 65535",
         0xfedc_ba98_7654_3210,
         0xefcd_ab89,
-        Asked::ClearFlag {
-            sint: 255,
-            flag: 65535,
-        },
+        Asked::ClearFlag(255, 65535),
     ),
     (
         "1.0 clearflag 0x5a 0xA5c3",
         1,
         0,
-        Asked::ClearFlag {
-            sint: 90,
-            flag: 42435,
-        },
+        Asked::ClearFlag(90, 42435),
     ),
     (
         " 1.0 clearflag  016  0023130 ",
         1,
         0,
-        Asked::ClearFlag {
-            sint: 16,
-            flag: 23130,
-        },
+        Asked::ClearFlag(16, 23130),
     ),
     (
         "1.0 clearflag 0x0000000000000001 2048",
         1,
         0,
-        Asked::ClearFlag {
-            sint: 1,
-            flag: 2048,
-        },
+        Asked::ClearFlag(1, 2048),
     ),
     (
         "81985529216486895.271733878 interrupt",
@@ -243,18 +220,12 @@ fn access_lines(rt: HostRuntime) -> Result<(), Fail> {
 fn access(action: &Action<Global>) -> Option<Asked> {
     match action {
         Action::Hypercall(_) => None,
-        Action::ReadMsr(msr) => Some(Asked::ReadMsr { msr: *msr }),
-        Action::WriteMsr(msr, value) => Some(Asked::WriteMsr {
-            msr: *msr,
-            value: *value,
-        }),
-        Action::ReadSlot(sint) => Some(Asked::ReadSlot { sint: *sint }),
-        Action::ClearSlot(sint) => Some(Asked::ClearSlot { sint: *sint }),
-        Action::ReadFlags(sint) => Some(Asked::ReadFlags { sint: *sint }),
-        Action::ClearFlag(sint, flag) => Some(Asked::ClearFlag {
-            sint: *sint,
-            flag: *flag,
-        }),
+        Action::ReadMsr(msr) => Some(Asked::ReadMsr(*msr)),
+        Action::WriteMsr(msr, value) => Some(Asked::WriteMsr(*msr, *value)),
+        Action::ReadSlot(sint) => Some(Asked::ReadSlot(*sint)),
+        Action::ClearSlot(sint) => Some(Asked::ClearSlot(*sint)),
+        Action::ReadFlags(sint) => Some(Asked::ReadFlags(*sint)),
+        Action::ClearFlag(sint, flag) => Some(Asked::ClearFlag(*sint, *flag)),
         Action::TakeInterrupt => Some(Asked::TakeInterrupt),
     }
 }

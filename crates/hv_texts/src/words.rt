@@ -1,8 +1,8 @@
-// What is shown where words ask for no run: help, or the mistake.
+// What words ask for, and what is shown where they ask for no run: help, the version, or the mistake.
 
 use hv_options::{Usage, options};
 
-// Whether a refusal is help, and its text.
+// Whether a refusal is help or the version, and its text.
 fn shown(usage: &Usage) -> (bool, &str) {
     match usage {
         Usage::Help(text) => (true, text.as_str()),
@@ -20,8 +20,11 @@ Commands:
   help  Print this message or the help of the given subcommand(s)
 
 Options:
-  -h, --help  Print help
+  -h, --help     Print help
+  -V, --version  Print version
 ";
+
+const VERSION: &str = "hvpm 0.1.0\n";
 
 const RUN_HELP: &str = "Runs a script and prints its audit
 
@@ -73,14 +76,47 @@ Usage: hvpm <COMMAND>
 For more information, try '--help'.
 ";
 
+const NO_RUN_VERSION: &str = "error: unexpected argument '--version' found
+
+  tip: to pass '--version' as a value, use '-- --version'
+
+Usage: hvpm run [OPTIONS] <SCRIPT>
+
+For more information, try '--help'.
+";
+
 const NOT_SERIAL: &str = "error: `--serial` is required, since no threads are there yet\n";
 
-const WITH_TABLE: &str = "error: `--table` is not there yet\n";
+#[test]
+fn accepted(rt: HostRuntime) {
+    for (words, table) in [
+        (["hvpm", "run", "a.hv", "--serial"].as_slice(), false),
+        (
+            ["hvpm", "run", "a.hv", "--serial", "--table"].as_slice(),
+            true,
+        ),
+        (
+            ["hvpm", "run", "--table", "--serial", "a.hv"].as_slice(),
+            true,
+        ),
+    ] {
+        match options(rt.alloc(), words) {
+            Ok(options) => {
+                let read = (options.script, options.serial, options.table);
+                assert_eq!(rt; read, ("a.hv", true, table));
+            }
+            Err(usage) => assert!(rt; false, "{words:?}: {usage:?}"),
+        }
+    }
+}
 
 #[test]
 fn refusals(rt: HostRuntime) {
     for (words, is_help, text) in [
         (["hvpm", "--help"].as_slice(), true, HELP),
+        (["hvpm", "-h"].as_slice(), true, HELP),
+        (["hvpm", "--version"].as_slice(), true, VERSION),
+        (["hvpm", "-V"].as_slice(), true, VERSION),
         (["hvpm", "help", "run"].as_slice(), true, RUN_HELP),
         (
             ["hvpm", "run", "a.hv", "--serial", "-h"].as_slice(),
@@ -101,11 +137,16 @@ fn refusals(rt: HostRuntime) {
             TWO_SCRIPTS,
         ),
         (["hvpm", "walk"].as_slice(), false, UNKNOWN),
+        (
+            ["hvpm", "run", "--version"].as_slice(),
+            false,
+            NO_RUN_VERSION,
+        ),
         (["hvpm", "run", "a.hv"].as_slice(), false, NOT_SERIAL),
         (
-            ["hvpm", "run", "a.hv", "--serial", "--table"].as_slice(),
+            ["hvpm", "run", "a.hv", "--table"].as_slice(),
             false,
-            WITH_TABLE,
+            NOT_SERIAL,
         ),
     ] {
         match options(rt.alloc(), words) {

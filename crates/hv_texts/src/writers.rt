@@ -70,7 +70,7 @@ fn assert_fails(rt: &impl Abort, alloc: Global, script: &[u8], mut out: Failing,
 
 #[test]
 fn failed_output(rt: HostRuntime) {
-    for writes in 0..3 {
+    for writes in 0..2 {
         let out = failing_after(writes);
         assert_fails(&rt, rt.alloc(), ONE_EVENT, out, "hvpm: write\n");
     }

@@ -55,7 +55,6 @@ fn run_file<R: Files + AllocGlobal, W: Write, E: Write>(
     err: &mut E,
 ) -> Exit
     requires serial { options.now.serial ≡ true }
-    requires no_table { options.now.table ≡ false }
 {
     match File::open(rt, options.script) {
         Ok(file) => run_reader(rt.alloc(), file, options, out, err),

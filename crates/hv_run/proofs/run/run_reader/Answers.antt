@@ -1,22 +1,31 @@
-use Rattle.std.proofs.Common.{◌≡◌, ◌≢◌, ℕ, ◌+◌, ◌<◌, List, length, take, Option, Some, None, IfSome, arith, rules}
-use Rattle.std.proofs.lemmas.List.{length-take-le}
-use Rattle.hv_run.specs.declared.failure.Exit.TheVariants.{Done}
+use Rattle.std.proofs.Common.{◌≡◌, ◌<◌, ℕ, List, length, nat_lt, Bool, true, Option, Some, None, IfSome, Ok}
+use Rattle.std.proofs.lemmas.Bool.{lt-ltb}
+use Rattle.hv_script.specs.Script.{Said, script_of}
+use Rattle.hv_run.specs.Told.{HasTold, HasToldOf}
 use Rattle.hv_run.proofs.run.run_reader.Goals as goal
 
--- what holds of bytes that are too long holds of a longer text that they begin
-too_long : (most limit : ℕ) (o : Option (List ℕ)) (items : List ℕ) (P : Type 0) → limit ≡ most + 1
-    → IfSome o (λ text. items ≡ take limit text) → (most < length items → P) → IfSome o (λ text. most < length text → P)
-too_long most limit None items P more read run = tt
-too_long most limit (Some text) items P more read run = λ long. run (
-    let whole : length (take limit text) ≡ limit = length-take-le limit text (omega (arith, more, long)) in
-    rw (read, whole, more) (omega arith))
+-- a text with a script isn't too long
+short : {A : Type 0} (text : List ℕ) (s : Said A) → script_of text ≡ Ok s → 1048576 < length text → ⊥
+unfolding script_of
+short text s is long =
+    let over : nat_lt 1048576 (length text) ≡ true = lt-ltb 1048576 (length text) long in
+    let wrong = rw over at is in
+    cc
+
+not_long : {A : Type 0} (o : Option (List ℕ)) (s : Said A) (P : Type 0) → IfSome o (λ text. script_of text ≡ Ok s) → IfSome o (λ text. 1048576 < length text → P)
+not_long None s P is = tt
+not_long (Some text) s P is = λ long. absurd (short text s is long)
+
+of_text : {A : Type 0} (o : Option (List ℕ)) (s : Said A) (table : Bool) (old new : Option (List ℕ)) → IfSome o (λ text. script_of text ≡ Ok s)
+    → HasTold s table old new → IfSome o (λ text. HasToldOf A text table old new)
+of_text None s table old new is told = tt
+of_text (Some text) s table old new is told = record { said = s; is = is; told = told }
+
+pub returns-in-Ok-clause-told : goal.returns-in-Ok-clause-told
+returns-in-Ok-clause-told g c = λ done. of_text _ _ _ _ _ c.in-Ok.ensures.script (c.finish.ensures.told done)
 
 pub returns-in-Ok-clause-long : goal.returns-in-Ok-clause-long
-returns-in-Ok-clause-long g c =
-    let run : 1048576 < length c.in-Ok.script.items → c.run_text.new.out ≡ c.args.out.now = search rules in
-    too_long 1048576 1048577 (g.R.Read.remaining c.args.reader) c.in-Ok.script.items _ (search rules) c.in-Ok.ensures.bytes run
+returns-in-Ok-clause-long g c = not_long _ _ _ c.in-Ok.ensures.script
 
 pub returns-in-Ok-clause-long_status : goal.returns-in-Ok-clause-long_status
-returns-in-Ok-clause-long_status g c =
-    let run : 1048576 < length c.in-Ok.script.items → c.run_text.result ≢ Done = search rules in
-    too_long 1048576 1048577 (g.R.Read.remaining c.args.reader) c.in-Ok.script.items _ (search rules) c.in-Ok.ensures.bytes run
+returns-in-Ok-clause-long_status g c = not_long _ _ _ c.in-Ok.ensures.script

@@ -1,0 +1,80 @@
+#!/usr/bin/env bash
+# What `hvpm` takes for scripts of the largest size, 1,048,576 bytes, of four kinds: calls for the caller's own id; rep calls of
+# 255 elements; messages that are posted, read and cleared; partitions that are made and deleted. Beside time and memory it
+# prints the instructions of an event, as valgrind counts them, which are the same on every machine: those of the whole script
+# less those of its first line. Peak memory should stay within that of one line, twice the script's bytes, and 64 bytes for each
+# event and its output. No event should be refused.
+set -eu
+
+root=$(cd -- "$(dirname -- "${BASH_SOURCE[0]}")/.." && pwd)
+folder=$(mktemp -d)
+trap 'rm -rf -- "$folder"' EXIT
+
+source "$root/bench/measure.sh"
+"$root/bin/hvpm" --help >/dev/null
+
+# Makes a script of a kind: a boot line, as many lines as fit, and a comment that fills it up.
+make() {
+    awk -v kind="$1" -v most=1048576 '
+        # The k bytes of a number, the lowest first.
+        function bytes(n, k,    s) { s = ""; for (; k > 0; k--) { s = s sprintf("%02x", n % 256); n = int(n / 256) } return s }
+
+        # Prints a line, or the comment at the end where it does not fit.
+        function line(text) {
+            if (size + length(text) + 2 > most) { ended = 1; return }
+            print text
+            size += length(text) + 1
+        }
+
+        function call(rcx, rdx, block) { line("1.0 call " rcx " " rdx " 0 " block) }
+
+        # A port of the root for messages at SINT 2, a connection to it, and a processor that is ready.
+        function begin_messages() {
+            line("1.0 wrmsr 0x40000080 1"); line("1.0 wrmsr 0x40000083 1"); line("1.0 wrmsr 0x40000092 0x30")
+            call("0x95", 0, bytes(1, 8) bytes(5, 8) bytes(1, 8) bytes(1, 8) bytes(2, 4) bytes(0, 4) bytes(0, 8))
+            call("0x96", 0, bytes(1, 8) bytes(7, 8) bytes(1, 8) bytes(5, 8) bytes(1, 4))
+        }
+
+        BEGIN {
+            line("boot 32 12 1 0x000000f700000044 4294967295")
+            if (kind == "messages") begin_messages()
+            names = bytes(1, 8) bytes(0, 8)
+            for (i = 0; i < 255; i++) names = names bytes(131072 + i % 18, 4)
+            for (id = 2; !ended; id++) {
+                if (kind == "id") call("0x46", 0, "-")
+                if (kind == "reps") call("0x000000ff00000050", 0, names)
+                if (kind == "messages") {
+                    call("0x5c", 0, bytes(7, 8) bytes(1, 4) bytes(16, 4) bytes(id, 16))
+                    line("1.0 slot 2"); line("1.0 interrupt"); line("1.0 clearslot 2")
+                }
+                if (kind == "partitions") {
+                    call("0x40", 0, "-")
+                    call("0x10043", id, "-")
+                }
+            }
+            while (size < most - 1) { printf "#"; size++ }
+            print ""
+        }' >"$folder/$1.hv"
+    head -n 1 -- "$folder/$1.hv" >"$folder/boot.hv"
+}
+
+# The instructions of a run of the script $1.
+program=$root/crates/hvpm/out/hvpm
+instructions() {
+    command -v valgrind >/dev/null || return 1
+    valgrind --tool=callgrind --callgrind-out-file=/dev/null "$program" run "$1" --serial 2>&1 >/dev/null |
+        sed -n 's/.*Collected : //p'
+}
+
+for kind in id reps messages partitions; do
+    make "$kind"
+    echo "== $kind, $(stat -c %s "$folder/$kind.hv") bytes"
+    measure "$root/bin/hvpm" "$folder/$kind.hv"
+    events=$(sed -n 's/^events //p' "$folder/audit")
+    echo "bytes of the outputs: $(awk '/ (ok|more) / && $NF != "-" { n += length($NF) / 2 } END { print n + 0 }' "$folder/audit")"
+    if whole=$(instructions "$folder/$kind.hv"); then
+        echo "instructions an event: $(((whole - $(instructions "$folder/boot.hv")) / events))"
+    fi
+done
+echo "== the boot line alone"
+measure "$root/bin/hvpm" "$folder/boot.hv"

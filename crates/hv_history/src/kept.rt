@@ -1,0 +1,151 @@
+// The machine with its history.
+ghost use Rattle.std.specs.Prelude.{◌≡◌, ◌<◌, ◌↔◌, [], length, None, IsTrue, IfOk, IfErr, OnErr, IsErrOf};
+ghost use Rattle.hv_abi.specs.declared.frame.Frame.{Frame};
+ghost use Rattle.hv_policy.specs.BootFault.{boot_fault, IsBootRefusal};
+ghost use Rattle.hv_policy.specs.Call.{may_take_memory};
+ghost use Rattle.hv_policy.specs.Next.{GoesOn};
+ghost use Rattle.hv_policy.specs.Result.{HasResult};
+ghost use Rattle.hv_policy.specs.Step.{NamesAsked};
+ghost use Rattle.hv_policy.specs.declared.event.Action.TheVariants.{Hypercall};
+ghost use Rattle.hv_history.specs.History.{entries};
+ghost use Rattle.hv_history.specs.Kept.{HasGained, IsRun};
+
+use crate::row::History;
+use hv_machine::{BootRefused, Config, Event, Machine, Reply, check_config};
+use std::alloc::Allocator;
+use std::marker::Model;
+
+/// Why an event wasn't applied, in the order in which the causes are looked for. Nothing changed, and the event is dropped.
+#[derive(Clone, Copy, PartialEq, Eq, Debug)]
+pub enum HostRefused {
+    /// The history is as long as its limit. No rule was asked.
+    HistoryFull,
+    /// The host has no memory.
+    Memory,
+}
+
+/// A machine, with the events that made it what it is and their replies.
+#[derive(Drop)]
+pub struct Kept<A: Allocator> {
+    config: Config,
+    limit: u32,
+    history: History<A>,
+    machine: Machine<A>,
+}
+
+impl<A: Allocator> Model for Kept<A> {
+    ghost use Rattle.std.specs.Coded.{codes};
+    ghost use Rattle.hv_machine.specs.State.{state_code};
+    ghost use Rattle.hv_history.specs.History.{entries};
+    ghost use Rattle.hv_history.specs.Kept.{Kept as KeptValue, IsRun};
+
+    ghost Value = { KeptValue A };
+
+    ghost coded = { Prim.hlevel (codes, state_code) };
+
+    ghost view = { λ k. record { config = k.config; limit = k.limit; history = entries k.history; machine = k.machine } };
+
+    ghost invariant = { λ k. IsRun (record { config = k.config; limit = k.limit; history = entries k.history; machine = k.machine }) };
+}
+
+impl<A: Allocator + Clone> Kept<A> {
+    /// Boots a machine, to which nothing happened yet. It will take at most `limit` events.
+    pub fn boot(alloc: A, config: Config, limit: u32) -> Result<Kept<A>, BootRefused>
+        ensures refused { IfErr result (IsBootRefusal config) }
+        ensures accepted { IfOk result (λ k. boot_fault config ≡ None) }
+        ensures config { IfOk result (λ k. k.config ≡ config) }
+        ensures limit { IfOk result (λ k. k.limit ≡ limit) }
+        ensures history { IfOk result (λ k. k.history ≡ []) }
+        ensures run { IfOk result IsRun }
+    {
+        check_config(config)?;
+        let Ok(own) = alloc.clone() else {
+            return Err(BootRefused::Memory);
+        };
+        let Ok(rows) = alloc.clone() else {
+            return Err(BootRefused::Memory);
+        };
+        let Ok(inputs) = alloc.clone() else {
+            return Err(BootRefused::Memory);
+        };
+        let machine = Machine::boot(own, config)?;
+        Ok(Kept {
+            config,
+            limit,
+            history: History::new(rows, inputs, alloc),
+            machine,
+        })
+    }
+
+    /// Lets an event happen, and answers its number and its reply. Numbers count from 1, in the order in which events happen.
+    pub fn apply(&mut self, event: Event<A>) -> Result<(u64, Reply), HostRefused>
+        // The history has the event with its reply more, and is a run still, so that the reply and the new state are those
+        // of the flat step. The number is its place.
+        ensures applied { IfOk result (λ r. HasGained event r.1 self.old self.new) }
+        ensures number { IfOk result (λ r. r.0 ≡ length self.new.history) }
+        ensures run { IsRun self.new }
+
+        // A full history takes no event, before any rule. Else the host wants memory, and only for what may take it.
+        ensures full { IsErrOf result HostRefused.HistoryFull ↔ (length self.old.history ≡ self.old.limit) }
+        ensures refused { OnErr result (self.new ≡ self.old) }
+
+        // A refusal by a rule names one that is asked, a reply to a hypercall has a result value, and a call goes on with
+        // the element after the one that was served.
+        ensures asked { IfOk result (λ r. NamesAsked event r.1) }
+        ensures result { (frame : Frame A) → event.what ≡ Hypercall frame → IfOk result (λ r. HasResult r.1) }
+        ensures next { IfOk result (λ r. GoesOn event.what r.1) }
+    {
+        if self.is_full() {
+            return Err(HostRefused::HistoryFull);
+        }
+        if self.history.reserve(&event).is_err() {
+            return Err(HostRefused::Memory);
+        }
+        match self.machine.step(&event) {
+            Ok(reply) => {
+                self.history.push(&event, &reply);
+                Ok((self.history.len() as u64, reply))
+            }
+            Err(_) => Err(HostRefused::Memory),
+        }
+    }
+}
+
+impl<A: Allocator> Kept<A> {
+    /// What happened, in its order. It is a run of the policy with the replies of that run.
+    pub fn history(&self) -> &History<A>
+        ensures list { entries result.now ≡ self.now.history }
+        ensures run { IsRun self.now }
+    {
+        &self.history
+    }
+
+    /// The machine that the history made.
+    pub fn machine(&self) -> &Machine<A>
+        ensures machine { result.now ≡ self.now.machine }
+        ensures run { IsRun self.now }
+    {
+        &self.machine
+    }
+
+    /// What boot was given.
+    pub fn config(&self) -> Config
+        ensures { result ≡ self.now.config }
+    {
+        self.config
+    }
+
+    /// How many events the history may have.
+    pub fn limit(&self) -> u32
+        ensures { result ≡ self.now.limit }
+    {
+        self.limit
+    }
+
+    /// Whether the history has no room for another event.
+    pub fn is_full(&self) -> bool
+        ensures { IsTrue result ↔ (length self.now.history ≡ self.now.limit) }
+    {
+        self.history.len() == self.limit as usize
+    }
+}

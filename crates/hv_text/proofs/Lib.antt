@@ -1,0 +1,4 @@
+pub mod Cuts
+pub mod Entries
+pub mod Rows
+pub mod TableCuts

@@ -1,0 +1,15 @@
+-- The lines of the partitions so far went out, and their bytes and pages were counted.
+use Rattle.std.proofs.Common.{◌≡◌, ◌*◌, ◌^◌, ◌≤◌, length, take}
+use Rattle.std.specs.FinMap.{entries}
+use Rattle.std.specs.Io.KnownBytes.{Appends}
+use Rattle.hv_text.specs.Table.{pages_in, rows_text}
+use Rattle.hv_text.proofs.table_text.put_rows.Given as goal
+
+abbrev pub invariant-loop-id : goal.invariant-loop-id
+invariant-loop-id g l = record {
+  gone : Appends (g.W.Write.contents l.initial.out) (g.W.Write.contents l.out) (rows_text l.tree (take l.id-index (entries l.tree)));
+  count : l.written ≡ length (rows_text l.tree (take l.id-index (entries l.tree)));
+  few : l.written ≤ 768 * l.id-index;
+  sum : l.pages ≡ pages_in (take l.id-index (entries l.tree));
+  most : l.pages ≤ 2 ^ 65 * l.id-index;
+}

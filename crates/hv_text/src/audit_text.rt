@@ -1,0 +1,239 @@
+// The audit.
+ghost use Rattle.std.specs.Prelude.{◌≡◌, ◌≢◌, ◌+◌, ◌^◌, ◌≤◌, ◌<◌, ◌++◌, [], ℕ, List, length, codes, decimal, Err, OnOk, IfErr};
+ghost use Rattle.std.specs.Io.KnownBytes.{Appends};
+ghost use Rattle.hv_abi.specs.declared.frame.Frame.{Frame};
+ghost use Rattle.hv_defs.specs.declared.sizes.TheConstants.{REPS_END};
+ghost use Rattle.hv_history.specs.History.{entries, entry_by};
+ghost use Rattle.hv_history.specs.Row.{action_of, next_in, reply_of};
+ghost use Rattle.hv_policy.specs.Result.{result_of};
+ghost use Rattle.hv_policy.specs.Rule.{rule_name};
+ghost use Rattle.hv_text.specs.Audit.{audit_text, caller_text, entry_text, hex_32, hex_64, output_text, reply_text, result_text, what_text};
+ghost use Rattle.hv_text.specs.Fault.{IsCut};
+
+use crate::fault::PrintFault;
+use crate::put::put;
+use crate::text_line::TextLine;
+use hv_abi::{ResultValue, Status};
+use hv_history::{Answer, Asked, EntryRef, History, Kept};
+use hv_policy::{Caller, Rule, completed_reps, refused_reps};
+use std::alloc::Allocator;
+use std::io::Write;
+
+/// Writes the audit of what happened: a line for each event, and how many there are. It takes no memory, and doesn't flush.
+pub fn audit<W: Write, A: Allocator>(out: &mut W, kept: &Kept<A>) -> Result<(), PrintFault>
+    ensures ok { OnOk result (Appends (W.contents out.old) (W.contents out.new) (audit_text kept.now.history)) }
+    ensures cut { IfErr result (IsCut (W.contents out.old) (W.contents out.new) (audit_text kept.now.history)) }
+    ensures write { result ≢ Err PrintFault.Memory }
+{
+    // The proof reads here that a history's length fits 32 bits.
+    let _limit = kept.limit();
+    let mut line = TextLine::new();
+    put_history(out, &mut line, kept.history())
+}
+
+// Writes the audit of a history, a line at a time.
+fn put_history<W: Write, A: Allocator>(
+    out: &mut W,
+    line: &mut TextLine,
+    history: &History<A>,
+) -> Result<(), PrintFault>
+    requires { length (entries history.now) < 2 ^ 32 }
+    ensures ok { OnOk result (Appends (W.contents out.old) (W.contents out.new) (audit_text (entries history.now))) }
+    ensures cut { IfErr result (IsCut (W.contents out.old) (W.contents out.new) (audit_text (entries history.now))) }
+    ensures write { result ≢ Err PrintFault.Memory }
+{
+    let mut written = 0;
+    for at in 0..history.len() {
+        set_entry::<A>(line, at as u64 + 1, &history.entry(at));
+        line.push_text(b"\n");
+        written = put(out, line.as_slice(), written)?;
+    }
+    set_end(line, history.len() as u64);
+    put(out, line.as_slice(), written)?;
+    Ok(())
+}
+
+// Makes it the last line, with its line feed.
+fn set_end(line: &mut TextLine, count: u64)
+    ensures text { line.new ≡ codes "events " ++ decimal count ++ codes "\n" }
+    ensures most { length line.new ≤ 768 }
+{
+    line.clear();
+    line.push_text(b"events ");
+    line.push_decimal(count);
+    line.push_text(b"\n");
+}
+
+// Makes the line that of an event with its number, without its line feed.
+fn set_entry<A: Allocator>(line: &mut TextLine, number: u64, entry: &EntryRef<'_>)
+    requires index { next_in (reply_of entry.now.answer []) < REPS_END }
+    requires most { length entry.now.output.now ≤ 256 }
+    ensures text { line.new ≡ entry_text number (entry_by {A = A} entry.now) }
+    ensures most { length line.new ≤ 700 }
+{
+    line.clear();
+    line.push_decimal(number);
+    line.push_text(b" ");
+    push_caller(line, entry.by);
+    line.push_text(b" ");
+    push_asked::<A>(line, entry.asked, entry.input);
+    line.push_text(b" ");
+    push_reply::<A>(line, entry);
+}
+
+fn push_caller(line: &mut TextLine, by: Caller)
+    requires { length line.old + 41 ≤ 768 }
+    ensures text { line.new ≡ line.old ++ caller_text by }
+    ensures most { length (caller_text by) ≤ 41 }
+{
+    line.push_decimal(by.part);
+    line.push_text(b".");
+    line.push_decimal(u64::from(by.vp));
+}
+
+// What an event asked for. The bytes of its input aren't shown.
+fn push_asked<A: Allocator>(line: &mut TextLine, asked: Asked, input: &[u8])
+    requires { length line.old + 51 ≤ 768 }
+    ensures text { line.new ≡ line.old ++ what_text (action_of {A = A} asked input.now) }
+    ensures most { length (what_text (action_of {A = A} asked input.now)) ≤ 51 }
+{
+    match asked {
+        Asked::Hypercall { rcx, .. } => push_named_64(line, b"call ", rcx),
+        Asked::ReadMsr(msr) => push_named_32(line, b"rdmsr ", msr),
+        Asked::WriteMsr(msr, value) => {
+            push_named_32(line, b"wrmsr ", msr);
+            push_named_64(line, b" ", value);
+        }
+        Asked::ReadSlot(sint) => push_named(line, b"slot ", u64::from(sint)),
+        Asked::ClearSlot(sint) => push_named(line, b"clearslot ", u64::from(sint)),
+        Asked::ReadFlags(sint) => push_named(line, b"flags ", u64::from(sint)),
+        Asked::ClearFlag(sint, flag) => {
+            push_named(line, b"clearflag ", u64::from(sint));
+            push_named(line, b" ", u64::from(flag));
+        }
+        Asked::TakeInterrupt => line.push_text(b"interrupt"),
+    }
+}
+
+// Adds a word and a number in decimal.
+#[inline]
+fn push_named(line: &mut TextLine, name: &[u8], number: u64)
+    requires { length line.old + length name.now + 20 ≤ 768 }
+    ensures text { line.new ≡ line.old ++ (name.now ++ decimal number) }
+    ensures most { length (decimal number) ≤ 20 }
+{
+    line.push_text(name);
+    line.push_decimal(number);
+}
+
+// Adds a word and a number of 32 bits in hexadecimal.
+#[inline]
+fn push_named_32(line: &mut TextLine, name: &[u8], number: u32)
+    requires { length line.old + length name.now + 8 ≤ 768 }
+    ensures text { line.new ≡ line.old ++ (name.now ++ hex_32 number) }
+    ensures most { length (hex_32 number) ≤ 8 }
+{
+    line.push_text(name);
+    line.push_hex_32(number);
+}
+
+// Adds a word and a number of 64 bits in hexadecimal.
+#[inline]
+fn push_named_64(line: &mut TextLine, name: &[u8], number: u64)
+    requires { length line.old + length name.now + 16 ≤ 768 }
+    ensures text { line.new ≡ line.old ++ (name.now ++ hex_64 number) }
+    ensures most { length (hex_64 number) ≤ 16 }
+{
+    line.push_text(name);
+    line.push_hex_64(number);
+}
+
+// How an event was answered.
+fn push_reply<A: Allocator>(line: &mut TextLine, entry: &EntryRef<'_>)
+    requires index { next_in (reply_of entry.now.answer []) < REPS_END }
+    requires most { length entry.now.output.now ≤ 256 }
+    requires room { length line.old + 540 ≤ 768 }
+    ensures text { line.new ≡ line.old ++ reply_text (action_of {A = A} entry.now.asked entry.now.input.now) (reply_of entry.now.answer entry.now.output.now) }
+    ensures most { length (reply_text (action_of {A = A} entry.now.asked entry.now.input.now) (reply_of entry.now.answer entry.now.output.now)) ≤ 540 }
+{
+    match entry.answer {
+        Answer::Served => {
+            line.push_text(b"ok");
+            push_result::<A>(line, entry);
+            line.push_text(b" ");
+            push_output(line, entry.output);
+        }
+        Answer::More { .. } => {
+            line.push_text(b"more");
+            push_result::<A>(line, entry);
+            line.push_text(b" ");
+            push_output(line, entry.output);
+        }
+        Answer::Denied { rule, .. } => {
+            line.push_text(b"denied");
+            push_result::<A>(line, entry);
+            line.push_text(b" ");
+            push_rule(line, rule);
+        }
+        Answer::Fault { rule } => {
+            line.push_text(b"fault ");
+            push_rule(line, rule);
+        }
+    }
+}
+
+// A space and the result value, of a hypercall alone.
+fn push_result<A: Allocator>(line: &mut TextLine, entry: &EntryRef<'_>)
+    requires index { next_in (reply_of entry.now.answer []) < REPS_END }
+    requires room { length line.old + 17 ≤ 768 }
+    ensures text { line.new ≡ line.old ++ result_text (action_of {A = A} entry.now.asked entry.now.input.now) (reply_of entry.now.answer entry.now.output.now) }
+    ensures most { length (result_text (action_of {A = A} entry.now.asked entry.now.input.now) (reply_of entry.now.answer entry.now.output.now)) ≤ 17 }
+{
+    match entry.asked {
+        Asked::Hypercall { rcx, .. } => {
+            push_named_64(line, b" ", result_value::<A>(rcx, entry.answer));
+        }
+        Asked::ReadMsr(_)
+        | Asked::WriteMsr(_, _)
+        | Asked::ReadSlot(_)
+        | Asked::ClearSlot(_)
+        | Asked::ReadFlags(_)
+        | Asked::ClearFlag(_, _)
+        | Asked::TakeInterrupt => {}
+    }
+}
+
+// The result value of a hypercall with this input value that was answered so. What it put out doesn't matter.
+fn result_value<A: Allocator>(rcx: u64, answer: Answer) -> u64
+    requires { next_in (reply_of answer []) < REPS_END }
+    ensures { (frame : Frame A) (output : List ℕ) → frame.rcx ≡ rcx → result ≡ result_of frame (reply_of answer output) }
+{
+    match answer {
+        Answer::Served => ResultValue::new(Status::Success, completed_reps(rcx)).bits(),
+        Answer::More { next } => ResultValue::new(Status::Success, next).bits(),
+        Answer::Denied { status, .. } => ResultValue::new(status, refused_reps(rcx)).bits(),
+        Answer::Fault { .. } => 0,
+    }
+}
+
+// The bytes that an event put out, or a dash where there are none.
+fn push_output(line: &mut TextLine, output: &[u8])
+    requires most { length output.now ≤ 256 }
+    requires room { length line.old + 512 ≤ 768 }
+    ensures text { line.new ≡ line.old ++ output_text output.now }
+    ensures most { length (output_text output.now) ≤ 512 }
+{
+    if output.is_empty() {
+        line.push_text(b"-");
+    } else {
+        line.push_bytes(output);
+    }
+}
+
+fn push_rule(line: &mut TextLine, rule: Rule)
+    requires { length line.old + 3 ≤ 768 }
+    ensures text { line.new ≡ line.old ++ rule_name rule }
+    ensures most { length (rule_name rule) ≤ 3 }
+{
+    line.push_text(rule.name().as_bytes());
+}

@@ -1,0 +1,187 @@
+// The table.
+ghost use Rattle.std.specs.Prelude.{◌≡◌, ◌+◌, ◌*◌, ◌^◌, ◌≤◌, ◌<◌, ◌++◌, ℕ, List, length, Option, Some, IsSome, OnOk, IfErr, codes, decimal};
+ghost use Rattle.std.specs.FinMap as map;
+ghost use Rattle.std.specs.FinSet as set;
+ghost use Rattle.std.specs.Int.{w64, to_be_bytes};
+ghost use Rattle.std.specs.Io.KnownBytes.{Appends};
+ghost use Rattle.hex.specs.Hex.{encode_lower};
+ghost use Rattle.hv_partition.specs.Partition.{PartitionState, in_use};
+ghost use Rattle.hv_privs.specs.Privileges.{bits_of};
+ghost use Rattle.hv_tree.specs.Rows.{Row, children};
+ghost use Rattle.hv_text.specs.Fault.{IsCut};
+ghost use Rattle.hv_text.specs.Table.{life_text, pages_of, parent_text, partition_text, table_text};
+
+use crate::fault::PrintFault;
+use crate::put::put;
+use crate::text_line::TextLine;
+use hv_defs::Life;
+use hv_history::Kept;
+use hv_partition::{PageKind, Partition};
+use hv_tree::IdTree;
+use std::alloc::Allocator;
+use std::io::Write;
+
+// More partitions than a machine can have: each but the first took an event, of which there are less.
+const TOO_MANY: usize = 1 << 40;
+
+/// Writes the table of the partitions that are there now, by rising id. It doesn't flush.
+pub fn table<W: Write, A: Allocator + Clone>(out: &mut W, kept: &Kept<A>) -> Result<(), PrintFault>
+    ensures ok { OnOk result (Appends (W.contents out.old) (W.contents out.new) (table_text kept.now.machine.rows)) }
+    ensures cut { IfErr result (IsCut (W.contents out.old) (W.contents out.new) (table_text kept.now.machine.rows)) }
+{
+    let tree = kept.machine().tree();
+    match tree.ids() {
+        Ok(ids) if ids.len() < TOO_MANY => put_rows(out, tree, &ids),
+        Ok(_) | Err(_) => Err(PrintFault::Memory),
+    }
+}
+
+// Writes the lines of the partitions with these ids, which are all, and the last line.
+fn put_rows<W: Write, A: Allocator>(
+    out: &mut W,
+    tree: &IdTree<Partition<A>, A>,
+    ids: &[u64],
+) -> Result<(), PrintFault>
+    requires ids { ids.now ≡ map.keys tree.now }
+    requires few { length ids.now < 2 ^ 40 }
+    ensures ok { OnOk result (Appends (W.contents out.old) (W.contents out.new) (table_text tree.now)) }
+    ensures cut { IfErr result (IsCut (W.contents out.old) (W.contents out.new) (table_text tree.now)) }
+{
+    let mut line = TextLine::new();
+    let mut written = 0;
+    let mut pages = 0;
+    for id in ids {
+        pages += set_row(&mut line, tree, *id);
+        line.push_text(b"\n");
+        written = put(out, line.as_slice(), written)?;
+    }
+    set_end(&mut line, pages);
+    put(out, line.as_slice(), written)?;
+    Ok(())
+}
+
+// Makes it the last line, with its line feed.
+fn set_end(line: &mut TextLine, pages: u128)
+    ensures text { line.new ≡ codes "pages " ++ decimal pages ++ codes "\n" }
+    ensures most { length line.new ≤ 768 }
+{
+    line.clear();
+    line.push_text(b"pages ");
+    line.push_wide(pages);
+    line.push_text(b"\n");
+}
+
+// Makes the line that of the partition with this id, without its line feed, and answers how many pages it holds.
+fn set_row<A: Allocator>(line: &mut TextLine, tree: &IdTree<Partition<A>, A>, id: u64) -> u128
+    requires { IsSome (map.get tree.now id) }
+    ensures text { (row : Row PartitionState) → map.get tree.now id ≡ Some row → line.new ≡ partition_text id (length (children tree.now id)) row }
+    ensures pages { (row : Row PartitionState) → map.get tree.now id ≡ Some row → result ≡ pages_of row.1 }
+    ensures few { result < 2 ^ 65 }
+    ensures most { length line.new ≤ 700 }
+{
+    let Some(partition) = tree.get(id) else {
+        unreachable!()
+    };
+    let Some(count) = tree.children_of(id) else {
+        unreachable!()
+    };
+    set_partition(line, id, tree.parent_of(id), count, partition);
+    let loose = partition.pages(PageKind::Loose).count();
+    let pooled = partition.pages(PageKind::Pooled).count();
+    u128::from(loose) + u128::from(pooled)
+}
+
+// Makes the line that of a partition with this id, this parent and so many children, without its line feed.
+fn set_partition<A: Allocator>(
+    line: &mut TextLine,
+    id: u64,
+    parent: Option<u64>,
+    count: u32,
+    partition: &Partition<A>,
+)
+    ensures text { line.new ≡ partition_text id count (parent, partition.now) }
+    ensures most { length line.new ≤ 700 }
+{
+    set_head(line, id, parent, partition);
+    push_pages(line, count, partition);
+    push_counts(line, partition);
+}
+
+// Makes it the first part of that line, as far as the mask.
+fn set_head<A: Allocator>(
+    line: &mut TextLine,
+    id: u64,
+    parent: Option<u64>,
+    partition: &Partition<A>,
+)
+    ensures text { line.new
+        ≡ codes "partition " ++ decimal id ++ codes " parent " ++ parent_text parent ++ codes " " ++ life_text partition.now.life
+        ++ codes " mask " ++ encode_lower (to_be_bytes w64 (bits_of partition.now.mask)) }
+    ensures most { length line.new ≤ 90 }
+{
+    line.clear();
+    line.push_text(b"partition ");
+    line.push_decimal(id);
+    line.push_text(b" parent ");
+    push_parent(line, parent);
+    line.push_text(b" ");
+    push_life(line, partition.life());
+    line.push_text(b" mask ");
+    line.push_hex_64(partition.mask().bits());
+}
+
+// Adds how many pages a partition with so many children has, and how many of them it uses.
+fn push_pages<A: Allocator>(line: &mut TextLine, count: u32, partition: &Partition<A>)
+    requires { length line.old + 82 ≤ 768 }
+    ensures text { line.new
+        ≡ line.old ++ codes " loose " ++ decimal (set.len partition.now.loose.pages) ++ codes " pooled " ++ decimal (set.len partition.now.pooled.pages)
+        ++ codes " inuse " ++ decimal (in_use count partition.now) }
+    ensures most { length line.new ≤ length line.old + 82 }
+{
+    line.push_text(b" loose ");
+    line.push_decimal(partition.pages(PageKind::Loose).count());
+    line.push_text(b" pooled ");
+    line.push_decimal(partition.pages(PageKind::Pooled).count());
+    line.push_text(b" inuse ");
+    line.push_decimal(partition.in_use(count));
+}
+
+// Adds how many processors, ports and connections a partition has.
+fn push_counts<A: Allocator>(line: &mut TextLine, partition: &Partition<A>)
+    requires { length line.old + 85 ≤ 768 }
+    ensures text { line.new
+        ≡ line.old ++ codes " vps " ++ decimal (map.len partition.now.vps.vps) ++ codes " ports " ++ decimal (map.len partition.now.ports.rows)
+        ++ codes " connections " ++ decimal (map.len partition.now.conns.rows) }
+    ensures most { length line.new ≤ length line.old + 85 }
+{
+    line.push_text(b" vps ");
+    line.push_decimal(u64::from(partition.vp_count()));
+    line.push_text(b" ports ");
+    line.push_decimal(u64::from(partition.port_count()));
+    line.push_text(b" connections ");
+    line.push_decimal(u64::from(partition.conn_count()));
+}
+
+// The root has no parent.
+fn push_parent(line: &mut TextLine, parent: Option<u64>)
+    requires { length line.old + 20 ≤ 768 }
+    ensures text { line.new ≡ line.old ++ parent_text parent }
+    ensures most { length (parent_text parent) ≤ 20 }
+{
+    match parent {
+        None => line.push_text(b"-"),
+        Some(parent) => line.push_decimal(parent),
+    }
+}
+
+fn push_life(line: &mut TextLine, life: Life)
+    requires { length line.old + 9 ≤ 768 }
+    ensures text { line.new ≡ line.old ++ life_text life }
+    ensures most { length (life_text life) ≤ 9 }
+{
+    match life {
+        Life::Created => line.push_text(b"Created"),
+        Life::Active => line.push_text(b"Active"),
+        Life::Finalized => line.push_text(b"Finalized"),
+    }
+}
