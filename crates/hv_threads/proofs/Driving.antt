@@ -1,0 +1,107 @@
+-- A call that goes on by one element.
+use Rattle.std.proofs.Common.{◌≡◌, ℕ, List, [], ◌∷◌, ◌++◌, refl, sym, ap, ◌∙◌, subst, arith, append_assoc, append-nil}
+use Rattle.std.proofs.lemmas.List.{length-append}
+use Rattle.std.specs.declared.alloc.Global.{Global}
+use Rattle.hv_abi.specs.InputValue.{input_value}
+use Rattle.hv_abi.specs.declared.frame.Frame.{Frame}
+use Rattle.hv_policy.specs.Result.{result_of}
+use Rattle.hv_policy.specs.declared.event.Action.TheVariants.{Hypercall}
+use Rattle.hv_policy.specs.declared.event.Caller.{Caller}
+use Rattle.hv_policy.specs.declared.reply.Reply.{Reply}
+use Rattle.hv_policy.specs.declared.reply.Reply.TheVariants.{More}
+use Rattle.hv_threads.specs.Drive.{AreElements, HasDriven, HasStopped, IsMore, element, restart}
+use Rattle.hv_threads.specs.Pass.{HasCalled, HasReceipts, IsSamePass, receipt}
+use Rattle.hv_threads.specs.PassValue.{PassValue}
+use Rattle.hv_threads.specs.declared.held.Receipt.{Receipt}
+
+-- the elements before `now` have their receipts, and so has that of `now`, with this reply
+pub record IsDriving (frame now : Frame Global) (reply : Reply) (old new : PassValue) : Type 0 where
+  pub before : List Receipt
+  pub number : ℕ
+  pub elements : AreElements old.caller frame before now
+  pub gained : HasReceipts (before ++ receipt number (element old.caller now) reply ∷ []) old new
+
+elements-push : (by : Caller) (frame : Frame Global) (rs : List Receipt) (now : Frame Global) (number next : ℕ) (output : List ℕ) → AreElements by frame rs now
+    → AreElements by frame (rs ++ receipt number (element by now) (More next output) ∷ []) (restart now next)
+elements-push by frame [] now number next output is = (ap (element by) is, (next, output, refl, ap (λ (f : Frame Global). restart f next) is))
+elements-push by frame (r ∷ rs) now number next output is = (is.0, (is.1.0, is.1.1, is.1.2, elements-push by (restart frame is.1.0) rs now number next output is.1.3))
+
+-- the first element
+pub first : (frame : Frame Global) (reply : Reply) (old new : PassValue) → HasCalled (Hypercall frame) reply old new → IsDriving frame frame reply old new
+first frame reply old new called =
+    record {
+      before = [];
+      number = called.0;
+      elements = refl;
+      gained = record { receipts = called.1.receipts; share = called.1.share; caller = called.1.caller };
+    }
+
+module _ (frame now : Frame Global) (reply : Reply) (old mid : PassValue) (driving : IsDriving frame now reply old mid) (next : ℕ) (output : List ℕ) (is_more : reply ≡ More next output) where
+  abbrev told : Receipt
+  told = receipt driving.number (element old.caller now) reply
+
+  abbrev all : List Receipt
+  all = driving.before ++ told ∷ []
+
+  elements : AreElements old.caller frame all (restart now next)
+  elements =
+      subst (λ (r : Reply). AreElements old.caller frame (driving.before ++ receipt driving.number (element old.caller now) r ∷ []) (restart now next)) (sym is_more)
+      (elements-push old.caller frame driving.before now driving.number next output driving.elements)
+
+  -- one element more
+  pub onward : (later : Frame Global) (answer : Reply) (new : PassValue) → later ≡ restart now next → HasCalled (Hypercall later) answer mid new → IsDriving frame later answer old new
+  onward later answer new later_is called =
+      let g = driving.gained in
+      let event = element mid.caller later in
+      let same : mid.caller ≡ old.caller = g.caller in
+      record {
+        before = all;
+        number = called.0;
+        elements = subst (λ (f : Frame Global). AreElements old.caller frame all f) (sym later_is) elements;
+        gained = record {
+          receipts =
+              called.1.receipts ∙ ap (λ (rs : List Receipt). rs ++ receipt called.0 event answer ∷ []) g.receipts
+              ∙ append_assoc old.receipts all (receipt called.0 event answer ∷ [])
+              ∙ ap (λ (by : Caller). old.receipts ++ (all ++ receipt called.0 (element by later) answer ∷ [])) same;
+          share =
+              let s = g.share in
+              let t = called.1.share in
+              omega (arith, length-append all (receipt called.0 (element old.caller later) answer ∷ []));
+          caller = called.1.caller ∙ same;
+        };
+      }
+
+  -- the host refused the next one
+  pub stopped : (later : Frame Global) (start : ℕ) (new : PassValue) → later ≡ restart now next → start ≡ (input_value later.rcx).start → IsSamePass mid new → HasStopped frame start old new
+  stopped later start new later_is start_is same =
+      let g = driving.gained in
+      record {
+        more = all;
+        now = later;
+        elements = subst (λ (f : Frame Global). AreElements old.caller frame all f) (sym later_is) elements;
+        next_is = start_is;
+        gained = record { receipts = same.receipts ∙ g.receipts; share = same.share ∙ g.share; caller = same.caller ∙ g.caller };
+      }
+
+-- the host refused the first element
+pub not_begun : (frame : Frame Global) (start : ℕ) (old new : PassValue) → start ≡ (input_value frame.rcx).start → IsSamePass old new → HasStopped frame start old new
+not_begun frame start old new start_is same =
+    record {
+      more = [];
+      now = frame;
+      elements = refl;
+      next_is = start_is;
+      gained = record { receipts = same.receipts ∙ sym (append-nil old.receipts); share = let s = same.share in omega arith; caller = same.caller };
+    }
+
+-- the last element
+pub ended : (frame now : Frame Global) (value : ℕ) (reply : Reply) (old new : PassValue) → IsDriving frame now reply old new → value ≡ result_of now reply → (IsMore reply → ⊥)
+    → HasDriven frame value reply old new
+ended frame now value reply old new driving is ends =
+    record {
+      more = driving.before ++ receipt driving.number (element old.caller now) reply ∷ [];
+      last = now;
+      whole = record { before = driving.before; number = driving.number; elements = driving.elements; all = refl; ends = ends };
+      value_is = is;
+      gained = driving.gained;
+    }

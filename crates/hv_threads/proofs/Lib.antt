@@ -1,0 +1,9 @@
+pub mod Merging
+pub mod Merged
+pub mod Passes
+pub mod Opened
+pub mod Driving
+pub mod Phases
+pub mod Performing
+pub mod Crosses
+pub mod Sessions

@@ -1,0 +1,22 @@
+//! Threads that share one history, and the settlement of what each of them was told.
+//!
+//! A [`Shared`] is a lock round a machine with its history. Each thread has a [`Pass`]: its caller, a receipt of each event
+//! that it made happen, and its share of the count of all events. [`settle`] compares the history with all receipts, and is
+//! Ok exactly where the history is a merge of them (`IsMerge` in `specs/`). Threads, passes and gates are this project's own.
+#![tactic(auto)]
+
+mod drive;
+mod fault;
+mod gate;
+mod held;
+mod phase;
+mod session;
+mod shared;
+
+pub use drive::DriveRefused;
+pub use fault::{SettleFault, SettleRefused};
+pub use gate::{Gate, Open};
+pub use held::{Held, Pass, Receipt, settle};
+pub use phase::{Done, End, PhaseRefused, Work, run_phase};
+pub use session::{Job, SessionFault, session as run_session};
+pub use shared::Shared;
