@@ -14,15 +14,13 @@ use std::convert::AsStr;
 const VERSION: &str = "0.1.0";
 
 /// Reads the words of the command line, of which the first is the program's name, as in `env::args`.
-///
-/// `--serial` is required for now: `Words` says so where it is left out. `--table` may be given or not.
+/// `--serial` and `--table` may be given or not.
 pub fn options<'a, S: AsStr>(alloc: Global, words: &'a [S]) -> Result<Options<'a>, Usage>
     ensures said { IfOk result (λ o. said_by (map S.text words.entry.now) ≡ Some (o.script.now, o.serial, o.table)) }
     ensures faultless { OnOk result (faults_of (map S.text words.entry.now) ≡ []) }
-    ensures for_now { IfOk result (λ o. o.serial ≡ true) }
     ensures refused { IfErr result (Explains (faults_of (map S.text words.entry.now))) }
-    ensures accepted { (script : List ℕ) (table : Bool) → faults_of (map S.text words.entry.now) ≡ []
-        → said_by (map S.text words.entry.now) ≡ Some (script, true, table)
+    ensures accepted { (script : List ℕ) (serial table : Bool) → faults_of (map S.text words.entry.now) ≡ []
+        → said_by (map S.text words.entry.now) ≡ Some (script, serial, table)
         → IfErr result (λ usage. usage ≡ Usage.Memory) }
 {
     let command = command(alloc)?;
@@ -52,7 +50,7 @@ fn run_command<'a>(alloc: Global) -> Result<Command<'a>, AllocError>
     let serial = flag(
         alloc,
         "serial",
-        "Run the lines in the script's order, with no thread",
+        "Run the lines in the script's order, and start no thread",
     );
     let table = flag(
         alloc,
@@ -89,9 +87,8 @@ fn flag<'a>(alloc: Global, name: &'a str, help: &'a str) -> Arg<'a>
 // What the matches say, where clap took the words.
 fn read<'a>(alloc: Global, matches: &ArgMatches<'a>) -> Result<Options<'a>, Usage>
     ensures said { IfOk result (λ o. said_by_matches matches.now ≡ Some (o.script.now, o.serial, o.table)) }
-    ensures for_now { IfOk result (λ o. o.serial ≡ true) }
     ensures refused { IfErr result (Explains []) }
-    ensures accepted { (script : List ℕ) (table : Bool) → said_by_matches matches.now ≡ Some (script, true, table)
+    ensures accepted { (script : List ℕ) (serial table : Bool) → said_by_matches matches.now ≡ Some (script, serial, table)
         → IfErr result (λ usage. usage ≡ Usage.Memory) }
 {
     let Some((_, run)) = matches.subcommand() else {
@@ -102,12 +99,6 @@ fn read<'a>(alloc: Global, matches: &ArgMatches<'a>) -> Result<Options<'a>, Usag
     };
     let serial = is_given(run, "serial");
     let table = is_given(run, "table");
-    if !serial {
-        return Err(Usage::mistake(
-            alloc,
-            "error: `--serial` is required, since no threads are there yet\n",
-        ));
-    }
     Ok(Options {
         script,
         serial,

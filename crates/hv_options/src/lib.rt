@@ -1,4 +1,4 @@
-//! The words of the command line `hvpm run SCRIPT --serial --table`: what they ask for, or why they ask for nothing.
+//! The words of the command line `hvpm run SCRIPT [--serial] [--table]`: what they ask for, or why they ask for nothing.
 //!
 //! [`options`] reads them by `clap`, and its contract says what they come to by clap's own words: where it answers
 //! Ok, the script and both flags are those of clap's matches of the words, and where it refuses, [`Usage`] says

@@ -3,6 +3,10 @@ use Rattle.std.specs.Prelude.{◌≡◌, ◌⊎◌, ℕ}
 use Rattle.hv_script.specs.declared.fault.FaultKind.{FaultKind}
 use Rattle.hv_script.specs.declared.fault.FaultKind.TheVariants.{Memory}
 use Rattle.hv_script.specs.declared.fault.ScriptFault.{ScriptFault}
+use Rattle.hv_history.specs.declared.kept.HostRefused.TheVariants as refused
+use Rattle.hv_phases.specs.declared.run.Unfinished.{Unfinished}
+use Rattle.hv_phases.specs.declared.run.Unfinished.TheVariants as unfinished
+use Rattle.hv_threads.specs.declared.fault.SettleFault.TheVariants as fault
 use Rattle.hv_run.specs.declared.failure.Exit.{Exit}
 use Rattle.hv_run.specs.declared.failure.Exit.TheVariants.{Script, Host}
 use Rattle.hv_run.specs.declared.failure.Failure.{Failure}
@@ -18,6 +22,8 @@ exit_of failure.Pool = Script
 exit_of failure.Vps = Script
 exit_of failure.Memory = Host
 exit_of failure.HistoryFull = Host
+exit_of failure.Missing = Host
+exit_of failure.Differs = Host
 exit_of failure.Write = Host
 
 -- a line's fault is told with its line, and want of memory without
@@ -31,3 +37,10 @@ failure_of fault = failure_at fault.line fault.kind
 -- a script whose bytes don't come can't be read, or there is no memory for it
 abbrev pub IsUnread : Failure → Type 0
 IsUnread why = (why ≡ failure.Unreadable) ⊎ (why ≡ failure.Memory)
+
+-- why the lines didn't all run, or what the settlement found
+abbrev pub failure_by : Unfinished → Failure
+failure_by (unfinished.Host refused.HistoryFull) = failure.HistoryFull
+failure_by (unfinished.Host refused.Memory) = failure.Memory
+failure_by (unfinished.Settlement fault.Missing) = failure.Missing
+failure_by (unfinished.Settlement fault.Differs) = failure.Differs

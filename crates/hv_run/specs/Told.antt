@@ -1,26 +1,29 @@
 -- What a run that ended well wrote.
 use Rattle.std.specs.Prelude.{◌≡◌, ℕ, Bool, List, [], ◌++◌, if◌then◌else◌, Option, Ok}
 use Rattle.std.specs.Io.KnownBytes.{Appends}
+use Rattle.std.specs.declared.alloc.Global.{Global}
 use Rattle.hv_history.specs.Kept.{Kept, IsRun}
+use Rattle.hv_phases.specs.Lines.{AreRun}
 use Rattle.hv_script.specs.Script.{Said, script_of}
 use Rattle.hv_text.specs.Audit.{audit_text}
 use Rattle.hv_text.specs.Table.{table_text}
 
 -- the audit of a history, and with `--table` the table of the partitions that it left
-abbrev pub told_by : {A : Type 0} → Bool → Kept A → List ℕ
+abbrev pub told_by : Bool → Kept Global → List ℕ
 told_by with_table kept = audit_text kept.history ++ (if with_table then table_text kept.machine.rows else [])
 
 -- the writer got the audit, and the table if it is asked for, of a history that is a run from the script's boot, with at most
--- as many events as its limit
-pub record HasTold {A : Type 0} (said : Said A) (with_table : Bool) (old new : Option (List ℕ)) : Type 0 where
-  pub kept : Kept A
+-- as many events as its limit; and each processor's events in it are those that its lines ask for, in their order
+pub record HasTold (said : Said Global) (with_table : Bool) (old new : Option (List ℕ)) : Type 0 where
+  pub kept : Kept Global
   pub run : IsRun kept
   pub config : kept.config ≡ said.config
   pub limit : kept.limit ≡ said.limit
+  pub lines : AreRun said.lines kept.history
   pub told : Appends old new (told_by with_table kept)
 
 -- the same of a script's text
-pub record HasToldOf (A : Type 0) (text : List ℕ) (with_table : Bool) (old new : Option (List ℕ)) : Type 0 where
-  pub said : Said A
+pub record HasToldOf (text : List ℕ) (with_table : Bool) (old new : Option (List ℕ)) : Type 0 where
+  pub said : Said Global
   pub is : script_of text ≡ Ok said
   pub told : HasTold said with_table old new

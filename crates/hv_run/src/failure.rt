@@ -2,9 +2,12 @@
 ghost use Rattle.std.specs.Prelude.{◌≡◌, ◌⊎◌};
 ghost use Rattle.hv_run.specs.Failure.{exit_of, failure_of};
 
+use hv_history::HostRefused;
 use hv_machine::BootRefused;
-use hv_script::{FaultKind, ScriptFault, Stop};
+use hv_phases::Unfinished;
+use hv_script::{FaultKind, ScriptFault};
 use hv_text::PrintFault;
+use hv_threads::SettleFault;
 use std::io::Write;
 use thiserror::Error;
 
@@ -17,7 +20,7 @@ pub enum Exit {
     Script = 1,
     /// The words of the command line are wrong.
     Usage = 2,
-    /// Memory was wanting, the history was full, or standard output took no more.
+    /// Memory was wanting, the history was full, the settlement found a fault, or standard output took no more.
     Host = 3,
 }
 
@@ -45,6 +48,12 @@ pub enum Failure {
     /// The history has as many events as the script's boot line allows.
     #[error("history full")]
     HistoryFull,
+    /// An event of the history is in no processor's account.
+    #[error("settlement missing")]
+    Missing,
+    /// The processors' accounts and the history differ.
+    #[error("settlement differs")]
+    Differs,
     /// Standard output took no more.
     #[error("write")]
     Write,
@@ -62,7 +71,11 @@ impl Failure {
             | Failure::Pages
             | Failure::Pool
             | Failure::Vps => Exit::Script,
-            Failure::Memory | Failure::HistoryFull | Failure::Write => Exit::Host,
+            Failure::Memory
+            | Failure::HistoryFull
+            | Failure::Missing
+            | Failure::Differs
+            | Failure::Write => Exit::Host,
         }
     }
 }
@@ -90,15 +103,17 @@ impl From<ScriptFault> for Failure {
     }
 }
 
-impl From<Stop> for Failure {
-    ghost use Rattle.hv_run.specs.declared.failure.Exit.TheVariants.{Host};
+impl From<Unfinished> for Failure {
+    ghost use Rattle.hv_run.specs.Failure.{failure_by};
 
-    ghost from_gives = { λ _ failure. exit_of failure ≡ Host };
+    ghost from_gives = { λ why failure. failure ≡ failure_by why };
 
-    fn from(stop: Stop) -> Failure {
-        match stop {
-            Stop::HistoryFull => Failure::HistoryFull,
-            Stop::Memory => Failure::Memory,
+    fn from(why: Unfinished) -> Failure {
+        match why {
+            Unfinished::Host(HostRefused::HistoryFull) => Failure::HistoryFull,
+            Unfinished::Host(HostRefused::Memory) => Failure::Memory,
+            Unfinished::Settlement(SettleFault::Missing) => Failure::Missing,
+            Unfinished::Settlement(SettleFault::Differs) => Failure::Differs,
         }
     }
 }

@@ -2,8 +2,8 @@
 //! the table.
 //!
 //! [`run_reader`] reads a script to its end and runs it on a machine of its own over two writers; [`run_text`] does so with a
-//! script that is in memory; [`tell_usage`] tells of a command line that asks for no run. Nothing here opens a file or ends
-//! the process.
+//! script that is in memory, and [`run_gated`] with a gate that is told of each event; [`tell_usage`] tells of a command line
+//! that asks for no run. Nothing here opens a file or ends the process.
 #![tactic(auto)]
 
 mod failure;
@@ -13,5 +13,5 @@ mod usage;
 
 pub use failure::{Exit, Failure, tell};
 pub use reading::unread;
-pub use run::{run_reader, run_text};
+pub use run::{run_gated, run_reader, run_text};
 pub use usage::tell_usage;

@@ -4,8 +4,6 @@
 //! [`parse`] reads a whole script or finds its first fault, by line and [`FaultKind`], whose `Display` is the fault's
 //! text. `script_of` in `specs/Script.antt` says which script or which fault a text is, and the contract of `parse` is that
 //! it gives that one, want of memory apart. What a number, the bytes, a word and a line are stands beside it.
-//!
-//! [`Processors`] keeps which processors of a phase stopped, for a run of its lines.
 #![tactic(auto)]
 
 mod boot;
@@ -13,7 +11,6 @@ mod fault;
 mod fields;
 mod line;
 mod number;
-mod processors;
 mod reading;
 mod script;
 mod verb;
@@ -21,5 +18,5 @@ mod words;
 
 pub use fault::{FaultKind, ScriptFault};
 pub use line::Line;
-pub use processors::{Processors, Stop};
+pub use reading::MOST_PROCESSORS;
 pub use script::{MOST_BYTES, Script, parse};

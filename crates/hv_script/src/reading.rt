@@ -5,10 +5,12 @@ ghost use Rattle.hv_script.specs.Callers.{callers_of};
 use crate::boot::{Boot, read_boot};
 use crate::fault::FaultKind;
 use crate::line::{Line, action, processor};
-use crate::processors::MOST_PROCESSORS;
 use crate::words::Words;
 use hv_policy::{Action, Caller};
 use std::alloc::Allocator;
+
+/// The most processors that a phase has.
+pub const MOST_PROCESSORS: usize = 64;
 
 /// What was read of a script, from its first line on.
 #[derive(Drop)]

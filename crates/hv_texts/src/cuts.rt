@@ -4,7 +4,9 @@ use crate::writers::{SERIAL, text_of};
 use hv_run::{Exit, run_text};
 use std::alloc::Global;
 use std::process::Abort;
+use std::sync::Wait;
 use std::test::Fail;
+use std::thread::Threads;
 
 const SCRIPT: &[u8] = b"boot 32 12 1 0x000000f700000044 1000
 1.0 call 0x40 0 0 -
@@ -114,7 +116,12 @@ fn last_cuts() -> [Cut; 13] {
 }
 
 // Runs the first bytes of the script, and compares what is told.
-fn assert_cut(rt: &impl Abort, alloc: Global, len: usize, cut: &Cut) -> Result<(), Fail> {
+fn assert_cut(
+    rt: &(impl Abort + Threads + Wait + Sync),
+    alloc: Global,
+    len: usize,
+    cut: &Cut,
+) -> Result<(), Fail> {
     assert!(rt; len <= SCRIPT.len());
     let mut wanted: Vec<u8> = Vec::new(alloc);
     for line in LINES.iter().take(cut.lines) {
@@ -123,7 +130,7 @@ fn assert_cut(rt: &impl Abort, alloc: Global, len: usize, cut: &Cut) -> Result<(
     wanted.extend_from_slice(cut.last.as_bytes())?;
     let mut out: Vec<u8> = Vec::new(alloc);
     let mut err: Vec<u8> = Vec::new(alloc);
-    let exit = run_text(alloc, &SCRIPT[..len], &SERIAL, &mut out, &mut err);
+    let exit = run_text(rt, alloc, &SCRIPT[..len], &SERIAL, &mut out, &mut err);
     assert_eq!(rt;
         (exit, text_of(&out), text_of(&err)),
         (cut.exit, text_of(&wanted), cut.err)
@@ -132,7 +139,11 @@ fn assert_cut(rt: &impl Abort, alloc: Global, len: usize, cut: &Cut) -> Result<(
 }
 
 // How many scripts these are.
-fn assert_cuts(rt: &impl Abort, alloc: Global, cuts: &[Cut]) -> Result<usize, Fail> {
+fn assert_cuts(
+    rt: &(impl Abort + Threads + Wait + Sync),
+    alloc: Global,
+    cuts: &[Cut],
+) -> Result<usize, Fail> {
     let mut count = 0usize;
     for cut in cuts {
         for len in cut.from..=cut.to {

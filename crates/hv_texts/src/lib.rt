@@ -13,8 +13,6 @@ mod lines;
 #[cfg(test)]
 mod phases;
 #[cfg(test)]
-mod processors;
-#[cfg(test)]
 mod readers;
 #[cfg(test)]
 mod words;

@@ -6,7 +6,9 @@ use std::alloc::Global;
 use std::io;
 use std::io::{ErrorKind, Read};
 use std::process::Abort;
+use std::sync::Wait;
 use std::test::Fail;
+use std::thread::Threads;
 
 // What reading and running comes to: the exit status, the output, and the line on standard error.
 type Shown<'a> = (Exit, &'a str, &'a str);
@@ -16,10 +18,15 @@ const ONE_EVENT: &[u8] = b"boot 32 12 1 0x000000f700000044 9\n1.0 call 0x46 0 0 
 const ONE_LINE: &str =
     "1 1.0 call 0000000000000046 ok 0000000000000000 0100000000000000\nevents 1\n";
 
-fn assert_read<R: Read + Drop>(rt: &impl Abort, alloc: Global, reader: R, wanted: Shown<'_>) {
+fn assert_read<R: Read + Drop>(
+    rt: &(impl Abort + Threads + Wait + Sync),
+    alloc: Global,
+    reader: R,
+    wanted: Shown<'_>,
+) {
     let mut out: Vec<u8> = Vec::new(alloc);
     let mut err: Vec<u8> = Vec::new(alloc);
-    let exit = run_reader(alloc, reader, &SERIAL, &mut out, &mut err);
+    let exit = run_reader(rt, alloc, reader, &SERIAL, &mut out, &mut err);
     assert_eq!(rt; (exit, text_of(&out), text_of(&err)), wanted);
 }
 

@@ -34,7 +34,7 @@ Arguments:
   <SCRIPT>  The script: a boot line, and a line for each hypercall
 
 Options:
-      --serial  Run the lines in the script's order, with no thread
+      --serial  Run the lines in the script's order, and start no thread
       --table   Print the table of partitions after the audit
   -h, --help    Print help
 ";
@@ -85,25 +85,27 @@ Usage: hvpm run [OPTIONS] <SCRIPT>
 For more information, try '--help'.
 ";
 
-const NOT_SERIAL: &str = "error: `--serial` is required, since no threads are there yet\n";
-
 #[test]
 fn accepted(rt: HostRuntime) {
-    for (words, table) in [
-        (["hvpm", "run", "a.hv", "--serial"].as_slice(), false),
+    for (words, serial, table) in [
+        (["hvpm", "run", "a.hv"].as_slice(), false, false),
+        (["hvpm", "run", "a.hv", "--serial"].as_slice(), true, false),
+        (["hvpm", "run", "--table", "a.hv"].as_slice(), false, true),
         (
             ["hvpm", "run", "a.hv", "--serial", "--table"].as_slice(),
+            true,
             true,
         ),
         (
             ["hvpm", "run", "--table", "--serial", "a.hv"].as_slice(),
+            true,
             true,
         ),
     ] {
         match options(rt.alloc(), words) {
             Ok(options) => {
                 let read = (options.script, options.serial, options.table);
-                assert_eq!(rt; read, ("a.hv", true, table));
+                assert_eq!(rt; read, ("a.hv", serial, table));
             }
             Err(usage) => assert!(rt; false, "{words:?}: {usage:?}"),
         }
@@ -141,12 +143,6 @@ fn refusals(rt: HostRuntime) {
             ["hvpm", "run", "--version"].as_slice(),
             false,
             NO_RUN_VERSION,
-        ),
-        (["hvpm", "run", "a.hv"].as_slice(), false, NOT_SERIAL),
-        (
-            ["hvpm", "run", "a.hv", "--table"].as_slice(),
-            false,
-            NOT_SERIAL,
         ),
     ] {
         match options(rt.alloc(), words) {

@@ -6,7 +6,9 @@ use std::alloc::Global;
 use std::io;
 use std::io::{ErrorKind, Write};
 use std::process::Abort;
+use std::sync::Wait;
 use std::test::Fail;
+use std::thread::Threads;
 
 /// What the command line says where a script is run.
 pub const SERIAL: Options<'static> = Options {
@@ -62,9 +64,15 @@ const ONE_EVENT: &[u8] = b"boot 32 12 1 0 9\n1.0 call 1 0 0 -\n";
 const FULL: &[u8] = b"boot 32 12 1 0 0\n1.0 call 1 0 0 -\n";
 
 // Runs a script on a writer that fails, and looks at the line on standard error.
-fn assert_fails(rt: &impl Abort, alloc: Global, script: &[u8], mut out: Failing, line: &str) {
+fn assert_fails(
+    rt: &(impl Abort + Threads + Wait + Sync),
+    alloc: Global,
+    script: &[u8],
+    mut out: Failing,
+    line: &str,
+) {
     let mut err: Vec<u8> = Vec::new(alloc);
-    let exit = run_text(alloc, script, &SERIAL, &mut out, &mut err);
+    let exit = run_text(rt, alloc, script, &SERIAL, &mut out, &mut err);
     assert_eq!(rt; (exit, text_of(&err)), (Exit::Host, line));
 }
 
@@ -101,7 +109,7 @@ fn failed_error(rt: HostRuntime) {
         (b"phase".as_slice(), Exit::Script, b"".as_slice()),
     ] {
         let mut out: Vec<u8> = Vec::new(alloc);
-        let told = run_text(alloc, script, &SERIAL, &mut out, &mut failing_after(0));
+        let told = run_text(&rt, alloc, script, &SERIAL, &mut out, &mut failing_after(0));
         assert_eq!(rt; out.as_slice(), text);
         assert_eq!(rt; told, exit);
     }

@@ -6,4 +6,5 @@ pub mod Driving
 pub mod Phases
 pub mod Performing
 pub mod Crosses
-pub mod Sessions
+pub mod Callers
+pub mod Counting

@@ -22,7 +22,8 @@ pub record IsWorking {L : Type 0} (work : Work L) (pass : PassValue) (done : ℕ
   pub are_whole : AreWhole work.pass.caller did whole
   pub gained : HasReceipts whole work.pass pass
 
-whole-push : (by : Caller) (did : List (Action Global)) (list : List Receipt) (what : Action Global) (own : List Receipt) → AreWhole by did list → IsWhole by what own → AreWhole by (did ++ what ∷ []) (list ++ own)
+-- one action more that came to its end
+pub whole-push : (by : Caller) (did : List (Action Global)) (list : List Receipt) (what : Action Global) (own : List Receipt) → AreWhole by did list → IsWhole by what own → AreWhole by (did ++ what ∷ []) (list ++ own)
 whole-push by [] list what own is whole = (own, [], ap (λ (l : List Receipt). l ++ own) is ∙ sym (append-nil own), whole, refl)
 whole-push by (x ∷ did) list what own is whole =
     (is.0, is.1 ++ own, ap (λ (l : List Receipt). l ++ own) is.2 ∙ append_assoc is.0 is.1 own, is.3, whole-push by did is.1 what own is.4 whole)

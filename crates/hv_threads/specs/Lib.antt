@@ -1,10 +1,11 @@
+pub mod ByCaller
+pub mod Counted
 pub mod Drive
 pub mod HeldValue
 pub mod Merge
 pub mod Pass
 pub mod PassValue
 pub mod Phase
-pub mod Session
 pub mod Settle
-pub mod Shared
 pub mod SharedValue
+pub mod Shared

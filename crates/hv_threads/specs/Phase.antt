@@ -13,7 +13,7 @@ use Rattle.hv_threads.specs.declared.held.Receipt.{Receipt}
 use Rattle.hv_threads.specs.declared.phase.Done.{Done}
 use Rattle.hv_threads.specs.declared.phase.End.{End}
 use Rattle.hv_threads.specs.declared.phase.End.TheVariants.{Finished, Host}
-use Rattle.hv_threads.specs.declared.phase.Slot.{Slot}
+use Rattle.hv_threads.specs.declared.phase.Task.{Task}
 use Rattle.hv_threads.specs.declared.phase.Work.{Work}
 
 -- the receipt of an access
@@ -97,17 +97,13 @@ pub record HasBegun (what : Action Global) (old new : PassValue) : Type 0 where
   pub stopped : IsStopped old.caller what more
   pub gained : HasReceipts more old new
 
--- nothing is done yet
-pub record IsFresh {L : Type 0} (slot : Slot L) : Type 0 where
-  pub none : slot.done ≡ 0
-  pub end : slot.end ≡ Finished
+-- what a task holds after its thread; nothing is left of it unless the host stopped it
+pub record IsDoneAt {L : Type 0} (old new : Task L) : Type 0 where
+  pub done : IsDone old.work new.work.pass new.done new.end
+  pub idle : new.end ≡ Finished → new.work.actions.items ≡ []
 
--- what a slot holds after its thread
-abbrev pub IsDoneAt : {L : Type 0} → Slot L → Slot L → Type 0
-IsDoneAt old new = IsDone old.work new.work.pass new.done new.end
-
-abbrev pub done_of : {L : Type 0} → Slot L → Done L
-done_of slot = record { pass = slot.work.pass; done = slot.done; end = slot.end }
+abbrev pub done_of : {L : Type 0} → Task L → Done L
+done_of task = record { pass = task.work.pass; done = task.done; end = task.end }
 
 -- one for each work, in order
 pub record EachDone {L : Type 0} (works : List (Work L)) (dones : List (Done L)) : Type 0 where

@@ -9,14 +9,14 @@ mod drive;
 mod fault;
 mod gate;
 mod held;
+mod laws;
 mod phase;
-mod session;
 mod shared;
 
 pub use drive::DriveRefused;
 pub use fault::{SettleFault, SettleRefused};
 pub use gate::{Gate, Open};
 pub use held::{Held, Pass, Receipt, settle};
-pub use phase::{Done, End, PhaseRefused, Work, run_phase};
-pub use session::{Job, SessionFault, session as run_session};
+pub use laws::{a_merge_counts_each_number_once, each_caller_did_what_its_pass_has};
+pub use phase::{Done, End, PhaseRefused, Task, Work, perform, run_phase, run_tasks};
 pub use shared::Shared;

@@ -1,7 +1,7 @@
 // Many threads, each with a pass.
-ghost use Rattle.std.specs.Prelude.{◌≡◌, ◌<◌, ◌≤◌, ◌+◌, [], ℕ, List, IfOk, IfErr, OnOk, OnErr, length, vec_len, vec_capacity, slice_index_or, All, map, reverse};
-ghost use Rattle.hv_threads.specs.Phase.{IsDone, IsDoneAt, IsFresh, EachDone, HasPerformed, HasBegun, done_of};
-ghost use Rattle.hv_threads.specs.declared.phase.Slot.{Slot};
+ghost use Rattle.std.specs.Prelude.{◌≡◌, ◌<◌, ◌≤◌, ◌+◌, [], ℕ, List, IfOk, IfErr, OnOk, OnErr, length, vec_len, vec_capacity, slice_index_or, map, reverse};
+ghost use Rattle.hv_threads.specs.Phase.{IsDoneAt, EachDone, HasPerformed, HasBegun, done_of};
+ghost use Rattle.hv_threads.specs.declared.phase.Task.{Task};
 
 use crate::gate::Gate;
 use crate::held::Pass;
@@ -44,16 +44,17 @@ pub struct PhaseRefused<L: Ledger> {
     pub work: Vec<Work<L>>,
 }
 
-// One thread's work while it runs.
+/// A work while it is done. Threads work on a slice of tasks, which stay where they are, so that no pass can be lost.
 #[derive(Drop)]
-struct Slot<L: Ledger> {
-    work: Work<L>,
-    done: u64,
-    end: End,
+pub struct Task<L: Ledger> {
+    pub work: Work<L>,
+    /// How many actions came to their end.
+    pub done: u64,
+    pub end: End,
 }
 
-// Lets one action come to its end: a hypercall element by element, anything else as one event.
-fn perform<L: Ledger, R: Wait, G: Gate>(
+/// Lets one action come to its end: a hypercall element by element, anything else as one event.
+pub fn perform<L: Ledger, R: Wait, G: Gate>(
     rt: &R,
     shared: &Shared<L>,
     gate: &G,
@@ -82,12 +83,13 @@ fn perform<L: Ledger, R: Wait, G: Gate>(
 }
 
 // Does the actions in order, up to the first that the host refuses.
-fn run_work<L: Ledger, R: Wait, G: Gate>(rt: &R, shared: &Shared<L>, gate: &G, slot: &mut Slot<L>)
-    requires { IsFresh slot.old }
-    ensures { IsDone slot.old.work slot.new.work.pass slot.new.done slot.new.end }
+fn run_work<L: Ledger, R: Wait, G: Gate>(rt: &R, shared: &Shared<L>, gate: &G, task: &mut Task<L>)
+    ensures { IsDoneAt task.old task.new }
 {
-    let Slot { work, done, end } = slot;
+    let Task { work, done, end } = task;
     let Work { pass, actions } = work;
+    *done = 0;
+    *end = End::Finished;
     actions.reverse();
     while let Some(action) = actions.pop() {
         match perform(rt, shared, gate, pass, action) {
@@ -100,15 +102,14 @@ fn run_work<L: Ledger, R: Wait, G: Gate>(rt: &R, shared: &Shared<L>, gate: &G, s
     }
 }
 
-// A slot for each work, the last work first.
-fn slots_of<L: Ledger>(works: Vec<Work<L>>, slots: &mut Vec<Slot<L>>)
-    requires { (slots.old.items ≡ []) × (vec_len works ≤ vec_capacity slots.old) }
-    ensures works { map (λ s. s.work) slots.new.items ≡ reverse works.items }
-    ensures fresh { All IsFresh slots.new.items }
+// A task for each work, the last work first.
+fn tasks_of<L: Ledger>(works: Vec<Work<L>>, tasks: &mut Vec<Task<L>>)
+    requires { (tasks.old.items ≡ []) × (vec_len works ≤ vec_capacity tasks.old) }
+    ensures { map (λ s. s.work) tasks.new.items ≡ reverse works.items }
 {
     let mut works = works;
     while let Some(work) = works.pop() {
-        slots.push_reserved(Slot {
+        tasks.push_reserved(Task {
             work,
             done: 0,
             end: End::Finished,
@@ -116,44 +117,42 @@ fn slots_of<L: Ledger>(works: Vec<Work<L>>, slots: &mut Vec<Slot<L>>)
     }
 }
 
-// What the slots hold, the last one first.
-fn dones_of<L: Ledger>(slots: Vec<Slot<L>>, dones: &mut Vec<Done<L>>)
-    requires { (dones.old.items ≡ []) × (vec_len slots ≤ vec_capacity dones.old) }
-    ensures { dones.new.items ≡ map done_of (reverse slots.items) }
+// What the tasks hold, the last one first.
+fn dones_of<L: Ledger>(tasks: Vec<Task<L>>, dones: &mut Vec<Done<L>>)
+    requires { (dones.old.items ≡ []) × (vec_len tasks ≤ vec_capacity dones.old) }
+    ensures { dones.new.items ≡ map done_of (reverse tasks.items) }
 {
-    let mut slots = slots;
-    while let Some(slot) = slots.pop() {
-        let Slot { work, done, end } = slot;
+    let mut tasks = tasks;
+    while let Some(task) = tasks.pop() {
+        let Task { work, done, end } = task;
         let Work { pass, actions } = work;
         drop(actions);
         dones.push_reserved(Done { pass, done, end });
     }
 }
 
-// Runs the slots, each in a thread of its own.
-fn run_slots<L: Ledger + Send + Sync, R: Threads + Wait + Sync, G: Gate>(
+/// Does the tasks, each in a thread of its own, or after another where the system has no thread to give. A thread stops at the
+/// first event that the host refuses; the others go on. What the tasks' `done` and `end` were before doesn't count.
+pub fn run_tasks<L: Ledger + Send + Sync, R: Threads + Wait + Sync, G: Gate>(
     rt: &R,
     shared: &Shared<L>,
     gate: &G,
-    slots: &mut [Slot<L>],
+    tasks: &mut [Task<L>],
 )
-    requires { All IsFresh slots.old }
-    ensures { (i : ℕ) (d : Slot L) → i < length slots.old → IsDoneAt (slice_index_or slots.old i d) (slice_index_or slots.new i d) }
+    ensures { (i : ℕ) (d : Task L) → i < length tasks.old → IsDoneAt (slice_index_or tasks.old i d) (slice_index_or tasks.new i d) }
 {
-    let count = slots.len();
+    let count = tasks.len();
     if count == 0 {
         return;
     }
-    let one = |_: usize, slot: &mut Slot<L>|
-        requires { IsFresh slot.now }
-        ensures { IsDoneAt slot.entry.now slot.exit.now }
-    { run_work(rt, shared, gate, slot) };
-    thread::for_each_mut(rt, slots, count, &one);
+    let one = |_: usize, task: &mut Task<L>|
+        ensures { IsDoneAt task.entry.now task.exit.now }
+    { run_work(rt, shared, gate, task) };
+    thread::for_each_mut(rt, tasks, count, &one);
 }
 
-/// Does each work in a thread of its own, or after another where the system has no thread to give, and tells what each did, in
-/// order. A thread stops at the first event that the host refuses; the others go on. For want of memory all work comes back,
-/// and no thread was started.
+/// Does each work, as [`run_tasks`] does, and tells what each did, in order. For want of memory all work comes back, and no
+/// thread was started.
 pub fn run_phase<L: Ledger + Send + Sync, R: Threads + Wait + Sync, G: Gate>(
     rt: &R,
     shared: &Shared<L>,
@@ -164,13 +163,13 @@ pub fn run_phase<L: Ledger + Send + Sync, R: Threads + Wait + Sync, G: Gate>(
     ensures refused { IfErr result (λ e. e.work ≡ works) }
 {
     let alloc = *works.allocator();
-    let mut slots = Vec::new(alloc);
+    let mut tasks = Vec::new(alloc);
     let mut dones = Vec::new(alloc);
-    if slots.reserve(works.len()).is_err() || dones.reserve(works.len()).is_err() {
+    if tasks.reserve(works.len()).is_err() || dones.reserve(works.len()).is_err() {
         return Err(PhaseRefused { work: works });
     }
-    slots_of(works, &mut slots);
-    run_slots(rt, shared, gate, slots.as_mut_slice());
-    dones_of(slots, &mut dones);
+    tasks_of(works, &mut tasks);
+    run_tasks(rt, shared, gate, tasks.as_mut_slice());
+    dones_of(tasks, &mut dones);
     Ok(dones)
 }

@@ -5,8 +5,6 @@
 //! over two writers. What stands here only fetches both, and gives back the exit status.
 #![tactic(auto)]
 
-ghost use Rattle.std.specs.Prelude.{◌≡◌, true, false};
-
 use hv_options::{Options, Usage, options};
 use hv_run::{Exit, Failure, run_reader, tell, tell_usage, unread};
 use std::env;
@@ -14,6 +12,8 @@ use std::fs::File;
 use std::io::{BufWriter, ErrorKind, Write};
 use std::process::ExitCode;
 use std::rt::{Env, Files};
+use std::sync::Wait;
+use std::thread::Threads;
 
 fn main(rt: HostRuntime) -> ExitCode {
     let mut err = rt.stderr();
@@ -24,7 +24,7 @@ fn main(rt: HostRuntime) -> ExitCode {
     ExitCode::from(exit as u8)
 }
 
-fn start<R: Env + Files + AllocGlobal, W: Write, E: Write>(
+fn start<R: Env + Files + AllocGlobal + Threads + Wait + Sync, W: Write, E: Write>(
     rt: &R,
     out: &mut W,
     err: &mut E,
@@ -48,16 +48,14 @@ fn read_words<R: Env + AllocGlobal>(rt: &R) -> Result<Vec<String>, Usage> {
     }
 }
 
-fn run_file<R: Files + AllocGlobal, W: Write, E: Write>(
+fn run_file<R: Files + AllocGlobal + Threads + Wait + Sync, W: Write, E: Write>(
     rt: &R,
     options: &Options<'_>,
     out: &mut W,
     err: &mut E,
-) -> Exit
-    requires serial { options.now.serial ≡ true }
-{
+) -> Exit {
     match File::open(rt, options.script) {
-        Ok(file) => run_reader(rt.alloc(), file, options, out, err),
+        Ok(file) => run_reader(rt, rt.alloc(), file, options, out, err),
         Err(error) => tell(unread(&error), err),
     }
 }

@@ -29,7 +29,7 @@ pub returns-in-Ok-clause-accepted : goal.returns-in-Ok-clause-accepted
 returns-in-Ok-clause-accepted g c =
     let words = map g.S.AsStr.text c.args.words.now in
     let same = said_by_matches-words _ words c.in-Ok.matches c.in_ok-command.ensures c.in-Ok.ensures.matches in
-    λ script table none said. c.read.ensures.accepted script table (same ∙ said)
+    λ script serial table none said. c.read.ensures.accepted script serial table (same ∙ said)
 
 pub returns-in-Err-clause-refused : goal.returns-in-Err-clause-refused
 returns-in-Err-clause-refused g c =
@@ -41,4 +41,4 @@ pub returns-in-Err-clause-accepted : goal.returns-in-Err-clause-accepted
 returns-in-Err-clause-accepted g c =
     let words = map g.S.AsStr.text c.args.words.now in
     let kinds : HasKind (faults_of words) c.in-Err.error = fails_by_faults {T = ArgMatches} _ words (Err c.in-Err.error) c.in_ok-command.ensures c.in-Err.ensures.kinds in
-    λ script table none said. c.refusal.ensures.memory (only_memory c.in-Err.error (subst (λ (k : Kinds). HasKind k c.in-Err.error) none kinds))
+    λ script serial table none said. c.refusal.ensures.memory (only_memory c.in-Err.error (subst (λ (k : Kinds). HasKind k c.in-Err.error) none kinds))

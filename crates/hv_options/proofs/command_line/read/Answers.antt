@@ -10,7 +10,7 @@ returns-in_default-get_str-clause-accepted c =
     let nothing : said_by_matches c.args.matches.now ≡ None =
     said_of_rows c.args.matches.now (rows_of run) c.in-Some.ensures.rows
     ∙ said_nothing (rows_of run) (read_of_rows run (codes "SCRIPT") None c.in_default-get_str.ensures) in
-    λ script table said. cc
+    λ script serial table said. cc
 
 pub returns-clause-said : goal.returns-clause-said
 returns-clause-said c =

@@ -1,4 +1,4 @@
-use Rattle.std.proofs.Common.{rules, ◌≡◌, ◌≢◌, ◌<◌, ◌≤◌, ◌+◌, ℕ, List, length, take, Option, Some, None, IfSome, Ok, arith, subst, sym, ◌∙◌}
+use Rattle.std.proofs.Common.{rules, ◌≡◌, ◌<◌, ◌≤◌, ◌+◌, ℕ, List, length, take, Option, Some, None, IfSome, Ok, arith, subst, ◌∙◌}
 use Rattle.std.proofs.lemmas.List.{length-take-le, take_all}
 use Rattle.hv_script.specs.Reading.{said}
 use Rattle.hv_script.specs.Script.{script_of}

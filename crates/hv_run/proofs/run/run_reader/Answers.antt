@@ -1,5 +1,6 @@
 use Rattle.std.proofs.Common.{◌≡◌, ◌<◌, ℕ, List, length, nat_lt, Bool, true, Option, Some, None, IfSome, Ok}
 use Rattle.std.proofs.lemmas.Bool.{lt-ltb}
+use Rattle.std.specs.declared.alloc.Global.{Global}
 use Rattle.hv_script.specs.Script.{Said, script_of}
 use Rattle.hv_run.specs.Told.{HasTold, HasToldOf}
 use Rattle.hv_run.proofs.run.run_reader.Goals as goal
@@ -16,8 +17,8 @@ not_long : {A : Type 0} (o : Option (List ℕ)) (s : Said A) (P : Type 0) → If
 not_long None s P is = tt
 not_long (Some text) s P is = λ long. absurd (short text s is long)
 
-of_text : {A : Type 0} (o : Option (List ℕ)) (s : Said A) (table : Bool) (old new : Option (List ℕ)) → IfSome o (λ text. script_of text ≡ Ok s)
-    → HasTold s table old new → IfSome o (λ text. HasToldOf A text table old new)
+of_text : (o : Option (List ℕ)) (s : Said Global) (table : Bool) (old new : Option (List ℕ)) → IfSome o (λ text. script_of text ≡ Ok s)
+    → HasTold s table old new → IfSome o (λ text. HasToldOf text table old new)
 of_text None s table old new is told = tt
 of_text (Some text) s table old new is told = record { said = s; is = is; told = told }
 

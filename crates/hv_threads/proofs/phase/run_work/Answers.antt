@@ -6,6 +6,6 @@ loop-action-preserved g c =
     let l = c.loop-action in
     let i = l.invariant in
     record {
-      working = goes_on c.args.slot.now.work l.pass c.perform.new.pass l.done l.actions.items c.pop.new.self.items c.in-Some.action i.working c.in-Some.ensures.items c.in-Ok.ensures.performed;
+      working = goes_on c.args.task.now.work l.pass c.perform.new.pass l.done l.actions.items c.pop.new.self.items c.in-Some.action i.working c.in-Some.ensures.items c.in-Ok.ensures.performed;
       end = i.end;
     }

@@ -4,7 +4,7 @@ use Rattle.hv_threads.specs.declared.phase.End.TheVariants.{Finished}
 use Rattle.hv_threads.proofs.phase.run_work.Given as goal
 
 abbrev pub invariant-loop-action : goal.invariant-loop-action
-invariant-loop-action g l = record { working : IsWorking l.fn.slot.work l.pass l.done l.actions.items; end : l.end ≡ Finished }
+invariant-loop-action g l = record { working : IsWorking l.fn.task.work l.pass l.done l.actions.items; end : l.end ≡ Finished }
 
 abbrev pub decreases-loop-action : goal.decreases-loop-action
 decreases-loop-action g l = vec_len l.actions

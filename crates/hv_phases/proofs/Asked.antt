@@ -1,0 +1,78 @@
+-- What lines ask of a processor, and what receipts it has of them.
+use Rattle.std.proofs.Common.{◌≡◌, List, [], ◌∷◌, ◌++◌, refl, sym, ap, ◌∙◌, subst, append_assoc, Bool, cond}
+use Rattle.std.specs.Prelude.{map, filter, All}
+use Rattle.std.specs.List.{Contains}
+use Rattle.std.proofs.lemmas.List.{map-append}
+use Rattle.std.proofs.lemmas.List.Elements.{filter-append, All-head, All-tail, All-append, All-cons, All-nil}
+use Rattle.std.specs.declared.alloc.Global.{Global}
+use Rattle.hv_abi.specs.declared.frame.Frame.{Frame}
+use Rattle.hv_policy.specs.declared.event.Action.{Action}
+use Rattle.hv_policy.specs.declared.event.Action.TheVariants.{Hypercall, ReadMsr, WriteMsr, ReadSlot, ClearSlot, ReadFlags, ClearFlag, TakeInterrupt}
+use Rattle.hv_policy.specs.declared.event.Caller.{Caller}
+use Rattle.hv_phases.specs.Lines.{asked_by}
+use Rattle.hv_script.specs.declared.line.Line.{Line}
+use Rattle.hv_threads.proofs.Callers.{is_another, is_itself}
+use Rattle.hv_threads.specs.ByCaller.{is_caller}
+use Rattle.hv_threads.specs.Drive.{AreElements, restart}
+use Rattle.hv_threads.specs.Pass.{receipt}
+use Rattle.hv_threads.specs.Phase.{AreWhole, IsAccess, IsWhole}
+use Rattle.hv_threads.specs.declared.held.Receipt.{Receipt}
+
+pub asked_by-append : (by : Caller) (xs ys : List (Line Global)) → asked_by by (xs ++ ys) ≡ asked_by by xs ++ asked_by by ys
+asked_by-append by xs ys =
+    ap (map (λ (l : Line Global). l.action)) (filter-append (λ (l : Line Global). is_caller by l.by) xs ys)
+    ∙ map-append (λ (l : Line Global). l.action) (filter (λ (l : Line Global). is_caller by l.by) xs) (filter (λ (l : Line Global). is_caller by l.by) ys)
+
+-- a line of its own
+pub asked_by_own : (by : Caller) (line : Line Global) → line.by ≡ by → asked_by by (line ∷ []) ≡ line.action ∷ []
+asked_by_own by line own = ap (λ (b : Bool). map (λ (l : Line Global). l.action) (cond b (line ∷ []) [])) (is_itself by line.by own)
+
+-- a line of another
+pub asked_by_other : (by : Caller) (line : Line Global) → (line.by ≡ by → ⊥) → asked_by by (line ∷ []) ≡ []
+asked_by_other by line other = ap (λ (b : Bool). map (λ (l : Line Global). l.action) (cond b (line ∷ []) [])) (is_another by line.by other)
+
+-- no line names it
+pub asked_by_none : (by : Caller) (callers : List Caller) (lines : List (Line Global)) → All (λ line. Contains callers line.by) lines → (Contains callers by → ⊥) → asked_by by lines ≡ []
+asked_by_none by callers [] named none = refl
+asked_by_none by callers (line ∷ lines) named none =
+    let first : Contains callers line.by = All-head (λ (l : Line Global). Contains callers l.by) line lines named in
+    let rest = asked_by_none by callers lines (All-tail (λ (l : Line Global). Contains callers l.by) line lines named) none in
+    ap (λ (b : Bool). map (λ (l : Line Global). l.action) (cond b (line ∷ filter (λ (l : Line Global). is_caller by l.by) lines) (filter (λ (l : Line Global). is_caller by l.by) lines)))
+    (is_another by line.by (λ same. none (subst (λ (c : Caller). Contains callers c) same first))) ∙ rest
+
+pub whole-append : (by : Caller) (acts bs : List (Action Global)) (xs ys : List Receipt) → AreWhole by acts xs → AreWhole by bs ys → AreWhole by (acts ++ bs) (xs ++ ys)
+whole-append by [] bs xs ys none more = subst (λ (l : List Receipt). AreWhole by bs (l ++ ys)) (sym none) more
+whole-append by (a ∷ acts) bs xs ys some more =
+    (some.0, some.1 ++ ys, ap (λ (l : List Receipt). l ++ ys) some.2 ∙ append_assoc some.0 some.1 ys, some.3, whole-append by acts bs some.1 ys some.4 more)
+
+abbrev IsBy : Caller → Receipt → Type 0
+IsBy by r = r.event.by ≡ by
+
+elements_by : (by : Caller) (frame : Frame Global) (list : List Receipt) (now : Frame Global) → AreElements by frame list now → All (IsBy by) list
+elements_by by frame [] now elements = All-nil (IsBy by)
+elements_by by frame (r ∷ rs) now elements =
+    All-cons (IsBy by) r rs (ap (λ e. e.by) elements.0) (elements_by by (restart frame elements.1.0) rs now elements.1.3)
+
+access_by : (by : Caller) (what : Action Global) (list : List Receipt) → IsAccess by what list → All (IsBy by) list
+access_by by what list access =
+    subst (All (IsBy by)) (sym access.all) (All-cons (IsBy by) (receipt access.number (record { by = by; what = what }) access.reply) [] refl (All-nil (IsBy by)))
+
+action_by : (by : Caller) (what : Action Global) (list : List Receipt) → IsWhole by what list → All (IsBy by) list
+action_by by (Hypercall frame) list whole =
+    let w = whole.whole in
+    let last = receipt w.number (record { by = by; what = Hypercall whole.last }) whole.reply in
+    subst (All (IsBy by)) (sym w.all)
+    (All-append (IsBy by) w.before (last ∷ []) (elements_by by frame w.before whole.last w.elements) (All-cons (IsBy by) last [] refl (All-nil (IsBy by))))
+action_by by (ReadMsr msr) list whole = access_by by (ReadMsr msr) list whole
+action_by by (WriteMsr msr value) list whole = access_by by (WriteMsr msr value) list whole
+action_by by (ReadSlot sint) list whole = access_by by (ReadSlot sint) list whole
+action_by by (ClearSlot sint) list whole = access_by by (ClearSlot sint) list whole
+action_by by (ReadFlags sint) list whole = access_by by (ReadFlags sint) list whole
+action_by by (ClearFlag sint flag) list whole = access_by by (ClearFlag sint flag) list whole
+action_by by TakeInterrupt list whole = access_by by TakeInterrupt list whole
+
+-- receipts of whole actions are by their caller
+pub whole_by : (by : Caller) (actions : List (Action Global)) (list : List Receipt) → AreWhole by actions list → All (IsBy by) list
+whole_by by [] list none = subst (All (IsBy by)) (sym none) (All-nil (IsBy by))
+whole_by by (a ∷ actions) list some =
+    subst (All (IsBy by)) (sym some.2) (All-append (IsBy by) some.0 some.1 (action_by by a some.0 some.3) (whole_by by actions some.1 some.4))

@@ -1,0 +1,5 @@
+pub mod Asked
+pub mod Crews
+pub mod Handing
+pub mod Named
+pub mod Settled

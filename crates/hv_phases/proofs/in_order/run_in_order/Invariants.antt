@@ -1,0 +1,9 @@
+use Rattle.std.proofs.Common.{length}
+use Rattle.hv_phases.proofs.Handing.{IsInOrder}
+use Rattle.hv_phases.proofs.in_order.run_in_order.Given as goal
+
+abbrev pub invariant-loop-line : goal.invariant-loop-line
+invariant-loop-line g l = IsInOrder l.fn.lines.items l.left.items l.tasks
+
+abbrev pub decreases-loop-line : goal.decreases-loop-line
+decreases-loop-line g l = length l.left.items

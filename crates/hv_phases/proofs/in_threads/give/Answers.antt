@@ -1,0 +1,16 @@
+use Rattle.std.proofs.Common.{ap}
+use Rattle.hv_threads.specs.PassValue.{PassValue}
+use Rattle.hv_phases.proofs.Crews.{given}
+use Rattle.hv_phases.proofs.in_threads.give.Goals as goal
+
+pub returns-then-place-members-clause-given : goal.returns-then-place-members-clause-given
+returns-then-place-members-clause-given g c =
+    let is = c.enlist-place.ensures in
+    let did = c.in_ok-push_action.ensures in
+    given c.args.line _ _ _ _ _ is.same is.there.1 is.by (ap (λ (p : PassValue). p.caller) did.pass) c.requires.different did.pass did.end did.action
+
+pub returns-else-place-members-clause-given : goal.returns-else-place-members-clause-given
+returns-else-place-members-clause-given g c =
+    let is = c.enlist-place.ensures in
+    let did = c.in_ok-push_action.ensures in
+    given c.args.line _ _ _ _ _ is.same is.there.1 is.by (ap (λ (p : PassValue). p.caller) did.pass) c.requires.different did.pass did.end did.action

@@ -1,0 +1,9 @@
+use Rattle.std.proofs.Common.{length}
+use Rattle.hv_phases.proofs.Handing.{IsBetween}
+use Rattle.hv_phases.proofs.in_threads.run_in_threads.Given as goal
+
+abbrev pub invariant-loop-first : goal.invariant-loop-first
+invariant-loop-first g l = IsBetween l.fn.lines.items l.left.items l.tasks
+
+abbrev pub decreases-loop-first : goal.decreases-loop-first
+decreases-loop-first g l = length l.left.items

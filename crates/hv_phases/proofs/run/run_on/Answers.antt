@@ -1,0 +1,19 @@
+use Rattle.std.proofs.Common.{◌∙◌, sym, subst, Option, Some, None, IfNone}
+use Rattle.std.proofs.lemmas.List.{with_items_is}
+use Rattle.hv_phases.specs.Crew.{AreReady}
+use Rattle.hv_phases.proofs.Handing.{have_run_turned, ready}
+use Rattle.hv_phases.proofs.run.run_on.Goals as goal
+
+if_none : {X : Type 0} (o : Option X) (P Q : Type 0) → (P → Q) → IfNone o P → IfNone o Q
+if_none None P Q f p = f p
+if_none (Some x) P Q f p = tt
+
+pub run_either-stop-requires-after_bounds : goal.run_either-stop-requires-after_bounds
+run_either-stop-requires-after_bounds g c κs within =
+    let made = c.in-Ok.ensures in
+    subst (AreReady c.args.lines.items) (sym c.as_mut_slice.ensures.value) (ready _ _ _ made.tasks c.requires.callers c.requires.fresh made.going made.idle)
+
+pub returns : goal.returns
+returns g c =
+    rw (c.give_back.ensures, with_items_is c.in-Ok.tasks c.run_either-stop.new.tasks (c.run_either-stop.auto.tasks ∙ c.as_mut_slice.ensures.len))
+    (if_none c.run_either-stop.result _ _ (have_run_turned c.args.lines.items _) c.run_either-stop.ensures)

@@ -1,0 +1,18 @@
+-- What the lines of a script come to.
+use Rattle.std.specs.Prelude.{List, map, filter}
+use Rattle.std.specs.declared.alloc.Global.{Global}
+use Rattle.hv_history.specs.declared.entry.Entry.{Entry}
+use Rattle.hv_policy.specs.declared.event.Action.{Action}
+use Rattle.hv_policy.specs.declared.event.Caller.{Caller}
+use Rattle.hv_script.specs.declared.line.Line.{Line}
+use Rattle.hv_threads.specs.ByCaller.{is_caller, receipts_by}
+use Rattle.hv_threads.specs.Phase.{AreWhole}
+
+-- what the lines of this processor ask for, in order
+abbrev pub asked_by : Caller → List (Line Global) → List (Action Global)
+asked_by by lines = map (λ line. line.action) (filter (λ line. is_caller by line.by) lines)
+
+-- what each processor did, in the history's order, is what its lines ask for, in their order, each of them to its end; and
+-- one that no line names did nothing
+abbrev pub AreRun : List (Line Global) → List (Entry Global) → Type 0
+AreRun lines history = (by : Caller) → AreWhole by (asked_by by lines) (receipts_by by 1 history)

@@ -1,0 +1,104 @@
+// The lines of a script in its order, with no thread.
+ghost use Rattle.std.specs.Prelude.{◌≡◌, ◌≢◌, ◌≤◌, ◌<◌, ◌++◌, ◌∷◌, [], ℕ, List, All, IfNone, length};
+ghost use Rattle.std.specs.List.{Contains};
+ghost use Rattle.std.specs.List.Sorted.{IsPermutation};
+ghost use Rattle.std.specs.declared.alloc.Global.{Global};
+ghost use Rattle.hv_phases.specs.Crew.{AreReady, HaveRun, IsAfter, callers_in, passes_in};
+ghost use Rattle.hv_script.specs.declared.line.Line.{Line};
+ghost use Rattle.hv_threads.specs.ByCaller.{AreDifferent};
+ghost use Rattle.hv_threads.specs.Phase.{HasPerformed};
+ghost use Rattle.hv_threads.specs.declared.phase.End.TheVariants.{Finished};
+
+use crate::tasks::{enlist, first_stop};
+use hv_history::HostRefused;
+use hv_policy::Action;
+use hv_script::Line;
+use hv_threads::{End, Gate, Shared, Task, perform};
+use std::alloc::Global;
+use std::sync::Wait;
+use std::sync::ledger::Ledger;
+
+/// Runs the lines one after the other, and tells why the first processor that the host stopped was stopped, in the order of
+/// their first lines in the phase. A processor that was stopped does no line more, and no phase begins after one in which a
+/// processor was stopped.
+pub fn run_in_order<L: Ledger, R: Wait, G: Gate>(
+    rt: &R,
+    gate: &G,
+    shared: &Shared<L>,
+    tasks: &mut [Task<L>],
+    lines: Vec<Line<Global>>,
+) -> Option<HostRefused>
+    requires { AreReady lines.items tasks.old }
+    ensures { IfNone result (HaveRun lines.items (passes_in tasks.new)) }
+{
+    let mut left = lines;
+    left.reverse();
+    let mut phase = 0;
+    let mut members = 0;
+    while let Some(line) = left.pop() {
+        if line.phase != phase {
+            if let Some(why) = first_stop(tasks) {
+                return Some(why);
+            }
+            phase = line.phase;
+            members = 0;
+        }
+        members = run_line(rt, gate, shared, tasks, members, line);
+        shrink(&mut left);
+    }
+    first_stop(tasks)
+}
+
+// Runs a line, and tells how many of the first tasks had one in its phase.
+fn run_line<L: Ledger, R: Wait, G: Gate>(
+    rt: &R,
+    gate: &G,
+    shared: &Shared<L>,
+    tasks: &mut [Task<L>],
+    members: usize,
+    line: Line<Global>,
+) -> usize
+    requires different { AreDifferent (callers_in tasks.old) }
+    requires named { Contains (callers_in tasks.old) line.by }
+    ensures callers { IsPermutation (callers_in tasks.old) (callers_in tasks.new) }
+    ensures run { (ran : List (Line Global)) → All (IsAfter ran) tasks.old → All (IsAfter (ran ++ line ∷ [])) tasks.new }
+{
+    let Line { by, action, .. } = line;
+    let place = enlist(tasks, members, by);
+    do_next(rt, gate, shared, &mut tasks[place], action);
+    if place < members { members } else { place + 1 }
+}
+
+// Lets a task's processor do one thing, unless it was stopped. Where the host refuses an event of it, it is stopped.
+fn do_next<L: Ledger, R: Wait, G: Gate>(
+    rt: &R,
+    gate: &G,
+    shared: &Shared<L>,
+    task: &mut Task<L>,
+    action: Action<Global>,
+)
+    ensures done { task.new.end ≡ Finished → (task.old.end ≡ Finished) × HasPerformed action task.old.work.pass task.new.work.pass }
+    ensures caller { task.new.work.pass.caller ≡ task.old.work.pass.caller }
+    ensures actions { task.new.work.actions.items ≡ task.old.work.actions.items }
+    ensures stopped { task.old.end ≢ Finished → task.new ≡ task.old }
+{
+    if task.end != End::Finished {
+        return;
+    }
+    if let Err(why) = perform(rt, shared, gate, &mut task.work.pass, action) {
+        task.end = End::Host(why);
+    }
+}
+
+// Gives back the memory of lines that were run, once they are an eighth of all.
+fn shrink(left: &mut Vec<Line<Global>>)
+    ensures { left.new.items ≡ left.old.items }
+{
+    let free = left.capacity() - left.len();
+    if free > LEAST_FREE && free > left.capacity() / 8 {
+        left.shrink_to_fit();
+    }
+}
+
+// So many lines' memory isn't worth giving back.
+const LEAST_FREE: usize = 1024;

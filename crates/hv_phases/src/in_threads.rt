@@ -1,0 +1,127 @@
+// The phases of a script, each processor of a phase in a thread of its own.
+ghost use Rattle.std.specs.Prelude.{◌≡◌, ◌≤◌, ◌<◌, ◌++◌, ◌∷◌, [], ℕ, All, IfNone, IfOk, IsTrue, OnOk, length, slice_index_or};
+ghost use Rattle.std.specs.List.{Contains};
+ghost use Rattle.hv_phases.specs.Crew.{AreCallersOf, AreIdleFrom, AreReady, HasGiven, HasHandedOut, HaveRun, callers_in, passes_in};
+ghost use Rattle.hv_threads.specs.ByCaller.{AreDifferent};
+ghost use Rattle.hv_threads.specs.Phase.{IsDoneAt};
+ghost use Rattle.hv_threads.specs.declared.phase.Task.{Task};
+
+use crate::tasks::{enlist, first_stop};
+use hv_history::HostRefused;
+use hv_policy::Action;
+use hv_script::Line;
+use hv_threads::{Gate, Shared, Task, run_tasks};
+use std::alloc::{AllocError, Global};
+use std::sync::Wait;
+use std::sync::ledger::Ledger;
+use std::thread::Threads;
+
+/// Runs the lines phase by phase, and tells why the first processor that the host stopped was stopped, in the order of their
+/// first lines. No phase begins after one in which a processor was stopped, and none that there is no memory for.
+pub fn run_in_threads<L: Ledger + Send + Sync, R: Threads + Wait + Sync, G: Gate>(
+    rt: &R,
+    gate: &G,
+    shared: &Shared<L>,
+    tasks: &mut [Task<L>],
+    lines: Vec<Line<Global>>,
+) -> Option<HostRefused>
+    requires { AreReady lines.items tasks.old }
+    ensures { IfNone result (HaveRun lines.items (passes_in tasks.new)) }
+{
+    let mut left = lines;
+    left.reverse();
+    while let Some(first) = left.pop() {
+        let Ok(members) = hand_out(tasks, &mut left, first) else {
+            return Some(HostRefused::Memory);
+        };
+        run_members(rt, gate, shared, tasks, members);
+        if let Some(why) = first_stop(tasks) {
+            return Some(why);
+        }
+    }
+    None
+}
+
+// Hands the lines of a phase, of which this is the first, to the tasks of their processors, and tells how many of the first
+// tasks have something to do.
+fn hand_out<L: Ledger>(
+    tasks: &mut [Task<L>],
+    left: &mut Vec<Line<Global>>,
+    first: Line<Global>,
+) -> Result<usize, AllocError>
+    requires different { AreDifferent (callers_in tasks.old) }
+    requires first { Contains (callers_in tasks.old) first.by }
+    requires named { All (λ line. Contains (callers_in tasks.old) line.by) left.old.items }
+    requires idle { AreIdleFrom 0 tasks.old }
+    ensures handed_out { OnOk result (HasHandedOut first left.old.items left.new.items tasks.old tasks.new) }
+    ensures idle { IfOk result (λ members. (members ≤ length tasks.new) × AreIdleFrom members tasks.new) }
+{
+    let phase = first.phase;
+    let mut members = give(tasks, 0, first)?;
+    while is_next_of(left, phase) {
+        let Some(line) = left.pop() else {
+            unreachable!()
+        };
+        members = give(tasks, members, line)?;
+    }
+    Ok(members)
+}
+
+// Whether there is a next line and it is of this phase.
+fn is_next_of(left: &Vec<Line<Global>>, phase: u32) -> bool
+    ensures { IsTrue result → 0 < length left.now.items }
+{
+    match left.last() {
+        Some(line) => line.phase == phase,
+        None => false,
+    }
+}
+
+// Hands a line to the task of its processor, and tells how many of the first tasks have something to do.
+fn give<L: Ledger>(
+    tasks: &mut [Task<L>],
+    members: usize,
+    line: Line<Global>,
+) -> Result<usize, AllocError>
+    requires different { AreDifferent (callers_in tasks.old) }
+    requires named { Contains (callers_in tasks.old) line.by }
+    requires within { members ≤ length tasks.old }
+    requires idle { AreIdleFrom members tasks.old }
+    ensures given { OnOk result (HasGiven line tasks.old tasks.new) }
+    ensures idle { IfOk result (λ members. (members ≤ length tasks.new) × AreIdleFrom members tasks.new) }
+{
+    let Line { by, action, .. } = line;
+    let place = enlist(tasks, members, by);
+    push_action(&mut tasks[place], action)?;
+    if place < members {
+        Ok(members)
+    } else {
+        Ok(place + 1)
+    }
+}
+
+// One action more is to be done.
+fn push_action<L: Ledger>(task: &mut Task<L>, action: Action<Global>) -> Result<(), AllocError>
+    ensures action { OnOk result (task.new.work.actions.items ≡ task.old.work.actions.items ++ action ∷ []) }
+    ensures pass { task.new.work.pass ≡ task.old.work.pass }
+    ensures end { task.new.end ≡ task.old.end }
+{
+    task.work.actions.push(action)?;
+    Ok(())
+}
+
+// Does the first tasks, each in a thread of its own.
+fn run_members<L: Ledger + Send + Sync, R: Threads + Wait + Sync, G: Gate>(
+    rt: &R,
+    gate: &G,
+    shared: &Shared<L>,
+    tasks: &mut [Task<L>],
+    members: usize,
+)
+    requires { members ≤ length tasks.old }
+    ensures done { (i : ℕ) (d : Task L) → i < members → IsDoneAt (slice_index_or tasks.old i d) (slice_index_or tasks.new i d) }
+    ensures rest { (i : ℕ) (d : Task L) → members ≤ i → i < length tasks.old → slice_index_or tasks.new i d ≡ slice_index_or tasks.old i d }
+{
+    let (front, _) = tasks.split_at_mut(members);
+    run_tasks(rt, shared, gate, front);
+}

@@ -1,0 +1,139 @@
+// A whole run of lines, from a machine to which nothing happened to its settlement.
+ghost use Rattle.std.specs.Prelude.{◌≡◌, ◌<◌, [], All, IfNone, IsNone, map, vec_len};
+ghost use Rattle.hv_phases.specs.Crew.{AreCallersOf, AreReady, HaveRun, passes_in};
+ghost use Rattle.hv_phases.specs.Lines.{AreRun};
+ghost use Rattle.hv_threads.specs.Merge.{IsMerge, receipts_of};
+
+use crate::callers::callers_of;
+use crate::in_order::run_in_order;
+use crate::in_threads::run_in_threads;
+use crate::tasks::{give_back, tasks_of};
+use hv_history::{HostRefused, Kept};
+use hv_policy::Caller;
+use hv_script::Line;
+use hv_threads::{Gate, Pass, SettleFault, Shared, Task, settle};
+use std::alloc::Global;
+use std::marker::Brand;
+use std::sync::Wait;
+use std::sync::ledger::{Blank, Ledger};
+use std::thread::Threads;
+
+/// Why not all lines were run, or what was run doesn't count.
+#[derive(Clone, Copy, PartialEq, Eq, Debug)]
+pub enum Unfinished {
+    /// The host refused an event, or had no memory for a phase or for the passes.
+    Host(HostRefused),
+    /// The receipts don't make the history.
+    Settlement(SettleFault),
+}
+
+/// Runs the lines of a script on a machine to which nothing happened yet, each processor of a phase in a thread of its own,
+/// or with `serial` all in their order and with no thread. Answers the machine with its history, and why it isn't a whole
+/// run of the lines, if it isn't. Where it is, each processor's events are those that its lines ask for, in their order
+/// (`lines`).
+pub fn run_lines<R: Threads + Wait + Sync, G: Gate>(
+    rt: &R,
+    gate: &G,
+    kept: Kept<Global>,
+    lines: Vec<Line<Global>>,
+    serial: bool,
+) -> (Kept<Global>, Option<Unfinished>)
+    requires empty { kept.history ≡ [] }
+    ensures config { IfNone result.1 (result.0.config ≡ kept.config) }
+    ensures limit { IfNone result.1 (result.0.limit ≡ kept.limit) }
+    ensures lines { IfNone result.1 (AreRun lines.items result.0.history) }
+{
+    let Ok(callers) = callers_of(*lines.allocator(), lines.as_slice()) else {
+        return (kept, Some(Unfinished::Host(HostRefused::Memory)));
+    };
+    if callers.is_empty() {
+        return (kept, None);
+    }
+    let parts = callers.len() as u64;
+    run_under::<Brand, R, G>(rt, gate, kept, Blank::new(parts), callers, lines, serial)
+}
+
+// The same under one ledger.
+fn run_under<L: Ledger + Send + Sync, R: Threads + Wait + Sync, G: Gate>(
+    rt: &R,
+    gate: &G,
+    kept: Kept<Global>,
+    blank: Blank,
+    callers: Vec<Caller>,
+    lines: Vec<Line<Global>>,
+    serial: bool,
+) -> (Kept<Global>, Option<Unfinished>)
+    requires empty { kept.history ≡ [] }
+    requires some { 0 < vec_len callers }
+    requires ledger { (blank.name ≡ L.name) × (blank.parts ≡ L.parts) × (blank.parts ≡ vec_len callers) }
+    requires callers { AreCallersOf lines.items callers.items }
+    ensures config { IfNone result.1 (result.0.config ≡ kept.config) }
+    ensures limit { IfNone result.1 (result.0.limit ≡ kept.limit) }
+    ensures lines { IfNone result.1 (AreRun lines.items result.0.history) }
+{
+    match Shared::<L>::new(kept, blank, callers) {
+        Ok((shared, mut passes)) => {
+            let stop = run_on(rt, gate, &shared, &mut passes, lines, serial);
+            finish(shared, passes, stop)
+        }
+        Err(kept) => (kept, Some(Unfinished::Host(HostRefused::Memory))),
+    }
+}
+
+// Settles, and tells what comes first: what the settlement found, or why the lines didn't all run.
+fn finish<L: Ledger>(
+    shared: Shared<L>,
+    passes: Vec<Pass<L>>,
+    stop: Option<HostRefused>,
+) -> (Kept<Global>, Option<Unfinished>)
+    ensures config { IfNone result.1 (result.0.config ≡ shared.config) }
+    ensures limit { IfNone result.1 (result.0.limit ≡ shared.limit) }
+    ensures merge { IfNone result.1 (IsMerge result.0.history (receipts_of passes.items)) }
+    ensures stop { IfNone result.1 (IsNone stop) }
+{
+    match (settle(shared, passes), stop) {
+        (Ok(kept), None) => (kept, None),
+        (Ok(kept), Some(why)) => (kept, Some(Unfinished::Host(why))),
+        (Err(refused), _) => (refused.kept, Some(Unfinished::Settlement(refused.fault))),
+    }
+}
+
+// Runs the lines on fresh passes, and tells why they didn't all run, if they didn't.
+fn run_on<L: Ledger + Send + Sync, R: Threads + Wait + Sync, G: Gate>(
+    rt: &R,
+    gate: &G,
+    shared: &Shared<L>,
+    passes: &mut Vec<Pass<L>>,
+    lines: Vec<Line<Global>>,
+    serial: bool,
+) -> Option<HostRefused>
+    requires callers { AreCallersOf lines.items (map (λ pass. pass.caller) passes.old.items) }
+    requires fresh { All (λ pass. pass.receipts ≡ []) passes.old.items }
+    ensures { IfNone result (HaveRun lines.items passes.new.items) }
+{
+    let Ok(mut tasks) = tasks_of(passes) else {
+        return Some(HostRefused::Memory);
+    };
+    let stop = run_either(rt, gate, shared, tasks.as_mut_slice(), lines, serial);
+    give_back(tasks, passes);
+    stop
+}
+
+// Runs the lines in one of the two ways.
+fn run_either<L: Ledger + Send + Sync, R: Threads + Wait + Sync, G: Gate>(
+    rt: &R,
+    gate: &G,
+    shared: &Shared<L>,
+    tasks: &mut [Task<L>],
+    lines: Vec<Line<Global>>,
+    serial: bool,
+) -> Option<HostRefused>
+    requires { AreReady lines.items tasks.old }
+    ensures { IfNone result (HaveRun lines.items (passes_in tasks.new)) }
+{
+    if serial {
+        run_in_order(rt, gate, shared, tasks, lines)
+    } else {
+        run_in_threads(rt, gate, shared, tasks, lines)
+    }
+}

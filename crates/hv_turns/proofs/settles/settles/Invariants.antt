@@ -1,0 +1,5 @@
+use Rattle.hv_turns.proofs.settles.settles.Given as goal
+
+-- the ledger is the one of the new blank
+abbrev pub ghosts-settles_as : goal.ghosts-settles_as
+ghosts-settles_as g a = record { name = a.blank.name; parts = a.blank.parts }

@@ -1,0 +1,95 @@
+// What the tests begin with: calls of the root's processors 0 and 1, and passes for the two.
+ghost use Rattle.std.specs.Prelude.{◌≡◌};
+
+use hv_abi::{Bytes, Frame};
+use hv_history::Kept;
+use hv_policy::{Action, Caller, Config};
+use hv_privs::Privileges;
+use hv_threads::{Done, End, Pass, Shared, Work};
+use std::alloc::Global;
+use std::ops::Range;
+use std::process::Abort;
+use std::sync::ledger::{Blank, Ledger};
+use std::test::Fail;
+
+// A processor of the root.
+pub(crate) fn root(vp: u32) -> Caller {
+    Caller { part: 1, vp }
+}
+
+// A call whose input list has these bytes.
+pub(crate) fn call(rcx: u64, input: Vec<u8>) -> Frame<Global> {
+    Frame {
+        rcx,
+        rdx: 0,
+        r8: 0,
+        input: Bytes::from_vec(input),
+    }
+}
+
+// A number and then these, 8 bytes each, as a list of a call has them.
+pub(crate) fn numbers(alloc: Global, first: u64, more: Range<u64>) -> Result<Vec<u8>, Fail> {
+    let mut input = Vec::new(alloc);
+    input.extend_from_slice(&first.to_le_bytes())?;
+    for number in more {
+        input.extend_from_slice(&number.to_le_bytes())?;
+    }
+    Ok(input)
+}
+
+// A lock round a machine that was just booted with two processors, and their passes, that of processor 0 first.
+pub(crate) fn open<L: Ledger>(
+    rt: &impl Abort,
+    alloc: Global,
+    blank: Blank,
+    pages: u32,
+    pool: u32,
+    limit: u32,
+) -> Result<(Shared<L>, Pass<L>, Pass<L>), Fail>
+    requires { (blank.name ≡ L.name) × (blank.parts ≡ L.parts) × (blank.parts ≡ 2) }
+{
+    let config = Config {
+        pages,
+        pool,
+        vps: 2,
+        mask: Privileges::of(0x0000_00f7_0000_0044),
+    };
+    let kept = Kept::boot(alloc, config, limit)?;
+    let callers = vec![in alloc; root(0), root(1)]?;
+    let Ok((shared, mut passes)) = Shared::<L>::new(kept, blank, callers) else {
+        panic!(rt; "no memory")
+    };
+    match (passes.pop(), passes.pop()) {
+        (Some(second), Some(first)) => Ok((shared, first, second)),
+        _ => panic!(rt; "a pass for each processor"),
+    }
+}
+
+// A phase of two processors, each with one call.
+pub(crate) fn both<L: Ledger>(
+    alloc: Global,
+    first: (Pass<L>, Frame<Global>),
+    second: (Pass<L>, Frame<Global>),
+) -> Result<Vec<Work<L>>, Fail> {
+    let mut works = Vec::new(alloc);
+    for (pass, frame) in [first, second] {
+        let actions = vec![in alloc; Action::Hypercall(frame)]?;
+        works.push(Work { pass, actions })?;
+    }
+    Ok(works)
+}
+
+// The passes after a phase in which each processor came to the end of its one action.
+pub(crate) fn passes_of<L: Ledger>(
+    rt: &impl Abort,
+    alloc: Global,
+    dones: Vec<Done<L>>,
+) -> Result<Vec<Pass<L>>, Fail> {
+    let mut passes = Vec::new(alloc);
+    for done in dones {
+        assert_eq!(rt; done.end, End::Finished);
+        assert_eq!(rt; done.done, 1);
+        passes.push(done.pass)?;
+    }
+    Ok(passes)
+}

@@ -1,0 +1,100 @@
+// A processor that another one deletes while it makes a rep call.
+ghost use Rattle.std.specs.Prelude.{◌≡◌};
+
+use crate::calls::{both, call, open, passes_of, root};
+use crate::gates::Halt;
+use hv_abi::{Bytes, Frame};
+use hv_policy::{Action, Reply, Rule, result_of};
+use hv_threads::{Receipt, run_phase, settle};
+use std::alloc::Global;
+use std::marker::Brand;
+use std::process::Abort;
+use std::sync::Wait;
+use std::sync::ledger::{Blank, Ledger};
+use std::test::Fail;
+use std::thread::Threads;
+use std::time::Clock;
+
+// Deletes processor 1 of the root.
+fn delete(alloc: Global) -> Frame<Global> {
+    Frame {
+        rcx: 0x1_004f,
+        rdx: 1,
+        r8: 1,
+        input: Bytes::from_vec(Vec::new(alloc)),
+    }
+}
+
+// Reads RAX of processor 0 of the root forty times.
+fn read(alloc: Global) -> Result<Frame<Global>, Fail> {
+    let mut input = Vec::new(alloc);
+    input.extend_from_slice(&1u64.to_le_bytes())?;
+    input.extend_from_slice(&0u64.to_le_bytes())?;
+    for _ in 0..40 {
+        input.extend_from_slice(&0x2_0000u32.to_le_bytes())?;
+    }
+    Ok(call(0x28_0000_0050, input))
+}
+
+// The deletion came behind three elements of the other processor's call.
+fn assert_deleted(rt: &impl Abort, receipts: &[Receipt]) {
+    assert_eq!(rt; receipts.len(), 1);
+    assert_eq!(rt; receipts[0].number, 4);
+    assert!(rt; matches!(receipts[0].reply, Reply::Served(_)));
+}
+
+// Three elements were read, and the fourth was denied, as the processor is gone.
+fn assert_stopped(rt: &impl Abort, receipts: &[Receipt]) {
+    assert_eq!(rt; receipts.len(), 4);
+    for (receipt, wanted) in receipts.iter().zip(1..4) {
+        assert!(rt; matches!(receipt.reply, Reply::More { next, .. } if next == wanted));
+    }
+    let last = &receipts[3];
+    assert!(rt;
+        matches!(
+            last.reply,
+            Reply::Denied {
+                rule: Rule::CallerVpExists,
+                reps: 3,
+                ..
+            }
+        )
+    );
+    let Action::Hypercall(frame) = &last.event.what else {
+        panic!(rt; "a call")
+    };
+    assert_eq!(rt; result_of(frame, &last.reply).bits(), 0x3_0000_000e);
+    assert_eq!(rt; last.number, 5);
+}
+
+fn deleted_as<L: Ledger + Send + Sync, R: Abort + Clock + Threads + Wait + Sync>(
+    rt: &R,
+    alloc: Global,
+    blank: Blank,
+) -> Result<(), Fail>
+    requires { (blank.name ≡ L.name) × (blank.parts ≡ L.parts) × (blank.parts ≡ 2) }
+{
+    let (shared, first, second) = open::<L>(rt, alloc, blank, 32, 12, 100)?;
+    let works = both(alloc, (first, delete(alloc)), (second, read(alloc)?))?;
+    let gate = Halt::new(rt);
+    let Ok(dones) = run_phase(rt, &shared, &gate, works) else {
+        panic!(rt; "no memory")
+    };
+    assert!(rt; !gate.is_late());
+    let passes = passes_of(rt, alloc, dones)?;
+    assert_eq!(rt; passes.len(), 2);
+    assert_deleted(rt, passes[0].receipts());
+    assert_eq!(rt; passes[1].caller(), root(1));
+    assert_stopped(rt, passes[1].receipts());
+    let Ok(kept) = settle(shared, passes) else {
+        panic!(rt; "the history is a merge")
+    };
+    assert_eq!(rt; kept.history().len(), 5);
+    Ok(())
+}
+
+// The rules are asked anew at each element: a rep call of a processor that is deleted meanwhile ends with the next element.
+#[test]
+fn processor_deleted(rt: HostRuntime) -> Result<(), Fail> {
+    deleted_as::<Brand, HostRuntime>(&rt, rt.alloc(), Blank::new(2))
+}

@@ -1,0 +1,134 @@
+// Deposits of two processors at the same time, and the settlement of what they were told, with all passes and without one.
+ghost use Rattle.std.specs.Prelude.{◌≡◌};
+
+use crate::calls::{both, call, numbers, open, passes_of, root};
+use hv_history::{Answer, Asked, Kept};
+use hv_policy::{Action, Event, Reply};
+use hv_threads::{Open, Pass, SettleFault, Shared, perform, run_phase, settle};
+use std::alloc::Global;
+use std::marker::Brand;
+use std::process::Abort;
+use std::sync::Wait;
+use std::sync::ledger::{Blank, Ledger};
+use std::test::Fail;
+use std::thread::Threads;
+
+const CREATE: u64 = 0x40;
+
+const DEPOSIT: u64 = 0x48;
+
+const BALANCE: u64 = 0x4a;
+
+const TEN_DEPOSITS: u64 = 0xa_0000_0048;
+
+// Makes partitions 2 and 3, and lets each of the root's processors deposit ten pages into one of them.
+fn fill<L: Ledger + Send + Sync, R: Abort + Threads + Wait + Sync>(
+    rt: &R,
+    alloc: Global,
+    blank: Blank,
+) -> Result<(Shared<L>, Vec<Pass<L>>), Fail>
+    requires { (blank.name ≡ L.name) × (blank.parts ≡ L.parts) × (blank.parts ≡ 2) }
+{
+    let (shared, mut first, second) = open::<L>(rt, alloc, blank, 60, 20, 1000)?;
+    let create = Action::Hypercall(call(CREATE, Vec::new(alloc)));
+    let made = shared.call(rt, &mut first, &Open, create)?;
+    assert!(rt; matches!(made, Reply::Served(_)));
+    let create = Action::Hypercall(call(CREATE, Vec::new(alloc)));
+    perform(rt, &shared, &Open, &mut first, create)?;
+    let works = both(
+        alloc,
+        (first, call(TEN_DEPOSITS, numbers(alloc, 2, 20..30)?)),
+        (second, call(TEN_DEPOSITS, numbers(alloc, 3, 30..40)?)),
+    )?;
+    let Ok(dones) = run_phase(rt, &shared, &Open, works) else {
+        panic!(rt; "no memory")
+    };
+    let passes = passes_of(rt, alloc, dones)?;
+    Ok((shared, passes))
+}
+
+// The history has two partitions made and then 20 deposits, and all were served.
+fn assert_filled(rt: &impl Abort, kept: &Kept<Global>) {
+    let history = kept.history();
+    assert_eq!(rt; history.len(), 22);
+    for at in 0..history.len() {
+        let entry = history.entry(at);
+        let code = if at < 2 { CREATE } else { DEPOSIT };
+        assert!(rt;
+            matches!(entry.asked, Asked::Hypercall { rcx, .. } if rcx & 0xffff == code),
+            "{at}"
+        );
+        assert!(rt;
+            matches!(entry.answer, Answer::Served | Answer::More { .. }),
+            "{at}"
+        );
+    }
+}
+
+// The available pages of a partition, and those in use, as the call puts them out.
+fn balance(
+    rt: &impl Abort,
+    alloc: Global,
+    kept: &mut Kept<Global>,
+    part: u64,
+) -> Result<Vec<u8>, Fail> {
+    let what = Action::Hypercall(call(BALANCE, numbers(alloc, part, 0..0)?));
+    let (_, reply) = kept.apply(Event { by: root(0), what })?;
+    match &reply {
+        Reply::Served(output) => Ok(output.as_slice().to_vec(alloc)?),
+        _ => panic!(rt; "a balance"),
+    }
+}
+
+fn settles_as<L: Ledger + Send + Sync, R: Abort + Threads + Wait + Sync>(
+    rt: &R,
+    alloc: Global,
+    blank: Blank,
+) -> Result<(), Fail>
+    requires { (blank.name ≡ L.name) × (blank.parts ≡ L.parts) × (blank.parts ≡ 2) }
+{
+    let (shared, passes) = fill::<L, R>(rt, alloc, blank)?;
+    assert_eq!(rt; passes.len(), 2);
+    let Ok(mut kept) = settle(shared, passes) else {
+        panic!(rt; "the history is a merge")
+    };
+    assert_filled(rt, &kept);
+    for part in 2..4 {
+        let balance = balance(rt, alloc, &mut kept, part)?;
+        let wanted = numbers(alloc, 10, 0..1)?;
+        assert_eq!(rt; balance, wanted, "{part}");
+    }
+    Ok(())
+}
+
+// Two processors deposit ten pages each, and the history is a merge of their receipts.
+#[test]
+fn settles(rt: HostRuntime) -> Result<(), Fail> {
+    settles_as::<Brand, HostRuntime>(&rt, rt.alloc(), Blank::new(2))
+}
+
+fn misses_as<L: Ledger + Send + Sync, R: Abort + Threads + Wait + Sync>(
+    rt: &R,
+    alloc: Global,
+    blank: Blank,
+) -> Result<(), Fail>
+    requires { (blank.name ≡ L.name) × (blank.parts ≡ L.parts) × (blank.parts ≡ 2) }
+{
+    let (shared, mut passes) = fill::<L, R>(rt, alloc, blank)?;
+    let last = passes.pop();
+    assert!(rt; matches!(&last, Some(pass) if pass.caller() == root(1)));
+    match settle(shared, passes) {
+        Ok(_) => panic!(rt; "the events of a processor are no one's"),
+        Err(refused) => {
+            assert_eq!(rt; refused.fault, SettleFault::Missing);
+            assert_filled(rt, &refused.kept);
+        }
+    }
+    Ok(())
+}
+
+// Without the pass of a processor its events are missing, and the history comes back whole.
+#[test]
+fn misses_a_pass(rt: HostRuntime) -> Result<(), Fail> {
+    misses_as::<Brand, HostRuntime>(&rt, rt.alloc(), Blank::new(2))
+}
