@@ -3,14 +3,17 @@ ghost use Rattle.std.specs.Prelude.{◌≡◌};
 
 use hv_abi::{Bytes, Frame};
 use hv_history::Kept;
+use hv_partition::PageKind;
 use hv_policy::{Action, Caller, Config};
 use hv_privs::Privileges;
-use hv_threads::{Done, End, Pass, Shared, Work};
+use hv_threads::{Done, End, Gate, Pass, Shared, Work, run_phase, settle};
 use std::alloc::Global;
 use std::ops::Range;
 use std::process::Abort;
+use std::sync::Wait;
 use std::sync::ledger::{Blank, Ledger};
 use std::test::Fail;
+use std::thread::Threads;
 
 // A processor of the root.
 pub(crate) fn root(vp: u32) -> Caller {
@@ -92,4 +95,41 @@ pub(crate) fn passes_of<L: Ledger>(
         passes.push(done.pass)?;
     }
     Ok(passes)
+}
+
+// What was done in a phase that there is memory for.
+pub(crate) fn phase<L: Ledger + Send + Sync, R: Abort + Threads + Wait + Sync, G: Gate>(
+    rt: &R,
+    shared: &Shared<L>,
+    gate: &G,
+    works: Vec<Work<L>>,
+) -> Vec<Done<L>> {
+    match run_phase(rt, shared, gate, works) {
+        Ok(dones) => dones,
+        Err(_) => panic!(rt; "no memory"),
+    }
+}
+
+// The machine with its history, which is a merge of the passes' receipts.
+pub(crate) fn settled<L: Ledger>(
+    rt: &impl Abort,
+    shared: Shared<L>,
+    passes: Vec<Pass<L>>,
+) -> Kept<Global> {
+    match settle(shared, passes) {
+        Ok(kept) => kept,
+        Err(_) => panic!(rt; "the history is a merge"),
+    }
+}
+
+// Just these pages are pooled in a partition.
+pub(crate) fn assert_pooled(rt: &impl Abort, kept: &Kept<Global>, part: u64, pages: Range<u32>) {
+    let Some(child) = kept.machine().tree().get(part) else {
+        panic!(rt; "a partition was made")
+    };
+    let pooled = child.pages(PageKind::Pooled);
+    assert_eq!(rt; pooled.count(), pages.len() as u64);
+    for page in pages {
+        assert!(rt; pooled.holds(page));
+    }
 }

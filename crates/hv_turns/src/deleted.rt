@@ -1,11 +1,11 @@
 // A processor that another one deletes while it makes a rep call.
 ghost use Rattle.std.specs.Prelude.{◌≡◌};
 
-use crate::calls::{both, call, open, passes_of, root};
+use crate::calls::{both, call, open, passes_of, phase, root, settled};
 use crate::gates::Halt;
 use hv_abi::{Bytes, Frame};
 use hv_policy::{Action, Reply, Rule, result_of};
-use hv_threads::{Receipt, run_phase, settle};
+use hv_threads::Receipt;
 use std::alloc::Global;
 use std::marker::Brand;
 use std::process::Abort;
@@ -77,18 +77,14 @@ fn deleted_as<L: Ledger + Send + Sync, R: Abort + Clock + Threads + Wait + Sync>
     let (shared, first, second) = open::<L>(rt, alloc, blank, 32, 12, 100)?;
     let works = both(alloc, (first, delete(alloc)), (second, read(alloc)?))?;
     let gate = Halt::new(rt);
-    let Ok(dones) = run_phase(rt, &shared, &gate, works) else {
-        panic!(rt; "no memory")
-    };
+    let dones = phase(rt, &shared, &gate, works);
     assert!(rt; !gate.is_late());
     let passes = passes_of(rt, alloc, dones)?;
     assert_eq!(rt; passes.len(), 2);
     assert_deleted(rt, passes[0].receipts());
     assert_eq!(rt; passes[1].caller(), root(1));
     assert_stopped(rt, passes[1].receipts());
-    let Ok(kept) = settle(shared, passes) else {
-        panic!(rt; "the history is a merge")
-    };
+    let kept = settled(rt, shared, passes);
     assert_eq!(rt; kept.history().len(), 5);
     Ok(())
 }

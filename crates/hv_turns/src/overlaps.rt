@@ -1,9 +1,8 @@
 // Threads that are at work at the same time.
 ghost use Rattle.std.specs.Prelude.{◌≡◌};
 
-use crate::calls::{both, call, open, passes_of};
+use crate::calls::{both, call, open, passes_of, phase, settled};
 use crate::gates::Meeting;
-use hv_threads::{run_phase, settle};
 use std::alloc::Global;
 use std::marker::Brand;
 use std::process::Abort;
@@ -29,14 +28,9 @@ fn overlaps_as<L: Ledger + Send + Sync, R: Abort + Clock + Threads + Wait + Sync
         (second, call(OWN_ID, Vec::new(alloc))),
     )?;
     let gate = Meeting::new(rt);
-    let Ok(dones) = run_phase(rt, &shared, &gate, works) else {
-        panic!(rt; "no memory")
-    };
+    let dones = phase(rt, &shared, &gate, works);
     assert!(rt; !gate.is_late());
-    let passes = passes_of(rt, alloc, dones)?;
-    let Ok(kept) = settle(shared, passes) else {
-        panic!(rt; "the history is a merge")
-    };
+    let kept = settled(rt, shared, passes_of(rt, alloc, dones)?);
     assert_eq!(rt; kept.history().len(), 2);
     Ok(())
 }

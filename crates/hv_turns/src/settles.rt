@@ -1,10 +1,10 @@
 // Deposits of two processors at the same time, and the settlement of what they were told, with all passes and without one.
 ghost use Rattle.std.specs.Prelude.{◌≡◌};
 
-use crate::calls::{both, call, numbers, open, passes_of, root};
+use crate::calls::{assert_pooled, both, call, numbers, open, passes_of, phase, root, settled};
 use hv_history::{Answer, Asked, Kept};
-use hv_policy::{Action, Event, Reply};
-use hv_threads::{Open, Pass, SettleFault, Shared, perform, run_phase, settle};
+use hv_policy::{Action, Reply};
+use hv_threads::{Open, Pass, SettleFault, Shared, perform, settle};
 use std::alloc::Global;
 use std::marker::Brand;
 use std::process::Abort;
@@ -16,8 +16,6 @@ use std::thread::Threads;
 const CREATE: u64 = 0x40;
 
 const DEPOSIT: u64 = 0x48;
-
-const BALANCE: u64 = 0x4a;
 
 const TEN_DEPOSITS: u64 = 0xa_0000_0048;
 
@@ -40,9 +38,7 @@ fn fill<L: Ledger + Send + Sync, R: Abort + Threads + Wait + Sync>(
         (first, call(TEN_DEPOSITS, numbers(alloc, 2, 20..30)?)),
         (second, call(TEN_DEPOSITS, numbers(alloc, 3, 30..40)?)),
     )?;
-    let Ok(dones) = run_phase(rt, &shared, &Open, works) else {
-        panic!(rt; "no memory")
-    };
+    let dones = phase(rt, &shared, &Open, works);
     let passes = passes_of(rt, alloc, dones)?;
     Ok((shared, passes))
 }
@@ -65,21 +61,6 @@ fn assert_filled(rt: &impl Abort, kept: &Kept<Global>) {
     }
 }
 
-// The available pages of a partition, and those in use, as the call puts them out.
-fn balance(
-    rt: &impl Abort,
-    alloc: Global,
-    kept: &mut Kept<Global>,
-    part: u64,
-) -> Result<Vec<u8>, Fail> {
-    let what = Action::Hypercall(call(BALANCE, numbers(alloc, part, 0..0)?));
-    let (_, reply) = kept.apply(Event { by: root(0), what })?;
-    match &reply {
-        Reply::Served(output) => Ok(output.as_slice().to_vec(alloc)?),
-        _ => panic!(rt; "a balance"),
-    }
-}
-
 fn settles_as<L: Ledger + Send + Sync, R: Abort + Threads + Wait + Sync>(
     rt: &R,
     alloc: Global,
@@ -89,15 +70,10 @@ fn settles_as<L: Ledger + Send + Sync, R: Abort + Threads + Wait + Sync>(
 {
     let (shared, passes) = fill::<L, R>(rt, alloc, blank)?;
     assert_eq!(rt; passes.len(), 2);
-    let Ok(mut kept) = settle(shared, passes) else {
-        panic!(rt; "the history is a merge")
-    };
+    let kept = settled(rt, shared, passes);
     assert_filled(rt, &kept);
-    for part in 2..4 {
-        let balance = balance(rt, alloc, &mut kept, part)?;
-        let wanted = numbers(alloc, 10, 0..1)?;
-        assert_eq!(rt; balance, wanted, "{part}");
-    }
+    assert_pooled(rt, &kept, 2, 20..30);
+    assert_pooled(rt, &kept, 3, 30..40);
     Ok(())
 }
 
