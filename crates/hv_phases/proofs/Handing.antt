@@ -1,5 +1,5 @@
 -- Lines that are handed out or run one after the other.
-use Rattle.std.proofs.Common.{◌≡◌, ℕ, ◌<◌, ◌≤◌, List, [], ◌∷◌, ◌++◌, length, get_or, refl, sym, ap, ◌∙◌, subst, arith, append-nil, append_assoc}
+use Rattle.std.proofs.Common.{◌≡◌, ℕ, ◌<◌, ◌≤◌, List, [], ◌∷◌, ◌++◌, length, get_or, refl, sym, ap, ◌∙◌, subst, arith, append-nil, append_assoc, Option, Some, None, IfNone}
 use Rattle.std.specs.Prelude.{map, reverse, All}
 use Rattle.std.specs.List.{Contains}
 use Rattle.std.specs.List.Sorted.{IsPermutation}
@@ -30,6 +30,10 @@ pub record IsBetween {L : Type 0} (lines left : List (Line Global)) (tasks : Lis
   pub going : All IsGoing tasks
   pub run : All (λ task. HasRun ran task.work.pass) tasks
   pub idle : AreIdleFrom 0 tasks
+
+pub if_none : {X : Type 0} (o : Option X) (P Q : Type 0) → (P → Q) → IfNone o P → IfNone o Q
+if_none None P Q f p = f p
+if_none (Some x) P Q f p = tt
 
 All-second : {X : Type 0} (P : X → Type 0) (xs ys : List X) → All P (xs ++ ys) → All P ys
 All-second P [] ys all = all

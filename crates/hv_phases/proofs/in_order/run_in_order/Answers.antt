@@ -1,14 +1,10 @@
-use Rattle.std.proofs.Common.{◌≡◌, ◌++◌, ◌∷◌, [], rules, ap, sym, ◌∙◌, List, Option, Some, None, IfNone}
+use Rattle.std.proofs.Common.{◌≡◌, ◌++◌, ◌∷◌, [], rules, ap, sym, ◌∙◌, List}
 use Rattle.std.specs.Prelude.{reverse}
 use Rattle.std.specs.declared.alloc.Global.{Global}
 use Rattle.std.proofs.lemmas.List.{reverse-reverse}
 use Rattle.hv_script.specs.declared.line.Line.{Line}
-use Rattle.hv_phases.proofs.Handing.{in_order_ends, in_order_first, in_order_more, named_next}
+use Rattle.hv_phases.proofs.Handing.{if_none, in_order_ends, in_order_first, in_order_more, named_next}
 use Rattle.hv_phases.proofs.in_order.run_in_order.Goals as goal
-
-if_none : {X : Type 0} (o : Option X) (P Q : Type 0) → (P → Q) → IfNone o P → IfNone o Q
-if_none None P Q f p = f p
-if_none (Some x) P Q f p = tt
 
 pub loop-line-init : goal.loop-line-init
 loop-line-init g c = in_order_first _ _ _ (ap reverse c.reverse.ensures.items ∙ reverse-reverse c.args.lines.items) c.requires

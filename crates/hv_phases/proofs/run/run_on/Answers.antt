@@ -1,12 +1,8 @@
-use Rattle.std.proofs.Common.{◌∙◌, sym, subst, Option, Some, None, IfNone}
+use Rattle.std.proofs.Common.{◌∙◌, sym, subst}
 use Rattle.std.proofs.lemmas.List.{with_items_is}
 use Rattle.hv_phases.specs.Crew.{AreReady}
-use Rattle.hv_phases.proofs.Handing.{have_run_turned, ready}
+use Rattle.hv_phases.proofs.Handing.{have_run_turned, if_none, ready}
 use Rattle.hv_phases.proofs.run.run_on.Goals as goal
-
-if_none : {X : Type 0} (o : Option X) (P Q : Type 0) → (P → Q) → IfNone o P → IfNone o Q
-if_none None P Q f p = f p
-if_none (Some x) P Q f p = tt
 
 pub run_either-stop-requires-after_bounds : goal.run_either-stop-requires-after_bounds
 run_either-stop-requires-after_bounds g c κs within =
