@@ -1,5 +1,5 @@
 -- What is kept of an event and of its reply, and what it stands for.
-use Rattle.std.specs.Prelude.{ℕ, ◌+◌, ◌≤◌, ◌<◌, List, [], map, take, drop}
+use Rattle.std.specs.Prelude.{ℕ, ◌+◌, ◌%◌, ◌^◌, ◌≤◌, ◌<◌, List, [], map, take, drop, slice_index_or}
 use Rattle.std.specs.List.{All}
 use Rattle.hv_defs.specs.declared.sizes.TheConstants.{REPS_END}
 use Rattle.hv_policy.specs.declared.event.Action.{Action}
@@ -13,6 +13,9 @@ use Rattle.hv_history.specs.declared.entry.Answer.TheVariants as answer
 use Rattle.hv_history.specs.declared.entry.Asked.{Asked}
 use Rattle.hv_history.specs.declared.entry.Asked.TheVariants as asked
 use Rattle.hv_history.specs.declared.entry.Entry.{Entry}
+use Rattle.hv_history.specs.declared.row.Head.{Head}
+use Rattle.hv_history.specs.declared.row.Kind.{Kind}
+use Rattle.hv_history.specs.declared.row.Kind.TheVariants as kind
 use Rattle.hv_history.specs.declared.row.Row.{Row}
 
 -- the bytes of the input list of a call; an access has none
@@ -62,13 +65,33 @@ next_in (reply.Fault rule) = 0
 abbrev pub entry_from : {A : Type 0} → Caller → Asked → List ℕ → Answer → List ℕ → Entry A
 entry_from by asked input answer output = record { event = record { by = by; what = action_of asked input }; reply = reply_of answer output }
 
--- the event and the reply of a row, whose input and output stand among the bytes
-abbrev pub entry_of : {A : Type 0} → List ℕ → List ℕ → Row → Entry A
-entry_of inputs outputs row =
-    entry_from row.by row.asked (take row.input_len (drop row.input_start inputs)) row.answer (take row.output_len (drop row.output_start outputs))
+-- what was asked for, of this kind and with these numbers; each of them has as many bits as its field
+abbrev pub asked_in : Kind → ℕ → ℕ → ℕ → Asked
+asked_in kind.Hypercall first second r8 = asked.Hypercall first second r8
+asked_in kind.ReadMsr first second r8 = asked.ReadMsr (first % 2 ^ 32)
+asked_in kind.WriteMsr first second r8 = asked.WriteMsr (first % 2 ^ 32) second
+asked_in kind.ReadSlot first second r8 = asked.ReadSlot (first % 2 ^ 8)
+asked_in kind.ClearSlot first second r8 = asked.ClearSlot (first % 2 ^ 8)
+asked_in kind.ReadFlags first second r8 = asked.ReadFlags (first % 2 ^ 8)
+asked_in kind.ClearFlag first second r8 = asked.ClearFlag (first % 2 ^ 8) (second % 2 ^ 16)
+asked_in kind.TakeInterrupt first second r8 = asked.TakeInterrupt
 
-abbrev pub entries_of : {A : Type 0} → List ℕ → List ℕ → List Row → List (Entry A)
-entries_of inputs outputs rows = map (entry_of inputs outputs) rows
+-- the head at a place; a row names a place at which there is one
+abbrev pub head_at : List Head → ℕ → Head
+head_at heads at = slice_index_or heads at (record { by = record { part = 0; vp = 0 }; r8 = 0; input_start = 0; input_len = 0 })
+
+-- so many of the bytes, from a place on
+abbrev pub bytes_at : List ℕ → ℕ → ℕ → List ℕ
+bytes_at bytes start len = take len (drop start bytes)
+
+-- the event and the reply of a row, whose head is among the heads, and whose input and output are among the bytes
+abbrev pub entry_of : {A : Type 0} → List Head → List ℕ → List ℕ → Row → Entry A
+entry_of heads inputs outputs row =
+    let head = head_at heads row.head in
+    entry_from head.by (asked_in row.kind row.first row.second head.r8) (bytes_at inputs head.input_start head.input_len) row.answer (bytes_at outputs row.output_start row.output_len)
+
+abbrev pub entries_of : {A : Type 0} → List Head → List ℕ → List ℕ → List Row → List (Entry A)
+entries_of heads inputs outputs rows = map (entry_of heads inputs outputs) rows
 
 abbrev pub events_of : {A : Type 0} → List (Entry A) → List (Event A)
 events_of entries = map (λ entry. entry.event) entries
@@ -76,13 +99,20 @@ events_of entries = map (λ entry. entry.event) entries
 abbrev pub replies_of : {A : Type 0} → List (Entry A) → List Reply
 replies_of entries = map (λ entry. entry.reply) entries
 
--- the row's input and output stand within so many bytes, its output is no longer than an output may be, and where its call
--- goes on, the next element has an index
-pub record IsPlaced (inputs outputs : ℕ) (row : Row) : Type 0 where
-  pub input : row.input_start + row.input_len ≤ inputs
+-- the head's input stands within so many bytes
+pub record IsWithin (inputs : ℕ) (head : Head) : Type 0 where
+  pub input : head.input_start + head.input_len ≤ inputs
+
+abbrev pub AreWithin : ℕ → List Head → Type 0
+AreWithin inputs heads = All (IsWithin inputs) heads
+
+-- the row's head is one of so many, its output stands within so many bytes and is no longer than an output may be, and where
+-- its call goes on, the next element has an index
+pub record IsPlaced (heads outputs : ℕ) (row : Row) : Type 0 where
+  pub head : row.head < heads
   pub output : row.output_start + row.output_len ≤ outputs
   pub most : row.output_len ≤ 256
   pub index : next_in (reply_of row.answer []) < REPS_END
 
 abbrev pub ArePlaced : ℕ → ℕ → List Row → Type 0
-ArePlaced inputs outputs rows = All (IsPlaced inputs outputs) rows
+ArePlaced heads outputs rows = All (IsPlaced heads outputs) rows

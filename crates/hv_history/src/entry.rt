@@ -2,7 +2,7 @@
 ghost use Rattle.std.specs.Prelude.{◌≡◌, ◌↔◌, IsTrue};
 
 use hv_abi::Status;
-use hv_machine::{Action, Caller, Event, Reply, Rule};
+use hv_machine::{Caller, Event, Reply, Rule};
 use std::alloc::Allocator;
 
 /// One event with its reply, as contracts see what happened.
@@ -72,61 +72,47 @@ impl<'h> EntryRef<'h> {
     ghost use Rattle.hv_history.specs.History.{entry_by};
     ghost use Rattle.hv_history.specs.Row.{action_of, reply_of};
 
-    /// Whether it is this event with this reply.
-    pub fn is_same<A: Allocator>(&self, event: &Event<A>, reply: &Reply) -> bool
-        ensures { IsTrue result ↔ (entry_by self.now ≡ record { event = event.now; reply = reply.now }) }
+    /// Whether both are the same event with the same reply.
+    pub fn is_same<A: Allocator>(&self, other: &EntryRef<'_>) -> bool
+        ensures { IsTrue result ↔ (entry_by {A = A} self.now ≡ entry_by other.now) }
     {
-        self.by == event.by && self.asks(&event.what) && self.answers(reply)
+        self.by == other.by && self.asks_the_same::<A>(other) && self.is_answered_the_same(other)
     }
 
-    // Whether this is what it asked for.
-    fn asks<A: Allocator>(&self, what: &Action<A>) -> bool
-        ensures { IsTrue result ↔ (action_of self.now.asked self.now.input.now ≡ what.now) }
+    // Whether both ask for the same. Only a hypercall has an input list.
+    fn asks_the_same<A: Allocator>(&self, other: &EntryRef<'_>) -> bool
+        ensures { IsTrue result ↔ (action_of {A = A} self.now.asked self.now.input.now ≡ action_of other.now.asked other.now.input.now) }
     {
-        match (self.asked, what) {
-            (Asked::Hypercall { rcx, rdx, r8 }, Action::Hypercall(frame)) => {
-                rcx == frame.rcx
-                    && rdx == frame.rdx
-                    && r8 == frame.r8
-                    && self.input == frame.input.as_slice()
-            }
-            (Asked::ReadMsr(msr), Action::ReadMsr(that)) => msr == *that,
-            (Asked::WriteMsr(msr, value), Action::WriteMsr(that, other_value)) => {
-                msr == *that && value == *other_value
-            }
-            (Asked::ReadSlot(sint), Action::ReadSlot(that)) => sint == *that,
-            (Asked::ClearSlot(sint), Action::ClearSlot(that)) => sint == *that,
-            (Asked::ReadFlags(sint), Action::ReadFlags(that)) => sint == *that,
-            (Asked::ClearFlag(sint, flag), Action::ClearFlag(that, other_flag)) => {
-                sint == *that && flag == *other_flag
-            }
-            (Asked::TakeInterrupt, Action::TakeInterrupt) => true,
-            _ => false,
+        match self.asked {
+            Asked::Hypercall { .. } => self.asked == other.asked && self.input == other.input,
+            Asked::ReadMsr(_)
+            | Asked::WriteMsr(_, _)
+            | Asked::ReadSlot(_)
+            | Asked::ClearSlot(_)
+            | Asked::ReadFlags(_)
+            | Asked::ClearFlag(_, _)
+            | Asked::TakeInterrupt => self.asked == other.asked,
         }
     }
 
-    // Whether this is what it was answered.
-    fn answers(&self, reply: &Reply) -> bool
-        ensures { IsTrue result ↔ (reply_of self.now.answer self.now.output.now ≡ reply.now) }
+    // Whether both are answered the same. Only what is served puts something out.
+    fn is_answered_the_same(&self, other: &EntryRef<'_>) -> bool
+        ensures { IsTrue result ↔ (reply_of self.now.answer self.now.output.now ≡ reply_of other.now.answer other.now.output.now) }
     {
-        match (self.answer, reply) {
-            (Answer::Served, Reply::Served(output)) => self.output == output.as_slice(),
-            (
-                Answer::More { next },
-                Reply::More {
-                    next: other_next,
-                    output,
-                },
-            ) => next == *other_next && self.output == output.as_slice(),
+        match (self.answer, other.answer) {
+            (Answer::Served, Answer::Served) => self.output == other.output,
+            (Answer::More { next }, Answer::More { next: other_next }) => {
+                next == other_next && self.output == other.output
+            }
             (
                 Answer::Denied { rule, status, reps },
-                Reply::Denied {
+                Answer::Denied {
                     rule: other_rule,
                     status: other_status,
                     reps: other_reps,
                 },
-            ) => rule == *other_rule && (status == *other_status && reps == *other_reps),
-            (Answer::Fault { rule }, Reply::Fault { rule: that }) => rule == *that,
+            ) => rule == other_rule && (status == other_status && reps == other_reps),
+            (Answer::Fault { rule }, Answer::Fault { rule: that }) => rule == that,
             _ => false,
         }
     }

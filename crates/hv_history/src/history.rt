@@ -1,24 +1,28 @@
 // What happened.
-ghost use Rattle.std.specs.Prelude.{◌≡◌, ◌+◌, ◌<◌, ◌≤◌, ◌⊎◌, ◌++◌, [], ◌∷◌, length, take, drop, OnOk, Some, slice_get, vec_len, vec_capacity};
+ghost use Rattle.std.specs.Prelude.{◌≡◌, ◌+◌, ◌^◌, ◌-◌, ◌<◌, ◌≤◌, ◌↔◌, ◌⊎◌, ◌++◌, [], ◌∷◌, IsTrue, length, take, drop, OnOk, Some, slice_get, vec_len, vec_capacity};
 ghost use Rattle.hv_defs.specs.declared.sizes.TheConstants.{REPS_END};
 ghost use Rattle.hv_history.specs.History.{HasRoom, entries, entry_by};
-ghost use Rattle.hv_history.specs.Row.{next_in, reply_of};
+ghost use Rattle.hv_history.specs.Row.{bytes_at, head_at, next_in, reply_of};
 
 use crate::entry::EntryRef;
-use crate::row::{History, Row, answer_of, asked_of, input_in, output_in};
-use hv_machine::{Event, Reply};
+use crate::row::{Head, History, Row, answer_of, asked_of, input_in, numbers_of, output_in};
+use hv_machine::{Caller, Event, Reply};
 use std::alloc::{AllocError, Allocator};
 
 // The most bytes that an event puts out.
 const MOST_OUTPUT: usize = 256;
 
+// The most heads, whose places a u32 names.
+const MOST_HEADS: usize = u32::MAX as usize;
+
 impl<A: Allocator> History<A> {
-    /// No events. The rows, the inputs and the outputs have an allocator each.
-    pub(crate) fn new(rows: A, inputs: A, outputs: A) -> History<A>
+    /// No events. The rows, their heads, the inputs and the outputs have an allocator each.
+    pub fn new(rows: A, heads: A, inputs: A, outputs: A) -> History<A>
         ensures { entries result ≡ [] }
     {
         History {
             rows: Vec::new(rows),
+            heads: Vec::new(heads),
             inputs: Vec::new(inputs),
             outputs: Vec::new(outputs),
         }
@@ -39,64 +43,133 @@ impl<A: Allocator> History<A> {
         ensures most { length result.output.now ≤ 256 }
     {
         let row = &self.rows[at];
+        let head = &self.heads[row.head as usize];
         EntryRef {
-            by: row.by,
-            asked: row.asked,
-            input: &self.inputs[row.input_start..row.input_start + row.input_len],
+            by: head.by,
+            asked: asked_of(row, head.r8),
+            input: &self.inputs[head.input_start..head.input_start + head.input_len],
             answer: row.answer,
             output: &self.outputs[row.output_start..row.output_start + row.output_len as usize],
         }
     }
 
     /// Makes room for this event.
-    pub(crate) fn reserve(&mut self, event: &Event<A>) -> Result<(), AllocError>
+    pub fn reserve(&mut self, event: &Event<A>) -> Result<(), AllocError>
         ensures same { entries self.new ≡ entries self.old }
         ensures room { OnOk result (HasRoom self.new event.now) }
     {
+        if self.heads.len() >= MOST_HEADS {
+            return Err(AllocError);
+        }
         self.rows.reserve(1)?;
+        self.heads.reserve(1)?;
         self.inputs.reserve(input_in(&event.what).len())?;
         self.outputs.reserve(MOST_OUTPUT)
     }
 
     /// Adds an event with its reply, for which there is room.
-    pub(crate) fn push(&mut self, event: &Event<A>, reply: &Reply)
+    pub fn push(&mut self, event: &Event<A>, reply: &Reply)
         requires room { HasRoom self.old event.now }
         requires index { next_in reply.now < REPS_END }
         ensures { entries self.new ≡ entries self.old ++ record { event = event.now; reply = reply.now } ∷ [] }
     {
-        let input = input_in(&event.what);
+        let asked = numbers_of(&event.what);
         let output = output_in(reply);
-        let input_start = self.place_input(input);
-        let row = Row {
-            by: event.by,
-            asked: asked_of(&event.what),
-            input_start,
-            input_len: input.len(),
-            output_start: self.outputs.len(),
+        let head = self.place_head(event.by, asked.r8, input_in(&event.what));
+        let output_start = self.place_output(output);
+        self.rows.push_reserved(Row {
+            first: asked.first,
+            second: asked.second,
+            output_start,
+            head,
             output_len: output.len() as u16,
             answer: answer_of(reply),
-        };
-        self.outputs.extend_from_slice(output).unwrap();
-        self.rows.push_reserved(row);
+            kind: asked.kind,
+        });
     }
 
-    // Where these bytes stand among the inputs: where the last event's do, if they are the same, and else at the end.
+    // The place of a head with this caller, R8 and input: the last one's, if they are the same, and else a new one's.
+    fn place_head(&mut self, by: Caller, r8: u64, input: &[u8]) -> u32
+        requires few { vec_len self.old.heads < 2 ^ 32 - 1 }
+        requires head { vec_len self.old.heads < vec_capacity self.old.heads }
+        requires input { vec_len self.old.inputs + length input.now ≤ vec_capacity self.old.inputs }
+        ensures rows { self.new.rows ≡ self.old.rows }
+        ensures outputs { self.new.outputs ≡ self.old.outputs }
+        ensures heads { take (vec_len self.old.heads) self.new.heads.items ≡ self.old.heads.items }
+        ensures inputs { take (vec_len self.old.inputs) self.new.inputs.items ≡ self.old.inputs.items }
+        ensures within { result < vec_len self.new.heads }
+        ensures by { (head_at self.new.heads.items result).by ≡ by }
+        ensures r8 { (head_at self.new.heads.items result).r8 ≡ r8 }
+        ensures input { let head = head_at self.new.heads.items result in bytes_at self.new.inputs.items head.input_start head.input_len ≡ input.now }
+    {
+        if let Some(head) = self.heads.last() {
+            if head.by == by && head.r8 == r8 && self.has_input(head, input) {
+                return (self.heads.len() - 1) as u32;
+            }
+        }
+        let input_start = self.place_input(input);
+        let at = self.heads.len() as u32;
+        self.heads.push_reserved(Head {
+            by,
+            r8,
+            input_start,
+            input_len: input.len(),
+        });
+        at
+    }
+
+    // Where these bytes stand among the inputs: where the last head's do, if they are the same, and else at the end.
     fn place_input(&mut self, input: &[u8]) -> usize
         requires { vec_len self.old.inputs + length input.now ≤ vec_capacity self.old.inputs }
         ensures rows { self.new.rows ≡ self.old.rows }
+        ensures heads { self.new.heads ≡ self.old.heads }
         ensures outputs { self.new.outputs ≡ self.old.outputs }
-        ensures kept { take (vec_len self.old.inputs) self.new.inputs.items ≡ self.old.inputs.items }
+        ensures inputs { take (vec_len self.old.inputs) self.new.inputs.items ≡ self.old.inputs.items }
         ensures within { result + length input.now ≤ vec_len self.new.inputs }
-        ensures placed { take (length input.now) (drop result self.new.inputs.items) ≡ input.now }
+        ensures placed { bytes_at self.new.inputs.items result (length input.now) ≡ input.now }
     {
-        if let Some(row) = self.rows.last() {
-            let start = row.input_start;
-            if &self.inputs[start..start + row.input_len] == input {
-                return start;
+        if let Some(head) = self.heads.last() {
+            if self.has_input(head, input) {
+                return head.input_start;
             }
         }
         let start = self.inputs.len();
         self.inputs.extend_from_slice(input).unwrap();
         start
+    }
+
+    // Where these bytes stand among the outputs: where the last row's do, if they are the same, and else at the end.
+    fn place_output(&mut self, output: &[u8]) -> usize
+        requires { vec_len self.old.outputs + length output.now ≤ vec_capacity self.old.outputs }
+        ensures rows { self.new.rows ≡ self.old.rows }
+        ensures heads { self.new.heads ≡ self.old.heads }
+        ensures inputs { self.new.inputs ≡ self.old.inputs }
+        ensures outputs { take (vec_len self.old.outputs) self.new.outputs.items ≡ self.old.outputs.items }
+        ensures within { result + length output.now ≤ vec_len self.new.outputs }
+        ensures placed { bytes_at self.new.outputs.items result (length output.now) ≡ output.now }
+    {
+        if output.is_empty() {
+            return 0;
+        }
+        if let Some(row) = self.rows.last() {
+            let start = row.output_start;
+            let len = row.output_len as usize;
+            if len == output.len() && &self.outputs[start..start + len] == output {
+                return start;
+            }
+        }
+        let start = self.outputs.len();
+        self.outputs.extend_from_slice(output).unwrap();
+        start
+    }
+
+    // Whether the input of this head, whose bytes are here, is this one.
+    fn has_input(&self, head: &Head, input: &[u8]) -> bool
+        requires { head.now.input_start + head.now.input_len ≤ vec_len self.now.inputs }
+        ensures { IsTrue result ↔ (bytes_at self.now.inputs.items head.now.input_start head.now.input_len ≡ input.now) }
+    {
+        let start = head.input_start;
+        let len = head.input_len;
+        len == input.len() && (len == 0 || &self.inputs[start..start + len] == input)
     }
 }

@@ -15,7 +15,7 @@ use hv_machine::{BootRefused, Config, Event, Machine, Reply, check_config};
 use std::alloc::Allocator;
 use std::marker::Model;
 
-/// Why an event wasn't applied, in the order in which the causes are looked for. Nothing changed, and the event is dropped.
+/// Why an event wasn't applied, in the order in which the causes are looked for. Nothing changed.
 #[derive(Clone, Copy, PartialEq, Eq, Debug)]
 pub enum HostRefused {
     /// The history is as long as its limit. No rule was asked.
@@ -65,6 +65,9 @@ impl<A: Allocator + Clone> Kept<A> {
         let Ok(rows) = alloc.clone() else {
             return Err(BootRefused::Memory);
         };
+        let Ok(heads) = alloc.clone() else {
+            return Err(BootRefused::Memory);
+        };
         let Ok(inputs) = alloc.clone() else {
             return Err(BootRefused::Memory);
         };
@@ -72,16 +75,16 @@ impl<A: Allocator + Clone> Kept<A> {
         Ok(Kept {
             config,
             limit,
-            history: History::new(rows, inputs, alloc),
+            history: History::new(rows, heads, inputs, alloc),
             machine,
         })
     }
 
     /// Lets an event happen, and answers its number and its reply. Numbers count from 1, in the order in which events happen.
-    pub fn apply(&mut self, event: Event<A>) -> Result<(u64, Reply), HostRefused>
+    pub fn apply(&mut self, event: &Event<A>) -> Result<(u64, Reply), HostRefused>
         // The history has the event with its reply more, and is a run still, so that the reply and the new state are those
         // of the flat step. The number is its place.
-        ensures applied { IfOk result (λ r. HasGained event r.1 self.old self.new) }
+        ensures applied { IfOk result (λ r. HasGained event.now r.1 self.old self.new) }
         ensures number { IfOk result (λ r. r.0 ≡ length self.new.history) }
         ensures run { IsRun self.new }
 
@@ -91,19 +94,19 @@ impl<A: Allocator + Clone> Kept<A> {
 
         // A refusal by a rule names one that is asked, a reply to a hypercall has a result value, and a call goes on with
         // the element after the one that was served.
-        ensures asked { IfOk result (λ r. NamesAsked event r.1) }
-        ensures result { (frame : Frame A) → event.what ≡ Hypercall frame → IfOk result (λ r. HasResult r.1) }
-        ensures next { IfOk result (λ r. GoesOn event.what r.1) }
+        ensures asked { IfOk result (λ r. NamesAsked event.now r.1) }
+        ensures result { (frame : Frame A) → event.now.what ≡ Hypercall frame → IfOk result (λ r. HasResult r.1) }
+        ensures next { IfOk result (λ r. GoesOn event.now.what r.1) }
     {
         if self.is_full() {
             return Err(HostRefused::HistoryFull);
         }
-        if self.history.reserve(&event).is_err() {
+        if self.history.reserve(event).is_err() {
             return Err(HostRefused::Memory);
         }
-        match self.machine.step(&event) {
+        match self.machine.step(event) {
             Ok(reply) => {
-                self.history.push(&event, &reply);
+                self.history.push(event, &reply);
                 Ok((self.history.len() as u64, reply))
             }
             Err(_) => Err(HostRefused::Memory),

@@ -1,52 +1,136 @@
 // What is kept of an event and of its reply.
 ghost use Rattle.std.specs.Prelude.{◌≡◌, ◌≤◌, length, vec_len};
-ghost use Rattle.hv_history.specs.Row.{ArePlaced, action_of, input_in, output_in, reply_of};
+ghost use Rattle.hv_history.specs.Row.{ArePlaced, AreWithin, action_of, asked_in, input_in, output_in, reply_of};
 
 use crate::entry::{Answer, Asked};
 use hv_machine::{Action, Caller, Reply};
 use std::alloc::Allocator;
+use std::mem::size_of;
 
-// What an event asked for and was answered, and where its input and its output start among those of all events.
+// What an event asked for, without its numbers.
 #[derive(Clone, Copy)]
-pub(crate) struct Row {
-    pub(crate) by: Caller,
-    pub(crate) asked: Asked,
-    pub(crate) input_start: usize,
-    pub(crate) input_len: usize,
-    pub(crate) output_start: usize,
-    pub(crate) output_len: u16,
-    pub(crate) answer: Answer,
+pub(crate) enum Kind {
+    Hypercall,
+    ReadMsr,
+    WriteMsr,
+    ReadSlot,
+    ClearSlot,
+    ReadFlags,
+    ClearFlag,
+    TakeInterrupt,
 }
 
-/// Events with their replies, in the order in which they happened. What an event put out takes as many bytes as it has, and
-/// an event with the same input as the one before it, as the elements of a rep call have, takes no bytes for it.
+// What an event was, but for what it shares with the one before it, and where its output starts among those of all events.
+#[derive(Clone, Copy)]
+pub(crate) struct Row {
+    // RCX of a call, else the MSR or the SINT.
+    pub(crate) first: u64,
+    // RDX of a call, else the value written or the flag's number.
+    pub(crate) second: u64,
+    pub(crate) output_start: usize,
+    // The place of its head.
+    pub(crate) head: u32,
+    pub(crate) output_len: u16,
+    pub(crate) answer: Answer,
+    pub(crate) kind: Kind,
+}
+
+// A history is the largest thing in memory, and most of it are its rows.
+const _: () = prove!(size_of::<Row>() == 40);
+
+// What most events share with the one before them: who asked, R8 of a call, else 0, and where the input starts among those
+// of all events.
+#[derive(Clone, Copy)]
+pub(crate) struct Head {
+    pub(crate) by: Caller,
+    pub(crate) r8: u64,
+    pub(crate) input_start: usize,
+    pub(crate) input_len: usize,
+}
+
+/// Events with their replies, in the order in which they happened. An event with the same caller, R8 and input as the one
+/// before it, as the elements of a rep call have, takes no bytes for them, and none for the same output.
 #[derive(Drop)]
 pub struct History<A: Allocator> {
     pub(crate) rows: Vec<Row, A>,
+    // The heads that the rows name.
+    pub(crate) heads: Vec<Head, A>,
     // The bytes that the events put in, one after the other.
     pub(crate) inputs: Vec<u8, A>,
     // The bytes that they put out, one after the other.
     pub(crate) outputs: Vec<u8, A>,
-    ghost placed: { ArePlaced (vec_len inputs) (vec_len outputs) rows.items },
+    ghost within: { AreWithin (vec_len inputs) heads.items },
+    ghost placed: { ArePlaced (vec_len heads) (vec_len outputs) rows.items },
+}
+
+// What an event asked for, as a row and its head keep it.
+#[derive(Clone, Copy)]
+pub(crate) struct Numbers {
+    pub(crate) kind: Kind,
+    pub(crate) first: u64,
+    pub(crate) second: u64,
+    pub(crate) r8: u64,
+}
+
+impl Numbers {
+    // An access has no R8.
+    fn of_access(kind: Kind, first: u64, second: u64) -> Numbers
+        ensures { result ≡ record { kind = kind; first = first; second = second; r8 = 0 } }
+    {
+        Numbers {
+            kind,
+            first,
+            second,
+            r8: 0,
+        }
+    }
 }
 
 // What an event asks for, but for the bytes of its input.
-pub(crate) fn asked_of<A: Allocator>(what: &Action<A>) -> Asked
-    ensures { action_of result (input_in what.now) ≡ what.now }
+pub(crate) fn numbers_of<A: Allocator>(what: &Action<A>) -> Numbers
+    ensures { action_of (asked_in result.kind result.first result.second result.r8) (input_in what.now) ≡ what.now }
 {
     match what {
-        Action::Hypercall(frame) => Asked::Hypercall {
-            rcx: frame.rcx,
-            rdx: frame.rdx,
+        Action::Hypercall(frame) => Numbers {
+            kind: Kind::Hypercall,
+            first: frame.rcx,
+            second: frame.rdx,
             r8: frame.r8,
         },
-        Action::ReadMsr(msr) => Asked::ReadMsr(*msr),
-        Action::WriteMsr(msr, value) => Asked::WriteMsr(*msr, *value),
-        Action::ReadSlot(sint) => Asked::ReadSlot(*sint),
-        Action::ClearSlot(sint) => Asked::ClearSlot(*sint),
-        Action::ReadFlags(sint) => Asked::ReadFlags(*sint),
-        Action::ClearFlag(sint, flag) => Asked::ClearFlag(*sint, *flag),
-        Action::TakeInterrupt => Asked::TakeInterrupt,
+        Action::ReadMsr(msr) => Numbers::of_access(Kind::ReadMsr, u64::from(*msr), 0),
+        Action::WriteMsr(msr, value) => {
+            Numbers::of_access(Kind::WriteMsr, u64::from(*msr), *value)
+        }
+        Action::ReadSlot(sint) => Numbers::of_access(Kind::ReadSlot, u64::from(*sint), 0),
+        Action::ClearSlot(sint) => Numbers::of_access(Kind::ClearSlot, u64::from(*sint), 0),
+        Action::ReadFlags(sint) => Numbers::of_access(Kind::ReadFlags, u64::from(*sint), 0),
+        Action::ClearFlag(sint, flag) => {
+            Numbers::of_access(Kind::ClearFlag, u64::from(*sint), u64::from(*flag))
+        }
+        Action::TakeInterrupt => Numbers::of_access(Kind::TakeInterrupt, 0, 0),
+    }
+}
+
+// What the event of a row asked for, with R8 from its head.
+pub(crate) fn asked_of(row: &Row, r8: u64) -> Asked
+    ensures { result ≡ asked_in row.now.kind row.now.first row.now.second r8 }
+{
+    match row.kind {
+        Kind::Hypercall => Asked::Hypercall {
+            rcx: row.first,
+            rdx: row.second,
+            r8,
+        },
+        Kind::ReadMsr => Asked::ReadMsr((row.first % (1 << 32)) as u32),
+        Kind::WriteMsr => Asked::WriteMsr((row.first % (1 << 32)) as u32, row.second),
+        Kind::ReadSlot => Asked::ReadSlot((row.first % (1 << 8)) as u8),
+        Kind::ClearSlot => Asked::ClearSlot((row.first % (1 << 8)) as u8),
+        Kind::ReadFlags => Asked::ReadFlags((row.first % (1 << 8)) as u8),
+        Kind::ClearFlag => Asked::ClearFlag(
+            (row.first % (1 << 8)) as u8,
+            (row.second % (1 << 16)) as u16,
+        ),
+        Kind::TakeInterrupt => Asked::TakeInterrupt,
     }
 }
 

@@ -16,7 +16,7 @@ use Rattle.hv_threads.specs.ByCaller.{is_caller}
 use Rattle.hv_threads.specs.Drive.{AreElements, restart}
 use Rattle.hv_threads.specs.Pass.{receipt}
 use Rattle.hv_threads.specs.Phase.{AreWhole, IsAccess, IsWhole}
-use Rattle.hv_threads.specs.declared.held.Receipt.{Receipt}
+use Rattle.hv_threads.specs.declared.receipts.Receipt.{Receipt}
 
 pub asked_by-append : (by : Caller) (xs ys : List (Line Global)) → asked_by by (xs ++ ys) ≡ asked_by by xs ++ asked_by by ys
 asked_by-append by xs ys =

@@ -22,7 +22,7 @@ use Rattle.hv_threads.proofs.Callers.{is_itself, same_caller}
 use Rattle.hv_threads.specs.ByCaller.{AreDifferent, is_caller}
 use Rattle.hv_threads.specs.PassValue.{PassValue}
 use Rattle.hv_threads.specs.Phase.{AreWhole, HasPerformed, IsDoneAt}
-use Rattle.hv_threads.specs.declared.held.Receipt.{Receipt}
+use Rattle.hv_threads.specs.declared.receipts.Receipt.{Receipt}
 use Rattle.hv_threads.specs.declared.phase.End.TheVariants.{Finished}
 use Rattle.hv_threads.specs.declared.phase.Task.{Task}
 use Rattle.std.specs.Bool.{Decides}

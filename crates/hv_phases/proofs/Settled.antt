@@ -17,7 +17,7 @@ use Rattle.hv_threads.specs.ByCaller.{is_caller, receipts_by}
 use Rattle.hv_threads.specs.Merge.{IsMerge, receipts_of}
 use Rattle.hv_threads.specs.PassValue.{PassValue}
 use Rattle.hv_threads.specs.Phase.{AreWhole}
-use Rattle.hv_threads.specs.declared.held.Receipt.{Receipt}
+use Rattle.hv_threads.specs.declared.receipts.Receipt.{Receipt}
 
 -- whether a caller is among these
 is_among_at : (c x : Caller) (xs : List Caller) (t : Bool) → is_caller c x ≡ t → (Contains xs c ⊎ (Contains xs c → ⊥)) → Contains (x ∷ xs) c ⊎ (Contains (x ∷ xs) c → ⊥)

@@ -4,7 +4,7 @@ use Rattle.std.proofs.lemmas.List.{length-append}
 use Rattle.std.specs.Option.{SomeIff}
 use Rattle.std.specs.Char.{digit_value}
 use Rattle.std.specs.Str.Parse.{AllDigits, IsNumeral, digits_value}
-use Rattle.std.proofs.lemmas.Int.Digits.{digits_value-lt, digits_value_more}
+use Rattle.std.proofs.lemmas.Int.Digits.{digits_value_more}
 use Rattle.std.specs.Bool.{Decides}
 use Rattle.std.specs.Result.{OkIff, result_ok}
 use Rattle.std.specs.Str.{bytes_eq}
@@ -101,6 +101,12 @@ pub one_narrower : {E : Type 0} (bits n : ℕ) (whole narrow : Option ℕ) (r : 
 one_narrower bits n whole narrow r is some tried =
     within (nat_lt n (2 ^ bits)) r n (Decides-ltb n (2 ^ bits)) tried ∙ sym (is ∙ ap (option_and_then (fitting bits)) (sym some))
 
+-- the test of `0x`, by length and bytes
+pub hex_test : (word : List ℕ) → starts_with nat_eq word (codes "0x") ≡ (nat_le 2 (length word) && (nat_eq (get_or word 0 0) 48 && nat_eq (get_or word 1 0) 120))
+hex_test [] = refl
+hex_test (x ∷ []) = grind (arith, nat_tests)
+hex_test (x ∷ y ∷ rest) = grind (arith, nat_tests)
+
 -- a number after `0x`
 pub hex_number : (word hex : List ℕ) (r : Option ℕ) → starts_with nat_eq word (codes "0x") ≡ true → hex ≡ drop 2 word → length hex ≤ 16
     → SomeIff r (IsNumeral 16 hex × (digits_value 16 hex < 2 ^ 64)) (digits_value 16 hex) → r ≡ number_in 64 word
@@ -164,27 +170,6 @@ bytes_of_pair [] rest two = absurd (omega (arith, two))
 bytes_of_pair (high ∷ []) rest two = absurd (omega (arith, two))
 bytes_of_pair (high ∷ low ∷ []) rest two = refl
 bytes_of_pair (high ∷ low ∷ x ∷ more) rest two = absurd (omega (arith, two))
-
--- two hexadecimal digits are a byte
-pub pair_fits : (pair : List ℕ) → AllDigits 16 pair → length pair ≡ 2 → digits_value 16 pair < 256
-pair_fits pair digits two =
-    let below : digits_value 16 pair < 16 ^ length pair = digits_value-lt 16 pair digits in
-    rw two at below
-
--- what was read of a pair is its byte
-pub read_pair : (r : Option ℕ) (byte : ℕ) (pair : List ℕ) → r ≡ Some byte
-    → SomeIff r (IsNumeral 16 pair × (digits_value 16 pair < 2 ^ 64)) (digits_value 16 pair) → AllDigits 16 pair × (byte ≡ digits_value 16 pair)
-read_pair r byte pair e is =
-    let some : (IsNumeral 16 pair × (digits_value 16 pair < 2 ^ 64)) × (byte ≡ digits_value 16 pair) = rw e at is in
-    (some.0.0.1, some.1)
-
--- a pair that can't be read isn't two digits
-pub unread_pair : (r : Option ℕ) (pair : List ℕ) → r ≡ None
-    → SomeIff r (IsNumeral 16 pair × (digits_value 16 pair < 2 ^ 64)) (digits_value 16 pair) → length pair ≡ 2 → AllDigits 16 pair → ⊥
-unread_pair r pair e is two digits =
-    let none : IsNumeral 16 pair × (digits_value 16 pair < 2 ^ 64) → ⊥ = rw e at is in
-    let fits = pair_fits pair digits two in
-    none ((omega (arith, two), digits), omega (arith, fits))
 
 -- the bytes so far, with one more, and those of the digits that are left
 pub one_more_pair : (start before word rest pair back : List ℕ) → before ++ bytes_of rest ≡ start ++ bytes_of word → rest ≡ pair ++ back

@@ -1,5 +1,6 @@
 // Numbers and bytes, as words of a script.
-ghost use Rattle.std.specs.Prelude.{◌≡◌, ◌≢◌, ◌⊎◌, ◌^◌, ◌<◌, ◌≤◌, ◌*◌, ◌+◌, ◌%◌, ◌++◌, IfErr, OnOk, length};
+ghost use Rattle.std.specs.Prelude.{◌≡◌, ◌^◌, ◌<◌, ◌≤◌, ◌*◌, ◌+◌, ◌/◌, ◌%◌, ◌++◌, IfErr, OnOk, length, vec_capacity, vec_len};
+ghost use Rattle.std.specs.Char.{digit_value};
 ghost use Rattle.std.specs.Option.{SomeIff};
 ghost use Rattle.std.specs.Str.Parse.{AllDigits, IsNumeral, digits_value};
 ghost use Rattle.hv_script.specs.Fault.{IsRead};
@@ -29,10 +30,10 @@ pub fn decimal_32(word: &[u8]) -> Option<u32>
 pub fn number(word: &[u8]) -> Option<u64>
     ensures { result ≡ number_in 64 word.now }
 {
-    match word.strip_prefix(b"0x".as_slice()) {
-        Some(hex) if hex.len() <= 16 => digits(hex, 16),
-        Some(_) => None,
-        None => digits(word, 10),
+    match word {
+        [b'0', b'x', hex @ ..] if hex.len() <= 16 => digits(hex, 16),
+        [b'0', b'x', ..] => None,
+        _ => digits(word, 10),
     }
 }
 
@@ -72,22 +73,47 @@ pub fn bytes<A: Allocator>(alloc: A, word: &[u8]) -> Result<Vec<u8, A>, FaultKin
     Ok(bytes)
 }
 
-// Pushes the bytes that pairs of hexadecimal digits write.
+// Pushes the bytes that pairs of hexadecimal digits write, for which there is room.
 fn push_bytes<A: Allocator>(bytes: &mut Vec<u8, A>, word: &[u8]) -> Result<(), FaultKind>
-    requires { length word.now % 2 ≡ 0 }
+    requires even { length word.now % 2 ≡ 0 }
+    requires room { vec_len bytes.old + length word.now / 2 ≤ vec_capacity bytes.old }
     ensures bytes { OnOk result (bytes.new.items ≡ bytes.old.items ++ bytes_of word.now) }
     ensures ok { OnOk result (AllDigits 16 word.now) }
-    ensures err { IfErr result (λ kind. kind ≢ FaultKind.Memory → AllDigits 16 word.now → ⊥) }
-    ensures kinds { IfErr result (λ kind. (kind ≡ FaultKind.Hex) ⊎ (kind ≡ FaultKind.Memory)) }
+    ensures err { IfErr result (λ kind. (kind ≡ FaultKind.Hex) × (AllDigits 16 word.now → ⊥)) }
 {
     for pair in word.chunks_exact(2) {
-        let byte = digits(pair, 16).ok_or(FaultKind::Hex)?;
-        bytes.push(byte as u8).map_err(|_| FaultKind::Memory)?;
+        let byte = pair_value(pair).ok_or(FaultKind::Hex)?;
+        bytes.push_reserved(byte);
     }
     Ok(())
 }
 
-// The number that digits in a base write, where it fits 64 bits.
+// The byte that two hexadecimal digits write.
+#[inline(always)]
+fn pair_value(pair: &[u8]) -> Option<u8>
+    requires { length pair.now ≡ 2 }
+    ensures { SomeIff result (AllDigits 16 pair.now) (digits_value 16 pair.now) }
+{
+    let high = hex_digit(pair[0])?;
+    let low = hex_digit(pair[1])?;
+    Some(high * 16 + low)
+}
+
+// The value of a hexadecimal digit of either case.
+#[inline(always)]
+fn hex_digit(byte: u8) -> Option<u8>
+    ensures { SomeIff result (digit_value byte < 16) (digit_value byte) }
+{
+    match byte {
+        b'0'..=b'9' => Some(byte - b'0'),
+        b'a'..=b'f' => Some(byte - b'a' + 10),
+        b'A'..=b'F' => Some(byte - b'A' + 10),
+        _ => None,
+    }
+}
+
+// The number that digits in a base write, where it fits 64 bits. Inlined, so that the base is known.
+#[inline(always)]
 fn digits(word: &[u8], base: u64) -> Option<u64>
     requires least { 2 ≤ base }
     requires most { base ≤ 36 }

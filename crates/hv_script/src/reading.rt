@@ -26,37 +26,38 @@ pub struct Reading<A: Allocator> {
 }
 
 impl<A: Allocator + Clone> Reading<A> {
-    ghost use Rattle.std.specs.Prelude.{◌≡◌, ◌+◌, ◌<◌, ◌≤◌, ◌^◌, IfOk, Ok, not};
+    ghost use Rattle.std.specs.Prelude.{◌≡◌, ◌+◌, ◌<◌, ◌≤◌, ◌^◌, IfOk, OnOk, Ok, not};
     ghost use Rattle.hv_script.specs.Callers.{is_among};
     ghost use Rattle.hv_script.specs.Fault.{IsRead};
     ghost use Rattle.hv_script.specs.Reading.{phase_by, read_by, so_far};
     ghost use Rattle.hv_script.specs.Script.{first_line, later_line, phase_line, processor_line, read_line, with_line};
     ghost use Rattle.hv_script.specs.Words.{has_good_bytes};
 
-    /// Reads a line, which has good bytes or not, by what was read before it.
+    /// Reads a line, which has good bytes or not, after what was read before it.
     #[tactic(auto, unfolding(crate::specs::Script::read_line))]
     pub fn read_line(
         alloc: &A,
-        before: Option<Reading<A>>,
+        reading: &mut Option<Reading<A>>,
         line: &[u8],
         is_good: bool,
-    ) -> Result<Option<Reading<A>>, FaultKind>
-        requires phases { phase_by before + 1 < 2 ^ 32 }
+    ) -> Result<(), FaultKind>
+        requires phases { phase_by reading.old + 1 < 2 ^ 32 }
         requires good { is_good ≡ has_good_bytes line.now }
-        ensures read { IsRead result read_by (read_line (read_by before) line.now) }
-        ensures phase { IfOk result (λ after. phase_by after ≤ phase_by before + 1) }
+        ensures read { IsRead result (λ _. read_by reading.new) (read_line (read_by reading.old) line.now) }
+        ensures phase { OnOk result (phase_by reading.new ≤ phase_by reading.old + 1) }
     {
         let words = Words::of(line);
         if words.are_skipped() {
-            return Ok(before);
+            return Ok(());
         }
         if !is_good {
             return Err(FaultKind::Byte);
         }
-        match before {
-            None => Ok(Some(Reading::first_line(alloc, &words)?)),
-            Some(reading) => Ok(Some(reading.later_line(alloc, &words)?)),
+        match reading {
+            None => *reading = Some(Reading::first_line(alloc, &words)?),
+            Some(reading) => reading.later_line(alloc, &words)?,
         }
+        Ok(())
     }
 
     // Reads the first line, which is a `boot` line.
@@ -80,10 +81,10 @@ impl<A: Allocator + Clone> Reading<A> {
 
     // Reads any line after the first.
     #[tactic(auto, unfolding(crate::specs::Script::later_line))]
-    fn later_line(self, alloc: &A, words: &Words<'_>) -> Result<Reading<A>, FaultKind>
-        requires { self.phase + 1 < 2 ^ 32 }
-        ensures read { IsRead result so_far (later_line (so_far self) words.now) }
-        ensures phase { IfOk result (λ reading. reading.phase ≤ self.phase + 1) }
+    fn later_line(&mut self, alloc: &A, words: &Words<'_>) -> Result<(), FaultKind>
+        requires { self.old.phase + 1 < 2 ^ 32 }
+        ensures read { IsRead result (λ _. so_far self.new) (later_line (so_far self.old) words.now) }
+        ensures phase { OnOk result (self.new.phase ≤ self.old.phase + 1) }
     {
         if words.begin_with(b"boot".as_slice()) {
             return Err(FaultKind::BootTwice);
@@ -96,34 +97,24 @@ impl<A: Allocator + Clone> Reading<A> {
 
     // Reads a `phase` line.
     #[tactic(auto, using(crate::proofs::CallerLemmas::no_callers))]
-    fn phase_line(self, words: &Words<'_>) -> Result<Reading<A>, FaultKind>
-        requires { self.phase + 1 < 2 ^ 32 }
-        ensures read { IsRead result so_far (phase_line (so_far self) words.now) }
-        ensures phase { IfOk result (λ reading. reading.phase ≤ self.phase + 1) }
+    fn phase_line(&mut self, words: &Words<'_>) -> Result<(), FaultKind>
+        requires { self.old.phase + 1 < 2 ^ 32 }
+        ensures read { IsRead result (λ _. so_far self.new) (phase_line (so_far self.old) words.now) }
+        ensures phase { OnOk result (self.new.phase ≤ self.old.phase + 1) }
     {
         if !words.are(1) {
             return Err(FaultKind::Count);
         }
-        let Reading {
-            boot,
-            phase,
-            mut callers,
-            lines,
-        } = self;
-        callers.clear();
-        Ok(Reading {
-            boot,
-            phase: phase + 1,
-            callers,
-            lines,
-        })
+        self.callers.clear();
+        self.phase += 1;
+        Ok(())
     }
 
     // Reads a line of a processor.
     #[tactic(auto, unfolding(crate::specs::Script::processor_line))]
-    fn processor_line(self, alloc: &A, words: &Words<'_>) -> Result<Reading<A>, FaultKind>
-        ensures read { IsRead result so_far (processor_line (so_far self) words.now) }
-        ensures phase { IfOk result (λ reading. reading.phase ≡ self.phase) }
+    fn processor_line(&mut self, alloc: &A, words: &Words<'_>) -> Result<(), FaultKind>
+        ensures read { IsRead result (λ _. so_far self.new) (processor_line (so_far self.old) words.now) }
+        ensures phase { self.new.phase ≡ self.old.phase }
     {
         let by = processor(words.word(0))?;
         let action = action(alloc, words)?;
@@ -131,7 +122,7 @@ impl<A: Allocator + Clone> Reading<A> {
         if is_new && self.callers.len() >= MOST_PROCESSORS {
             return Err(FaultKind::TooMany);
         }
-        self.with_line(is_new, by, action)
+        self.add_line(is_new, by, action)
     }
 
     // Whether the phase has this processor.
@@ -142,27 +133,21 @@ impl<A: Allocator + Clone> Reading<A> {
     }
 
     // Adds a line of a processor, which is new in the phase or not.
-    fn with_line(self, is_new: bool, by: Caller, action: Action<A>) -> Result<Reading<A>, FaultKind>
-        requires { is_new ≡ not (is_among self.callers.items by) }
-        ensures read { IsRead result so_far (Ok (with_line (so_far self) by action)) }
-        ensures phase { IfOk result (λ reading. reading.phase ≡ self.phase) }
+    fn add_line(&mut self, is_new: bool, by: Caller, action: Action<A>) -> Result<(), FaultKind>
+        requires { is_new ≡ not (is_among self.old.callers.items by) }
+        ensures read { IsRead result (λ _. so_far self.new) (Ok (with_line (so_far self.old) by action)) }
+        ensures phase { self.new.phase ≡ self.old.phase }
     {
-        let Reading {
-            boot,
-            phase,
-            mut callers,
-            mut lines,
-        } = self;
+        // With the line's room made first, nothing fails after the processor is added.
+        self.lines.reserve(1).map_err(|_| FaultKind::Memory)?;
         if is_new {
-            callers.push(by).map_err(|_| FaultKind::Memory)?;
+            self.callers.push(by).map_err(|_| FaultKind::Memory)?;
         }
-        let line = Line { phase, by, action };
-        lines.push(line).map_err(|_| FaultKind::Memory)?;
-        Ok(Reading {
-            boot,
-            phase,
-            callers,
-            lines,
-        })
+        self.lines.push_reserved(Line {
+            phase: self.phase,
+            by,
+            action,
+        });
+        Ok(())
     }
 }

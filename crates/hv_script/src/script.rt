@@ -70,7 +70,7 @@ fn read_lines<A: Allocator + Clone>(
         let (line, is_good, rest) = next_line(here);
         left = rest;
         number += 1;
-        reading = Reading::read_line(alloc, reading, line, is_good).map_err(|kind| ScriptFault {
+        Reading::read_line(alloc, &mut reading, line, is_good).map_err(|kind| ScriptFault {
             line: number,
             kind,
         })?;

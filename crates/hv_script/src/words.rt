@@ -70,7 +70,7 @@ impl<'a> Words<'a> {
     pub fn are_skipped(&self) -> bool
         ensures { result ≡ is_skipped self.now }
     {
-        self.are(0) || self.word(0).starts_with(b"#".as_slice())
+        self.are(0) || matches!(self.word(0), [b'#', ..])
     }
 
     /// Whether the first word is this one.

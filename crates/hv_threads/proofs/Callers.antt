@@ -10,7 +10,7 @@ use Rattle.hv_policy.specs.declared.event.Caller.{Caller}
 use Rattle.hv_threads.specs.ByCaller.{AreDifferent, is_caller, receipts_by}
 use Rattle.hv_threads.specs.Merge.{IsMerge, owned}
 use Rattle.hv_threads.specs.Pass.{receipt}
-use Rattle.hv_threads.specs.declared.held.Receipt.{Receipt}
+use Rattle.hv_threads.specs.declared.receipts.Receipt.{Receipt}
 
 both : (a b : Bool) → (a && b) ≡ true → (a ≡ true) × (b ≡ true)
 both true b h = (refl, h)

@@ -10,7 +10,7 @@ use Rattle.hv_history.specs.declared.entry.Entry.{Entry}
 use Rattle.hv_threads.specs.Counted.{IsCounted, StandsAt}
 use Rattle.hv_threads.specs.Merge.{IsMerge, IsMergeFrom, IsNext, IsOf, IsOnlyNext, MergesFrom, next_is, owned, without}
 use Rattle.hv_threads.specs.Pass.{receipt}
-use Rattle.hv_threads.specs.declared.held.Receipt.{Receipt}
+use Rattle.hv_threads.specs.declared.receipts.Receipt.{Receipt}
 use Rattle.hv_threads.proofs.Merged.{merged}
 use Rattle.hv_threads.proofs.Passes.{next_there}
 

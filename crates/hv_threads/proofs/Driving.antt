@@ -10,9 +10,9 @@ use Rattle.hv_policy.specs.declared.event.Caller.{Caller}
 use Rattle.hv_policy.specs.declared.reply.Reply.{Reply}
 use Rattle.hv_policy.specs.declared.reply.Reply.TheVariants.{More}
 use Rattle.hv_threads.specs.Drive.{AreElements, HasDriven, HasStopped, IsMore, element, restart}
-use Rattle.hv_threads.specs.Pass.{HasCalled, HasReceipts, IsSamePass, receipt}
+use Rattle.hv_threads.specs.Pass.{HasCalled, HasReceipts, receipt}
 use Rattle.hv_threads.specs.PassValue.{PassValue}
-use Rattle.hv_threads.specs.declared.held.Receipt.{Receipt}
+use Rattle.hv_threads.specs.declared.receipts.Receipt.{Receipt}
 
 -- the elements before `now` have their receipts, and so has that of `now`, with this reply
 pub record IsDriving (frame now : Frame Global) (reply : Reply) (old new : PassValue) : Type 0 where
@@ -72,7 +72,7 @@ module _ (frame now : Frame Global) (reply : Reply) (old mid : PassValue) (drivi
       }
 
   -- the host refused the next one
-  pub stopped : (later : Frame Global) (start : ℕ) (new : PassValue) → later ≡ restart now next → start ≡ (input_value later.rcx).start → IsSamePass mid new → HasStopped frame start old new
+  pub stopped : (later : Frame Global) (start : ℕ) (new : PassValue) → later ≡ restart now next → start ≡ (input_value later.rcx).start → new ≡ mid → HasStopped frame start old new
   stopped later start new later_is start_is same =
       let g = driving.gained in
       record {
@@ -80,18 +80,18 @@ module _ (frame now : Frame Global) (reply : Reply) (old mid : PassValue) (drivi
         now = later;
         elements = subst (λ (f : Frame Global). AreElements old.caller frame all f) (sym later_is) elements;
         next_is = start_is;
-        gained = record { receipts = same.receipts ∙ g.receipts; share = same.share ∙ g.share; caller = same.caller ∙ g.caller };
+        gained = subst (λ (p : PassValue). HasReceipts all old p) (sym same) g;
       }
 
 -- the host refused the first element
-pub not_begun : (frame : Frame Global) (start : ℕ) (old new : PassValue) → start ≡ (input_value frame.rcx).start → IsSamePass old new → HasStopped frame start old new
+pub not_begun : (frame : Frame Global) (start : ℕ) (old new : PassValue) → start ≡ (input_value frame.rcx).start → new ≡ old → HasStopped frame start old new
 not_begun frame start old new start_is same =
     record {
       more = [];
       now = frame;
       elements = refl;
       next_is = start_is;
-      gained = record { receipts = same.receipts ∙ sym (append-nil old.receipts); share = let s = same.share in omega arith; caller = same.caller };
+      gained = subst (λ (p : PassValue). HasReceipts [] old p) (sym same) (record { receipts = sym (append-nil old.receipts); share = omega arith; caller = refl });
     }
 
 -- the last element

@@ -1,5 +1,6 @@
 pub mod Merging
 pub mod Merged
+pub mod Packed
 pub mod Passes
 pub mod Opened
 pub mod Driving

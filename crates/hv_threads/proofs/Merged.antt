@@ -11,7 +11,7 @@ use Rattle.hv_policy.specs.declared.config.Config.{Config}
 use Rattle.hv_threads.specs.Settle.{IsFault, IsMadeOf}
 use Rattle.hv_threads.specs.Merge.{IsOnlyNext, IsNext, IsOf, MergesFrom, FailsFrom, IsMergeFrom, owned, next_is, without}
 use Rattle.hv_threads.specs.Pass.{receipt}
-use Rattle.hv_threads.specs.declared.held.Receipt.{Receipt}
+use Rattle.hv_threads.specs.declared.receipts.Receipt.{Receipt}
 use Rattle.hv_threads.specs.declared.fault.SettleFault.{SettleFault}
 
 equal : (a b : ℕ) → (a == b) ≡ true → a ≡ b

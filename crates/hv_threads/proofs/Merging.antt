@@ -6,7 +6,7 @@ use Rattle.std.specs.declared.alloc.Global.{Global}
 use Rattle.hv_history.specs.declared.entry.Entry.{Entry}
 use Rattle.std.specs.List.{slice_get}
 use Rattle.hv_threads.specs.Merge.{IsOnlyNext, MergesFrom, FailsAt, FailsFrom, without}
-use Rattle.hv_threads.specs.declared.held.Receipt.{Receipt}
+use Rattle.hv_threads.specs.declared.receipts.Receipt.{Receipt}
 use Rattle.hv_threads.specs.declared.fault.SettleFault.{SettleFault}
 
 -- the entry that is read at a place is the one there

@@ -4,7 +4,7 @@ use Rattle.std.proofs.Math.ListN.{set}
 use Rattle.std.proofs.lemmas.List.{length-map, map-set, map-append, get_or-map, get_or_past, take_more_set, drop-drop}
 use Rattle.hv_threads.specs.Merge.{rest_of, rests_of, receipts_of, next_is, IsNext, without}
 use Rattle.hv_threads.specs.PassValue.{PassValue}
-use Rattle.hv_threads.specs.declared.held.Receipt.{Receipt}
+use Rattle.hv_threads.specs.declared.receipts.Receipt.{Receipt}
 
 pub rest_at : (ps : List PassValue) (i : ℕ) (p : PassValue) → i < length ps → p ≡ get_or ps i p → get_or (rests_of ps) i [] ≡ rest_of p
 rest_at ps i p h e = get_or-map rest_of ps i p [] h ∙ ap rest_of (sym e)

@@ -9,7 +9,7 @@ use Rattle.hv_policy.specs.declared.event.Caller.{Caller}
 use Rattle.hv_threads.specs.Pass.{HasReceipts}
 use Rattle.hv_threads.specs.PassValue.{PassValue}
 use Rattle.hv_threads.specs.Phase.{AreWhole, HasBegun, HasPerformed, IsDone, IsStopped, IsWhole}
-use Rattle.hv_threads.specs.declared.held.Receipt.{Receipt}
+use Rattle.hv_threads.specs.declared.receipts.Receipt.{Receipt}
 use Rattle.hv_threads.specs.declared.phase.End.TheVariants.{Finished, Host}
 use Rattle.hv_threads.specs.declared.phase.Work.{Work}
 

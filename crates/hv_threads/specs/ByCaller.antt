@@ -4,7 +4,7 @@ use Rattle.std.specs.declared.alloc.Global.{Global}
 use Rattle.hv_history.specs.declared.entry.Entry.{Entry}
 use Rattle.hv_policy.specs.declared.event.Caller.{Caller}
 use Rattle.hv_threads.specs.Pass.{receipt}
-use Rattle.hv_threads.specs.declared.held.Receipt.{Receipt}
+use Rattle.hv_threads.specs.declared.receipts.Receipt.{Receipt}
 
 -- both are the same virtual processor
 abbrev pub is_caller : Caller → Caller → Bool

@@ -11,7 +11,7 @@ use Rattle.hv_policy.specs.declared.reply.Reply.{Reply}
 use Rattle.hv_policy.specs.declared.reply.Reply.TheVariants.{Served, More, Denied, Fault}
 use Rattle.hv_threads.specs.Pass.{HasReceipts, receipt}
 use Rattle.hv_threads.specs.PassValue.{PassValue}
-use Rattle.hv_threads.specs.declared.held.Receipt.{Receipt}
+use Rattle.hv_threads.specs.declared.receipts.Receipt.{Receipt}
 
 -- the same call, from another element on
 abbrev pub restart : Frame Global → ℕ → Frame Global

@@ -5,6 +5,7 @@ pub mod HeldValue
 pub mod Merge
 pub mod Pass
 pub mod PassValue
+pub mod Receipts
 pub mod Phase
 pub mod Settle
 pub mod SharedValue

@@ -5,7 +5,7 @@ use Rattle.hv_policy.specs.declared.event.Action.{Action}
 use Rattle.hv_policy.specs.declared.event.Event.{Event}
 use Rattle.hv_policy.specs.declared.reply.Reply.{Reply}
 use Rattle.hv_threads.specs.PassValue.{PassValue}
-use Rattle.hv_threads.specs.declared.held.Receipt.{Receipt}
+use Rattle.hv_threads.specs.declared.receipts.Receipt.{Receipt}
 
 abbrev pub receipt : ℕ → Event Global → Reply → Receipt
 receipt number event reply = record { number = number; event = event; reply = reply }
@@ -20,12 +20,6 @@ pub record HasReceipt (number : ℕ) (event : Event Global) (reply : Reply) (old
 pub record HasReceipts (more : List Receipt) (old new : PassValue) : Type 0 where
   pub receipts : new.receipts ≡ old.receipts ++ more
   pub share : new.share ≡ old.share + length more
-  pub caller : new.caller ≡ old.caller
-
--- the same but for room
-pub record IsSamePass (old new : PassValue) : Type 0 where
-  pub receipts : new.receipts ≡ old.receipts
-  pub share : new.share ≡ old.share
   pub caller : new.caller ≡ old.caller
 
 -- one receipt more, of what the pass's caller did

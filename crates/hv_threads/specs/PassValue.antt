@@ -1,15 +1,13 @@
 -- What a pass is seen as.
 use Rattle.std.specs.Prelude.{ℕ, ◌≡◌, List, length, All}
 use Rattle.hv_policy.specs.declared.event.Caller.{Caller}
-use Rattle.hv_threads.specs.declared.held.Receipt.{Receipt}
+use Rattle.hv_threads.specs.declared.receipts.Receipt.{Receipt}
 
--- a caller, the receipts of its events, its share of the count, for how many more receipts there is room,
--- and how many the settlement has come past
+-- a caller, the receipts of its events, its share of the count, and how many receipts the settlement has come past
 pub record PassValue : Type 0 where
   pub caller : Caller
   pub receipts : List Receipt
   pub share : ℕ
-  pub room : ℕ
   pub settled : ℕ
 
 -- a pass has one part of the count, in which its receipts are counted, and each of them is of an event by its caller

@@ -9,7 +9,7 @@ use Rattle.hv_policy.specs.declared.reply.Reply.{Reply}
 use Rattle.hv_threads.specs.Drive.{AreElements, IsWholeCall}
 use Rattle.hv_threads.specs.Pass.{HasReceipts, receipt}
 use Rattle.hv_threads.specs.PassValue.{PassValue}
-use Rattle.hv_threads.specs.declared.held.Receipt.{Receipt}
+use Rattle.hv_threads.specs.declared.receipts.Receipt.{Receipt}
 use Rattle.hv_threads.specs.declared.phase.Done.{Done}
 use Rattle.hv_threads.specs.declared.phase.End.{End}
 use Rattle.hv_threads.specs.declared.phase.End.TheVariants.{Finished, Host}

@@ -4,7 +4,7 @@ use Rattle.std.specs.declared.alloc.Global.{Global}
 use Rattle.hv_history.specs.Kept.{Kept}
 use Rattle.hv_policy.specs.declared.config.Config.{Config}
 use Rattle.hv_threads.specs.Merge.{FailsFrom, IsMerge}
-use Rattle.hv_threads.specs.declared.held.Receipt.{Receipt}
+use Rattle.hv_threads.specs.declared.receipts.Receipt.{Receipt}
 use Rattle.hv_threads.specs.declared.fault.SettleRefused.{SettleRefused}
 use Rattle.hv_threads.specs.declared.fault.SettleFault.{SettleFault}
 use Rattle.hv_threads.specs.declared.fault.SettleFault.TheVariants.{Differs}

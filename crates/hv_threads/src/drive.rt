@@ -6,14 +6,14 @@ ghost use Rattle.hv_policy.specs.Result.{HasResult};
 ghost use Rattle.hv_policy.specs.declared.event.Action.TheVariants.{Hypercall};
 ghost use Rattle.hv_policy.specs.declared.reply.Reply.TheVariants.{More};
 ghost use Rattle.hv_threads.specs.Drive.{HasDriven, HasStopped, IsMore};
-ghost use Rattle.hv_threads.specs.Pass.{IsSamePass, HasCalled};
+ghost use Rattle.hv_threads.specs.Pass.{HasCalled};
 
 use crate::gate::Gate;
 use crate::held::Pass;
 use crate::shared::Shared;
 use hv_abi::{Frame, InputValue, ResultValue};
 use hv_history::HostRefused;
-use hv_policy::{Action, Reply, result_of};
+use hv_policy::{Action, Event, Reply, result_of};
 use std::alloc::Global;
 use std::sync::Wait;
 use std::sync::ledger::Ledger;
@@ -38,28 +38,33 @@ fn next_of(reply: &Reply) -> Option<u16>
 }
 
 impl<L: Ledger> Shared<L> {
-    // Asks for the element at the frame's start index.
+    // Asks for the element at the frame's start index, and gives the frame back.
     fn ask<R: Wait, G: Gate>(
         &self,
         rt: &R,
         pass: &mut Pass<L>,
         gate: &G,
-        frame: &Frame<Global>,
-    ) -> Result<Reply, DriveRefused>
-        ensures called { IfOk result (λ r. HasCalled (Hypercall frame.now) r pass.old pass.new) }
-        ensures result { IfOk result HasResult }
-        ensures next { IfOk result (λ r. GoesOn (Hypercall frame.now) r) }
-        ensures refused { IfErr result (λ e. IsSamePass pass.old pass.new × (e.next ≡ (input_value frame.now.rcx).start)) }
+        frame: Frame<Global>,
+    ) -> Result<(Frame<Global>, Reply), DriveRefused>
+        ensures frame { IfOk result (λ r. r.0 ≡ frame) }
+        ensures called { IfOk result (λ r. HasCalled (Hypercall frame) r.1 pass.old pass.new) }
+        ensures result { IfOk result (λ r. HasResult r.1) }
+        ensures next { IfOk result (λ r. GoesOn (Hypercall frame) r.1) }
+        ensures refused { IfErr result (λ e. (pass.new ≡ pass.old) × (e.next ≡ (input_value frame.rcx).start)) }
     {
         let next = InputValue::read(frame.rcx).start;
-        let Ok(own) = frame.copy() else {
-            return Err(DriveRefused {
-                why: HostRefused::Memory,
-                next,
-            });
+        let by = pass.caller();
+        let event = Event {
+            by,
+            what: Action::Hypercall(frame),
         };
-        match self.call(rt, pass, gate, Action::Hypercall(own)) {
-            Ok(reply) => Ok(reply),
+        match self.happen(rt, pass, gate, &event) {
+            Ok(reply) => {
+                let Action::Hypercall(frame) = event.what else {
+                    unreachable!()
+                };
+                Ok((frame, reply))
+            }
             Err(why) => Err(DriveRefused { why, next }),
         }
     }
@@ -77,11 +82,12 @@ impl<L: Ledger> Shared<L> {
         ensures driven { IfOk result (λ r. HasDriven frame r.0 r.1 pass.old pass.new) }
         ensures refused { IfErr result (λ e. HasStopped frame e.next pass.old pass.new) }
     {
-        let mut frame = frame;
-        let mut reply = self.ask(rt, pass, gate, &frame)?;
+        let (mut frame, mut reply) = self.ask(rt, pass, gate, frame)?;
         while let Some(next) = next_of(&reply) {
-            frame = frame.with_start(next);
-            reply = self.ask(rt, pass, gate, &frame)?;
+            let later = frame.with_start(next);
+            let (asked, answer) = self.ask(rt, pass, gate, later)?;
+            frame = asked;
+            reply = answer;
         }
         Ok((result_of(&frame, &reply), reply))
     }

@@ -1,6 +1,6 @@
 // What the lock holds, what each thread holds, and the one step that changes both. The fields of `Held` and `Pass` are
 // private to this file.
-ghost use Rattle.std.specs.Prelude.{◌≡◌, ◌<◌, ◌≤◌, ◌+◌, ◌-◌, [], ℕ, IsTrue, ◌↔◌, IfOk, OnOk, OnErr, IsErrOf, IfErr, IfSome, IfNone, length, vec_len, sum};
+ghost use Rattle.std.specs.Prelude.{◌≡◌, ◌<◌, ◌≤◌, ◌+◌, [], ℕ, IsTrue, ◌↔◌, IfOk, OnOk, OnErr, IsErrOf, IfErr, IfSome, IfNone, length, vec_len, sum};
 ghost use Rattle.hv_abi.specs.declared.frame.Frame.{Frame};
 ghost use Rattle.hv_policy.specs.Next.{GoesOn};
 ghost use Rattle.hv_policy.specs.Result.{HasResult};
@@ -9,45 +9,39 @@ ghost use Rattle.hv_policy.specs.declared.event.Action.TheVariants.{Hypercall};
 ghost use Rattle.hv_history.specs.History.{entries, entry_by};
 ghost use Rattle.hv_history.specs.Kept.{HasGained, IsRun};
 ghost use Rattle.hv_threads.specs.Merge.{next_is, rest_of, IsOf, IsNext, IsOnlyNext, FailsAt, AreDone, MergesFrom, FailsFrom, rests_of, receipts_of, shares_of};
-ghost use Rattle.hv_threads.specs.Pass.{HasReceipt, IsSamePass};
+ghost use Rattle.hv_threads.specs.Pass.{HasReceipt};
+ghost use Rattle.hv_threads.specs.Receipts.{list_of};
 ghost use Rattle.hv_threads.specs.Settle.{IsFault, IsMadeOf, kept_of};
 ghost use Rattle.hv_threads.specs.Shared.{AreOpened};
 
 use crate::fault::{SettleFault, SettleRefused};
+use crate::receipts::Receipts;
 use crate::shared::Shared;
 use hv_history::{EntryRef, History, HostRefused, Kept};
 use hv_policy::{Caller, Config, Event, Reply};
-use std::alloc::{AllocError, Global};
+use std::alloc::Global;
 use std::marker::Model;
 use std::sync::ledger::{Blank, Book, Ledger, Share};
-
-/// That an event stands in the history at this number, counted from 1, with this reply.
-#[derive(Drop)]
-pub struct Receipt {
-    pub number: u64,
-    pub event: Event<Global>,
-    pub reply: Reply,
-}
 
 /// What one thread holds: its caller, the receipts of its events, and its share of the count of all events.
 #[derive(Drop)]
 pub struct Pass<L: Ledger> {
     caller: Caller,
-    receipts: Vec<Receipt>,
+    receipts: Receipts,
     share: Share<L>,
     // How many receipts the settlement has come past.
     settled: usize,
 }
 
 impl<L: Ledger> Model for Pass<L> {
-    ghost use Rattle.std.specs.Prelude.{◌-◌, vec_len, vec_capacity};
     ghost use Rattle.hv_threads.specs.PassValue.{PassValue, IsPass};
+    ghost use Rattle.hv_threads.specs.Receipts.{list_of};
 
     ghost Value = { PassValue };
 
-    ghost view = { λ p. record { caller = p.caller; receipts = p.receipts.items; share = p.share.amount; room = vec_capacity p.receipts - vec_len p.receipts; settled = p.settled } };
+    ghost view = { λ p. record { caller = p.caller; receipts = list_of p.receipts; share = p.share.amount; settled = p.settled } };
 
-    ghost invariant = { λ p. IsPass p.caller p.receipts.items p.share.parts p.share.amount };
+    ghost invariant = { λ p. IsPass p.caller (list_of p.receipts) p.share.parts p.share.amount };
 }
 
 /// What the lock holds: the machine with its history, and the count of the history's events.
@@ -81,25 +75,10 @@ impl<L: Ledger> Pass<L> {
     }
 
     /// The receipts of its events, in the order in which they happened.
-    pub fn receipts(&self) -> &[Receipt]
-        ensures { result.now ≡ self.now.receipts }
+    pub fn receipts(&self) -> &Receipts
+        ensures { list_of result.now ≡ self.now.receipts }
     {
-        self.receipts.as_slice()
-    }
-
-    /// For how many receipts more there is room.
-    pub fn room(&self) -> usize
-        ensures { result ≡ self.now.room }
-    {
-        self.receipts.capacity() - self.receipts.len()
-    }
-
-    /// Makes room for so many receipts more.
-    pub fn reserve(&mut self, more: usize) -> Result<(), AllocError>
-        ensures room { OnOk result (more ≤ self.new.room) }
-        ensures same { IsSamePass self.old self.new }
-    {
-        self.receipts.reserve(more)
+        &self.receipts
     }
 }
 
@@ -111,7 +90,7 @@ impl<L: Ledger> Pass<L> {
     {
         Pass {
             caller,
-            receipts: Vec::new(alloc),
+            receipts: Receipts::new(alloc),
             share,
             settled: 0,
         }
@@ -121,9 +100,10 @@ impl<L: Ledger> Pass<L> {
     fn is_next(&self, number: u64) -> bool
         ensures { result ≡ next_is number (rest_of self.now) }
     {
-        match self.receipts.get(self.settled) {
-            Some(receipt) => receipt.number == number,
-            None => false,
+        if self.settled < self.receipts.len() {
+            self.receipts.number(self.settled) == number
+        } else {
+            false
         }
     }
 
@@ -131,9 +111,11 @@ impl<L: Ledger> Pass<L> {
     fn agrees(&self, entry: &EntryRef<'_>) -> bool
         ensures { IsTrue result ↔ IsOf (entry_by entry.now) (rest_of self.now) }
     {
-        match self.receipts.get(self.settled) {
-            Some(receipt) => entry.is_same(&receipt.event, &receipt.reply),
-            None => false,
+        if self.settled < self.receipts.len() {
+            let receipt = self.receipts.get(self.settled);
+            receipt.entry.is_same::<Global>(entry)
+        } else {
+            false
         }
     }
 
@@ -141,16 +123,15 @@ impl<L: Ledger> Pass<L> {
     fn is_settled(&self) -> bool
         ensures { IsTrue result ↔ (rest_of self.now ≡ []) }
     {
-        match self.receipts.get(self.settled) {
-            Some(_) => false,
-            None => true,
-        }
+        self.receipts.len() <= self.settled
     }
 
     fn advance(&mut self)
         requires { self.old.settled < length self.old.receipts }
         ensures { self.new ≡ record self.old { settled = self.old.settled + 1 } }
     {
+        // The proof reads here that how many receipts there are fits a usize.
+        let _count = self.receipts.len();
         self.settled += 1;
     }
 
@@ -168,22 +149,14 @@ impl<L: Ledger> Pass<L> {
 }
 
 impl<L: Ledger> Held<L> {
-    /// Lets an event happen and keeps its receipt, without a lock. `copy` is the same event again, for the receipt.
-    pub fn hold(
-        &mut self,
-        pass: &mut Pass<L>,
-        event: Event<Global>,
-        copy: Event<Global>,
-    ) -> Result<Reply, HostRefused>
-        requires room { 1 ≤ pass.old.room }
-        requires copy { copy ≡ event }
-        requires own { event.by ≡ pass.old.caller }
+    /// Lets an event happen and keeps its receipt, without a lock. Room for the receipt is made first.
+    pub fn hold(&mut self, pass: &mut Pass<L>, event: &Event<Global>) -> Result<Reply, HostRefused>
+        requires { event.now.by ≡ pass.old.caller }
 
         // The history has the event with its reply more, and the pass a receipt of it. Both are counted.
-        ensures kept { IfOk result (λ r. HasGained event r self.old.kept self.new.kept) }
+        ensures kept { IfOk result (λ r. HasGained event.now r self.old.kept self.new.kept) }
         ensures count { OnOk result (self.new.count ≡ self.old.count + 1) }
-        ensures receipt { IfOk result (λ r. HasReceipt (length self.new.kept.history) event r pass.old pass.new) }
-        ensures room { OnOk result (pass.old.room ≤ pass.new.room + 1) }
+        ensures receipt { IfOk result (λ r. HasReceipt (length self.new.kept.history) event.now r pass.old pass.new) }
         ensures run { IsRun self.new.kept }
 
         // A full history takes no event, before any rule. Else the host wants memory.
@@ -193,25 +166,25 @@ impl<L: Ledger> Held<L> {
 
         // A refusal by a rule names one that is asked, a reply to a hypercall has a result value, and a call goes on with
         // the element after the one that was served.
-        ensures asked { IfOk result (λ r. NamesAsked event r) }
-        ensures result { (frame : Frame Global) → event.what ≡ Hypercall frame → IfOk result HasResult }
-        ensures next { IfOk result (λ r. GoesOn event.what r) }
+        ensures asked { IfOk result (λ r. NamesAsked event.now r) }
+        ensures result { (frame : Frame Global) → event.now.what ≡ Hypercall frame → IfOk result HasResult }
+        ensures next { IfOk result (λ r. GoesOn event.now.what r) }
     {
+        // The proof reads here that what is kept is a run.
+        let _history = self.kept.history();
+        if self.kept.is_full() {
+            return Err(HostRefused::HistoryFull);
+        }
+        if pass.receipts.reserve(event).is_err() {
+            return Err(HostRefused::Memory);
+        }
         match self.kept.apply(event) {
             Ok((number, reply)) => {
                 self.count.add(&mut pass.share, 1);
-                let told = reply.copy();
-                pass.receipts.push_reserved(Receipt {
-                    number,
-                    event: copy,
-                    reply: told,
-                });
+                pass.receipts.push(number, event, &reply);
                 Ok(reply)
             }
-            Err(refused) => {
-                drop(copy);
-                Err(refused)
-            }
+            Err(refused) => Err(refused),
         }
     }
 

@@ -6,7 +6,7 @@ ghost use Rattle.hv_policy.specs.declared.event.Caller.{Caller};
 ghost use Rattle.hv_threads.specs.ByCaller.{AreDifferent, AreTheirs, receipts_by};
 ghost use Rattle.hv_threads.specs.Counted.{IsCounted};
 ghost use Rattle.hv_threads.specs.Merge.{IsMerge};
-ghost use Rattle.hv_threads.specs.declared.held.Receipt.{Receipt};
+ghost use Rattle.hv_threads.specs.declared.receipts.Receipt.{Receipt};
 
 use std::alloc::Global;
 

@@ -11,12 +11,14 @@ mod gate;
 mod held;
 mod laws;
 mod phase;
+mod receipts;
 mod shared;
 
 pub use drive::DriveRefused;
 pub use fault::{SettleFault, SettleRefused};
 pub use gate::{Gate, Open};
-pub use held::{Held, Pass, Receipt, settle};
+pub use held::{Held, Pass, settle};
 pub use laws::{a_merge_counts_each_number_once, each_caller_did_what_its_pass_has};
 pub use phase::{Done, End, PhaseRefused, Task, Work, perform, run_phase, run_tasks};
+pub use receipts::{Receipt, ReceiptRef, Receipts};
 pub use shared::Shared;

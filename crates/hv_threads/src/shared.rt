@@ -4,7 +4,7 @@ ghost use Rattle.hv_abi.specs.declared.frame.Frame.{Frame};
 ghost use Rattle.hv_policy.specs.Next.{GoesOn};
 ghost use Rattle.hv_policy.specs.Result.{HasResult};
 ghost use Rattle.hv_policy.specs.declared.event.Action.TheVariants.{Hypercall};
-ghost use Rattle.hv_threads.specs.Pass.{IsSamePass, HasCalled};
+ghost use Rattle.hv_threads.specs.Pass.{HasCalled};
 ghost use Rattle.hv_threads.specs.Shared.{AreOpened};
 
 use crate::gate::Gate;
@@ -66,8 +66,7 @@ impl<L: Ledger> Shared<L> {
         Ok((shared, opened))
     }
 
-    /// Lets the pass's caller do one thing, and keeps its receipt. Room for the receipt and its event is made before the
-    /// gate is told; where the host has no memory for them, the gate isn't told.
+    /// Lets the pass's caller do one thing, and keeps its receipt.
     pub fn call<R: Wait, G: Gate>(
         &self,
         rt: &R,
@@ -76,24 +75,34 @@ impl<L: Ledger> Shared<L> {
         what: Action<Global>,
     ) -> Result<Reply, HostRefused>
         ensures called { IfOk result (λ r. HasCalled what r pass.old pass.new) }
-        ensures refused { OnErr result (IsSamePass pass.old pass.new) }
+        ensures refused { OnErr result (pass.new ≡ pass.old) }
 
         // A reply to a hypercall has a result value, and a call goes on with the element after the one that was served.
         ensures result { (frame : Frame Global) → what ≡ Hypercall frame → IfOk result HasResult }
         ensures next { IfOk result (λ r. GoesOn what r) }
     {
         let by = pass.caller();
+        self.happen(rt, pass, gate, &Event { by, what })
+    }
+
+    // Lets an event by the pass's caller happen, and keeps its receipt.
+    pub(crate) fn happen<R: Wait, G: Gate>(
+        &self,
+        rt: &R,
+        pass: &mut Pass<L>,
+        gate: &G,
+        event: &Event<Global>,
+    ) -> Result<Reply, HostRefused>
+        requires { event.now.by ≡ pass.old.caller }
+        ensures called { IfOk result (λ r. HasCalled event.now.what r pass.old pass.new) }
+        ensures refused { OnErr result (pass.new ≡ pass.old) }
+        ensures result { (frame : Frame Global) → event.now.what ≡ Hypercall frame → IfOk result HasResult }
+        ensures next { IfOk result (λ r. GoesOn event.now.what r) }
+    {
         let turn = pass.receipts().len() as u64;
-        let event = Event { by, what };
-        if pass.reserve(1).is_err() {
-            return Err(HostRefused::Memory);
-        }
-        let Ok(copy) = event.copy() else {
-            return Err(HostRefused::Memory);
-        };
-        gate.enter(by, turn);
-        let reply = self.held.lock(rt).hold(pass, event, copy);
-        gate.leave(by, turn);
+        gate.enter(event.by, turn);
+        let reply = self.held.lock(rt).hold(pass, event);
+        gate.leave(event.by, turn);
         reply
     }
 

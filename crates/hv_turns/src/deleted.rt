@@ -3,9 +3,10 @@ ghost use Rattle.std.specs.Prelude.{◌≡◌};
 
 use crate::calls::{both, call, open, passes_of, phase, root, settled};
 use crate::gates::Halt;
-use hv_abi::{Bytes, Frame};
-use hv_policy::{Action, Reply, Rule, result_of};
-use hv_threads::Receipt;
+use hv_abi::{Bytes, Frame, Status};
+use hv_history::{Answer, Asked};
+use hv_policy::Rule;
+use hv_threads::Receipts;
 use std::alloc::Global;
 use std::marker::Brand;
 use std::process::Abort;
@@ -37,33 +38,31 @@ fn read(alloc: Global) -> Result<Frame<Global>, Fail> {
 }
 
 // The deletion came behind three elements of the other processor's call.
-fn assert_deleted(rt: &impl Abort, receipts: &[Receipt]) {
+fn assert_deleted(rt: &impl Abort, receipts: &Receipts) {
     assert_eq!(rt; receipts.len(), 1);
-    assert_eq!(rt; receipts[0].number, 4);
-    assert!(rt; matches!(receipts[0].reply, Reply::Served(_)));
+    assert_eq!(rt; receipts.number(0), 4);
+    assert_eq!(rt; receipts.get(0).entry.answer, Answer::Served);
 }
 
 // Three elements were read, and the fourth was denied, as the processor is gone.
-fn assert_stopped(rt: &impl Abort, receipts: &[Receipt]) {
+fn assert_stopped(rt: &impl Abort, receipts: &Receipts) {
     assert_eq!(rt; receipts.len(), 4);
-    for (receipt, wanted) in receipts.iter().zip(1..4) {
-        assert!(rt; matches!(receipt.reply, Reply::More { next, .. } if next == wanted));
-    }
-    let last = &receipts[3];
-    assert!(rt;
-        matches!(
-            last.reply,
-            Reply::Denied {
-                rule: Rule::CallerVpExists,
-                reps: 3,
-                ..
-            }
-        )
-    );
-    let Action::Hypercall(frame) = &last.event.what else {
-        panic!(rt; "a call")
+    assert_eq!(rt; receipts.get(0).entry.answer, Answer::More { next: 1 });
+    assert_eq!(rt; receipts.get(1).entry.answer, Answer::More { next: 2 });
+    assert_eq!(rt; receipts.get(2).entry.answer, Answer::More { next: 3 });
+    let last = receipts.get(3);
+    let denied = Answer::Denied {
+        rule: Rule::CallerVpExists,
+        status: Status::InvalidVpIndex,
+        reps: 3,
     };
-    assert_eq!(rt; result_of(frame, &last.reply).bits(), 0x3_0000_000e);
+    assert_eq!(rt; last.entry.answer, denied);
+    let element = Asked::Hypercall {
+        rcx: 0x0003_0028_0000_0050,
+        rdx: 0,
+        r8: 0,
+    };
+    assert_eq!(rt; last.entry.asked, element);
     assert_eq!(rt; last.number, 5);
 }
 

@@ -3,9 +3,9 @@ ghost use Rattle.std.specs.Prelude.{◌≡◌};
 
 use crate::calls::{assert_pooled, call, numbers, open, settled};
 use hv_abi::ResultValue;
-use hv_history::HostRefused;
+use hv_history::{Answer, HostRefused};
 use hv_policy::{Action, Reply};
-use hv_threads::{DriveRefused, Open, Receipt, perform};
+use hv_threads::{DriveRefused, Open, Receipts, perform};
 use std::alloc::Global;
 use std::marker::Brand;
 use std::process::Abort;
@@ -26,11 +26,11 @@ fn assert_refused(rt: &impl Abort, answer: Result<(ResultValue, Reply), DriveRef
 }
 
 // There is one for the partition that was made, and one for each of two elements.
-fn assert_receipts(rt: &impl Abort, receipts: &[Receipt]) {
+fn assert_receipts(rt: &impl Abort, receipts: &Receipts) {
     assert_eq!(rt; receipts.len(), 3);
-    assert!(rt; matches!(receipts[0].reply, Reply::Served(_)));
-    assert!(rt; matches!(receipts[1].reply, Reply::More { next: 1, .. }));
-    assert!(rt; matches!(receipts[2].reply, Reply::More { next: 2, .. }));
+    assert_eq!(rt; receipts.get(0).entry.answer, Answer::Served);
+    assert_eq!(rt; receipts.get(1).entry.answer, Answer::More { next: 1 });
+    assert_eq!(rt; receipts.get(2).entry.answer, Answer::More { next: 2 });
 }
 
 fn refuses_as<L: Ledger, R: Abort + Wait>(rt: &R, alloc: Global, blank: Blank) -> Result<(), Fail>

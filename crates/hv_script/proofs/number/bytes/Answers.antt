@@ -1,8 +1,6 @@
-use Rattle.std.proofs.Common.{◌≡◌, ◌≢◌, ◌⊎◌, inl, inr, ◌≤◌, ◌%◌, true, false, length, codes, Err, refl, ap, sym, ◌∙◌, arith, rules}
+use Rattle.std.proofs.Common.{◌≡◌, ◌≤◌, ◌%◌, true, false, length, codes, Err, refl, ap, sym, ◌∙◌, arith, rules}
 use Rattle.std.proofs.lemmas.Result.{err_from_is_err_and}
 use Rattle.hv_script.specs.Number.{bytes_of}
-use Rattle.hv_script.specs.declared.fault.FaultKind.{FaultKind}
-use Rattle.hv_script.specs.declared.fault.FaultKind.TheVariants.{Hex, Memory}
 use Rattle.std.specs.Str.{bytes_eq}
 use Rattle.hv_script.proofs.NumberLemmas.{no_bytes, not_pairs, pairs_of_bytes}
 use Rattle.hv_script.proofs.number.bytes.Goals as goal
@@ -21,18 +19,12 @@ returns-then-word-ne0 g c =
       | then-word-ne0-via-else-word-ne0+then-word-gt-MOST_DIGITS w ↦ omega (arith, w.if-word-gt-MOST_DIGITS.true, short)
     ])
 
-hex_only : (kind : FaultKind) → (kind ≡ Hex) ⊎ (kind ≡ Memory) → kind ≢ Memory → Hex ≡ kind
-hex_only kind (inl hex) not_memory = sym hex
-hex_only kind (inr memory) not_memory = absurd (not_memory memory)
-
 pub returns-in_err-push_bytes : goal.returns-in_err-push_bytes
 returns-in_err-push_bytes g c =
     let word = c.args.word.now in
-    let kind = c.in_err-push_bytes.field-0.0 in
     let dash : bytes_eq word (codes "-") ≡ false = search rules in
     let p = err_from_is_err_and c.from_residual-in_err-push_bytes.result c.from_residual-in_err-push_bytes.ensures.1 in
-    rw (p.1, p.2) (λ not_memory. not_pairs word dash (λ digits even short. c.in_err-push_bytes.ensures.err not_memory digits)
-    ∙ ap Err (hex_only kind c.in_err-push_bytes.ensures.kinds not_memory))
+    rw (p.1, p.2) (λ _. not_pairs word dash (λ digits even short. c.in_err-push_bytes.ensures.err.1 digits) ∙ ap Err (sym c.in_err-push_bytes.ensures.err.0))
 
 pub returns : goal.returns
 returns g c =

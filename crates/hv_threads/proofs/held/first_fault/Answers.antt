@@ -3,7 +3,7 @@ use Rattle.std.proofs.Math.Seq.{map-set_same}
 use Rattle.hv_history.specs.History.{entries}
 use Rattle.hv_threads.specs.Merge.{MergesFrom, FailsFrom}
 use Rattle.hv_threads.specs.PassValue.{PassValue}
-use Rattle.hv_threads.specs.declared.held.Receipt.{Receipt}
+use Rattle.hv_threads.specs.declared.receipts.Receipt.{Receipt}
 use Rattle.hv_threads.proofs.Merging.{found, merges_on, fails_on, fails_here}
 use Rattle.hv_threads.proofs.Passes.{rests_after}
 use Rattle.hv_threads.proofs.held.first_fault.Goals as goal

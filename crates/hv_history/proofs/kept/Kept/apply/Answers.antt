@@ -15,18 +15,18 @@ step-requires g c =
 pub invariant_of-self-in-Ok : goal.invariant_of-self-in-Ok
 invariant_of-self-in-Ok g c =
     rw (c.push.ensures, c.reserve.ensures.same)
-    (longer _ c.args.event c.in-Ok.reply c.step.new.self c.self.invariant (room c.self.view_is c.self.invariant (c.if-is_full.ensures.1)) c.in-Ok.ensures.reply c.in-Ok.ensures.state)
+    (longer _ c.args.event.now c.in-Ok.reply c.step.new.self c.self.invariant (room c.self.view_is c.self.invariant (c.if-is_full.ensures.1)) c.in-Ok.ensures.reply c.in-Ok.ensures.state)
 
 pub returns-in-Ok-clause-run : goal.returns-in-Ok-clause-run
 returns-in-Ok-clause-run g c =
     rw (c.push.ensures, c.reserve.ensures.same)
-    (longer _ c.args.event c.in-Ok.reply c.step.new.self c.self.invariant (room c.self.view_is c.self.invariant (c.if-is_full.ensures.1)) c.in-Ok.ensures.reply c.in-Ok.ensures.state)
+    (longer _ c.args.event.now c.in-Ok.reply c.step.new.self c.self.invariant (room c.self.view_is c.self.invariant (c.if-is_full.ensures.1)) c.in-Ok.ensures.reply c.in-Ok.ensures.state)
 
 -- where the reply says that the call goes on, the element that it names has an index
 pub push-requires-clause-index : goal.push-requires-clause-index
 push-requires-clause-index g c =
-    has_index _ _ (subst (GoesOn c.args.event.what) (sym (c.in-Ok.ensures.reply _ c.self.invariant.machine)) (goes_on _ c.args.event))
+    has_index _ _ (subst (GoesOn c.args.event.now.what) (sym (c.in-Ok.ensures.reply _ c.self.invariant.machine)) (goes_on _ c.args.event.now))
 
 pub returns-in-Ok-clause-next : goal.returns-in-Ok-clause-next
 returns-in-Ok-clause-next g c =
-    subst (GoesOn c.args.event.what) (sym (c.in-Ok.ensures.reply _ c.self.invariant.machine)) (goes_on _ c.args.event)
+    subst (GoesOn c.args.event.now.what) (sym (c.in-Ok.ensures.reply _ c.self.invariant.machine)) (goes_on _ c.args.event.now)

@@ -1,14 +1,20 @@
-use Rattle.std.proofs.Common.{◌∙◌, sym, rules, tests}
-use Rattle.std.specs.Array.Iter.{array_into_iter_items, array_steps}
+use Rattle.std.proofs.Common.{◌≡◌, ◌≢◌, ℕ, List, length, nat_eq, codes, false, refl, arith}
+use Rattle.std.specs.Cmp.Lexicographic.{unequal}
 use Rattle.std.specs.Str.{bytes_eq}
-use Rattle.std.proofs.lemmas.Iterator.Adapters.{option_map_id}
-use Rattle.std.proofs.lemmas.Iterator.Consumers.{YieldsList-from_shown}
-use Rattle.std.proofs.lemmas.Iterator.Search.{find_from_yields_List}
-use Rattle.hv_script.specs.Verb.{word_of}
 use Rattle.hv_script.proofs.verb.Verb.of.Goals as goal
 
-pub returns : goal.returns
-returns c =
-    let chain = YieldsList-from_shown array_steps (λ x. x) array_into_iter_items (λ s t e. e.0) (λ s x t e. e) c.into_iter.result in
-    let first = find_from_yields_List (λ verb. bytes_eq (word_of verb) c.args.word.now) _ _ c.find.result c.find.ensures.ran chain (λ x b q k. search (rules, tests)) in
-    sym (option_map_id c.find.result) ∙ rw c.into_iter.ensures.into_iter_gives.0 at first
+pub returns-in_default-22 : goal.returns-in_default-22
+returns-in_default-22 c =
+    let few = c.in_default.len_below in
+    let many = c.in_default.len_at_least in
+    let other : (known : List ℕ) → (length known ≢ length c.args.word.now) → bytes_eq known c.args.word.now ≡ false = λ known no. unequal nat_eq known c.args.word.now no in
+    rw (
+      other (codes "call") (λ e. omega (arith, few, many, e)),
+      other (codes "rdmsr") (λ e. omega (arith, few, many, e)),
+      other (codes "wrmsr") (λ e. omega (arith, few, many, e)),
+      other (codes "slot") (λ e. omega (arith, few, many, e)),
+      other (codes "clearslot") (λ e. omega (arith, few, many, e)),
+      other (codes "flags") (λ e. omega (arith, few, many, e)),
+      other (codes "clearflag") (λ e. omega (arith, few, many, e)),
+      other (codes "interrupt") (λ e. omega (arith, few, many, e)),
+    ) refl

@@ -1,0 +1,9 @@
+use Rattle.std.proofs.Common.{sym, ◌∙◌}
+use Rattle.hv_history.specs.History.{entries}
+use Rattle.hv_threads.proofs.Packed.{more}
+use Rattle.hv_threads.proofs.receipts.Receipts.push.Goals as goal
+
+pub returns : goal.returns
+returns c =
+    let r = c.args.self.now in
+    rw (c.push_reserved.ensures.items, c.push.ensures) (more r.numbers.items (entries r.packed) _ _ (sym r.numbers.ok.0 ∙ r.each))

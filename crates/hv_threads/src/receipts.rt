@@ -1,0 +1,92 @@
+// What a thread was told of its events, packed as a history is, with a number beside each entry.
+ghost use Rattle.std.specs.Prelude.{◌≡◌, ◌<◌, ◌++◌, [], ◌∷◌, OnOk, Some, length, option_map, slice_get, vec_len};
+ghost use Rattle.hv_defs.specs.declared.sizes.TheConstants.{REPS_END};
+ghost use Rattle.hv_history.specs.History.{entries};
+ghost use Rattle.hv_history.specs.Row.{next_in};
+
+use hv_history::{EntryRef, History};
+use hv_policy::{Event, Reply};
+use std::alloc::{AllocError, Global};
+
+/// That an event stands in the history at this number, counted from 1, with this reply, as contracts see it.
+#[derive(Drop)]
+pub struct Receipt {
+    pub number: u64,
+    pub event: Event<Global>,
+    pub reply: Reply,
+}
+
+/// A receipt, borrowed from a pass.
+#[derive(Clone, Copy)]
+pub struct ReceiptRef<'p> {
+    pub number: u64,
+    pub entry: EntryRef<'p>,
+}
+
+/// The receipts of one thread's events, in the order in which they happened.
+#[derive(Drop)]
+pub struct Receipts {
+    pub(crate) numbers: Vec<u64>,
+    pub(crate) packed: History<Global>,
+    ghost each: { vec_len numbers ≡ length (entries packed) },
+}
+
+impl Receipts {
+    ghost use Rattle.hv_threads.specs.Pass.{receipt};
+    ghost use Rattle.hv_threads.specs.Receipts.{HasRoom, list_of, receipt_by};
+
+    // No receipts.
+    pub(crate) fn new(alloc: Global) -> Receipts
+        ensures { list_of result ≡ [] }
+    {
+        Receipts {
+            numbers: Vec::new(alloc),
+            packed: History::new(alloc, alloc, alloc, alloc),
+        }
+    }
+
+    /// How many there are.
+    pub fn len(&self) -> usize
+        ensures { result ≡ length (list_of self.now) }
+    {
+        self.numbers.len()
+    }
+
+    /// The number of the one at a place, counted from 0.
+    pub fn number(&self, at: usize) -> u64
+        requires { at < length (list_of self.now) }
+        ensures { option_map (λ r. r.number) (slice_get (list_of self.now) at) ≡ Some result }
+    {
+        self.numbers[at]
+    }
+
+    /// The one at a place, counted from 0.
+    pub fn get(&self, at: usize) -> ReceiptRef<'_>
+        requires { at < length (list_of self.now) }
+        ensures { slice_get (list_of self.now) at ≡ Some (receipt_by result) }
+    {
+        ReceiptRef {
+            number: self.numbers[at],
+            entry: self.packed.entry(at),
+        }
+    }
+
+    // Makes room for a receipt of this event.
+    pub(crate) fn reserve(&mut self, event: &Event<Global>) -> Result<(), AllocError>
+        ensures same { list_of self.new ≡ list_of self.old }
+        ensures room { OnOk result (HasRoom self.new event.now) }
+    {
+        self.numbers.reserve(1)?;
+        self.packed.reserve(event)
+    }
+
+    // Adds a receipt, for which there is room.
+    pub(crate) fn push(&mut self, number: u64, event: &Event<Global>, reply: &Reply)
+        requires room { HasRoom self.old event.now }
+        requires index { next_in reply.now < REPS_END }
+        ensures { list_of self.new ≡ list_of self.old ++ receipt number event.now reply.now ∷ [] }
+    {
+        self.numbers.push_reserved(number);
+        self.packed.push(event, reply);
+    }
+}
