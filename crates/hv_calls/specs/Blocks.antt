@@ -1,19 +1,15 @@
 -- The blocks: where each call's parameters stand in its input. A field is written as its offset and its size in
 -- bytes, little-endian; `element` is the place at which a rep call's element begins. Bytes that no field covers
 -- aren't read.
-use Rattle.std.specs.Prelude.{ℕ, zero, suc, ◌+◌, ◌==◌, if◌then◌else◌, List, [], ◌∷◌, slice_index}
+use Rattle.std.specs.Prelude.{ℕ, ◌+◌, ◌==◌, if◌then◌else◌, List}
 use Rattle.hv_abi.specs.declared.call_kind.CallKind.{CallKind}
 use Rattle.hv_abi.specs.declared.call_kind.CallKind.TheVariants as kind
 use Rattle.hv_defs.specs.Field.{field}
 use Rattle.hv_defs.specs.declared.port_kind.PortKind.{PortKind}
 use Rattle.hv_defs.specs.declared.port_kind.PortKind.TheVariants.{Message, Event}
+use Rattle.hv_calls.specs.Bytes.{bytes_at}
 use Rattle.hv_calls.specs.declared.call.Call.{Call}
 use Rattle.hv_calls.specs.declared.call.Call.TheVariants.{CreatePartition, InitializePartition, FinalizePartition, DeletePartition, GetPartitionProperty, SetPartitionProperty, GetPartitionId, GetNextChildPartition, DepositMemory, WithdrawMemory, GetMemoryBalance, CreateVp, DeleteVp, GetVpRegisters, SetVpRegisters, DeletePort, DisconnectPort, PostMessage, SignalEvent, CreatePort, ConnectPort}
-
--- the `count` bytes from place `at`, where each byte past the end is 0
-abbrev pub bytes_at : List ℕ → ℕ → ℕ → List ℕ
-bytes_at block at zero = []
-bytes_at block at (suc count) = slice_index block at ∷ bytes_at block (at + 1) count
 
 -- what a port of this PortType takes: 1 is messages, 2 event flags, and every other number is malformed
 abbrev pub port_kind : ℕ → PortKind

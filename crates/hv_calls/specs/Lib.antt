@@ -1,4 +1,5 @@
 pub mod Blocks
+pub mod Bytes
 pub mod Call
 pub mod Params
 pub mod WellFormed

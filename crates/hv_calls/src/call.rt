@@ -10,7 +10,7 @@ use hv_defs::PortKind;
 ///
 /// A `partition` is the id of the partition that the call is about, and may be all ones, for the caller's own.
 #[derive(Drop)]
-pub enum Call {
+pub enum Call<'f> {
     CreatePartition {
         /// Of any value, with no effect.
         flags: u64,
@@ -83,7 +83,8 @@ pub enum Call {
     PostMessage {
         connection: u32,
         message_type: u32,
-        payload: Payload,
+        /// It stays where the frame holds it.
+        payload: Payload<'f>,
     },
     SignalEvent {
         connection: u32,
@@ -114,7 +115,7 @@ pub enum Call {
     },
 }
 
-impl Call {
+impl<'f> Call<'f> {
     ghost use Rattle.hv_calls.specs.Call.{kind_of_call};
 
     /// Which call it is.

@@ -20,7 +20,7 @@ pub struct Malformed;
 
 /// The call that a frame holds, with its parameters, or Malformed where one of them is so by itself. Bytes that
 /// the frame lacks at its end read as zero. The shape is to be this frame's, from [`Frame::check`].
-pub fn decode<A: Allocator>(frame: &Frame<A>, shape: &Shape) -> Result<Call, Malformed>
+pub fn decode<'f, A: Allocator>(frame: &'f Frame<A>, shape: &Shape) -> Result<Call<'f>, Malformed>
     requires { IsShape frame.now shape.now }
     ensures ok { IfOk result (Params frame.now shape.now.kind) }
     ensures only { (c : TypedCall) → Params frame.now shape.now.kind c → result ≡ Ok c }
@@ -40,28 +40,38 @@ fn element_at(shape: &Shape) -> usize
 }
 
 // The call of a frame, of whose element the place is given.
-fn decode_at<A: Allocator>(
-    frame: &Frame<A>,
+fn decode_at<'f, A: Allocator>(
+    frame: &'f Frame<A>,
     shape: &Shape,
     element: usize,
-) -> Result<Call, Malformed>
+) -> Result<Call<'f>, Malformed>
     requires { element < 2 ^ 32 }
     ensures { result ≡ decoded shape.now.kind (input_of frame.now shape.now.fast) element }
 {
-    // In most calls the first parameter is a partition's id.
-    let partition = u64_at(frame, shape, 0);
     match shape.kind {
-        CallKind::CreatePartition => Ok(Call::CreatePartition { flags: partition }),
-        CallKind::InitializePartition => Ok(Call::InitializePartition { partition }),
-        CallKind::FinalizePartition => Ok(Call::FinalizePartition { partition }),
-        CallKind::DeletePartition => Ok(Call::DeletePartition { partition }),
+        CallKind::CreatePartition => Ok(Call::CreatePartition {
+            flags: u64_at(frame, shape, 0),
+        }),
+        CallKind::InitializePartition => Ok(Call::InitializePartition {
+            partition: u64_at(frame, shape, 0),
+        }),
+        CallKind::FinalizePartition => Ok(Call::FinalizePartition {
+            partition: u64_at(frame, shape, 0),
+        }),
+        CallKind::DeletePartition => Ok(Call::DeletePartition {
+            partition: u64_at(frame, shape, 0),
+        }),
         CallKind::GetPartitionProperty => Ok(get_partition_property(frame, shape)),
         CallKind::SetPartitionProperty => Ok(set_partition_property(frame, shape)),
         CallKind::GetPartitionId => Ok(Call::GetPartitionId),
         CallKind::GetNextChildPartition => Ok(get_next_child_partition(frame, shape)),
         CallKind::DepositMemory => Ok(deposit_memory(frame, shape, element)),
-        CallKind::WithdrawMemory => Ok(Call::WithdrawMemory { partition }),
-        CallKind::GetMemoryBalance => Ok(Call::GetMemoryBalance { partition }),
+        CallKind::WithdrawMemory => Ok(Call::WithdrawMemory {
+            partition: u64_at(frame, shape, 0),
+        }),
+        CallKind::GetMemoryBalance => Ok(Call::GetMemoryBalance {
+            partition: u64_at(frame, shape, 0),
+        }),
         CallKind::CreateVp => Ok(create_vp(frame, shape)),
         CallKind::DeleteVp => Ok(delete_vp(frame, shape)),
         CallKind::GetVpRegisters => Ok(get_vp_registers(frame, shape, element)),
@@ -75,7 +85,7 @@ fn decode_at<A: Allocator>(
     }
 }
 
-fn get_partition_property<A: Allocator>(frame: &Frame<A>, shape: &Shape) -> Call
+fn get_partition_property<A: Allocator>(frame: &Frame<A>, shape: &Shape) -> Call<'static>
     ensures { result ≡ call_in CallKind.GetPartitionProperty (input_of frame.now shape.now.fast) 0 }
 {
     Call::GetPartitionProperty {
@@ -84,7 +94,7 @@ fn get_partition_property<A: Allocator>(frame: &Frame<A>, shape: &Shape) -> Call
     }
 }
 
-fn set_partition_property<A: Allocator>(frame: &Frame<A>, shape: &Shape) -> Call
+fn set_partition_property<A: Allocator>(frame: &Frame<A>, shape: &Shape) -> Call<'static>
     ensures { result ≡ call_in CallKind.SetPartitionProperty (input_of frame.now shape.now.fast) 0 }
 {
     Call::SetPartitionProperty {
@@ -94,7 +104,7 @@ fn set_partition_property<A: Allocator>(frame: &Frame<A>, shape: &Shape) -> Call
     }
 }
 
-fn get_next_child_partition<A: Allocator>(frame: &Frame<A>, shape: &Shape) -> Call
+fn get_next_child_partition<A: Allocator>(frame: &Frame<A>, shape: &Shape) -> Call<'static>
     ensures { result ≡ call_in CallKind.GetNextChildPartition (input_of frame.now shape.now.fast) 0 }
 {
     Call::GetNextChildPartition {
@@ -103,7 +113,7 @@ fn get_next_child_partition<A: Allocator>(frame: &Frame<A>, shape: &Shape) -> Ca
     }
 }
 
-fn deposit_memory<A: Allocator>(frame: &Frame<A>, shape: &Shape, element: usize) -> Call
+fn deposit_memory<A: Allocator>(frame: &Frame<A>, shape: &Shape, element: usize) -> Call<'static>
     requires { element < 2 ^ 32 }
     ensures { result ≡ call_in CallKind.DepositMemory (input_of frame.now shape.now.fast) element }
 {
@@ -113,7 +123,7 @@ fn deposit_memory<A: Allocator>(frame: &Frame<A>, shape: &Shape, element: usize)
     }
 }
 
-fn create_vp<A: Allocator>(frame: &Frame<A>, shape: &Shape) -> Call
+fn create_vp<A: Allocator>(frame: &Frame<A>, shape: &Shape) -> Call<'static>
     ensures { result ≡ call_in CallKind.CreateVp (input_of frame.now shape.now.fast) 0 }
 {
     Call::CreateVp {
@@ -122,7 +132,7 @@ fn create_vp<A: Allocator>(frame: &Frame<A>, shape: &Shape) -> Call
     }
 }
 
-fn delete_vp<A: Allocator>(frame: &Frame<A>, shape: &Shape) -> Call
+fn delete_vp<A: Allocator>(frame: &Frame<A>, shape: &Shape) -> Call<'static>
     ensures { result ≡ call_in CallKind.DeleteVp (input_of frame.now shape.now.fast) 0 }
 {
     Call::DeleteVp {
@@ -131,7 +141,7 @@ fn delete_vp<A: Allocator>(frame: &Frame<A>, shape: &Shape) -> Call
     }
 }
 
-fn get_vp_registers<A: Allocator>(frame: &Frame<A>, shape: &Shape, element: usize) -> Call
+fn get_vp_registers<A: Allocator>(frame: &Frame<A>, shape: &Shape, element: usize) -> Call<'static>
     requires { element < 2 ^ 32 }
     ensures { result ≡ call_in CallKind.GetVpRegisters (input_of frame.now shape.now.fast) element }
 {
@@ -146,7 +156,7 @@ fn set_vp_registers<A: Allocator>(
     frame: &Frame<A>,
     shape: &Shape,
     element: usize,
-) -> Result<Call, Malformed>
+) -> Result<Call<'static>, Malformed>
     requires { element < 2 ^ 32 }
     ensures { result ≡ decoded CallKind.SetVpRegisters (input_of frame.now shape.now.fast) element }
 {
@@ -162,7 +172,7 @@ fn set_vp_registers<A: Allocator>(
     })
 }
 
-fn delete_port<A: Allocator>(frame: &Frame<A>, shape: &Shape) -> Result<Call, Malformed>
+fn delete_port<A: Allocator>(frame: &Frame<A>, shape: &Shape) -> Result<Call<'static>, Malformed>
     ensures { result ≡ decoded CallKind.DeletePort (input_of frame.now shape.now.fast) 0 }
 {
     let partition = u64_at(frame, shape, 0);
@@ -173,7 +183,10 @@ fn delete_port<A: Allocator>(frame: &Frame<A>, shape: &Shape) -> Result<Call, Ma
     Ok(Call::DeletePort { partition, port })
 }
 
-fn disconnect_port<A: Allocator>(frame: &Frame<A>, shape: &Shape) -> Result<Call, Malformed>
+fn disconnect_port<A: Allocator>(
+    frame: &Frame<A>,
+    shape: &Shape,
+) -> Result<Call<'static>, Malformed>
     ensures { result ≡ decoded CallKind.DisconnectPort (input_of frame.now shape.now.fast) 0 }
 {
     let partition = u64_at(frame, shape, 0);
@@ -187,7 +200,7 @@ fn disconnect_port<A: Allocator>(frame: &Frame<A>, shape: &Shape) -> Result<Call
     })
 }
 
-fn post_message<A: Allocator>(frame: &Frame<A>, shape: &Shape) -> Result<Call, Malformed>
+fn post_message<'f, A: Allocator>(frame: &'f Frame<A>, shape: &Shape) -> Result<Call<'f>, Malformed>
     ensures { result ≡ decoded CallKind.PostMessage (input_of frame.now shape.now.fast) 0 }
 {
     let connection = u32_at(frame, shape, 0);
@@ -203,7 +216,7 @@ fn post_message<A: Allocator>(frame: &Frame<A>, shape: &Shape) -> Result<Call, M
     })
 }
 
-fn signal_event<A: Allocator>(frame: &Frame<A>, shape: &Shape) -> Result<Call, Malformed>
+fn signal_event<A: Allocator>(frame: &Frame<A>, shape: &Shape) -> Result<Call<'static>, Malformed>
     ensures { result ≡ decoded CallKind.SignalEvent (input_of frame.now shape.now.fast) 0 }
 {
     let connection = u32_at(frame, shape, 0);
@@ -214,7 +227,7 @@ fn signal_event<A: Allocator>(frame: &Frame<A>, shape: &Shape) -> Result<Call, M
     Ok(Call::SignalEvent { connection, flag })
 }
 
-fn create_port<A: Allocator>(frame: &Frame<A>, shape: &Shape) -> Result<Call, Malformed>
+fn create_port<A: Allocator>(frame: &Frame<A>, shape: &Shape) -> Result<Call<'static>, Malformed>
     ensures { result ≡ decoded CallKind.CreatePort (input_of frame.now shape.now.fast) 0 }
 {
     let port = u32_at(frame, shape, 8);
@@ -241,7 +254,7 @@ fn create_port<A: Allocator>(frame: &Frame<A>, shape: &Shape) -> Result<Call, Ma
     })
 }
 
-fn connect_port<A: Allocator>(frame: &Frame<A>, shape: &Shape) -> Result<Call, Malformed>
+fn connect_port<A: Allocator>(frame: &Frame<A>, shape: &Shape) -> Result<Call<'static>, Malformed>
     ensures { result ≡ decoded CallKind.ConnectPort (input_of frame.now shape.now.fast) 0 }
 {
     let connection = u32_at(frame, shape, 8);

@@ -39,6 +39,11 @@ fn bytes_at<A: Allocator, const N: usize>(frame: &Frame<A>, shape: &Shape, at: u
     ensures bytes { (k : ℕ) → k < N → slice_index result k ≡ slice_index (input_of frame.now shape.now.fast) (at + k) }
 {
     let mut bytes = [0; N];
+    let input = frame.input.as_slice();
+    if !shape.fast && at + N <= input.len() {
+        bytes.copy_from_slice(&input[at..at + N]);
+        return bytes;
+    }
     for i in 0..N {
         bytes[i] = frame.byte(shape, at + i);
     }

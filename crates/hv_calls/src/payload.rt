@@ -1,62 +1,79 @@
 // The payload of a message.
-ghost use Rattle.std.specs.Prelude.{◌≡◌, ◌^◌, ◌≤◌, ◌<◌};
+ghost use Rattle.std.specs.Prelude.{◌≡◌, ◌≤◌, drop, slice_index};
 ghost use Rattle.hv_abi.specs.Check.{input_of};
-ghost use Rattle.hv_calls.specs.Blocks.{bytes_at};
+ghost use Rattle.hv_calls.specs.Bytes.{bytes_at};
 
 use arrayvec::ArrayVec;
 use hv_abi::{Frame, Shape};
 use std::alloc::Allocator;
 use std::marker::Model;
 
-/// The bytes of a message, at most 240.
-#[derive(Debug, Drop)]
-pub struct Payload {
-    bytes: ArrayVec<u8, 240>,
+/// The bytes of a message, at most 240, where its frame holds them.
+#[derive(Drop)]
+pub struct Payload<'f> {
+    // The input from the payload's first byte on, which may end before the payload does.
+    rest: &'f [u8],
+    len: usize,
 }
 
-impl Model for Payload {
-    ghost use Rattle.std.specs.Prelude.{List, ℕ};
+impl<'f> Model for Payload<'f> {
+    ghost use Rattle.std.specs.Prelude.{List, ℕ, ◌≤◌};
+    ghost use Rattle.hv_calls.specs.Bytes.{bytes_at};
 
     ghost Value = { List ℕ };
 
-    ghost view = { λ p. p.bytes.items };
+    ghost view = { λ p. bytes_at p.rest.now 0 p.len };
+
+    ghost invariant = { λ p. p.len ≤ 240 };
 }
 
-impl Payload {
+impl<'f> Payload<'f> {
     // The bytes of a call's input from a place on, where those past the input's end are zero.
     pub(crate) fn read<A: Allocator>(
-        frame: &Frame<A>,
+        frame: &'f Frame<A>,
         shape: &Shape,
         at: usize,
         len: usize,
-    ) -> Payload
-        requires place { at < 2 ^ 32 }
+    ) -> Payload<'f>
+        requires registers { 16 ≤ at }
         requires fits { len ≤ 240 }
         ensures { result ≡ bytes_at (input_of frame.now shape.now.fast) at len }
     {
-        let mut bytes = ArrayVec::new();
-        for i in 0..len {
-            bytes.push(frame.byte(shape, at + i));
+        Payload {
+            rest: rest(frame, shape, at),
+            len,
         }
-        Payload { bytes }
     }
 
     /// A copy of the bytes.
     pub fn to_array(&self) -> ArrayVec<u8, 240>
         ensures { result.items ≡ self.now }
     {
-        let own = &self.bytes;
+        let rest = self.rest;
         let mut bytes = ArrayVec::new();
-        let Ok(()) = bytes.try_extend_from_slice(own.as_slice()) else {
-            unreachable!()
-        };
+        for i in 0..self.len {
+            bytes.push(byte(rest, i));
+        }
         bytes
     }
+}
 
-    /// The bytes, in the order in which they stand in the input.
-    pub fn as_slice(&self) -> &[u8]
-        ensures { result.now ≡ self.now }
-    {
-        self.bytes.as_slice()
+// The input from a place on that is past the registers of a fast call.
+fn rest<'f, A: Allocator>(frame: &'f Frame<A>, shape: &Shape, at: usize) -> &'f [u8]
+    requires { 16 ≤ at }
+    ensures { result.now ≡ drop at (input_of frame.now shape.now.fast) }
+{
+    let input = frame.input.as_slice();
+    if shape.fast || input.len() < at {
+        &[]
+    } else {
+        &input[at..]
     }
+}
+
+// The byte at a place, or 0 past the end.
+fn byte(bytes: &[u8], at: usize) -> u8
+    ensures { result ≡ slice_index bytes.now at }
+{
+    bytes.get(at).copied().unwrap_or(0)
 }

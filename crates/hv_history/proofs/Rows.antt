@@ -2,9 +2,11 @@
 use Rattle.std.proofs.Common.{◌≡◌, ℕ, ◌+◌, ◌≤◌, List, [], ◌∷◌, ◌++◌, length, take, drop, refl, sym, ap, subst, ◌∙◌, arith}
 use Rattle.std.proofs.lemmas.List.{take-append-drop, take-append-le, drop-append-le, length-drop, map-append, get_or_append_left}
 use Rattle.std.proofs.lemmas.List.Elements.{All-head, All-tail}
+use Rattle.hv_defs.specs.Slot.{zeros}
+use Rattle.hv_policy.specs.Parts.{reply_of}
 use Rattle.hv_policy.specs.declared.event.Event.{Event}
 use Rattle.hv_policy.specs.declared.reply.Reply.{Reply}
-use Rattle.hv_history.specs.Row.{ArePlaced, AreWithin, IsPlaced, action_of, asked_in, bytes_at, entries_of, entry_from, entry_of, head_at, reply_of}
+use Rattle.hv_history.specs.Row.{ArePlaced, AreWithin, IsPlaced, action_of, asked_in, bytes_at, entries_of, entry_from, entry_of, head_at}
 use Rattle.hv_history.specs.declared.entry.Entry.{Entry}
 use Rattle.hv_history.specs.declared.row.Head.{Head}
 use Rattle.hv_history.specs.declared.row.Row.{Row}
@@ -23,7 +25,7 @@ module _ {A : Type 0} where
   -- what a row with this head stands for
   abbrev under : Head → List ℕ → List ℕ → Row → Entry A
   under head inputs outputs row =
-      entry_from head.by (asked_in row.kind row.first row.second head.r8) (bytes_at inputs head.input_start head.input_len) row.answer (bytes_at outputs row.output_start row.output_len)
+      entry_from head.by (asked_in row.kind row.first row.second head.r8) (bytes_at inputs head.input_start head.input_len) row.answer (bytes_at outputs row.output_start row.output_len ++ zeros row.output_zeros)
 
   -- rows stand for the same among more heads and more bytes
   same-more : (heads more_heads : List Head) (inputs more_inputs outputs more_outputs : List ℕ) (rows : List Row)
@@ -38,7 +40,7 @@ module _ {A : Type 0} where
       let output = bytes-more outputs more_outputs row.output_start row.output_len here.output in
       let rest = same-more heads more_heads inputs more_inputs outputs more_outputs rows within (All-tail (IsPlaced (length heads) (length outputs)) row rows placed) in
       ap (λ h. under h (inputs ++ more_inputs) (outputs ++ more_outputs) row ∷ entries_of (heads ++ more_heads) (inputs ++ more_inputs) (outputs ++ more_outputs) rows) same
-      ∙ (λ i. record { event = record { by = head.by; what = action_of (asked_in row.kind row.first row.second head.r8) (input i) }; reply = reply_of row.answer (output i) } ∷ rest i)
+      ∙ (λ i. record { event = record { by = head.by; what = action_of (asked_in row.kind row.first row.second head.r8) (input i) }; reply = reply_of row.answer (output i ++ zeros row.output_zeros) } ∷ rest i)
 
   -- one row more, with its head among the heads and its output among the outputs, is one event more
   pub pushed : (head_len in_len out_len : ℕ) (heads new_heads : List Head) (inputs new_inputs outputs new_outputs : List ℕ) (rows : List Row) (row : Row) (event : Event A) (reply : Reply) (input output : List ℕ)
@@ -49,7 +51,7 @@ module _ {A : Type 0} where
       → bytes_at new_inputs (head_at new_heads row.head).input_start (head_at new_heads row.head).input_len ≡ input
       → action_of (asked_in row.kind row.first row.second (head_at new_heads row.head).r8) input ≡ event.what
       → bytes_at new_outputs row.output_start row.output_len ≡ output
-      → reply_of row.answer output ≡ reply
+      → reply_of row.answer (output ++ zeros row.output_zeros) ≡ reply
       → entries_of new_heads new_inputs new_outputs (rows ++ row ∷ []) ≡ entries_of heads inputs outputs rows ++ record { event = event; reply = reply } ∷ []
   pushed head_len in_len out_len heads new_heads inputs new_inputs outputs new_outputs rows row event reply input output hs ins outs hs_front ins_front outs_front within placed by asks what puts told =
       let all_within = subst (λ n. AreWithin n heads) ins within in
@@ -57,7 +59,8 @@ module _ {A : Type 0} where
       let head = head_at new_heads row.head in
       let asked : action_of (asked_in row.kind row.first row.second head.r8) (bytes_at new_inputs head.input_start head.input_len) ≡ event.what =
       ap (action_of (asked_in row.kind row.first row.second head.r8)) asks ∙ what in
-      let answered : reply_of row.answer (bytes_at new_outputs row.output_start row.output_len) ≡ reply = ap (reply_of row.answer) puts ∙ told in
+      let answered : reply_of row.answer (bytes_at new_outputs row.output_start row.output_len ++ zeros row.output_zeros) ≡ reply =
+      ap (λ (bytes : List ℕ). reply_of row.answer (bytes ++ zeros row.output_zeros)) puts ∙ told in
       let entry : entry_of new_heads new_inputs new_outputs row ≡ record { event = event; reply = reply } =
       λ i. record { event = record { by = by i; what = asked i }; reply = answered i } in
       let hs_more = extends head_len heads new_heads hs hs_front in

@@ -1,10 +1,14 @@
 -- A run that goes on by one event.
-use Rattle.std.proofs.Common.{◌≡◌, ℕ, ◌≤◌, ◌<◌, List, [], ◌∷◌, ◌++◌, length, true, false, IsTrue, refl, sym, ap, ◌∙◌, arith, length-append}
+use Rattle.std.proofs.Common.{◌≡◌, ℕ, ◌≤◌, ◌<◌, List, [], ◌∷◌, ◌++◌, length, true, false, IsTrue, refl, sym, subst, ap, ◌∙◌, arith, length-append}
 use Rattle.std.proofs.lemmas.List.{length-map, map-append}
 use Rattle.hv_laws.proofs.Counted.{run_few}
+use Rattle.hv_laws.proofs.Replies.{goes_on}
 use Rattle.hv_policy.specs.Boot.{boot}
 use Rattle.hv_policy.specs.Flat.{Flat}
+use Rattle.hv_policy.specs.Parts.{reply_of}
 use Rattle.hv_policy.specs.Step.{run, run_from, step}
+use Rattle.hv_policy.specs.declared.answer.Answer.{Answer}
+use Rattle.hv_policy.specs.declared.answer.Answer.TheVariants as answer
 use Rattle.hv_policy.specs.declared.config.Config.{Config}
 use Rattle.hv_policy.specs.Next.{GoesOn}
 use Rattle.hv_policy.specs.declared.event.Action.{Action}
@@ -16,7 +20,7 @@ use Rattle.hv_defs.specs.declared.sizes.TheConstants.{REPS_END}
 use Rattle.hv_machine.specs.IsFlat.{IsFlat}
 use Rattle.hv_machine.specs.State.{State}
 use Rattle.hv_history.specs.Row.{events_of, next_in, replies_of}
-use Rattle.hv_history.specs.Kept.{Kept, IsRun}
+use Rattle.hv_history.specs.Kept.{HasStepped, HasTaken, Kept, IsRun}
 use Rattle.hv_history.specs.declared.entry.Entry.{Entry}
 
 pub run-push : {A : Type 0} (f : Flat) (events : List (Event A)) (e : Event A)
@@ -74,3 +78,35 @@ has_index (ClearFlag sint flag) (More next output) on = absurd on
 has_index TakeInterrupt (More next output) on = absurd on
 has_index what (Denied rule status reps) on = omega arith
 has_index what (Fault rule) on = omega arith
+
+-- and that index is the same whatever was put out
+pub any_output : (answer : Answer) (output : List ℕ) → next_in (reply_of answer output) ≡ next_in (reply_of answer [])
+any_output answer.Served output = refl
+any_output (answer.More next) output = refl
+any_output (answer.Denied rule status reps) output = refl
+any_output (answer.Fault rule) output = refl
+
+module _ {A : Type 0} (f : Flat) (event : Event A) (reply : Reply) (told : reply ≡ (step f event).1) where
+  -- a call goes on with the element after the one that was served
+  pub on : GoesOn event.what reply
+  on = subst (GoesOn event.what) (sym told) (goes_on f event)
+
+  pub next_index : (answer : Answer) (output : List ℕ) → reply_of answer output ≡ reply → next_in (reply_of answer []) < REPS_END
+  next_index answer output same = subst (λ n. n < REPS_END) (ap next_in (sym same) ∙ any_output answer output) (has_index event.what reply on)
+
+module _ {A : Type 0} (k : Kept A) (event : Event A) (m : State) (history : List (Entry A)) (took : HasStepped event k.machine k.history m history) where
+  abbrev pub new_of : Kept A
+  new_of = record { config = k.config; limit = k.limit; history = history; machine = m }
+
+  -- a run whose machine took an event is a run with that event more
+  pub is_run : IsRun k → length k.history < k.limit → IsRun new_of
+  is_run is room = rw (took.pushed) (longer k event took.reply m is room took.told took.made)
+
+  pub has_taken : IsRun k → HasTaken event k new_of
+  has_taken is = record {
+    reply = took.reply;
+    gained = record { history = took.pushed; config = refl; limit = refl };
+    asked = took.asked;
+    result = took.result;
+    next = on (run k.config (events_of k.history)).0 event took.reply (took.told _ is.machine);
+  }

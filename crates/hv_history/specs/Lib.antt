@@ -1,3 +1,4 @@
 pub mod History
 pub mod Kept
+pub mod Output
 pub mod Row

@@ -1,15 +1,16 @@
 -- What is kept of an event and of its reply, and what it stands for.
-use Rattle.std.specs.Prelude.{ℕ, ◌+◌, ◌%◌, ◌^◌, ◌≤◌, ◌<◌, List, [], map, take, drop, slice_index_or}
+use Rattle.std.specs.Prelude.{ℕ, ◌+◌, ◌%◌, ◌^◌, ◌≤◌, ◌<◌, List, [], ◌++◌, map, take, drop, slice_index_or}
 use Rattle.std.specs.List.{All}
+use Rattle.hv_defs.specs.Slot.{zeros}
 use Rattle.hv_defs.specs.declared.sizes.TheConstants.{REPS_END}
+use Rattle.hv_policy.specs.Parts.{reply_of}
+use Rattle.hv_policy.specs.declared.answer.Answer.{Answer}
 use Rattle.hv_policy.specs.declared.event.Action.{Action}
 use Rattle.hv_policy.specs.declared.event.Action.TheVariants as action
 use Rattle.hv_policy.specs.declared.event.Caller.{Caller}
 use Rattle.hv_policy.specs.declared.event.Event.{Event}
 use Rattle.hv_policy.specs.declared.reply.Reply.{Reply}
 use Rattle.hv_policy.specs.declared.reply.Reply.TheVariants as reply
-use Rattle.hv_history.specs.declared.entry.Answer.{Answer}
-use Rattle.hv_history.specs.declared.entry.Answer.TheVariants as answer
 use Rattle.hv_history.specs.declared.entry.Asked.{Asked}
 use Rattle.hv_history.specs.declared.entry.Asked.TheVariants as asked
 use Rattle.hv_history.specs.declared.entry.Entry.{Entry}
@@ -39,20 +40,6 @@ action_of (asked.ClearSlot sint) input = action.ClearSlot sint
 action_of (asked.ReadFlags sint) input = action.ReadFlags sint
 action_of (asked.ClearFlag sint flag) input = action.ClearFlag sint flag
 action_of asked.TakeInterrupt input = action.TakeInterrupt
-
--- the bytes that a reply puts out
-abbrev pub output_in : Reply → List ℕ
-output_in (reply.Served output) = output
-output_in (reply.More next output) = output
-output_in (reply.Denied rule status reps) = []
-output_in (reply.Fault rule) = []
-
--- the reply of which this is kept beside its output
-abbrev pub reply_of : Answer → List ℕ → Reply
-reply_of answer.Served output = reply.Served output
-reply_of (answer.More next) output = reply.More next output
-reply_of (answer.Denied rule status reps) output = reply.Denied rule status reps
-reply_of (answer.Fault rule) output = reply.Fault rule
 
 -- the element with which a reply says that its call goes on, and 0 where it doesn't go on
 abbrev pub next_in : Reply → ℕ
@@ -88,7 +75,7 @@ bytes_at bytes start len = take len (drop start bytes)
 abbrev pub entry_of : {A : Type 0} → List Head → List ℕ → List ℕ → Row → Entry A
 entry_of heads inputs outputs row =
     let head = head_at heads row.head in
-    entry_from head.by (asked_in row.kind row.first row.second head.r8) (bytes_at inputs head.input_start head.input_len) row.answer (bytes_at outputs row.output_start row.output_len)
+    entry_from head.by (asked_in row.kind row.first row.second head.r8) (bytes_at inputs head.input_start head.input_len) row.answer (bytes_at outputs row.output_start row.output_len ++ zeros row.output_zeros)
 
 abbrev pub entries_of : {A : Type 0} → List Head → List ℕ → List ℕ → List Row → List (Entry A)
 entries_of heads inputs outputs rows = map (entry_of heads inputs outputs) rows
@@ -106,12 +93,12 @@ pub record IsWithin (inputs : ℕ) (head : Head) : Type 0 where
 abbrev pub AreWithin : ℕ → List Head → Type 0
 AreWithin inputs heads = All (IsWithin inputs) heads
 
--- the row's head is one of so many, its output stands within so many bytes and is no longer than an output may be, and where
+-- the row's head is one of so many, its output but for the zeros at its end stands within so many bytes and is no longer than an output may be, and where
 -- its call goes on, the next element has an index
 pub record IsPlaced (heads outputs : ℕ) (row : Row) : Type 0 where
   pub head : row.head < heads
   pub output : row.output_start + row.output_len ≤ outputs
-  pub most : row.output_len ≤ 256
+  pub most : row.output_len + row.output_zeros ≤ 256
   pub index : next_in (reply_of row.answer []) < REPS_END
 
 abbrev pub ArePlaced : ℕ → ℕ → List Row → Type 0

@@ -1,8 +1,8 @@
 // An event with its reply, as contracts and callers see it.
 ghost use Rattle.std.specs.Prelude.{◌≡◌, ◌↔◌, IsTrue};
 
-use hv_abi::Status;
-use hv_machine::{Caller, Event, Reply, Rule};
+use crate::output::OutputRef;
+use hv_machine::{Answer, Caller, Event, Reply};
 use std::alloc::Allocator;
 
 /// One event with its reply, as contracts see what happened.
@@ -33,28 +33,6 @@ pub enum Asked {
     TakeInterrupt,
 }
 
-/// What an event was answered, but for its output.
-#[derive(Clone, Copy, PartialEq, Eq, Debug)]
-pub enum Answer {
-    /// The event is done.
-    Served,
-    /// The element is done, and the call goes on with the element `next`.
-    More {
-        next: u16,
-    },
-    /// A hypercall that this rule, the first unmet one, refuses.
-    Denied {
-        rule: Rule,
-        status: Status,
-        /// How many elements of a rep call were done before, as its result value counts them.
-        reps: u16,
-    },
-    /// An access that this rule, the first unmet one, refuses.
-    Fault {
-        rule: Rule,
-    },
-}
-
 /// An event with its reply, borrowed from a history.
 #[derive(Clone, Copy)]
 pub struct EntryRef<'h> {
@@ -65,12 +43,14 @@ pub struct EntryRef<'h> {
     pub input: &'h [u8],
     pub answer: Answer,
     /// The bytes that the event put out, at most 256.
-    pub output: &'h [u8],
+    pub output: OutputRef<'h>,
 }
 
 impl<'h> EntryRef<'h> {
     ghost use Rattle.hv_history.specs.History.{entry_by};
-    ghost use Rattle.hv_history.specs.Row.{action_of, reply_of};
+    ghost use Rattle.hv_history.specs.Output.{shown};
+    ghost use Rattle.hv_history.specs.Row.{action_of};
+    ghost use Rattle.hv_policy.specs.Parts.{reply_of};
 
     /// Whether both are the same event with the same reply.
     pub fn is_same<A: Allocator>(&self, other: &EntryRef<'_>) -> bool
@@ -97,12 +77,12 @@ impl<'h> EntryRef<'h> {
 
     // Whether both are answered the same. Only what is served puts something out.
     fn is_answered_the_same(&self, other: &EntryRef<'_>) -> bool
-        ensures { IsTrue result ↔ (reply_of self.now.answer self.now.output.now ≡ reply_of other.now.answer other.now.output.now) }
+        ensures { IsTrue result ↔ (reply_of self.now.answer (shown self.now.output) ≡ reply_of other.now.answer (shown other.now.output)) }
     {
         match (self.answer, other.answer) {
-            (Answer::Served, Answer::Served) => self.output == other.output,
+            (Answer::Served, Answer::Served) => self.output.is_same(&other.output),
             (Answer::More { next }, Answer::More { next: other_next }) => {
-                next == other_next && self.output == other.output
+                next == other_next && self.output.is_same(&other.output)
             }
             (
                 Answer::Denied { rule, status, reps },

@@ -2,11 +2,14 @@
 ghost use Rattle.std.specs.Prelude.{◌≡◌, ◌+◌, ◌^◌, ◌-◌, ◌<◌, ◌≤◌, ◌↔◌, ◌⊎◌, ◌++◌, [], ◌∷◌, IsTrue, length, take, drop, OnOk, Some, slice_get, vec_len, vec_capacity};
 ghost use Rattle.hv_defs.specs.declared.sizes.TheConstants.{REPS_END};
 ghost use Rattle.hv_history.specs.History.{HasRoom, entries, entry_by};
-ghost use Rattle.hv_history.specs.Row.{bytes_at, head_at, next_in, reply_of};
+ghost use Rattle.hv_history.specs.Output.{shown};
+ghost use Rattle.hv_history.specs.Row.{bytes_at, head_at, next_in};
+ghost use Rattle.hv_policy.specs.Parts.{reply_of};
 
 use crate::entry::EntryRef;
-use crate::row::{Head, History, Row, answer_of, asked_of, input_in, numbers_of, output_in};
-use hv_machine::{Caller, Event, Reply};
+use crate::output::OutputRef;
+use crate::row::{Head, History, Row, asked_of, input_in, numbers_of};
+use hv_machine::{Answer, Caller, Event};
 use std::alloc::{AllocError, Allocator};
 
 // The most bytes that an event puts out.
@@ -40,7 +43,7 @@ impl<A: Allocator> History<A> {
         requires { at < length (entries self.now) }
         ensures entry { slice_get (entries self.now) at ≡ Some (entry_by result) }
         ensures index { next_in (reply_of result.answer []) < REPS_END }
-        ensures most { length result.output.now ≤ 256 }
+        ensures most { length (shown result.output) ≤ 256 }
     {
         let row = &self.rows[at];
         let head = &self.heads[row.head as usize];
@@ -49,7 +52,10 @@ impl<A: Allocator> History<A> {
             asked: asked_of(row, head.r8),
             input: &self.inputs[head.input_start..head.input_start + head.input_len],
             answer: row.answer,
-            output: &self.outputs[row.output_start..row.output_start + row.output_len as usize],
+            output: OutputRef {
+                bytes: &self.outputs[row.output_start..row.output_start + row.output_len as usize],
+                zeros: row.output_zeros as usize,
+            },
         }
     }
 
@@ -67,23 +73,23 @@ impl<A: Allocator> History<A> {
         self.outputs.reserve(MOST_OUTPUT)
     }
 
-    /// Adds an event with its reply, for which there is room.
-    pub fn push(&mut self, event: &Event<A>, reply: &Reply)
+    /// Adds an event with its reply, for which there is room. The reply comes as its answer and what it puts out.
+    pub fn push(&mut self, event: &Event<A>, answer: Answer, output: OutputRef<'_>)
         requires room { HasRoom self.old event.now }
-        requires index { next_in reply.now < REPS_END }
-        ensures { entries self.new ≡ entries self.old ++ record { event = event.now; reply = reply.now } ∷ [] }
+        requires index { next_in (reply_of answer []) < REPS_END }
+        ensures { entries self.new ≡ entries self.old ++ record { event = event.now; reply = reply_of answer (shown output.entry) } ∷ [] }
     {
         let asked = numbers_of(&event.what);
-        let output = output_in(reply);
         let head = self.place_head(event.by, asked.r8, input_in(&event.what));
-        let output_start = self.place_output(output);
+        let output_start = self.place_output(output.bytes);
         self.rows.push_reserved(Row {
             first: asked.first,
             second: asked.second,
             output_start,
             head,
-            output_len: output.len() as u16,
-            answer: answer_of(reply),
+            output_len: output.bytes.len() as u16,
+            output_zeros: output.zeros as u16,
+            answer,
             kind: asked.kind,
         });
     }
@@ -138,7 +144,7 @@ impl<A: Allocator> History<A> {
         start
     }
 
-    // Where these bytes stand among the outputs: where the last row's do, if they are the same, and else at the end.
+    // Where these bytes stand among the outputs: at the end, where they are added if they aren't there yet.
     fn place_output(&mut self, output: &[u8]) -> usize
         requires { vec_len self.old.outputs + length output.now ≤ vec_capacity self.old.outputs }
         ensures rows { self.new.rows ≡ self.old.rows }
@@ -148,19 +154,15 @@ impl<A: Allocator> History<A> {
         ensures within { result + length output.now ≤ vec_len self.new.outputs }
         ensures placed { bytes_at self.new.outputs.items result (length output.now) ≡ output.now }
     {
-        if output.is_empty() {
-            return 0;
-        }
-        if let Some(row) = self.rows.last() {
-            let start = row.output_start;
-            let len = row.output_len as usize;
-            if len == output.len() && &self.outputs[start..start + len] == output {
+        let end = self.outputs.len();
+        if output.len() <= end {
+            let start = end - output.len();
+            if &self.outputs[start..start + output.len()] == output {
                 return start;
             }
         }
-        let start = self.outputs.len();
         self.outputs.extend_from_slice(output).unwrap();
-        start
+        end
     }
 
     // Whether the input of this head, whose bytes are here, is this one.

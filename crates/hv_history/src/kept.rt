@@ -1,18 +1,20 @@
 // The machine with its history.
-ghost use Rattle.std.specs.Prelude.{◌≡◌, ◌<◌, ◌↔◌, [], length, None, IsTrue, IfOk, IfErr, OnErr, IsErrOf};
+ghost use Rattle.std.specs.Prelude.{◌≡◌, ◌<◌, ◌↔◌, [], length, None, IsTrue, IfOk, IfErr, OnOk, OnErr, IsErrOf};
 ghost use Rattle.hv_abi.specs.declared.frame.Frame.{Frame};
+ghost use Rattle.hv_defs.specs.declared.sizes.TheConstants.{MAX_SERVED};
 ghost use Rattle.hv_policy.specs.BootFault.{boot_fault, IsBootRefusal};
 ghost use Rattle.hv_policy.specs.Call.{may_take_memory};
 ghost use Rattle.hv_policy.specs.Next.{GoesOn};
 ghost use Rattle.hv_policy.specs.Result.{HasResult};
 ghost use Rattle.hv_policy.specs.Step.{NamesAsked};
 ghost use Rattle.hv_policy.specs.declared.event.Action.TheVariants.{Hypercall};
-ghost use Rattle.hv_history.specs.History.{entries};
-ghost use Rattle.hv_history.specs.Kept.{HasGained, IsRun};
+ghost use Rattle.hv_history.specs.History.{HasRoom, entries};
+ghost use Rattle.hv_history.specs.Kept.{HasGained, HasStepped, HasTaken, IsRun, Stands};
 
+use crate::output::OutputRef;
 use crate::row::History;
-use hv_machine::{BootRefused, Config, Event, Machine, Reply, check_config};
-use std::alloc::Allocator;
+use hv_machine::{Action, BootRefused, Config, Event, Machine, Reply, check_config};
+use std::alloc::{AllocError, Allocator};
 use std::marker::Model;
 
 /// Why an event wasn't applied, in the order in which the causes are looked for. Nothing changed.
@@ -98,19 +100,92 @@ impl<A: Allocator + Clone> Kept<A> {
         ensures result { (frame : Frame A) → event.now.what ≡ Hypercall frame → IfOk result (λ r. HasResult r.1) }
         ensures next { IfOk result (λ r. GoesOn event.now.what r.1) }
     {
+        match self.take(event) {
+            Ok(number) => {
+                let entry = self.history.entry(self.history.len() - 1);
+                let output = entry.output.to_output();
+                Ok((number, Reply::of(entry.answer, output.as_slice())))
+            }
+            Err(why) => Err(why),
+        }
+    }
+
+    /// Lets an event happen as [`Kept::apply`] does, and answers its number alone: its reply stands in the history.
+    pub fn take(&mut self, event: &Event<A>) -> Result<u64, HostRefused>
+        ensures taken { OnOk result (HasTaken event.now self.old self.new) }
+        ensures number { IfOk result (λ number. number ≡ length self.new.history) }
+        ensures run { IsRun self.new }
+        ensures full { IsErrOf result HostRefused.HistoryFull ↔ (length self.old.history ≡ self.old.limit) }
+        ensures refused { OnErr result (self.new ≡ self.old) }
+    {
         if self.is_full() {
             return Err(HostRefused::HistoryFull);
         }
         if self.history.reserve(event).is_err() {
             return Err(HostRefused::Memory);
         }
-        match self.machine.step(event) {
+        let Ok(()) = step_into(&mut self.machine, &mut self.history, event) else {
+            return Err(HostRefused::Memory);
+        };
+        Ok(self.history.len() as u64)
+    }
+}
+
+// Lets an event happen to a machine, and adds it with its reply to a history that has room for it. Not inlined, nor is what it
+// does for an access, so that a call makes no room on the stack for the output of one.
+#[inline(never)]
+fn step_into<A: Allocator + Clone>(
+    machine: &mut Machine<A>,
+    history: &mut History<A>,
+    event: &Event<A>,
+) -> Result<(), AllocError>
+    requires stands { Stands machine.old }
+    requires count { machine.old.served < MAX_SERVED }
+    requires room { HasRoom history.old event.now }
+    ensures stepped { OnOk result (HasStepped event.now machine.old (entries history.old) machine.new (entries history.new)) }
+    ensures machine { OnErr result (machine.new ≡ machine.old) }
+    ensures history { OnErr result (entries history.new ≡ entries history.old) }
+{
+    match &event.what {
+        Action::Hypercall(frame) => match machine.hypercall(event.by, frame) {
             Ok(reply) => {
-                self.history.push(event, &reply);
-                Ok((self.history.len() as u64, reply))
+                let (answer, output) = reply.parts();
+                history.push(event, answer, OutputRef::of(output));
+                Ok(())
             }
-            Err(_) => Err(HostRefused::Memory),
+            Err(_) => Err(AllocError),
+        },
+        Action::ReadMsr(_)
+        | Action::WriteMsr(_, _)
+        | Action::ReadSlot(_)
+        | Action::ClearSlot(_)
+        | Action::ReadFlags(_)
+        | Action::ClearFlag(_, _)
+        | Action::TakeInterrupt => access_into(machine, history, event),
+    }
+}
+
+// The same, for the reply of an access.
+#[inline(never)]
+fn access_into<A: Allocator + Clone>(
+    machine: &mut Machine<A>,
+    history: &mut History<A>,
+    event: &Event<A>,
+) -> Result<(), AllocError>
+    requires stands { Stands machine.old }
+    requires count { machine.old.served < MAX_SERVED }
+    requires room { HasRoom history.old event.now }
+    ensures stepped { OnOk result (HasStepped event.now machine.old (entries history.old) machine.new (entries history.new)) }
+    ensures machine { OnErr result (machine.new ≡ machine.old) }
+    ensures history { OnErr result (entries history.new ≡ entries history.old) }
+{
+    match machine.step(event) {
+        Ok(reply) => {
+            let (answer, output) = reply.parts();
+            history.push(event, answer, OutputRef::of(output));
+            Ok(())
         }
+        Err(_) => Err(AllocError),
     }
 }
 

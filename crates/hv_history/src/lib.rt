@@ -8,8 +8,11 @@
 mod entry;
 mod history;
 mod kept;
+mod output;
 mod row;
 
-pub use entry::{Answer, Asked, Entry, EntryRef};
+pub use entry::{Asked, Entry, EntryRef};
+pub use hv_machine::Answer;
 pub use kept::{HostRefused, Kept};
+pub use output::OutputRef;
 pub use row::History;

@@ -1,9 +1,9 @@
 // What is kept of an event and of its reply.
-ghost use Rattle.std.specs.Prelude.{◌≡◌, ◌≤◌, length, vec_len};
-ghost use Rattle.hv_history.specs.Row.{ArePlaced, AreWithin, action_of, asked_in, input_in, output_in, reply_of};
+ghost use Rattle.std.specs.Prelude.{◌≡◌, vec_len};
+ghost use Rattle.hv_history.specs.Row.{ArePlaced, AreWithin, action_of, asked_in, input_in};
 
-use crate::entry::{Answer, Asked};
-use hv_machine::{Action, Caller, Reply};
+use crate::entry::Asked;
+use hv_machine::{Action, Answer, Caller};
 use std::alloc::Allocator;
 use std::mem::size_of;
 
@@ -31,6 +31,8 @@ pub(crate) struct Row {
     // The place of its head.
     pub(crate) head: u32,
     pub(crate) output_len: u16,
+    // How many zeros stand after those bytes of its output.
+    pub(crate) output_zeros: u16,
     pub(crate) answer: Answer,
     pub(crate) kind: Kind,
 }
@@ -147,33 +149,5 @@ pub(crate) fn input_in<A: Allocator>(what: &Action<A>) -> &[u8]
         | Action::ReadFlags(_)
         | Action::ClearFlag(_, _)
         | Action::TakeInterrupt => &[],
-    }
-}
-
-// The bytes that a reply puts out.
-pub(crate) fn output_in(reply: &Reply) -> &[u8]
-    ensures bytes { result.now ≡ output_in reply.now }
-    ensures most { length result.now ≤ 256 }
-{
-    match reply {
-        Reply::Served(output) => output.as_slice(),
-        Reply::More { output, next: _ } => output.as_slice(),
-        Reply::Denied { .. } | Reply::Fault { .. } => &[],
-    }
-}
-
-// A reply but for its output.
-pub(crate) fn answer_of(reply: &Reply) -> Answer
-    ensures { reply_of result (output_in reply.now) ≡ reply.now }
-{
-    match reply {
-        Reply::Served(_) => Answer::Served,
-        Reply::More { next, output: _ } => Answer::More { next: *next },
-        Reply::Denied { rule, status, reps } => Answer::Denied {
-            rule: *rule,
-            status: *status,
-            reps: *reps,
-        },
-        Reply::Fault { rule } => Answer::Fault { rule: *rule },
     }
 }

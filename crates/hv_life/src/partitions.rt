@@ -9,7 +9,7 @@ use crate::rows::{create, delete, finalize, initialize};
 use crate::rules::{is_childless, is_depth_left, is_previous_there, next_child};
 use hv_defs::PARTITION_CHARGE;
 use hv_partition::Partition;
-use hv_policy::{Output, Rule, States};
+use hv_policy::{CallOutput, Rule, States};
 use hv_tie::{Refused, has_available, is_state_allowed, meant, number_output};
 use hv_tree::IdTree;
 use std::alloc::{AllocError, Allocator};
@@ -22,7 +22,7 @@ pub fn create_partition<A: Allocator + Clone>(
     caller: u64,
     next: u64,
     flags: u64,
-) -> Result<Output, Refused>
+) -> Result<CallOutput, Refused>
     requires { (a : IsAdmitted tree.old caller (call.CreatePartition flags)) × (a.rows.flat.next ≡ next) }
     ensures { (f : Flat) → IsTied tree.old f → f.next ≡ next → IsOutcome f caller (call.CreatePartition flags) tree.old result tree.new }
 {
@@ -59,7 +59,7 @@ pub fn initialize_partition<A: Allocator>(
     tree: &mut IdTree<Partition<A>, A>,
     caller: u64,
     partition: u64,
-) -> Result<Output, Refused>
+) -> Result<CallOutput, Refused>
     ensures { (f : Flat) → IsTied tree.old f → IsOutcome f caller (call.InitializePartition partition) tree.old result tree.new }
 {
     let target = meant(caller, partition);
@@ -67,7 +67,7 @@ pub fn initialize_partition<A: Allocator>(
         return Err(Refused::Unmet(Rule::TargetState));
     }
     initialize(tree, target);
-    Ok(Output::new())
+    Ok(CallOutput::new())
 }
 
 /// HvFinalizePartition: the target becomes Finalized, and its virtual processors go. Its pages stay.
@@ -75,14 +75,14 @@ pub fn finalize_partition<A: Allocator>(
     tree: &mut IdTree<Partition<A>, A>,
     caller: u64,
     partition: u64,
-) -> Result<Output, Refused>
+) -> Result<CallOutput, Refused>
     ensures { (f : Flat) → IsTied tree.old f → IsOutcome f caller (call.FinalizePartition partition) tree.old result tree.new }
 {
     if let Some(rule) = unmet_finalize(tree, caller, partition) {
         return Err(Refused::Unmet(rule));
     }
     finalize(tree, meant(caller, partition));
-    Ok(Output::new())
+    Ok(CallOutput::new())
 }
 
 // P12 and P13.
@@ -108,7 +108,7 @@ pub fn delete_partition<A: Allocator>(
     tree: &mut IdTree<Partition<A>, A>,
     caller: u64,
     partition: u64,
-) -> Result<Output, Refused>
+) -> Result<CallOutput, Refused>
     requires { IsAdmitted tree.old caller (call.DeletePartition partition) }
     ensures { (f : Flat) → IsTied tree.old f → IsOutcome f caller (call.DeletePartition partition) tree.old result tree.new }
 {
@@ -117,7 +117,7 @@ pub fn delete_partition<A: Allocator>(
         return Err(Refused::Unmet(Rule::TargetState));
     }
     match delete(tree, caller, target) {
-        Ok(()) => Ok(Output::new()),
+        Ok(()) => Ok(CallOutput::new()),
         Err(AllocError) => Err(Refused::Memory),
     }
 }
@@ -126,7 +126,7 @@ pub fn delete_partition<A: Allocator>(
 pub fn get_partition_id<A: Allocator>(
     tree: &IdTree<Partition<A>, A>,
     caller: u64,
-) -> Result<Output, Refused>
+) -> Result<CallOutput, Refused>
     ensures { (f : Flat) → IsTied tree.now f → IsOutcome f caller call.GetPartitionId tree.now result tree.now }
 {
     let _ = tree;
@@ -139,7 +139,7 @@ pub fn get_next_child_partition<A: Allocator>(
     caller: u64,
     partition: u64,
     previous: u64,
-) -> Result<Output, Refused>
+) -> Result<CallOutput, Refused>
     ensures { (f : Flat) → IsTied tree.now f → IsOutcome f caller (call.GetNextChildPartition partition previous) tree.now result tree.now }
 {
     let target = meant(caller, partition);

@@ -11,7 +11,7 @@ use crate::rows::{add_conn, add_port, remove_conn, remove_port};
 use crate::rules::{born_of, has_conn, has_port, is_kind, is_peer, is_there};
 use hv_defs::{CONNECTION_CHARGE, PORT_CHARGE, PortKind};
 use hv_partition::Partition;
-use hv_policy::{Output, Rule, States};
+use hv_policy::{CallOutput, Rule, States};
 use hv_ports::{Conn, Port};
 use hv_tie::{Refused, has_available, has_vp, is_state_allowed, meant};
 use hv_tree::IdTree;
@@ -42,7 +42,7 @@ pub fn create_port<A: Allocator>(
     served: u64,
     partition: u64,
     new: NewPort,
-) -> Result<Output, Refused>
+) -> Result<CallOutput, Refused>
     requires admitted { IsAdmitted tree.old caller (call.CreatePort partition new.port new.peer new.kind new.sint new.vp new.base new.count) }
     requires count { served < MAX_SERVED }
     ensures { (f : Flat) → IsTied tree.old f → f.served ≡ served → IsOutcome f caller (call.CreatePort partition new.port new.peer new.kind new.sint new.vp new.base new.count) tree.old result tree.new }
@@ -60,7 +60,7 @@ pub fn create_port<A: Allocator>(
         born: served + 1,
     };
     match add_port(tree, meant(caller, partition), new.port, row) {
-        Ok(()) => Ok(Output::new()),
+        Ok(()) => Ok(CallOutput::new()),
         Err(AllocError) => Err(Refused::Memory),
     }
 }
@@ -110,7 +110,7 @@ pub fn delete_port<A: Allocator>(
     caller: u64,
     partition: u64,
     port: u32,
-) -> Result<Output, Refused>
+) -> Result<CallOutput, Refused>
     requires { IsAdmitted tree.old caller (call.DeletePort partition port) }
     ensures { (f : Flat) → IsTied tree.old f → IsOutcome f caller (call.DeletePort partition port) tree.old result tree.new }
 {
@@ -122,7 +122,7 @@ pub fn delete_port<A: Allocator>(
         return Err(Refused::Unmet(Rule::Port));
     }
     remove_port(tree, target, port);
-    Ok(Output::new())
+    Ok(CallOutput::new())
 }
 
 /// HvConnectPort: the target gets a connection, which keeps the port's partition, id, type and birth. It uses 1 page of the
@@ -135,7 +135,7 @@ pub fn connect_port<A: Allocator>(
     port_partition: u64,
     port: u32,
     kind: PortKind,
-) -> Result<Output, Refused>
+) -> Result<CallOutput, Refused>
     requires { IsAdmitted tree.old caller (call.ConnectPort partition connection port_partition port kind) }
     ensures { (f : Flat) → IsTied tree.old f → IsOutcome f caller (call.ConnectPort partition connection port_partition port kind) tree.old result tree.new }
 {
@@ -159,7 +159,7 @@ pub fn connect_port<A: Allocator>(
         born,
     };
     match add_conn(tree, meant(caller, partition), connection, row) {
-        Ok(()) => Ok(Output::new()),
+        Ok(()) => Ok(CallOutput::new()),
         Err(AllocError) => Err(Refused::Memory),
     }
 }
@@ -209,7 +209,7 @@ pub fn disconnect_port<A: Allocator>(
     caller: u64,
     partition: u64,
     connection: u32,
-) -> Result<Output, Refused>
+) -> Result<CallOutput, Refused>
     requires { IsAdmitted tree.old caller (call.DisconnectPort partition connection) }
     ensures { (f : Flat) → IsTied tree.old f → IsOutcome f caller (call.DisconnectPort partition connection) tree.old result tree.new }
 {
@@ -221,5 +221,5 @@ pub fn disconnect_port<A: Allocator>(
         return Err(Refused::Unmet(Rule::Connection));
     }
     remove_conn(tree, target, connection);
-    Ok(Output::new())
+    Ok(CallOutput::new())
 }

@@ -19,7 +19,7 @@ use std::alloc::Allocator;
 impl<A: Allocator> Machine<A> {
     // The call that a frame holds where P1 to P10 are met, and what its input value says; else the first of them that
     // isn't met.
-    pub fn admit(&self, by: Caller, frame: &Frame<A>) -> Result<(Shape, Call), Rule>
+    pub fn admit<'f>(&self, by: Caller, frame: &'f Frame<A>) -> Result<(Shape, Call<'f>), Rule>
         ensures shape { IfOk result (λ asked. IsShape frame.now asked.0) }
         ensures call { IfOk result (λ asked. IsCall frame.now asked.0 asked.1) }
         ensures bounded { IfOk result (λ asked. IsBounded asked.1) }

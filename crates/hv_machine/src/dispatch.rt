@@ -18,7 +18,7 @@ use hv_messages::{
     clear_flag, clear_slot, post_message, read_flags, read_slot, signal_event, take_interrupt,
 };
 use hv_partition::Partition;
-use hv_policy::{Action, Caller, Output, Rule};
+use hv_policy::{Action, CallOutput, Caller, Output, Rule};
 use hv_pools::{deposit_memory, get_memory_balance, withdraw_memory};
 use hv_processors::{
     create_vp, delete_vp, get_vp_registers, read_msr, set_vp_registers, write_msr,
@@ -36,8 +36,8 @@ pub fn dispatch<A: Allocator + Clone>(
     caller: u64,
     next: u64,
     served: u64,
-    call: &Call,
-) -> Result<Output, Refused>
+    call: &Call<'_>,
+) -> Result<CallOutput, Refused>
     requires admitted { (a : IsAdmitted tree.old caller call.now) × (a.rows.flat.next ≡ next) }
     requires count { served < MAX_SERVED }
     ensures { (f : Flat) → IsTied tree.old f → f.next ≡ next → f.served ≡ served → IsOutcome f caller call.now tree.old result tree.new }
@@ -148,7 +148,7 @@ pub fn dispatch_access<A: Allocator>(
 }
 
 // The id that the next partition gets after a call.
-pub fn next_after(call: &Call, next: u64) -> u64
+pub fn next_after(call: &Call<'_>, next: u64) -> u64
     requires { next < 2 ^ 64 - 1 }
     ensures { result ≡ next_id_after call.now next }
 {

@@ -16,5 +16,7 @@ mod dispatch;
 mod machine;
 
 pub use boot::check_config;
-pub use hv_policy::{Action, BootRefused, Caller, Config, Event, Output, Reply, Rule, result_of};
+pub use hv_policy::{
+    Action, Answer, BootRefused, CallReply, Caller, Config, Event, Output, Reply, Rule, result_of,
+};
 pub use machine::{HostRefused, Machine};

@@ -20,7 +20,7 @@ use crate::dispatch::{dispatch, dispatch_access, next_after};
 use hv_abi::Frame;
 use hv_calls::Call;
 use hv_partition::Partition;
-use hv_policy::{Action, Caller, Event, Output, Reply, refused_reply, served_reply};
+use hv_policy::{Action, CallOutput, CallReply, Caller, Event, Reply, refused_reply, served_reply};
 use hv_tie::{Refused, unmet_by_caller};
 use hv_tree::IdTree;
 use std::alloc::Allocator;
@@ -85,7 +85,10 @@ impl<A: Allocator + Clone> Machine<A> {
         ensures sound { IsSound self.new }
     {
         match &event.what {
-            Action::Hypercall(frame) => self.hypercall(event.by, frame),
+            Action::Hypercall(frame) => match self.hypercall(event.by, frame) {
+                Ok(reply) => Ok(reply.to_reply()),
+                Err(why) => Err(why),
+            },
             Action::ReadMsr(_)
             | Action::WriteMsr(_, _)
             | Action::ReadSlot(_)
@@ -96,8 +99,9 @@ impl<A: Allocator + Clone> Machine<A> {
         }
     }
 
-    // One hypercall.
-    fn hypercall(&mut self, by: Caller, frame: &Frame<A>) -> Result<Reply, HostRefused>
+    /// Takes one hypercall of a processor, as [`Machine::step`] takes it as an event, with the same promises. A
+    /// [`CallReply`] has no room for the output of an access.
+    pub fn hypercall(&mut self, by: Caller, frame: &Frame<A>) -> Result<CallReply, HostRefused>
         requires { self.old.served < MAX_SERVED }
         ensures reply { (f : Flat) → IsFlat self.old f → IfOk result (λ r. r ≡ (step f (call_event by frame.now)).1) }
         ensures state { (f : Flat) → IsFlat self.old f → OnOk result (IsFlat self.new (step f (call_event by frame.now)).0) }
@@ -108,6 +112,7 @@ impl<A: Allocator + Clone> Machine<A> {
         ensures result { IfOk result HasResult }
         ensures lasting { IsLasting self.new }
         ensures pages { self.new.pages ≡ self.old.pages }
+        ensures sound { IsSound self.new }
     {
         // Opens the machine for the proof: what it keeps is known of its fields.
         let _ = &self.tree;
@@ -145,7 +150,7 @@ impl<A: Allocator + Clone> Machine<A> {
     }
 
     // Serves a call for which P1 to P10 are met, where its own rules are met too.
-    fn serve(&mut self, by: Caller, call: &Call) -> Result<Output, Refused>
+    fn serve(&mut self, by: Caller, call: &Call<'_>) -> Result<CallOutput, Refused>
         requires count { self.old.served < MAX_SERVED }
         requires bounded { IsBounded call.now }
         requires access { (f : Flat) → IsFlat self.old f → HasAccess f by.part call.now }

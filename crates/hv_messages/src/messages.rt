@@ -14,7 +14,7 @@ use hv_calls::Payload;
 use hv_defs::PortKind;
 use hv_mail::Message;
 use hv_partition::Partition;
-use hv_policy::{Output, Rule};
+use hv_policy::{CallOutput, Rule};
 use hv_ports::Port;
 use hv_tie::Refused;
 use hv_tree::IdTree;
@@ -27,8 +27,8 @@ pub fn post_message<A: Allocator + Clone>(
     caller: u64,
     connection: u32,
     message_type: u32,
-    payload: &Payload,
-) -> Result<Output, Refused>
+    payload: &Payload<'_>,
+) -> Result<CallOutput, Refused>
     requires { IsAdmitted tree.old caller (call.PostMessage connection message_type payload.now) }
     ensures { (f : Flat) → IsTied tree.old f → IsOutcome f caller (call.PostMessage connection message_type payload.now) tree.old result tree.new }
 {
@@ -44,7 +44,7 @@ pub fn post_message<A: Allocator + Clone>(
     };
     let sint = target.port.sint as u8;
     match post(tree, target.conn.part, target.port.vp, sint, message) {
-        Ok(()) => Ok(Output::new()),
+        Ok(()) => Ok(CallOutput::new()),
         Err(AllocError) => Err(Refused::Memory),
     }
 }
@@ -93,7 +93,7 @@ pub fn signal_event<A: Allocator>(
     caller: u64,
     connection: u32,
     flag: u16,
-) -> Result<Output, Refused>
+) -> Result<CallOutput, Refused>
     requires { IsAdmitted tree.old caller (call.SignalEvent connection flag) }
     ensures { (f : Flat) → IsTied tree.old f → IsOutcome f caller (call.SignalEvent connection flag) tree.old result tree.new }
 {
@@ -109,7 +109,7 @@ pub fn signal_event<A: Allocator>(
         sint,
         target.port.base + flag,
     );
-    Ok(Output::new())
+    Ok(CallOutput::new())
 }
 
 // P16, P17, P19, P21 and P22: where the connection leads, or the first of them that isn't met.

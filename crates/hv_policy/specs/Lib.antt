@@ -13,6 +13,7 @@ pub mod Mail
 pub mod Met
 pub mod Needs
 pub mod Next
+pub mod Parts
 pub mod Property
 pub mod Result
 pub mod Rule

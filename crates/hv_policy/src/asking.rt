@@ -13,7 +13,7 @@ use hv_calls::{Call, Malformed, decode};
 use std::alloc::Allocator;
 
 /// P4 to P7: the call that a frame holds, and what its input value says; else the first of them that isn't met.
-pub fn ask_frame<A: Allocator>(frame: &Frame<A>) -> Result<(Shape, Call), Rule>
+pub fn ask_frame<A: Allocator>(frame: &Frame<A>) -> Result<(Shape, Call<'_>), Rule>
     ensures shape { IfOk result (λ asked. IsShape frame.now asked.0) }
     ensures call { IfOk result (λ asked. IsCall frame.now asked.0 asked.1) }
     ensures met { OnOk result ((f : Flat) (by : By) → first_unmet f (call_event by frame.now) frame_rules ≡ None) }

@@ -11,6 +11,7 @@
 //! alone, and the replies and result values.
 #![tactic(auto)]
 
+mod answer;
 mod asking;
 mod config;
 mod event;
@@ -20,6 +21,7 @@ mod reply;
 mod result;
 mod rule;
 
+pub use answer::{Answer, CallOutput, CallReply};
 pub use asking::ask_frame;
 pub use config::{BootRefused, Config};
 pub use event::{Action, Caller, Event};

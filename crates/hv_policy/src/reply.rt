@@ -1,7 +1,9 @@
 // What an event is answered.
-ghost use Rattle.std.specs.Prelude.{◌≡◌, ◌+◌, ◌≤◌, ◌↔◌, ◌++◌, [], ◌∷◌, IsTrue, length};
+ghost use Rattle.std.specs.Prelude.{◌≡◌, ◌+◌, ◌≤◌, ◌++◌, [], ◌∷◌, length};
 ghost use Rattle.std.specs.Int.{w64, to_le_bytes};
+ghost use Rattle.hv_policy.specs.Parts.{reply_of};
 
+use crate::answer::Answer;
 use crate::rule::Rule;
 use arrayvec::ArrayVec;
 use hv_abi::Status;
@@ -36,9 +38,9 @@ impl Output {
         requires { length self.old + 8 ≤ 256 }
         ensures { self.new ≡ self.old ++ to_le_bytes w64 number }
     {
-        for byte in number.to_le_bytes() {
-            self.bytes.push(byte);
-        }
+        let Ok(()) = self.bytes.try_extend_from_slice(&number.to_le_bytes()) else {
+            unreachable!()
+        };
     }
 
     /// Adds one byte.
@@ -100,48 +102,39 @@ pub enum Reply {
 }
 
 impl Reply {
-    /// The same reply again. It takes no memory.
-    pub fn copy(&self) -> Reply
-        ensures { result ≡ self.now }
+    /// The reply of these parts. Only what is served puts something out.
+    pub fn of(answer: Answer, output: &[u8]) -> Reply
+        requires { length output.now ≤ 256 }
+        ensures { result ≡ reply_of answer output.now }
     {
-        match self {
-            Reply::Served(output) => Reply::Served(Output::of(output.as_slice())),
-            Reply::More { next, output } => Reply::More {
-                next: *next,
-                output: Output::of(output.as_slice()),
+        match answer {
+            Answer::Served => Reply::Served(Output::of(output)),
+            Answer::More { next } => Reply::More {
+                next,
+                output: Output::of(output),
             },
-            Reply::Denied { rule, status, reps } => Reply::Denied {
-                rule: *rule,
-                status: *status,
-                reps: *reps,
-            },
-            Reply::Fault { rule } => Reply::Fault { rule: *rule },
+            Answer::Denied { rule, status, reps } => Reply::Denied { rule, status, reps },
+            Answer::Fault { rule } => Reply::Fault { rule },
         }
     }
 
-    /// Whether both answer the same.
-    pub fn is_same(&self, other: &Reply) -> bool
-        ensures { IsTrue result ↔ (self.now ≡ other.now) }
+    /// The reply in two parts.
+    pub fn parts(&self) -> (Answer, &[u8])
+        ensures reply { reply_of result.0 result.1.now ≡ self.now }
+        ensures most { length result.1.now ≤ 256 }
     {
-        match (self, other) {
-            (Reply::Served(output), Reply::Served(that)) => output.as_slice() == that.as_slice(),
-            (
-                Reply::More { next, output },
-                Reply::More {
-                    next: other_next,
-                    output: that,
+        match self {
+            Reply::Served(output) => (Answer::Served, output.as_slice()),
+            Reply::More { next, output } => (Answer::More { next: *next }, output.as_slice()),
+            Reply::Denied { rule, status, reps } => (
+                Answer::Denied {
+                    rule: *rule,
+                    status: *status,
+                    reps: *reps,
                 },
-            ) => *next == *other_next && output.as_slice() == that.as_slice(),
-            (
-                Reply::Denied { rule, status, reps },
-                Reply::Denied {
-                    rule: other_rule,
-                    status: other_status,
-                    reps: other_reps,
-                },
-            ) => *rule == *other_rule && (*status == *other_status && *reps == *other_reps),
-            (Reply::Fault { rule }, Reply::Fault { rule: that }) => *rule == *that,
-            _ => false,
+                &[],
+            ),
+            Reply::Fault { rule } => (Answer::Fault { rule: *rule }, &[]),
         }
     }
 }

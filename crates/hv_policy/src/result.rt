@@ -7,7 +7,8 @@ ghost use Rattle.hv_policy.specs.Result.{HasResult, kind_in, refused_reps as ref
 ghost use Rattle.hv_policy.specs.Step.{refusal};
 ghost use Rattle.hv_policy.specs.declared.event.Action.TheVariants.{Hypercall};
 
-use crate::reply::{Output, Reply};
+use crate::answer::{Answer, CallOutput, CallReply};
+use crate::reply::Reply;
 use crate::rule::Rule;
 use hv_abi::{CallKind, Frame, InputValue, ResultValue, Shape, Status};
 use std::alloc::Allocator;
@@ -31,31 +32,42 @@ pub fn result_of<A: Allocator>(frame: &Frame<A>, reply: &Reply) -> ResultValue
 }
 
 /// The reply to an element that is served: more are to come, or it is the last, as a simple call is.
-pub fn served_reply<A: Allocator>(frame: &Frame<A>, shape: Shape, output: Output) -> Reply
+pub fn served_reply<A: Allocator>(frame: &Frame<A>, shape: Shape, output: CallOutput) -> CallReply
     requires shape { IsShape frame.now shape }
     requires named { call_of frame.now ≡ Some shape.kind }
     ensures { result ≡ reply_with frame.now output }
 {
     if shape.kind.is_rep() && shape.start + 1 < shape.reps {
-        Reply::More {
-            next: shape.start + 1,
+        CallReply {
+            answer: Answer::More {
+                next: shape.start + 1,
+            },
             output,
         }
     } else {
-        Reply::Served(output)
+        CallReply {
+            answer: Answer::Served,
+            output,
+        }
     }
 }
 
 /// The reply to a call that this rule refuses.
-pub fn refused_reply<A: Allocator>(frame: &Frame<A>, rule: Rule) -> Reply
+pub fn refused_reply<A: Allocator>(frame: &Frame<A>, rule: Rule) -> CallReply
     ensures { result ≡ refusal (Hypercall frame.now) rule }
 {
     match rule.status(kind_of(frame.rcx)) {
-        None => Reply::Fault { rule },
-        Some(status) => Reply::Denied {
-            rule,
-            status,
-            reps: refused_reps(frame.rcx),
+        None => CallReply {
+            answer: Answer::Fault { rule },
+            output: CallOutput::new(),
+        },
+        Some(status) => CallReply {
+            answer: Answer::Denied {
+                rule,
+                status,
+                reps: refused_reps(frame.rcx),
+            },
+            output: CallOutput::new(),
         },
     }
 }

@@ -8,7 +8,7 @@ ghost use Rattle.hv_tie.specs.Tie.{IsTied};
 use crate::rows::{deposit, withdraw};
 use crate::rules::{is_loose, lowest_pooled};
 use hv_partition::Partition;
-use hv_policy::{Output, Rule, States};
+use hv_policy::{CallOutput, Rule, States};
 use hv_tie::{Refused, has_available, is_state_allowed, meant, memory_balance, number_output};
 use hv_tree::IdTree;
 use std::alloc::{AllocError, Allocator};
@@ -19,7 +19,7 @@ pub fn deposit_memory<A: Allocator>(
     caller: u64,
     partition: u64,
     page: u64,
-) -> Result<Output, Refused>
+) -> Result<CallOutput, Refused>
     requires { IsAdmitted tree.old caller (call.DepositMemory partition page) }
     ensures { (f : Flat) → IsTied tree.old f → IsOutcome f caller (call.DepositMemory partition page) tree.old result tree.new }
 {
@@ -30,7 +30,7 @@ pub fn deposit_memory<A: Allocator>(
         unreachable!()
     };
     match deposit(tree, caller, meant(caller, partition), page) {
-        Ok(()) => Ok(Output::new()),
+        Ok(()) => Ok(CallOutput::new()),
         Err(AllocError) => Err(Refused::Memory),
     }
 }
@@ -59,7 +59,7 @@ pub fn withdraw_memory<A: Allocator>(
     tree: &mut IdTree<Partition<A>, A>,
     caller: u64,
     partition: u64,
-) -> Result<Output, Refused>
+) -> Result<CallOutput, Refused>
     requires { IsAdmitted tree.old caller (call.WithdrawMemory partition) }
     ensures { (f : Flat) → IsTied tree.old f → IsOutcome f caller (call.WithdrawMemory partition) tree.old result tree.new }
 {
@@ -94,7 +94,7 @@ pub fn get_memory_balance<A: Allocator>(
     tree: &IdTree<Partition<A>, A>,
     caller: u64,
     partition: u64,
-) -> Result<Output, Refused>
+) -> Result<CallOutput, Refused>
     requires { AreLawful tree.now }
     ensures { (f : Flat) → IsTied tree.now f → IsOutcome f caller (call.GetMemoryBalance partition) tree.now result tree.now }
 {

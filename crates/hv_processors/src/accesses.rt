@@ -11,7 +11,6 @@ use crate::rows::write_register;
 use crate::rules::{may_access_msr, msr_register, takes_msr};
 use hv_partition::Partition;
 use hv_policy::{Caller, Output, Rule};
-use hv_tie::number_output;
 use hv_tree::IdTree;
 use hv_vp::name_of_msr;
 use std::alloc::Allocator;
@@ -27,7 +26,9 @@ pub fn read_msr<A: Allocator>(
     if let Some(rule) = unmet_msr(tree, by, msr) {
         return Err(rule);
     }
-    Ok(number_output(msr_register(tree, by.part, by.vp, msr)))
+    let mut output = Output::new();
+    output.push_number(msr_register(tree, by.part, by.vp, msr));
+    Ok(output)
 }
 
 /// A write to one of the caller's model-specific registers, which keeps what it keeps of the value.

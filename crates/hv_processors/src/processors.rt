@@ -12,7 +12,7 @@ use crate::rows::{add, remove, write};
 use crate::rules::{is_known, is_vp_free, may_access, register, takes};
 use hv_defs::VP_CHARGE;
 use hv_partition::Partition;
-use hv_policy::{Output, Rule, States};
+use hv_policy::{CallOutput, Rule, States};
 use hv_tie::{Refused, has_available, has_vp, is_state_allowed, meant};
 use hv_tree::IdTree;
 use std::alloc::{AllocError, Allocator};
@@ -25,7 +25,7 @@ pub fn create_vp<A: Allocator + Clone>(
     caller: u64,
     partition: u64,
     vp: u32,
-) -> Result<Output, Refused>
+) -> Result<CallOutput, Refused>
     requires { IsAdmitted tree.old caller (call.CreateVp partition vp) }
     ensures { (f : Flat) → IsTied tree.old f → IsOutcome f caller (call.CreateVp partition vp) tree.old result tree.new }
 {
@@ -33,7 +33,7 @@ pub fn create_vp<A: Allocator + Clone>(
         return Err(Refused::Unmet(rule));
     }
     match add(tree, alloc, meant(caller, partition), vp) {
-        Ok(()) => Ok(Output::new()),
+        Ok(()) => Ok(CallOutput::new()),
         Err(AllocError) => Err(Refused::Memory),
     }
 }
@@ -67,7 +67,7 @@ pub fn delete_vp<A: Allocator>(
     caller: u64,
     partition: u64,
     vp: u32,
-) -> Result<Output, Refused>
+) -> Result<CallOutput, Refused>
     requires { IsAdmitted tree.old caller (call.DeleteVp partition vp) }
     ensures { (f : Flat) → IsTied tree.old f → IsOutcome f caller (call.DeleteVp partition vp) tree.old result tree.new }
 {
@@ -79,7 +79,7 @@ pub fn delete_vp<A: Allocator>(
         return Err(Refused::Unmet(Rule::VpExists));
     }
     remove(tree, target, vp);
-    Ok(Output::new())
+    Ok(CallOutput::new())
 }
 
 /// HvGetVpRegisters, one element: the value of a register of the target's processor, in the lower half of 16 bytes.
@@ -89,7 +89,7 @@ pub fn get_vp_registers<A: Allocator>(
     partition: u64,
     vp: u32,
     name: u32,
-) -> Result<Output, Refused>
+) -> Result<CallOutput, Refused>
     ensures { (f : Flat) → IsTied tree.now f → IsOutcome f caller (call.GetVpRegisters partition vp name) tree.now result tree.now }
 {
     if let Some(rule) = unmet_get(tree, caller, partition, vp, name) {
@@ -141,10 +141,10 @@ fn unmet_register<A: Allocator>(
 }
 
 // The output of a register's value: 16 bytes, of which the upper 8 are 0.
-fn register_output(value: u64) -> Output
+fn register_output(value: u64) -> CallOutput
     ensures { result ≡ to_le_bytes w64 value ++ to_le_bytes w64 0 }
 {
-    let mut output = Output::new();
+    let mut output = CallOutput::new();
     output.push_number(value);
     output.push_number(0);
     output
@@ -158,14 +158,14 @@ pub fn set_vp_registers<A: Allocator>(
     vp: u32,
     name: u32,
     value: u64,
-) -> Result<Output, Refused>
+) -> Result<CallOutput, Refused>
     ensures { (f : Flat) → IsTied tree.old f → IsOutcome f caller (call.SetVpRegisters partition vp name value) tree.old result tree.new }
 {
     if let Some(rule) = unmet_set(tree, caller, partition, vp, name, value) {
         return Err(Refused::Unmet(rule));
     }
     write(tree, meant(caller, partition), vp, name, value);
-    Ok(Output::new())
+    Ok(CallOutput::new())
 }
 
 // P12, P18, P19 and P21.

@@ -8,7 +8,7 @@ ghost use Rattle.hv_tie.specs.Tie.{IsTied};
 use crate::rows::set_property;
 use crate::rules::{is_in_range, is_known, may_give, property_value};
 use hv_partition::Partition;
-use hv_policy::{Output, Property, Rule, states_to_set};
+use hv_policy::{CallOutput, Property, Rule, states_to_set};
 use hv_tie::{Refused, is_state_allowed, meant, number_output};
 use hv_tree::IdTree;
 use std::alloc::Allocator;
@@ -19,7 +19,7 @@ pub fn get_partition_property<A: Allocator>(
     caller: u64,
     partition: u64,
     code: u32,
-) -> Result<Output, Refused>
+) -> Result<CallOutput, Refused>
     ensures { (f : Flat) → IsTied tree.now f → IsOutcome f caller (call.GetPartitionProperty partition code) tree.now result tree.now }
 {
     if !is_known(code) {
@@ -35,14 +35,14 @@ pub fn set_partition_property<A: Allocator>(
     partition: u64,
     code: u32,
     value: u64,
-) -> Result<Output, Refused>
+) -> Result<CallOutput, Refused>
     ensures { (f : Flat) → IsTied tree.old f → IsOutcome f caller (call.SetPartitionProperty partition code value) tree.old result tree.new }
 {
     if let Some(rule) = unmet_set(tree, caller, partition, code, value) {
         return Err(Refused::Unmet(rule));
     }
     set_property(tree, meant(caller, partition), code, value);
-    Ok(Output::new())
+    Ok(CallOutput::new())
 }
 
 // P11, P12, P18 and P20.

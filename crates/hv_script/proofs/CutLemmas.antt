@@ -7,11 +7,17 @@ use Rattle.std.proofs.lemmas.List.{take_all, drop_all, get_or-take, length-drop,
 use Rattle.std.proofs.lemmas.List.Splits.{slice_split_first}
 use Rattle.std.proofs.lemmas.List.Sums.{fails_before_first, list_all-from_AllPass, position_or_len_is}
 use Rattle.std.proofs.lemmas.Option.{cond_some}
+use Rattle.hv_script.specs.Bits.{is_bad}
 use Rattle.hv_script.specs.Words.{has_good_bytes}
 
 -- the place of the first byte that passes, if one does
 abbrev pub found_in : (ℕ → Bool) → List ℕ → Option ℕ
 found_in test text = cond (nat_lt (position_or_len test text) (length text)) (Some (position_or_len test text)) None
+
+pub found_at : (test : ℕ → Bool) (text : List ℕ) (at : ℕ) → at ≡ position_or_len test text → at < length text → Some at ≡ found_in test text
+found_at test text at is there =
+    let passes : nat_lt at (length text) ≡ true = grind (arith, nat_tests) in
+    rw (← is, passes) refl
 
 place : (test : ℕ → Bool) (text : List ℕ) (r : Option ℕ) (at : ℕ) → r ≡ found_in test text → r ≡ Some at
     → (nat_lt (position_or_len test text) (length text) ≡ true) × (position_or_len test text ≡ at)
@@ -50,17 +56,14 @@ one_part : (t : Bool) (x : ℕ) (xs : List ℕ) (parts : List (List ℕ)) (n : �
 one_part true x xs parts n none rest = absurd (omega (arith, none))
 one_part false x xs parts n none rest = ap (onto_first x) (rest (omega (arith, none)))
 
-whole : (test : ℕ → Bool) (text : List ℕ) → length text ≤ position_or_len test text → slice_split test text ≡ text ∷ []
+-- a text in which no byte passes is one part
+pub whole : (test : ℕ → Bool) (text : List ℕ) → length text ≤ position_or_len test text → slice_split test text ≡ text ∷ []
 whole test [] none = refl
 whole test (x ∷ xs) none = one_part (test x) x xs (slice_split test xs) (position_or_len test xs) none (whole test xs)
 
 -- the one part of a text in which no byte passes
 pub split_uncut : (test : ℕ → Bool) (text : List ℕ) (r : Option ℕ) → r ≡ found_in test text → r ≡ None → slice_split test text ≡ text ∷ []
 split_uncut test text r found none = whole test text (uncut test text r found none)
-
--- a byte that may not stand in a script
-abbrev pub is_bad : ℕ → Bool
-is_bad byte = not (nat_le 0x20 byte && nat_le byte 0x7E)
 
 not_bad : (t : Bool) → not t ≡ false → t ≡ true
 not_bad true e = refl

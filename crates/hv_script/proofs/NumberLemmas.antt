@@ -1,10 +1,10 @@
 -- Digits, one after the other.
-use Rattle.std.proofs.Common.{◌≡◌, ℕ, ◌+◌, ◌*◌, ◌%◌, ◌<◌, ◌≤◌, ◌&&◌, nat_eq, nat_lt, nat_le, Bool, true, false, cond, List, [], ◌∷◌, ◌++◌, refl, length, get_or, take, drop, codes, zero, suc, Option, Some, None, option_and_then, Result, Ok, Err, ◌==◌, ◌^◌, ap, sym, ◌∙◌, append_assoc, arith}
-use Rattle.std.proofs.lemmas.List.{length-append}
+use Rattle.std.proofs.Common.{◌≡◌, ℕ, ◌+◌, ◌*◌, ◌%◌, ◌<◌, ◌≤◌, ◌&&◌, nat_eq, nat_lt, nat_le, Bool, true, false, cond, List, [], ◌∷◌, ◌++◌, refl, length, get_or, take, drop, codes, zero, suc, Option, Some, None, option_and_then, Result, Ok, Err, ◌==◌, ◌^◌, ap, sym, ◌∙◌, append_assoc, arith, lit≤}
+use Rattle.std.proofs.lemmas.List.{length-append, length-take-le}
 use Rattle.std.specs.Option.{SomeIff}
 use Rattle.std.specs.Char.{digit_value}
 use Rattle.std.specs.Str.Parse.{AllDigits, IsNumeral, digits_value}
-use Rattle.std.proofs.lemmas.Int.Digits.{digits_value_more}
+use Rattle.std.proofs.lemmas.Int.Digits.{digits_more, digits_value-lt, digits_value_more}
 use Rattle.std.specs.Bool.{Decides}
 use Rattle.std.specs.Result.{OkIff, result_ok}
 use Rattle.std.specs.Str.{bytes_eq}
@@ -13,7 +13,7 @@ use Rattle.std.specs.List.{starts_with}
 use Rattle.std.proofs.lemmas.Bool.{false≢true}
 use Rattle.std.proofs.lemmas.Bool.Decides.{Decides-and, Decides-eqb, Decides-ltb, nat_tests}
 use Rattle.hv_script.specs.Number.{are_digits, bytes_in, bytes_of, decimal_in, digits_in, fitting, number_in}
-use Rattle.std.proofs.Math.Nat.{pow-le-pow_right}
+use Rattle.std.proofs.Math.Nat.{pow-le-pow_left, pow-le-pow_right}
 use Rattle.std.proofs.lemmas.Str.Parse.{digits_value-take-le}
 
 pub all_digits_at : (base : ℕ) (ds : List ℕ) (i : ℕ) → AllDigits base ds → i < length ds → digit_value (get_or ds i 0) < base
@@ -28,6 +28,21 @@ one_more_le base value ds i least lt is =
     let more = digits_value_more base ds i lt in
     let le = digits_value-take-le base ds (i + 1) least in
     rw is (rw (← more) le)
+
+-- the number that so few digits write fits 64 bits
+pub few_fit : (base : ℕ) (ds : List ℕ) → 2 ≤ base → base ≤ 16 → length ds ≤ 16 → AllDigits base ds → digits_value base ds < 2 ^ 64
+few_fit base ds least most few digits =
+    let long : base ^ length ds ≤ base ^ 16 = pow-le-pow_right {n = base} (omega arith) few in
+    let wide : base ^ 16 ≤ 16 ^ 16 = pow-le-pow_left most 16 in
+    let whole : 16 ^ 16 ≤ 2 ^ 64 = lit≤ tt in
+    omega (arith, digits_value-lt base ds digits, long, wide, whole)
+
+-- so does that of a part of them with one digit more
+pub one_more_fits : (base value : ℕ) (ds : List ℕ) (i : ℕ) → 2 ≤ base → base ≤ 16 → length ds ≤ 16 → i < length ds → value ≡ digits_value base (take i ds)
+    → AllDigits base (take i ds) → digit_value (get_or ds i 0) < base → value * base + digit_value (get_or ds i 0) < 2 ^ 64
+one_more_fits base value ds i least most few lt is digits below =
+    let short : length (take (i + 1) ds) ≤ 16 = omega (arith, length-take-le (i + 1) ds (omega (arith, lt)), few, lt) in
+    rw is (rw (← digits_value_more base ds i lt) (few_fit base (take (i + 1) ds) least most short (digits_more base ds i lt digits below)))
 
 not_from_true : (t : Bool) → (t ≡ true → ⊥) → t ≡ false
 not_from_true true no_way = absurd (no_way refl)

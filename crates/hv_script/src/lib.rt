@@ -6,7 +6,9 @@
 //! it gives that one, want of memory apart. What a number, the bytes, a word and a line are stands beside it.
 #![tactic(auto)]
 
+mod block;
 mod boot;
+mod cut;
 mod fault;
 mod fields;
 mod line;
@@ -14,7 +16,6 @@ mod number;
 mod reading;
 mod script;
 mod verb;
-mod words;
 
 pub use fault::{FaultKind, ScriptFault};
 pub use line::Line;

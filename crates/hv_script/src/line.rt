@@ -3,12 +3,13 @@ ghost use Rattle.std.specs.Prelude.{◌≡◌, ◌==◌};
 ghost use Rattle.std.specs.List.{after_first, before_first};
 ghost use Rattle.hv_script.specs.Fault.{IsRead};
 ghost use Rattle.hv_script.specs.Line.{action_of, fields_of, processor_of};
+ghost use Rattle.hv_script.specs.Words.{words_of};
 ghost use Rattle.hv_script.specs.declared.verb.Verb.TheVariants as kind;
 
+use crate::cut::CutLine;
 use crate::fault::FaultKind;
 use crate::number;
 use crate::verb::Verb;
-use crate::words::Words;
 use hv_abi::{Bytes, Frame};
 use hv_policy::{Action, Caller};
 use std::alloc::Allocator;
@@ -48,44 +49,44 @@ fn around_dot(word: &[u8]) -> (&[u8], &[u8])
 
 /// Reads what a processor's line asks for.
 #[tactic(auto, unfolding(crate::specs::Line::action_of))]
-pub fn action<A: Allocator + Clone>(alloc: &A, words: &Words<'_>) -> Result<Action<A>, FaultKind>
-    ensures { IsRead result (λ action. action) (action_of words.now) }
+pub fn action<A: Allocator + Clone>(alloc: &A, line: &CutLine<'_>) -> Result<Action<A>, FaultKind>
+    ensures { IsRead result (λ action. action) (action_of (words_of line.now)) }
 {
-    let verb = Verb::of(words.word(1)).ok_or(FaultKind::Word)?;
-    if !words.are(verb.words()) {
+    let verb = Verb::of(line.word(1)).ok_or(FaultKind::Word)?;
+    if !line.has_words(verb.words()) {
         return Err(FaultKind::Count);
     }
-    fields(alloc, verb, words)
+    fields(alloc, verb, line)
 }
 
 // Reads the words after the second.
 fn fields<A: Allocator + Clone>(
     alloc: &A,
     verb: Verb,
-    words: &Words<'_>,
+    line: &CutLine<'_>,
 ) -> Result<Action<A>, FaultKind>
-    ensures { IsRead result (λ action. action) (fields_of verb words.now) }
+    ensures { IsRead result (λ action. action) (fields_of verb (words_of line.now)) }
 {
     match verb {
-        Verb::Call => call(alloc, words),
-        Verb::ReadMsr => read_msr(words),
-        Verb::WriteMsr => write_msr(words),
-        Verb::ReadSlot => words.number_8(2).map(|sint| Action::ReadSlot(sint)),
-        Verb::ClearSlot => words.number_8(2).map(|sint| Action::ClearSlot(sint)),
-        Verb::ReadFlags => words.number_8(2).map(|sint| Action::ReadFlags(sint)),
-        Verb::ClearFlag => clear_flag(words),
+        Verb::Call => call(alloc, line),
+        Verb::ReadMsr => read_msr(line),
+        Verb::WriteMsr => write_msr(line),
+        Verb::ReadSlot => line.number_8(2).map(|sint| Action::ReadSlot(sint)),
+        Verb::ClearSlot => line.number_8(2).map(|sint| Action::ClearSlot(sint)),
+        Verb::ReadFlags => line.number_8(2).map(|sint| Action::ReadFlags(sint)),
+        Verb::ClearFlag => clear_flag(line),
         Verb::TakeInterrupt => Ok(Action::TakeInterrupt),
     }
 }
 
-fn call<A: Allocator + Clone>(alloc: &A, words: &Words<'_>) -> Result<Action<A>, FaultKind>
-    ensures { IsRead result (λ action. action) (fields_of kind.Call words.now) }
+fn call<A: Allocator + Clone>(alloc: &A, line: &CutLine<'_>) -> Result<Action<A>, FaultKind>
+    ensures { IsRead result (λ action. action) (fields_of kind.Call (words_of line.now)) }
 {
-    let rcx = words.number(2)?;
-    let rdx = words.number(3)?;
-    let r8 = words.number(4)?;
+    let rcx = line.number(2)?;
+    let rdx = line.number(3)?;
+    let r8 = line.number(4)?;
     let alloc = alloc.clone().map_err(|_| FaultKind::Memory)?;
-    let input = Bytes::from_vec(words.bytes(alloc, 5)?);
+    let input = Bytes::from_vec(line.bytes(alloc, 5)?);
     Ok(Action::Hypercall(Frame {
         rcx,
         rdx,
@@ -94,24 +95,24 @@ fn call<A: Allocator + Clone>(alloc: &A, words: &Words<'_>) -> Result<Action<A>,
     }))
 }
 
-fn read_msr<A: Allocator>(words: &Words<'_>) -> Result<Action<A>, FaultKind>
-    ensures { result ≡ fields_of kind.ReadMsr words.now }
+fn read_msr<A: Allocator>(line: &CutLine<'_>) -> Result<Action<A>, FaultKind>
+    ensures { result ≡ fields_of kind.ReadMsr (words_of line.now) }
 {
-    Ok(Action::ReadMsr(words.number_32(2)?))
+    Ok(Action::ReadMsr(line.number_32(2)?))
 }
 
-fn write_msr<A: Allocator>(words: &Words<'_>) -> Result<Action<A>, FaultKind>
-    ensures { result ≡ fields_of kind.WriteMsr words.now }
+fn write_msr<A: Allocator>(line: &CutLine<'_>) -> Result<Action<A>, FaultKind>
+    ensures { result ≡ fields_of kind.WriteMsr (words_of line.now) }
 {
-    let msr = words.number_32(2)?;
-    let value = words.number(3)?;
+    let msr = line.number_32(2)?;
+    let value = line.number(3)?;
     Ok(Action::WriteMsr(msr, value))
 }
 
-fn clear_flag<A: Allocator>(words: &Words<'_>) -> Result<Action<A>, FaultKind>
-    ensures { result ≡ fields_of kind.ClearFlag words.now }
+fn clear_flag<A: Allocator>(line: &CutLine<'_>) -> Result<Action<A>, FaultKind>
+    ensures { result ≡ fields_of kind.ClearFlag (words_of line.now) }
 {
-    let sint = words.number_8(2)?;
-    let flag = words.number_16(3)?;
+    let sint = line.number_8(2)?;
+    let flag = line.number_16(3)?;
     Ok(Action::ClearFlag(sint, flag))
 }

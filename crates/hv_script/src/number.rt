@@ -4,6 +4,7 @@ ghost use Rattle.std.specs.Char.{digit_value};
 ghost use Rattle.std.specs.Option.{SomeIff};
 ghost use Rattle.std.specs.Str.Parse.{AllDigits, IsNumeral, digits_value};
 ghost use Rattle.hv_script.specs.Fault.{IsRead};
+ghost use Rattle.hv_script.specs.declared.number.TheConstants.{FEW_DIGITS};
 ghost use Rattle.hv_script.specs.Number.{bytes_in, bytes_of, decimal_in, number_in};
 
 use crate::fault::FaultKind;
@@ -11,6 +12,9 @@ use std::alloc::Allocator;
 
 // The most digits that a word for bytes has.
 const MOST_DIGITS: usize = 8192;
+
+// So many digits always fit 64 bits, in each base up to 16.
+const FEW_DIGITS: usize = 16;
 
 /// A number of 64 bits in decimal digits, with any number of leading zeros.
 pub fn decimal(word: &[u8]) -> Option<u64>
@@ -27,6 +31,7 @@ pub fn decimal_32(word: &[u8]) -> Option<u32>
 }
 
 /// A number of 64 bits in decimal digits, or in `0x` and 1 to 16 hexadecimal digits of either case.
+#[inline(always)]
 pub fn number(word: &[u8]) -> Option<u64>
     ensures { result ≡ number_in 64 word.now }
 {
@@ -116,12 +121,41 @@ fn hex_digit(byte: u8) -> Option<u8>
 #[inline(always)]
 fn digits(word: &[u8], base: u64) -> Option<u64>
     requires least { 2 ≤ base }
-    requires most { base ≤ 36 }
+    requires most { base ≤ 16 }
     ensures { SomeIff result (IsNumeral base word.now × (digits_value base word.now < 2 ^ 64)) (digits_value base word.now) }
 {
     if word.is_empty() {
         return None;
     }
+    if word.len() <= FEW_DIGITS {
+        few_digits(word, base)
+    } else {
+        many_digits(word, base)
+    }
+}
+
+// The number of so few digits that it always fits, with no check at each digit.
+#[inline(always)]
+fn few_digits(word: &[u8], base: u64) -> Option<u64>
+    requires least { 2 ≤ base }
+    requires most { base ≤ 16 }
+    requires few { length word.now ≤ FEW_DIGITS }
+    ensures { SomeIff result (AllDigits base word.now) (digits_value base word.now) }
+{
+    let mut value = 0u64;
+    for byte in word {
+        let digit = char::from(*byte).to_digit(base as u32)?;
+        value = value * base + u64::from(digit);
+    }
+    Some(value)
+}
+
+// The number of any digits, where it fits 64 bits.
+fn many_digits(word: &[u8], base: u64) -> Option<u64>
+    requires least { 2 ≤ base }
+    requires most { base ≤ 16 }
+    ensures { SomeIff result (AllDigits base word.now × (digits_value base word.now < 2 ^ 64)) (digits_value base word.now) }
+{
     let mut value = 0u64;
     for byte in word {
         let digit = char::from(*byte).to_digit(base as u32)?;

@@ -3,9 +3,9 @@ ghost use Rattle.std.specs.Prelude.{◌≡◌, ◌≤◌, All};
 ghost use Rattle.hv_script.specs.Callers.{callers_of};
 
 use crate::boot::{Boot, read_boot};
+use crate::cut::CutLine;
 use crate::fault::FaultKind;
 use crate::line::{Line, action, processor};
-use crate::words::Words;
 use hv_policy::{Action, Caller};
 use std::alloc::Allocator;
 
@@ -31,44 +31,41 @@ impl<A: Allocator + Clone> Reading<A> {
     ghost use Rattle.hv_script.specs.Fault.{IsRead};
     ghost use Rattle.hv_script.specs.Reading.{phase_by, read_by, so_far};
     ghost use Rattle.hv_script.specs.Script.{first_line, later_line, phase_line, processor_line, read_line, with_line};
-    ghost use Rattle.hv_script.specs.Words.{has_good_bytes};
+    ghost use Rattle.hv_script.specs.Words.{words_of};
 
-    /// Reads a line, which has good bytes or not, after what was read before it.
+    /// Reads a line after what was read before it.
     #[tactic(auto, unfolding(crate::specs::Script::read_line))]
     pub fn read_line(
         alloc: &A,
         reading: &mut Option<Reading<A>>,
-        line: &[u8],
-        is_good: bool,
+        line: &CutLine<'_>,
     ) -> Result<(), FaultKind>
         requires phases { phase_by reading.old + 1 < 2 ^ 32 }
-        requires good { is_good ≡ has_good_bytes line.now }
         ensures read { IsRead result (λ _. read_by reading.new) (read_line (read_by reading.old) line.now) }
         ensures phase { OnOk result (phase_by reading.new ≤ phase_by reading.old + 1) }
     {
-        let words = Words::of(line);
-        if words.are_skipped() {
+        if line.is_skipped() {
             return Ok(());
         }
-        if !is_good {
+        if !line.is_good() {
             return Err(FaultKind::Byte);
         }
         match reading {
-            None => *reading = Some(Reading::first_line(alloc, &words)?),
-            Some(reading) => reading.later_line(alloc, &words)?,
+            None => *reading = Some(Reading::first_line(alloc, line)?),
+            Some(reading) => reading.later_line(alloc, line)?,
         }
         Ok(())
     }
 
     // Reads the first line, which is a `boot` line.
-    fn first_line(alloc: &A, words: &Words<'_>) -> Result<Reading<A>, FaultKind>
-        ensures read { IsRead result so_far (first_line words.now) }
+    fn first_line(alloc: &A, line: &CutLine<'_>) -> Result<Reading<A>, FaultKind>
+        ensures read { IsRead result so_far (first_line (words_of line.now)) }
         ensures phase { IfOk result (λ reading. reading.phase ≡ 0) }
     {
-        if !words.begin_with(b"boot".as_slice()) {
+        if !line.begins_with(b"boot".as_slice()) {
             return Err(FaultKind::NoBoot);
         }
-        let boot = read_boot(words)?;
+        let boot = read_boot(line)?;
         let callers = alloc.clone().map_err(|_| FaultKind::Memory)?;
         let lines = alloc.clone().map_err(|_| FaultKind::Memory)?;
         Ok(Reading {
@@ -81,28 +78,28 @@ impl<A: Allocator + Clone> Reading<A> {
 
     // Reads any line after the first.
     #[tactic(auto, unfolding(crate::specs::Script::later_line))]
-    fn later_line(&mut self, alloc: &A, words: &Words<'_>) -> Result<(), FaultKind>
+    fn later_line(&mut self, alloc: &A, line: &CutLine<'_>) -> Result<(), FaultKind>
         requires { self.old.phase + 1 < 2 ^ 32 }
-        ensures read { IsRead result (λ _. so_far self.new) (later_line (so_far self.old) words.now) }
+        ensures read { IsRead result (λ _. so_far self.new) (later_line (so_far self.old) (words_of line.now)) }
         ensures phase { OnOk result (self.new.phase ≤ self.old.phase + 1) }
     {
-        if words.begin_with(b"boot".as_slice()) {
+        if line.begins_with(b"boot".as_slice()) {
             return Err(FaultKind::BootTwice);
         }
-        if words.begin_with(b"phase".as_slice()) {
-            return self.phase_line(words);
+        if line.begins_with(b"phase".as_slice()) {
+            return self.phase_line(line);
         }
-        self.processor_line(alloc, words)
+        self.processor_line(alloc, line)
     }
 
     // Reads a `phase` line.
     #[tactic(auto, using(crate::proofs::CallerLemmas::no_callers))]
-    fn phase_line(&mut self, words: &Words<'_>) -> Result<(), FaultKind>
+    fn phase_line(&mut self, line: &CutLine<'_>) -> Result<(), FaultKind>
         requires { self.old.phase + 1 < 2 ^ 32 }
-        ensures read { IsRead result (λ _. so_far self.new) (phase_line (so_far self.old) words.now) }
+        ensures read { IsRead result (λ _. so_far self.new) (phase_line (so_far self.old) (words_of line.now)) }
         ensures phase { OnOk result (self.new.phase ≤ self.old.phase + 1) }
     {
-        if !words.are(1) {
+        if !line.has_words(1) {
             return Err(FaultKind::Count);
         }
         self.callers.clear();
@@ -112,12 +109,12 @@ impl<A: Allocator + Clone> Reading<A> {
 
     // Reads a line of a processor.
     #[tactic(auto, unfolding(crate::specs::Script::processor_line))]
-    fn processor_line(&mut self, alloc: &A, words: &Words<'_>) -> Result<(), FaultKind>
-        ensures read { IsRead result (λ _. so_far self.new) (processor_line (so_far self.old) words.now) }
+    fn processor_line(&mut self, alloc: &A, line: &CutLine<'_>) -> Result<(), FaultKind>
+        ensures read { IsRead result (λ _. so_far self.new) (processor_line (so_far self.old) (words_of line.now)) }
         ensures phase { self.new.phase ≡ self.old.phase }
     {
-        let by = processor(words.word(0))?;
-        let action = action(alloc, words)?;
+        let by = processor(line.word(0))?;
+        let action = action(alloc, line)?;
         let is_new = !self.names(by);
         if is_new && self.callers.len() >= MOST_PROCESSORS {
             return Err(FaultKind::TooMany);

@@ -5,10 +5,10 @@ ghost use Rattle.hv_script.specs.Script.{read_lines, script_of};
 ghost use Rattle.hv_script.specs.Words.{lines_of};
 ghost use Rattle.hv_script.specs.declared.script.TheConstants.{MOST_BYTES as MOST};
 
+use crate::cut::next_line;
 use crate::fault::{FaultKind, ScriptFault};
 use crate::line::Line;
 use crate::reading::Reading;
-use crate::words::next_line;
 use hv_policy::Config;
 use std::alloc::Allocator;
 
@@ -67,10 +67,10 @@ fn read_lines<A: Allocator + Clone>(
     let mut number = 0usize;
     let mut left = Some(text);
     'lines: while let Some(here) = left {
-        let (line, is_good, rest) = next_line(here);
+        let (line, rest) = next_line(here);
         left = rest;
         number += 1;
-        Reading::read_line(alloc, &mut reading, line, is_good).map_err(|kind| ScriptFault {
+        Reading::read_line(alloc, &mut reading, &line).map_err(|kind| ScriptFault {
             line: number,
             kind,
         })?;

@@ -1,7 +1,8 @@
 // The blocks: where the parameters of each call stand in its input, and when rule P7 refuses one.
 ghost use Rattle.std.specs.Prelude.{◌≡◌, ℕ, ◌+◌, ◌*◌, ◌==◌, ◌&&◌, not, nat_le, true, false, List, [], ◌∷◌};
 ghost use Rattle.hv_abi.specs.declared.call_kind.CallKind.TheVariants as kind;
-ghost use Rattle.hv_calls.specs.Blocks.{bytes_at, call_in, port_kind};
+ghost use Rattle.hv_calls.specs.Blocks.{call_in, port_kind};
+ghost use Rattle.hv_calls.specs.Bytes.{bytes_at};
 ghost use Rattle.hv_calls.specs.Params.{element_at};
 ghost use Rattle.hv_calls.specs.WellFormed.{are_flags, are_well_formed, is_id, is_message_type, is_port_type};
 ghost use Rattle.hv_calls.specs.declared.call.Call.TheVariants as call;

@@ -3,14 +3,15 @@ use Rattle.std.proofs.Common.{◌≡◌, ℕ, zero, suc, ◌+◌, ◌≤◌, Lis
 use Rattle.std.specs.List.{slice_get}
 use Rattle.std.specs.Prelude.{Option}
 use Rattle.std.specs.Io.KnownBytes.{Appends}
-use Rattle.std.proofs.KnownBytes.{Appends-trans}
+use Rattle.std.proofs.KnownBytes.{Appends-nil, Appends-trans}
 use Rattle.hv_history.specs.declared.entry.Entry.{Entry}
 use Rattle.hv_text.specs.Audit.{audit_text, entries_text, entry_text}
 use Rattle.hv_text.specs.Fault.{IsCut, IsCutAfter}
 use Rattle.hv_text.specs.declared.fault.PrintFault.{PrintFault}
 use Rattle.hv_text.proofs.Cuts.{cut-in}
 
-ended : (text count : List ℕ) → ((text ++ codes "events ") ++ count) ++ codes "\n" ≡ text ++ (codes "events " ++ count ++ codes "\n")
+-- a text with the last line
+pub ended : (text count : List ℕ) → ((text ++ codes "events ") ++ count) ++ codes "\n" ≡ text ++ (codes "events " ++ count ++ codes "\n")
 ended text count = append_assoc (text ++ codes "events ") count (codes "\n") ∙ append_assoc text (codes "events ") (count ++ codes "\n") ∙ ap (λ t. text ++ t) (sym (append_assoc (codes "events ") count (codes "\n")))
 
 module _ {A : Type 0} where
@@ -59,15 +60,14 @@ module _ {A : Type 0} where
       let number : 1 + i ≡ i + 1 = omega arith in
       grown 1 entries i entry is ∙ ap (λ n. entries_text 1 (take i entries) ++ line_of n entry) number
 
-  -- the whole text begins with the lines of the first events and the next one
-  pub whole : (entries : List (Entry A)) (i : ℕ) (entry : Entry A) → slice_get entries i ≡ Some entry
-      → audit_text entries ≡ (entries_text 1 (take i entries) ++ line_of (i + 1) entry) ++ (entries_text (1 + (i + 1)) (drop (i + 1) entries) ++ last_of entries)
+  -- the whole text begins with the lines of the first events
+  pub whole : (entries : List (Entry A)) (i : ℕ)
+      → audit_text entries ≡ entries_text 1 (take i entries) ++ (entries_text (1 + i) (drop i entries) ++ last_of entries)
   unfolding audit_text
-  whole entries i entry is =
-      let front : List ℕ = entries_text 1 (take i entries) ++ line_of (i + 1) entry in
-      let more : List ℕ = entries_text (1 + (i + 1)) (drop (i + 1) entries) in
-      let cut : entries_text 1 entries ≡ front ++ more = split 1 entries (i + 1) ∙ ap (λ t. t ++ more) (one-more entries i entry is) in
-      ended (entries_text 1 entries) (decimal (length entries)) ∙ ap (λ t. t ++ last_of entries) cut ∙ append_assoc front more (last_of entries)
+  whole entries i =
+      let front : List ℕ = entries_text 1 (take i entries) in
+      let more : List ℕ = entries_text (1 + i) (drop i entries) in
+      ended (entries_text 1 entries) (decimal (length entries)) ∙ ap (λ t. t ++ last_of entries) (split 1 entries i) ∙ append_assoc front more (last_of entries)
 
   -- the lines of all events are the text but for its last line
   pub whole-last : (entries : List (Entry A)) (i : ℕ) → length entries ≤ i → audit_text entries ≡ entries_text 1 (take i entries) ++ last_of entries
@@ -75,47 +75,61 @@ module _ {A : Type 0} where
   whole-last entries i past =
       ended (entries_text 1 entries) (decimal (length entries)) ∙ ap (λ es. entries_text 1 es ++ last_of entries) (sym (take_all i entries past))
 
-  -- a writer that had the lines of the first events was handed a part of the next one's
-  pub cut-at : (old mid new : Option (List ℕ)) (entries : List (Entry A)) (i : ℕ) (entry : Entry A) (written : ℕ) (part : List ℕ) (fault : PrintFault)
-      → slice_get entries i ≡ Some entry → part ≡ line_of (i + 1) entry
-      → Appends old mid (entries_text 1 (take i entries)) → written ≡ length (entries_text 1 (take i entries))
-      → IsCutAfter written mid new part fault → IsCut old new (audit_text entries) fault
-  cut-at old mid new entries i entry written part fault is line gone count cut =
-      cut-in old mid new (audit_text entries) _ part _ written fault gone count
-      (whole entries i entry is ∙ ap (λ p. (entries_text 1 (take i entries) ++ p) ++ (entries_text (1 + (i + 1)) (drop (i + 1) entries) ++ last_of entries)) (sym line))
-      cut
+  -- of the lines of the first events all but the last ones went out, and the bytes that did were counted
+  pub record HasSent (old new : Option (List ℕ)) (entries : List (Entry A)) (i written : ℕ) (left : List ℕ) : Type 0 where
+    pub sent : List ℕ
+    pub gone : Appends old new sent
+    pub count : written ≡ length sent
+    pub lines : entries_text 1 (take i entries) ≡ sent ++ left
 
-  -- and the whole of it
-  pub more-at : (old mid new : Option (List ℕ)) (entries : List (Entry A)) (i : ℕ) (entry : Entry A) (part : List ℕ)
-      → slice_get entries i ≡ Some entry → part ≡ line_of (i + 1) entry
-      → Appends old mid (entries_text 1 (take i entries)) → Appends mid new part
-      → Appends old new (entries_text 1 (take (i + 1) entries))
-  more-at old mid new entries i entry part is line gone more =
-      rw (one-more entries i entry is, ← line) (Appends-trans old mid new _ part gone more)
+  pub sent-none : (old : Option (List ℕ)) (entries : List (Entry A)) (left : List ℕ) → left ≡ [] → HasSent old old entries 0 0 left
+  sent-none old entries left none = record { sent = []; gone = Appends-nil old; count = refl; lines = sym none }
 
-  pub count-at : (entries : List (Entry A)) (i : ℕ) (entry : Entry A) (written after : ℕ) (part : List ℕ)
-      → slice_get entries i ≡ Some entry → part ≡ line_of (i + 1) entry
-      → written ≡ length (entries_text 1 (take i entries)) → after ≡ written + length part
-      → after ≡ length (entries_text 1 (take (i + 1) entries))
-  count-at entries i entry written after part is line count grew =
-      let all : length (entries_text 1 (take (i + 1) entries)) ≡ length (entries_text 1 (take i entries)) + length part =
-      ap length (one-more entries i entry is ∙ ap (λ p. entries_text 1 (take i entries) ++ p) (sym line)) ∙ length-append (entries_text 1 (take i entries)) part in
-      omega arith
+  -- one event more
+  pub sent-more : (old new : Option (List ℕ)) (entries : List (Entry A)) (i written : ℕ) (left more : List ℕ) (entry : Entry A)
+      → HasSent old new entries i written left → slice_get entries i ≡ Some entry → more ≡ left ++ line_of (i + 1) entry
+      → HasSent old new entries (i + 1) written more
+  sent-more old new entries i written left more entry is at line = record {
+    sent = is.sent;
+    gone = is.gone;
+    count = is.count;
+    lines = one-more entries i entry at ∙ ap (λ t. t ++ line_of (i + 1) entry) is.lines
+        ∙ append_assoc is.sent left (line_of (i + 1) entry) ∙ ap (λ t. is.sent ++ t) (sym line);
+  }
 
-  -- a writer that had the lines of all events was handed a part of the last line
-  pub cut-last : (old mid new : Option (List ℕ)) (entries : List (Entry A)) (i written : ℕ) (part : List ℕ) (fault : PrintFault)
-      → length entries ≤ i → part ≡ last_of entries
-      → Appends old mid (entries_text 1 (take i entries)) → written ≡ length (entries_text 1 (take i entries))
-      → IsCutAfter written mid new part fault → IsCut old new (audit_text entries) fault
-  cut-last old mid new entries i written part fault past line gone count cut =
-      cut-in old mid new (audit_text entries) _ part [] written fault gone count
-      (whole-last entries i past ∙ ap (λ p. entries_text 1 (take i entries) ++ p) (sym line) ∙ sym (append-nil (entries_text 1 (take i entries) ++ part)))
-      cut
+  -- what was left went out too
+  pub sent-all : (old mid new : Option (List ℕ)) (entries : List (Entry A)) (i written after : ℕ) (left none : List ℕ)
+      → HasSent old mid entries i written left → Appends mid new left → after ≡ written + length left → none ≡ []
+      → HasSent old new entries i after none
+  sent-all old mid new entries i written after left none is more count empty = record {
+    sent = is.sent ++ left;
+    gone = Appends-trans old mid new is.sent left is.gone more;
+    count = omega (arith, is.count, length-append is.sent left);
+    lines = is.lines ∙ sym (append-nil (is.sent ++ left)) ∙ ap (λ t. (is.sent ++ left) ++ t) (sym empty);
+  }
 
-  -- and the whole of it
-  pub all-last : (old mid new : Option (List ℕ)) (entries : List (Entry A)) (i : ℕ) (part : List ℕ)
-      → length entries ≤ i → part ≡ last_of entries
-      → Appends old mid (entries_text 1 (take i entries)) → Appends mid new part
-      → Appends old new (audit_text entries)
-  all-last old mid new entries i part past line gone more =
-      rw (whole-last entries i past, ← line) (Appends-trans old mid new _ part gone more)
+  -- not all of what was left went out
+  pub sent-cut : (old mid new : Option (List ℕ)) (entries : List (Entry A)) (i written : ℕ) (left : List ℕ) (fault : PrintFault)
+      → HasSent old mid entries i written left → IsCutAfter written mid new left fault → IsCut old new (audit_text entries) fault
+  sent-cut old mid new entries i written left fault is cut =
+      let rest : List ℕ = entries_text (1 + i) (drop i entries) ++ last_of entries in
+      cut-in old mid new (audit_text entries) is.sent left rest written fault is.gone is.count (whole entries i ∙ ap (λ t. t ++ rest) is.lines) cut
+
+  -- with the last line, what was left is the rest of the text
+  pub ended-with : (old new : Option (List ℕ)) (entries : List (Entry A)) (i written : ℕ) (left end : List ℕ)
+      → length entries ≤ i → end ≡ left ++ last_of entries → (is : HasSent old new entries i written left) → audit_text entries ≡ is.sent ++ end
+  ended-with old new entries i written left end past line is =
+      whole-last entries i past ∙ ap (λ t. t ++ last_of entries) is.lines ∙ append_assoc is.sent left (last_of entries) ∙ ap (λ t. is.sent ++ t) (sym line)
+
+  pub end-cut : (old mid new : Option (List ℕ)) (entries : List (Entry A)) (i written : ℕ) (left end : List ℕ) (fault : PrintFault)
+      → length entries ≤ i → end ≡ left ++ last_of entries → HasSent old mid entries i written left
+      → IsCutAfter written mid new end fault → IsCut old new (audit_text entries) fault
+  end-cut old mid new entries i written left end fault past line is cut =
+      cut-in old mid new (audit_text entries) is.sent end [] written fault is.gone is.count
+      (ended-with old mid entries i written left end past line is ∙ sym (append-nil (is.sent ++ end))) cut
+
+  pub end-all : (old mid new : Option (List ℕ)) (entries : List (Entry A)) (i written : ℕ) (left end : List ℕ)
+      → length entries ≤ i → end ≡ left ++ last_of entries → HasSent old mid entries i written left
+      → Appends mid new end → Appends old new (audit_text entries)
+  end-all old mid new entries i written left end past line is more =
+      rw (ended-with old mid entries i written left end past line is) (Appends-trans old mid new is.sent end is.gone more)

@@ -4,7 +4,9 @@ ghost use Rattle.std.specs.Io.KnownBytes.{Appends};
 ghost use Rattle.hv_abi.specs.declared.frame.Frame.{Frame};
 ghost use Rattle.hv_defs.specs.declared.sizes.TheConstants.{REPS_END};
 ghost use Rattle.hv_history.specs.History.{entries, entry_by};
-ghost use Rattle.hv_history.specs.Row.{action_of, next_in, reply_of};
+ghost use Rattle.hv_history.specs.Output.{shown};
+ghost use Rattle.hv_history.specs.Row.{action_of, next_in};
+ghost use Rattle.hv_policy.specs.Parts.{reply_of};
 ghost use Rattle.hv_policy.specs.Result.{result_of};
 ghost use Rattle.hv_policy.specs.Rule.{rule_name};
 ghost use Rattle.hv_text.specs.Audit.{audit_text, caller_text, entry_text, hex_32, hex_64, output_text, reply_text, result_text, what_text};
@@ -12,9 +14,9 @@ ghost use Rattle.hv_text.specs.Fault.{IsCut};
 
 use crate::fault::PrintFault;
 use crate::put::put;
-use crate::text_line::TextLine;
+use crate::text::Text;
 use hv_abi::{ResultValue, Status};
-use hv_history::{Answer, Asked, EntryRef, History, Kept};
+use hv_history::{Answer, Asked, EntryRef, History, Kept, OutputRef};
 use hv_policy::{Caller, Rule, completed_reps, refused_reps};
 use std::alloc::Allocator;
 use std::io::Write;
@@ -27,51 +29,54 @@ pub fn audit<W: Write, A: Allocator>(out: &mut W, kept: &Kept<A>) -> Result<(), 
 {
     // The proof reads here that a history's length fits 32 bits.
     let _limit = kept.limit();
-    let mut line = TextLine::new();
-    put_history(out, &mut line, kept.history())
+    let mut lines = Text::new();
+    put_history(out, &mut lines, kept.history())
 }
 
-// Writes the audit of a history, a line at a time.
+// Writes the audit of a history, as many lines at a time as there is room for.
 fn put_history<W: Write, A: Allocator>(
     out: &mut W,
-    line: &mut TextLine,
+    lines: &mut Text,
     history: &History<A>,
 ) -> Result<(), PrintFault>
-    requires { length (entries history.now) < 2 ^ 32 }
+    requires empty { lines.old ≡ [] }
+    requires few { length (entries history.now) < 2 ^ 32 }
     ensures ok { OnOk result (Appends (W.contents out.old) (W.contents out.new) (audit_text (entries history.now))) }
     ensures cut { IfErr result (IsCut (W.contents out.old) (W.contents out.new) (audit_text (entries history.now))) }
     ensures write { result ≢ Err PrintFault.Memory }
 {
     let mut written = 0;
     for at in 0..history.len() {
-        set_entry::<A>(line, at as u64 + 1, &history.entry(at));
-        line.push_text(b"\n");
-        written = put(out, line.as_slice(), written)?;
+        push_entry::<A>(lines, at as u64 + 1, &history.entry(at));
+        lines.push_text(b"\n");
+        if !lines.has_room() {
+            written = put(out, lines.as_slice(), written)?;
+            lines.clear();
+        }
     }
-    set_end(line, history.len() as u64);
-    put(out, line.as_slice(), written)?;
+    push_end(lines, history.len() as u64);
+    put(out, lines.as_slice(), written)?;
     Ok(())
 }
 
-// Makes it the last line, with its line feed.
-fn set_end(line: &mut TextLine, count: u64)
-    ensures text { line.new ≡ codes "events " ++ decimal count ++ codes "\n" }
-    ensures most { length line.new ≤ 768 }
+// The last line, with its line feed.
+fn push_end(line: &mut Text, count: u64)
+    requires { length line.old + 28 ≤ 8192 }
+    ensures text { line.new ≡ line.old ++ codes "events " ++ decimal count ++ codes "\n" }
+    ensures most { length line.new ≤ length line.old + 28 }
 {
-    line.clear();
     line.push_text(b"events ");
     line.push_decimal(count);
     line.push_text(b"\n");
 }
 
-// Makes the line that of an event with its number, without its line feed.
-fn set_entry<A: Allocator>(line: &mut TextLine, number: u64, entry: &EntryRef<'_>)
+// The line of an event with its number, without its line feed.
+fn push_entry<A: Allocator>(line: &mut Text, number: u64, entry: &EntryRef<'_>)
     requires index { next_in (reply_of entry.now.answer []) < REPS_END }
-    requires most { length entry.now.output.now ≤ 256 }
-    ensures text { line.new ≡ entry_text number (entry_by {A = A} entry.now) }
-    ensures most { length line.new ≤ 700 }
+    requires room { length line.old + 700 ≤ 8192 }
+    ensures text { line.new ≡ line.old ++ entry_text number (entry_by {A = A} entry.now) }
+    ensures most { length line.new ≤ length line.old + 700 }
 {
-    line.clear();
     line.push_decimal(number);
     line.push_text(b" ");
     push_caller(line, entry.by);
@@ -81,8 +86,8 @@ fn set_entry<A: Allocator>(line: &mut TextLine, number: u64, entry: &EntryRef<'_
     push_reply::<A>(line, entry);
 }
 
-fn push_caller(line: &mut TextLine, by: Caller)
-    requires { length line.old + 41 ≤ 768 }
+fn push_caller(line: &mut Text, by: Caller)
+    requires { length line.old + 41 ≤ 8192 }
     ensures text { line.new ≡ line.old ++ caller_text by }
     ensures most { length (caller_text by) ≤ 41 }
 {
@@ -92,8 +97,8 @@ fn push_caller(line: &mut TextLine, by: Caller)
 }
 
 // What an event asked for. The bytes of its input aren't shown.
-fn push_asked<A: Allocator>(line: &mut TextLine, asked: Asked, input: &[u8])
-    requires { length line.old + 51 ≤ 768 }
+fn push_asked<A: Allocator>(line: &mut Text, asked: Asked, input: &[u8])
+    requires { length line.old + 51 ≤ 8192 }
     ensures text { line.new ≡ line.old ++ what_text (action_of {A = A} asked input.now) }
     ensures most { length (what_text (action_of {A = A} asked input.now)) ≤ 51 }
 {
@@ -117,8 +122,8 @@ fn push_asked<A: Allocator>(line: &mut TextLine, asked: Asked, input: &[u8])
 
 // Adds a word and a number in decimal.
 #[inline]
-fn push_named(line: &mut TextLine, name: &[u8], number: u64)
-    requires { length line.old + length name.now + 20 ≤ 768 }
+fn push_named(line: &mut Text, name: &[u8], number: u64)
+    requires { length line.old + length name.now + 20 ≤ 8192 }
     ensures text { line.new ≡ line.old ++ (name.now ++ decimal number) }
     ensures most { length (decimal number) ≤ 20 }
 {
@@ -128,8 +133,8 @@ fn push_named(line: &mut TextLine, name: &[u8], number: u64)
 
 // Adds a word and a number of 32 bits in hexadecimal.
 #[inline]
-fn push_named_32(line: &mut TextLine, name: &[u8], number: u32)
-    requires { length line.old + length name.now + 8 ≤ 768 }
+fn push_named_32(line: &mut Text, name: &[u8], number: u32)
+    requires { length line.old + length name.now + 8 ≤ 8192 }
     ensures text { line.new ≡ line.old ++ (name.now ++ hex_32 number) }
     ensures most { length (hex_32 number) ≤ 8 }
 {
@@ -139,8 +144,8 @@ fn push_named_32(line: &mut TextLine, name: &[u8], number: u32)
 
 // Adds a word and a number of 64 bits in hexadecimal.
 #[inline]
-fn push_named_64(line: &mut TextLine, name: &[u8], number: u64)
-    requires { length line.old + length name.now + 16 ≤ 768 }
+fn push_named_64(line: &mut Text, name: &[u8], number: u64)
+    requires { length line.old + length name.now + 16 ≤ 8192 }
     ensures text { line.new ≡ line.old ++ (name.now ++ hex_64 number) }
     ensures most { length (hex_64 number) ≤ 16 }
 {
@@ -149,12 +154,11 @@ fn push_named_64(line: &mut TextLine, name: &[u8], number: u64)
 }
 
 // How an event was answered.
-fn push_reply<A: Allocator>(line: &mut TextLine, entry: &EntryRef<'_>)
+fn push_reply<A: Allocator>(line: &mut Text, entry: &EntryRef<'_>)
     requires index { next_in (reply_of entry.now.answer []) < REPS_END }
-    requires most { length entry.now.output.now ≤ 256 }
-    requires room { length line.old + 540 ≤ 768 }
-    ensures text { line.new ≡ line.old ++ reply_text (action_of {A = A} entry.now.asked entry.now.input.now) (reply_of entry.now.answer entry.now.output.now) }
-    ensures most { length (reply_text (action_of {A = A} entry.now.asked entry.now.input.now) (reply_of entry.now.answer entry.now.output.now)) ≤ 540 }
+    requires room { length line.old + 540 ≤ 8192 }
+    ensures text { line.new ≡ line.old ++ reply_text (action_of {A = A} entry.now.asked entry.now.input.now) (reply_of entry.now.answer (shown entry.now.output)) }
+    ensures most { length (reply_text (action_of {A = A} entry.now.asked entry.now.input.now) (reply_of entry.now.answer (shown entry.now.output))) ≤ 540 }
 {
     match entry.answer {
         Answer::Served => {
@@ -183,11 +187,11 @@ fn push_reply<A: Allocator>(line: &mut TextLine, entry: &EntryRef<'_>)
 }
 
 // A space and the result value, of a hypercall alone.
-fn push_result<A: Allocator>(line: &mut TextLine, entry: &EntryRef<'_>)
+fn push_result<A: Allocator>(line: &mut Text, entry: &EntryRef<'_>)
     requires index { next_in (reply_of entry.now.answer []) < REPS_END }
-    requires room { length line.old + 17 ≤ 768 }
-    ensures text { line.new ≡ line.old ++ result_text (action_of {A = A} entry.now.asked entry.now.input.now) (reply_of entry.now.answer entry.now.output.now) }
-    ensures most { length (result_text (action_of {A = A} entry.now.asked entry.now.input.now) (reply_of entry.now.answer entry.now.output.now)) ≤ 17 }
+    requires room { length line.old + 17 ≤ 8192 }
+    ensures text { line.new ≡ line.old ++ result_text (action_of {A = A} entry.now.asked entry.now.input.now) (reply_of entry.now.answer (shown entry.now.output)) }
+    ensures most { length (result_text (action_of {A = A} entry.now.asked entry.now.input.now) (reply_of entry.now.answer (shown entry.now.output))) ≤ 17 }
 {
     match entry.asked {
         Asked::Hypercall { rcx, .. } => {
@@ -217,21 +221,23 @@ fn result_value<A: Allocator>(rcx: u64, answer: Answer) -> u64
 }
 
 // The bytes that an event put out, or a dash where there are none.
-fn push_output(line: &mut TextLine, output: &[u8])
-    requires most { length output.now ≤ 256 }
-    requires room { length line.old + 512 ≤ 768 }
-    ensures text { line.new ≡ line.old ++ output_text output.now }
-    ensures most { length (output_text output.now) ≤ 512 }
+fn push_output(line: &mut Text, output: OutputRef<'_>)
+    requires { length line.old + 512 ≤ 8192 }
+    ensures text { line.new ≡ line.old ++ output_text (shown output.entry) }
+    ensures most { length (output_text (shown output.entry)) ≤ 512 }
 {
-    if output.is_empty() {
+    if output.zeros > 0 {
+        line.push_bytes(output.bytes);
+        line.push_zeros(output.zeros);
+    } else if output.bytes.is_empty() {
         line.push_text(b"-");
     } else {
-        line.push_bytes(output);
+        line.push_bytes(output.bytes);
     }
 }
 
-fn push_rule(line: &mut TextLine, rule: Rule)
-    requires { length line.old + 3 ≤ 768 }
+fn push_rule(line: &mut Text, rule: Rule)
+    requires { length line.old + 3 ≤ 8192 }
     ensures text { line.new ≡ line.old ++ rule_name rule }
     ensures most { length (rule_name rule) ≤ 3 }
 {

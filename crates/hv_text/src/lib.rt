@@ -9,7 +9,7 @@ mod audit_text;
 mod fault;
 mod put;
 mod table_text;
-mod text_line;
+mod text;
 
 pub use audit_text::audit;
 pub use fault::PrintFault;

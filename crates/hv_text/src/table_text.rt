@@ -13,7 +13,7 @@ ghost use Rattle.hv_text.specs.Table.{life_text, pages_of, parent_text, partitio
 
 use crate::fault::PrintFault;
 use crate::put::put;
-use crate::text_line::TextLine;
+use crate::text::Text;
 use hv_defs::Life;
 use hv_history::Kept;
 use hv_partition::{PageKind, Partition};
@@ -47,7 +47,7 @@ fn put_rows<W: Write, A: Allocator>(
     ensures ok { OnOk result (Appends (W.contents out.old) (W.contents out.new) (table_text tree.now)) }
     ensures cut { IfErr result (IsCut (W.contents out.old) (W.contents out.new) (table_text tree.now)) }
 {
-    let mut line = TextLine::new();
+    let mut line = Text::new();
     let mut written = 0;
     let mut pages = 0;
     for id in ids {
@@ -61,7 +61,7 @@ fn put_rows<W: Write, A: Allocator>(
 }
 
 // Makes it the last line, with its line feed.
-fn set_end(line: &mut TextLine, pages: u128)
+fn set_end(line: &mut Text, pages: u128)
     ensures text { line.new ≡ codes "pages " ++ decimal pages ++ codes "\n" }
     ensures most { length line.new ≤ 768 }
 {
@@ -72,7 +72,7 @@ fn set_end(line: &mut TextLine, pages: u128)
 }
 
 // Makes the line that of the partition with this id, without its line feed, and answers how many pages it holds.
-fn set_row<A: Allocator>(line: &mut TextLine, tree: &IdTree<Partition<A>, A>, id: u64) -> u128
+fn set_row<A: Allocator>(line: &mut Text, tree: &IdTree<Partition<A>, A>, id: u64) -> u128
     requires { IsSome (map.get tree.now id) }
     ensures text { (row : Row PartitionState) → map.get tree.now id ≡ Some row → line.new ≡ partition_text id (length (children tree.now id)) row }
     ensures pages { (row : Row PartitionState) → map.get tree.now id ≡ Some row → result ≡ pages_of row.1 }
@@ -93,7 +93,7 @@ fn set_row<A: Allocator>(line: &mut TextLine, tree: &IdTree<Partition<A>, A>, id
 
 // Makes the line that of a partition with this id, this parent and so many children, without its line feed.
 fn set_partition<A: Allocator>(
-    line: &mut TextLine,
+    line: &mut Text,
     id: u64,
     parent: Option<u64>,
     count: u32,
@@ -108,12 +108,7 @@ fn set_partition<A: Allocator>(
 }
 
 // Makes it the first part of that line, as far as the mask.
-fn set_head<A: Allocator>(
-    line: &mut TextLine,
-    id: u64,
-    parent: Option<u64>,
-    partition: &Partition<A>,
-)
+fn set_head<A: Allocator>(line: &mut Text, id: u64, parent: Option<u64>, partition: &Partition<A>)
     ensures text { line.new
         ≡ codes "partition " ++ decimal id ++ codes " parent " ++ parent_text parent ++ codes " " ++ life_text partition.now.life
         ++ codes " mask " ++ encode_lower (to_be_bytes w64 (bits_of partition.now.mask)) }
@@ -131,8 +126,8 @@ fn set_head<A: Allocator>(
 }
 
 // Adds how many pages a partition with so many children has, and how many of them it uses.
-fn push_pages<A: Allocator>(line: &mut TextLine, count: u32, partition: &Partition<A>)
-    requires { length line.old + 82 ≤ 768 }
+fn push_pages<A: Allocator>(line: &mut Text, count: u32, partition: &Partition<A>)
+    requires { length line.old + 82 ≤ 8192 }
     ensures text { line.new
         ≡ line.old ++ codes " loose " ++ decimal (set.len partition.now.loose.pages) ++ codes " pooled " ++ decimal (set.len partition.now.pooled.pages)
         ++ codes " inuse " ++ decimal (in_use count partition.now) }
@@ -147,8 +142,8 @@ fn push_pages<A: Allocator>(line: &mut TextLine, count: u32, partition: &Partiti
 }
 
 // Adds how many processors, ports and connections a partition has.
-fn push_counts<A: Allocator>(line: &mut TextLine, partition: &Partition<A>)
-    requires { length line.old + 85 ≤ 768 }
+fn push_counts<A: Allocator>(line: &mut Text, partition: &Partition<A>)
+    requires { length line.old + 85 ≤ 8192 }
     ensures text { line.new
         ≡ line.old ++ codes " vps " ++ decimal (map.len partition.now.vps.vps) ++ codes " ports " ++ decimal (map.len partition.now.ports.rows)
         ++ codes " connections " ++ decimal (map.len partition.now.conns.rows) }
@@ -163,8 +158,8 @@ fn push_counts<A: Allocator>(line: &mut TextLine, partition: &Partition<A>)
 }
 
 // The root has no parent.
-fn push_parent(line: &mut TextLine, parent: Option<u64>)
-    requires { length line.old + 20 ≤ 768 }
+fn push_parent(line: &mut Text, parent: Option<u64>)
+    requires { length line.old + 20 ≤ 8192 }
     ensures text { line.new ≡ line.old ++ parent_text parent }
     ensures most { length (parent_text parent) ≤ 20 }
 {
@@ -174,8 +169,8 @@ fn push_parent(line: &mut TextLine, parent: Option<u64>)
     }
 }
 
-fn push_life(line: &mut TextLine, life: Life)
-    requires { length line.old + 9 ≤ 768 }
+fn push_life(line: &mut Text, life: Life)
+    requires { length line.old + 9 ≤ 8192 }
     ensures text { line.new ≡ line.old ++ life_text life }
     ensures most { length (life_text life) ≤ 9 }
 {

@@ -4,14 +4,18 @@ use Rattle.std.proofs.lemmas.List.{length-append}
 use Rattle.std.specs.declared.alloc.Global.{Global}
 use Rattle.hv_abi.specs.InputValue.{input_value}
 use Rattle.hv_abi.specs.declared.frame.Frame.{Frame}
-use Rattle.hv_policy.specs.Result.{result_of}
+use Rattle.hv_policy.specs.Next.{GoesOn}
+use Rattle.hv_policy.specs.Parts.{reply_of}
+use Rattle.hv_policy.specs.Result.{HasResult, result_of}
+use Rattle.hv_policy.specs.declared.answer.Answer.{Answer}
 use Rattle.hv_policy.specs.declared.event.Action.TheVariants.{Hypercall}
 use Rattle.hv_policy.specs.declared.event.Caller.{Caller}
 use Rattle.hv_policy.specs.declared.reply.Reply.{Reply}
 use Rattle.hv_policy.specs.declared.reply.Reply.TheVariants.{More}
-use Rattle.hv_threads.specs.Drive.{AreElements, HasDriven, HasStopped, IsMore, element, restart}
+use Rattle.hv_threads.specs.Drive.{AreElements, HasDriven, HasFinished, HasStopped, IsMore, IsWholeCall, element, restart}
 use Rattle.hv_threads.specs.Pass.{HasCalled, HasReceipts, receipt}
 use Rattle.hv_threads.specs.PassValue.{PassValue}
+use Rattle.hv_threads.specs.Told.{IsTold}
 use Rattle.hv_threads.specs.declared.receipts.Receipt.{Receipt}
 
 -- the elements before `now` have their receipts, and so has that of `now`, with this reply
@@ -94,14 +98,63 @@ not_begun frame start old new start_is same =
       gained = subst (λ (p : PassValue). HasReceipts [] old p) (sym same) (record { receipts = sym (append-nil old.receipts); share = omega arith; caller = refl });
     }
 
--- the last element
-pub ended : (frame now : Frame Global) (value : ℕ) (reply : Reply) (old new : PassValue) → IsDriving frame now reply old new → value ≡ result_of now reply → (IsMore reply → ⊥)
-    → HasDriven frame value reply old new
-ended frame now value reply old new driving is ends =
+-- the last that was asked was answered so
+pub record IsAsked (frame now : Frame Global) (answer : Answer) (old new : PassValue) : Type 0 where
+  pub output : List ℕ
+  pub driving : IsDriving frame now (reply_of answer output) old new
+  pub result : HasResult (reply_of answer output)
+  pub goes_on : GoesOn (Hypercall now) (reply_of answer output)
+
+pub asked_first : (frame : Frame Global) (answer : Answer) (old new : PassValue) → IsTold (Hypercall frame) answer old new → IsAsked frame frame answer old new
+asked_first frame answer old new is =
     record {
-      more = driving.before ++ receipt driving.number (element old.caller now) reply ∷ [];
-      last = now;
-      whole = record { before = driving.before; number = driving.number; elements = driving.elements; all = refl; ends = ends };
-      value_is = is;
-      gained = driving.gained;
+      output = is.output;
+      driving = first frame (reply_of answer is.output) old new is.called;
+      result = is.result frame refl;
+      goes_on = is.next;
     }
+
+pub asked_next : (frame now : Frame Global) (answer : Answer) (old mid : PassValue) → IsAsked frame now answer old mid → (next : ℕ) → ((output : List ℕ) → reply_of answer output ≡ More next output)
+    → (later : Frame Global) (told : Answer) (new : PassValue) → later ≡ restart now next → IsTold (Hypercall later) told mid new → IsAsked frame later told old new
+asked_next frame now answer old mid asked next more later told new later_is is =
+    record {
+      output = is.output;
+      driving = onward frame now (reply_of answer asked.output) old mid asked.driving next asked.output (more asked.output) later (reply_of told is.output) new later_is is.called;
+      result = is.result later refl;
+      goes_on = is.next;
+    }
+
+-- the last element
+pub finished : (frame now : Frame Global) (answer : Answer) (old new : PassValue) → IsAsked frame now answer old new → ((output : List ℕ) → IsMore (reply_of answer output) → ⊥) → HasFinished frame now old new
+finished frame now answer old new asked ends =
+    record {
+      more = asked.driving.before ++ receipt asked.driving.number (element old.caller now) (reply_of answer asked.output) ∷ [];
+      reply = reply_of answer asked.output;
+      whole = record { before = asked.driving.before; number = asked.driving.number; elements = asked.driving.elements; all = refl; ends = ends asked.output };
+      gained = asked.driving.gained;
+      result = asked.result;
+    }
+
+module _ (frame last : Frame Global) (old new : PassValue) (is : HasFinished frame last old new) where
+  -- its receipt is the pass's last
+  at_last : new.receipts ≡ (old.receipts ++ is.whole.before) ++ receipt is.whole.number (element old.caller last) is.reply ∷ []
+  at_last =
+      is.gained.receipts ∙ ap (λ (rs : List Receipt). old.receipts ++ rs) is.whole.all
+      ∙ sym (append_assoc old.receipts is.whole.before (receipt is.whole.number (element old.caller last) is.reply ∷ []))
+
+  module _ (reply : Reply) (told : (before : List Receipt) (r : Receipt) → new.receipts ≡ before ++ r ∷ [] → reply ≡ r.reply) where
+    reply_is : reply ≡ is.reply
+    reply_is = told _ _ at_last
+
+    pub last_result : HasResult reply
+    last_result = subst HasResult (sym reply_is) is.result
+
+    pub driven : (value : ℕ) → value ≡ result_of last reply → HasDriven frame value reply old new
+    driven value value_is =
+        record {
+          more = is.more;
+          last = last;
+          whole = subst (λ (r : Reply). IsWholeCall old.caller frame is.more last r) (sym reply_is) is.whole;
+          value_is = value_is;
+          gained = is.gained;
+        }

@@ -4,6 +4,7 @@ pub mod Packed
 pub mod Passes
 pub mod Opened
 pub mod Driving
+pub mod Holding
 pub mod Phases
 pub mod Performing
 pub mod Crosses

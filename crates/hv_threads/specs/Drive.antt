@@ -3,7 +3,7 @@ use Rattle.std.specs.Prelude.{ℕ, ◌≡◌, List, [], ◌∷◌, ◌++◌}
 use Rattle.std.specs.declared.alloc.Global.{Global}
 use Rattle.hv_abi.specs.InputValue.{input_value, restarted}
 use Rattle.hv_abi.specs.declared.frame.Frame.{Frame}
-use Rattle.hv_policy.specs.Result.{result_of}
+use Rattle.hv_policy.specs.Result.{HasResult, result_of}
 use Rattle.hv_policy.specs.declared.event.Action.TheVariants.{Hypercall}
 use Rattle.hv_policy.specs.declared.event.Caller.{Caller}
 use Rattle.hv_policy.specs.declared.event.Event.{Event}
@@ -57,3 +57,11 @@ pub record HasStopped (frame : Frame Global) (next : ℕ) (old new : PassValue) 
   pub elements : AreElements old.caller frame more now
   pub next_is : next ≡ (input_value now.rcx).start
   pub gained : HasReceipts more old new
+
+-- the pass has the receipts of a whole call more, up to the element of this frame
+pub record HasFinished (frame last : Frame Global) (old new : PassValue) : Type 0 where
+  pub more : List Receipt
+  pub reply : Reply
+  pub whole : IsWholeCall old.caller frame more last reply
+  pub gained : HasReceipts more old new
+  pub result : HasResult reply

@@ -1,6 +1,7 @@
 pub mod ByCaller
 pub mod Counted
 pub mod Drive
+pub mod Held
 pub mod HeldValue
 pub mod Merge
 pub mod Pass
@@ -10,3 +11,4 @@ pub mod Phase
 pub mod Settle
 pub mod SharedValue
 pub mod Shared
+pub mod Told

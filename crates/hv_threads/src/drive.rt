@@ -1,18 +1,17 @@
 // A hypercall from its first element to its last.
-ghost use Rattle.std.specs.Prelude.{◌≡◌, ℕ, List, ◌≤◌, IfOk, IfErr, IfSome, IfNone};
+ghost use Rattle.std.specs.Prelude.{◌≡◌, ℕ, List, IfOk, IfErr, IfSome, IfNone};
 ghost use Rattle.hv_abi.specs.InputValue.{input_value};
-ghost use Rattle.hv_policy.specs.Next.{GoesOn};
-ghost use Rattle.hv_policy.specs.Result.{HasResult};
+ghost use Rattle.hv_policy.specs.Parts.{reply_of};
 ghost use Rattle.hv_policy.specs.declared.event.Action.TheVariants.{Hypercall};
 ghost use Rattle.hv_policy.specs.declared.reply.Reply.TheVariants.{More};
-ghost use Rattle.hv_threads.specs.Drive.{HasDriven, HasStopped, IsMore};
-ghost use Rattle.hv_threads.specs.Pass.{HasCalled};
+ghost use Rattle.hv_threads.specs.Drive.{HasDriven, HasFinished, HasStopped, IsMore};
+ghost use Rattle.hv_threads.specs.Told.{IsTold};
 
 use crate::gate::Gate;
 use crate::held::Pass;
 use crate::shared::Shared;
 use hv_abi::{Frame, InputValue, ResultValue};
-use hv_history::HostRefused;
+use hv_history::{Answer, HostRefused};
 use hv_policy::{Action, Event, Reply, result_of};
 use std::alloc::Global;
 use std::sync::Wait;
@@ -26,14 +25,14 @@ pub struct DriveRefused {
     pub next: u16,
 }
 
-// The element with which a call goes on after a reply.
-fn next_of(reply: &Reply) -> Option<u16>
-    ensures some { IfSome result (λ next. (output : List ℕ) × (reply.now ≡ More next output)) }
-    ensures none { IfNone result (IsMore reply.now → ⊥) }
+// The element with which a call goes on after this answer.
+fn next_of(answer: Answer) -> Option<u16>
+    ensures some { IfSome result (λ next. (output : List ℕ) → reply_of answer output ≡ More next output) }
+    ensures none { IfNone result ((output : List ℕ) → IsMore (reply_of answer output) → ⊥) }
 {
-    match reply {
-        Reply::More { next, output: _ } => Some(*next),
-        Reply::Served(_) | Reply::Denied { .. } | Reply::Fault { .. } => None,
+    match answer {
+        Answer::More { next } => Some(next),
+        Answer::Served | Answer::Denied { .. } | Answer::Fault { .. } => None,
     }
 }
 
@@ -45,11 +44,9 @@ impl<L: Ledger> Shared<L> {
         pass: &mut Pass<L>,
         gate: &G,
         frame: Frame<Global>,
-    ) -> Result<(Frame<Global>, Reply), DriveRefused>
+    ) -> Result<(Frame<Global>, Answer), DriveRefused>
         ensures frame { IfOk result (λ r. r.0 ≡ frame) }
-        ensures called { IfOk result (λ r. HasCalled (Hypercall frame) r.1 pass.old pass.new) }
-        ensures result { IfOk result (λ r. HasResult r.1) }
-        ensures next { IfOk result (λ r. GoesOn (Hypercall frame) r.1) }
+        ensures told { IfOk result (λ r. IsTold (Hypercall frame) r.1 pass.old pass.new) }
         ensures refused { IfErr result (λ e. (pass.new ≡ pass.old) × (e.next ≡ (input_value frame.rcx).start)) }
     {
         let next = InputValue::read(frame.rcx).start;
@@ -59,11 +56,11 @@ impl<L: Ledger> Shared<L> {
             what: Action::Hypercall(frame),
         };
         match self.happen(rt, pass, gate, &event) {
-            Ok(reply) => {
+            Ok(answer) => {
                 let Action::Hypercall(frame) = event.what else {
                     unreachable!()
                 };
-                Ok((frame, reply))
+                Ok((frame, answer))
             }
             Err(why) => Err(DriveRefused { why, next }),
         }
@@ -82,13 +79,29 @@ impl<L: Ledger> Shared<L> {
         ensures driven { IfOk result (λ r. HasDriven frame r.0 r.1 pass.old pass.new) }
         ensures refused { IfErr result (λ e. HasStopped frame e.next pass.old pass.new) }
     {
-        let (mut frame, mut reply) = self.ask(rt, pass, gate, frame)?;
-        while let Some(next) = next_of(&reply) {
+        let last = self.finish(rt, pass, gate, frame)?;
+        let reply = pass.last_reply();
+        Ok((result_of(&last, &reply), reply))
+    }
+
+    // Drives a hypercall to its end, and gives back the frame of its last element. The replies stand in the receipts.
+    pub(crate) fn finish<R: Wait, G: Gate>(
+        &self,
+        rt: &R,
+        pass: &mut Pass<L>,
+        gate: &G,
+        frame: Frame<Global>,
+    ) -> Result<Frame<Global>, DriveRefused>
+        ensures finished { IfOk result (λ last. HasFinished frame last pass.old pass.new) }
+        ensures refused { IfErr result (λ e. HasStopped frame e.next pass.old pass.new) }
+    {
+        let (mut frame, mut answer) = self.ask(rt, pass, gate, frame)?;
+        while let Some(next) = next_of(answer) {
             let later = frame.with_start(next);
-            let (asked, answer) = self.ask(rt, pass, gate, later)?;
+            let (asked, told) = self.ask(rt, pass, gate, later)?;
             frame = asked;
-            reply = answer;
+            answer = told;
         }
-        Ok((result_of(&frame, &reply), reply))
+        Ok(frame)
     }
 }

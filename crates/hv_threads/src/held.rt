@@ -1,6 +1,6 @@
 // What the lock holds, what each thread holds, and the one step that changes both. The fields of `Held` and `Pass` are
 // private to this file.
-ghost use Rattle.std.specs.Prelude.{◌≡◌, ◌<◌, ◌≤◌, ◌+◌, [], ℕ, IsTrue, ◌↔◌, IfOk, OnOk, OnErr, IsErrOf, IfErr, IfSome, IfNone, length, vec_len, sum};
+ghost use Rattle.std.specs.Prelude.{◌≡◌, ◌<◌, ◌≤◌, ◌+◌, ◌++◌, [], ◌∷◌, ℕ, List, IsTrue, ◌↔◌, IfOk, OnOk, OnErr, IsErrOf, IfErr, IfSome, IfNone, length, vec_len, sum};
 ghost use Rattle.hv_abi.specs.declared.frame.Frame.{Frame};
 ghost use Rattle.hv_policy.specs.Next.{GoesOn};
 ghost use Rattle.hv_policy.specs.Result.{HasResult};
@@ -8,16 +8,18 @@ ghost use Rattle.hv_policy.specs.Step.{NamesAsked};
 ghost use Rattle.hv_policy.specs.declared.event.Action.TheVariants.{Hypercall};
 ghost use Rattle.hv_history.specs.History.{entries, entry_by};
 ghost use Rattle.hv_history.specs.Kept.{HasGained, IsRun};
+ghost use Rattle.hv_threads.specs.Held.{IsHeld};
 ghost use Rattle.hv_threads.specs.Merge.{next_is, rest_of, IsOf, IsNext, IsOnlyNext, FailsAt, AreDone, MergesFrom, FailsFrom, rests_of, receipts_of, shares_of};
 ghost use Rattle.hv_threads.specs.Pass.{HasReceipt};
 ghost use Rattle.hv_threads.specs.Receipts.{list_of};
 ghost use Rattle.hv_threads.specs.Settle.{IsFault, IsMadeOf, kept_of};
 ghost use Rattle.hv_threads.specs.Shared.{AreOpened};
+ghost use Rattle.hv_threads.specs.declared.receipts.Receipt.{Receipt};
 
 use crate::fault::{SettleFault, SettleRefused};
 use crate::receipts::Receipts;
 use crate::shared::Shared;
-use hv_history::{EntryRef, History, HostRefused, Kept};
+use hv_history::{Answer, EntryRef, History, HostRefused, Kept};
 use hv_policy::{Caller, Config, Event, Reply};
 use std::alloc::Global;
 use std::marker::Model;
@@ -141,6 +143,16 @@ impl<L: Ledger> Pass<L> {
         self.settled = 0;
     }
 
+    // The reply of the last receipt.
+    pub(crate) fn last_reply(&self) -> Reply
+        requires { 0 < length self.now.receipts }
+        ensures { (before : List Receipt) (last : Receipt) → self.now.receipts ≡ before ++ last ∷ [] → result ≡ last.reply }
+    {
+        let last = self.receipts.get(self.receipts.len() - 1);
+        let output = last.entry.output.to_output();
+        Reply::of(last.entry.answer, output.as_slice())
+    }
+
     fn into_share(self) -> Share<L>
         ensures { (result.parts ≡ 1) × (result.amount ≡ self.share) }
     {
@@ -149,7 +161,7 @@ impl<L: Ledger> Pass<L> {
 }
 
 impl<L: Ledger> Held<L> {
-    /// Lets an event happen and keeps its receipt, without a lock. Room for the receipt is made first.
+    /// Lets an event happen and keeps its receipt, without a lock.
     pub fn hold(&mut self, pass: &mut Pass<L>, event: &Event<Global>) -> Result<Reply, HostRefused>
         requires { event.now.by ≡ pass.old.caller }
 
@@ -170,6 +182,27 @@ impl<L: Ledger> Held<L> {
         ensures result { (frame : Frame Global) → event.now.what ≡ Hypercall frame → IfOk result HasResult }
         ensures next { IfOk result (λ r. GoesOn event.now.what r) }
     {
+        match self.take(pass, event) {
+            Ok(_) => Ok(pass.last_reply()),
+            Err(why) => Err(why),
+        }
+    }
+
+    // Lets an event happen as `hold` does, and answers its reply without the output, which stands in the pass's receipt.
+    // Room for the receipt is made first.
+    pub(crate) fn take(
+        &mut self,
+        pass: &mut Pass<L>,
+        event: &Event<Global>,
+    ) -> Result<Answer, HostRefused>
+        requires { event.now.by ≡ pass.old.caller }
+        ensures held { IfOk result (λ answer. IsHeld event.now answer self.old.kept self.new.kept pass.old pass.new) }
+        ensures count { OnOk result (self.new.count ≡ self.old.count + 1) }
+        ensures run { IsRun self.new.kept }
+        ensures full { IsErrOf result HostRefused.HistoryFull ↔ (length self.old.kept.history ≡ self.old.kept.limit) }
+        ensures refused { OnErr result (self.new ≡ self.old) }
+        ensures pass { OnErr result (pass.new ≡ pass.old) }
+    {
         // The proof reads here that what is kept is a run.
         let _history = self.kept.history();
         if self.kept.is_full() {
@@ -178,13 +211,16 @@ impl<L: Ledger> Held<L> {
         if pass.receipts.reserve(event).is_err() {
             return Err(HostRefused::Memory);
         }
-        match self.kept.apply(event) {
-            Ok((number, reply)) => {
+        match self.kept.take(event) {
+            Ok(number) => {
                 self.count.add(&mut pass.share, 1);
-                pass.receipts.push(number, event, &reply);
-                Ok(reply)
+                let history = self.kept.history();
+                let entry = history.entry(history.len() - 1);
+                pass.receipts
+                    .push(number, event, entry.answer, entry.output);
+                Ok(entry.answer)
             }
-            Err(refused) => Err(refused),
+            Err(why) => Err(why),
         }
     }
 

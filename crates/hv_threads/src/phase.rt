@@ -7,7 +7,7 @@ use crate::gate::Gate;
 use crate::held::Pass;
 use crate::shared::Shared;
 use hv_history::HostRefused;
-use hv_policy::Action;
+use hv_policy::{Action, Event};
 use std::alloc::Global;
 use std::sync::Wait;
 use std::sync::ledger::Ledger;
@@ -65,7 +65,7 @@ pub fn perform<L: Ledger, R: Wait, G: Gate>(
     ensures refused { OnErr result (HasBegun action pass.old pass.new) }
 {
     match action {
-        Action::Hypercall(frame) => match shared.drive(rt, pass, gate, frame) {
+        Action::Hypercall(frame) => match shared.finish(rt, pass, gate, frame) {
             Ok(_) => Ok(()),
             Err(refused) => Err(refused.why),
         },
@@ -75,10 +75,13 @@ pub fn perform<L: Ledger, R: Wait, G: Gate>(
         | Action::ClearSlot(_)
         | Action::ReadFlags(_)
         | Action::ClearFlag(_, _)
-        | Action::TakeInterrupt) => match shared.call(rt, pass, gate, access) {
-            Ok(_) => Ok(()),
-            Err(why) => Err(why),
-        },
+        | Action::TakeInterrupt) => {
+            let by = pass.caller();
+            match shared.happen(rt, pass, gate, &Event { by, what: access }) {
+                Ok(_) => Ok(()),
+                Err(why) => Err(why),
+            }
+        }
     }
 }
 

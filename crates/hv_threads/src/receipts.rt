@@ -1,10 +1,12 @@
 // What a thread was told of its events, packed as a history is, with a number beside each entry.
-ghost use Rattle.std.specs.Prelude.{◌≡◌, ◌<◌, ◌++◌, [], ◌∷◌, OnOk, Some, length, option_map, slice_get, vec_len};
+ghost use Rattle.std.specs.Prelude.{◌≡◌, ◌<◌, ◌≤◌, ◌++◌, [], ◌∷◌, OnOk, Some, length, option_map, slice_get, vec_len};
 ghost use Rattle.hv_defs.specs.declared.sizes.TheConstants.{REPS_END};
 ghost use Rattle.hv_history.specs.History.{entries};
+ghost use Rattle.hv_history.specs.Output.{shown};
 ghost use Rattle.hv_history.specs.Row.{next_in};
+ghost use Rattle.hv_policy.specs.Parts.{reply_of};
 
-use hv_history::{EntryRef, History};
+use hv_history::{Answer, EntryRef, History, OutputRef};
 use hv_policy::{Event, Reply};
 use std::alloc::{AllocError, Global};
 
@@ -63,7 +65,8 @@ impl Receipts {
     /// The one at a place, counted from 0.
     pub fn get(&self, at: usize) -> ReceiptRef<'_>
         requires { at < length (list_of self.now) }
-        ensures { slice_get (list_of self.now) at ≡ Some (receipt_by result) }
+        ensures receipt { slice_get (list_of self.now) at ≡ Some (receipt_by result) }
+        ensures most { length (shown result.entry.output) ≤ 256 }
     {
         ReceiptRef {
             number: self.numbers[at],
@@ -81,12 +84,18 @@ impl Receipts {
     }
 
     // Adds a receipt, for which there is room.
-    pub(crate) fn push(&mut self, number: u64, event: &Event<Global>, reply: &Reply)
+    pub(crate) fn push(
+        &mut self,
+        number: u64,
+        event: &Event<Global>,
+        answer: Answer,
+        output: OutputRef<'_>,
+    )
         requires room { HasRoom self.old event.now }
-        requires index { next_in reply.now < REPS_END }
-        ensures { list_of self.new ≡ list_of self.old ++ receipt number event.now reply.now ∷ [] }
+        requires index { next_in (reply_of answer []) < REPS_END }
+        ensures { list_of self.new ≡ list_of self.old ++ receipt number event.now (reply_of answer (shown output.entry)) ∷ [] }
     {
         self.numbers.push_reserved(number);
-        self.packed.push(event, reply);
+        self.packed.push(event, answer, output);
     }
 }

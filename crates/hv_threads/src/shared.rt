@@ -6,10 +6,11 @@ ghost use Rattle.hv_policy.specs.Result.{HasResult};
 ghost use Rattle.hv_policy.specs.declared.event.Action.TheVariants.{Hypercall};
 ghost use Rattle.hv_threads.specs.Pass.{HasCalled};
 ghost use Rattle.hv_threads.specs.Shared.{AreOpened};
+ghost use Rattle.hv_threads.specs.Told.{IsTold};
 
 use crate::gate::Gate;
 use crate::held::{Held, Pass, open};
-use hv_history::{HostRefused, Kept};
+use hv_history::{Answer, HostRefused, Kept};
 use hv_policy::{Action, Caller, Config, Event, Reply};
 use std::alloc::Global;
 use std::marker::Model;
@@ -82,28 +83,29 @@ impl<L: Ledger> Shared<L> {
         ensures next { IfOk result (λ r. GoesOn what r) }
     {
         let by = pass.caller();
-        self.happen(rt, pass, gate, &Event { by, what })
+        match self.happen(rt, pass, gate, &Event { by, what }) {
+            Ok(_) => Ok(pass.last_reply()),
+            Err(why) => Err(why),
+        }
     }
 
-    // Lets an event by the pass's caller happen, and keeps its receipt.
+    // Lets an event by the pass's caller happen, and keeps its receipt. Answers its reply without the output.
     pub(crate) fn happen<R: Wait, G: Gate>(
         &self,
         rt: &R,
         pass: &mut Pass<L>,
         gate: &G,
         event: &Event<Global>,
-    ) -> Result<Reply, HostRefused>
+    ) -> Result<Answer, HostRefused>
         requires { event.now.by ≡ pass.old.caller }
-        ensures called { IfOk result (λ r. HasCalled event.now.what r pass.old pass.new) }
+        ensures told { IfOk result (λ answer. IsTold event.now.what answer pass.old pass.new) }
         ensures refused { OnErr result (pass.new ≡ pass.old) }
-        ensures result { (frame : Frame Global) → event.now.what ≡ Hypercall frame → IfOk result HasResult }
-        ensures next { IfOk result (λ r. GoesOn event.now.what r) }
     {
         let turn = pass.receipts().len() as u64;
         gate.enter(event.by, turn);
-        let reply = self.held.lock(rt).hold(pass, event);
+        let answer = self.held.lock(rt).take(pass, event);
         gate.leave(event.by, turn);
-        reply
+        answer
     }
 
     // What the lock held at last, how many passes there are, and with what the history was begun.

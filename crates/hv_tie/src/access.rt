@@ -36,7 +36,7 @@ pub fn unmet_by_caller<A: Allocator>(tree: &IdTree<Partition<A>, A>, by: Caller)
 pub fn unmet_access<A: Allocator>(
     tree: &IdTree<Partition<A>, A>,
     by: Caller,
-    call: &Call,
+    call: &Call<'_>,
 ) -> Option<Rule>
     ensures { (f : Flat) → IsTied tree.now f → result ≡ unmet_of f by.part call.now access_rules }
 {
@@ -69,7 +69,7 @@ fn is_kin<A: Allocator>(tree: &IdTree<Partition<A>, A>, kin: Kin, caller: u64, i
 }
 
 // The partition that a call is about.
-fn target(by: Caller, call: &Call) -> u64
+fn target(by: Caller, call: &Call<'_>) -> u64
     ensures { result ≡ target_of call.now by.part }
 {
     match call {

@@ -12,7 +12,7 @@ ghost use Rattle.hv_tie.specs.Tie.{IsTied};
 
 use hv_defs::SELF_ID;
 use hv_partition::Partition;
-use hv_policy::{Output, States};
+use hv_policy::{CallOutput, States};
 use hv_tree::IdTree;
 use std::alloc::Allocator;
 
@@ -94,10 +94,10 @@ pub fn memory_balance<A: Allocator>(tree: &IdTree<Partition<A>, A>, id: u64) -> 
 }
 
 /// The output of a call that answers one number.
-pub fn number_output(number: u64) -> Output
+pub fn number_output(number: u64) -> CallOutput
     ensures { result ≡ to_le_bytes w64 number }
 {
-    let mut output = Output::new();
+    let mut output = CallOutput::new();
     output.push_number(number);
     output
 }

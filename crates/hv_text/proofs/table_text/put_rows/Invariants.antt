@@ -9,7 +9,7 @@ abbrev pub invariant-loop-id : goal.invariant-loop-id
 invariant-loop-id g l = record {
   gone : Appends (g.W.Write.contents l.initial.out) (g.W.Write.contents l.out) (rows_text l.tree (take l.id-index (entries l.tree)));
   count : l.written ≡ length (rows_text l.tree (take l.id-index (entries l.tree)));
-  few : l.written ≤ 768 * l.id-index;
+  few : l.written ≤ 8192 * l.id-index;
   sum : l.pages ≡ pages_in (take l.id-index (entries l.tree));
   most : l.pages ≤ 2 ^ 65 * l.id-index;
 }

@@ -1,9 +1,11 @@
-use Rattle.std.proofs.Common.{add-one, arith}
+use Rattle.std.proofs.Common.{◌≡◌, ℕ, ◌+◌, ap, ◌∙◌, arith}
 use Rattle.hv_abi.specs.Check.{input_of}
-use Rattle.hv_calls.proofs.Copies.{bytes_at-push}
+use Rattle.hv_calls.specs.Bytes.{bytes_at}
+use Rattle.hv_calls.proofs.Copies.{bytes_at-drop}
 use Rattle.hv_calls.proofs.payload.Payload.read.Goals as goal
 
-pub loop-i-preserved : goal.loop-i-preserved
-loop-i-preserved g c =
-    let pushed = bytes_at-push (input_of c.args.frame.now c.args.shape.now.fast) c.args.at c.loop-i.i in
-    record { len = omega arith; copied = rw add-one (cc) }
+pub returns : goal.returns
+returns g c =
+    let input = input_of c.args.frame.now c.args.shape.now.fast in
+    let start : c.args.at + 0 ≡ c.args.at = omega arith in
+    ap (λ block. bytes_at block 0 c.args.len) c.rest.ensures ∙ bytes_at-drop input c.args.at 0 c.args.len ∙ ap (λ at. bytes_at input at c.args.len) start

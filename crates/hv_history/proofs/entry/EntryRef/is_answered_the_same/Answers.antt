@@ -1,9 +1,9 @@
 use Rattle.std.proofs.Common.{rules, ◌≡◌, IsTrue, List, ℕ, nat_eq, arith}
 use Rattle.hv_abi.specs.declared.status.Status.{Status}
+use Rattle.hv_policy.specs.Parts.{reply_of}
+use Rattle.hv_policy.specs.declared.answer.Answer.{Answer}
+use Rattle.hv_policy.specs.declared.answer.Answer.TheVariants.{Denied}
 use Rattle.hv_policy.specs.declared.rule.Rule.{Rule}
-use Rattle.hv_history.specs.Row.{reply_of}
-use Rattle.hv_history.specs.declared.entry.Answer.{Answer}
-use Rattle.hv_history.specs.declared.entry.Answer.TheVariants.{Denied}
 use Rattle.hv_history.proofs.entry.EntryRef.is_answered_the_same.Goals as goal
 
 -- two denials by one rule with one status are the same where their counts are

@@ -6,6 +6,7 @@ use Rattle.hv_policy.specs.Needs.{takes_memory}
 use Rattle.hv_policy.specs.Result.{HasResult}
 use Rattle.hv_policy.specs.Step.{NamesAsked, refusal}
 use Rattle.hv_policy.specs.declared.event.Action.TheVariants.{Hypercall}
+use Rattle.hv_machine.proofs.Sound.{sound}
 use Rattle.hv_machine.proofs.Steps.{refused_step}
 use Rattle.hv_policy.specs.CallEvent.{call_event}
 use Rattle.hv_machine.specs.IsFlat.{IsFlat}
@@ -74,3 +75,15 @@ returns-in-Err-Memory-clause-kept g c =
     let stands : IsFlat c.args.self.now f = rw (← c.self.view_is) c.self.invariant.stands in
     let out = subst (λ why. IsResult f c.args.by.part c.in-Ok.admitted.1 c.args.self.now (Err why) c.serve.new.self) c.in-Err-Memory.field-0-is (c.in-Err-Memory.ensures.outcome f stands) in
     out.2
+
+pub returns-in-Err-clause-sound : goal.returns-in-Err-clause-sound
+returns-in-Err-clause-sound g c = sound c.args.self.now (rw (← c.self.view_is) c.self.invariant)
+
+pub returns-in-Ok-serve-clause-sound : goal.returns-in-Ok-serve-clause-sound
+returns-in-Ok-serve-clause-sound g c = sound c.serve.new.self c.serve.ensures.lasting
+
+pub returns-in-Err-Unmet-clause-sound : goal.returns-in-Err-Unmet-clause-sound
+returns-in-Err-Unmet-clause-sound g c = sound c.serve.new.self c.serve.ensures.lasting
+
+pub returns-in-Err-Memory-clause-sound : goal.returns-in-Err-Memory-clause-sound
+returns-in-Err-Memory-clause-sound g c = sound c.serve.new.self c.serve.ensures.lasting

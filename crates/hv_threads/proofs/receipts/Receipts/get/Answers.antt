@@ -21,8 +21,8 @@ entry-requires c =
     let within = c.requires in
     omega (arith, all)
 
-pub returns : goal.returns
-returns c =
+pub returns-clause-receipt : goal.returns-clause-receipt
+returns-clause-receipt c =
     let r = c.args.self.now in
     let all = count r.numbers.items (entries r.packed) (sym r.numbers.ok.0 ∙ r.each) in
     let within = c.requires in

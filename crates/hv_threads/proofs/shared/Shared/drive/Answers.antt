@@ -1,35 +1,8 @@
-use Rattle.std.proofs.lemmas.Result.{err_from_is_err_and}
-use Rattle.hv_threads.proofs.Driving.{first, onward, stopped}
+use Rattle.hv_threads.proofs.Driving.{driven, last_result}
 use Rattle.hv_threads.proofs.shared.Shared.drive.Goals as goal
 
-pub loop-next-init : goal.loop-next-init
-loop-next-init g c =
-    let asked = c.in_ok-frame.ensures in
-    rw asked.frame
-    (record {
-      driving = first c.args.frame c.in_ok-frame.reply c.args.pass.now c.ask.new.pass asked.called;
-      result = asked.result;
-      goes_on = asked.next;
-    })
+pub result_of-requires : goal.result_of-requires
+result_of-requires g c = last_result c.args.frame c.in_ok-last.last c.args.pass.now c.finish.new.pass c.in_ok-last.ensures.finished c.last_reply-reply.result c.last_reply-reply.ensures
 
-pub returns-in_err-asked-clause-refused : goal.returns-in_err-asked-clause-refused
-returns-in_err-asked-clause-refused g c =
-    let l = c.loop-next in
-    let more = c.in-Some.ensures.some in
-    let refused = c.in_err-asked.ensures.refused in
-    let is = c.from_residual-in_err-asked.ensures in
-    let stop = stopped c.args.frame l.frame l.reply c.args.pass.now l.pass l.invariant.driving c.in-Some.next more.0 more.1 c.with_start-later.result c.in_err-asked.field-0.0.next c.ask-in-Some.new.pass c.with_start-later.ensures.frame refused.1 refused.0 in
-    let p = err_from_is_err_and c.from_residual-in_err-asked.result is.1 in
-    rw (p.1, p.2) stop
-
-pub loop-next-preserved : goal.loop-next-preserved
-loop-next-preserved g c =
-    let l = c.loop-next in
-    let more = c.in-Some.ensures.some in
-    let asked = c.in_ok-asked.ensures in
-    rw asked.frame
-    (record {
-      driving = onward c.args.frame l.frame l.reply c.args.pass.now l.pass l.invariant.driving c.in-Some.next more.0 more.1 c.with_start-later.result c.in_ok-asked.answer c.ask-in-Some.new.pass c.with_start-later.ensures.frame asked.called;
-      result = asked.result;
-      goes_on = asked.next;
-    })
+pub returns-clause-driven : goal.returns-clause-driven
+returns-clause-driven g c = driven c.args.frame c.in_ok-last.last c.args.pass.now c.finish.new.pass c.in_ok-last.ensures.finished c.last_reply-reply.result c.last_reply-reply.ensures c.result_of.result c.result_of.ensures

@@ -1,0 +1,166 @@
+// Text on the stack.
+ghost use Rattle.std.specs.Prelude.{◌≡◌, ◌+◌, ◌*◌, ◌<◌, ◌≤◌, ◌↔◌, [], ◌∷◌, ◌++◌, IsTrue, length, decimal};
+ghost use Rattle.std.specs.Int.{w32, w64, to_be_bytes};
+ghost use Rattle.hex.specs.Hex.{encode_lower};
+ghost use Rattle.hv_defs.specs.Slot.{zeros};
+
+use itoa::Buffer;
+use std::marker::Model;
+
+// The most bytes that there is room for.
+const ROOM: usize = 8192;
+
+// More bytes than a line has.
+const LINE: usize = 768;
+
+// Lines so far, of at most 8,192 bytes.
+#[derive(Drop)]
+pub(crate) struct Text {
+    bytes: [u8; ROOM],
+    len: usize,
+}
+
+impl Model for Text {
+    ghost use Rattle.std.specs.Prelude.{◌≤◌, List, ℕ, take};
+
+    ghost Value = { List ℕ };
+
+    ghost view = { λ l. take l.len l.bytes };
+
+    ghost invariant = { λ l. l.len ≤ 8192 };
+}
+
+impl Text {
+    // No bytes.
+    pub(crate) fn new() -> Text
+        ensures { result ≡ [] }
+    {
+        Text {
+            bytes: [0; ROOM],
+            len: 0,
+        }
+    }
+
+    // Whether there is room for any line more.
+    #[inline]
+    pub(crate) fn has_room(&self) -> bool
+        ensures { IsTrue result ↔ (length self.now + 768 ≤ 8192) }
+    {
+        self.len + LINE <= ROOM
+    }
+
+    // Makes it empty again.
+    #[inline]
+    pub(crate) fn clear(&mut self)
+        ensures { self.new ≡ [] }
+    {
+        self.len = 0;
+    }
+
+    #[inline]
+    pub(crate) fn as_slice(&self) -> &[u8]
+        ensures bytes { result.now ≡ self.now }
+        ensures most { length self.now ≤ 8192 }
+    {
+        &self.bytes[..self.len]
+    }
+
+    // Adds these bytes.
+    #[inline]
+    pub(crate) fn push_text(&mut self, text: &[u8])
+        requires { length self.old + length text.now ≤ 8192 }
+        ensures { self.new ≡ self.old ++ text.now }
+    {
+        let end = self.len + text.len();
+        self.bytes[self.len..end].copy_from_slice(text);
+        self.len = end;
+    }
+
+    // Adds one byte.
+    #[inline]
+    fn push_byte(&mut self, byte: u8)
+        requires { length self.old + 1 ≤ 8192 }
+        ensures { self.new ≡ self.old ++ byte ∷ [] }
+    {
+        self.bytes[self.len] = byte;
+        self.len += 1;
+    }
+
+    // Adds a number in decimal, of at most 20 digits. Most have one.
+    #[tactic(auto, using(std::proofs::lemmas::Fmt::decimal_digit))]
+    #[inline]
+    pub(crate) fn push_decimal(&mut self, number: u64)
+        requires { length self.old + 20 ≤ 8192 }
+        ensures text { self.new ≡ self.old ++ decimal number }
+        ensures most { length (decimal number) ≤ 20 }
+    {
+        if number < 10 {
+            self.push_byte(b'0' + number as u8);
+        } else {
+            let mut buffer = Buffer::new();
+            self.push_text(buffer.format(number).as_bytes());
+        }
+    }
+
+    // Adds a number of up to 128 bits in decimal, of at most 40 digits.
+    pub(crate) fn push_wide(&mut self, number: u128)
+        requires { length self.old + 40 ≤ 8192 }
+        ensures text { self.new ≡ self.old ++ decimal number }
+        ensures most { length (decimal number) ≤ 40 }
+    {
+        let mut buffer = Buffer::new();
+        self.push_text(buffer.format(number).as_bytes());
+    }
+
+    // Adds each byte as two hexadecimal digits, in lower case.
+    #[inline]
+    pub(crate) fn push_bytes(&mut self, bytes: &[u8])
+        requires { length self.old + 2 * length bytes.now ≤ 8192 }
+        ensures text { self.new ≡ self.old ++ encode_lower bytes.now }
+        ensures most { length (encode_lower bytes.now) ≤ 2 * length bytes.now }
+    {
+        let end = self.len + 2 * bytes.len();
+        let Ok(()) = hex::encode_to_slice(bytes, &mut self.bytes[self.len..end]) else {
+            unreachable!()
+        };
+        self.len = end;
+    }
+
+    // Adds so many bytes that are 0 as two hexadecimal digits each.
+    #[inline]
+    pub(crate) fn push_zeros(&mut self, count: usize)
+        requires { length self.old + 2 * count ≤ 8192 }
+        ensures text { self.new ≡ self.old ++ encode_lower (zeros count) }
+        ensures most { length (encode_lower (zeros count)) ≤ 2 * count }
+    {
+        for _ in 0..count / 8 {
+            self.push_text(b"0000000000000000");
+        }
+        self.push_text(&b"0000000000000000"[..2 * (count % 8)]);
+    }
+
+    // Adds a number of 32 bits as 8 hexadecimal digits.
+    #[inline]
+    pub(crate) fn push_hex_32(&mut self, number: u32)
+        requires { length self.old + 8 ≤ 8192 }
+        ensures text { self.new ≡ self.old ++ encode_lower (to_be_bytes w32 number) }
+        ensures most { length (encode_lower (to_be_bytes w32 number)) ≤ 8 }
+    {
+        self.push_bytes(&number.to_be_bytes());
+    }
+
+    // Adds a number of 64 bits as 16 hexadecimal digits. Most are small.
+    #[inline]
+    pub(crate) fn push_hex_64(&mut self, number: u64)
+        requires { length self.old + 16 ≤ 8192 }
+        ensures text { self.new ≡ self.old ++ encode_lower (to_be_bytes w64 number) }
+        ensures most { length (encode_lower (to_be_bytes w64 number)) ≤ 16 }
+    {
+        if number < 1 << 16 {
+            self.push_text(b"000000000000");
+            self.push_bytes(&(number as u16).to_be_bytes());
+        } else {
+            self.push_bytes(&number.to_be_bytes());
+        }
+    }
+}
