@@ -93,8 +93,8 @@ pub record IsWithin (inputs : ℕ) (head : Head) : Type 0 where
 abbrev pub AreWithin : ℕ → List Head → Type 0
 AreWithin inputs heads = All (IsWithin inputs) heads
 
--- the row's head is one of so many, its output but for the zeros at its end stands within so many bytes and is no longer than an output may be, and where
--- its call goes on, the next element has an index
+-- the row's head is one of so many, its output but for the zeros at its end stands within so many bytes and with them is no longer
+-- than an output may be, and where its call goes on, the next element has an index
 pub record IsPlaced (heads outputs : ℕ) (row : Row) : Type 0 where
   pub head : row.head < heads
   pub output : row.output_start + row.output_len ≤ outputs
