@@ -22,6 +22,9 @@ pub fn text_of(bytes: &[u8]) -> &str {
     str::from_utf8(bytes).unwrap_or("no UTF-8 text")
 }
 
+// How many bytes a failing writer takes at a time: less than a line of an audit.
+const STEP: usize = 16;
+
 // A writer that fails after some writes, or at a flush.
 #[derive(Drop)]
 struct Failing {
@@ -35,7 +38,7 @@ impl Write for Failing {
     fn write(&mut self, bytes: &[u8]) -> io::Result<usize> {
         if self.writes > 0 {
             self.writes -= 1;
-            return Ok(bytes.len());
+            return Ok(bytes.len().min(STEP));
         }
         if self.takes_none {
             return Ok(0);
