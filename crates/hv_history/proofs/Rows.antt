@@ -1,7 +1,9 @@
 -- Rows of a history, once one comes.
-use Rattle.std.proofs.Common.{◌≡◌, ℕ, ◌+◌, ◌≤◌, List, [], ◌∷◌, ◌++◌, length, take, drop, refl, sym, ap, subst, ◌∙◌, arith}
+use Rattle.std.proofs.Common.{◌≡◌, ℕ, ◌+◌, ◌<◌, ◌≤◌, List, [], ◌∷◌, ◌++◌, Some, get_or, length, take, drop, refl, sym, ap, subst, ◌∙◌, arith}
 use Rattle.std.proofs.lemmas.List.{take-append-drop, take-append-le, drop-append-le, length-drop, map-append, get_or_append_left}
 use Rattle.std.proofs.lemmas.List.Elements.{All-head, All-tail}
+use Rattle.std.proofs.lemmas.Option.{slice_get-get_or}
+use Rattle.std.specs.List.{slice_get}
 use Rattle.hv_defs.specs.Slot.{zeros}
 use Rattle.hv_policy.specs.Parts.{reply_of}
 use Rattle.hv_policy.specs.declared.event.Event.{Event}
@@ -20,6 +22,17 @@ bytes-more bytes more start len within =
 -- a list with the same in front is that list with more behind it
 extends : {X : Type 0} (n : ℕ) (old new : List X) → n ≡ length old → take n new ≡ old → new ≡ old ++ drop n new
 extends n old new is front = sym (take-append-drop n new) ∙ ap (λ xs. xs ++ drop n new) front
+
+-- what an index into a list gave stands there
+pub stands : {X : Type 0} (xs : List X) (i : ℕ) (x : X) → i < length xs → x ≡ get_or xs i x → slice_get xs i ≡ Some x
+stands xs i x less is = slice_get-get_or xs i x less ∙ ap Some (sym is)
+
+-- a row's head is one of the heads
+pub has_head : (heads outputs count : ℕ) (rows : List Row) (i : ℕ) (row : Row) → ArePlaced heads outputs rows → i < length rows → row ≡ get_or rows i row → heads ≡ count → row.head < count
+has_head heads outputs count rows i row placed less is all =
+    let here = subst (IsPlaced heads outputs) (sym is) (placed i row less) in
+    let head = here.head in
+    omega arith
 
 module _ {A : Type 0} where
   -- what a row with this head stands for
@@ -70,3 +83,17 @@ module _ {A : Type 0} where
       (λ i. entries_of (hs_more i) (ins_more i) (outs_more i) rows)
       ∙ same-more heads (drop head_len new_heads) inputs (drop in_len new_inputs) outputs (drop out_len new_outputs) rows all_within all_placed in
       map-append (entry_of new_heads new_inputs new_outputs) rows (row ∷ []) ∙ (λ i. same i ++ entry i ∷ [])
+
+  -- rows with the same numbers, under heads with the same, stand for the same
+  pub alike : (heads other_heads : List Head) (inputs other_inputs outputs other_outputs : List ℕ) (row that : Row)
+      → row.kind ≡ that.kind → row.first ≡ that.first → row.second ≡ that.second → row.answer ≡ that.answer → row.output_zeros ≡ that.output_zeros
+      → (head_at heads row.head).by ≡ (head_at other_heads that.head).by → (head_at heads row.head).r8 ≡ (head_at other_heads that.head).r8
+      → bytes_at inputs (head_at heads row.head).input_start (head_at heads row.head).input_len
+      ≡ bytes_at other_inputs (head_at other_heads that.head).input_start (head_at other_heads that.head).input_len
+      → bytes_at outputs row.output_start row.output_len ≡ bytes_at other_outputs that.output_start that.output_len
+      → entry_of {A = A} heads inputs outputs row ≡ entry_of other_heads other_inputs other_outputs that
+  alike heads other_heads inputs other_inputs outputs other_outputs row that kind first second answer zs by r8 input output =
+      λ i. record {
+        event = record { by = by i; what = action_of (asked_in (kind i) (first i) (second i) (r8 i)) (input i) };
+        reply = reply_of (answer i) (output i ++ zeros (zs i));
+      }

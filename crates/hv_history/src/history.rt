@@ -59,6 +59,48 @@ impl<A: Allocator> History<A> {
         }
     }
 
+    /// Whether the event at a place is the one at a place of another history, with the same reply.
+    pub fn is_same(&self, at: usize, other: &History<A>, other_at: usize) -> bool
+        requires here { at < length (entries self.now) }
+        requires there { other_at < length (entries other.now) }
+        ensures { IsTrue result ↔ (slice_get (entries self.now) at ≡ slice_get (entries other.now) other_at) }
+    {
+        if self.is_kept_alike(at, other, other_at) {
+            return true;
+        }
+        self.entry(at).is_same::<A>(&other.entry(other_at))
+    }
+
+    // Whether both are kept alike, as almost always where they are the same: then there is no need to read them.
+    #[inline]
+    fn is_kept_alike(&self, at: usize, other: &History<A>, other_at: usize) -> bool
+        requires here { at < length (entries self.now) }
+        requires there { other_at < length (entries other.now) }
+        ensures { IsTrue result → (slice_get (entries self.now) at ≡ slice_get (entries other.now) other_at) }
+    {
+        let row = &self.rows[at];
+        let that = &other.rows[other_at];
+        if row.first != that.first || row.second != that.second {
+            return false;
+        }
+        if row.kind != that.kind || row.output_zeros != that.output_zeros {
+            return false;
+        }
+        let head = &self.heads[row.head as usize];
+        let that_head = &other.heads[that.head as usize];
+        if head.by != that_head.by || head.r8 != that_head.r8 {
+            return false;
+        }
+        let input = &self.inputs[head.input_start..head.input_start + head.input_len];
+        if !other.has_input(that_head, input) {
+            return false;
+        }
+        let output = &self.outputs[row.output_start..row.output_start + row.output_len as usize];
+        let that_output = &other.outputs[that.output_start..that.output_start
+            + that.output_len as usize];
+        are_served_alike(row.answer, that.answer) && output == that_output
+    }
+
     /// Makes room for this event.
     pub fn reserve(&mut self, event: &Event<A>) -> Result<(), AllocError>
         ensures same { entries self.new ≡ entries self.old }
@@ -173,5 +215,16 @@ impl<A: Allocator> History<A> {
         let start = head.input_start;
         let len = head.input_len;
         len == input.len() && (len == 0 || &self.inputs[start..start + len] == input)
+    }
+}
+
+// Whether both say that what was asked was served, and go on alike.
+fn are_served_alike(one: Answer, other: Answer) -> bool
+    ensures { IsTrue result → one ≡ other }
+{
+    match (one, other) {
+        (Answer::Served, Answer::Served) => true,
+        (Answer::More { next }, Answer::More { next: that }) => next == that,
+        _ => false,
     }
 }

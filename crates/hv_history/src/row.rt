@@ -8,7 +8,7 @@ use std::alloc::Allocator;
 use std::mem::size_of;
 
 // What an event asked for, without its numbers.
-#[derive(Clone, Copy)]
+#[derive(Clone, Copy, PartialEq, Eq)]
 pub(crate) enum Kind {
     Hypercall,
     ReadMsr,

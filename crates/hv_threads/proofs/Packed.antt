@@ -1,7 +1,8 @@
 -- What stands in packed receipts.
-use Rattle.std.proofs.Common.{◌≡◌, ℕ, suc, zero, Some, ◌≤◌, ◌==◌, List, [], ◌∷◌, ◌++◌, length, drop, false, refl, ap, subst, ◌∙◌, ◌+◌, arith}
+use Rattle.std.proofs.Common.{◌≡◌, ℕ, suc, zero, Some, ◌<◌, ◌≤◌, ◌==◌, List, [], ◌∷◌, ◌++◌, length, drop, get_or, false, refl, sym, ap, subst, ◌∙◌, ◌+◌, arith}
 use Rattle.std.proofs.lemmas.List.{drop_all, length-append}
 use Rattle.std.proofs.lemmas.List.Elements.{All-push}
+use Rattle.std.proofs.lemmas.Option.{slice_get-get_or}
 use Rattle.std.specs.List.{slice_get}
 use Rattle.std.specs.Prelude.{option_map}
 use Rattle.std.specs.declared.alloc.Global.{Global}
@@ -59,6 +60,24 @@ next_of (r ∷ rs) zero n own e is =
     let same : r ≡ receipt_of n own = grind arith in
     rw same (λ h. (ap (λ (x : Entry Global). x.event) h, ap (λ (x : Entry Global). x.reply) h), λ h. λ i. record { event = h.0 i; reply = h.1 i })
 next_of (r ∷ rs) (suc k) n own e is = next_of rs k n own e is
+
+injective : (x y : Entry Global) → Some x ≡ Some y → x ≡ y
+injective x y same = cc
+
+-- and that one is of an entry where the packed entry beside its number is
+pub next_is_of : (ns : List ℕ) (es : List (Entry Global)) (k : ℕ) (e : Entry Global) → length ns ≡ length es → k < length es
+    → (slice_get es k ≡ Some e → IsOf e (drop k (receipts_from ns es))) × (IsOf e (drop k (receipts_from ns es)) → slice_get es k ≡ Some e)
+next_is_of ns es k e same less =
+    let own : slice_get es k ≡ Some (get_or es k e) = slice_get-get_or es k e less in
+    let number : slice_get ns k ≡ Some (get_or ns k 0) = slice_get-get_or ns k 0 (omega arith) in
+    let next = next_of (receipts_from ns es) k (get_or ns k 0) (get_or es k e) e (place ns es k (get_or ns k 0) (get_or es k e) number own) in
+    (λ is. next.0 (injective (get_or es k e) e (sym own ∙ is)), λ of. own ∙ ap Some (next.1 of))
+
+-- there is an entry at each place
+pub there_is : (es : List (Entry Global)) (k : ℕ) → k < length es → (e : Entry Global) × (slice_get es k ≡ Some e)
+there_is [] k less = absurd (omega arith)
+there_is (e ∷ es) zero less = (e, refl)
+there_is (e ∷ es) (suc k) less = there_is es k (omega arith)
 
 pub none_next : (rs : List Receipt) (k : ℕ) (e : Entry Global) → length rs ≤ k → IsOf e (drop k rs) → ⊥
 none_next rs k e past is = subst (IsOf e) (past_all rs k past) is

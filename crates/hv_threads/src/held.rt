@@ -1,13 +1,14 @@
 // What the lock holds, what each thread holds, and the one step that changes both. The fields of `Held` and `Pass` are
 // private to this file.
-ghost use Rattle.std.specs.Prelude.{◌≡◌, ◌<◌, ◌≤◌, ◌+◌, ◌++◌, [], ◌∷◌, ℕ, List, IsTrue, ◌↔◌, IfOk, OnOk, OnErr, IsErrOf, IfErr, IfSome, IfNone, length, vec_len, sum};
+ghost use Rattle.std.specs.Prelude.{◌≡◌, ◌<◌, ◌≤◌, ◌+◌, ◌++◌, [], ◌∷◌, ℕ, List, IsTrue, ◌↔◌, IfOk, OnOk, OnErr, IsErrOf, IfErr, IfSome, IfNone, Some, length, slice_get, vec_len, sum};
 ghost use Rattle.hv_abi.specs.declared.frame.Frame.{Frame};
 ghost use Rattle.hv_policy.specs.Next.{GoesOn};
 ghost use Rattle.hv_policy.specs.Result.{HasResult};
 ghost use Rattle.hv_policy.specs.Step.{NamesAsked};
 ghost use Rattle.hv_policy.specs.declared.event.Action.TheVariants.{Hypercall};
-ghost use Rattle.hv_history.specs.History.{entries, entry_by};
+ghost use Rattle.hv_history.specs.History.{entries};
 ghost use Rattle.hv_history.specs.Kept.{HasGained, IsRun};
+ghost use Rattle.hv_history.specs.declared.entry.Entry.{Entry};
 ghost use Rattle.hv_threads.specs.Held.{IsHeld};
 ghost use Rattle.hv_threads.specs.Merge.{next_is, rest_of, IsOf, IsNext, IsOnlyNext, FailsAt, AreDone, MergesFrom, FailsFrom, rests_of, receipts_of, shares_of};
 ghost use Rattle.hv_threads.specs.Pass.{HasReceipt};
@@ -19,7 +20,7 @@ ghost use Rattle.hv_threads.specs.declared.receipts.Receipt.{Receipt};
 use crate::fault::{SettleFault, SettleRefused};
 use crate::receipts::Receipts;
 use crate::shared::Shared;
-use hv_history::{Answer, EntryRef, History, HostRefused, Kept};
+use hv_history::{Answer, History, HostRefused, Kept};
 use hv_policy::{Caller, Config, Event, Reply};
 use std::alloc::Global;
 use std::marker::Model;
@@ -109,13 +110,13 @@ impl<L: Ledger> Pass<L> {
         }
     }
 
-    // Whether the next receipt has this entry's event and reply.
-    fn agrees(&self, entry: &EntryRef<'_>) -> bool
-        ensures { IsTrue result ↔ IsOf (entry_by entry.now) (rest_of self.now) }
+    // Whether the next receipt has the event and the reply at this place of a history.
+    fn agrees(&self, history: &History<Global>, at: usize) -> bool
+        requires { at < length (entries history.now) }
+        ensures { (entry : Entry Global) → slice_get (entries history.now) at ≡ Some entry → (IsTrue result ↔ IsOf entry (rest_of self.now)) }
     {
         if self.settled < self.receipts.len() {
-            let receipt = self.receipts.get(self.settled);
-            receipt.entry.is_same::<Global>(entry)
+            self.receipts.is_of(self.settled, history, at)
         } else {
             false
         }
@@ -294,15 +295,18 @@ fn begin_all<L: Ledger>(passes: &mut [Pass<L>])
     }
 }
 
-// The one pass that goes on with this entry's event and reply under this number.
+// The one pass that goes on with the event and the reply at this place of a history, under this number.
 fn find_owner<L: Ledger>(
     passes: &[Pass<L>],
     number: u64,
-    entry: &EntryRef<'_>,
+    history: &History<Global>,
+    at: usize,
 ) -> Result<usize, SettleFault>
-    ensures ok { IfOk result (λ i. IsOnlyNext number (entry_by entry.now) (rests_of passes.now) i) }
+    requires { at < length (entries history.now) }
+    ensures ok { (entry : Entry Global) → slice_get (entries history.now) at ≡ Some entry → IfOk result (λ i. IsOnlyNext number entry (rests_of passes.now) i) }
     ensures there { IfOk result (λ i. i < length passes.now) }
-    ensures err { IfErr result (λ f. FailsAt number (entry_by entry.now) (rests_of passes.now) f) }
+    ensures next { IfOk result (IsNext number (rests_of passes.now)) }
+    ensures err { (entry : Entry Global) → slice_get (entries history.now) at ≡ Some entry → IfErr result (λ f. FailsAt number entry (rests_of passes.now) f) }
 {
     let Some(i) = find_next(passes, 0, number) else {
         return Err(SettleFault::Missing);
@@ -311,7 +315,7 @@ fn find_owner<L: Ledger>(
         return Err(SettleFault::Differs);
     }
     let pass = &passes[i];
-    if pass.agrees(entry) {
+    if pass.agrees(history, at) {
         Ok(i)
     } else {
         Err(SettleFault::Differs)
@@ -327,8 +331,7 @@ fn first_fault<L: Ledger>(history: &History<Global>, passes: &mut [Pass<L>]) -> 
 {
     begin_all(passes);
     for k in 0..history.len() {
-        let entry = history.entry(k);
-        match find_owner(passes, k as u64 + 1, &entry) {
+        match find_owner(passes, k as u64 + 1, history, k) {
             Ok(i) => {
                 let pass = &mut passes[i];
                 pass.advance();

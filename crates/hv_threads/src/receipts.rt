@@ -1,9 +1,10 @@
 // What a thread was told of its events, packed as a history is, with a number beside each entry.
-ghost use Rattle.std.specs.Prelude.{◌≡◌, ◌<◌, ◌≤◌, ◌++◌, [], ◌∷◌, OnOk, Some, length, option_map, slice_get, vec_len};
+ghost use Rattle.std.specs.Prelude.{◌≡◌, ◌<◌, ◌≤◌, ◌++◌, ◌↔◌, [], ◌∷◌, IsTrue, OnOk, Some, drop, length, option_map, slice_get, vec_len};
 ghost use Rattle.hv_defs.specs.declared.sizes.TheConstants.{REPS_END};
 ghost use Rattle.hv_history.specs.History.{entries};
 ghost use Rattle.hv_history.specs.Output.{shown};
 ghost use Rattle.hv_history.specs.Row.{next_in};
+ghost use Rattle.hv_history.specs.declared.entry.Entry.{Entry};
 ghost use Rattle.hv_policy.specs.Parts.{reply_of};
 
 use hv_history::{Answer, EntryRef, History, OutputRef};
@@ -34,6 +35,7 @@ pub struct Receipts {
 }
 
 impl Receipts {
+    ghost use Rattle.hv_threads.specs.Merge.{IsOf};
     ghost use Rattle.hv_threads.specs.Pass.{receipt};
     ghost use Rattle.hv_threads.specs.Receipts.{HasRoom, list_of, receipt_by};
 
@@ -72,6 +74,15 @@ impl Receipts {
             number: self.numbers[at],
             entry: self.packed.entry(at),
         }
+    }
+
+    // Whether the one at a place is of the event at a place of a history, with the same reply.
+    pub(crate) fn is_of(&self, at: usize, history: &History<Global>, place: usize) -> bool
+        requires here { at < length (list_of self.now) }
+        requires there { place < length (entries history.now) }
+        ensures { (entry : Entry Global) → slice_get (entries history.now) place ≡ Some entry → (IsTrue result ↔ IsOf entry (drop at (list_of self.now))) }
+    {
+        self.packed.is_same(at, history, place)
     }
 
     // Makes room for a receipt of this event.
