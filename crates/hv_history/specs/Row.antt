@@ -1,5 +1,6 @@
 -- What is kept of an event and of its reply, and what it stands for.
-use Rattle.std.specs.Prelude.{ℕ, ◌+◌, ◌%◌, ◌^◌, ◌≤◌, ◌<◌, List, [], ◌++◌, map, take, drop, slice_index_or}
+use Rattle.std.specs.Prelude.{ℕ, ◌+◌, ◌%◌, ◌^◌, ◌≤◌, ◌<◌, List, [], ◌++◌, map, take, drop, slice_index_or, nat_le, if◌then◌else◌}
+use Rattle.std.specs.Int.{w64, from_le_bytes}
 use Rattle.std.specs.List.{All}
 use Rattle.hv_defs.specs.Slot.{zeros}
 use Rattle.hv_defs.specs.declared.sizes.TheConstants.{REPS_END}
@@ -18,6 +19,7 @@ use Rattle.hv_history.specs.declared.row.Head.{Head}
 use Rattle.hv_history.specs.declared.row.Kind.{Kind}
 use Rattle.hv_history.specs.declared.row.Kind.TheVariants as kind
 use Rattle.hv_history.specs.declared.row.Row.{Row}
+use Rattle.hv_history.specs.declared.row.TheConstants.{IN_ROW}
 
 -- the bytes of the input list of a call; an access has none
 abbrev pub input_in : {A : Type 0} → Action A → List ℕ
@@ -71,11 +73,15 @@ head_at heads at = slice_index_or heads at (record { by = record { part = 0; vp 
 abbrev pub bytes_at : List ℕ → ℕ → ℕ → List ℕ
 bytes_at bytes start len = take len (drop start bytes)
 
+-- an output but for the zeros at its end, of which a row keeps so much: up to 8 bytes, or where more of them start
+abbrev pub output_at : List ℕ → List ℕ → ℕ → List ℕ
+output_at outputs kept len = if nat_le len IN_ROW then take len kept else bytes_at outputs (from_le_bytes w64 kept) len
+
 -- the event and the reply of a row, whose head is among the heads, and whose input and output are among the bytes
 abbrev pub entry_of : {A : Type 0} → List Head → List ℕ → List ℕ → Row → Entry A
 entry_of heads inputs outputs row =
     let head = head_at heads row.head in
-    entry_from head.by (asked_in row.kind row.first row.second head.r8) (bytes_at inputs head.input_start head.input_len) row.answer (bytes_at outputs row.output_start row.output_len ++ zeros row.output_zeros)
+    entry_from head.by (asked_in row.kind row.first row.second head.r8) (bytes_at inputs head.input_start head.input_len) row.answer (output_at outputs row.output row.output_len ++ zeros row.output_zeros)
 
 abbrev pub entries_of : {A : Type 0} → List Head → List ℕ → List ℕ → List Row → List (Entry A)
 entries_of heads inputs outputs rows = map (entry_of heads inputs outputs) rows
@@ -93,11 +99,15 @@ pub record IsWithin (inputs : ℕ) (head : Head) : Type 0 where
 abbrev pub AreWithin : ℕ → List Head → Type 0
 AreWithin inputs heads = All (IsWithin inputs) heads
 
+-- an output that a row has no room for stands within so many bytes
+abbrev pub IsThere : ℕ → List ℕ → ℕ → Type 0
+IsThere outputs kept len = IN_ROW < len → from_le_bytes w64 kept + len ≤ outputs
+
 -- the row's head is one of so many, its output but for the zeros at its end stands within so many bytes and with them is no longer
 -- than an output may be, and where its call goes on, the next element has an index
 pub record IsPlaced (heads outputs : ℕ) (row : Row) : Type 0 where
   pub head : row.head < heads
-  pub output : row.output_start + row.output_len ≤ outputs
+  pub output : IsThere outputs row.output row.output_len
   pub most : row.output_len + row.output_zeros ≤ 256
   pub index : next_in (reply_of row.answer []) < REPS_END
 

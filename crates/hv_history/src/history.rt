@@ -3,12 +3,14 @@ ghost use Rattle.std.specs.Prelude.{◌≡◌, ◌+◌, ◌^◌, ◌-◌, ◌<�
 ghost use Rattle.hv_defs.specs.declared.sizes.TheConstants.{REPS_END};
 ghost use Rattle.hv_history.specs.History.{HasRoom, entries, entry_by};
 ghost use Rattle.hv_history.specs.Output.{shown};
-ghost use Rattle.hv_history.specs.Row.{bytes_at, head_at, next_in};
+ghost use Rattle.hv_history.specs.Row.{IsThere, bytes_at, head_at, next_in, output_at};
+ghost use Rattle.hv_history.specs.declared.row.TheConstants.{IN_ROW};
+ghost use Rattle.hv_history.specs.declared.entry.Entry.{Entry};
 ghost use Rattle.hv_policy.specs.Parts.{reply_of};
 
 use crate::entry::EntryRef;
 use crate::output::OutputRef;
-use crate::row::{Head, History, Row, asked_of, input_in, numbers_of};
+use crate::row::{Head, History, IN_ROW, Row, asked_of, input_in, numbers_of};
 use hv_machine::{Answer, Caller, Event};
 use std::alloc::{AllocError, Allocator};
 
@@ -53,7 +55,7 @@ impl<A: Allocator> History<A> {
             input: &self.inputs[head.input_start..head.input_start + head.input_len],
             answer: row.answer,
             output: OutputRef {
-                bytes: &self.outputs[row.output_start..row.output_start + row.output_len as usize],
+                bytes: self.output_of(row),
                 zeros: row.output_zeros as usize,
             },
         }
@@ -65,14 +67,36 @@ impl<A: Allocator> History<A> {
         requires there { other_at < length (entries other.now) }
         ensures { IsTrue result ↔ (slice_get (entries self.now) at ≡ slice_get (entries other.now) other_at) }
     {
-        if self.is_kept_alike(at, other, other_at) {
-            return true;
-        }
+        self.is_kept_alike(at, other, other_at) || self.reads_the_same(at, other, other_at)
+    }
+
+    // The same, by reading both. Not inlined, so that the usual way makes no room for them.
+    #[inline(never)]
+    fn reads_the_same(&self, at: usize, other: &History<A>, other_at: usize) -> bool
+        requires here { at < length (entries self.now) }
+        requires there { other_at < length (entries other.now) }
+        ensures { IsTrue result ↔ (slice_get (entries self.now) at ≡ slice_get (entries other.now) other_at) }
+    {
         self.entry(at).is_same::<A>(&other.entry(other_at))
     }
 
-    // Whether both are kept alike, as almost always where they are the same: then there is no need to read them.
+    // The output of a row whose bytes are here, but for the zeros at its end.
     #[inline]
+    fn output_of<'h>(&'h self, row: &'h Row) -> &'h [u8]
+        requires { IsThere (vec_len self.now.outputs) row.now.output row.now.output_len }
+        ensures bytes { result.now ≡ output_at self.now.outputs.items row.now.output row.now.output_len }
+        ensures len { length result.now ≡ row.now.output_len }
+    {
+        let len = row.output_len as usize;
+        if len <= IN_ROW {
+            return &row.output[..len];
+        }
+        let start = u64::from_le_bytes(row.output) as usize;
+        &self.outputs[start..start + len]
+    }
+
+    // Whether both are kept alike, as almost always where they are the same: then there is no need to read them.
+    #[inline(always)]
     fn is_kept_alike(&self, at: usize, other: &History<A>, other_at: usize) -> bool
         requires here { at < length (entries self.now) }
         requires there { other_at < length (entries other.now) }
@@ -95,13 +119,27 @@ impl<A: Allocator> History<A> {
         if !other.has_input(that_head, input) {
             return false;
         }
-        let output = &self.outputs[row.output_start..row.output_start + row.output_len as usize];
-        let that_output = &other.outputs[that.output_start..that.output_start
-            + that.output_len as usize];
-        are_served_alike(row.answer, that.answer) && output == that_output
+        are_served_alike(row.answer, that.answer) && self.puts_out_alike(row, other, that)
+    }
+
+    // Whether an output is kept as one of another history is, but for the zeros at its end.
+    #[inline(always)]
+    fn puts_out_alike(&self, row: &Row, other: &History<A>, that: &Row) -> bool
+        requires here { IsThere (vec_len self.now.outputs) row.now.output row.now.output_len }
+        requires there { IsThere (vec_len other.now.outputs) that.now.output that.now.output_len }
+        ensures { IsTrue result → output_at self.now.outputs.items row.now.output row.now.output_len ≡ output_at other.now.outputs.items that.now.output that.now.output_len }
+    {
+        if row.output_len != that.output_len {
+            return false;
+        }
+        if row.output_len as usize <= IN_ROW {
+            return row.output == that.output;
+        }
+        self.output_of(row) == other.output_of(that)
     }
 
     /// Makes room for this event.
+    #[inline(always)]
     pub fn reserve(&mut self, event: &Event<A>) -> Result<(), AllocError>
         ensures same { entries self.new ≡ entries self.old }
         ensures room { OnOk result (HasRoom self.new event.now) }
@@ -115,19 +153,20 @@ impl<A: Allocator> History<A> {
         self.outputs.reserve(MOST_OUTPUT)
     }
 
-    /// Adds an event with its reply, for which there is room. The reply comes as its answer and what it puts out.
-    pub fn push(&mut self, event: &Event<A>, answer: Answer, output: OutputRef<'_>)
+    // Adds an event with its reply, for which there is room. The reply comes as its answer and what it puts out.
+    #[inline(always)]
+    pub(crate) fn push(&mut self, event: &Event<A>, answer: Answer, output: OutputRef<'_>)
         requires room { HasRoom self.old event.now }
         requires index { next_in (reply_of answer []) < REPS_END }
         ensures { entries self.new ≡ entries self.old ++ record { event = event.now; reply = reply_of answer (shown output.entry) } ∷ [] }
     {
         let asked = numbers_of(&event.what);
         let head = self.place_head(event.by, asked.r8, input_in(&event.what));
-        let output_start = self.place_output(output.bytes);
+        let kept = self.place_output(output.bytes);
         self.rows.push_reserved(Row {
             first: asked.first,
             second: asked.second,
-            output_start,
+            output: kept,
             head,
             output_len: output.bytes.len() as u16,
             output_zeros: output.zeros as u16,
@@ -136,7 +175,27 @@ impl<A: Allocator> History<A> {
         });
     }
 
+    /// Adds the last event of another history with its reply. This is that event, and there is room for it.
+    #[inline(always)]
+    pub fn push_last(&mut self, event: &Event<A>, other: &History<A>)
+        requires some { 0 < length (entries other.now) }
+        requires last { (entry : Entry A) → slice_get (entries other.now) (length (entries other.now) - 1) ≡ Some entry → entry.event ≡ event.now }
+        requires room { HasRoom self.old event.now }
+        ensures { (entry : Entry A) → slice_get (entries other.now) (length (entries other.now) - 1) ≡ Some entry → entries self.new ≡ entries self.old ++ entry ∷ [] }
+    {
+        let row = &other.rows[other.rows.len() - 1];
+        let that = &other.heads[row.head as usize];
+        let head = self.place_head(event.by, that.r8, input_in(&event.what));
+        let output = self.place_output(other.output_of(row));
+        self.rows.push_reserved(Row {
+            output,
+            head,
+            ..*row
+        });
+    }
+
     // The place of a head with this caller, R8 and input: the last one's, if they are the same, and else a new one's.
+    #[inline(always)]
     fn place_head(&mut self, by: Caller, r8: u64, input: &[u8]) -> u32
         requires few { vec_len self.old.heads < 2 ^ 32 - 1 }
         requires head { vec_len self.old.heads < vec_capacity self.old.heads }
@@ -155,6 +214,24 @@ impl<A: Allocator> History<A> {
                 return (self.heads.len() - 1) as u32;
             }
         }
+        self.new_head(by, r8, input)
+    }
+
+    // The place of a new head with these.
+    #[inline(never)]
+    fn new_head(&mut self, by: Caller, r8: u64, input: &[u8]) -> u32
+        requires few { vec_len self.old.heads < 2 ^ 32 - 1 }
+        requires head { vec_len self.old.heads < vec_capacity self.old.heads }
+        requires input { vec_len self.old.inputs + length input.now ≤ vec_capacity self.old.inputs }
+        ensures rows { self.new.rows ≡ self.old.rows }
+        ensures outputs { self.new.outputs ≡ self.old.outputs }
+        ensures heads { take (vec_len self.old.heads) self.new.heads.items ≡ self.old.heads.items }
+        ensures inputs { take (vec_len self.old.inputs) self.new.inputs.items ≡ self.old.inputs.items }
+        ensures within { result < vec_len self.new.heads }
+        ensures by { (head_at self.new.heads.items result).by ≡ by }
+        ensures r8 { (head_at self.new.heads.items result).r8 ≡ r8 }
+        ensures input { let head = head_at self.new.heads.items result in bytes_at self.new.inputs.items head.input_start head.input_len ≡ input.now }
+    {
         let input_start = self.place_input(input);
         let at = self.heads.len() as u32;
         self.heads.push_reserved(Head {
@@ -186,8 +263,27 @@ impl<A: Allocator> History<A> {
         start
     }
 
+    // How a row keeps an output: its bytes if they fit, and else where they are placed.
+    #[inline(always)]
+    fn place_output(&mut self, output: &[u8]) -> [u8; IN_ROW]
+        requires { vec_len self.old.outputs + length output.now ≤ vec_capacity self.old.outputs }
+        ensures rows { self.new.rows ≡ self.old.rows }
+        ensures heads { self.new.heads ≡ self.old.heads }
+        ensures inputs { self.new.inputs ≡ self.old.inputs }
+        ensures outputs { take (vec_len self.old.outputs) self.new.outputs.items ≡ self.old.outputs.items }
+        ensures there { IsThere (vec_len self.new.outputs) result (length output.now) }
+        ensures placed { output_at self.new.outputs.items result (length output.now) ≡ output.now }
+    {
+        if output.len() <= IN_ROW {
+            in_row(output)
+        } else {
+            (self.place_long(output) as u64).to_le_bytes()
+        }
+    }
+
     // Where these bytes stand among the outputs: at the end, where they are added if they aren't there yet.
-    fn place_output(&mut self, output: &[u8]) -> usize
+    #[inline(never)]
+    fn place_long(&mut self, output: &[u8]) -> usize
         requires { vec_len self.old.outputs + length output.now ≤ vec_capacity self.old.outputs }
         ensures rows { self.new.rows ≡ self.old.rows }
         ensures heads { self.new.heads ≡ self.old.heads }
@@ -208,6 +304,7 @@ impl<A: Allocator> History<A> {
     }
 
     // Whether the input of this head, whose bytes are here, is this one.
+    #[inline(always)]
     fn has_input(&self, head: &Head, input: &[u8]) -> bool
         requires { head.now.input_start + head.now.input_len ≤ vec_len self.now.inputs }
         ensures { IsTrue result ↔ (bytes_at self.now.inputs.items head.now.input_start head.now.input_len ≡ input.now) }
@@ -227,4 +324,20 @@ fn are_served_alike(one: Answer, other: Answer) -> bool
         (Answer::More { next }, Answer::More { next: that }) => next == that,
         _ => false,
     }
+}
+
+// The room in a row with these bytes in front.
+#[inline]
+fn in_row(output: &[u8]) -> [u8; IN_ROW]
+    requires { length output.now ≤ IN_ROW }
+    ensures { take (length output.now) result ≡ output.now }
+{
+    let mut kept = [0; IN_ROW];
+    if output.len() == IN_ROW {
+        // With its length known, this is one word.
+        kept.copy_from_slice(output);
+    } else {
+        kept[..output.len()].copy_from_slice(output);
+    }
+    kept
 }

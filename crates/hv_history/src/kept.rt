@@ -111,6 +111,7 @@ impl<A: Allocator + Clone> Kept<A> {
     }
 
     /// Lets an event happen as [`Kept::apply`] does, and answers its number alone: its reply stands in the history.
+    #[inline(always)]
     pub fn take(&mut self, event: &Event<A>) -> Result<u64, HostRefused>
         ensures taken { OnOk result (HasTaken event.now self.old self.new) }
         ensures number { IfOk result (λ number. number ≡ length self.new.history) }
@@ -149,8 +150,8 @@ fn step_into<A: Allocator + Clone>(
     match &event.what {
         Action::Hypercall(frame) => match machine.hypercall(event.by, frame) {
             Ok(reply) => {
-                let (answer, output) = reply.parts();
-                history.push(event, answer, OutputRef::of(output));
+                let (answer, bytes, len) = reply.parts();
+                history.push(event, answer, OutputRef::of(&bytes[..len]));
                 Ok(())
             }
             Err(_) => Err(AllocError),

@@ -1,6 +1,7 @@
 // What an event put out, borrowed.
 ghost use Rattle.std.specs.Prelude.{◌≡◌, ◌+◌, ◌≤◌, ◌↔◌, IsTrue, length};
 
+use crate::row::IN_ROW;
 use hv_machine::Output;
 
 /// The bytes that an event put out, at most 256, borrowed. Most of a message slot are zeros at its end, and those aren't kept one
@@ -17,11 +18,14 @@ pub struct OutputRef<'h> {
 impl<'h> OutputRef<'h> {
     ghost use Rattle.hv_history.specs.Output.{shown};
 
-    /// These bytes.
+    /// These bytes. Of few, the zeros aren't counted.
     pub fn of(bytes: &'h [u8]) -> OutputRef<'h>
         requires { length bytes.now ≤ 256 }
         ensures { shown result ≡ bytes.now }
     {
+        if bytes.len() <= IN_ROW {
+            return OutputRef { bytes, zeros: 0 };
+        }
         let mut len = bytes.len();
         while len > 0 && bytes[len - 1] == 0 {
             len -= 1;

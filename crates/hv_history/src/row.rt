@@ -20,16 +20,21 @@ pub(crate) enum Kind {
     TakeInterrupt,
 }
 
-// What an event was, but for what it shares with the one before it, and where its output starts among those of all events.
+// The most bytes of an output that stand in its row.
+pub(crate) const IN_ROW: usize = 8;
+
+// What an event was, but for what it shares with the one before it.
 #[derive(Clone, Copy)]
 pub(crate) struct Row {
     // RCX of a call, else the MSR or the SINT.
     pub(crate) first: u64,
     // RDX of a call, else the value written or the flag's number.
     pub(crate) second: u64,
-    pub(crate) output_start: usize,
+    // The bytes of its output, where no more than fit. Of more, where they start among those of all events, the lowest byte first.
+    pub(crate) output: [u8; IN_ROW],
     // The place of its head.
     pub(crate) head: u32,
+    // How many bytes its output has before the zeros at its end.
     pub(crate) output_len: u16,
     // How many zeros stand after those bytes of its output.
     pub(crate) output_zeros: u16,
@@ -51,7 +56,7 @@ pub(crate) struct Head {
 }
 
 /// Events with their replies, in the order in which they happened. An event with the same caller, R8 and input as the one
-/// before it, as the elements of a rep call have, takes no bytes for them, and none for the same output.
+/// before it, as the elements of a rep call have, takes no bytes for them, and none for the same output, nor for a short one.
 #[derive(Drop)]
 pub struct History<A: Allocator> {
     pub(crate) rows: Vec<Row, A>,
@@ -59,7 +64,7 @@ pub struct History<A: Allocator> {
     pub(crate) heads: Vec<Head, A>,
     // The bytes that the events put in, one after the other.
     pub(crate) inputs: Vec<u8, A>,
-    // The bytes that they put out, one after the other.
+    // The bytes that they put out, where their rows haven't room for them, one after the other.
     pub(crate) outputs: Vec<u8, A>,
     ghost within: { AreWithin (vec_len inputs) heads.items },
     ghost placed: { ArePlaced (vec_len heads) (vec_len outputs) rows.items },

@@ -1,11 +1,10 @@
 // What a hypercall is answered, in the room that it needs.
-ghost use Rattle.std.specs.Prelude.{◌≡◌, ◌+◌, ◌≤◌, ◌++◌, [], length};
+ghost use Rattle.std.specs.Prelude.{◌≡◌, ◌+◌, ◌≤◌, ◌++◌, [], length, take};
 ghost use Rattle.std.specs.Int.{w64, to_le_bytes};
 ghost use Rattle.hv_policy.specs.Parts.{reply_of};
 
 use crate::reply::Reply;
 use crate::rule::Rule;
-use arrayvec::ArrayVec;
 use hv_abi::Status;
 use std::marker::Model;
 
@@ -31,18 +30,24 @@ pub enum Answer {
     },
 }
 
-/// The output bytes of a simple hypercall, or of one element of a rep hypercall: at most 16.
+/// The output bytes of a simple hypercall, or of one element of a rep hypercall: at most two numbers of 8 bytes.
 #[derive(Debug, Drop)]
 pub struct CallOutput {
-    bytes: ArrayVec<u8, 16>,
+    first: u64,
+    second: u64,
+    // How many bytes there are.
+    len: usize,
 }
 
 impl Model for CallOutput {
-    ghost use Rattle.std.specs.Prelude.{List, ℕ};
+    ghost use Rattle.std.specs.Prelude.{◌≡◌, ◌⊎◌, ◌++◌, List, ℕ, take};
+    ghost use Rattle.std.specs.Int.{w64, to_le_bytes};
 
     ghost Value = { List ℕ };
 
-    ghost view = { λ o. o.bytes.items };
+    ghost view = { λ o. take o.len (to_le_bytes w64 o.first ++ to_le_bytes w64 o.second) };
+
+    ghost invariant = { λ o. (o.len ≡ 0) ⊎ (o.len ≡ 8) ⊎ (o.len ≡ 16) };
 }
 
 impl CallOutput {
@@ -51,7 +56,9 @@ impl CallOutput {
         ensures { result ≡ [] }
     {
         CallOutput {
-            bytes: ArrayVec::new(),
+            first: 0,
+            second: 0,
+            len: 0,
         }
     }
 
@@ -60,16 +67,24 @@ impl CallOutput {
         requires { length self.old + 8 ≤ 16 }
         ensures { self.new ≡ self.old ++ to_le_bytes w64 number }
     {
-        let Ok(()) = self.bytes.try_extend_from_slice(&number.to_le_bytes()) else {
-            unreachable!()
-        };
+        if self.len == 0 {
+            self.first = number;
+            self.len = 8;
+        } else {
+            self.second = number;
+            self.len = 16;
+        }
     }
 
-    pub fn as_slice(&self) -> &[u8]
-        ensures bytes { result.now ≡ self.now }
-        ensures most { length self.now ≤ 16 }
+    /// The bytes with what stands after them, and how many they are.
+    pub fn to_bytes(&self) -> ([u8; 16], usize)
+        ensures bytes { take result.1 result.0 ≡ self.now }
+        ensures most { result.1 ≤ 16 }
     {
-        self.bytes.as_slice()
+        let mut bytes = [0; 16];
+        bytes[..8].copy_from_slice(&self.first.to_le_bytes());
+        bytes[8..].copy_from_slice(&self.second.to_le_bytes());
+        (bytes, self.len)
     }
 }
 
@@ -90,19 +105,20 @@ impl Model for CallReply {
 }
 
 impl CallReply {
-    /// The reply in two parts.
-    pub fn parts(&self) -> (Answer, &[u8])
-        ensures reply { reply_of result.0 result.1.now ≡ self.now }
-        ensures most { length result.1.now ≤ 16 }
+    /// The reply in two parts: the answer, and the output's bytes with what stands after them, and how many they are.
+    pub fn parts(&self) -> (Answer, [u8; 16], usize)
+        ensures reply { reply_of result.0 (take result.2 result.1) ≡ self.now }
+        ensures most { result.2 ≤ 16 }
     {
-        (self.answer, self.output.as_slice())
+        let (bytes, len) = self.output.to_bytes();
+        (self.answer, bytes, len)
     }
 
     /// The same reply.
     pub fn to_reply(&self) -> Reply
         ensures { result ≡ self.now }
     {
-        let (answer, output) = self.parts();
-        Reply::of(answer, output)
+        let (answer, bytes, len) = self.parts();
+        Reply::of(answer, &bytes[..len])
     }
 }

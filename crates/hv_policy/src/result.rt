@@ -37,19 +37,14 @@ pub fn served_reply<A: Allocator>(frame: &Frame<A>, shape: Shape, output: CallOu
     requires named { call_of frame.now ≡ Some shape.kind }
     ensures { result ≡ reply_with frame.now output }
 {
-    if shape.kind.is_rep() && shape.start + 1 < shape.reps {
-        CallReply {
-            answer: Answer::More {
-                next: shape.start + 1,
-            },
-            output,
+    let answer = if shape.kind.is_rep() && shape.start + 1 < shape.reps {
+        Answer::More {
+            next: shape.start + 1,
         }
     } else {
-        CallReply {
-            answer: Answer::Served,
-            output,
-        }
-    }
+        Answer::Served
+    };
+    CallReply { answer, output }
 }
 
 /// The reply to a call that this rule refuses.

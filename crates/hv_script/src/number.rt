@@ -1,5 +1,5 @@
 // Numbers and bytes, as words of a script.
-ghost use Rattle.std.specs.Prelude.{◌≡◌, ◌^◌, ◌<◌, ◌≤◌, ◌*◌, ◌+◌, ◌/◌, ◌%◌, ◌++◌, IfErr, OnOk, length, vec_capacity, vec_len};
+ghost use Rattle.std.specs.Prelude.{◌≡◌, ◌^◌, ◌<◌, ◌≤◌, ◌*◌, ◌+◌, ◌/◌, ◌%◌, ◌++◌, [], ◌∷◌, IfErr, OnOk, length, vec_capacity, vec_len};
 ghost use Rattle.std.specs.Char.{digit_value};
 ghost use Rattle.std.specs.Option.{SomeIff};
 ghost use Rattle.std.specs.Str.Parse.{AllDigits, IsNumeral, digits_value};
@@ -124,14 +124,23 @@ fn digits(word: &[u8], base: u64) -> Option<u64>
     requires most { base ≤ 16 }
     ensures { SomeIff result (IsNumeral base word.now × (digits_value base word.now < 2 ^ 64)) (digits_value base word.now) }
 {
-    if word.is_empty() {
-        return None;
+    match word {
+        [] => None,
+        [byte] => one_digit(*byte, base),
+        _ if word.len() <= FEW_DIGITS => few_digits(word, base),
+        _ => many_digits(word, base),
     }
-    if word.len() <= FEW_DIGITS {
-        few_digits(word, base)
-    } else {
-        many_digits(word, base)
-    }
+}
+
+// The number of one digit, as most are.
+#[inline(always)]
+fn one_digit(byte: u8, base: u64) -> Option<u64>
+    requires least { 2 ≤ base }
+    requires most { base ≤ 16 }
+    ensures { SomeIff result (AllDigits base (byte ∷ [])) (digits_value base (byte ∷ [])) }
+{
+    let digit = char::from(byte).to_digit(base as u32)?;
+    Some(u64::from(digit))
 }
 
 // The number of so few digits that it always fits, with no check at each digit.

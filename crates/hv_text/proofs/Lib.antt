@@ -1,6 +1,8 @@
+pub mod Counting
 pub mod Cuts
+pub mod Eights
 pub mod Entries
+pub mod Lanes
 pub mod Rows
-pub mod Small
 pub mod TableCuts
 pub mod Zeros

@@ -13,6 +13,7 @@ ghost use Rattle.hv_text.specs.Audit.{audit_text, caller_text, entry_text, hex_3
 ghost use Rattle.hv_text.specs.Fault.{IsCut};
 
 use crate::fault::PrintFault;
+use crate::numeral::Numeral;
 use crate::put::put;
 use crate::text::Text;
 use hv_abi::{ResultValue, Status};
@@ -46,8 +47,10 @@ fn put_history<W: Write, A: Allocator>(
     ensures write { result ≢ Err PrintFault.Memory }
 {
     let mut written = 0;
+    let mut number = Numeral::zero();
     for at in 0..history.len() {
-        push_entry::<A>(lines, at as u64 + 1, &history.entry(at));
+        number.advance();
+        push_entry::<A>(lines, &number, &history.entry(at));
         lines.push_text(b"\n");
         if !lines.has_room() {
             written = put(out, lines.as_slice(), written)?;
@@ -71,13 +74,13 @@ fn push_end(line: &mut Text, count: u64)
 }
 
 // The line of an event with its number, without its line feed.
-fn push_entry<A: Allocator>(line: &mut Text, number: u64, entry: &EntryRef<'_>)
+fn push_entry<A: Allocator>(line: &mut Text, number: &Numeral, entry: &EntryRef<'_>)
     requires index { next_in (reply_of entry.now.answer []) < REPS_END }
     requires room { length line.old + 700 ≤ 8192 }
-    ensures text { line.new ≡ line.old ++ entry_text number (entry_by {A = A} entry.now) }
+    ensures text { line.new ≡ line.old ++ entry_text number.now (entry_by {A = A} entry.now) }
     ensures most { length line.new ≤ length line.old + 700 }
 {
-    line.push_decimal(number);
+    line.push_numeral(number);
     line.push_text(b" ");
     push_caller(line, entry.by);
     line.push_text(b" ");
@@ -86,6 +89,7 @@ fn push_entry<A: Allocator>(line: &mut Text, number: u64, entry: &EntryRef<'_>)
     push_reply::<A>(line, entry);
 }
 
+#[inline(always)]
 fn push_caller(line: &mut Text, by: Caller)
     requires { length line.old + 41 ≤ 8192 }
     ensures text { line.new ≡ line.old ++ caller_text by }
@@ -97,6 +101,7 @@ fn push_caller(line: &mut Text, by: Caller)
 }
 
 // What an event asked for. The bytes of its input aren't shown.
+#[inline(always)]
 fn push_asked<A: Allocator>(line: &mut Text, asked: Asked, input: &[u8])
     requires { length line.old + 51 ≤ 8192 }
     ensures text { line.new ≡ line.old ++ what_text (action_of {A = A} asked input.now) }
@@ -154,6 +159,7 @@ fn push_named_64(line: &mut Text, name: &[u8], number: u64)
 }
 
 // How an event was answered.
+#[inline(always)]
 fn push_reply<A: Allocator>(line: &mut Text, entry: &EntryRef<'_>)
     requires index { next_in (reply_of entry.now.answer []) < REPS_END }
     requires room { length line.old + 540 ≤ 8192 }
@@ -187,6 +193,7 @@ fn push_reply<A: Allocator>(line: &mut Text, entry: &EntryRef<'_>)
 }
 
 // A space and the result value, of a hypercall alone.
+#[inline(always)]
 fn push_result<A: Allocator>(line: &mut Text, entry: &EntryRef<'_>)
     requires index { next_in (reply_of entry.now.answer []) < REPS_END }
     requires room { length line.old + 17 ≤ 8192 }
@@ -221,6 +228,7 @@ fn result_value<A: Allocator>(rcx: u64, answer: Answer) -> u64
 }
 
 // The bytes that an event put out, or a dash where there are none.
+#[inline(always)]
 fn push_output(line: &mut Text, output: OutputRef<'_>)
     requires { length line.old + 512 ≤ 8192 }
     ensures text { line.new ≡ line.old ++ output_text (shown output.entry) }

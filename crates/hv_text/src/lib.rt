@@ -6,7 +6,9 @@
 #![tactic(auto)]
 
 mod audit_text;
+mod digits;
 mod fault;
+mod numeral;
 mod put;
 mod table_text;
 mod text;

@@ -4,6 +4,8 @@ ghost use Rattle.std.specs.Int.{w32, w64, to_be_bytes};
 ghost use Rattle.hex.specs.Hex.{encode_lower};
 ghost use Rattle.hv_defs.specs.Slot.{zeros};
 
+use crate::digits::digits_of;
+use crate::numeral::{MOST_DIGITS, Numeral};
 use itoa::Buffer;
 use std::marker::Model;
 
@@ -102,6 +104,19 @@ impl Text {
         }
     }
 
+    // Adds a number in decimal, of at most 20 digits, whose digits are there.
+    #[inline]
+    pub(crate) fn push_numeral(&mut self, numeral: &Numeral)
+        requires { length self.old + 20 ≤ 8192 }
+        ensures text { self.new ≡ self.old ++ decimal numeral.now }
+        ensures most { length (decimal numeral.now) ≤ 20 }
+    {
+        let (digits, len) = numeral.digits();
+        // All that there is room for is copied, since that is quicker.
+        self.bytes[self.len..self.len + MOST_DIGITS].copy_from_slice(digits);
+        self.len += len;
+    }
+
     // Adds a number of up to 128 bits in decimal, of at most 40 digits.
     pub(crate) fn push_wide(&mut self, number: u128)
         requires { length self.old + 40 ≤ 8192 }
@@ -115,6 +130,19 @@ impl Text {
     // Adds each byte as two hexadecimal digits, in lower case.
     #[inline]
     pub(crate) fn push_bytes(&mut self, bytes: &[u8])
+        requires { length self.old + 2 * length bytes.now ≤ 8192 }
+        ensures text { self.new ≡ self.old ++ encode_lower bytes.now }
+        ensures most { length (encode_lower bytes.now) ≤ 2 * length bytes.now }
+    {
+        let (eights, rest) = bytes.as_chunks::<8>();
+        for eight in eights {
+            self.push_hex_64(u64::from_be_bytes(*eight));
+        }
+        self.push_few(rest);
+    }
+
+    // Adds each of these bytes alike, one by one.
+    fn push_few(&mut self, bytes: &[u8])
         requires { length self.old + 2 * length bytes.now ≤ 8192 }
         ensures text { self.new ≡ self.old ++ encode_lower bytes.now }
         ensures most { length (encode_lower bytes.now) ≤ 2 * length bytes.now }
@@ -149,18 +177,13 @@ impl Text {
         self.push_bytes(&number.to_be_bytes());
     }
 
-    // Adds a number of 64 bits as 16 hexadecimal digits. Most are small.
+    // Adds a number of 64 bits as 16 hexadecimal digits.
     #[inline]
     pub(crate) fn push_hex_64(&mut self, number: u64)
         requires { length self.old + 16 ≤ 8192 }
         ensures text { self.new ≡ self.old ++ encode_lower (to_be_bytes w64 number) }
         ensures most { length (encode_lower (to_be_bytes w64 number)) ≤ 16 }
     {
-        if number < 1 << 16 {
-            self.push_text(b"000000000000");
-            self.push_bytes(&(number as u16).to_be_bytes());
-        } else {
-            self.push_bytes(&number.to_be_bytes());
-        }
+        self.push_text(&digits_of(number));
     }
 }

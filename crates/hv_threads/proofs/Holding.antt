@@ -1,5 +1,5 @@
 -- One event under the lock.
-use Rattle.std.proofs.Common.{◌≡◌, ℕ, ◌-◌, List, [], ◌∷◌, ◌++◌, Some, length, refl, sym, ap, subst, ◌∙◌, arith, length-append}
+use Rattle.std.proofs.Common.{◌≡◌, ℕ, ◌-◌, ◌<◌, List, [], ◌∷◌, ◌++◌, Some, length, refl, sym, ap, subst, ◌∙◌, arith, length-append}
 use Rattle.std.specs.List.{slice_get}
 use Rattle.std.specs.declared.alloc.Global.{Global}
 use Rattle.hv_history.specs.Kept.{HasGained, HasTaken, Kept}
@@ -36,11 +36,17 @@ one_value : {X : Type 0} (x y : X) → Some x ≡ Some y → x ≡ y
 one_value x y is = cc
 
 -- the entry at the last place is the one that was added
-pub last_entry : (event : Event Global) (old new : Kept Global) (is : HasTaken event old new) (all : List (Entry Global)) (len at : ℕ) (last : Entry Global) → all ≡ new.history → len ≡ length all → at ≡ len - 1 → slice_get all at ≡ Some last
-    → last.reply ≡ is.reply
-last_entry event old new is all len at last same count place found =
+pub last_entry : (event : Event Global) (old new : Kept Global) (is : HasTaken event old new) (all : List (Entry Global)) (at : ℕ) (last : Entry Global) → all ≡ new.history → at ≡ length all - 1 → slice_get all at ≡ Some last
+    → last ≡ record { event = event; reply = is.reply }
+last_entry event old new is all at last same place found =
     let entry : Entry Global = record { event = event; reply = is.reply } in
     let whole : all ≡ old.history ++ entry ∷ [] = same ∙ is.gained.history in
     let end : at ≡ length old.history = let n = ap length whole in omega (arith, length-append old.history (entry ∷ [])) in
     let there : slice_get all at ≡ Some entry = rw (whole, end) (last_at old.history entry) in
-    ap (λ (e : Entry Global). e.reply) (one_value last entry (sym found ∙ there))
+    one_value last entry (sym found ∙ there)
+
+-- and there is one
+pub has_last : (event : Event Global) (old new : Kept Global) (is : HasTaken event old new) (all : List (Entry Global)) → all ≡ new.history → 0 < length all
+has_last event old new is all same =
+    let n = ap length (same ∙ is.gained.history) in
+    omega (arith, length-append old.history (record { event = event; reply = is.reply } ∷ []))

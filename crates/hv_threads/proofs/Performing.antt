@@ -3,12 +3,20 @@ use Rattle.std.proofs.Common.{◌≡◌, ℕ, ◌+◌, List, [], ◌∷◌, ◌+
 use Rattle.std.specs.Prelude.{reverse}
 use Rattle.std.proofs.lemmas.List.{length-append, reverse-append}
 use Rattle.std.specs.declared.alloc.Global.{Global}
+use Rattle.hv_abi.specs.declared.frame.Frame.{Frame}
 use Rattle.hv_history.specs.declared.kept.HostRefused.{HostRefused}
+use Rattle.hv_policy.specs.Parts.{reply_of}
+use Rattle.hv_policy.specs.declared.answer.Answer.{Answer}
 use Rattle.hv_policy.specs.declared.event.Action.{Action}
+use Rattle.hv_policy.specs.declared.event.Action.TheVariants.{Hypercall, ReadMsr, WriteMsr, ReadSlot, ClearSlot, ReadFlags, ClearFlag, TakeInterrupt}
 use Rattle.hv_policy.specs.declared.event.Caller.{Caller}
-use Rattle.hv_threads.specs.Pass.{HasReceipts}
+use Rattle.hv_policy.specs.declared.reply.Reply.{Reply}
+use Rattle.hv_policy.specs.declared.reply.Reply.TheVariants.{More}
+use Rattle.hv_threads.specs.Drive.{IsMore, element, restart}
+use Rattle.hv_threads.specs.Pass.{HasReceipts, receipt}
 use Rattle.hv_threads.specs.PassValue.{PassValue}
-use Rattle.hv_threads.specs.Phase.{AreWhole, HasBegun, HasPerformed, IsDone, IsStopped, IsWhole}
+use Rattle.hv_threads.specs.Phase.{AreWhole, HasBegun, HasPerformed, IsCall, IsDone, IsPart, IsStopped, IsWhole}
+use Rattle.hv_threads.specs.Told.{IsTold}
 use Rattle.hv_threads.specs.declared.receipts.Receipt.{Receipt}
 use Rattle.hv_threads.specs.declared.phase.End.TheVariants.{Finished, Host}
 use Rattle.hv_threads.specs.declared.phase.Work.{Work}
@@ -39,6 +47,53 @@ gained-twice a b old mid new first second =
 
 gained-none : (old : PassValue) → HasReceipts [] old old
 gained-none old = record { receipts = sym (append-nil old.receipts); share = omega arith; caller = refl }
+
+-- a call that goes on after its first element
+module _ (what : Action Global) (answer : Answer) (old mid : PassValue) (told : IsTold what answer old mid) where
+  abbrev first_of : Receipt
+  first_of = receipt told.called.0 (record { by = old.caller; what = what }) (reply_of answer told.output)
+
+  gained-first : HasReceipts (first_of ∷ []) old mid
+  gained-first = let gained = told.called.1 in record { receipts = gained.receipts; share = gained.share; caller = gained.caller }
+
+  module _ (frame later : Frame Global) (next : ℕ) (new : PassValue) (is : what ≡ Hypercall frame) (goes : (output : List ℕ) → reply_of answer output ≡ More next output) (later_is : later ≡ restart frame next) where
+    same_caller : mid.caller ≡ old.caller
+    same_caller = told.called.1.caller
+
+    event_is : first_of.event ≡ element old.caller frame
+    event_is = ap (λ (w : Action Global). record { by = old.caller; what = w }) is
+
+    -- the first element and then the others
+    pub performed_after : HasPerformed (Hypercall later) mid new → HasPerformed what old new
+    performed_after performed =
+        let whole : IsCall old.caller (restart frame next) performed.more = subst (λ (by : Caller). IsCall by (restart frame next) performed.more) same_caller (subst (λ (f : Frame Global). IsCall mid.caller f performed.more) later_is performed.whole) in
+        let call : IsCall old.caller frame (first_of ∷ performed.more) = record {
+          last = whole.last;
+          reply = whole.reply;
+          whole = record {
+            before = first_of ∷ whole.whole.before;
+            number = whole.whole.number;
+            elements = (event_is, (next, told.output, goes told.output, whole.whole.elements));
+            all = ap (λ (rs : List Receipt). first_of ∷ rs) whole.whole.all;
+            ends = whole.whole.ends;
+          };
+        } in
+        record {
+          more = first_of ∷ performed.more;
+          whole = subst (λ (w : Action Global). IsWhole old.caller w (first_of ∷ performed.more)) (sym is) call;
+          gained = gained-twice (first_of ∷ []) performed.more old mid new gained-first performed.gained;
+        }
+
+    -- the host refused one of the others
+    pub refused_after : HasBegun (Hypercall later) mid new → HasBegun what old new
+    refused_after begun =
+        let stopped : IsPart old.caller (restart frame next) begun.more = subst (λ (by : Caller). IsPart by (restart frame next) begun.more) same_caller (subst (λ (f : Frame Global). IsPart mid.caller f begun.more) later_is begun.stopped) in
+        let part : IsPart old.caller frame (first_of ∷ begun.more) = record { now = stopped.now; elements = (event_is, (next, told.output, goes told.output, stopped.elements)) } in
+        record {
+          more = first_of ∷ begun.more;
+          stopped = subst (λ (w : Action Global). IsStopped old.caller w (first_of ∷ begun.more)) (sym is) part;
+          gained = gained-twice (first_of ∷ []) begun.more old mid new gained-first begun.gained;
+        }
 
 -- nothing is done yet
 pub fresh : {L : Type 0} (work : Work L) (left : List (Action Global)) → left ≡ reverse work.actions.items → reverse left ≡ work.actions.items → IsWorking work work.pass 0 left

@@ -26,7 +26,7 @@ pub struct DriveRefused {
 }
 
 // The element with which a call goes on after this answer.
-fn next_of(answer: Answer) -> Option<u16>
+pub(crate) fn next_of(answer: Answer) -> Option<u16>
     ensures some { IfSome result (λ next. (output : List ℕ) → reply_of answer output ≡ More next output) }
     ensures none { IfNone result ((output : List ℕ) → IsMore (reply_of answer output) → ⊥) }
 {

@@ -191,6 +191,7 @@ impl<L: Ledger> Held<L> {
 
     // Lets an event happen as `hold` does, and answers its reply without the output, which stands in the pass's receipt.
     // Room for the receipt is made first.
+    #[inline(always)]
     pub(crate) fn take(
         &mut self,
         pass: &mut Pass<L>,
@@ -217,8 +218,7 @@ impl<L: Ledger> Held<L> {
                 self.count.add(&mut pass.share, 1);
                 let history = self.kept.history();
                 let entry = history.entry(history.len() - 1);
-                pass.receipts
-                    .push(number, event, entry.answer, entry.output);
+                pass.receipts.push(number, event, history);
                 Ok(entry.answer)
             }
             Err(why) => Err(why),

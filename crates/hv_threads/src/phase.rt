@@ -1,11 +1,14 @@
 // Many threads, each with a pass.
 ghost use Rattle.std.specs.Prelude.{◌≡◌, ◌<◌, ◌≤◌, ◌+◌, [], ℕ, List, IfOk, IfErr, OnOk, OnErr, length, vec_len, vec_capacity, slice_index_or, map, reverse};
+ghost use Rattle.hv_policy.specs.declared.event.Action.TheVariants.{Hypercall};
 ghost use Rattle.hv_threads.specs.Phase.{IsDoneAt, EachDone, HasPerformed, HasBegun, done_of};
 ghost use Rattle.hv_threads.specs.declared.phase.Task.{Task};
 
+use crate::drive::next_of;
 use crate::gate::Gate;
 use crate::held::Pass;
 use crate::shared::Shared;
+use hv_abi::Frame;
 use hv_history::HostRefused;
 use hv_policy::{Action, Event};
 use std::alloc::Global;
@@ -54,6 +57,7 @@ pub struct Task<L: Ledger> {
 }
 
 /// Lets one action come to its end: a hypercall element by element, anything else as one event.
+#[inline(always)]
 pub fn perform<L: Ledger, R: Wait, G: Gate>(
     rt: &R,
     shared: &Shared<L>,
@@ -64,24 +68,39 @@ pub fn perform<L: Ledger, R: Wait, G: Gate>(
     ensures performed { OnOk result (HasPerformed action pass.old pass.new) }
     ensures refused { OnErr result (HasBegun action pass.old pass.new) }
 {
-    match action {
-        Action::Hypercall(frame) => match shared.finish(rt, pass, gate, frame) {
-            Ok(_) => Ok(()),
-            Err(refused) => Err(refused.why),
+    let by = pass.caller();
+    let event = Event { by, what: action };
+    let answer = shared.happen(rt, pass, gate, &event)?;
+    match event.what {
+        Action::Hypercall(frame) => match next_of(answer) {
+            Some(next) => go_on(rt, shared, gate, pass, frame.with_start(next)),
+            None => Ok(()),
         },
-        access @ (Action::ReadMsr(_)
+        Action::ReadMsr(_)
         | Action::WriteMsr(_, _)
         | Action::ReadSlot(_)
         | Action::ClearSlot(_)
         | Action::ReadFlags(_)
         | Action::ClearFlag(_, _)
-        | Action::TakeInterrupt) => {
-            let by = pass.caller();
-            match shared.happen(rt, pass, gate, &Event { by, what: access }) {
-                Ok(_) => Ok(()),
-                Err(why) => Err(why),
-            }
-        }
+        | Action::TakeInterrupt => Ok(()),
+    }
+}
+
+// Lets the other elements of a rep call come to their end.
+#[inline(never)]
+fn go_on<L: Ledger, R: Wait, G: Gate>(
+    rt: &R,
+    shared: &Shared<L>,
+    gate: &G,
+    pass: &mut Pass<L>,
+    frame: Frame<Global>,
+) -> Result<(), HostRefused>
+    ensures performed { OnOk result (HasPerformed (Hypercall frame) pass.old pass.new) }
+    ensures refused { OnErr result (HasBegun (Hypercall frame) pass.old pass.new) }
+{
+    match shared.finish(rt, pass, gate, frame) {
+        Ok(_) => Ok(()),
+        Err(refused) => Err(refused.why),
     }
 }
 

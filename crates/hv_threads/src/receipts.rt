@@ -1,13 +1,10 @@
 // What a thread was told of its events, packed as a history is, with a number beside each entry.
-ghost use Rattle.std.specs.Prelude.{◌≡◌, ◌<◌, ◌≤◌, ◌++◌, ◌↔◌, [], ◌∷◌, IsTrue, OnOk, Some, drop, length, option_map, slice_get, vec_len};
-ghost use Rattle.hv_defs.specs.declared.sizes.TheConstants.{REPS_END};
+ghost use Rattle.std.specs.Prelude.{◌≡◌, ◌<◌, ◌≤◌, ◌-◌, ◌++◌, ◌↔◌, [], ◌∷◌, IsTrue, OnOk, Some, drop, length, option_map, slice_get, vec_len};
 ghost use Rattle.hv_history.specs.History.{entries};
 ghost use Rattle.hv_history.specs.Output.{shown};
-ghost use Rattle.hv_history.specs.Row.{next_in};
 ghost use Rattle.hv_history.specs.declared.entry.Entry.{Entry};
-ghost use Rattle.hv_policy.specs.Parts.{reply_of};
 
-use hv_history::{Answer, EntryRef, History, OutputRef};
+use hv_history::{EntryRef, History};
 use hv_policy::{Event, Reply};
 use std::alloc::{AllocError, Global};
 
@@ -36,8 +33,7 @@ pub struct Receipts {
 
 impl Receipts {
     ghost use Rattle.hv_threads.specs.Merge.{IsOf};
-    ghost use Rattle.hv_threads.specs.Pass.{receipt};
-    ghost use Rattle.hv_threads.specs.Receipts.{HasRoom, list_of, receipt_by};
+    ghost use Rattle.hv_threads.specs.Receipts.{HasRoom, list_of, receipt_by, receipt_of};
 
     // No receipts.
     pub(crate) fn new(alloc: Global) -> Receipts
@@ -86,6 +82,7 @@ impl Receipts {
     }
 
     // Makes room for a receipt of this event.
+    #[inline(always)]
     pub(crate) fn reserve(&mut self, event: &Event<Global>) -> Result<(), AllocError>
         ensures same { list_of self.new ≡ list_of self.old }
         ensures room { OnOk result (HasRoom self.new event.now) }
@@ -94,19 +91,15 @@ impl Receipts {
         self.packed.reserve(event)
     }
 
-    // Adds a receipt, for which there is room.
-    pub(crate) fn push(
-        &mut self,
-        number: u64,
-        event: &Event<Global>,
-        answer: Answer,
-        output: OutputRef<'_>,
-    )
+    // Adds a receipt of the last event of a history, for which there is room.
+    #[inline(always)]
+    pub(crate) fn push(&mut self, number: u64, event: &Event<Global>, history: &History<Global>)
+        requires some { 0 < length (entries history.now) }
+        requires last { (entry : Entry Global) → slice_get (entries history.now) (length (entries history.now) - 1) ≡ Some entry → entry.event ≡ event.now }
         requires room { HasRoom self.old event.now }
-        requires index { next_in (reply_of answer []) < REPS_END }
-        ensures { list_of self.new ≡ list_of self.old ++ receipt number event.now (reply_of answer (shown output.entry)) ∷ [] }
+        ensures { (entry : Entry Global) → slice_get (entries history.now) (length (entries history.now) - 1) ≡ Some entry → list_of self.new ≡ list_of self.old ++ receipt_of number entry ∷ [] }
     {
         self.numbers.push_reserved(number);
-        self.packed.push(event, answer, output);
+        self.packed.push_last(event, history);
     }
 }

@@ -90,6 +90,7 @@ impl<L: Ledger> Shared<L> {
     }
 
     // Lets an event by the pass's caller happen, and keeps its receipt. Answers its reply without the output.
+    #[inline(always)]
     pub(crate) fn happen<R: Wait, G: Gate>(
         &self,
         rt: &R,

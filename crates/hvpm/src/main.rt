@@ -15,9 +15,12 @@ use std::rt::{Env, Files};
 use std::sync::Wait;
 use std::thread::Threads;
 
+// How many bytes of the output are gathered. The blocks in which an audit comes are larger, and go out without a copy.
+const GATHERED: usize = 4096;
+
 fn main(rt: HostRuntime) -> ExitCode {
     let mut err = rt.stderr();
-    let exit = match BufWriter::new(rt.alloc(), rt.stdout()) {
+    let exit = match BufWriter::with_capacity(rt.alloc(), GATHERED, rt.stdout()) {
         Ok(mut out) => start(&rt, &mut out, &mut err),
         Err(_) => tell(Failure::Memory, &mut err),
     };

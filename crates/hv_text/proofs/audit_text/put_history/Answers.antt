@@ -13,8 +13,9 @@ returns-in_err-written-clause-cut g c =
     let p = err_from_is_err_and c.from_residual.result c.from_residual.ensures.1 in
     let at = c.loop-at.at in
     let entry = entry_by c.entry.result in
+    let counted : c.advance.new.self ≡ at + 1 = c.advance.ensures ∙ ap (λ n. n + 1) c.loop-at.invariant.number in
     let line : c.push_text.new.self ≡ c.loop-at.lines ++ line_of (at + 1) entry =
-    c.push_text.ensures ∙ ap (λ l. l ++ codes "\n") c.push_entry.ensures.text ∙ append_assoc c.loop-at.lines (entry_text (at + 1) entry) (codes "\n") in
+    c.push_text.ensures ∙ ap (λ l. l ++ codes "\n") (c.push_entry.ensures.text ∙ ap (λ n. c.loop-at.lines ++ entry_text n entry) counted) ∙ append_assoc c.loop-at.lines (entry_text (at + 1) entry) (codes "\n") in
     let more = sent-more _ _ _ at c.loop-at.written _ c.push_text.new.self entry c.loop-at.invariant.sent c.entry.ensures.entry line in
     let cut = subst (λ bytes. IsCutAfter c.loop-at.written (g.W.Write.contents c.loop-at.out) (g.W.Write.contents c.put.new.out) bytes c.in_err-written.field-0.0) c.as_slice.ensures.bytes c.in_err-written.ensures.cut in
     rw (p.1, p.2) (sent-cut _ _ _ _ (at + 1) c.loop-at.written _ c.in_err-written.field-0.0 more cut)
@@ -23,8 +24,9 @@ pub loop-at-preserved : goal.loop-at-preserved
 loop-at-preserved g c =
     let at = c.loop-at.at in
     let entry = entry_by c.entry.result in
+    let counted : c.advance.new.self ≡ at + 1 = c.advance.ensures ∙ ap (λ n. n + 1) c.loop-at.invariant.number in
     let line : c.push_text.new.self ≡ c.loop-at.lines ++ line_of (at + 1) entry =
-    c.push_text.ensures ∙ ap (λ l. l ++ codes "\n") c.push_entry.ensures.text ∙ append_assoc c.loop-at.lines (entry_text (at + 1) entry) (codes "\n") in
+    c.push_text.ensures ∙ ap (λ l. l ++ codes "\n") (c.push_entry.ensures.text ∙ ap (λ n. c.loop-at.lines ++ entry_text n entry) counted) ∙ append_assoc c.loop-at.lines (entry_text (at + 1) entry) (codes "\n") in
     let more = sent-more _ _ _ at c.loop-at.written _ c.push_text.new.self entry c.loop-at.invariant.sent c.entry.ensures.entry line in
     let few = c.loop-at.invariant.few in
     let most = c.push_entry.ensures.most in
@@ -36,13 +38,14 @@ loop-at-preserved g c =
           let after : w.in_ok-written.written ≡ c.loop-at.written + length c.push_text.new.self = w.in_ok-written.ensures.after ∙ ap (λ (t : List ℕ). c.loop-at.written + length t) bytes in
           let none : w.clear.new.self ≡ [] = w.clear.ensures in
           rw (w.out-is, w.lines-is, w.written-is) record {
+            number = counted;
             sent = sent-all _ _ _ _ (at + 1) c.loop-at.written _ _ _ more out after none;
             few = omega (arith, ap length none);
             room = omega (arith, ap length none);
           }
       | else-not-has_room w ↦
           let room : length c.push_text.new.self + 768 ≤ 8192 = search rules in
-          rw (w.out-is, w.lines-is, w.written-is) record { sent = more; few = omega arith; room = room }
+          rw (w.out-is, w.lines-is, w.written-is) record { number = counted; sent = more; few = omega arith; room = room }
     ]
 
 pub returns-in_err-put-clause-cut : goal.returns-in_err-put-clause-cut

@@ -5,7 +5,7 @@ use Rattle.std.specs.List.{slice_get}
 use Rattle.std.specs.Prelude.{option_map}
 use Rattle.hv_history.specs.declared.row.Head.{Head}
 use Rattle.hv_history.specs.History.{entries}
-use Rattle.hv_history.specs.Row.{bytes_at, entry_of, head_at}
+use Rattle.hv_history.specs.Row.{bytes_at, entry_of, head_at, output_at}
 use Rattle.hv_history.proofs.Rows.{alike, has_head, stands}
 use Rattle.hv_history.proofs.row.History.is_kept_alike.Goals as goal
 
@@ -35,7 +35,7 @@ returns-then-are_served_alike g c = λ t.
     let by : head.by ≡ that_head.by = search rules in
     let r8 : head.r8 ≡ that_head.r8 = search rules in
     let input : bytes_at h.inputs.items head.input_start head.input_len ≡ bytes_at o.inputs.items that_head.input_start that_head.input_len = search rules in
-    let output : bytes_at h.outputs.items row.output_start row.output_len ≡ bytes_at o.outputs.items that.output_start that.output_len = search rules in
+    let output : output_at h.outputs.items row.output row.output_len ≡ output_at o.outputs.items that.output that.output_len = search rules in
     let same = alike {A = g.row.A.Denot} h.heads.items o.heads.items h.inputs.items o.inputs.items h.outputs.items o.outputs.items row that kind first second answer zs
     (ap (λ (x : Head). x.by) at_head ∙ by ∙ sym (ap (λ (x : Head). x.by) at_that))
     (ap (λ (x : Head). x.r8) at_head ∙ r8 ∙ sym (ap (λ (x : Head). x.r8) at_that))

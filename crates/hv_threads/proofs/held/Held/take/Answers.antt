@@ -1,24 +1,39 @@
-use Rattle.std.proofs.Common.{◌≡◌, ℕ, List, [], ◌∷◌, ◌++◌, length, refl, ap, sym, subst, ◌∙◌}
+use Rattle.std.proofs.Common.{◌≡◌, ℕ, List, [], ◌∷◌, ◌++◌, ◌-◌, Some, length, refl, ap, sym, subst, ◌∙◌}
 use Rattle.std.specs.declared.alloc.Global.{Global}
-use Rattle.hv_history.specs.History.{entry_by}
+use Rattle.std.specs.List.{slice_get}
+use Rattle.hv_history.specs.History.{entries, entry_by}
 use Rattle.hv_history.specs.Kept.{Kept}
 use Rattle.hv_history.specs.Output.{shown}
 use Rattle.hv_policy.specs.Parts.{reply_of}
+use Rattle.hv_history.specs.declared.entry.Entry.{Entry}
+use Rattle.hv_policy.specs.declared.event.Event.{Event}
 use Rattle.hv_policy.specs.declared.reply.Reply.{Reply}
 use Rattle.hv_threads.specs.Held.{IsHeld}
 use Rattle.hv_threads.specs.HeldValue.{HeldValue}
 use Rattle.hv_threads.specs.Pass.{HasReceipt, receipt}
 use Rattle.hv_threads.specs.PassValue.{PassValue}
-use Rattle.hv_threads.specs.Receipts.{list_of}
+use Rattle.hv_threads.specs.Receipts.{list_of, receipt_of}
 use Rattle.hv_threads.specs.declared.receipts.Receipt.{Receipt}
-use Rattle.hv_threads.proofs.Holding.{held, last_entry}
+use Rattle.hv_threads.proofs.Holding.{has_last, held, last_entry}
 use Rattle.hv_threads.proofs.Packed.{one_more}
 use Rattle.hv_threads.proofs.held.Held.take.Goals as goal
 
+pub push-requires-clause-some : goal.push-requires-clause-some
+push-requires-clause-some g c = has_last c.args.event.now _ _ c.in-Ok.ensures.taken _ c.history-history-in-Ok.ensures.list
+
+pub push-requires-clause-last : goal.push-requires-clause-last
+push-requires-clause-last g c = λ entry is.
+    ap (λ (e : Entry Global). e.event) (last_entry c.args.event.now _ _ c.in-Ok.ensures.taken _ _ entry c.history-history-in-Ok.ensures.list refl is)
+
 pub invariant_of-pass-in-Ok : goal.invariant_of-pass-in-Ok
 invariant_of-pass-in-Ok g c =
-    one_more _ _ _ _ _ _ _ _ _ _ _ c.pass.invariant c.reserve.ensures.same c.push.ensures c.add.ensures.parts c.add.ensures.amount
-    (c.requires ∙ sym (ap (λ (p : PassValue). p.caller) c.pass.view_is))
+    let entry = c.entry-entry.result in
+    let all = entries c.history-history-in-Ok.result.now in
+    let at : c.len.result - 1 ≡ length all - 1 = ap (λ (n : ℕ). n - 1) c.len.ensures in
+    let found : slice_get all (length all - 1) ≡ Some (entry_by entry) = subst (λ (n : ℕ). slice_get all n ≡ Some (entry_by entry)) at c.entry-entry.ensures.entry in
+    let last = last_entry c.args.event.now _ _ c.in-Ok.ensures.taken all _ (entry_by entry) c.history-history-in-Ok.ensures.list refl found in
+    one_more _ _ _ _ _ _ _ _ _ _ _ c.pass.invariant c.reserve.ensures.same (c.push.ensures (entry_by entry) found) c.add.ensures.parts c.add.ensures.amount
+    (ap (λ (e : Entry Global). e.event.by) last ∙ c.requires ∙ sym (ap (λ (p : PassValue). p.caller) c.pass.view_is))
 
 pub returns-in-Ok-clause-held : goal.returns-in-Ok-clause-held
 returns-in-Ok-clause-held g c =
@@ -29,10 +44,15 @@ returns-in-Ok-clause-held g c =
     let told : Reply = reply_of entry.answer (shown entry.output) in
     let before : PassValue = record { caller = c.pass.inside.caller; receipts = list_of c.pass.inside.receipts; share = c.pass.inside.share.amount; settled = c.pass.inside.settled } in
     let after : PassValue = record { caller = c.pass.inside.caller; receipts = list_of c.push.new.self; share = c.add.new.share.amount; settled = c.pass.inside.settled } in
-    let same : told ≡ taken.reply = last_entry event _ new taken _ _ _ (entry_by entry) c.history-history-in-Ok.ensures.list c.len.ensures refl c.entry-entry.ensures.entry in
+    let all = entries c.history-history-in-Ok.result.now in
+    let at : c.len.result - 1 ≡ length all - 1 = ap (λ (n : ℕ). n - 1) c.len.ensures in
+    let found : slice_get all (length all - 1) ≡ Some (entry_by entry) = subst (λ (n : ℕ). slice_get all n ≡ Some (entry_by entry)) at c.entry-entry.ensures.entry in
+    let last = last_entry event _ new taken all _ (entry_by entry) c.history-history-in-Ok.ensures.list refl found in
+    let same : told ≡ taken.reply = ap (λ (e : Entry Global). e.reply) last in
+    let own : receipt_of c.in-Ok.number (entry_by entry) ≡ receipt c.in-Ok.number event told = ap (λ (e : Event Global). receipt c.in-Ok.number e told) (ap (λ (e : Entry Global). e.event) last) in
     let kept_receipt : HasReceipt (length new.history) event told before after =
     record {
-      receipts = c.push.ensures ∙ ap (λ (rs : List Receipt). rs ++ receipt c.in-Ok.number event told ∷ []) c.reserve.ensures.same
+      receipts = c.push.ensures (entry_by entry) found ∙ (λ i. c.reserve.ensures.same i ++ own i ∷ [])
           ∙ ap (λ (n : ℕ). before.receipts ++ receipt n event told ∷ []) c.in-Ok.ensures.number;
       share = c.add.ensures.amount;
       caller = refl;

@@ -1,9 +1,20 @@
-use Rattle.std.proofs.Common.{sym, ◌∙◌}
+use Rattle.std.proofs.Common.{[], ◌∷◌, ◌-◌, length, ap, sym, ◌∙◌, arith, length-append}
 use Rattle.hv_history.specs.History.{entries}
-use Rattle.hv_threads.proofs.Packed.{more}
+use Rattle.hv_threads.proofs.Packed.{more, there_is}
 use Rattle.hv_threads.proofs.receipts.Receipts.push.Goals as goal
 
-pub returns : goal.returns
-returns c =
+pub invariant_of-self : goal.invariant_of-self
+invariant_of-self c =
     let r = c.args.self.now in
-    rw (c.push_reserved.ensures.items, c.push.ensures) (more r.numbers.items (entries r.packed) _ _ (sym r.numbers.ok.0 ∙ r.each))
+    let history = entries c.args.history.now in
+    let some = c.requires.some in
+    let last = there_is history (length history - 1) (omega arith) in
+    let all = ap length (c.push_last.ensures last.0 last.1) in
+    let each = r.each in
+    let len = c.push_reserved.ensures.len in
+    record { each = omega (arith, length-append (entries r.packed) (last.0 ∷ [])) }
+
+pub returns : goal.returns
+returns c = λ entry is.
+    let r = c.args.self.now in
+    rw (c.push_reserved.ensures.items, c.push_last.ensures entry is) (more r.numbers.items (entries r.packed) _ _ (sym r.numbers.ok.0 ∙ r.each))
