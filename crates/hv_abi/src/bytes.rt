@@ -1,5 +1,5 @@
 // A list of bytes.
-ghost use Rattle.std.specs.Prelude.{◌≡◌, ◌↔◌, IfOk, IsTrue, slice_index};
+ghost use Rattle.std.specs.Prelude.{◌≡◌, IfOk, slice_index};
 
 use std::alloc::{AllocError, Allocator};
 use std::marker::Model;
@@ -46,13 +46,6 @@ impl<A: Allocator> Bytes<A> {
         ensures { result ≡ slice_index self.now at }
     {
         self.bytes.get(at).copied().unwrap_or(0)
-    }
-
-    /// Whether both lists have the same bytes.
-    pub fn is_same(&self, other: &Bytes<A>) -> bool
-        ensures { IsTrue result ↔ (self.now ≡ other.now) }
-    {
-        self.as_slice() == other.as_slice()
     }
 }
 

@@ -1,5 +1,5 @@
 // Frames and their check.
-ghost use Rattle.std.specs.Prelude.{◌≡◌, ◌<◌, ◌↔◌, IfOk, IfErr, IsTrue, slice_index};
+ghost use Rattle.std.specs.Prelude.{◌≡◌, ◌<◌, IfOk, IfErr, slice_index};
 ghost use Rattle.hv_defs.specs.declared.sizes.TheConstants.{REPS_END};
 ghost use Rattle.hv_abi.specs.Check.{is_placed};
 ghost use Rattle.hv_abi.specs.InputValue.{input_value, restarted};
@@ -115,16 +115,6 @@ impl<A: Allocator> Frame<A> {
             r8: self.r8,
             input: self.input,
         }
-    }
-
-    /// Whether both frames have the same registers and the same bytes.
-    pub fn is_same(&self, other: &Frame<A>) -> bool
-        ensures { IsTrue result ↔ (self.now ≡ other.now) }
-    {
-        self.rcx == other.rcx
-            && self.rdx == other.rdx
-            && self.r8 == other.r8
-            && self.input.is_same(&other.input)
     }
 }
 

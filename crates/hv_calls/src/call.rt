@@ -8,7 +8,8 @@ use hv_defs::PortKind;
 /// A hypercall with its parameters, under the TLFS's name without its prefix `Hv`. Of a rep call it holds the
 /// header and the element at the frame's rep start index.
 ///
-/// A `partition` is the id of the partition that the call is about, and may be all ones, for the caller's own.
+/// A `partition` is the id of the partition that the call is about, and may be all ones, for the
+/// caller's own.
 #[derive(Drop)]
 pub enum Call<'f> {
     CreatePartition {
@@ -100,7 +101,8 @@ pub enum Call<'f> {
         kind: PortKind,
         sint: u32,
         vp: u32,
-        /// The first of an event port's flags, and their count. A message port has none, whatever stands here.
+        /// The first of an event port's flags, and their count. A message port has none, whatever
+        /// stands here.
         base: u16,
         count: u16,
     },

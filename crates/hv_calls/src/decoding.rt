@@ -3,8 +3,10 @@ ghost use Rattle.std.specs.Prelude.{◌≡◌, ◌^◌, ◌<◌, Ok, false, true
 ghost use Rattle.hv_abi.specs.Check.{IsShape, input_of};
 ghost use Rattle.hv_calls.specs.Blocks.{call_in, port_kind as kind_of_port};
 ghost use Rattle.hv_calls.specs.Call.{kind_of_call};
-ghost use Rattle.hv_calls.specs.Params.{Params, are_parameters_valid, decoded, element_at as place_of_element};
-ghost use Rattle.hv_calls.specs.WellFormed.{is_id as fits_id, is_message_type as fits_message, is_port_type, are_flags as fit_flags};
+ghost use Rattle.hv_calls.specs.Params.{Params, are_parameters_valid, decoded};
+ghost use Rattle.hv_calls.specs.Params.{element_at as place_of_element};
+ghost use Rattle.hv_calls.specs.WellFormed.{is_id as fits_id, is_message_type as fits_message, is_port_type};
+ghost use Rattle.hv_calls.specs.WellFormed.{are_flags as fit_flags};
 ghost use Rattle.hv_calls.specs.declared.call.Call.{Call as TypedCall};
 
 use crate::call::Call;
@@ -18,8 +20,9 @@ use std::alloc::Allocator;
 #[derive(Clone, Copy, PartialEq, Eq, Debug)]
 pub struct Malformed;
 
-/// The call that a frame holds, with its parameters, or Malformed where one of them is so by itself. Bytes that
-/// the frame lacks at its end read as zero. The shape is to be this frame's, from [`Frame::check`].
+/// The call that a frame holds, with its parameters, or Malformed where one of them is so by itself.
+/// Bytes that the frame lacks at its end read as zero. The shape is to be this frame's, from
+/// [`Frame::check`].
 pub fn decode<'f, A: Allocator>(frame: &'f Frame<A>, shape: &Shape) -> Result<Call<'f>, Malformed>
     requires { IsShape frame.now shape.now }
     ensures ok { IfOk result (Params frame.now shape.now.kind) }

@@ -3,7 +3,7 @@
 /// The life state of a partition (TLFS 4.0, "Partition Management": the states that
 /// HvInitializePartition and HvFinalizePartition lead to).
 ///
-/// A partition that isn't `Active` has no children and no virtual processors.
+/// A partition that isn't `Active` has no children, virtual processors, ports or connections.
 #[derive(Clone, Copy, PartialEq, Eq, Debug)]
 pub enum Life {
     /// Made, and not yet initialized: its properties may be set.

@@ -7,7 +7,8 @@ pub enum Takes {
     Nothing,
     /// Any, and it keeps all 64 bits.
     Any,
-    /// A vector from 16 up in bits 7:0, or any vector where bit 16, the mask bit, is set. It keeps all 64 bits.
+    /// A vector from 16 up in bits 7:0, or any vector where bit 16, the mask bit, is set. It keeps all
+    /// 64 bits.
     SintValue,
     /// Any, and it keeps none: it reads as 0.
     EndOfMessage,
@@ -24,8 +25,8 @@ pub enum RegFault {
     Value,
 }
 
-/// A register of a virtual processor: its names, who may access it, what it takes, and the value with which every processor
-/// starts.
+/// A register of a virtual processor: its names, who may access it, what it takes, and the value with
+/// which every processor starts.
 #[derive(Clone, Copy, PartialEq, Eq, Debug)]
 pub struct RegisterRow {
     /// The register's name in a call, HV_REGISTER_NAME.

@@ -75,11 +75,12 @@ pub const MAX_MESSAGE_TYPE: u32 = 0x7FFF_FFFF;
 /// How many elements a rep call may have is below this: rep count and start index have 12 bits.
 pub const REPS_END: u16 = 4096;
 
-/// The highest count of served events. A machine takes an event only below it, so that a port's birth is a number of 32
-/// bits.
+/// The highest count of served events. A machine takes an event only below it, so that a port's birth
+/// is a number of 32 bits.
 pub const MAX_SERVED: u64 = 4_294_967_295;
 
-/// The VP index by which a port aims at any processor of its partition (HV_ANY_VP).
+/// The VP index that names any processor of a partition (HV_ANY_VP). This profile has no port that aims
+/// so: P7 refuses it as a port's target, and everywhere else it is an index without a processor.
 pub const ANY_VP: u32 = u32::MAX;
 
 // What a partition starts with is in range.

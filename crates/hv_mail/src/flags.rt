@@ -11,7 +11,8 @@ use std::marker::Model;
 // Bytes of a SINT's flags.
 const FLAG_BYTES: usize = EVENT_FLAGS as usize / 8;
 
-/// The event flags at the 16 SINTs of a virtual processor, 2,048 at each (TLFS 4.0, "Event Flags"). It takes 4 KB in place.
+/// The event flags at the 16 SINTs of a virtual processor, 2,048 at each (TLFS 4.0, "Event Flags"). It
+/// takes 4 KB in place.
 #[derive(Drop)]
 pub struct Flags {
     // Flag f of SINT s is bit 2,048 s + f, and bit k is bit k % 64 of word k / 64.

@@ -3,7 +3,8 @@ ghost use Rattle.std.specs.Prelude.{◌≡◌, ◌<◌, ◌≤◌, ◌^◌, true
 ghost use Rattle.std.specs.List.{list_all, sum_by};
 ghost use Rattle.std.specs.FinMap as map;
 ghost use Rattle.hv_defs.specs.declared.sizes.TheConstants.{SINTS};
-ghost use Rattle.hv_mail.specs.Mail.{no_messages, with_next, has_next, with_last, posted, cleared, count_at, count_of, next_mask, at, with_at, all_next};
+ghost use Rattle.hv_mail.specs.Mail.{no_messages, with_next, has_next, with_last, posted, cleared, count_at};
+ghost use Rattle.hv_mail.specs.Mail.{count_of, next_mask, at, with_at, all_next};
 ghost use Rattle.hv_mail.specs.Queue.{mail_from};
 ghost use Rattle.hv_mail.specs.Slot.{slot_bytes};
 
@@ -13,7 +14,8 @@ use hv_defs::SINTS;
 use std::alloc::{AllocError, Allocator};
 use std::marker::Model;
 
-/// The messages at the 16 SINTs of a virtual processor: one shown at each, and others waiting, in memory of an allocator `A`.
+/// The messages at the 16 SINTs of a virtual processor: one shown at each, and others waiting, in
+/// memory of an allocator `A`.
 ///
 /// No memory is taken before the first message. A mailbox that is dropped gives its memory back.
 #[derive(Drop)]
@@ -54,7 +56,8 @@ impl<A: Allocator> Mailbox<A> {
 
     /// Makes room for one message more at each SINT. Room that is there already always suffices.
     ///
-    /// `Err` where there is no memory for it, or where 2^59 messages wait at a SINT. No message is lost then either.
+    /// `Err` where there is no memory for it, or where 2^59 messages wait at a SINT. No message is lost
+    /// then either.
     pub fn reserve_one(&mut self) -> Result<(), AllocError>
     where
         A: Clone,
@@ -72,8 +75,8 @@ impl<A: Allocator> Mailbox<A> {
         reserve_each(&mut self.queues)
     }
 
-    /// Adds a message behind those that stand at a SINT below 16, and shows it where none does. It must find room.
-    /// True where a message became shown.
+    /// Adds a message behind those that stand at a SINT below 16, and shows it where none does. It must
+    /// find room. True where a message became shown.
     pub fn post(&mut self, sint: u8, message: Message) -> bool
         requires sint { sint < SINTS }
         requires room { self.old.room ≡ true }
@@ -84,9 +87,10 @@ impl<A: Allocator> Mailbox<A> {
         queue.post(message)
     }
 
-    /// The 256 bytes of the message slot of a SINT below 16, which are zeros where it shows no message: the type in 4 bytes,
-    /// the payload's size, a byte that is 1 where another message waits and 0 otherwise, two zeros, the port's id in 8, and
-    /// the payload with zeros after it. Numbers are little-endian.
+    /// The 256 bytes of the message slot of a SINT below 16, which are zeros where it shows no message:
+    /// the type in 4 bytes, the payload's size, a byte that is 1 where another message waits and 0
+    /// otherwise, two zeros, the port's id in 8, and the payload with zeros after it. Numbers are
+    /// little-endian.
     pub fn slot(&self, sint: u8) -> [u8; 256]
         requires { sint < SINTS }
         ensures { result ≡ slot_bytes (at self.now.mail sint) }
@@ -112,8 +116,8 @@ impl<A: Allocator> Mailbox<A> {
         }
     }
 
-    /// Shows the oldest message that waits at a SINT below 16, where one waits and none is shown. True where one became
-    /// shown. It moves no other message.
+    /// Shows the oldest message that waits at a SINT below 16, where one waits and none is shown. True
+    /// where one became shown. It moves no other message.
     pub fn advance(&mut self, sint: u8) -> bool
         requires { sint < SINTS }
         ensures mail { self.new.mail ≡ with_at self.old.mail sint (with_next (at self.old.mail sint)) }
@@ -143,8 +147,8 @@ impl<A: Allocator> Mailbox<A> {
         shown
     }
 
-    /// How many messages there are, shown or waiting, that came through this port of this birth. The time is proportional to
-    /// the number of all messages.
+    /// How many messages there are, shown or waiting, that came through this port of this birth. The
+    /// time is proportional to the number of all messages.
     pub fn of_port(&self, port: u32, born: u64) -> usize
         ensures { result ≡ count_of port born self.now.mail }
     {

@@ -18,22 +18,6 @@ pub struct Message {
 }
 
 impl Message {
-    /// A copy, which takes no memory of an allocator.
-    pub fn copy(&self) -> Message
-        ensures { result ≡ self.now }
-    {
-        let mut payload = ArrayVec::new();
-        let Ok(()) = payload.try_extend_from_slice(self.payload.as_slice()) else {
-            unreachable!()
-        };
-        Message {
-            port: self.port,
-            born: self.born,
-            kind: self.kind,
-            payload,
-        }
-    }
-
     // Whether it came through this port of this birth.
     pub(crate) fn is_of(&self, port: u32, born: u64) -> bool
         ensures { result ≡ is_of port born self.now }

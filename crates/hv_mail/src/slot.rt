@@ -7,7 +7,8 @@ use crate::message::Message;
 use arrayvec::ArrayVec;
 use hv_defs::MAX_PAYLOAD;
 
-// The slot that shows a message: type, payload size, whether another message waits, two zeros, port, payload, zeros.
+// The slot that shows a message: type, payload size, whether another message waits, two zeros, port,
+// payload, zeros.
 pub(crate) fn shown_slot(message: &Message, is_pending: bool) -> [u8; 256]
     ensures { result ≡ bytes_of (Some message.now) is_pending }
 {

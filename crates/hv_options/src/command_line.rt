@@ -2,7 +2,8 @@
 ghost use Rattle.std.specs.Prelude.{◌≡◌, [], Bool, List, ℕ, Some, true, false, map, IfOk, IfErr, OnOk};
 ghost use Rattle.clap.specs.Words.{HasKind, Kinds, app_of, found_of, kind_of, rows_of, rule_of};
 ghost use Rattle.clap.specs.declared.builder.command.Command.TheViews.{out-Command as fields_of};
-ghost use Rattle.hv_options.specs.Options.{Explains, command_line, faults_of, flag_rule, is_given, is_request, run_line, said_by, said_by_matches, script_rule};
+ghost use Rattle.hv_options.specs.Options.{Explains, command_line, faults_of, flag_rule, is_given};
+ghost use Rattle.hv_options.specs.Options.{is_request, run_line, said_by, said_by_matches, script_rule};
 
 use crate::usage::{Options, Usage};
 use clap::error::ErrorKind;

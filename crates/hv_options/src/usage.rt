@@ -42,8 +42,8 @@ impl From<AllocError> for Usage {
 }
 
 impl Usage {
-    /// A refusal of the program's own, with a text that ends its line. It is `Words`, or `Memory` where there is none
-    /// for the text.
+    /// A refusal of the program's own, with a text that ends its line. It is `Words`, or `Memory` where
+    /// there is none for the text.
     pub fn mistake(alloc: Global, text: &str) -> Usage
         ensures { Explains [] result }
     {

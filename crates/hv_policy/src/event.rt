@@ -1,5 +1,5 @@
 // What happens, one at a time.
-ghost use Rattle.std.specs.Prelude.{◌≡◌, ◌↔◌, IfOk, IsTrue};
+ghost use Rattle.std.specs.Prelude.{◌≡◌, IfOk};
 
 use hv_abi::Frame;
 use std::alloc::{AllocError, Allocator};
@@ -37,38 +37,6 @@ pub enum Action<A: Allocator> {
 pub struct Event<A: Allocator> {
     pub by: Caller,
     pub what: Action<A>,
-}
-
-impl<A: Allocator> Action<A> {
-    /// Whether both ask for the same.
-    pub fn is_same(&self, other: &Action<A>) -> bool
-        ensures { IsTrue result ↔ (self.now ≡ other.now) }
-    {
-        match (self, other) {
-            (Action::Hypercall(frame), Action::Hypercall(that)) => frame.is_same(that),
-            (Action::ReadMsr(msr), Action::ReadMsr(that)) => *msr == *that,
-            (Action::WriteMsr(msr, value), Action::WriteMsr(that, other_value)) => {
-                *msr == *that && *value == *other_value
-            }
-            (Action::ReadSlot(sint), Action::ReadSlot(that)) => *sint == *that,
-            (Action::ClearSlot(sint), Action::ClearSlot(that)) => *sint == *that,
-            (Action::ReadFlags(sint), Action::ReadFlags(that)) => *sint == *that,
-            (Action::ClearFlag(sint, flag), Action::ClearFlag(that, other_flag)) => {
-                *sint == *that && *flag == *other_flag
-            }
-            (Action::TakeInterrupt, Action::TakeInterrupt) => true,
-            _ => false,
-        }
-    }
-}
-
-impl<A: Allocator> Event<A> {
-    /// Whether the same processor asks for the same.
-    pub fn is_same(&self, other: &Event<A>) -> bool
-        ensures { IsTrue result ↔ (self.now ≡ other.now) }
-    {
-        self.by == other.by && self.what.is_same(&other.what)
-    }
 }
 
 impl<A: Allocator + Clone> Action<A> {

@@ -2,7 +2,8 @@
 use crate::table::Table;
 use hv_defs::PortKind;
 
-/// A port (TLFS 4.0, "Inter-Partition Communication"): where the messages or the event flags of another partition arrive.
+/// A port (TLFS 4.0, "Inter-Partition Communication"): where the messages or the event flags of another
+/// partition arrive.
 #[derive(Clone, Copy, PartialEq, Eq, Debug)]
 pub struct Port {
     /// What it takes.
@@ -17,7 +18,8 @@ pub struct Port {
     pub base: u16,
     /// How many flags an event port has, and 0 for a message port.
     pub count: u16,
-    /// The count of served events that its own making gave. So it tells a port from one that had the same id before.
+    /// The count of served events that its own making gave. So it tells a port from one that had the
+    /// same id before.
     pub born: u64,
 }
 
@@ -28,7 +30,7 @@ pub struct Conn {
     pub part: u64,
     /// The port's id there.
     pub port: u32,
-    /// What the port took when the connection was made.
+    /// What the port took when the connection was made. It is kept, and no rule reads it.
     pub kind: PortKind,
     /// The port's `born` when the connection was made.
     pub born: u64,

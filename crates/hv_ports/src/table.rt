@@ -1,5 +1,6 @@
 // A table of rows by ids.
-ghost use Rattle.std.specs.Prelude.{◌≡◌, ◌+◌, ◌<◌, ◌≤◌, ◌↔◌, false, length, IfErr, IfOk, IsOk, IsTrue, OnErr, OnOk};
+ghost use Rattle.std.specs.Prelude.{◌≡◌, ◌+◌, ◌<◌, ◌≤◌, ◌↔◌, false, length, IfErr, IfOk, IsOk, IsTrue, OnErr};
+ghost use Rattle.std.specs.Prelude.{OnOk};
 ghost use Rattle.std.specs.FinMap as map;
 ghost use Rattle.std.specs.List.{HoldsAt};
 ghost use Rattle.std.specs.List.Sorted.{IsPartitionPoint, IsSearchInRange};
@@ -13,7 +14,8 @@ const MOST: usize = 0xFFFF_FFFF;
 
 /// Rows by their ids, in memory of an allocator `A`.
 ///
-/// The room of a table is how many more rows it has memory for. A table that is dropped gives its memory back.
+/// The room of a table is how many more rows it has memory for. A table that is dropped gives its
+/// memory back.
 #[derive(Drop)]
 pub struct Table<R: Copy, A: Allocator> {
     slots: Vec<(u32, R), A>,
@@ -69,7 +71,8 @@ impl<R: Copy, A: Allocator> Table<R, A> {
 
     /// Makes room for one row more. Room that is there already always suffices.
     ///
-    /// `Err` where there is no memory for it, or where there are 2^32 - 1 rows already, and then nothing has changed.
+    /// `Err` where there is no memory for it, or where there are 2^32 - 1 rows already, and then
+    /// nothing has changed.
     pub fn reserve_one(&mut self) -> Result<(), AllocError>
         ensures room { OnOk result (1 ≤ self.new.room) }
         ensures enough { 1 ≤ self.old.room → IsOk result }

@@ -5,7 +5,8 @@ ghost use Rattle.hv_defs.specs.Vectors.{highest};
 ghost use Rattle.hv_defs.specs.declared.sizes.TheConstants.{EVENT_FLAGS, SINTS};
 ghost use Rattle.hv_mail.specs.Mail.{at, count_of};
 ghost use Rattle.hv_mail.specs.Slot.{slot_bytes};
-ghost use Rattle.hv_vp.specs.Vp.{ended, flag_cleared, interrupted, posted, raised_if, signalled, slot_cleared};
+ghost use Rattle.hv_vp.specs.Vp.{ended, flag_cleared, interrupted, posted, raised_if, signalled};
+ghost use Rattle.hv_vp.specs.Vp.{slot_cleared};
 
 use crate::Vp;
 use hv_defs::{SINT0, SINTS};
@@ -13,9 +14,11 @@ use hv_mail::Message;
 use std::alloc::{AllocError, Allocator};
 
 impl<A: Allocator> Vp<A> {
-    /// Reserves room for one message, which the next `post` uses up. Where room is reserved already, nothing changes.
+    /// Reserves room for one message, which the next `post` uses up. Where room is reserved already,
+    /// nothing changes.
     ///
-    /// `Err` where there is no memory for it, or where 2^59 messages wait at a SINT, and then nothing has changed.
+    /// `Err` where there is no memory for it, or where 2^59 messages wait at a SINT, and then nothing
+    /// has changed.
     pub fn reserve_message(&mut self) -> Result<(), AllocError>
     where
         A: Clone,
@@ -28,9 +31,9 @@ impl<A: Allocator> Vp<A> {
         Ok(())
     }
 
-    /// Adds a message behind those that stand at a SINT below 16, and uses up the room that is reserved. Where the SINT shows
-    /// none, the oldest is shown, and the SINT raises its vector (TLFS 4.0, "Messages"). Whether the processor takes messages
-    /// is not asked.
+    /// Adds a message behind those that stand at a SINT below 16, and uses up the room that is
+    /// reserved. Where the SINT shows none, the oldest is shown, and the SINT raises its vector (TLFS
+    /// 4.0, "Messages"). Whether the processor takes messages is not asked.
     pub fn post(&mut self, sint: u8, message: Message)
         requires sint { sint < SINTS }
         requires room { self.old.room ≡ true }
@@ -42,8 +45,8 @@ impl<A: Allocator> Vp<A> {
         }
     }
 
-    /// Sets an event flag below 2,048 of a SINT below 16. Where it was clear, the SINT raises its vector (TLFS 4.0, "Event
-    /// Flags"). Whether the processor takes event flags is not asked.
+    /// Sets an event flag below 2,048 of a SINT below 16. Where it was clear, the SINT raises its
+    /// vector (TLFS 4.0, "Event Flags"). Whether the processor takes event flags is not asked.
     pub fn signal(&mut self, sint: u8, flag: u16)
         requires sint { sint < SINTS }
         requires flag { flag < EVENT_FLAGS }
@@ -54,8 +57,8 @@ impl<A: Allocator> Vp<A> {
         }
     }
 
-    /// The 256 bytes of the message slot of a SINT below 16, which are zeros where it shows no message (TLFS 4.0, "Messages").
-    /// [`hv_mail::Mailbox::slot`] says how they are laid out.
+    /// The 256 bytes of the message slot of a SINT below 16, which are zeros where it shows no message
+    /// (TLFS 4.0, "Messages"). [`hv_mail::Mailbox::slot`] says how they are laid out.
     pub fn slot(&self, sint: u8) -> [u8; 256]
         requires { sint < SINTS }
         ensures { result ≡ slot_bytes (at self.now.mail sint) }
@@ -63,7 +66,8 @@ impl<A: Allocator> Vp<A> {
         self.mailbox.slot(sint)
     }
 
-    /// The 256 bytes of the event flags of a SINT below 16: flag f is bit f % 8 of byte f / 8 (TLFS 4.0, "Event Flags").
+    /// The 256 bytes of the event flags of a SINT below 16: flag f is bit f % 8 of byte f / 8 (TLFS
+    /// 4.0, "Event Flags").
     pub fn flags(&self, sint: u8) -> [u8; 256]
         requires { sint < SINTS }
         ensures { result ≡ flag_bytes self.now.flags sint }
@@ -96,15 +100,16 @@ impl<A: Allocator> Vp<A> {
         self.pending.take_highest()
     }
 
-    /// How many messages it has, shown or waiting, that came through this port of this birth. The time is proportional to the
-    /// number of all its messages.
+    /// How many messages it has, shown or waiting, that came through this port of this birth. The time
+    /// is proportional to the number of all its messages.
     pub fn of_port(&self, port: u32, born: u64) -> usize
         ensures { result ≡ count_of port born self.now.mail }
     {
         self.mailbox.of_port(port, born)
     }
 
-    // Where it takes messages, each SINT in turn shows its next one, and raises its vector if one became shown.
+    // Where it takes messages, each SINT in turn shows its next one, and raises its vector if one
+    // became shown.
     pub(crate) fn end_message(&mut self)
         ensures { self.new ≡ ended self.old }
     {

@@ -37,8 +37,8 @@ pub fn takes_at(place: usize) -> Takes
     row.takes
 }
 
-/// The bits of a partition's privilege mask that an access to the register with this name needs, if there is one. The name is an
-/// HV_REGISTER_NAME.
+/// The bits of a partition's privilege mask that an access to the register with this name needs, if
+/// there is one. The name is an HV_REGISTER_NAME.
 pub fn privilege_of(name: u32) -> Option<u64>
     ensures { result ≡ option_map (λ row. row.privilege) (row_of name) }
 {

@@ -11,10 +11,12 @@ use hv_mail::{Flags, Mailbox, Pending};
 use std::alloc::{AllocError, Allocator};
 use std::marker::Model;
 
-/// A virtual processor: its registers, the messages and event flags at its 16 SINTs, and the interrupt vectors that wait for it
-/// (TLFS 4.0, "Virtual Processor Management" and "Synthetic Interrupt Controller").
+/// A virtual processor: its registers, the messages and event flags at its 16 SINTs, and the interrupt
+/// vectors that wait for it (TLFS 4.0, "Virtual Processor Management" and "Synthetic Interrupt
+/// Controller").
 ///
-/// It takes 4 KB of its allocator for the event flags when it is made, and memory for messages when room for one is reserved.
+/// It takes 4 KB of its allocator for the event flags when it is made, and memory for messages when
+/// room for one is reserved.
 #[derive(Drop)]
 pub struct Vp<A: Allocator> {
     pub(crate) registers: Registers,
@@ -71,8 +73,9 @@ impl<A: Allocator> Vp<A> {
 
     /// Writes the register with this name. A fault changes nothing.
     ///
-    /// A write of EOM ends a message: where the processor takes messages, each SINT from 0 to 15 that shows none shows the oldest
-    /// that waits there, and raises its vector if one became shown (TLFS 4.0, "Synthetic Interrupt Controller").
+    /// A write of EOM ends a message: where the processor takes messages, each SINT from 0 to 15 that
+    /// shows none shows the oldest that waits there, and raises its vector if one became shown (TLFS
+    /// 4.0, "Synthetic Interrupt Controller").
     pub fn write_reg(&mut self, name: u32, value: u64) -> Result<(), RegFault>
         ensures answer { result ≡ answer (kept (row_of name) value) }
         ensures state { self.new ≡ written name value self.old }

@@ -1,5 +1,6 @@
 // The processors of a partition.
-ghost use Rattle.std.specs.Prelude.{◌≡◌, ◌+◌, ◌≤◌, ◌<◌, ◌==◌, IsOk, OnOk, OnErr, IfSome, false, length, option_copied};
+ghost use Rattle.std.specs.Prelude.{◌≡◌, ◌+◌, ◌≤◌, ◌<◌, ◌==◌, IsOk, OnOk, OnErr, IfSome, false, length};
+ghost use Rattle.std.specs.Prelude.{option_copied};
 ghost use Rattle.std.specs.Borrow.{LendsIf, sem};
 ghost use Rattle.std.specs.FinMap as map;
 ghost use Rattle.std.specs.List.{position_from};
@@ -82,7 +83,8 @@ impl<A: Allocator> Vps<A> {
 
     /// Makes room for one processor more. Room that is there already always suffices.
     ///
-    /// `Err` where there is no memory for it, or where there are 2^32 - 1 processors already, and then nothing has changed.
+    /// `Err` where there is no memory for it, or where there are 2^32 - 1 processors already, and then
+    /// nothing has changed.
     pub fn reserve_one(&mut self) -> Result<(), AllocError>
         ensures room { OnOk result (1 ≤ self.new.room) }
         ensures enough { 1 ≤ self.old.room → IsOk result }
