@@ -1,6 +1,7 @@
 // Lines, cut into words.
 ghost use Rattle.std.specs.Prelude.{◌≡◌, ◌<◌, ◌≤◌, ◌==◌, ◌∷◌, length, true};
 ghost use Rattle.std.specs.Option.{option_copied};
+ghost use Rattle.hv_script.specs.declared.cut.TheConstants.{KEPT};
 ghost use Rattle.hv_script.specs.Bits.{bits_of, is_in_word};
 ghost use Rattle.hv_script.specs.Words.{begins_with, has_good_bytes, is_skipped, word_at, words_of};
 ghost use Rattle.hv_script.specs.Words.{lines_left, lines_of, most_left};
@@ -8,8 +9,8 @@ ghost use Rattle.hv_script.specs.Words.{lines_left, lines_of, most_left};
 use crate::block::short_line;
 use std::marker::Model;
 
-// How many words of a line are kept: one more than the most that a line of a script has.
-const KEPT: usize = 7;
+/// How many words of a line are kept: one more than the most that a line of a script has.
+pub const KEPT: usize = 7;
 
 /// A line, seen as its bytes, with its first words.
 #[derive(Drop)]
@@ -24,13 +25,14 @@ pub struct CutLine<'a> {
 impl<'a> Model for CutLine<'a> {
     ghost use Rattle.std.specs.Prelude.{◌≡◌, ◌≤◌, List, ℕ, map, take};
     ghost use Rattle.hv_script.specs.Words.{has_good_bytes, words_of};
+    ghost use Rattle.hv_script.specs.declared.cut.TheConstants.{KEPT};
 
     ghost Value = { List ℕ };
 
     ghost view = { λ cut. cut.line.now };
 
-    ghost invariant = { λ cut. (cut.count ≤ 7)
-        × (map (λ word. word.now) (take cut.count cut.first) ≡ take 7 (words_of cut.line.now))
+    ghost invariant = { λ cut. (cut.count ≤ KEPT)
+        × (map (λ word. word.now) (take cut.count cut.first) ≡ take KEPT (words_of cut.line.now))
         × (cut.is_good ≡ has_good_bytes cut.line.now) };
 }
 
@@ -90,7 +92,7 @@ impl<'a> CutLine<'a> {
 
     /// The word at a place counted from 0, empty where there is none.
     pub fn word(&self, place: usize) -> &'a [u8]
-        requires { place < 7 }
+        requires { place < KEPT }
         ensures { result.now ≡ word_at (words_of self.now) place }
     {
         if place < self.count {
@@ -102,7 +104,7 @@ impl<'a> CutLine<'a> {
 
     /// Whether there are just so many words.
     pub fn has_words(&self, count: usize) -> bool
-        requires { count < 7 }
+        requires { count < KEPT }
         ensures { result ≡ (length (words_of self.now) == count) }
     {
         self.count == count

@@ -1,5 +1,6 @@
 // What a processor's line may ask for.
 ghost use Rattle.std.specs.Prelude.{◌≡◌, ◌<◌};
+ghost use Rattle.hv_script.specs.declared.cut.TheConstants.{KEPT};
 ghost use Rattle.hv_script.specs.Verb.{verb_of, count_of};
 
 /// What a processor's line asks for, by its second word.
@@ -20,23 +21,31 @@ impl Verb {
     pub fn of(word: &[u8]) -> Option<Verb>
         ensures { result ≡ verb_of word.now }
     {
-        match word {
-            b"call" => Some(Verb::Call),
-            b"rdmsr" => Some(Verb::ReadMsr),
-            b"wrmsr" => Some(Verb::WriteMsr),
-            b"slot" => Some(Verb::ReadSlot),
-            b"clearslot" => Some(Verb::ClearSlot),
-            b"flags" => Some(Verb::ReadFlags),
-            b"clearflag" => Some(Verb::ClearFlag),
-            b"interrupt" => Some(Verb::TakeInterrupt),
-            _ => None,
+        if word == b"call" {
+            Some(Verb::Call)
+        } else if word == b"rdmsr" {
+            Some(Verb::ReadMsr)
+        } else if word == b"wrmsr" {
+            Some(Verb::WriteMsr)
+        } else if word == b"slot" {
+            Some(Verb::ReadSlot)
+        } else if word == b"clearslot" {
+            Some(Verb::ClearSlot)
+        } else if word == b"flags" {
+            Some(Verb::ReadFlags)
+        } else if word == b"clearflag" {
+            Some(Verb::ClearFlag)
+        } else if word == b"interrupt" {
+            Some(Verb::TakeInterrupt)
+        } else {
+            None
         }
     }
 
     /// How many words its line has, the processor and this word among them.
     pub fn words(self) -> usize
         ensures count { result ≡ count_of self }
-        ensures few { result < 7 }
+        ensures few { result < KEPT }
     {
         match self {
             Verb::TakeInterrupt => 2,
