@@ -19,10 +19,11 @@ use Rattle.hv_policy.specs.declared.event.Caller.{Caller}
 use Rattle.hv_policy.specs.declared.event.Event.{Event}
 use Rattle.hv_policy.specs.declared.reply.Reply.{Reply}
 use Rattle.hv_policy.specs.declared.reply.Reply.TheVariants.{Served, More}
-use Rattle.hv_policy.specs.Call.{called, is_last, target_of}
+use Rattle.hv_policy.specs.Call.{called, is_last}
 use Rattle.hv_policy.specs.Count.{is_parent, lowest_pooled, available, in_use}
 use Rattle.hv_policy.specs.Flat.{Flat, PartRow, VpRow}
 use Rattle.hv_policy.specs.Mail.{place_at, slot_at}
+use Rattle.hv_policy.specs.Needs.{target_of}
 use Rattle.hv_policy.specs.Property.{property_of, property_value}
 use Rattle.hv_policy.specs.declared.property.Property.{Property}
 

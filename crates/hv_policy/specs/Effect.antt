@@ -21,12 +21,13 @@ use Rattle.hv_policy.specs.declared.event.Caller.{Caller}
 use Rattle.hv_policy.specs.declared.event.Event.{Event}
 use Rattle.hv_policy.specs.Aim.{Aim, aim_of, on_vp, vp_key}
 use Rattle.hv_policy.specs.Boot.{start_vp}
-use Rattle.hv_policy.specs.Call.{called, meant_id, target_of}
+use Rattle.hv_policy.specs.Call.{called}
 use Rattle.hv_policy.specs.Count.{lowest_pooled}
 use Rattle.hv_defs.specs.Flags.{pair_cmp}
-use Rattle.hv_policy.specs.Flat.{Flat, PartRow, PageRow, VpRow, PortRow, ConnRow, MailRow}
+use Rattle.hv_policy.specs.Flat.{Flat, PartRow, PageRow, VpRow, PortRow, MailRow}
 use Rattle.hv_policy.specs.Mail as mail
 use Rattle.hv_policy.specs.Mail.{Place, place_at}
+use Rattle.hv_policy.specs.Needs.{meant_id, target_of}
 use Rattle.hv_policy.specs.Property.{property_of, with_property}
 use Rattle.hv_policy.specs.declared.property.Property.{Property}
 
