@@ -7,7 +7,7 @@ use Rattle.std.specs.Option.{option_map}
 use Rattle.std.specs.Ordering.{nat_cmp, eq_by_cmp}
 use Rattle.hv_defs.proofs.Maps.{get_at-insert}
 use Rattle.hv_policy.proofs.Pairs.{pair_cmp_total, pair_cmp_exact}
-use Rattle.hv_policy.specs.Effect.{with_row, with_vp, changed_at, vp_changed_at, rows_but}
+use Rattle.hv_policy.specs.Effect.{with_row, with_vp, changed_at, rows_but}
 use Rattle.hv_defs.specs.Flags.{pair_cmp}
 use Rattle.hv_policy.specs.Flat.{Flat, PartRow, VpRow}
 use Rattle.hv_policy.specs.Met.{test_row, on_part}
@@ -27,7 +27,7 @@ get-with_row part id g q = by (get part id) refl
 pub get-with_vp : (vps : FinMap pair_cmp VpRow) (key : ℕ × ℕ) (g : VpRow → VpRow) (q : ℕ × ℕ) → get (with_vp vps key g) q ≡ cond (eq_by_cmp pair_cmp q key) (option_map g (get vps key)) (get vps q)
 get-with_vp vps key g q = by (get vps key) refl
   where
-    by : (r : Option VpRow) → get vps key ≡ r → get (vp_changed_at vps key g r) q ≡ cond (eq_by_cmp pair_cmp q key) (option_map g r) (get vps q)
+    by : (r : Option VpRow) → get vps key ≡ r → get (changed_at vps key g r) q ≡ cond (eq_by_cmp pair_cmp q key) (option_map g r) (get vps q)
     by None is = elim (cases_Bool (eq_by_cmp pair_cmp q key)) [
       | inl s ↦ rw s (ap (get vps) (pair_cmp_exact q key ((Equal-is (pair_cmp q key)).0 s)) ∙ is)
       | inr s ↦ rw s refl

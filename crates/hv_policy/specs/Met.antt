@@ -1,6 +1,7 @@
 -- The tests that rules ask. Each fails where what it is about isn't there.
 use Rattle.std.specs.Prelude.{ℕ, ◌+◌, ◌==◌, ◌&&◌, ◌||◌, not, nat_le, nat_lt, Bool, true, false, is_ok, Option, None, Some}
 use Rattle.std.specs.FinMap.{get, contains_key}
+use Rattle.std.specs.Option.{option_map_or}
 use Rattle.hv_defs.specs.Registers as register
 use Rattle.hv_defs.specs.declared.life.Life.{Life}
 use Rattle.hv_defs.specs.declared.life.Life.TheVariants.{Active}
@@ -69,8 +70,7 @@ has_available f id charge = nat_le charge (available f id)
 
 -- the page with this row is a loose page of a partition
 abbrev pub is_loose : ℕ → Option PageRow → Bool
-is_loose id None = false
-is_loose id (Some page) = (page.owner == id) && not page.pooled
+is_loose id page = option_map_or (λ page. (page.owner == id) && not page.pooled) page false
 
 -- a caller may give this value to a property: a mask lies within its own
 abbrev pub may_give : Option Property → ℕ → Flat → ℕ → Bool
@@ -82,8 +82,7 @@ may_give (Some CpuWeight) value f caller = true
 
 -- and the value is in the property's range
 abbrev pub is_in_range : Option Property → ℕ → Bool
-is_in_range None value = false
-is_in_range (Some property) value = takes_value property value
+is_in_range property value = option_map_or (λ property. takes_value property value) property false
 
 -- a partition may access the register with this row: its mask has the register's privilege. One that there isn't needs none
 abbrev pub may_access : Flat → ℕ → Option RegisterRow → Bool
@@ -92,21 +91,15 @@ may_access f id (Some row) = has_privilege f id (of row.privilege)
 
 -- the model-specific register that has this name in a call, if it is one
 abbrev pub may_access_msr : Flat → ℕ → Option ℕ → Bool
-may_access_msr f id None = false
-may_access_msr f id (Some name) = may_access f id (register.row_of name)
+may_access_msr f id name = option_map_or (λ name. may_access f id (register.row_of name)) name false
 
 -- and that register takes a value
 abbrev pub takes_msr : Option ℕ → ℕ → Bool
-takes_msr None value = false
-takes_msr (Some name) value = is_ok (register.kept (register.row_of name) value)
+takes_msr name value = option_map_or (λ name. is_ok (register.kept (register.row_of name) value)) name false
 
 -- a test of the port with this key
-abbrev pub test_port : (PortRow → Bool) → Option PortRow → Bool
-test_port test None = false
-test_port test (Some row) = test row
-
 abbrev pub on_port : Flat → ℕ × ℕ → (PortRow → Bool) → Bool
-on_port f key test = test_port test (get f.port key)
+on_port f key test = option_map_or test (get f.port key) false
 
 -- a port is of a type
 abbrev pub is_kind : PortKind → PortKind → Bool
