@@ -1,6 +1,5 @@
--- What a frame's check tells of its rules and its result value.
-use Rattle.std.proofs.Common.{◌≡◌, ℕ, Bool, true, false, cond, not, Option, Some, None, is_some, refl, sym, ap, subst, ◌∙◌}
-use Rattle.hv_defs.specs.Bits.{bits}
+-- What a frame's check tells of its rules.
+use Rattle.std.proofs.Common.{◌≡◌, ℕ, Bool, true, false, cond, not, Option, Some, None, refl}
 use Rattle.hv_abi.specs.declared.call_kind.CallKind.{CallKind}
 use Rattle.hv_abi.specs.declared.frame.AbiFault.{AbiFault}
 use Rattle.hv_abi.specs.declared.frame.AbiFault.TheVariants.{UnknownCode, Input}
@@ -8,12 +7,8 @@ use Rattle.hv_abi.specs.declared.frame.AbiFault.TheVariants as fault
 use Rattle.hv_abi.specs.declared.frame.Frame.{Frame}
 use Rattle.hv_abi.specs.Check.{call_of, is_input_valid, are_lists_placed, fault_at, first_fault}
 use Rattle.hv_abi.specs.CallRow.{row_of}
-use Rattle.hv_policy.specs.Asked.{call_rules}
 use Rattle.hv_policy.specs.Flat.{Flat}
-use Rattle.hv_policy.specs.Step.{first_unmet}
-use Rattle.hv_policy.specs.declared.event.Action.TheVariants.{Hypercall}
-use Rattle.hv_policy.specs.declared.event.Caller.{Caller}
-use Rattle.hv_policy.specs.declared.event.Event.{Event}
+use Rattle.hv_policy.specs.Rules.{first_unmet, hypercall_asks}
 use Rattle.hv_policy.specs.declared.rule.Rule.{Rule}
 use Rattle.hv_policy.specs.declared.rule.Rule.TheVariants.{CallCode, InputValue, Alignment}
 
@@ -23,33 +18,22 @@ rule_of UnknownCode = CallCode
 rule_of Input = InputValue
 rule_of fault.Alignment = Alignment
 
--- the first unmet of the frame's rules, once it is known whether the call is there, valid and placed
-abbrev pub first_of : Option CallKind → Bool → Bool → Option Rule → Option Rule
-first_of None valid placed rest = Some CallCode
-first_of (Some call) valid placed rest = cond (not valid) (Some InputValue) (cond (not placed) (Some Alignment) rest)
-
-module _ {A : Type 0} (f : Flat) (caller : Caller) (frame : Frame A) where
-  abbrev event : Event A
-  event = record { by = caller; what = Hypercall frame }
-
-  faulty : (c : Option CallKind) → call_of frame ≡ c → (wrong : AbiFault) → fault_at frame c ≡ Some wrong → first_unmet f event (call_rules c) ≡ Some (rule_of wrong)
-  faulty None s wrong h = rw s (known wrong h)
+module _ {A : Type 0} (f : Flat) (caller : ℕ) (frame : Frame A) where
+  faulty : (c : Option CallKind) → (wrong : AbiFault) → fault_at frame c ≡ Some wrong → first_unmet (hypercall_asks f caller frame c) ≡ Some (rule_of wrong)
+  faulty None UnknownCode h = refl
+  faulty None Input h = cc
+  faulty None fault.Alignment h = cc
+  faulty (Some kind) wrong h = by _ (is_input_valid (row_of kind) frame.rcx) (are_lists_placed (row_of kind) frame) wrong h
     where
-      known : (wrong : AbiFault) → Some UnknownCode ≡ Some wrong → Some CallCode ≡ Some (rule_of wrong)
-      known UnknownCode h = refl
-      known Input h = cc
-      known fault.Alignment h = cc
-  faulty (Some call) s wrong h = by (is_input_valid (row_of call) frame.rcx) (are_lists_placed (row_of call) frame) refl refl wrong h
-    where
-      by : (v p : Bool) → is_input_valid (row_of call) frame.rcx ≡ v → are_lists_placed (row_of call) frame ≡ p → (wrong : AbiFault) → cond (not v) (Some Input) (cond (not p) (Some fault.Alignment) None) ≡ Some wrong → first_unmet f event (call_rules (Some call)) ≡ Some (rule_of wrong)
-      by false p valid placed UnknownCode h = cc
-      by false p valid placed Input h = rw (s, valid) refl
-      by false p valid placed fault.Alignment h = cc
-      by true false valid placed UnknownCode h = cc
-      by true false valid placed Input h = cc
-      by true false valid placed fault.Alignment h = rw (s, valid, placed) refl
-      by true true valid placed wrong h = cc
+      by : (rest : Option Rule) (valid placed : Bool) (wrong : AbiFault) → cond (not valid) (Some Input) (cond (not placed) (Some fault.Alignment) None) ≡ Some wrong → cond valid (cond placed rest (Some Alignment)) (Some InputValue) ≡ Some (rule_of wrong)
+      by rest false placed UnknownCode h = cc
+      by rest false placed Input h = refl
+      by rest false placed fault.Alignment h = cc
+      by rest true false UnknownCode h = cc
+      by rest true false Input h = cc
+      by rest true false fault.Alignment h = refl
+      by rest true true wrong h = cc
 
   -- a frame is refused by the rule that its first fault breaks
-  pub unmet_fault : (wrong : AbiFault) → first_fault frame ≡ Some wrong → first_unmet f event (call_rules (call_of frame)) ≡ Some (rule_of wrong)
-  unmet_fault wrong h = faulty (call_of frame) refl wrong h
+  pub unmet_fault : (wrong : AbiFault) → first_fault frame ≡ Some wrong → first_unmet (hypercall_asks f caller frame (call_of frame)) ≡ Some (rule_of wrong)
+  unmet_fault wrong h = faulty (call_of frame) wrong h

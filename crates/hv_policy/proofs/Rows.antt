@@ -1,18 +1,16 @@
 -- Rows of a flat state after a change, and those that rules which are met tell of.
-use Rattle.std.proofs.Common.{◌≡◌, ℕ, ◌==◌, Bool, true, false, cond, not, List, [], ◌∷◌, Option, Some, None, find, inl, inr, refl, sym, ap, ◌∙◌}
+use Rattle.std.proofs.Common.{◌≡◌, ℕ, ◌==◌, Bool, true, cond, not, Option, Some, None, inl, inr, refl, sym, ap, ◌∙◌}
 use Rattle.std.proofs.lemmas.Bool.{cases_Bool, eqb-true}
 use Rattle.std.specs.Cmp.{Equal-is}
 use Rattle.std.specs.FinMap.{FinMap, get, get-insert, get-retain_keys}
-use Rattle.std.specs.List.{AllByRecursion}
 use Rattle.std.specs.Option.{option_map}
 use Rattle.std.specs.Ordering.{nat_cmp, eq_by_cmp}
 use Rattle.hv_defs.proofs.Maps.{get_at-insert}
 use Rattle.hv_policy.proofs.Pairs.{pair_cmp_total, pair_cmp_exact}
-use Rattle.hv_policy.specs.Effect.{with_row, with_vp, changed_at, vp_changed_at, rows_but}
+use Rattle.hv_policy.specs.Effect.{with_row, with_vp, changed_at, rows_but}
 use Rattle.hv_defs.specs.Flags.{pair_cmp}
 use Rattle.hv_policy.specs.Flat.{Flat, PartRow, VpRow}
 use Rattle.hv_policy.specs.Met.{test_row, on_part}
-use Rattle.hv_policy.specs.declared.rule.Rule.{Rule}
 
 -- a row of the model once one of them is changed
 pub get-with_row : (part : FinMap nat_cmp PartRow) (id : ℕ) (g : PartRow → PartRow) (q : ℕ) → get (with_row part id g) q ≡ cond (q == id) (option_map g (get part id)) (get part q)
@@ -29,7 +27,7 @@ get-with_row part id g q = by (get part id) refl
 pub get-with_vp : (vps : FinMap pair_cmp VpRow) (key : ℕ × ℕ) (g : VpRow → VpRow) (q : ℕ × ℕ) → get (with_vp vps key g) q ≡ cond (eq_by_cmp pair_cmp q key) (option_map g (get vps key)) (get vps q)
 get-with_vp vps key g q = by (get vps key) refl
   where
-    by : (r : Option VpRow) → get vps key ≡ r → get (vp_changed_at vps key g r) q ≡ cond (eq_by_cmp pair_cmp q key) (option_map g r) (get vps q)
+    by : (r : Option VpRow) → get vps key ≡ r → get (changed_at vps key g r) q ≡ cond (eq_by_cmp pair_cmp q key) (option_map g r) (get vps q)
     by None is = elim (cases_Bool (eq_by_cmp pair_cmp q key)) [
       | inl s ↦ rw s (ap (get vps) (pair_cmp_exact q key ((Equal-is (pair_cmp q key)).0 s)) ∙ is)
       | inr s ↦ rw s refl
@@ -47,17 +45,3 @@ row_of f id test h = by (get f.part id) refl h
     by : (r : Option PartRow) → get f.part id ≡ r → test_row test r ≡ true → (row : PartRow) × (get f.part id ≡ Some row) × (test row ≡ true)
     by None is h = cc
     by (Some row) is h = (row, is, h)
-
--- where no rule is unmet, each is met
-pub all_met : (test : Rule → Bool) (rules : List Rule) → find (λ rule. not (test rule)) rules ≡ None → AllByRecursion (λ rule. test rule ≡ true) rules
-all_met test [] h = tt
-all_met test (rule ∷ rules) h = by (test rule) refl h (all_met test rules)
-  where
-    by : (b : Bool) → test rule ≡ b → cond (not b) (Some rule) (find (λ rule. not (test rule)) rules) ≡ None → (find (λ rule. not (test rule)) rules ≡ None → AllByRecursion (λ rule. test rule ≡ true) rules) → (test rule ≡ true) × AllByRecursion (λ rule. test rule ≡ true) rules
-    by true is h rest = (is, rest h)
-    by false is h rest = cc
-
--- and the other way round
-pub none_unmet : (test : Rule → Bool) (rules : List Rule) → AllByRecursion (λ rule. test rule ≡ true) rules → find (λ rule. not (test rule)) rules ≡ None
-none_unmet test [] h = refl
-none_unmet test (rule ∷ rules) h = ap (λ b. cond (not b) (Some rule) (find (λ rule. not (test rule)) rules)) h.0 ∙ none_unmet test rules h.1

@@ -1,107 +1,82 @@
 -- The first unmet rule, from the parts of the list that is asked.
-use Rattle.std.proofs.Common.{◌≡◌, Bool, true, false, cond, not, List, [], ◌∷◌, ◌++◌, None, Some, find, refl, ap, ◌∙◌}
-use Rattle.std.specs.FinMap.{contains_key}
-use Rattle.hv_abi.specs.declared.call_kind.CallKind.{CallKind}
-use Rattle.hv_abi.specs.declared.call_kind.CallKind.TheVariants.{CreatePartition, InitializePartition, FinalizePartition, DeletePartition, GetPartitionProperty, SetPartitionProperty, GetPartitionId, GetNextChildPartition, DepositMemory, WithdrawMemory, GetMemoryBalance, CreateVp, DeleteVp, GetVpRegisters, SetVpRegisters, DeletePort, DisconnectPort, PostMessage, SignalEvent, CreatePort, ConnectPort}
-use Rattle.hv_calls.specs.Call.{kind_of_call}
-use Rattle.hv_calls.specs.declared.call.Call.{Call}
+use Rattle.std.proofs.Common.{◌≡◌, Bool, true, false, cond, List, [], ◌∷◌, ◌++◌, None, Some, refl, sym, ap, ◌∙◌}
+use Rattle.std.specs.Option.{option_map}
 use Rattle.hv_abi.specs.declared.frame.Frame.{Frame}
-use Rattle.hv_policy.specs.declared.event.Action.TheVariants.{Hypercall}
+use Rattle.hv_abi.specs.Check.{call_of}
+use Rattle.hv_calls.specs.Call.{kind_of_call}
+use Rattle.hv_calls.specs.Params.{parameters}
+use Rattle.hv_calls.specs.declared.call.Call.{Call}
+use Rattle.hv_policy.specs.Call.{call_event, called}
+use Rattle.hv_policy.specs.Flat.{Flat}
+use Rattle.hv_policy.specs.Met.{is_running}
+use Rattle.hv_policy.specs.Rules.{AreMet, Ask, action_asks, caller_asks, first_unmet, frame_asks, further_asks, hypercall_asks, target_asks, unmet}
 use Rattle.hv_policy.specs.declared.event.Caller.{Caller}
 use Rattle.hv_policy.specs.declared.event.Event.{Event}
 use Rattle.hv_policy.specs.declared.rule.Rule.{Rule}
-use Rattle.hv_policy.specs.declared.rule.Rule.TheVariants.{CallerExists, CallerActive, CallerVpExists}
-use Rattle.hv_policy.specs.Asked.{caller_rules, call_rules, frame_rules, access_rules, action_rules}
-use Rattle.hv_policy.specs.Call.{called, test_call}
-use Rattle.hv_abi.specs.Check.{call_of}
-use Rattle.hv_policy.specs.Flat.{Flat}
-use Rattle.hv_policy.specs.Met.{met, call_met, unmet_of, on_part, is_active}
-use Rattle.hv_policy.specs.Needs.{further_rules}
-use Rattle.hv_policy.specs.Step.{first_unmet, unmet}
 
--- what is found in the first part is found in the whole
-find-front : {X : Type 0} (p : X → Bool) (xs ys : List X) (x : X) → find p xs ≡ Some x → find p (xs ++ ys) ≡ Some x
-find-front p [] ys x e = cc
-find-front p (y ∷ xs) ys x e = by (p y) e (find-front p xs ys x)
+-- the first unmet of a first part is that of the whole
+first_of_front : (asks rest : List Ask) (rule : Rule) → first_unmet asks ≡ Some rule → first_unmet (asks ++ rest) ≡ Some rule
+first_of_front [] rest rule e = cc
+first_of_front (ask ∷ asks) rest rule e = by ask.1 e (first_of_front asks rest rule)
   where
-    by : (b : Bool) → cond b (Some y) (find p xs) ≡ Some x → (find p xs ≡ Some x → find p (xs ++ ys) ≡ Some x) → cond b (Some y) (find p (xs ++ ys)) ≡ Some x
-    by true e rest = e
-    by false e rest = rest e
+    by : (met : Bool) → cond met (first_unmet asks) (Some ask.0) ≡ Some rule → (first_unmet asks ≡ Some rule → first_unmet (asks ++ rest) ≡ Some rule) → cond met (first_unmet (asks ++ rest)) (Some ask.0) ≡ Some rule
+    by true e past = past e
+    by false e past = e
 
--- where nothing is found in the first part, the whole is the second
-find-back : {X : Type 0} (p : X → Bool) (xs ys : List X) → find p xs ≡ None → find p (xs ++ ys) ≡ find p ys
-find-back p [] ys e = refl
-find-back p (y ∷ xs) ys e = by (p y) e (find-back p xs ys)
+-- where the first part is met, it is that of the second
+first_of_back : (asks rest : List Ask) → first_unmet asks ≡ None → first_unmet (asks ++ rest) ≡ first_unmet rest
+first_of_back [] rest e = refl
+first_of_back (ask ∷ asks) rest e = by ask.1 e (first_of_back asks rest)
   where
-    by : (b : Bool) → cond b (Some y) (find p xs) ≡ None → (find p xs ≡ None → find p (xs ++ ys) ≡ find p ys) → cond b (Some y) (find p (xs ++ ys)) ≡ find p ys
-    by true e rest = cc
-    by false e rest = rest e
+    by : (met : Bool) → cond met (first_unmet asks) (Some ask.0) ≡ None → (first_unmet asks ≡ None → first_unmet (asks ++ rest) ≡ first_unmet rest) → cond met (first_unmet (asks ++ rest)) (Some ask.0) ≡ first_unmet rest
+    by true e past = past e
+    by false e past = cc
+
+-- where no rule is unmet, each is met
+pub all_met : (asks : List Ask) → first_unmet asks ≡ None → AreMet asks
+all_met [] h = tt
+all_met (ask ∷ asks) h = by ask.1 refl h (all_met asks)
+  where
+    by : (met : Bool) → ask.1 ≡ met → cond met (first_unmet asks) (Some ask.0) ≡ None → (first_unmet asks ≡ None → AreMet asks) → AreMet (ask ∷ asks)
+    by true is h rest = (is, rest h)
+    by false is h rest = cc
+
+-- and the other way round
+pub none_unmet : (asks : List Ask) → AreMet asks → first_unmet asks ≡ None
+none_unmet [] h = refl
+none_unmet (ask ∷ asks) h = ap (λ met. cond met (first_unmet asks) (Some ask.0)) h.0 ∙ none_unmet asks h.1
 
 module _ {A : Type 0} (f : Flat) (event : Event A) where
   -- one of P1 to P3 refuses
-  pub unmet_by_caller : (rule : Rule) → first_unmet f event caller_rules ≡ Some rule → unmet f event ≡ Some rule
-  unmet_by_caller rule h = find-front (λ rule. not (met rule f event)) caller_rules (action_rules event.what) rule h
+  pub unmet_by_caller : (rule : Rule) → first_unmet (caller_asks f event.by) ≡ Some rule → unmet f event ≡ Some rule
+  unmet_by_caller = first_of_front (caller_asks f event.by) (action_asks f event.by.part event.what)
 
-  -- where they are met, what is left are the action's rules
-  pub past_caller : first_unmet f event caller_rules ≡ None → unmet f event ≡ first_unmet f event (action_rules event.what)
-  past_caller h = find-back (λ rule. not (met rule f event)) caller_rules (action_rules event.what) h
+  -- where they are met, what is left is the action's
+  pub past_caller : first_unmet (caller_asks f event.by) ≡ None → unmet f event ≡ first_unmet (action_asks f event.by.part event.what)
+  past_caller = first_of_back (caller_asks f event.by) (action_asks f event.by.part event.what)
 
-module _ {A : Type 0} (f : Flat) (caller : Caller) (frame : Frame A) where
-  abbrev event : Event A
-  event = record { by = caller; what = Hypercall frame }
+module _ {A : Type 0} (f : Flat) (caller : Caller) (frame : Frame A) (caller_met : first_unmet (caller_asks f caller) ≡ None) where
+  -- the caller is Active
+  pub caller_active : is_running f caller.part ≡ true
+  caller_active = (all_met (caller_asks f caller) caller_met).1.0
 
-  -- where they are met, the caller is Active
-  pub caller_active : first_unmet f event caller_rules ≡ None → on_part f caller.part (λ row. is_active row.life) ≡ true
-  caller_active h = by (contains_key f.part caller.part) (on_part f caller.part (λ row. is_active row.life)) h
-    where
-      by : (there active : Bool) → cond (not there) (Some CallerExists) (cond (not active) (Some CallerActive) (first_unmet f event (CallerVpExists ∷ []))) ≡ None → active ≡ true
-      by true true h = refl
-      by true false h = cc
-      by false active h = cc
+  -- one of P4 to P7 refuses
+  pub unmet_by_frame : (rule : Rule) → first_unmet (hypercall_asks f caller.part frame (call_of frame)) ≡ Some rule → unmet f (call_event caller frame) ≡ Some rule
+  unmet_by_frame rule h = past_caller f (call_event caller frame) caller_met ∙ h
 
-  module _ (caller_met : first_unmet f event caller_rules ≡ None) where
-    -- one of P4 to P7 refuses
-    pub unmet_by_frame : (rule : Rule) → first_unmet f event (call_rules (call_of frame)) ≡ Some rule → unmet f event ≡ Some rule
-    unmet_by_frame rule h = past_caller f event caller_met ∙ h
+  module _ (call : Call) (is : call_of frame ≡ Some (kind_of_call call)) (served : called frame ≡ Some call) (frame_met : first_unmet (frame_asks (kind_of_call call) frame) ≡ None) where
+    past_frame : unmet f (call_event caller frame) ≡ first_unmet (target_asks f caller.part call ++ further_asks f caller.part call)
+    past_frame =
+        let made : Some (parameters (kind_of_call call) frame) ≡ Some call = sym (ap (option_map (λ kind. parameters kind frame)) is) ∙ served in
+        let held : parameters (kind_of_call call) frame ≡ call = cc in
+        past_caller f (call_event caller frame) caller_met ∙ ap (λ kind. first_unmet (hypercall_asks f caller.part frame kind)) is
+        ∙ first_of_back (frame_asks (kind_of_call call) frame) (target_asks f caller.part (parameters (kind_of_call call) frame) ++ further_asks f caller.part (parameters (kind_of_call call) frame)) frame_met
+        ∙ ap (λ call. first_unmet (target_asks f caller.part call ++ further_asks f caller.part call)) held
 
-    module _ (call : Call) (is : call_of frame ≡ Some (kind_of_call call)) (served : called frame ≡ Some call) (frame_met : first_unmet f event frame_rules ≡ None) where
-      -- the rules that look at the parameters ask the call alone
-      of_call : (rules : List Rule) → find (λ rule. not (test_call (call_met rule f caller.part) (called frame))) rules ≡ unmet_of f caller.part call rules
-      of_call rules = ap (λ c. find (λ rule. not (test_call (call_met rule f caller.part) c)) rules) served
+    -- one of P8 to P10 refuses
+    pub unmet_by_target : (rule : Rule) → first_unmet (target_asks f caller.part call) ≡ Some rule → unmet f (call_event caller frame) ≡ Some rule
+    unmet_by_target rule h = past_frame ∙ first_of_front (target_asks f caller.part call) (further_asks f caller.part call) rule h
 
-      by_kind : (kind : CallKind) → first_unmet f event (access_rules ++ further_rules kind) ≡ unmet_of f caller.part call (access_rules ++ further_rules kind)
-      by_kind CreatePartition = of_call (access_rules ++ further_rules CreatePartition)
-      by_kind InitializePartition = of_call (access_rules ++ further_rules InitializePartition)
-      by_kind FinalizePartition = of_call (access_rules ++ further_rules FinalizePartition)
-      by_kind DeletePartition = of_call (access_rules ++ further_rules DeletePartition)
-      by_kind GetPartitionProperty = of_call (access_rules ++ further_rules GetPartitionProperty)
-      by_kind SetPartitionProperty = of_call (access_rules ++ further_rules SetPartitionProperty)
-      by_kind GetPartitionId = of_call (access_rules ++ further_rules GetPartitionId)
-      by_kind GetNextChildPartition = of_call (access_rules ++ further_rules GetNextChildPartition)
-      by_kind DepositMemory = of_call (access_rules ++ further_rules DepositMemory)
-      by_kind WithdrawMemory = of_call (access_rules ++ further_rules WithdrawMemory)
-      by_kind GetMemoryBalance = of_call (access_rules ++ further_rules GetMemoryBalance)
-      by_kind CreateVp = of_call (access_rules ++ further_rules CreateVp)
-      by_kind DeleteVp = of_call (access_rules ++ further_rules DeleteVp)
-      by_kind GetVpRegisters = of_call (access_rules ++ further_rules GetVpRegisters)
-      by_kind SetVpRegisters = of_call (access_rules ++ further_rules SetVpRegisters)
-      by_kind DeletePort = of_call (access_rules ++ further_rules DeletePort)
-      by_kind DisconnectPort = of_call (access_rules ++ further_rules DisconnectPort)
-      by_kind PostMessage = of_call (access_rules ++ further_rules PostMessage)
-      by_kind SignalEvent = of_call (access_rules ++ further_rules SignalEvent)
-      by_kind CreatePort = of_call (access_rules ++ further_rules CreatePort)
-      by_kind ConnectPort = of_call (access_rules ++ further_rules ConnectPort)
-
-      past_frame : unmet f event ≡ unmet_of f caller.part call (access_rules ++ further_rules (kind_of_call call))
-      past_frame =
-          past_caller f event caller_met ∙ ap (λ k. first_unmet f event (call_rules k)) is
-          ∙ find-back (λ rule. not (met rule f event)) frame_rules (access_rules ++ further_rules (kind_of_call call)) frame_met
-          ∙ by_kind (kind_of_call call)
-
-      -- one of P8 to P10 refuses
-      pub unmet_by_access : (rule : Rule) → unmet_of f caller.part call access_rules ≡ Some rule → unmet f event ≡ Some rule
-      unmet_by_access rule h = past_frame ∙ find-front (λ rule. not (call_met rule f caller.part call)) access_rules (further_rules (kind_of_call call)) rule h
-
-      -- P1 to P10 are met: what is left are the call's own rules
-      pub unmet_past_access : unmet_of f caller.part call access_rules ≡ None → unmet f event ≡ unmet_of f caller.part call (further_rules (kind_of_call call))
-      unmet_past_access h = past_frame ∙ find-back (λ rule. not (call_met rule f caller.part call)) access_rules (further_rules (kind_of_call call)) h
+    -- P1 to P10 are met: what is left is the call's own
+    pub unmet_past_target : first_unmet (target_asks f caller.part call) ≡ None → unmet f (call_event caller frame) ≡ first_unmet (further_asks f caller.part call)
+    unmet_past_target h = past_frame ∙ first_of_back (target_asks f caller.part call) (further_asks f caller.part call) h

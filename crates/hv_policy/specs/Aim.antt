@@ -1,6 +1,7 @@
 -- Where a connection leads.
 use Rattle.std.specs.Prelude.{ℕ, ◌==◌, Bool, false, Option, None, Some}
 use Rattle.std.specs.FinMap.{get}
+use Rattle.std.specs.Option.{option_map_or}
 use Rattle.hv_policy.specs.Flat.{Flat, ConnRow, PortRow, VpRow}
 
 -- a connection, and the port with the id that it keeps, whatever that port's birth
@@ -21,12 +22,8 @@ abbrev pub aim_of : Flat → ℕ × ℕ → Option Aim
 aim_of f key = aim_by f (get f.conn key)
 
 -- a test of both, which fails where one is missing
-abbrev pub test_aim : (Aim → Bool) → Option Aim → Bool
-test_aim test None = false
-test_aim test (Some aim) = test aim
-
 abbrev pub on_aim : Flat → ℕ × ℕ → (Aim → Bool) → Bool
-on_aim f key test = test_aim test (aim_of f key)
+on_aim f key test = option_map_or test (aim_of f key) false
 
 -- the port is the one that was there when the connection was made
 abbrev pub is_same_birth : Aim → Bool
@@ -37,9 +34,5 @@ abbrev pub vp_key : Aim → ℕ × ℕ
 vp_key aim = (aim.conn.part, aim.port.vp)
 
 -- a test of a processor's row, which fails where there is none
-abbrev pub test_vp : (VpRow → Bool) → Option VpRow → Bool
-test_vp test None = false
-test_vp test (Some row) = test row
-
 abbrev pub on_vp : Flat → ℕ × ℕ → (VpRow → Bool) → Bool
-on_vp f key test = test_vp test (get f.vp key)
+on_vp f key test = option_map_or test (get f.vp key) false

@@ -19,24 +19,23 @@ use Rattle.hv_policy.specs.declared.event.Caller.{Caller}
 use Rattle.hv_policy.specs.declared.event.Event.{Event}
 use Rattle.hv_policy.specs.declared.reply.Reply.{Reply}
 use Rattle.hv_policy.specs.declared.reply.Reply.TheVariants.{Served, More}
-use Rattle.hv_policy.specs.Call.{called, is_last, target_of}
+use Rattle.hv_policy.specs.Call.{called, is_last}
 use Rattle.hv_policy.specs.Count.{is_parent, lowest_pooled, available, in_use}
 use Rattle.hv_policy.specs.Flat.{Flat, PartRow, VpRow}
 use Rattle.hv_policy.specs.Mail.{place_at, slot_at}
+use Rattle.hv_policy.specs.Needs.{target_of}
 use Rattle.hv_policy.specs.Property.{property_of, property_value}
 use Rattle.hv_policy.specs.declared.property.Property.{Property}
 
 abbrev pub first_id : Option (ℕ × PartRow) → ℕ
-first_id None = 0
-first_id (Some e) = e.0
+first_id e = option_map_or (λ e. e.0) e 0
 
 -- the least id above `previous` among the children of `parent`, 0 if there is none: ids stand in rising order
 abbrev pub next_child : Flat → ℕ → ℕ → ℕ
 next_child f parent previous = first_id (find (λ e. is_parent parent e.1.parent && nat_lt previous e.0) (entries f.part))
 
 abbrev pub page_or_0 : Option ℕ → ℕ
-page_or_0 None = 0
-page_or_0 (Some page) = page
+page_or_0 page = option_map_or (λ page. page) page 0
 
 -- the value of a property in a partition's row, 0 where either is missing
 abbrev pub value_of : Option Property → Option PartRow → ℕ
@@ -46,23 +45,19 @@ value_of (Some property) (Some row) = property_value property row
 
 -- the value of a register of the processor with this row, 0 where either is missing
 abbrev pub register_of : Option VpRow → ℕ → ℕ
-register_of None name = 0
-register_of (Some row) name = option_map_or (λ value. value) (get row.registers name) 0
+register_of row name = option_map_or (λ row. option_map_or (λ value. value) (get row.registers name) 0) row 0
 
 -- the same for a model-specific register, by the name that it has
 abbrev pub msr_of : Option VpRow → Option ℕ → ℕ
-msr_of row None = 0
-msr_of row (Some name) = register_of row name
+msr_of row name = option_map_or (register_of row) name 0
 
 -- the bytes of the event flags of a SINT of the processor with this row, and zeros where it is missing
 abbrev pub flags_at : Option VpRow → ℕ → List ℕ
-flags_at None sint = zeros 256
-flags_at (Some row) sint = flag_bytes row.flags sint
+flags_at row sint = option_map_or (λ row. flag_bytes row.flags sint) row (zeros 256)
 
 -- the highest vector that is pending, and 0 where none is
 abbrev pub vector_of : Option VpRow → ℕ
-vector_of None = 0
-vector_of (Some row) = option_map_or (λ vector. vector) (highest row.pending) 0
+vector_of row = option_map_or (λ row. option_map_or (λ vector. vector) (highest row.pending) 0) row 0
 
 -- the output bytes of a call, about its target; of a rep call those of its own element
 abbrev pub output : Call → Flat → ℕ → ℕ → List ℕ
@@ -91,12 +86,10 @@ output (CreatePort partition port peer port_kind sint vp base count) f caller ta
 output (ConnectPort partition connection port_partition port port_kind) f caller target = []
 
 abbrev pub output_of : Flat → ℕ → Option Call → List ℕ
-output_of f caller None = []
-output_of f caller (Some call) = output call f caller (target_of call caller)
+output_of f caller call = option_map_or (λ call. output call f caller (target_of call caller)) call []
 
 abbrev pub is_done : {A : Type 0} → Frame A → Option CallKind → Bool
-is_done frame None = true
-is_done frame (Some kind) = is_last kind frame
+is_done frame kind = option_map_or (λ kind. is_last kind frame) kind true
 
 -- the reply to a call that is served, which is done with its last element
 abbrev pub reply_with : {A : Type 0} → Frame A → List ℕ → Reply

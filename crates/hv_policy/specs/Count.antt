@@ -1,13 +1,13 @@
 -- What is counted in a flat state, each time over all rows.
 use Rattle.std.specs.Prelude.{ℕ, zero, suc, ◌+◌, ◌*◌, ◌-◌, ◌==◌, ◌&&◌, Bool, false, Option, None, Some, count_by, find, option_and_then}
 use Rattle.std.specs.FinMap.{get, entries}
+use Rattle.std.specs.Option.{option_map, option_map_or}
 use Rattle.hv_defs.specs.declared.sizes.TheConstants.{PARTITION_CHARGE, VP_CHARGE, PORT_CHARGE, CONNECTION_CHARGE}
 use Rattle.hv_policy.specs.Flat.{Flat}
 
 -- whether a parent is this partition
 abbrev pub is_parent : ℕ → Option ℕ → Bool
-is_parent id None = false
-is_parent id (Some parent) = parent == id
+is_parent id parent = option_map_or (λ parent. parent == id) parent false
 
 -- how many children a partition has
 abbrev pub child_count : Flat → ℕ → ℕ
@@ -28,8 +28,7 @@ abbrev pub pooled_count : Flat → ℕ → ℕ
 pooled_count f id = count_by (λ e. (e.1.owner == id) && e.1.pooled) (entries f.page)
 
 abbrev pub number_of : {X : Type 0} → Option (ℕ × X) → Option ℕ
-number_of None = None
-number_of (Some e) = Some e.0
+number_of e = option_map (λ e. e.0) e
 
 -- its lowest pooled page, if it has one: pages stand in rising order
 abbrev pub lowest_pooled : Flat → ℕ → Option ℕ

@@ -1,6 +1,8 @@
 -- What a served event changes.
 use Rattle.std.specs.Prelude.{ℕ, zero, suc, ◌+◌, ◌==◌, not, true, false, Bool, cond, if◌then◌else◌, List, [], ◌∷◌, ◌++◌, map, Option, None, Some}
+use Rattle.std.specs.Option.{option_map_or}
 use Rattle.std.specs.Ordering.{nat_cmp}
+use Rattle.std.specs.declared.cmp.Ordering.{Ordering}
 use Rattle.std.specs.FinSet as set
 use Rattle.std.specs.FinMap.{FinMap, get, insert, remove, entries, from_entries, retain_keys}
 use Rattle.hv_calls.specs.declared.call.Call.{Call}
@@ -21,19 +23,19 @@ use Rattle.hv_policy.specs.declared.event.Caller.{Caller}
 use Rattle.hv_policy.specs.declared.event.Event.{Event}
 use Rattle.hv_policy.specs.Aim.{Aim, aim_of, on_vp, vp_key}
 use Rattle.hv_policy.specs.Boot.{start_vp}
-use Rattle.hv_policy.specs.Call.{called, meant_id, target_of}
+use Rattle.hv_policy.specs.Call.{called}
 use Rattle.hv_policy.specs.Count.{lowest_pooled}
 use Rattle.hv_defs.specs.Flags.{pair_cmp}
-use Rattle.hv_policy.specs.Flat.{Flat, PartRow, PageRow, VpRow, PortRow, ConnRow, MailRow}
+use Rattle.hv_policy.specs.Flat.{Flat, PartRow, PageRow, VpRow, PortRow, MailRow}
 use Rattle.hv_policy.specs.Mail as mail
 use Rattle.hv_policy.specs.Mail.{Place, place_at}
+use Rattle.hv_policy.specs.Needs.{meant_id, target_of}
 use Rattle.hv_policy.specs.Property.{property_of, with_property}
 use Rattle.hv_policy.specs.declared.property.Property.{Property}
 
 -- the mask of a partition's row, and no privilege where there is none
 abbrev pub mask_of : Option PartRow → Privileges
-mask_of None = of 0
-mask_of (Some row) = row.mask
+mask_of row = option_map_or (λ row. row.mask) row (of 0)
 
 -- a new partition: Created, with its parent's mask restricted and the start properties
 abbrev pub new_row : ℕ → Privileges → PartRow
@@ -46,9 +48,9 @@ new_row parent mask = record {
   weight = CPU_WEIGHT_START;
 }
 
-abbrev pub changed_at : FinMap nat_cmp PartRow → ℕ → (PartRow → PartRow) → Option PartRow → FinMap nat_cmp PartRow
-changed_at part id change None = part
-changed_at part id change (Some row) = insert part id (change row)
+abbrev pub changed_at : {K X : Type 0} {cmp : K → K → Ordering} → FinMap cmp X → K → (X → X) → Option X → FinMap cmp X
+changed_at rows key change None = rows
+changed_at rows key change (Some row) = insert rows key (change row)
 
 -- the partitions with the row of one of them changed
 abbrev pub with_row : FinMap nat_cmp PartRow → ℕ → (PartRow → PartRow) → FinMap nat_cmp PartRow
@@ -62,13 +64,9 @@ rows_but id rows = retain_keys rows (λ key. not (key.0 == id))
 abbrev pub written : ℕ → ℕ → VpRow → VpRow
 written name value row = record row { registers = register.after_write row.registers name (register.kept (register.row_of name) value) }
 
-abbrev pub vp_changed_at : FinMap pair_cmp VpRow → ℕ × ℕ → (VpRow → VpRow) → Option VpRow → FinMap pair_cmp VpRow
-vp_changed_at vps key change None = vps
-vp_changed_at vps key change (Some row) = insert vps key (change row)
-
 -- the processors with the row of one of them changed
 abbrev pub with_vp : FinMap pair_cmp VpRow → ℕ × ℕ → (VpRow → VpRow) → FinMap pair_cmp VpRow
-with_vp vps key change = vp_changed_at vps key change (get vps key)
+with_vp vps key change = changed_at vps key change (get vps key)
 
 -- the first flag of a port, or the count of its flags, of which a message port has none
 abbrev pub flags_of : PortKind → ℕ → ℕ
@@ -77,8 +75,7 @@ flags_of port_type.Event number = number
 
 -- when a port was made, and 0 where there is none
 abbrev pub born_of : Option PortRow → ℕ
-born_of None = 0
-born_of (Some row) = row.born
+born_of row = option_map_or (λ row. row.born) row 0
 
 -- a page that is a loose page of `heir` if `id` held it, and else as it was
 abbrev pub inherited : ℕ → ℕ → PageRow → PageRow
@@ -215,8 +212,7 @@ call_effect (ConnectPort partition connection port_partition port port_kind) f c
 }
 
 abbrev pub served_effect : Flat → ℕ → Option Call → Flat
-served_effect f caller None = f
-served_effect f caller (Some call) = call_effect call f caller (target_of call caller)
+served_effect f caller call = option_map_or (λ call. call_effect call f caller (target_of call caller)) call f
 
 -- what an access changes is at the calling processor
 abbrev pub action_effect : {A : Type 0} → Flat → Caller → Action A → Flat

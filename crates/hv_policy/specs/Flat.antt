@@ -40,7 +40,8 @@ pub record PortRow : Type 0 where
   pub count : ℕ
   pub born : ℕ
 
--- a connection: the partition and id of its port, and the port's kind and birth when it was made
+-- a connection: the partition and id of its port, and the port's birth and kind when it was made. The kind is kept, and no rule
+-- reads it
 pub record ConnRow : Type 0 where
   pub part : ℕ
   pub port : ℕ

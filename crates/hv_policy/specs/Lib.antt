@@ -1,11 +1,8 @@
 pub mod Aim
-pub mod Allowed
 pub mod Answer
-pub mod Asked
 pub mod Boot
 pub mod BootFault
 pub mod Call
-pub mod CallEvent
 pub mod Count
 pub mod Effect
 pub mod Flat
@@ -17,5 +14,6 @@ pub mod Parts
 pub mod Property
 pub mod Result
 pub mod Rule
+pub mod Rules
 pub mod Same
 pub mod Step

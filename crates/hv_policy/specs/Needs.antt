@@ -1,12 +1,12 @@
--- The table of calls: what each needs of its caller and its target, and which rules it is asked beyond P10.
-use Rattle.std.specs.Prelude.{ℕ, Bool, true, false, List, [], ◌∷◌, Option, None, Some}
+-- The table of calls: what each needs of its caller and its target, and what it costs.
+use Rattle.std.specs.Prelude.{ℕ, ◌==◌, Bool, true, false, if◌then◌else◌, Option, None, Some}
 use Rattle.hv_abi.specs.declared.call_kind.CallKind.{CallKind}
-use Rattle.hv_abi.specs.declared.call_kind.CallKind.TheVariants.{CreatePartition, InitializePartition, FinalizePartition, DeletePartition, GetPartitionProperty, SetPartitionProperty, GetPartitionId, GetNextChildPartition, DepositMemory, WithdrawMemory, GetMemoryBalance, CreateVp, DeleteVp, GetVpRegisters, SetVpRegisters, DeletePort, DisconnectPort, PostMessage, SignalEvent, CreatePort, ConnectPort}
+use Rattle.hv_abi.specs.declared.call_kind.CallKind.TheVariants.{CreatePartition, DeletePartition, DepositMemory, WithdrawMemory, CreateVp, PostMessage, CreatePort, ConnectPort}
 use Rattle.hv_calls.specs.declared.call.Call.{Call}
 use Rattle.hv_calls.specs.declared.call.Call.TheVariants as call
 use Rattle.hv_defs.specs.declared.life.Life.{Life}
 use Rattle.hv_defs.specs.declared.life.Life.TheVariants as life
-use Rattle.hv_defs.specs.declared.sizes.TheConstants.{PARTITION_CHARGE, VP_CHARGE, PORT_CHARGE, CONNECTION_CHARGE}
+use Rattle.hv_defs.specs.declared.sizes.TheConstants.{PARTITION_CHARGE, VP_CHARGE, PORT_CHARGE, CONNECTION_CHARGE, SELF_ID}
 use Rattle.hv_privs.specs.declared.Privileges.{Privileges}
 use Rattle.hv_privs.specs.declared.TheConstants.Privileges as privilege
 use Rattle.hv_policy.specs.declared.need.Kin.{Kin}
@@ -17,27 +17,17 @@ use Rattle.hv_policy.specs.declared.need.States.TheVariants as states
 use Rattle.hv_policy.specs.Property.{property_of}
 use Rattle.hv_policy.specs.declared.property.Property.{Property}
 use Rattle.hv_policy.specs.declared.property.Property.TheVariants.{PrivilegeFlags, CpuReserve, CpuCap, CpuWeight}
-use Rattle.hv_policy.specs.declared.rule.Rule.{Rule}
-use Rattle.hv_policy.specs.declared.rule.Rule.TheVariants.{PropertyKnown, TargetState, NoChildren, Depth, OtherExists, Connection, Port, Right, VpExists, PropertyRange, Subject, VpReady, PortRoom, Pages}
 
 -- whether a life state is one of these
 abbrev pub is_among : Life → States → Bool
 is_among life states.Any = true
 is_among life.Created states.Created = true
-is_among life.Active states.Created = false
-is_among life.Finalized states.Created = false
-is_among life.Created states.Active = false
 is_among life.Active states.Active = true
-is_among life.Finalized states.Active = false
 is_among life.Created states.CreatedOrActive = true
 is_among life.Active states.CreatedOrActive = true
-is_among life.Finalized states.CreatedOrActive = false
 is_among life.Created states.CreatedOrFinalized = true
-is_among life.Active states.CreatedOrFinalized = false
 is_among life.Finalized states.CreatedOrFinalized = true
-
-abbrev row : Privileges → Kin → States → Need
-row privilege kin states = record { privilege = privilege; kin = kin; states = states }
+is_among life states = false
 
 -- the life states in which a property may be set: the mask before the partition runs, the others while it does too
 abbrev pub states_to_set : Option Property → States
@@ -47,98 +37,66 @@ states_to_set (Some CpuReserve) = states.CreatedOrActive
 states_to_set (Some CpuCap) = states.CreatedOrActive
 states_to_set (Some CpuWeight) = states.CreatedOrActive
 
--- the privilege, which partitions may be the target, and its life states
+-- a line of the table: the privilege, which partitions may be the target and their life states; the partition that the block
+-- names first as the target, or none, and then it is the caller; and the pages of the target's pool that serving it uses
+pub record Line : Type 0 where
+  pub need : Need
+  pub named : Option ℕ
+  pub charge : ℕ
+
+abbrev line : Privileges → Kin → Option ℕ → States → ℕ → Line
+line privilege kin named states charge =
+    record { need = record { privilege = privilege; kin = kin; states = states }; named = named; charge = charge }
+
+abbrev pub line_of : Call → Line
+line_of (call.CreatePartition flags) = line privilege.CREATE_PARTITIONS kin.Caller None states.Any PARTITION_CHARGE
+line_of (call.InitializePartition partition) = line privilege.CREATE_PARTITIONS kin.Child (Some partition) states.Created 0
+line_of (call.FinalizePartition partition) = line privilege.CREATE_PARTITIONS kin.Child (Some partition) states.CreatedOrActive 0
+line_of (call.DeletePartition partition) = line privilege.CREATE_PARTITIONS kin.Child (Some partition) states.CreatedOrFinalized 0
+line_of (call.GetPartitionProperty partition code) = line privilege.CREATE_PARTITIONS kin.CallerOrChild (Some partition) states.Any 0
+line_of (call.SetPartitionProperty partition code value) = line privilege.CREATE_PARTITIONS kin.Child (Some partition) (states_to_set (property_of code)) 0
+line_of call.GetPartitionId = line privilege.ACCESS_PARTITION_ID kin.Caller None states.Any 0
+line_of (call.GetNextChildPartition partition previous) = line privilege.CREATE_PARTITIONS kin.CallerOrChild (Some partition) states.Any 0
+line_of (call.DepositMemory partition page) = line privilege.ACCESS_MEMORY_POOL kin.CallerOrChild (Some partition) states.CreatedOrActive 0
+line_of (call.WithdrawMemory partition) = line privilege.ACCESS_MEMORY_POOL kin.CallerOrChild (Some partition) states.Any 1
+line_of (call.GetMemoryBalance partition) = line privilege.ACCESS_MEMORY_POOL kin.CallerOrChild (Some partition) states.Any 0
+line_of (call.CreateVp partition vp) = line privilege.CREATE_PARTITIONS kin.CallerOrChild (Some partition) states.Active VP_CHARGE
+line_of (call.DeleteVp partition vp) = line privilege.CREATE_PARTITIONS kin.CallerOrChild (Some partition) states.Active 0
+line_of (call.GetVpRegisters partition vp name) = line privilege.CREATE_PARTITIONS kin.CallerOrChild (Some partition) states.Active 0
+line_of (call.SetVpRegisters partition vp name value) = line privilege.CREATE_PARTITIONS kin.CallerOrChild (Some partition) states.Active 0
+line_of (call.DeletePort partition port) = line privilege.CREATE_PORT kin.CallerOrChild (Some partition) states.Active 0
+line_of (call.DisconnectPort partition connection) = line privilege.CONNECT_PORT kin.CallerOrChild (Some partition) states.Active 0
+line_of (call.PostMessage connection message_type payload) = line privilege.POST_MESSAGES kin.Caller None states.Any 0
+line_of (call.SignalEvent connection flag) = line privilege.SIGNAL_EVENTS kin.Caller None states.Any 0
+line_of (call.CreatePort partition port peer port_kind sint vp base count) = line privilege.CREATE_PORT kin.CallerOrChild (Some partition) states.Active PORT_CHARGE
+line_of (call.ConnectPort partition connection port_partition port port_kind) = line privilege.CONNECT_PORT kin.CallerOrChild (Some partition) states.Active CONNECTION_CHARGE
+
 abbrev pub needs_of : Call → Need
-needs_of (call.CreatePartition flags) = row privilege.CREATE_PARTITIONS kin.Caller states.Any
-needs_of (call.InitializePartition partition) = row privilege.CREATE_PARTITIONS kin.Child states.Created
-needs_of (call.FinalizePartition partition) = row privilege.CREATE_PARTITIONS kin.Child states.CreatedOrActive
-needs_of (call.DeletePartition partition) = row privilege.CREATE_PARTITIONS kin.Child states.CreatedOrFinalized
-needs_of (call.GetPartitionProperty partition code) = row privilege.CREATE_PARTITIONS kin.CallerOrChild states.Any
-needs_of (call.SetPartitionProperty partition code value) = row privilege.CREATE_PARTITIONS kin.Child (states_to_set (property_of code))
-needs_of call.GetPartitionId = row privilege.ACCESS_PARTITION_ID kin.Caller states.Any
-needs_of (call.GetNextChildPartition partition previous) = row privilege.CREATE_PARTITIONS kin.CallerOrChild states.Any
-needs_of (call.DepositMemory partition page) = row privilege.ACCESS_MEMORY_POOL kin.CallerOrChild states.CreatedOrActive
-needs_of (call.WithdrawMemory partition) = row privilege.ACCESS_MEMORY_POOL kin.CallerOrChild states.Any
-needs_of (call.GetMemoryBalance partition) = row privilege.ACCESS_MEMORY_POOL kin.CallerOrChild states.Any
-needs_of (call.CreateVp partition vp) = row privilege.CREATE_PARTITIONS kin.CallerOrChild states.Active
-needs_of (call.DeleteVp partition vp) = row privilege.CREATE_PARTITIONS kin.CallerOrChild states.Active
-needs_of (call.GetVpRegisters partition vp name) = row privilege.CREATE_PARTITIONS kin.CallerOrChild states.Active
-needs_of (call.SetVpRegisters partition vp name value) = row privilege.CREATE_PARTITIONS kin.CallerOrChild states.Active
-needs_of (call.DeletePort partition port) = row privilege.CREATE_PORT kin.CallerOrChild states.Active
-needs_of (call.DisconnectPort partition connection) = row privilege.CONNECT_PORT kin.CallerOrChild states.Active
-needs_of (call.PostMessage connection message_type payload) = row privilege.POST_MESSAGES kin.Caller states.Any
-needs_of (call.SignalEvent connection flag) = row privilege.SIGNAL_EVENTS kin.Caller states.Any
-needs_of (call.CreatePort partition port peer port_kind sint vp base count) = row privilege.CREATE_PORT kin.CallerOrChild states.Active
-needs_of (call.ConnectPort partition connection port_partition port port_kind) = row privilege.CONNECT_PORT kin.CallerOrChild states.Active
+needs_of call = (line_of call).need
 
--- the rules that the call is asked beyond P10, rising
-abbrev pub further_rules : CallKind → List Rule
-further_rules CreatePartition = Depth ∷ Pages ∷ []
-further_rules InitializePartition = TargetState ∷ []
-further_rules FinalizePartition = TargetState ∷ NoChildren ∷ []
-further_rules DeletePartition = TargetState ∷ []
-further_rules GetPartitionProperty = PropertyKnown ∷ []
-further_rules SetPartitionProperty = PropertyKnown ∷ TargetState ∷ Right ∷ PropertyRange ∷ []
-further_rules GetPartitionId = []
-further_rules GetNextChildPartition = OtherExists ∷ []
-further_rules DepositMemory = TargetState ∷ Subject ∷ []
-further_rules WithdrawMemory = Pages ∷ []
-further_rules GetMemoryBalance = []
-further_rules CreateVp = TargetState ∷ VpExists ∷ Pages ∷ []
-further_rules DeleteVp = TargetState ∷ VpExists ∷ []
-further_rules GetVpRegisters = TargetState ∷ Right ∷ VpExists ∷ Subject ∷ []
-further_rules SetVpRegisters = TargetState ∷ Right ∷ VpExists ∷ Subject ∷ []
-further_rules DeletePort = TargetState ∷ Port ∷ []
-further_rules DisconnectPort = TargetState ∷ Connection ∷ []
-further_rules PostMessage = Connection ∷ Port ∷ VpExists ∷ Subject ∷ VpReady ∷ PortRoom ∷ []
-further_rules SignalEvent = Connection ∷ Port ∷ VpExists ∷ Subject ∷ VpReady ∷ []
-further_rules CreatePort = TargetState ∷ OtherExists ∷ Port ∷ VpExists ∷ Pages ∷ []
-further_rules ConnectPort = TargetState ∷ OtherExists ∷ Connection ∷ Port ∷ Right ∷ Subject ∷ Pages ∷ []
+abbrev pub charge_of : Call → ℕ
+charge_of call = (line_of call).charge
 
--- the pages of its target's pool that serving it uses
-abbrev pub charge_of : CallKind → ℕ
-charge_of CreatePartition = PARTITION_CHARGE
-charge_of InitializePartition = 0
-charge_of FinalizePartition = 0
-charge_of DeletePartition = 0
-charge_of GetPartitionProperty = 0
-charge_of SetPartitionProperty = 0
-charge_of GetPartitionId = 0
-charge_of GetNextChildPartition = 0
-charge_of DepositMemory = 0
-charge_of WithdrawMemory = 1
-charge_of GetMemoryBalance = 0
-charge_of CreateVp = VP_CHARGE
-charge_of DeleteVp = 0
-charge_of GetVpRegisters = 0
-charge_of SetVpRegisters = 0
-charge_of DeletePort = 0
-charge_of DisconnectPort = 0
-charge_of PostMessage = 0
-charge_of SignalEvent = 0
-charge_of CreatePort = PORT_CHARGE
-charge_of ConnectPort = CONNECTION_CHARGE
+-- the partition that an id in a block means: all ones is the caller's own
+abbrev pub meant_id : ℕ → ℕ → ℕ
+meant_id caller id = if id == SELF_ID then caller else id
 
--- whether serving it may need memory of the host
+abbrev pub target_at : Option ℕ → ℕ → ℕ
+target_at None caller = caller
+target_at (Some id) caller = meant_id caller id
+
+-- the target of a call
+abbrev pub target_of : Call → ℕ → ℕ
+target_of call caller = target_at (line_of call).named caller
+
+-- whether serving a call may need memory of the host
 abbrev pub takes_memory : CallKind → Bool
 takes_memory CreatePartition = true
-takes_memory InitializePartition = false
-takes_memory FinalizePartition = false
 takes_memory DeletePartition = true
-takes_memory GetPartitionProperty = false
-takes_memory SetPartitionProperty = false
-takes_memory GetPartitionId = false
-takes_memory GetNextChildPartition = false
 takes_memory DepositMemory = true
 takes_memory WithdrawMemory = true
-takes_memory GetMemoryBalance = false
 takes_memory CreateVp = true
-takes_memory DeleteVp = false
-takes_memory GetVpRegisters = false
-takes_memory SetVpRegisters = false
-takes_memory DeletePort = false
-takes_memory DisconnectPort = false
 takes_memory PostMessage = true
-takes_memory SignalEvent = false
 takes_memory CreatePort = true
 takes_memory ConnectPort = true
+takes_memory kind = false

@@ -1,5 +1,5 @@
 -- A reply in two parts: how the event was answered, and what it put out.
-use Rattle.std.specs.Prelude.{ℕ, List, []}
+use Rattle.std.specs.Prelude.{ℕ, List}
 use Rattle.hv_policy.specs.declared.answer.Answer.{Answer}
 use Rattle.hv_policy.specs.declared.answer.Answer.TheVariants as answer
 use Rattle.hv_policy.specs.declared.reply.Reply.{Reply}

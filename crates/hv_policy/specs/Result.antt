@@ -1,5 +1,6 @@
 -- The result value of a call.
-use Rattle.std.specs.Prelude.{ℕ, ◌<◌, if◌then◌else◌, Option, None, Some}
+use Rattle.std.specs.Prelude.{ℕ, ◌<◌, if◌then◌else◌, Option}
+use Rattle.std.specs.Option.{option_map_or}
 use Rattle.hv_defs.specs.declared.sizes.TheConstants.{REPS_END}
 use Rattle.hv_defs.specs.Bits.{bits}
 use Rattle.hv_abi.specs.CallRow.{kind_of, row_of}
@@ -16,21 +17,13 @@ use Rattle.hv_policy.specs.declared.reply.Reply.TheVariants.{Served, More, Denie
 abbrev pub kind_in : ℕ → Option CallKind
 kind_in rcx = kind_of (bits rcx 0 16)
 
-abbrev pub start_if_valid : ℕ → Option CallKind → ℕ
-start_if_valid rcx None = 0
-start_if_valid rcx (Some kind) = if is_input_valid (row_of kind) rcx then bits rcx 48 12 else 0
-
 -- the reps completed of a call that was refused: its start index where P4 and P5 are met, else 0
 abbrev pub refused_reps : ℕ → ℕ
-refused_reps rcx = start_if_valid rcx (kind_in rcx)
-
-abbrev pub count_if_rep : ℕ → Option CallKind → ℕ
-count_if_rep rcx None = 0
-count_if_rep rcx (Some kind) = if (row_of kind).rep then bits rcx 32 12 else 0
+refused_reps rcx = option_map_or (λ kind. if is_input_valid (row_of kind) rcx then bits rcx 48 12 else 0) (kind_in rcx) 0
 
 -- the reps completed of a call whose last element was served: all of them, and none of a simple call
 abbrev pub completed_reps : ℕ → ℕ
-completed_reps rcx = count_if_rep rcx (kind_in rcx)
+completed_reps rcx = option_map_or (λ kind. if (row_of kind).rep then bits rcx 32 12 else 0) (kind_in rcx) 0
 
 -- the result value of a frame and its reply, which counts reps from the first element of the list
 abbrev pub result_of : {A : Type 0} → Frame A → Reply → ℕ

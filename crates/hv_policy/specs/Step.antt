@@ -1,32 +1,23 @@
 -- The flat machine.
-use Rattle.std.specs.Prelude.{not, List, [], ◌∷◌, Option, None, Some, find}
+use Rattle.std.specs.Prelude.{List, [], ◌∷◌, Option, None, Some}
 use Rattle.std.specs.List.{Contains}
 use Rattle.hv_abi.specs.Check.{call_of}
 use Rattle.hv_abi.specs.declared.status.Status.{Status}
 use Rattle.hv_abi.specs.declared.frame.Frame.{Frame}
 use Rattle.hv_policy.specs.declared.config.Config.{Config}
 use Rattle.hv_policy.specs.declared.event.Action.{Action}
-use Rattle.hv_policy.specs.declared.event.Action.TheVariants.{Hypercall, ReadMsr, WriteMsr, ReadSlot, ClearSlot, ReadFlags, ClearFlag, TakeInterrupt}
+use Rattle.hv_policy.specs.declared.event.Action.TheVariants.{Hypercall}
 use Rattle.hv_policy.specs.declared.event.Event.{Event}
 use Rattle.hv_policy.specs.declared.reply.Reply.{Reply}
 use Rattle.hv_policy.specs.declared.reply.Reply.TheVariants.{Served, More, Denied, Fault}
 use Rattle.hv_policy.specs.declared.rule.Rule.{Rule}
 use Rattle.hv_policy.specs.Answer.{answer}
-use Rattle.hv_policy.specs.Asked.{asked}
 use Rattle.hv_policy.specs.Boot.{boot}
 use Rattle.hv_policy.specs.Effect.{effect}
 use Rattle.hv_policy.specs.Flat.{Flat}
-use Rattle.hv_policy.specs.Met.{met}
 use Rattle.hv_policy.specs.Result.{refused_reps}
 use Rattle.hv_policy.specs.Rule.{rule_status}
-
--- the first of these rules that isn't met, if there is one
-abbrev pub first_unmet : {A : Type 0} → Flat → Event A → List Rule → Option Rule
-first_unmet f event rules = find (λ rule. not (met rule f event)) rules
-
--- the first rule that is asked and isn't met
-abbrev pub unmet : {A : Type 0} → Flat → Event A → Option Rule
-unmet f event = first_unmet f event (asked event)
+use Rattle.hv_policy.specs.Rules.{asked, unmet}
 
 abbrev pub denied_with : {A : Type 0} → Frame A → Rule → Option Status → Reply
 denied_with frame rule None = Fault rule
@@ -35,13 +26,7 @@ denied_with frame rule (Some status) = Denied rule status (refused_reps frame.rc
 -- the reply to an event that a rule refuses: a call is denied with the rule's status, an access has a fault
 abbrev pub refusal : {A : Type 0} → Action A → Rule → Reply
 refusal (Hypercall frame) rule = denied_with frame rule (rule_status rule (call_of frame))
-refusal (ReadMsr msr) rule = Fault rule
-refusal (WriteMsr msr value) rule = Fault rule
-refusal (ReadSlot sint) rule = Fault rule
-refusal (ClearSlot sint) rule = Fault rule
-refusal (ReadFlags sint) rule = Fault rule
-refusal (ClearFlag sint flag) rule = Fault rule
-refusal TakeInterrupt rule = Fault rule
+refusal access rule = Fault rule
 
 abbrev pub step_by : {A : Type 0} → Flat → Event A → Option Rule → Flat × Reply
 step_by f event None = (effect f event, answer f event)
@@ -51,12 +36,15 @@ step_by f event (Some rule) = (f, refusal event.what rule)
 abbrev pub step : {A : Type 0} → Flat → Event A → Flat × Reply
 step f event = step_by f event (unmet f event)
 
--- the rule of a refusal is one that is asked
+-- the rule of a refusal is one that is asked, whatever the state
+abbrev pub IsAsked : {A : Type 0} → Event A → Rule → Type 0
+IsAsked event rule = (f : Flat) → Contains (asked f event) rule
+
 abbrev pub NamesAsked : {A : Type 0} → Event A → Reply → Type 0
 NamesAsked event (Served output) = Unit {0}
 NamesAsked event (More next output) = Unit {0}
-NamesAsked event (Denied rule status reps) = Contains (asked event) rule
-NamesAsked event (Fault rule) = Contains (asked event) rule
+NamesAsked event (Denied rule status reps) = IsAsked event rule
+NamesAsked event (Fault rule) = IsAsked event rule
 
 abbrev pub run_from : {A : Type 0} → Flat → List (Event A) → Flat × List Reply
 run_from f [] = (f, [])

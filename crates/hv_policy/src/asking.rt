@@ -1,11 +1,9 @@
 // The rules that look at a frame alone.
-ghost use Rattle.std.specs.Prelude.{◌≡◌, None, Some, IfOk, IfErr, OnOk};
+ghost use Rattle.std.specs.Prelude.{◌≡◌, ℕ, None, Some, IfOk, IfErr};
 ghost use Rattle.hv_abi.specs.Check.{IsShape, call_of};
-ghost use Rattle.hv_policy.specs.Asked.{call_rules, frame_rules};
-ghost use Rattle.hv_policy.specs.CallEvent.{IsCall, call_event};
+ghost use Rattle.hv_policy.specs.Call.{IsCall};
 ghost use Rattle.hv_policy.specs.Flat.{Flat};
-ghost use Rattle.hv_policy.specs.Step.{first_unmet};
-ghost use Rattle.hv_policy.specs.declared.event.Caller.{Caller as By};
+ghost use Rattle.hv_policy.specs.Rules.{first_unmet, frame_asks, hypercall_asks};
 
 use crate::rule::Rule;
 use hv_abi::{AbiFault, Frame, Shape};
@@ -16,8 +14,8 @@ use std::alloc::Allocator;
 pub fn ask_frame<A: Allocator>(frame: &Frame<A>) -> Result<(Shape, Call<'_>), Rule>
     ensures shape { IfOk result (λ asked. IsShape frame.now asked.0) }
     ensures call { IfOk result (λ asked. IsCall frame.now asked.0 asked.1) }
-    ensures met { OnOk result ((f : Flat) (by : By) → first_unmet f (call_event by frame.now) frame_rules ≡ None) }
-    ensures first { IfErr result (λ rule. (f : Flat) (by : By) → first_unmet f (call_event by frame.now) (call_rules (call_of frame.now)) ≡ Some rule) }
+    ensures met { IfOk result (λ asked. first_unmet (frame_asks asked.0.kind frame.now) ≡ None) }
+    ensures first { IfErr result (λ rule. (f : Flat) (caller : ℕ) → first_unmet (hypercall_asks f caller frame.now (call_of frame.now)) ≡ Some rule) }
 {
     let shape = match frame.check() {
         Ok(shape) => shape,

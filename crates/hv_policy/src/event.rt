@@ -1,5 +1,7 @@
 // What happens, one at a time.
-ghost use Rattle.std.specs.Prelude.{◌≡◌, IfOk};
+ghost use Rattle.std.specs.Prelude.{◌≡◌, IfErr, IfOk};
+ghost use Rattle.hv_policy.specs.Call.{action_of};
+ghost use Rattle.hv_policy.specs.declared.event.Action.TheVariants.{Hypercall};
 
 use hv_abi::Frame;
 use std::alloc::{AllocError, Allocator};
@@ -32,11 +34,42 @@ pub enum Action<A: Allocator> {
     TakeInterrupt,
 }
 
+/// What a virtual processor does by itself, without a hypercall: an [`Action`] but for the first of them.
+#[derive(Clone, Copy, PartialEq, Eq, Debug)]
+pub enum Access {
+    ReadMsr(u32),
+    WriteMsr(u32, u64),
+    ReadSlot(u8),
+    ClearSlot(u8),
+    ReadFlags(u8),
+    ClearFlag(u8, u16),
+    TakeInterrupt,
+}
+
 /// One event: a simple hypercall, one element of a rep hypercall, or one access.
 #[derive(Drop)]
 pub struct Event<A: Allocator> {
     pub by: Caller,
     pub what: Action<A>,
+}
+
+impl<A: Allocator> Action<A> {
+    /// The access that it is, or else the frame of the hypercall.
+    pub fn as_access(&self) -> Result<Access, &Frame<A>>
+        ensures access { IfOk result (λ access. action_of access ≡ self.now) }
+        ensures call { IfErr result (λ frame. Hypercall frame.now ≡ self.now) }
+    {
+        match self {
+            Action::Hypercall(frame) => Err(frame),
+            Action::ReadMsr(msr) => Ok(Access::ReadMsr(*msr)),
+            Action::WriteMsr(msr, value) => Ok(Access::WriteMsr(*msr, *value)),
+            Action::ReadSlot(sint) => Ok(Access::ReadSlot(*sint)),
+            Action::ClearSlot(sint) => Ok(Access::ClearSlot(*sint)),
+            Action::ReadFlags(sint) => Ok(Access::ReadFlags(*sint)),
+            Action::ClearFlag(sint, flag) => Ok(Access::ClearFlag(*sint, *flag)),
+            Action::TakeInterrupt => Ok(Access::TakeInterrupt),
+        }
+    }
 }
 
 impl<A: Allocator + Clone> Action<A> {

@@ -24,7 +24,7 @@ mod rule;
 pub use answer::{Answer, CallOutput, CallReply};
 pub use asking::ask_frame;
 pub use config::{BootRefused, Config};
-pub use event::{Action, Caller, Event};
+pub use event::{Access, Action, Caller, Event};
 pub use need::{Kin, Need, States, needs, states_to_set};
 pub use property::{ALL_PROPERTIES, Property};
 pub use reply::{Output, Reply};

@@ -149,26 +149,6 @@ fn pages_status(call: Option<CallKind>) -> Status
 {
     match call {
         Some(CallKind::WithdrawMemory) => Status::NoResources,
-        None
-        | Some(CallKind::CreatePartition)
-        | Some(CallKind::InitializePartition)
-        | Some(CallKind::FinalizePartition)
-        | Some(CallKind::DeletePartition)
-        | Some(CallKind::GetPartitionProperty)
-        | Some(CallKind::SetPartitionProperty)
-        | Some(CallKind::GetPartitionId)
-        | Some(CallKind::GetNextChildPartition)
-        | Some(CallKind::DepositMemory)
-        | Some(CallKind::GetMemoryBalance)
-        | Some(CallKind::CreateVp)
-        | Some(CallKind::DeleteVp)
-        | Some(CallKind::GetVpRegisters)
-        | Some(CallKind::SetVpRegisters)
-        | Some(CallKind::DeletePort)
-        | Some(CallKind::DisconnectPort)
-        | Some(CallKind::PostMessage)
-        | Some(CallKind::SignalEvent)
-        | Some(CallKind::CreatePort)
-        | Some(CallKind::ConnectPort) => { Status::InsufficientMemory }
+        _ => Status::InsufficientMemory,
     }
 }
