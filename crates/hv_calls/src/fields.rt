@@ -36,7 +36,8 @@ fn bytes_at<A: Allocator, const N: usize>(frame: &Frame<A>, shape: &Shape, at: u
     requires place { at < 2 ^ 33 }
     requires few { N < 9 }
     ensures len { length result ≡ N }
-    ensures bytes { (k : ℕ) → k < N → slice_index result k ≡ slice_index (input_of frame.now shape.now.fast) (at + k) }
+    ensures bytes { (k : ℕ) → k < N → slice_index result k
+        ≡ slice_index (input_of frame.now shape.now.fast) (at + k) }
 {
     let mut bytes = [0; N];
     let input = frame.input.as_slice();

@@ -17,7 +17,8 @@ const VERSION: &str = "0.1.0";
 /// Reads the words of the command line, of which the first is the program's name, as in `env::args`.
 /// `--serial` and `--table` may be given or not.
 pub fn options<'a, S: AsStr>(alloc: Global, words: &'a [S]) -> Result<Options<'a>, Usage>
-    ensures said { IfOk result (λ o. said_by (map S.text words.entry.now) ≡ Some (o.script.now, o.serial, o.table)) }
+    ensures said { IfOk result (λ o. said_by (map S.text words.entry.now)
+        ≡ Some (o.script.now, o.serial, o.table)) }
     ensures faultless { OnOk result (faults_of (map S.text words.entry.now) ≡ []) }
     ensures refused { IfErr result (Explains (faults_of (map S.text words.entry.now))) }
     ensures accepted { (script : List ℕ) (serial table : Bool) → faults_of (map S.text words.entry.now) ≡ []
@@ -89,7 +90,8 @@ fn flag<'a>(alloc: Global, name: &'a str, help: &'a str) -> Arg<'a>
 fn read<'a>(alloc: Global, matches: &ArgMatches<'a>) -> Result<Options<'a>, Usage>
     ensures said { IfOk result (λ o. said_by_matches matches.now ≡ Some (o.script.now, o.serial, o.table)) }
     ensures refused { IfErr result (Explains []) }
-    ensures accepted { (script : List ℕ) (serial table : Bool) → said_by_matches matches.now ≡ Some (script, serial, table)
+    ensures accepted { (script : List ℕ) (serial table : Bool) → said_by_matches matches.now
+        ≡ Some (script, serial, table)
         → IfErr result (λ usage. usage ≡ Usage.Memory) }
 {
     let Some((_, run)) = matches.subcommand() else {

@@ -8,8 +8,9 @@ use std::simd::prelude::*;
 // How many bytes are looked at.
 const BLOCK: usize = 32;
 
-/// The first line of a text, a bit for each of its bytes, set where the byte isn't a space, and what stands after its line
-/// feed: if that is the first byte of the text that isn't good, and one of the first 32.
+/// The first line of a text, a bit for each of its bytes, set where the byte isn't a space, and what
+/// stands after its line feed: if that is the first byte of the text that isn't good, and one of the
+/// first 32.
 #[inline(always)]
 pub fn short_line(text: &[u8]) -> Option<(&[u8], u64, &[u8])>
     ensures lines { IfSome result (λ cut. lines_of text.now ≡ cut.0.now ∷ lines_of cut.2.now) }

@@ -60,7 +60,8 @@ impl<'a> CutLine<'a> {
         }
     }
 
-    // A short line of good bytes that is cut by a bit for each of its bytes, set where the byte isn't a space.
+    // A short line of good bytes that is cut by a bit for each of its bytes, set where the byte isn't a
+    // space.
     #[inline(always)]
     fn of_bits(line: &'a [u8], bits: u64) -> CutLine<'a>
         requires good { has_good_bytes line.now ≡ true }
@@ -145,7 +146,8 @@ pub fn next_line(text: &[u8]) -> (CutLine<'_>, Option<&[u8]>)
     (CutLine::of(line, is_good), rest)
 }
 
-// The first line of a text, whether its bytes may stand in a script, and what stands after its line feed, if it has one.
+// The first line of a text, whether its bytes may stand in a script, and what stands after its line
+// feed, if it has one.
 fn long_line(text: &[u8]) -> (&[u8], bool, Option<&[u8]>)
     ensures lines { lines_of text.now ≡ result.0.now ∷ lines_left (option_copied result.2) }
     ensures shorter { most_left (option_copied result.2) ≤ length text.now }

@@ -1,9 +1,10 @@
-//! The language of scripts, which is this project's own: from a script's bytes to its boot line's numbers and the lines
-//! of its processors.
+//! The language of scripts, which is this project's own: from a script's bytes to its boot line's
+//! numbers and the lines of its processors.
 //!
-//! [`parse`] reads a whole script or finds its first fault, by line and [`FaultKind`], whose `Display` is the fault's
-//! text. `script_of` in `specs/Script.antt` says which script or which fault a text is, and the contract of `parse` is that
-//! it gives that one, want of memory apart. What a number, the bytes, a word and a line are stands beside it.
+//! [`parse`] reads a whole script or finds its first fault, by line and [`FaultKind`], whose `Display`
+//! is the fault's text. `script_of` in `specs/Script.antt` says which script or which fault a text is,
+//! and the contract of `parse` is that it gives that one, want of memory apart. What a number, the
+//! bytes, a word and a line are stands beside it.
 #![tactic(auto)]
 
 mod block;

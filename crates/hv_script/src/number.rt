@@ -1,5 +1,6 @@
 // Numbers and bytes, as words of a script.
-ghost use Rattle.std.specs.Prelude.{◌≡◌, ◌^◌, ◌<◌, ◌≤◌, ◌*◌, ◌+◌, ◌/◌, ◌%◌, ◌++◌, [], ◌∷◌, IfErr, OnOk, length, vec_capacity, vec_len};
+ghost use Rattle.std.specs.Prelude.{◌≡◌, ◌^◌, ◌<◌, ◌≤◌, ◌*◌, ◌+◌, ◌/◌, ◌%◌, ◌++◌, [], ◌∷◌, IfErr, OnOk};
+ghost use Rattle.std.specs.Prelude.{length, vec_capacity, vec_len};
 ghost use Rattle.std.specs.Char.{digit_value};
 ghost use Rattle.std.specs.Option.{SomeIff};
 ghost use Rattle.std.specs.Str.Parse.{AllDigits, IsNumeral, digits_value};
@@ -122,7 +123,8 @@ fn hex_digit(byte: u8) -> Option<u8>
 fn digits(word: &[u8], base: u64) -> Option<u64>
     requires least { 2 ≤ base }
     requires most { base ≤ 16 }
-    ensures { SomeIff result (IsNumeral base word.now × (digits_value base word.now < 2 ^ 64)) (digits_value base word.now) }
+    ensures { SomeIff result (IsNumeral base word.now
+        × (digits_value base word.now < 2 ^ 64)) (digits_value base word.now) }
 {
     match word {
         [] => None,
@@ -163,7 +165,8 @@ fn few_digits(word: &[u8], base: u64) -> Option<u64>
 fn many_digits(word: &[u8], base: u64) -> Option<u64>
     requires least { 2 ≤ base }
     requires most { base ≤ 16 }
-    ensures { SomeIff result (AllDigits base word.now × (digits_value base word.now < 2 ^ 64)) (digits_value base word.now) }
+    ensures { SomeIff result (AllDigits base word.now
+        × (digits_value base word.now < 2 ^ 64)) (digits_value base word.now) }
 {
     let mut value = 0u64;
     for byte in word {

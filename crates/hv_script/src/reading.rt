@@ -30,7 +30,8 @@ impl<A: Allocator + Clone> Reading<A> {
     ghost use Rattle.hv_script.specs.Callers.{is_among};
     ghost use Rattle.hv_script.specs.Fault.{IsRead};
     ghost use Rattle.hv_script.specs.Reading.{phase_by, read_by, so_far};
-    ghost use Rattle.hv_script.specs.Script.{first_line, later_line, phase_line, processor_line, read_line, with_line};
+    ghost use Rattle.hv_script.specs.Script.{first_line, later_line, phase_line, processor_line, read_line};
+    ghost use Rattle.hv_script.specs.Script.{with_line};
     ghost use Rattle.hv_script.specs.Words.{words_of};
 
     /// Reads a line after what was read before it.

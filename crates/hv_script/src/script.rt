@@ -26,12 +26,13 @@ pub struct Script<A: Allocator> {
     pub lines: Vec<Line<A>, A>,
 }
 
-/// Reads a script, or finds its first fault: the first line with a fault decides, and in a line the order of the
-/// kinds of faults. Want of memory is told as one, whatever faults come after it.
+/// Reads a script, or finds its first fault: the first line with a fault decides, and in a line the
+/// order of the kinds of faults. Want of memory is told as one, whatever faults come after it.
 #[tactic(auto, unfolding(crate::specs::Script::script_of))]
 pub fn parse<A: Allocator + Clone>(alloc: A, text: &[u8]) -> Result<Script<A>, ScriptFault>
     ensures script { IfOk result (λ script. script_of text.now ≡ Ok (said script)) }
-    ensures fault { IfErr result (λ fault. fault.kind ≢ FaultKind.Memory → script_of {A = A} text.now ≡ Err fault) }
+    ensures fault { IfErr result (λ fault. fault.kind ≢ FaultKind.Memory → script_of {A = A} text.now
+        ≡ Err fault) }
     ensures long { MOST < length text.now → result ≡ Err (record { line = 0; kind = FaultKind.Long }) }
 {
     if text.len() > MOST_BYTES {
@@ -61,7 +62,8 @@ fn read_lines<A: Allocator + Clone>(
 ) -> Result<Option<Reading<A>>, ScriptFault>
     requires { length text.now ≤ MOST }
     ensures read { IfOk result (λ reading. read_lines 1 None (lines_of text.now) ≡ Ok (read_by reading)) }
-    ensures fault { IfErr result (λ fault. fault.kind ≢ FaultKind.Memory → read_lines {A = A} 1 None (lines_of text.now) ≡ Err fault) }
+    ensures fault { IfErr result (λ fault. fault.kind ≢ FaultKind.Memory
+        → read_lines {A = A} 1 None (lines_of text.now) ≡ Err fault) }
 {
     let mut reading = None;
     let mut number = 0usize;
