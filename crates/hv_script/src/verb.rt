@@ -1,7 +1,8 @@
 // What a processor's line may ask for.
-ghost use Rattle.std.specs.Prelude.{◌≡◌, ◌<◌};
+ghost use Rattle.std.specs.Prelude.{◌≡◌, ◌<◌, [], ◌∷◌};
 ghost use Rattle.hv_script.specs.declared.cut.TheConstants.{KEPT};
-ghost use Rattle.hv_script.specs.Verb.{verb_of, count_of};
+ghost use Rattle.hv_script.specs.Verb.{count_of, verb_among, verb_of};
+ghost use Rattle.hv_script.specs.declared.verb.Verb.TheVariants.{ClearSlot, ReadFlags, ClearFlag, TakeInterrupt};
 
 /// What a processor's line asks for, by its second word.
 #[derive(Clone, Copy, PartialEq, Eq, Debug)]
@@ -21,21 +22,30 @@ impl Verb {
     pub fn of(word: &[u8]) -> Option<Verb>
         ensures { result ≡ verb_of word.now }
     {
-        if word == b"call" {
+        if word == "call".as_bytes() {
             Some(Verb::Call)
-        } else if word == b"rdmsr" {
+        } else if word == "rdmsr".as_bytes() {
             Some(Verb::ReadMsr)
-        } else if word == b"wrmsr" {
+        } else if word == "wrmsr".as_bytes() {
             Some(Verb::WriteMsr)
-        } else if word == b"slot" {
+        } else if word == "slot".as_bytes() {
             Some(Verb::ReadSlot)
-        } else if word == b"clearslot" {
+        } else {
+            Verb::of_others(word)
+        }
+    }
+
+    // The same of the other four.
+    fn of_others(word: &[u8]) -> Option<Verb>
+        ensures { result ≡ verb_among (ClearSlot ∷ ReadFlags ∷ ClearFlag ∷ TakeInterrupt ∷ []) word.now }
+    {
+        if word == "clearslot".as_bytes() {
             Some(Verb::ClearSlot)
-        } else if word == b"flags" {
+        } else if word == "flags".as_bytes() {
             Some(Verb::ReadFlags)
-        } else if word == b"clearflag" {
+        } else if word == "clearflag".as_bytes() {
             Some(Verb::ClearFlag)
-        } else if word == b"interrupt" {
+        } else if word == "interrupt".as_bytes() {
             Some(Verb::TakeInterrupt)
         } else {
             None
