@@ -148,7 +148,7 @@ module _ {T A : Type 0} (p : ℕ) (ks : List (Box (List (Line T)) A)) (i : ℕ) 
       pub IsPart-child : AreNests ks → (sub : List (Line T)) → IsPart q k.value sub → IsPart q ((p, (None, c)) ∷ below p ks) sub
       IsPart-child ns sub part = record { distinct = part.distinct; same = kids-child ns ∙ part.same }
 
-    above-row : (q : ℕ) (r : Option ℕ) → option_map (λ (r : Option ℕ × Option T). r.0) (look q k.value) ≡ Some r → option_map (λ r. r.0) (look q ((p, (None, c)) ∷ below p ks)) ≡ Some (option_or r (Some p))
+    pub above-row : (q : ℕ) (r : Option ℕ) → option_map (λ (r : Option ℕ × Option T). r.0) (look q k.value) ≡ Some r → option_map (λ r. r.0) (look q ((p, (None, c)) ∷ below p ks)) ≡ Some (option_or r (Some p))
     above-row q r e = let has = found_has q k.value (λ r. r.0) r (sym e) in parent-row q (off_before q has) c (off_own q has) has ∙ ap (option_map (λ a. option_or a (Some p))) e
 
     -- a row is one deeper than within the child

@@ -7,6 +7,7 @@ use Rattle.std.proofs.lemmas.List.{length-map}
 use Rattle.hv_tree.specs.Rows.{is_parent, children_in}
 use Rattle.hv_tree.specs.Nest.{Line, AreDistinct, has_row, hang, top, orphans, HasTop, IsNest}
 use Rattle.hv_tree.specs.Below.{below, AreNests}
+use Rattle.hv_tree.proofs.Order.{ordered-view}
 use Rattle.hv_tree.proofs.Lines.{has-below, has-unused, one_if}
 
 pub kids-append : {C : Type 0} (q : ℕ) (xs ys : List (ℕ × (Option ℕ × C))) → children_in q (xs ++ ys) ≡ children_in q xs ++ children_in q ys
@@ -71,6 +72,7 @@ pub IsNest-view : {T A : Type 0} (p : ℕ) (c : Option T) (ks : List (Box (List 
 IsNest-view p c ks ns = record {
   topped = (refl, orphans-below p ks);
   closed = λ q gone. (let both = or_false (q == p) (has_row q (below p ks)) gone in closed-below q p ks ns both.0 both.1);
+  ordered = ordered-view p c ks ns;
 }
 
 -- a node's children are those that it holds

@@ -16,7 +16,7 @@ get-shown l es m d w e x = rw (← e) (get-listed (full l es) x ∙ look-full l 
 apart : (x q id : ℕ) → (q == id) ≡ false → (x == id) ≡ true → (x == q) ≡ false
 apart x q id n e = ne_eqb x q (λ s. eqb-false q id n (sym s ∙ eqb-true x id e))
 
-look-put : {T : Type 0} (x q : ℕ) (h : Option T) (es : List (Line T)) → look x (put_at q h es) ≡ cond (x == q) (option_map (λ r. (r.0, h)) (look x es)) (look x es)
+pub look-put : {T : Type 0} (x q : ℕ) (h : Option T) (es : List (Line T)) → look x (put_at q h es) ≡ cond (x == q) (option_map (λ r. (r.0, h)) (look x es)) (look x es)
 look-put x q h [] = elim (cases_Bool (x == q)) [ inl s ↦ rw s refl | inr s ↦ rw s refl ]
 look-put x q h (e ∷ es) = elim (cases_Bool (q == e.0)) [
   | inl s ↦ rw s (elim (cases_Bool (x == e.0)) [

@@ -2,6 +2,7 @@ pub mod Laws
 pub mod ChildLaws
 pub mod Lists
 pub mod Lines
+pub mod Order
 pub mod Kids
 pub mod Child
 pub mod Gone
@@ -14,3 +15,5 @@ pub mod Lent
 pub mod Grown
 pub mod Shrunk
 pub mod Kin
+pub mod Toward
+pub mod Indexed

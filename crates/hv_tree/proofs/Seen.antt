@@ -95,7 +95,7 @@ module _ {T : Type 0} {l : Option (ℕ × T)} {es : List (Line T)} {n : ℕ} {m 
   HasDepth-seen (suc d) q (p, e, h) = (p, parent-seen q p e, HasDepth-seen d p h)
 
 -- a row that names p is among its children
-kid_there : {C : Type 0} (q p : ℕ) (es : List (ℕ × (Option ℕ × C))) → option_map (λ r. r.0) (look q es) ≡ Some (Some p) → children_in p es ≡ [] → ⊥
+pub kid_there : {C : Type 0} (q p : ℕ) (es : List (ℕ × (Option ℕ × C))) → option_map (λ r. r.0) (look q es) ≡ Some (Some p) → children_in p es ≡ [] → ⊥
 kid_there q p [] e no_kids = cc
 kid_there q p ((x, (None, c)) ∷ es) e no_kids = elim (cases_Bool (q == x)) [
   | inl t ↦ (let f : Some None ≡ Some (Some p) = rw t at e in cc)
@@ -117,7 +117,7 @@ orphan_there q ((x, (Some p, c)) ∷ es) e none = elim (cases_Bool (q == x)) [
   | inr t ↦ orphan_there q es (rw t at e) none
 ]
 
-root_only : {C : Type 0} (q : ℕ) (es : List (ℕ × (Option ℕ × C))) → HasTop es → option_map (λ r. r.0) (look q es) ≡ Some None → q ≡ top es
+pub root_only : {C : Type 0} (q : ℕ) (es : List (ℕ × (Option ℕ × C))) → HasTop es → option_map (λ r. r.0) (look q es) ≡ Some None → q ≡ top es
 root_only q [] h e = cc
 root_only q (r ∷ es) h e = elim (cases_Bool (q == r.0)) [
   | inl t ↦ eqb-true q r.0 t
@@ -162,3 +162,7 @@ get_some {m = m} s q u has = mapped (get m q) u (has-seen s q ∙ has)
 -- the children of a node that was found
 pub kids-found : {T : Type 0} (q : ℕ) (es sub : List (Line T)) → IsPart q es sub → top sub ≡ q → children_in (top sub) sub ≡ children_in q es
 kids-found q es sub part here = ap (λ x. children_in x sub) here ∙ sym part.same
+
+-- a row's parent, from its line
+pub parent-indexed : {T : Type 0} {l : Option (ℕ × T)} {es : List (Line T)} {n : ℕ} {m : Rows T} → IsShown l es n m → (q : ℕ) → option_and_then (λ r. r.0) (look q es) ≡ parent m q
+parent-indexed {es = es} {m = m} s q = parent_above (look q es) ∙ ap (option_and_then (λ a. a)) (sym (above-seen s q)) ∙ sym (parent_above (get m q))

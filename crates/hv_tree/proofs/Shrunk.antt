@@ -48,7 +48,7 @@ module _ {T : Type 0} {l : Option (ℕ × T)} {es : List (Line T)} {n : ℕ} {m 
   look-here : look q es ≡ Some (Some w.parent, v)
   look-here = look-gone q ∙ (rw (eq-eqb q q refl) refl)
 
-  look-new : (x : ℕ) → look x new ≡ cond (x == q) None (look x es)
+  pub look-new : (x : ℕ) → look x new ≡ cond (x == q) None (look x es)
   look-new x = elim (cases_Bool (x == q)) [
     | inl t ↦ rw (t, eqb-true x q t) (look-none q new (has-unused q new gone))
     | inr t ↦ rw t (sym (look-gone x ∙ (rw t refl)))

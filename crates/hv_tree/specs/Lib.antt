@@ -1,5 +1,6 @@
 pub mod Below
 pub mod Full
+pub mod Index
 pub mod Nest
 pub mod Refused
 pub mod Rows

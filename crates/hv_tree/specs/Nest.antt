@@ -1,5 +1,5 @@
 -- The rows of a node and of all that is below it, as a list in which a parent comes before its children.
-use Rattle.std.specs.Prelude.{◌≡◌, ℕ, zero, suc, ◌+◌, ◌≤◌, Bool, false, cond, ◌||◌, ◌==◌, Option, None, Some, is_some, List, [], ◌∷◌, ◌++◌}
+use Rattle.std.specs.Prelude.{◌≡◌, ℕ, zero, suc, ◌+◌, ◌≤◌, ◌<◌, Bool, false, cond, ◌||◌, ◌==◌, Option, None, Some, is_some, List, [], ◌∷◌, ◌++◌}
 use Rattle.std.specs.Option.{option_or, option_map}
 use Rattle.hv_tree.specs.Rows.{children_in}
 
@@ -55,10 +55,20 @@ HasTop (e ∷ es) = (e.1.0 ≡ None) × (orphans es ≡ [])
 abbrev pub IsClosed : {C : Type 0} → List (ℕ × (Option ℕ × C)) → Type 0
 IsClosed es = (q : ℕ) → has_row q es ≡ false → children_in q es ≡ []
 
+-- where the first row with the id q stands, or the length where there is none
+abbrev pub place : {X : Type 0} → ℕ → List (ℕ × X) → ℕ
+place q [] = 0
+place q (e ∷ es) = cond (q == e.0) 0 (place q es + 1)
+
+-- each parent comes before its children
+abbrev pub IsOrdered : {C : Type 0} → List (ℕ × (Option ℕ × C)) → Type 0
+IsOrdered es = (q p : ℕ) → option_map (λ r. r.0) (look q es) ≡ Some (Some p) → place p es < place q es
+
 -- the rows are those of one node and of all below it
 pub record IsNest {T : Type 0} (es : List (Line T)) : Type 0 where
   pub topped : HasTop es
   pub closed : IsClosed es
+  pub ordered : IsOrdered es
 
 -- a row's depth is 0 where it has no parent, and else one more than its parent's
 abbrev pub HasDepthIn : {C : Type 0} → List (ℕ × (Option ℕ × C)) → ℕ → ℕ → Type 0

@@ -1,12 +1,14 @@
 //! A node with all that is below it, seen as its rows in preorder.
-ghost use Rattle.std.specs.Prelude.{◌≡◌, ◌<◌, ◌≤◌, ◌≢◌, ◌++◌, ◌||◌, Some, None, [], ◌∷◌, true, false, length, map, is_some, IsTrue, IfOk, OnOk, OnErr, IfErr, IfSome, IfNone};
+ghost use Rattle.std.specs.Prelude.{◌≡◌, ℕ, ◌<◌, ◌≤◌, ◌≢◌, ◌^◌, ◌==◌, ◌++◌, Some, None, [], ◌∷◌, true, false, cond, length, map, IsTrue, IfOk, OnOk, OnErr, IfErr, IfSome, IfNone};
 ghost use Rattle.std.specs.List.{All, HoldsAt};
 ghost use Rattle.std.specs.List.Sorted.{IsNonDecreasingBy, IsPartitionPoint};
-ghost use Rattle.std.specs.Option.{option_copied, option_map};
+ghost use Rattle.std.specs.Option.{option_map};
 ghost use Rattle.hv_tree.specs.Rows.{children_in, IsLeastAbove};
+ghost use Rattle.hv_tree.specs.Index.{parents, IsIndexOf, IsWay, IsPath};
 ghost use Rattle.hv_tree.specs.Nest.{has_row, look, put_at, taken, top, first_content, IsGrownBy, IsWithout, IsPart, IsNest, AreDistinct, HasDepthIn};
 
-use std::alloc::{AllocError, AllocFailed, Allocator};
+use crate::index::{Index, note, parent_in};
+use std::alloc::{AllocError, Allocator};
 use std::marker::Model;
 use std::mem::swap;
 
@@ -18,33 +20,6 @@ pub(crate) struct Node<T, A: Allocator> {
     content: Option<T>,
     // By rising id.
     children: Vec<Box<Node<T, A>, A>, A>,
-}
-
-/// Where a node stands.
-#[derive(Clone, Copy)]
-pub(crate) struct Place {
-    pub(crate) parent: Option<u64>,
-    // No higher than `u64::MAX`, even where there are more nodes above.
-    pub(crate) depth: u64,
-}
-
-/// Which of two ids have a node.
-#[derive(Clone, Copy)]
-pub(crate) struct Present {
-    pub(crate) parent: bool,
-    pub(crate) id: bool,
-}
-
-impl Present {
-    fn or(self, other: Present) -> Present
-        ensures parent { result.parent ≡ (self.parent || other.parent) }
-        ensures id { result.id ≡ (self.id || other.id) }
-    {
-        Present {
-            parent: self.parent || other.parent,
-            id: self.id || other.id,
-        }
-    }
 }
 
 impl<T, A: Allocator> Model for Node<T, A> {
@@ -132,61 +107,34 @@ impl<T, A: Allocator> Node<T, A> {
     }
 
     /// The node with the id, which is this one or below it.
-    pub(crate) fn find(&self, id: u64) -> Option<&Node<T, A>>
-        ensures content { option_map (λ n. first_content n) (option_copied result)
-            ≡ option_map (λ r. r.1) (look id self.now) }
-        ensures here { IfSome result (λ n. top n.now ≡ id) }
-        ensures part { AreDistinct self.now → IfSome result (λ n. IsPart id self.now n.now) }
+    pub(crate) fn find(&self, index: &Index<A>, id: u64) -> &Node<T, A>
+        requires { IsWay (parents index.now) id self.now }
+        ensures content { Some (first_content result.now) ≡ option_map (λ r. r.1) (look id self.now) }
+        ensures here { top result.now ≡ id }
+        ensures part { IsPart id self.now result.now }
     {
         if id == self.id {
-            return Some(self);
+            return self;
         }
-        for child in &self.children {
-            if let Some(found) = child.find(id) {
-                return Some(found);
-            }
-        }
-        None
+        let at = child_toward(&self.children, self.id, index, id);
+        self.children[at].find(index, id)
     }
 
-    /// Whether `parent` and `id` are here, in one descent.
-    pub(crate) fn present(&self, parent: u64, id: u64) -> Present
-        ensures parent { result.parent ≡ has_row parent self.now }
-        ensures id { result.id ≡ has_row id self.now }
+    /// How many nodes are above the node with the id, up to this one.
+    pub(crate) fn depth(&self, index: &Index<A>, id: u64) -> u64
+        requires has { has_row id self.now ≡ true }
+        requires nest { IsNest self.now }
+        requires indexed { IsIndexOf self.now (parents index.now) }
+        requires fits { length self.now < 2 ^ 64 }
+        ensures { HasDepthIn self.now id result }
     {
-        let mut found = Present {
-            parent: parent == self.id,
-            id: id == self.id,
-        };
-        for child in &self.children {
-            found = found.or(child.present(parent, id));
+        let mut depth = 0;
+        let mut at = id;
+        while let Some(parent) = parent_in(index, at) {
+            depth += 1;
+            at = parent;
         }
-        found
-    }
-
-    /// Where the node with the id stands: its parent, if that is here too, and its depth below this node.
-    pub(crate) fn place(&self, id: u64) -> Option<Place>
-        ensures parent { option_map (λ p. p.parent) result ≡ option_map (λ r. r.0) (look id self.now) }
-        ensures depth { AreDistinct self.now
-            → IfSome result (λ p. p.depth < u64.MAX → HasDepthIn self.now id p.depth) }
-        ensures within { IfSome result (λ p. p.depth < length self.now) }
-    {
-        if id == self.id {
-            return Some(Place {
-                parent: None,
-                depth: 0,
-            });
-        }
-        let own = self.id;
-        for child in &self.children {
-            if let Some(place) = child.place(id) {
-                return Some(Place {
-                    parent: place.parent.or(Some(own)),
-                    depth: place.depth.saturating_add(1),
-                });
-            }
-        }
-        None
+        depth
     }
 
     /// Adds the ids of this node and of all below it.
@@ -200,94 +148,90 @@ impl<T, A: Allocator> Node<T, A> {
         Ok(())
     }
 
-    /// Swaps the content of the node with the id with the slot's, and says whether there is such a node.
-    pub(crate) fn exchange(&mut self, id: u64, slot: &mut Option<T>) -> bool
+    /// Swaps the content of the node with the id with the slot's.
+    pub(crate) fn exchange(&mut self, index: &Index<A>, id: u64, slot: &mut Option<T>)
+        requires { IsWay (parents index.now) id self.old }
         ensures rows { self.new ≡ put_at id slot.old self.old }
         ensures slot { slot.new ≡ taken id slot.old self.old }
-        ensures found { result ≡ has_row id self.old }
         ensures nest { IsNest self.new }
     {
         if id == self.id {
             swap(&mut self.content, slot);
-            return true;
+            return;
         }
-        for i in 0..self.children.len() {
-            if self.children[i].exchange(id, slot) {
-                return true;
-            }
-        }
-        false
+        let at = child_toward(&self.children, self.id, index, id);
+        self.children[at].exchange(index, id, slot);
     }
 
-    /// Makes room for one more child below `parent`, if that is here.
-    pub(crate) fn reserve(&mut self, parent: u64) -> Option<Result<(), AllocError>>
-        ensures rows { self.new ≡ self.old }
-        ensures found { is_some result ≡ has_row parent self.old }
+    /// Makes room for one more child below `parent`.
+    pub(crate) fn reserve(&mut self, index: &Index<A>, parent: u64) -> Result<(), AllocError>
+        requires { IsWay (parents index.now) parent self.old }
+        ensures { self.new ≡ self.old }
     {
         if parent == self.id {
-            return Some(self.children.reserve(1));
+            return self.children.reserve(1);
         }
-        for i in 0..self.children.len() {
-            if let Some(reserved) = self.children[i].reserve(parent) {
-                return Some(reserved);
-            }
-        }
-        None
+        let at = child_toward(&self.children, self.id, index, parent);
+        self.children[at].reserve(index, parent)
     }
 
-    /// Puts a node among the children of `parent`, or hands it back where `parent` is not here or memory is short.
+    /// Puts a node among the children of `parent` and into the index, or hands it back where memory is short.
     pub(crate) fn graft(
         &mut self,
+        index: &mut Index<A>,
         parent: u64,
-        mut node: Box<Node<T, A>, A>,
+        node: Box<Node<T, A>, A>,
     ) -> Result<(), Box<Node<T, A>, A>>
+        requires { IsWay (parents index.old) parent self.old }
         ensures ok { OnOk result (IsGrownBy parent node.value self.old self.new) }
+        ensures noted { OnOk result ((q : ℕ) → parents index.new q
+            ≡ cond (top node.value == q) (Some parent) (parents index.old q)) }
         ensures err { OnErr result (self.new ≡ self.old) }
+        ensures kept { OnErr result ((q : ℕ) → parents index.new q ≡ parents index.old q) }
         ensures back { IfErr result (λ n. n.value ≡ node.value) }
         ensures top { top self.new ≡ top self.old }
         ensures nest { IsNest self.new }
     {
-        if parent == self.id {
-            let at = first_above(&self.children, node.id());
-            if let Err(failed) = self.children.insert(at, node) {
-                let AllocFailed { value } = failed;
-                return Err(value);
-            }
-            return Ok(());
+        if parent != self.id {
+            let at = child_toward(&self.children, self.id, index, parent);
+            return self.children[at].graft(index, parent, node);
         }
-        for i in 0..self.children.len() {
-            match self.children[i].graft(parent, node) {
-                Ok(()) => return Ok(()),
-                Err(back) => node = back,
-            }
+        if self.children.reserve(1).is_err() {
+            return Err(node);
         }
-        Err(node)
+        let id = node.id();
+        let at = first_above(&self.children, id);
+        if note(index, id, parent).is_err() {
+            return Err(node);
+        }
+        match self.children.insert(at, node) {
+            Ok(()) => Ok(()),
+            // There is room.
+            Err(_) => unreachable!(),
+        }
     }
 
-    /// Takes the node with the id out, if it is below this one and has no children, and gives its content.
-    pub(crate) fn remove(&mut self, id: u64) -> Option<Option<T>>
+    /// Takes the node with the id out, which is below this one, if it has no children, and gives its content.
+    pub(crate) fn remove(&mut self, index: &Index<A>, id: u64) -> Option<Option<T>>
     where
         T: Drop,
-        ensures gone { AreDistinct self.old → IfSome result (λ c. IsWithout id c self.old self.new) }
+        requires way { IsWay (parents index.now) id self.old }
+        requires below { id ≢ top self.old }
+        ensures gone { IfSome result (λ c. IsWithout id c self.old self.new) }
         ensures stays { IfNone result (self.new ≡ self.old) }
-        ensures refused { AreDistinct self.old → IfNone result
-            (has_row id self.old ≡ true → id ≢ top self.old → 1 ≤ length (children_in id self.old)) }
+        ensures refused { IfNone result (1 ≤ length (children_in id self.old)) }
         ensures top { top self.new ≡ top self.old }
         ensures nest { IsNest self.new }
     {
-        if let Ok(i) = search_child(&self.children, id) {
-            if !self.children[i].is_bare() {
-                return None;
-            }
-            let node = self.children.remove(i);
-            return Some(Box::into_inner(node).into_content());
+        let at = child_toward(&self.children, self.id, index, id);
+        if self.children[at].id() != id {
+            return self.children[at].remove(index, id);
         }
-        for i in 0..self.children.len() {
-            if let Some(content) = self.children[i].remove(id) {
-                return Some(content);
-            }
+        if !self.children[at].is_bare() {
+            return None;
         }
-        None
+        let node = self.children.remove(at);
+        Some(Box::into_inner(node).into_content())
     }
 }
 
@@ -308,4 +252,31 @@ fn search_child<T, A: Allocator>(children: &[Box<Node<T, A>, A>], id: u64) -> Re
     ensures none { OnErr result (All (λ k. top k.value ≢ id) children.now) }
 {
     children.binary_search_by_key(&id, |child| child.id())
+}
+
+// The place of the child that is the node with the id, or has it below: it is found by climbing from the id.
+fn child_toward<T, A: Allocator>(
+    children: &[Box<Node<T, A>, A>],
+    own: u64,
+    index: &Index<A>,
+    id: u64,
+) -> usize
+    requires rising { IsNonDecreasingBy (λ k. top k.value) children.now }
+    requires path { IsPath (parents index.now) own children.now id }
+    ensures bound { result < length children.now }
+    ensures here { HoldsAt (λ k. has_row id k.value ≡ true) children.now result }
+{
+    let mut at = id;
+    'up: loop {
+        let Some(parent) = parent_in(index, at) else {
+            unreachable!();
+        };
+        if parent == own {
+            match search_child(children, at) {
+                Ok(i) => return i,
+                Err(_) => unreachable!(),
+            }
+        }
+        at = parent;
+    }
 }

@@ -6,23 +6,29 @@ ghost use Rattle.std.specs.FinMap as map;
 ghost use Rattle.hv_tree.specs.contracts.tree.IdTree.{the_row};
 ghost use Rattle.hv_tree.specs.Rows.{change, content, parent, children, is_leaf, HasDepth, IsLeastAbove, IsTree};
 ghost use Rattle.hv_tree.specs.Full.{settled};
+ghost use Rattle.hv_tree.specs.Index.{parents, IsWay};
 ghost use Rattle.hv_tree.specs.Nest.{first_content, IsNest};
 ghost use Rattle.hv_tree.specs.Refused.{Refuses};
 
-use crate::node::{Node, Present};
+use crate::index::{Index, forget, parent_in};
+use crate::node::Node;
 use crate::refused::{InsertRefused, ReserveRefused};
+use indexmap::IndexMap;
 use std::alloc::{AllocError, AllocFailed, Allocator};
 use std::marker::Model;
 
 /// A tree whose nodes have ids of their own, each with a content. One node, the root, has no parent.
 ///
-/// A search visits each node at most once, and finds a child among its siblings in logarithmic time.
+/// A look-up goes down from the root. At each node it climbs in the index, from the id that it wants, to the
+/// child to go on with, and finds that child among its siblings in logarithmic time.
 #[derive(Drop)]
 pub struct IdTree<T, A: Allocator> {
     root: Node<T, A>,
+    // The parent of each node but the root.
+    index: Index<A>,
     // How many nodes there are.
     count: u64,
-    // The content that was lent last, with its node's id. It goes back at the next loan: the nodes never move.
+    // The content that was lent last, with its node's id. It goes back at the next loan: nodes never move.
     lent: Option<(u64, T)>,
     alloc: A,
 }
@@ -36,11 +42,12 @@ impl<T, A: Allocator> Model for IdTree<T, A> {
 
     ghost coded = { map.code coded_ℕ (coded× (coded_option coded_ℕ) T.code) };
 
-    ghost use Rattle.hv_tree.specs.Full.{full, IsSound};
+    ghost use Rattle.hv_tree.specs.Full.{full};
+    ghost use Rattle.hv_tree.specs.Index.{parents, IsKept};
 
     ghost view = { λ a. map.from_entries (full a.lent a.root) };
 
-    ghost invariant = { λ a. IsSound a.lent a.root a.count };
+    ghost invariant = { λ a. IsKept a.lent a.root a.count (parents a.index) };
 }
 
 impl<T, A: Allocator> IdTree<T, A> {
@@ -48,7 +55,10 @@ impl<T, A: Allocator> IdTree<T, A> {
     pub fn get(&self, id: u64) -> Option<&T>
         ensures { option_copied result ≡ content self.now id }
     {
-        match self.root.find(id)?.content() {
+        if !self.contains(id) {
+            return None;
+        }
+        match self.root.find(&self.index, id).content() {
             Some(content) => Some(content),
             None => match &self.lent {
                 None => None,
@@ -62,7 +72,7 @@ impl<T, A: Allocator> IdTree<T, A> {
         ensures value { result ≡ parent self.now id }
         ensures tree { IsTree self.now }
     {
-        self.root.place(id)?.parent
+        parent_in(&self.index, id)
     }
 
     /// How many nodes are above a node: 0 for the root, and `None` where no node has the id.
@@ -71,10 +81,10 @@ impl<T, A: Allocator> IdTree<T, A> {
         ensures depth { IfSome result (HasDepth self.now id) }
         ensures tree { IsTree self.now }
     {
-        match self.root.place(id) {
-            None => None,
-            Some(place) => Some(place.depth),
+        if !self.contains(id) {
+            return None;
         }
+        Some(self.root.depth(&self.index, id))
     }
 
     /// How many children a node has, or `None` where no node has the id.
@@ -84,10 +94,11 @@ impl<T, A: Allocator> IdTree<T, A> {
         ensures none { IfNone result (children self.now id ≡ []) }
         ensures tree { IsTree self.now }
     {
-        match self.root.find(id) {
-            None => None,
-            Some(node) => Some(node.child_count() as u32),
+        if !self.contains(id) {
+            return None;
         }
+        let node = self.root.find(&self.index, id);
+        Some(node.child_count() as u32)
     }
 
     /// The least id above `previous` among the children of `parent`.
@@ -96,7 +107,10 @@ impl<T, A: Allocator> IdTree<T, A> {
         ensures value { IsLeastAbove previous (children self.now parent) result }
         ensures tree { IsTree self.now }
     {
-        self.root.find(parent)?.child_after(previous)
+        if !self.contains(parent) {
+            return None;
+        }
+        self.root.find(&self.index, parent).child_after(previous)
     }
 
     /// Makes room for one more child of `parent`. The next insert there needs memory for the node alone.
@@ -105,18 +119,21 @@ impl<T, A: Allocator> IdTree<T, A> {
         ensures no_parent { (result ≡ Err ReserveRefused.NoParent)
             ↔ (map.contains_key self.old parent ≡ false) }
     {
-        match self.root.reserve(parent) {
-            None => Err(ReserveRefused::NoParent),
-            Some(Err(_)) => Err(ReserveRefused::Memory),
-            Some(Ok(())) => Ok(()),
+        if !self.contains(parent) {
+            return Err(ReserveRefused::NoParent);
+        }
+        match self.root.reserve(&self.index, parent) {
+            Ok(()) => Ok(()),
+            Err(_) => Err(ReserveRefused::Memory),
         }
     }
 
-    fn present(&self, parent: u64, id: u64) -> Present
-        ensures parent { result.parent ≡ map.contains_key self.now parent }
-        ensures id { result.id ≡ map.contains_key self.now id }
+    fn contains(&self, id: u64) -> bool
+        ensures value { result ≡ map.contains_key self.now id }
+        ensures none { result ≡ false → children self.now id ≡ [] }
+        ensures tree { IsTree self.now }
     {
-        self.root.present(parent, id)
+        id == self.root.id() || parent_in(&self.index, id).is_some()
     }
 }
 
@@ -139,9 +156,12 @@ impl<T: Drop, A: Allocator> IdTree<T, A> {
             (λ w. change self.old id (λ _. w)) self.old) }
         ensures value { option_copied_mut result ≡ content self.old id }
     {
-        settle(&mut self.root, &mut self.lent);
+        if !self.contains(id) {
+            return None;
+        }
+        settle(&mut self.root, &self.index, &mut self.lent);
         let mut slot = None;
-        self.root.exchange(id, &mut slot);
+        self.root.exchange(&self.index, id, &mut slot);
         let Some(content) = slot else {
             return None;
         };
@@ -160,7 +180,11 @@ impl<T: Drop, A: Allocator> IdTree<T, A> {
         ensures removed { OnSome result (self.new ≡ map.remove self.old id) }
         ensures unchanged { IfNone result (self.new ≡ self.old) }
     {
-        let content = self.root.remove(id)?;
+        if parent_in(&self.index, id).is_none() {
+            return None;
+        }
+        let content = self.root.remove(&self.index, id)?;
+        forget(&mut self.index, id);
         self.count -= 1;
         match content {
             Some(content) => Some(content),
@@ -169,23 +193,23 @@ impl<T: Drop, A: Allocator> IdTree<T, A> {
     }
 }
 
-impl<T: Drop, A: Allocator + Clone> IdTree<T, A> {
+impl<T: Drop, A: Allocator + Copy> IdTree<T, A> {
     /// A tree of one node, or the content again where memory is short.
     pub fn new(alloc: A, id: u64, content: T) -> Result<IdTree<T, A>, T>
         ensures ok { IfOk result (λ t. t ≡ map.insert map.empty id (None, content)) }
         ensures err { IfErr result (λ c. c ≡ content) }
     {
-        let Ok(own) = alloc.clone() else {
-            return Err(content);
-        };
         Ok(IdTree {
-            root: Node::leaf(own, id, content),
+            root: Node::leaf(alloc, id, content),
+            index: IndexMap::new(alloc),
             count: 1,
             lent: None,
             alloc,
         })
     }
+}
 
+impl<T: Drop, A: Allocator + Clone> IdTree<T, A> {
     /// Puts a new node below `parent`, or hands its content back and leaves the tree as it was.
     pub fn insert_child(&mut self, parent: u64, id: u64, content: T) -> Result<(), InsertRefused<T>>
         requires { length (children self.old parent) < u32.MAX }
@@ -195,11 +219,10 @@ impl<T: Drop, A: Allocator + Clone> IdTree<T, A> {
         ensures refused { IfErr result (Refuses self.old parent id content) }
         ensures unchanged { OnErr result (self.new ≡ self.old) }
     {
-        let present = self.present(parent, id);
-        if !present.parent {
+        if !self.contains(parent) {
             return Err(InsertRefused::NoParent(content));
         }
-        if present.id {
+        if self.contains(id) {
             return Err(InsertRefused::IdTaken(content));
         }
         // No memory holds so many nodes.
@@ -210,7 +233,7 @@ impl<T: Drop, A: Allocator + Clone> IdTree<T, A> {
             Ok(node) => node,
             Err(content) => return Err(InsertRefused::Memory(content)),
         };
-        if let Err(node) = self.root.graft(parent, node) {
+        if let Err(node) = self.root.graft(&mut self.index, parent, node) {
             return Err(InsertRefused::Memory(unmake(node)));
         }
         self.count = count;
@@ -257,14 +280,19 @@ fn unmake<T: Drop, A: Allocator>(node: Box<Node<T, A>, A>) -> T
 }
 
 // Puts the content that was lent back into its node.
-fn settle<T: Drop, A: Allocator>(root: &mut Node<T, A>, lent: &mut Option<(u64, T)>)
+fn settle<T: Drop, A: Allocator>(
+    root: &mut Node<T, A>,
+    index: &Index<A>,
+    lent: &mut Option<(u64, T)>,
+)
+    requires { IfSome lent.old (λ e. IsWay (parents index.now) e.0 root.old) }
     ensures root { root.new ≡ settled lent.old root.old }
     ensures lent { lent.new ≡ None }
     ensures nest { IsNest root.old → IsNest root.new }
 {
     if let Some((id, content)) = lent.take() {
         let mut slot = Some(content);
-        root.exchange(id, &mut slot);
+        root.exchange(index, id, &mut slot);
     }
 }
 

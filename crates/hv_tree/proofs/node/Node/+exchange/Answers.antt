@@ -1,79 +1,100 @@
-use Rattle.std.proofs.Common.{◌≡◌, ◌<◌, ◌≤◌, false, true, refl, sym, ap, ◌∙◌, get_or, length, arith, set, ◌∷◌, None}
+use Rattle.std.proofs.Common.{rules, ◌≡◌, ◌<◌, ◌≤◌, ◌≢◌, ◌∙◌, ◌∷◌, [], None, Some, true, false, refl, sym, ap, subst, length, get_or, take, set, arith}
 use Rattle.std.proofs.lemmas.Bool.{ne_eqb}
 use Rattle.std.specs.Box.{with_value}
-use Rattle.hv_tree.specs.Nest.{has_row, top}
+use Rattle.std.specs.List.{insert, remove}
+use Rattle.std.proofs.lemmas.List.Sorted.{IsNonDecreasingBy-insert}
+use Rattle.hv_tree.specs.Rows.{children_in}
+use Rattle.hv_tree.specs.Nest.{top, has_row, first_content, IsNest, IsGrownBy, IsWithout, IsPart}
 use Rattle.hv_tree.specs.Below.{below}
-use Rattle.hv_tree.proofs.Lists.{rising-set, set-same}
-use Rattle.hv_tree.proofs.Lines.{put-absent, taken-absent, top-put}
-use Rattle.hv_tree.proofs.Kids.{IsNest-view, AreNests-set}
-use Rattle.hv_tree.proofs.Child.{put-child, taken-child, has-child, none-more, none-all}
+use Rattle.hv_tree.specs.Index.{parents, IsWay}
+use Rattle.hv_tree.proofs.Lists.{get_or_any, set-same, rising-set, rising-remove}
+use Rattle.hv_tree.proofs.Lines.{top-put}
+use Rattle.hv_tree.proofs.Kids.{IsNest-view, AreNests-set, AreNests-insert, AreNests-remove}
+use Rattle.hv_tree.proofs.Child.{held-row, length-child, put-child, taken-child, off_before, kids-child, AreDistinct-child, IsPart-child, grown-here, grown-child}
+use Rattle.hv_tree.proofs.Gone.{IsWithout-here, IsWithout-child}
+use Rattle.hv_tree.proofs.Toward.{path, way-child, on_ok, on_err, if_some, if_none}
 use Rattle.hv_tree.proofs.node.Node.+exchange.Goals as goal
+
+pub child_toward-at-requires-clause-path : goal.child_toward-at-requires-clause-path
+child_toward-at-requires-clause-path g t c =
+    let own = c.self.inside.id in
+    let content = c.self.inside.content in
+    let up = parents c.args.index.now in
+    let w : IsWay up c.args.id ((own, (None, content)) ∷ below own c.self.inside.children.items) = subst (λ es. IsWay up c.args.id es) (sym c.self.view_is) c.requires in
+    rw c.deref.ensures.value (path up c.args.id own content c.self.inside.children.items w (ne_eqb _ _ c.if-id-self.false) c.self.invariant.nests)
+
+pub exchange-requires : goal.exchange-requires
+exchange-requires g t c κs within =
+    let ks = c.self.inside.children.items in
+    let own = c.self.inside.id in
+    let content = c.self.inside.content in
+    let up = parents c.args.index.now in
+    let w : IsWay up c.args.id ((own, (None, content)) ∷ below own ks) = subst (λ es. IsWay up c.args.id es) (sym c.self.view_is) c.requires in
+    let k = c.index_mut.result.now in
+    let i = c.child_toward-at.result in
+    let lt : i < length ks = rw (← c.deref.ensures.value) c.child_toward-at.ensures.bound in
+    let is : k ≡ get_or ks i k = c.index_mut.ensures.value in
+    let has : has_row c.args.id k.value ≡ true = rw (c.deref.ensures.value, ← c.index_mut.ensures.value) at (c.child_toward-at.ensures.here k) in
+    let here : IsWay up c.args.id c.deref_mut.result.now = subst (λ es. IsWay up c.args.id es) (sym c.deref_mut.ensures.value) (way-child up c.args.id own content ks w i k lt is has) in
+    (omega (arith, c.decreases, length-child own ks i k lt is, ap length c.self.view_is, ap length c.deref_mut.ensures.value), (within.0, (within.1, here)))
 
 pub returns-then-id-self-clause-nest : goal.returns-then-id-self-clause-nest
 returns-then-id-self-clause-nest g t c = IsNest-view c.self.inside.id _ c.self.inside.children.items c.self.invariant.nests
 
-pub returns-then-exchange-clause-nest : goal.returns-then-exchange-clause-nest
-returns-then-exchange-clause-nest g t c = rw c.loop-i.invariant.same (IsNest-view _ _ (set c.self.inside.children.items c.loop-i.i (with_value c.index_mut.result.now c.exchange.new.self)) (AreNests-set c.self.inside.children.items c.loop-i.i (with_value c.index_mut.result.now c.exchange.new.self) c.exchange.ensures.nest c.self.invariant.nests))
-
-pub returns-clause-nest : goal.returns-clause-nest
-returns-clause-nest g t c = rw c.loop-i.invariant.same (IsNest-view _ _ c.self.inside.children.items c.self.invariant.nests)
-
-pub returns-then-exchange-clause-rows : goal.returns-then-exchange-clause-rows
-returns-then-exchange-clause-rows g t c =
-    let lt : c.loop-i.i < length c.self.inside.children.items = omega (arith, c.loop-i-test.true, c.len-i-end.ensures, c.self.inside.children.ok.0) in
-    let is : c.index_mut.result.now ≡ get_or c.self.inside.children.items c.loop-i.i c.index_mut.result.now = rw (← c.loop-i.invariant.same) c.index_mut.ensures.value in
-    let has : has_row c.args.id c.index_mut.result.now.value ≡ true = rw (← c.deref_mut.ensures.value) (sym c.exchange.ensures.found ∙ c.if-exchange.true) in
-    rw (← c.self.view_is, ne_eqb _ _ c.if-id-self.false, c.exchange.ensures.rows, c.deref_mut.ensures.value, c.loop-i.invariant.same, c.loop-i.invariant.own, c.loop-i.invariant.content, c.loop-i.invariant.slot)
-    (ap (λ l. (c.self.inside.id, (None, c.self.inside.content)) ∷ l) (sym (put-child c.self.inside.id c.self.inside.children.items c.loop-i.i c.index_mut.result.now lt is c.args.id c.loop-i.invariant.none c.args.slot.now has)))
-
-pub returns-then-exchange-clause-slot : goal.returns-then-exchange-clause-slot
-returns-then-exchange-clause-slot g t c =
-    let lt : c.loop-i.i < length c.self.inside.children.items = omega (arith, c.loop-i-test.true, c.len-i-end.ensures, c.self.inside.children.ok.0) in
-    let is : c.index_mut.result.now ≡ get_or c.self.inside.children.items c.loop-i.i c.index_mut.result.now = rw (← c.loop-i.invariant.same) c.index_mut.ensures.value in
-    let has : has_row c.args.id c.index_mut.result.now.value ≡ true = rw (← c.deref_mut.ensures.value) (sym c.exchange.ensures.found ∙ c.if-exchange.true) in
-    rw (← c.self.view_is, ne_eqb _ _ c.if-id-self.false, c.exchange.ensures.slot, c.deref_mut.ensures.value, c.loop-i.invariant.slot)
-    (sym (taken-child c.self.inside.id c.self.inside.children.items c.loop-i.i c.index_mut.result.now lt is c.args.id c.loop-i.invariant.none c.args.slot.now has))
-
-pub returns-then-exchange-clause-found : goal.returns-then-exchange-clause-found
-returns-then-exchange-clause-found g t c =
-    let lt : c.loop-i.i < length c.self.inside.children.items = omega (arith, c.loop-i-test.true, c.len-i-end.ensures, c.self.inside.children.ok.0) in
-    let is : c.index_mut.result.now ≡ get_or c.self.inside.children.items c.loop-i.i c.index_mut.result.now = rw (← c.loop-i.invariant.same) c.index_mut.ensures.value in
-    let has : has_row c.args.id c.index_mut.result.now.value ≡ true = rw (← c.deref_mut.ensures.value) (sym c.exchange.ensures.found ∙ c.if-exchange.true) in
-    rw (← c.self.view_is, ne_eqb _ _ c.if-id-self.false) (sym (has-child c.self.inside.id c.self.inside.children.items c.loop-i.i c.index_mut.result.now lt is c.args.id c.loop-i.invariant.none has))
-
-pub loop-i-preserved : goal.loop-i-preserved
-loop-i-preserved g t c =
-    let lt : c.loop-i.i < length c.self.inside.children.items = omega (arith, c.loop-i-test.true, c.len-i-end.ensures, c.self.inside.children.ok.0) in
-    let is : c.index_mut.result.now ≡ get_or c.self.inside.children.items c.loop-i.i c.index_mut.result.now = rw (← c.loop-i.invariant.same) c.index_mut.ensures.value in
-    let no : has_row c.args.id c.index_mut.result.now.value ≡ false = rw (← c.deref_mut.ensures.value) (sym c.exchange.ensures.found ∙ c.if-exchange.false) in
-    record {
-      same = rw (c.exchange.ensures.rows, c.deref_mut.ensures.value, put-absent _ c.loop-i.slot _ no, c.loop-i.invariant.same) (set-same c.self.inside.children.items c.loop-i.i c.index_mut.result.now lt is);
-      own = c.loop-i.invariant.own;
-      content = c.loop-i.invariant.content;
-      slot = rw (c.exchange.ensures.slot, c.deref_mut.ensures.value, taken-absent _ c.loop-i.slot _ no) c.loop-i.invariant.slot;
-      none = none-more c.self.inside.id c.self.inside.children.items c.loop-i.i c.index_mut.result.now lt is c.args.id c.loop-i.invariant.none no;
-    }
+pub invariant_of-self-2 : goal.invariant_of-self-2
+invariant_of-self-2 g t c =
+    let ks = c.self.inside.children.items in
+    let own = c.self.inside.id in
+    let content = c.self.inside.content in
+    let up = parents c.args.index.now in
+    let w : IsWay up c.args.id ((own, (None, content)) ∷ below own ks) = subst (λ es. IsWay up c.args.id es) (sym c.self.view_is) c.requires in
+    let k = c.index_mut.result.now in
+    let i = c.child_toward-at.result in
+    let lt : i < length ks = rw (← c.deref.ensures.value) c.child_toward-at.ensures.bound in
+    let is : k ≡ get_or ks i k = c.index_mut.ensures.value in
+    let has : has_row c.args.id k.value ≡ true = rw (c.deref.ensures.value, ← c.index_mut.ensures.value) at (c.child_toward-at.ensures.here k) in
+    record { rising = rising-set (λ k. top k.value) ks i k (with_value k c.exchange.new.self) lt is (ap top c.exchange.ensures.rows ∙ top-put c.args.id c.args.slot.now c.deref_mut.result.now ∙ ap top c.deref_mut.ensures.value) c.self.invariant.rising; nests = AreNests-set ks i (with_value k c.exchange.new.self) c.exchange.ensures.nest c.self.invariant.nests }
 
 pub returns-clause-rows : goal.returns-clause-rows
 returns-clause-rows g t c =
-    let ge : length c.self.inside.children.items ≤ c.loop-i.i = omega (arith, c.loop-i-test.false, c.len-i-end.ensures, c.self.inside.children.ok.0) in
-    let none = none-all c.args.id c.self.inside.id c.self.inside.children.items c.loop-i.i ge c.loop-i.invariant.none in
-    rw (← c.self.view_is, ne_eqb _ _ c.if-id-self.false, put-absent c.args.id c.args.slot.now (below c.self.inside.id c.self.inside.children.items) none, c.loop-i.invariant.same, c.loop-i.invariant.own, c.loop-i.invariant.content) refl
+    let ks = c.self.inside.children.items in
+    let own = c.self.inside.id in
+    let content = c.self.inside.content in
+    let up = parents c.args.index.now in
+    let w : IsWay up c.args.id ((own, (None, content)) ∷ below own ks) = subst (λ es. IsWay up c.args.id es) (sym c.self.view_is) c.requires in
+    let k = c.index_mut.result.now in
+    let i = c.child_toward-at.result in
+    let lt : i < length ks = rw (← c.deref.ensures.value) c.child_toward-at.ensures.bound in
+    let is : k ≡ get_or ks i k = c.index_mut.ensures.value in
+    let has : has_row c.args.id k.value ≡ true = rw (c.deref.ensures.value, ← c.index_mut.ensures.value) at (c.child_toward-at.ensures.here k) in
+    let none : has_row c.args.id (below own (take i ks)) ≡ false = off_before own ks i k lt is content w.distinct c.args.id has in
+    rw (← c.self.view_is, ne_eqb _ _ c.if-id-self.false, c.exchange.ensures.rows, c.deref_mut.ensures.value) (ap (λ l. (own, (None, content)) ∷ l) (sym (put-child own ks i k lt is c.args.id none c.args.slot.now has)))
 
 pub returns-clause-slot : goal.returns-clause-slot
 returns-clause-slot g t c =
-    let ge : length c.self.inside.children.items ≤ c.loop-i.i = omega (arith, c.loop-i-test.false, c.len-i-end.ensures, c.self.inside.children.ok.0) in
-    let none = none-all c.args.id c.self.inside.id c.self.inside.children.items c.loop-i.i ge c.loop-i.invariant.none in
-    rw (← c.self.view_is, ne_eqb _ _ c.if-id-self.false, taken-absent c.args.id c.args.slot.now (below c.self.inside.id c.self.inside.children.items) none) c.loop-i.invariant.slot
+    let ks = c.self.inside.children.items in
+    let own = c.self.inside.id in
+    let content = c.self.inside.content in
+    let up = parents c.args.index.now in
+    let w : IsWay up c.args.id ((own, (None, content)) ∷ below own ks) = subst (λ es. IsWay up c.args.id es) (sym c.self.view_is) c.requires in
+    let k = c.index_mut.result.now in
+    let i = c.child_toward-at.result in
+    let lt : i < length ks = rw (← c.deref.ensures.value) c.child_toward-at.ensures.bound in
+    let is : k ≡ get_or ks i k = c.index_mut.ensures.value in
+    let has : has_row c.args.id k.value ≡ true = rw (c.deref.ensures.value, ← c.index_mut.ensures.value) at (c.child_toward-at.ensures.here k) in
+    let none : has_row c.args.id (below own (take i ks)) ≡ false = off_before own ks i k lt is content w.distinct c.args.id has in
+    rw (← c.self.view_is, ne_eqb _ _ c.if-id-self.false, c.exchange.ensures.slot, c.deref_mut.ensures.value) (sym (taken-child own ks i k lt is c.args.id none c.args.slot.now has))
 
-pub returns-clause-found : goal.returns-clause-found
-returns-clause-found g t c =
-    let ge : length c.self.inside.children.items ≤ c.loop-i.i = omega (arith, c.loop-i-test.false, c.len-i-end.ensures, c.self.inside.children.ok.0) in
-    let none = none-all c.args.id c.self.inside.id c.self.inside.children.items c.loop-i.i ge c.loop-i.invariant.none in
-    rw (← c.self.view_is, ne_eqb _ _ c.if-id-self.false) (sym none)
-
-pub invariant_of-self-then-exchange : goal.invariant_of-self-then-exchange
-invariant_of-self-then-exchange g t c =
-    let lt : c.loop-i.i < length c.self.inside.children.items = omega (arith, c.loop-i-test.true, c.len-i-end.ensures, c.self.inside.children.ok.0) in
-    let is : c.index_mut.result.now ≡ get_or c.self.inside.children.items c.loop-i.i c.index_mut.result.now = rw (← c.loop-i.invariant.same) c.index_mut.ensures.value in
-    rw c.loop-i.invariant.same (record { rising = rising-set (λ k. top k.value) c.self.inside.children.items c.loop-i.i c.index_mut.result.now (with_value c.index_mut.result.now c.exchange.new.self) lt is (ap top c.exchange.ensures.rows ∙ top-put c.args.id c.loop-i.slot c.deref_mut.result.now ∙ ap top c.deref_mut.ensures.value) c.self.invariant.rising; nests = AreNests-set c.self.inside.children.items c.loop-i.i (with_value c.index_mut.result.now c.exchange.new.self) c.exchange.ensures.nest c.self.invariant.nests })
+pub returns-clause-nest : goal.returns-clause-nest
+returns-clause-nest g t c =
+    let ks = c.self.inside.children.items in
+    let own = c.self.inside.id in
+    let content = c.self.inside.content in
+    let up = parents c.args.index.now in
+    let w : IsWay up c.args.id ((own, (None, content)) ∷ below own ks) = subst (λ es. IsWay up c.args.id es) (sym c.self.view_is) c.requires in
+    let k = c.index_mut.result.now in
+    let i = c.child_toward-at.result in
+    let lt : i < length ks = rw (← c.deref.ensures.value) c.child_toward-at.ensures.bound in
+    let is : k ≡ get_or ks i k = c.index_mut.ensures.value in
+    let has : has_row c.args.id k.value ≡ true = rw (c.deref.ensures.value, ← c.index_mut.ensures.value) at (c.child_toward-at.ensures.here k) in
+    IsNest-view own content (set ks i (with_value k c.exchange.new.self)) (AreNests-set ks i (with_value k c.exchange.new.self) c.exchange.ensures.nest c.self.invariant.nests)

@@ -1,38 +1,68 @@
-use Rattle.std.proofs.Common.{◌≡◌, ◌<◌, ◌∙◌, true, false, sym, refl, length, get_or, take}
+use Rattle.std.proofs.Common.{rules, ◌≡◌, ◌<◌, ◌≤◌, ◌≢◌, ◌∙◌, ◌∷◌, [], None, Some, true, false, refl, sym, ap, subst, length, get_or, take, set, arith}
 use Rattle.std.proofs.lemmas.Bool.{ne_eqb}
-use Rattle.hv_tree.specs.Nest.{has_row}
+use Rattle.std.specs.Box.{with_value}
+use Rattle.std.specs.List.{insert, remove}
+use Rattle.std.proofs.lemmas.List.Sorted.{IsNonDecreasingBy-insert}
+use Rattle.hv_tree.specs.Rows.{children_in}
+use Rattle.hv_tree.specs.Nest.{top, has_row, first_content, IsNest, IsGrownBy, IsWithout, IsPart}
 use Rattle.hv_tree.specs.Below.{below}
-use Rattle.hv_tree.proofs.Lines.{has-shift, look-none}
-use Rattle.hv_tree.proofs.Child.{none-more, none-all, found_has, missed_has, held-row, AreDistinct-child, IsPart-child}
+use Rattle.hv_tree.specs.Index.{parents, IsWay}
+use Rattle.hv_tree.proofs.Lists.{get_or_any, set-same, rising-set, rising-remove}
+use Rattle.hv_tree.proofs.Lines.{top-put}
+use Rattle.hv_tree.proofs.Kids.{IsNest-view, AreNests-set, AreNests-insert, AreNests-remove}
+use Rattle.hv_tree.proofs.Child.{held-row, length-child, put-child, taken-child, off_before, kids-child, AreDistinct-child, IsPart-child, grown-here, grown-child}
+use Rattle.hv_tree.proofs.Gone.{IsWithout-here, IsWithout-child}
+use Rattle.hv_tree.proofs.Toward.{path, way-child, on_ok, on_err, if_some, if_none}
 use Rattle.hv_tree.proofs.node.Node.+find.Goals as goal
 
-pub returns-in-Some-clause-content : goal.returns-in-Some-clause-content
-returns-in-Some-clause-content g t c =
-    let ks = c.self.inside.children.items in
-    let k = c.child-item.result in
-    let lt : c.loop-child.child-index < length ks = rw (← c.deref-child-items.ensures.value) c.loop-child-test.true in
-    let is : k ≡ get_or ks c.loop-child.child-index k = rw (← c.deref-child-items.ensures.value) c.child-item.is in
-    let none : has_row c.args.id (below c.self.inside.id (take c.loop-child.child-index ks)) ≡ false = rw (← c.deref-child-items.ensures.value) (has-shift c.args.id c.self.inside.id 0 (take c.loop-child.child-index c.deref-child-items.result.now) ∙ c.loop-child.invariant) in
-    let found = rw (c.in-Some.is, c.deref.ensures) at c.find.ensures.content in
-    let has : has_row c.args.id k.value ≡ true = found_has c.args.id k.value (λ r. r.1) _ found in
-    rw (← c.self.view_is) (found ∙ sym (held-row c.self.inside.id ks c.loop-child.child-index k lt is c.args.id none c.self.inside.content (ne_eqb _ _ c.if-id-self.false) has))
+pub child_toward-at-requires-clause-path : goal.child_toward-at-requires-clause-path
+child_toward-at-requires-clause-path g t c =
+    let own = c.self.inside.id in
+    let content = c.self.inside.content in
+    let up = parents c.args.index.now in
+    let w : IsWay up c.args.id ((own, (None, content)) ∷ below own c.self.inside.children.items) = subst (λ es. IsWay up c.args.id es) (sym c.self.view_is) c.requires in
+    rw c.deref.ensures.value (path up c.args.id own content c.self.inside.children.items w (ne_eqb _ _ c.if-id-self.false) c.self.invariant.nests)
 
-pub returns-in-Some-clause-part : goal.returns-in-Some-clause-part
-returns-in-Some-clause-part g t c =
+pub find-requires : goal.find-requires
+find-requires g t c κs within =
     let ks = c.self.inside.children.items in
-    let k = c.child-item.result in
-    let lt : c.loop-child.child-index < length ks = rw (← c.deref-child-items.ensures.value) c.loop-child-test.true in
-    let is : k ≡ get_or ks c.loop-child.child-index k = rw (← c.deref-child-items.ensures.value) c.child-item.is in
-    let found = rw (c.in-Some.is, c.deref.ensures) at c.find.ensures.content in
-    let has : has_row c.args.id k.value ≡ true = found_has c.args.id k.value (λ r. r.1) _ found in
-    rw (← c.self.view_is) (λ d. IsPart-child c.self.inside.id ks c.loop-child.child-index k lt is c.self.inside.content d c.args.id has c.self.invariant.nests _
-    (let part = rw (c.in-Some.is, c.deref.ensures) at c.find.ensures.part in part (AreDistinct-child c.self.inside.id ks c.loop-child.child-index k lt is c.self.inside.content d)))
-
-pub loop-child-preserved : goal.loop-child-preserved
-loop-child-preserved g t c = none-more 0 c.deref-child-items.result.now c.loop-child.child-index c.child-item.result c.loop-child-test.true c.child-item.is c.args.id c.loop-child.invariant
-    (missed_has c.args.id c.child-item.result.value (λ r. r.1) (rw (← c.deref.ensures) (rw c.in_default.is at c.find.ensures.content)))
+    let own = c.self.inside.id in
+    let content = c.self.inside.content in
+    let up = parents c.args.index.now in
+    let w : IsWay up c.args.id ((own, (None, content)) ∷ below own ks) = subst (λ es. IsWay up c.args.id es) (sym c.self.view_is) c.requires in
+    let k = c.index.result.now in
+    let i = c.child_toward-at.result in
+    let lt : i < length ks = rw (← c.deref.ensures.value) c.child_toward-at.ensures.bound in
+    let is : k ≡ get_or ks i k = c.index.ensures in
+    let has : has_row c.args.id k.value ≡ true = rw (c.deref.ensures.value, ← c.index.ensures) at (c.child_toward-at.ensures.here k) in
+    let here : IsWay up c.args.id c.deref-2.result.now = subst (λ es. IsWay up c.args.id es) (sym c.deref-2.ensures) (way-child up c.args.id own content ks w i k lt is has) in
+    (omega (arith, c.decreases, length-child own ks i k lt is, ap length c.self.view_is, ap length c.deref-2.ensures), (within.0, (within.1, here)))
 
 pub returns-clause-content : goal.returns-clause-content
 returns-clause-content g t c =
-    let gone : has_row c.args.id (below c.self.inside.id c.self.inside.children.items) ≡ false = rw (← c.deref-child-items.ensures.value) (has-shift c.args.id c.self.inside.id 0 c.deref-child-items.result.now ∙ none-all c.args.id 0 c.deref-child-items.result.now c.loop-child.child-index c.loop-child-test.false c.loop-child.invariant) in
-    rw (← c.self.view_is, ne_eqb _ _ c.if-id-self.false, look-none c.args.id (below c.self.inside.id c.self.inside.children.items) gone) refl
+    let ks = c.self.inside.children.items in
+    let own = c.self.inside.id in
+    let content = c.self.inside.content in
+    let up = parents c.args.index.now in
+    let w : IsWay up c.args.id ((own, (None, content)) ∷ below own ks) = subst (λ es. IsWay up c.args.id es) (sym c.self.view_is) c.requires in
+    let k = c.index.result.now in
+    let i = c.child_toward-at.result in
+    let lt : i < length ks = rw (← c.deref.ensures.value) c.child_toward-at.ensures.bound in
+    let is : k ≡ get_or ks i k = c.index.ensures in
+    let has : has_row c.args.id k.value ≡ true = rw (c.deref.ensures.value, ← c.index.ensures) at (c.child_toward-at.ensures.here k) in
+    let none : has_row c.args.id (below own (take i ks)) ≡ false = off_before own ks i k lt is content w.distinct c.args.id has in
+    rw (← c.self.view_is) (rw c.deref-2.ensures at c.find.ensures.content ∙ sym (held-row own ks i k lt is c.args.id none content (ne_eqb _ _ c.if-id-self.false) has))
+
+pub returns-clause-part : goal.returns-clause-part
+returns-clause-part g t c =
+    let ks = c.self.inside.children.items in
+    let own = c.self.inside.id in
+    let content = c.self.inside.content in
+    let up = parents c.args.index.now in
+    let w : IsWay up c.args.id ((own, (None, content)) ∷ below own ks) = subst (λ es. IsWay up c.args.id es) (sym c.self.view_is) c.requires in
+    let k = c.index.result.now in
+    let i = c.child_toward-at.result in
+    let lt : i < length ks = rw (← c.deref.ensures.value) c.child_toward-at.ensures.bound in
+    let is : k ≡ get_or ks i k = c.index.ensures in
+    let has : has_row c.args.id k.value ≡ true = rw (c.deref.ensures.value, ← c.index.ensures) at (c.child_toward-at.ensures.here k) in
+    rw (← c.self.view_is) (IsPart-child own ks i k lt is content w.distinct c.args.id has c.self.invariant.nests _ (rw c.deref-2.ensures at c.find.ensures.part))

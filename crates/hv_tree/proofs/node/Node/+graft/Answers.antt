@@ -1,70 +1,136 @@
-use Rattle.std.proofs.Common.{◌≡◌, ◌<◌, ◌∙◌, None, ap, length, get_or, set, arith}
+use Rattle.std.proofs.Common.{rules, ◌≡◌, ◌<◌, ◌≤◌, ◌≢◌, ◌∙◌, ◌∷◌, [], None, Some, true, false, refl, sym, ap, subst, length, get_or, take, set, arith}
+use Rattle.std.proofs.lemmas.Bool.{ne_eqb}
 use Rattle.std.specs.Box.{with_value}
-use Rattle.std.specs.List.{insert}
+use Rattle.std.specs.List.{insert, remove}
 use Rattle.std.proofs.lemmas.List.Sorted.{IsNonDecreasingBy-insert}
-use Rattle.hv_tree.specs.Nest.{top, IsNest, IsGrownBy}
-use Rattle.hv_tree.proofs.Lists.{set-same, rising-set}
-use Rattle.hv_tree.proofs.Kids.{IsNest-view, AreNests-set, AreNests-insert}
-use Rattle.hv_tree.proofs.Child.{grown-here, grown-child}
+use Rattle.hv_tree.specs.Rows.{children_in}
+use Rattle.hv_tree.specs.Nest.{top, has_row, first_content, IsNest, IsGrownBy, IsWithout, IsPart}
+use Rattle.hv_tree.specs.Below.{below}
+use Rattle.hv_tree.specs.Index.{parents, IsWay}
+use Rattle.hv_tree.proofs.Lists.{get_or_any, set-same, rising-set, rising-remove}
+use Rattle.hv_tree.proofs.Lines.{top-put}
+use Rattle.hv_tree.proofs.Kids.{IsNest-view, AreNests-set, AreNests-insert, AreNests-remove}
+use Rattle.hv_tree.proofs.Child.{held-row, length-child, put-child, taken-child, off_before, kids-child, AreDistinct-child, IsPart-child, grown-here, grown-child}
+use Rattle.hv_tree.proofs.Gone.{IsWithout-here, IsWithout-child}
+use Rattle.hv_tree.proofs.Toward.{path, way-child, on_ok, on_err, if_some, if_none}
 use Rattle.hv_tree.proofs.node.Node.+graft.Goals as goal
 
-pub returns-in-Err-clause-nest : goal.returns-in-Err-clause-nest
-returns-in-Err-clause-nest g t c = rw c.in-Err.ensures.items (IsNest-view c.self.inside.id c.self.inside.content c.self.inside.children.items c.self.invariant.nests)
+pub child_toward-at-requires-clause-path : goal.child_toward-at-requires-clause-path
+child_toward-at-requires-clause-path g t c =
+    let own = c.self.inside.id in
+    let content = c.self.inside.content in
+    let up = parents c.args.index.now in
+    let w : IsWay up c.args.parent ((own, (None, content)) ∷ below own c.self.inside.children.items) = subst (λ es. IsWay up c.args.parent es) (sym c.self.view_is) c.requires in
+    rw c.deref.ensures.value (path up c.args.parent own content c.self.inside.children.items w (ne_eqb _ _ c.if-parent-self.true) c.self.invariant.nests)
 
-pub invariant_of-self-then-parent-self : goal.invariant_of-self-then-parent-self
-invariant_of-self-then-parent-self g t c =
+pub graft-requires : goal.graft-requires
+graft-requires g t c κs within =
     let ks = c.self.inside.children.items in
-    let id_is : c.id.result ≡ top c.args.node.value = c.id.ensures.value ∙ ap top c.deref-then-parent-self.ensures in
-    let nest : IsNest c.args.node.value = rw (← c.deref-then-parent-self.ensures) c.id.ensures.nest in
-    rw (c.in_default.ensures.items) (record {
-      rising = IsNonDecreasingBy-insert (λ k. top k.value) ks c.first_above-at.result c.args.node c.self.invariant.rising
-          (rw (← c.deref.ensures.value) c.first_above-at.ensures.bound)
-          (λ k d h. rw (← c.deref.ensures.value, ← id_is) (c.first_above-at.ensures.place.0 k d (omega arith) h))
-          (λ k d h l. rw (← c.deref.ensures.value, ← id_is) (omega (arith, c.first_above-at.ensures.place.1 k d h (rw c.deref.ensures.value l))));
-      nests = AreNests-insert ks c.first_above-at.result c.args.node nest c.self.invariant.nests;
-    })
+    let own = c.self.inside.id in
+    let content = c.self.inside.content in
+    let up = parents c.args.index.now in
+    let w : IsWay up c.args.parent ((own, (None, content)) ∷ below own ks) = subst (λ es. IsWay up c.args.parent es) (sym c.self.view_is) c.requires in
+    let k = c.index_mut.result.now in
+    let i = c.child_toward-at.result in
+    let lt : i < length ks = rw (← c.deref.ensures.value) c.child_toward-at.ensures.bound in
+    let is : k ≡ get_or ks i k = c.index_mut.ensures.value in
+    let has : has_row c.args.parent k.value ≡ true = rw (c.deref.ensures.value, ← c.index_mut.ensures.value) at (c.child_toward-at.ensures.here k) in
+    let here : IsWay up c.args.parent c.deref_mut.result.now = subst (λ es. IsWay up c.args.parent es) (sym c.deref_mut.ensures.value) (way-child up c.args.parent own content ks w i k lt is has) in
+    (omega (arith, c.decreases, length-child own ks i k lt is, ap length c.self.view_is, ap length c.deref_mut.ensures.value), (within.0, (within.1, here)))
+
+pub invariant_of-self : goal.invariant_of-self
+invariant_of-self g t c =
+    let ks = c.self.inside.children.items in
+    let own = c.self.inside.id in
+    let content = c.self.inside.content in
+    let up = parents c.args.index.now in
+    let w : IsWay up c.args.parent ((own, (None, content)) ∷ below own ks) = subst (λ es. IsWay up c.args.parent es) (sym c.self.view_is) c.requires in
+    let k = c.index_mut.result.now in
+    let i = c.child_toward-at.result in
+    let lt : i < length ks = rw (← c.deref.ensures.value) c.child_toward-at.ensures.bound in
+    let is : k ≡ get_or ks i k = c.index_mut.ensures.value in
+    let has : has_row c.args.parent k.value ≡ true = rw (c.deref.ensures.value, ← c.index_mut.ensures.value) at (c.child_toward-at.ensures.here k) in
+    record { rising = rising-set (λ k. top k.value) ks i k (with_value k c.graft.new.self) lt is (c.graft.ensures.top ∙ ap top c.deref_mut.ensures.value) c.self.invariant.rising; nests = AreNests-set ks i (with_value k c.graft.new.self) c.graft.ensures.nest c.self.invariant.nests }
 
 pub returns-then-parent-self-clause-ok : goal.returns-then-parent-self-clause-ok
 returns-then-parent-self-clause-ok g t c =
-    rw (← c.self.view_is, c.in_default.ensures.items, c.if-parent-self.true) (grown-here c.self.inside.id (c.self.inside.id, (None, c.self.inside.content)) c.self.inside.children.items c.first_above-at.result c.args.node)
+    let ks = c.self.inside.children.items in
+    let own = c.self.inside.id in
+    let content = c.self.inside.content in
+    let up = parents c.args.index.now in
+    let w : IsWay up c.args.parent ((own, (None, content)) ∷ below own ks) = subst (λ es. IsWay up c.args.parent es) (sym c.self.view_is) c.requires in
+    let k = c.index_mut.result.now in
+    let i = c.child_toward-at.result in
+    let lt : i < length ks = rw (← c.deref.ensures.value) c.child_toward-at.ensures.bound in
+    let is : k ≡ get_or ks i k = c.index_mut.ensures.value in
+    let has : has_row c.args.parent k.value ≡ true = rw (c.deref.ensures.value, ← c.index_mut.ensures.value) at (c.child_toward-at.ensures.here k) in
+    rw (← c.self.view_is) (on_ok c.graft.result (λ grown. grown-child own ks i k lt is (own, (None, content)) c.args.parent c.args.node.value c.graft.new.self (subst (λ es. IsGrownBy c.args.parent c.args.node.value es c.graft.new.self) c.deref_mut.ensures.value grown)) c.graft.ensures.ok)
+
+pub returns-then-parent-self-clause-err : goal.returns-then-parent-self-clause-err
+returns-then-parent-self-clause-err g t c =
+    let ks = c.self.inside.children.items in
+    let own = c.self.inside.id in
+    let content = c.self.inside.content in
+    let up = parents c.args.index.now in
+    let w : IsWay up c.args.parent ((own, (None, content)) ∷ below own ks) = subst (λ es. IsWay up c.args.parent es) (sym c.self.view_is) c.requires in
+    let k = c.index_mut.result.now in
+    let i = c.child_toward-at.result in
+    let lt : i < length ks = rw (← c.deref.ensures.value) c.child_toward-at.ensures.bound in
+    let is : k ≡ get_or ks i k = c.index_mut.ensures.value in
+    let has : has_row c.args.parent k.value ≡ true = rw (c.deref.ensures.value, ← c.index_mut.ensures.value) at (c.child_toward-at.ensures.here k) in
+    rw (← c.self.view_is) (on_err c.graft.result (λ stays. ap (λ s. (own, (None, content)) ∷ below own s) (ap (λ v. set ks i (with_value k v)) (stays ∙ c.deref_mut.ensures.value) ∙ set-same ks i k lt is)) c.graft.ensures.err)
 
 pub returns-then-parent-self-clause-nest : goal.returns-then-parent-self-clause-nest
 returns-then-parent-self-clause-nest g t c =
-    let nest : IsNest c.args.node.value = rw (← c.deref-then-parent-self.ensures) c.id.ensures.nest in
-    rw (c.in_default.ensures.items) (IsNest-view c.self.inside.id c.self.inside.content (insert c.self.inside.children.items c.first_above-at.result c.args.node) (AreNests-insert c.self.inside.children.items c.first_above-at.result c.args.node nest c.self.invariant.nests))
-
-pub invariant_of-self-in-Ok : goal.invariant_of-self-in-Ok
-invariant_of-self-in-Ok g t c =
     let ks = c.self.inside.children.items in
-    let lt : c.loop-i.i < length ks = omega (arith, c.loop-i-test.true, c.len-i-end.ensures, c.self.inside.children.ok.0) in
-    let is : c.index_mut.result.now ≡ get_or ks c.loop-i.i c.index_mut.result.now = rw (← c.loop-i.invariant.same) c.index_mut.ensures.value in
-    rw c.loop-i.invariant.same (record {
-      rising = rising-set (λ k. top k.value) ks c.loop-i.i c.index_mut.result.now (with_value c.index_mut.result.now c.graft.new.self) lt is (c.graft.ensures.top ∙ ap top c.deref_mut.ensures.value) c.self.invariant.rising;
-      nests = AreNests-set ks c.loop-i.i (with_value c.index_mut.result.now c.graft.new.self) c.graft.ensures.nest c.self.invariant.nests;
+    let own = c.self.inside.id in
+    let content = c.self.inside.content in
+    let up = parents c.args.index.now in
+    let w : IsWay up c.args.parent ((own, (None, content)) ∷ below own ks) = subst (λ es. IsWay up c.args.parent es) (sym c.self.view_is) c.requires in
+    let k = c.index_mut.result.now in
+    let i = c.child_toward-at.result in
+    let lt : i < length ks = rw (← c.deref.ensures.value) c.child_toward-at.ensures.bound in
+    let is : k ≡ get_or ks i k = c.index_mut.ensures.value in
+    let has : has_row c.args.parent k.value ≡ true = rw (c.deref.ensures.value, ← c.index_mut.ensures.value) at (c.child_toward-at.ensures.here k) in
+    IsNest-view own content (set ks i (with_value k c.graft.new.self)) (AreNests-set ks i (with_value k c.graft.new.self) c.graft.ensures.nest c.self.invariant.nests)
+
+pub returns-then-is_err-clause-nest : goal.returns-then-is_err-clause-nest
+returns-then-is_err-clause-nest g t c = rw c.reserve.ensures.items (IsNest-view c.self.inside.id c.self.inside.content c.self.inside.children.items c.self.invariant.nests)
+
+pub returns-then-is_err-2-clause-nest : goal.returns-then-is_err-2-clause-nest
+returns-then-is_err-2-clause-nest g t c = rw c.reserve.ensures.items (IsNest-view c.self.inside.id c.self.inside.content c.self.inside.children.items c.self.invariant.nests)
+
+pub invariant_of-self-2 : goal.invariant_of-self-2
+invariant_of-self-2 g t c =
+    let ks = c.self.inside.children.items in
+    let at = c.first_above-at.result in
+    let items : c.insert.new.self.items ≡ insert ks at c.args.node = c.in-Ok.ensures.items ∙ ap (λ l. insert l at c.args.node) c.reserve.ensures.items in
+    let slice : c.deref-3.result.now ≡ ks = c.deref-3.ensures.value ∙ c.reserve.ensures.items in
+    let id_is : c.id-id.result ≡ top c.args.node.value = c.id-id.ensures.value ∙ ap top c.deref-2.ensures in
+    let nest : IsNest c.args.node.value = rw (← c.deref-2.ensures) c.id-id.ensures.nest in
+    rw items (record {
+      rising = IsNonDecreasingBy-insert (λ k. top k.value) ks at c.args.node c.self.invariant.rising (rw (← slice) c.first_above-at.ensures.bound)
+          (λ k d h. rw (← slice, ← id_is) (c.first_above-at.ensures.place.0 k d (omega arith) h))
+          (λ k d h l. rw (← slice, ← id_is) (omega (arith, c.first_above-at.ensures.place.1 k d h (rw slice l))));
+      nests = AreNests-insert ks at c.args.node nest c.self.invariant.nests;
     })
 
-pub returns-in-Ok-clause-ok : goal.returns-in-Ok-clause-ok
-returns-in-Ok-clause-ok g t c =
+pub returns-clause-ok : goal.returns-clause-ok
+returns-clause-ok g t c =
     let ks = c.self.inside.children.items in
-    let lt : c.loop-i.i < length ks = omega (arith, c.loop-i-test.true, c.len-i-end.ensures, c.self.inside.children.ok.0) in
-    let is : c.index_mut.result.now ≡ get_or ks c.loop-i.i c.index_mut.result.now = rw (← c.loop-i.invariant.same) c.index_mut.ensures.value in
-    let grown : IsGrownBy c.args.parent c.args.node.value c.index_mut.result.now.value c.graft.new.self = rw (← c.loop-i.invariant.node, ← c.deref_mut.ensures.value) c.in-Ok.ensures.ok in
-    rw (← c.self.view_is, c.loop-i.invariant.same, c.loop-i.invariant.own, c.loop-i.invariant.content) (grown-child c.self.inside.id ks c.loop-i.i c.index_mut.result.now lt is (c.self.inside.id, (None, c.self.inside.content)) c.args.parent c.args.node.value c.graft.new.self grown)
-
-pub returns-in-Ok-clause-nest : goal.returns-in-Ok-clause-nest
-returns-in-Ok-clause-nest g t c = rw c.loop-i.invariant.same (IsNest-view c.loop-i.self-inside.id c.loop-i.self-inside.content (set c.self.inside.children.items c.loop-i.i (with_value c.index_mut.result.now c.graft.new.self)) (AreNests-set c.self.inside.children.items c.loop-i.i (with_value c.index_mut.result.now c.graft.new.self) c.graft.ensures.nest c.self.invariant.nests))
-
-pub loop-i-preserved : goal.loop-i-preserved
-loop-i-preserved g t c =
-    let ks = c.self.inside.children.items in
-    let lt : c.loop-i.i < length ks = omega (arith, c.loop-i-test.true, c.len-i-end.ensures, c.self.inside.children.ok.0) in
-    let is : c.index_mut.result.now ≡ get_or ks c.loop-i.i c.index_mut.result.now = rw (← c.loop-i.invariant.same) c.index_mut.ensures.value in
-    record {
-      same = rw (c.in-Err-graft.ensures.err, c.deref_mut.ensures.value, c.loop-i.invariant.same) (set-same ks c.loop-i.i c.index_mut.result.now lt is);
-      own = c.loop-i.invariant.own;
-      content = c.loop-i.invariant.content;
-      node = c.in-Err-graft.ensures.back ∙ c.loop-i.invariant.node;
-    }
+    let at = c.first_above-at.result in
+    let items : c.insert.new.self.items ≡ insert ks at c.args.node = c.in-Ok.ensures.items ∙ ap (λ l. insert l at c.args.node) c.reserve.ensures.items in
+    let slice : c.deref-3.result.now ≡ ks = c.deref-3.ensures.value ∙ c.reserve.ensures.items in
+    let id_is : c.id-id.result ≡ top c.args.node.value = c.id-id.ensures.value ∙ ap top c.deref-2.ensures in
+    let nest : IsNest c.args.node.value = rw (← c.deref-2.ensures) c.id-id.ensures.nest in
+    rw (← c.self.view_is, items, c.if-parent-self.false) (grown-here c.self.inside.id (c.self.inside.id, (None, c.self.inside.content)) ks at c.args.node)
 
 pub returns-clause-nest : goal.returns-clause-nest
-returns-clause-nest g t c = rw c.loop-i.invariant.same (IsNest-view c.loop-i.self-inside.id c.loop-i.self-inside.content c.self.inside.children.items c.self.invariant.nests)
+returns-clause-nest g t c =
+    let ks = c.self.inside.children.items in
+    let at = c.first_above-at.result in
+    let items : c.insert.new.self.items ≡ insert ks at c.args.node = c.in-Ok.ensures.items ∙ ap (λ l. insert l at c.args.node) c.reserve.ensures.items in
+    let slice : c.deref-3.result.now ≡ ks = c.deref-3.ensures.value ∙ c.reserve.ensures.items in
+    let id_is : c.id-id.result ≡ top c.args.node.value = c.id-id.ensures.value ∙ ap top c.deref-2.ensures in
+    let nest : IsNest c.args.node.value = rw (← c.deref-2.ensures) c.id-id.ensures.nest in
+    rw items (IsNest-view c.self.inside.id c.self.inside.content (insert ks at c.args.node) (AreNests-insert ks at c.args.node nest c.self.invariant.nests))

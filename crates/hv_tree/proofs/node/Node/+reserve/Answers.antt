@@ -1,41 +1,67 @@
-use Rattle.std.proofs.Common.{◌≡◌, ◌<◌, ◌∙◌, true, false, refl, sym, length, get_or, arith}
+use Rattle.std.proofs.Common.{rules, ◌≡◌, ◌<◌, ◌≤◌, ◌≢◌, ◌∙◌, ◌∷◌, [], None, Some, true, false, refl, sym, ap, subst, length, get_or, take, set, arith}
 use Rattle.std.proofs.lemmas.Bool.{ne_eqb}
-use Rattle.hv_tree.specs.Nest.{has_row}
-use Rattle.hv_tree.proofs.Lists.{set-same}
-use Rattle.hv_tree.proofs.Child.{has-child, none-more}
+use Rattle.std.specs.Box.{with_value}
+use Rattle.std.specs.List.{insert, remove}
+use Rattle.std.proofs.lemmas.List.Sorted.{IsNonDecreasingBy-insert}
+use Rattle.hv_tree.specs.Rows.{children_in}
+use Rattle.hv_tree.specs.Nest.{top, has_row, first_content, IsNest, IsGrownBy, IsWithout, IsPart}
+use Rattle.hv_tree.specs.Below.{below}
+use Rattle.hv_tree.specs.Index.{parents, IsWay}
+use Rattle.hv_tree.proofs.Lists.{get_or_any, set-same, rising-set, rising-remove}
+use Rattle.hv_tree.proofs.Lines.{top-put}
+use Rattle.hv_tree.proofs.Kids.{IsNest-view, AreNests-set, AreNests-insert, AreNests-remove}
+use Rattle.hv_tree.proofs.Child.{held-row, length-child, put-child, taken-child, off_before, kids-child, AreDistinct-child, IsPart-child, grown-here, grown-child}
+use Rattle.hv_tree.proofs.Gone.{IsWithout-here, IsWithout-child}
+use Rattle.hv_tree.proofs.Toward.{path, way-child, on_ok, on_err, if_some, if_none}
 use Rattle.hv_tree.proofs.node.Node.+reserve.Goals as goal
 
-pub invariant_of-self-in-Some : goal.invariant_of-self-in-Some
-invariant_of-self-in-Some g t c =
-    let ks = c.self.inside.children.items in
-    let lt : c.loop-i.i < length ks = omega (arith, c.loop-i-test.true, c.len-i-end.ensures, c.self.inside.children.ok.0) in
-    let is : c.index_mut.result.now ≡ get_or ks c.loop-i.i c.index_mut.result.now = rw (← c.loop-i.invariant.same) c.index_mut.ensures.value in
-    rw (c.in-Some.ensures.rows, c.deref_mut.ensures.value, c.loop-i.invariant.same, set-same ks c.loop-i.i c.index_mut.result.now lt is) c.self.invariant
+pub child_toward-at-requires-clause-path : goal.child_toward-at-requires-clause-path
+child_toward-at-requires-clause-path g t c =
+    let own = c.self.inside.id in
+    let content = c.self.inside.content in
+    let up = parents c.args.index.now in
+    let w : IsWay up c.args.parent ((own, (None, content)) ∷ below own c.self.inside.children.items) = subst (λ es. IsWay up c.args.parent es) (sym c.self.view_is) c.requires in
+    rw c.deref.ensures.value (path up c.args.parent own content c.self.inside.children.items w (ne_eqb _ _ c.if-parent-self.false) c.self.invariant.nests)
 
-pub returns-in-Some-clause-rows : goal.returns-in-Some-clause-rows
-returns-in-Some-clause-rows g t c =
+pub reserve-requires-2 : goal.reserve-requires-2
+reserve-requires-2 g t c κs within =
     let ks = c.self.inside.children.items in
-    let lt : c.loop-i.i < length ks = omega (arith, c.loop-i-test.true, c.len-i-end.ensures, c.self.inside.children.ok.0) in
-    let is : c.index_mut.result.now ≡ get_or ks c.loop-i.i c.index_mut.result.now = rw (← c.loop-i.invariant.same) c.index_mut.ensures.value in
-    rw (c.in-Some.ensures.rows, c.deref_mut.ensures.value, c.loop-i.invariant.same, set-same ks c.loop-i.i c.index_mut.result.now lt is, c.loop-i.invariant.own, c.loop-i.invariant.content) c.self.view_is
+    let own = c.self.inside.id in
+    let content = c.self.inside.content in
+    let up = parents c.args.index.now in
+    let w : IsWay up c.args.parent ((own, (None, content)) ∷ below own ks) = subst (λ es. IsWay up c.args.parent es) (sym c.self.view_is) c.requires in
+    let k = c.index_mut.result.now in
+    let i = c.child_toward-at.result in
+    let lt : i < length ks = rw (← c.deref.ensures.value) c.child_toward-at.ensures.bound in
+    let is : k ≡ get_or ks i k = c.index_mut.ensures.value in
+    let has : has_row c.args.parent k.value ≡ true = rw (c.deref.ensures.value, ← c.index_mut.ensures.value) at (c.child_toward-at.ensures.here k) in
+    let here : IsWay up c.args.parent c.deref_mut.result.now = subst (λ es. IsWay up c.args.parent es) (sym c.deref_mut.ensures.value) (way-child up c.args.parent own content ks w i k lt is has) in
+    (omega (arith, c.decreases, length-child own ks i k lt is, ap length c.self.view_is, ap length c.deref_mut.ensures.value), (within.0, (within.1, here)))
 
-pub returns-in-Some-clause-found : goal.returns-in-Some-clause-found
-returns-in-Some-clause-found g t c =
+pub invariant_of-self-2 : goal.invariant_of-self-2
+invariant_of-self-2 g t c =
     let ks = c.self.inside.children.items in
-    let lt : c.loop-i.i < length ks = omega (arith, c.loop-i-test.true, c.len-i-end.ensures, c.self.inside.children.ok.0) in
-    let is : c.index_mut.result.now ≡ get_or ks c.loop-i.i c.index_mut.result.now = rw (← c.loop-i.invariant.same) c.index_mut.ensures.value in
-    let has : has_row c.args.parent c.index_mut.result.now.value ≡ true = rw (← c.deref_mut.ensures.value) (sym c.in-Some.ensures.found) in
-    rw (← c.self.view_is, ne_eqb _ _ c.if-parent-self.false) (sym (has-child c.self.inside.id ks c.loop-i.i c.index_mut.result.now lt is c.args.parent c.loop-i.invariant.none has))
+    let own = c.self.inside.id in
+    let content = c.self.inside.content in
+    let up = parents c.args.index.now in
+    let w : IsWay up c.args.parent ((own, (None, content)) ∷ below own ks) = subst (λ es. IsWay up c.args.parent es) (sym c.self.view_is) c.requires in
+    let k = c.index_mut.result.now in
+    let i = c.child_toward-at.result in
+    let lt : i < length ks = rw (← c.deref.ensures.value) c.child_toward-at.ensures.bound in
+    let is : k ≡ get_or ks i k = c.index_mut.ensures.value in
+    let has : has_row c.args.parent k.value ≡ true = rw (c.deref.ensures.value, ← c.index_mut.ensures.value) at (c.child_toward-at.ensures.here k) in
+    rw (ap (λ v. set ks i (with_value k v)) (c.reserve-2.ensures ∙ c.deref_mut.ensures.value) ∙ set-same ks i k lt is) c.self.invariant
 
-pub loop-i-preserved : goal.loop-i-preserved
-loop-i-preserved g t c =
+pub returns : goal.returns
+returns g t c =
     let ks = c.self.inside.children.items in
-    let lt : c.loop-i.i < length ks = omega (arith, c.loop-i-test.true, c.len-i-end.ensures, c.self.inside.children.ok.0) in
-    let is : c.index_mut.result.now ≡ get_or ks c.loop-i.i c.index_mut.result.now = rw (← c.loop-i.invariant.same) c.index_mut.ensures.value in
-    let lacks : has_row c.args.parent c.index_mut.result.now.value ≡ false = rw (← c.deref_mut.ensures.value) (sym c.reserve-in-loop-i.ensures.found ∙ (rw c.in_default.is refl)) in
-    record {
-      same = rw (c.reserve-in-loop-i.ensures.rows, c.deref_mut.ensures.value, c.loop-i.invariant.same) (set-same ks c.loop-i.i c.index_mut.result.now lt is);
-      own = c.loop-i.invariant.own;
-      content = c.loop-i.invariant.content;
-      none = none-more c.self.inside.id ks c.loop-i.i c.index_mut.result.now lt is c.args.parent c.loop-i.invariant.none lacks;
-    }
+    let own = c.self.inside.id in
+    let content = c.self.inside.content in
+    let up = parents c.args.index.now in
+    let w : IsWay up c.args.parent ((own, (None, content)) ∷ below own ks) = subst (λ es. IsWay up c.args.parent es) (sym c.self.view_is) c.requires in
+    let k = c.index_mut.result.now in
+    let i = c.child_toward-at.result in
+    let lt : i < length ks = rw (← c.deref.ensures.value) c.child_toward-at.ensures.bound in
+    let is : k ≡ get_or ks i k = c.index_mut.ensures.value in
+    let has : has_row c.args.parent k.value ≡ true = rw (c.deref.ensures.value, ← c.index_mut.ensures.value) at (c.child_toward-at.ensures.here k) in
+    rw (← c.self.view_is) (ap (λ s. (own, (None, content)) ∷ below own s) (ap (λ v. set ks i (with_value k v)) (c.reserve-2.ensures ∙ c.deref_mut.ensures.value) ∙ set-same ks i k lt is))

@@ -1,35 +1,36 @@
-use Rattle.std.proofs.Common.{◌≡◌, ◌∙◌, sym, ap, arith, length, Some}
-use Rattle.hv_tree.specs.Rows.{children}
+use Rattle.std.proofs.Common.{rules, ◌≡◌, ◌<◌, ◌≤◌, ◌≢◌, ◌∙◌, ◌∷◌, ◌==◌, [], None, Some, true, false, refl, sym, ap, subst, length, arith, inl, inr, is_some}
+use Rattle.std.proofs.lemmas.Bool.{ne_eqb, eq-eqb}
+use Rattle.hv_tree.specs.Rows.{children, children_in, IsLeastAbove}
+use Rattle.hv_tree.specs.Nest.{top, has_row, IsNest}
+use Rattle.hv_tree.specs.Index.{parents, IsWay}
 use Rattle.hv_tree.proofs.Lists.{no_items}
-use Rattle.hv_tree.proofs.Child.{found_has, missed_has}
-use Rattle.hv_tree.proofs.Seen.{IsShown, IsTree-seen, get_none, get_some, kids-found}
-use Rattle.hv_tree.proofs.Kin.{count-seen}
+use Rattle.hv_tree.proofs.Child.{found_has}
+use Rattle.hv_tree.proofs.Gone.{has-nest}
+use Rattle.hv_tree.proofs.Got.{got_none, got_here, got_lent}
+use Rattle.hv_tree.proofs.Kin.{kids-seen, count-seen, IsLeastAbove-permutation, IsLeastAbove-none}
+use Rattle.hv_tree.proofs.Seen.{IsShown, IsTree-seen, has-seen, get-seen, get_none, get_some, kids-found, HasDepth-seen}
+use Rattle.hv_tree.proofs.Toward.{way-there, has-indexed}
 use Rattle.hv_tree.proofs.tree.IdTree.children_of.Goals as goal
 
-pub returns-in-None-clause-value : goal.returns-in-None-clause-value
-returns-in-None-clause-value g c =
-    let s : IsShown c.self.inside.lent c.self.inside.root c.self.inside.count c.args.self.now = record { sound = c.self.invariant; seen = c.self.view_is } in
-    sym (get_none s c.args.id _ (missed_has c.args.id c.self.inside.root (λ r. r.1) c.in-None.ensures.content))
-
-pub returns-in-None-clause-none : goal.returns-in-None-clause-none
-returns-in-None-clause-none g c =
-    let s : IsShown c.self.inside.lent c.self.inside.root c.self.inside.count c.args.self.now = record { sound = c.self.invariant; seen = c.self.view_is } in
-    no_items (children c.args.self.now c.args.id) (count-seen s c.args.id ∙ ap length (c.self.invariant.nest.closed c.args.id (missed_has c.args.id c.self.inside.root (λ r. r.1) c.in-None.ensures.content)))
-
-pub returns-in-None-clause-tree : goal.returns-in-None-clause-tree
-returns-in-None-clause-tree g c = IsTree-seen {l = c.self.inside.lent} {es = c.self.inside.root} {n = c.self.inside.count} (record { sound = c.self.invariant; seen = c.self.view_is })
+pub find-node-requires : goal.find-node-requires
+find-node-requires g c =
+    let s : IsShown c.self.inside.lent c.self.inside.root c.self.inside.count c.args.self.now = record { sound = c.self.invariant.sound; seen = c.self.view_is } in
+    let has : has_row c.args.id c.self.inside.root ≡ true = sym (has-seen s c.args.id) ∙ sym c.contains.ensures.value ∙ c.if-not-contains.false in
+    let way : IsWay (parents c.self.inside.index) c.args.id c.self.inside.root = way-there c.args.id c.self.inside.root (parents c.self.inside.index) c.self.invariant.sound.distinct c.self.invariant.indexed has in
+    way
 
 pub overflow_cast-result : goal.overflow_cast-result
 overflow_cast-result g c =
-    let part = c.in-Some.ensures.part c.self.invariant.distinct in
-    omega (arith, c.child_count.ensures part.distinct, ap length (kids-found c.args.id c.self.inside.root c.in-Some.node.now part c.in-Some.ensures.here), c.self.invariant.few c.args.id)
+    omega (arith, c.child_count.ensures c.find-node.ensures.part.distinct, ap length (kids-found c.args.id c.self.inside.root c.find-node.result.now c.find-node.ensures.part c.find-node.ensures.here), c.self.invariant.sound.few c.args.id)
 
-pub returns-in-Some-clause-value : goal.returns-in-Some-clause-value
-returns-in-Some-clause-value g c =
-    let s : IsShown c.self.inside.lent c.self.inside.root c.self.inside.count c.args.self.now = record { sound = c.self.invariant; seen = c.self.view_is } in
-    let part = c.in-Some.ensures.part c.self.invariant.distinct in
-    let count : c.child_count.result ≡ length (children c.args.self.now c.args.id) = c.child_count.ensures part.distinct ∙ ap length (kids-found c.args.id c.self.inside.root c.in-Some.node.now part c.in-Some.ensures.here) ∙ sym (count-seen s c.args.id) in
-    ap Some count ∙ sym (get_some s c.args.id _ (found_has c.args.id c.self.inside.root (λ r. r.1) _ c.in-Some.ensures.content))
+pub returns-clause-value : goal.returns-clause-value
+returns-clause-value g c =
+    let s : IsShown c.self.inside.lent c.self.inside.root c.self.inside.count c.args.self.now = record { sound = c.self.invariant.sound; seen = c.self.view_is } in
+    let has : has_row c.args.id c.self.inside.root ≡ true = sym (has-seen s c.args.id) ∙ sym c.contains.ensures.value ∙ c.if-not-contains.false in
+    let part = c.find-node.ensures.part in
+    let count : c.child_count.result ≡ length (children c.args.self.now c.args.id) = c.child_count.ensures part.distinct ∙ ap length (kids-found c.args.id c.self.inside.root c.find-node.result.now part c.find-node.ensures.here) ∙ sym (count-seen s c.args.id) in
+    ap Some count ∙ sym (get_some s c.args.id _ has)
 
-pub returns-in-Some-clause-tree : goal.returns-in-Some-clause-tree
-returns-in-Some-clause-tree g c = IsTree-seen {l = c.self.inside.lent} {es = c.self.inside.root} {n = c.self.inside.count} (record { sound = c.self.invariant; seen = c.self.view_is })
+pub returns-clause-tree : goal.returns-clause-tree
+returns-clause-tree g c =
+    IsTree-seen {l = c.self.inside.lent} {es = c.self.inside.root} {n = c.self.inside.count} (record { sound = c.self.invariant.sound; seen = c.self.view_is })

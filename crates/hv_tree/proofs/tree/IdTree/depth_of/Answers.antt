@@ -1,25 +1,28 @@
-use Rattle.std.proofs.Common.{◌∙◌, sym, arith}
-use Rattle.hv_tree.proofs.Child.{found_has, missed_has}
-use Rattle.hv_tree.proofs.Seen.{IsShown, IsTree-seen, has-seen, HasDepth-seen}
+use Rattle.std.proofs.Common.{rules, ◌≡◌, ◌<◌, ◌≤◌, ◌≢◌, ◌∙◌, ◌∷◌, ◌==◌, [], None, Some, true, false, refl, sym, ap, subst, length, arith, inl, inr, is_some}
+use Rattle.std.proofs.lemmas.Bool.{ne_eqb, eq-eqb}
+use Rattle.hv_tree.specs.Rows.{children, children_in, IsLeastAbove}
+use Rattle.hv_tree.specs.Nest.{top, has_row, IsNest}
+use Rattle.hv_tree.specs.Index.{parents, IsWay}
+use Rattle.hv_tree.proofs.Lists.{no_items}
+use Rattle.hv_tree.proofs.Child.{found_has}
+use Rattle.hv_tree.proofs.Gone.{has-nest}
+use Rattle.hv_tree.proofs.Got.{got_none, got_here, got_lent}
+use Rattle.hv_tree.proofs.Kin.{kids-seen, count-seen, IsLeastAbove-permutation, IsLeastAbove-none}
+use Rattle.hv_tree.proofs.Seen.{IsShown, IsTree-seen, has-seen, get-seen, get_none, get_some, kids-found, HasDepth-seen}
+use Rattle.hv_tree.proofs.Toward.{way-there, has-indexed}
 use Rattle.hv_tree.proofs.tree.IdTree.depth_of.Goals as goal
 
-pub returns-in-None-clause-found : goal.returns-in-None-clause-found
-returns-in-None-clause-found g c =
-    let s : IsShown c.self.inside.lent c.self.inside.root c.self.inside.count c.args.self.now = record { sound = c.self.invariant; seen = c.self.view_is } in
-    sym (has-seen s c.args.id ∙ missed_has c.args.id c.self.inside.root (λ r. r.0) c.in-None.ensures.parent)
+pub depth-requires-clause-has : goal.depth-requires-clause-has
+depth-requires-clause-has g c =
+    let s : IsShown c.self.inside.lent c.self.inside.root c.self.inside.count c.args.self.now = record { sound = c.self.invariant.sound; seen = c.self.view_is } in
+    let has : has_row c.args.id c.self.inside.root ≡ true = sym (has-seen s c.args.id) ∙ sym c.contains.ensures.value ∙ c.if-not-contains.false in
+    has
 
-pub returns-in-None-clause-tree : goal.returns-in-None-clause-tree
-returns-in-None-clause-tree g c = IsTree-seen {l = c.self.inside.lent} {es = c.self.inside.root} {n = c.self.inside.count} (record { sound = c.self.invariant; seen = c.self.view_is })
+pub returns-clause-depth : goal.returns-clause-depth
+returns-clause-depth g c =
+    let s : IsShown c.self.inside.lent c.self.inside.root c.self.inside.count c.args.self.now = record { sound = c.self.invariant.sound; seen = c.self.view_is } in
+    HasDepth-seen s c.depth.result c.args.id c.depth.ensures
 
-pub returns-in-Some-clause-found : goal.returns-in-Some-clause-found
-returns-in-Some-clause-found g c =
-    let s : IsShown c.self.inside.lent c.self.inside.root c.self.inside.count c.args.self.now = record { sound = c.self.invariant; seen = c.self.view_is } in
-    sym (has-seen s c.args.id ∙ found_has c.args.id c.self.inside.root (λ r. r.0) c.in-Some.place.parent c.in-Some.ensures.parent)
-
-pub returns-in-Some-clause-depth : goal.returns-in-Some-clause-depth
-returns-in-Some-clause-depth g c =
-    let s : IsShown c.self.inside.lent c.self.inside.root c.self.inside.count c.args.self.now = record { sound = c.self.invariant; seen = c.self.view_is } in
-    HasDepth-seen s c.in-Some.place.depth c.args.id (c.in-Some.ensures.depth c.self.invariant.distinct (omega (arith, c.in-Some.ensures.within, c.self.invariant.fits)))
-
-pub returns-in-Some-clause-tree : goal.returns-in-Some-clause-tree
-returns-in-Some-clause-tree g c = IsTree-seen {l = c.self.inside.lent} {es = c.self.inside.root} {n = c.self.inside.count} (record { sound = c.self.invariant; seen = c.self.view_is })
+pub returns-clause-tree : goal.returns-clause-tree
+returns-clause-tree g c =
+    IsTree-seen {l = c.self.inside.lent} {es = c.self.inside.root} {n = c.self.inside.count} (record { sound = c.self.invariant.sound; seen = c.self.view_is })

@@ -1,18 +1,30 @@
-use Rattle.hv_tree.proofs.Seen.{IsShown, get-seen}
+use Rattle.std.proofs.Common.{rules, ◌≡◌, ◌<◌, ◌≤◌, ◌≢◌, ◌∙◌, ◌∷◌, ◌==◌, [], None, Some, true, false, refl, sym, ap, subst, length, arith, inl, inr, is_some}
+use Rattle.std.proofs.lemmas.Bool.{ne_eqb, eq-eqb}
+use Rattle.hv_tree.specs.Rows.{children, children_in, IsLeastAbove}
+use Rattle.hv_tree.specs.Nest.{top, has_row, IsNest}
+use Rattle.hv_tree.specs.Index.{parents, IsWay}
+use Rattle.hv_tree.proofs.Lists.{no_items}
+use Rattle.hv_tree.proofs.Child.{found_has}
+use Rattle.hv_tree.proofs.Gone.{has-nest}
 use Rattle.hv_tree.proofs.Got.{got_none, got_here, got_lent}
+use Rattle.hv_tree.proofs.Kin.{kids-seen, count-seen, IsLeastAbove-permutation, IsLeastAbove-none}
+use Rattle.hv_tree.proofs.Seen.{IsShown, IsTree-seen, has-seen, get-seen, get_none, get_some, kids-found, HasDepth-seen}
+use Rattle.hv_tree.proofs.Toward.{way-there, has-indexed}
 use Rattle.hv_tree.proofs.tree.IdTree.get.Goals as goal
 
-pub returns-in_err-find : goal.returns-in_err-find
-returns-in_err-find g c =
-    let s : IsShown c.self.inside.lent c.self.inside.root c.self.inside.count c.args.self.now = record { sound = c.self.invariant; seen = c.self.view_is } in
-    rw (c.from_residual.ensures, get-seen s c.args.id) (got_none c.self.inside.lent c.args.id _ c.in_err-find.ensures.content)
+pub find-requires : goal.find-requires
+find-requires g c =
+    let s : IsShown c.self.inside.lent c.self.inside.root c.self.inside.count c.args.self.now = record { sound = c.self.invariant.sound; seen = c.self.view_is } in
+    let has : has_row c.args.id c.self.inside.root ≡ true = sym (has-seen s c.args.id) ∙ sym c.contains.ensures.value ∙ c.if-not-contains.false in
+    let way : IsWay (parents c.self.inside.index) c.args.id c.self.inside.root = way-there c.args.id c.self.inside.root (parents c.self.inside.index) c.self.invariant.sound.distinct c.self.invariant.indexed has in
+    way
 
 pub returns-in-Some : goal.returns-in-Some
 returns-in-Some g c =
-    let s : IsShown c.self.inside.lent c.self.inside.root c.self.inside.count c.args.self.now = record { sound = c.self.invariant; seen = c.self.view_is } in
-    rw (get-seen s c.args.id) (got_here c.self.inside.lent c.args.id _ c.in-Some.content (rw (← c.content.ensures, c.in-Some.is) at c.in_ok-find.ensures.content))
+    let s : IsShown c.self.inside.lent c.self.inside.root c.self.inside.count c.args.self.now = record { sound = c.self.invariant.sound; seen = c.self.view_is } in
+    rw (get-seen s c.args.id) (got_here c.self.inside.lent c.args.id _ c.in-Some.content (rw (← c.content.ensures, c.in-Some.is) at c.find.ensures.content))
 
 pub returns-in-Some-lent : goal.returns-in-Some-lent
 returns-in-Some-lent g c =
-    let s : IsShown c.self.inside.lent c.self.inside.root c.self.inside.count c.args.self.now = record { sound = c.self.invariant; seen = c.self.view_is } in
-    rw (get-seen s c.args.id) (got_lent c.self.inside.lent c.args.id _ _ c.in-Some-lent.content (c.self.invariant.whole c.args.id) c.in-Some-lent.is (rw (← c.content.ensures, c.in-None.is) at c.in_ok-find.ensures.content))
+    let s : IsShown c.self.inside.lent c.self.inside.root c.self.inside.count c.args.self.now = record { sound = c.self.invariant.sound; seen = c.self.view_is } in
+    rw (get-seen s c.args.id) (got_lent c.self.inside.lent c.args.id _ _ c.in-Some-lent.content (c.self.invariant.sound.whole c.args.id) c.in-Some-lent.is (rw (← c.content.ensures, c.in-None.is) at c.find.ensures.content))
