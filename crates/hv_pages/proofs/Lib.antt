@@ -1,6 +1,10 @@
-pub mod Changes
+pub mod Cuts
 pub mod FallingLists
+pub mod Held
+pub mod Joins
 pub mod Lowest
 pub mod Members
-pub mod Merging
-pub mod Searched
+pub mod Merges
+pub mod RunLists
+pub mod Spreads
+pub mod Unions
