@@ -24,8 +24,8 @@ impl<A: Allocator> Partition<A> {
 
     /// Makes room for one port more. Room that is there already always suffices.
     ///
-    /// `Err` where there is no memory for it, or where the partition has 2^32 - 1 ports, and then the partition is as it
-    /// was.
+    /// `Err` where there is no memory for it, or where the partition has 2^32 - 1 ports, and then the
+    /// partition is as it was.
     pub fn reserve_port(&mut self) -> Result<(), AllocError>
         ensures ok { OnOk result (1 ≤ self.new.ports.room) }
         ensures enough { 1 ≤ self.old.ports.room → IsOk result }
@@ -61,7 +61,8 @@ impl<A: Allocator> Partition<A> {
     }
 }
 
-// The connections. What a call needs of them, and what it promises of them, is what their table asks and promises.
+// The connections. What a call needs of them, and what it promises of them, is what their table asks and
+// promises.
 impl<A: Allocator> Partition<A> {
     /// The connection with this id, or `None` where the partition has none.
     pub fn conn(&self, id: u32) -> Option<Conn>
@@ -79,8 +80,8 @@ impl<A: Allocator> Partition<A> {
 
     /// Makes room for one connection more. Room that is there already always suffices.
     ///
-    /// `Err` where there is no memory for it, or where the partition has 2^32 - 1 connections, and then the partition is as it
-    /// was.
+    /// `Err` where there is no memory for it, or where the partition has 2^32 - 1 connections, and then the
+    /// partition is as it was.
     pub fn reserve_conn(&mut self) -> Result<(), AllocError>
         ensures ok { OnOk result (1 ≤ self.new.conns.room) }
         ensures enough { 1 ≤ self.old.conns.room → IsOk result }

@@ -1,11 +1,13 @@
 // The partition, seen as the record of its parts.
-ghost use Rattle.std.specs.Prelude.{◌≡◌, ◌+◌, ◌≤◌, ◌↔◌, false, IsOk, IsNone, IfOk, IfSome, IfNone, OnOk, OnErr, option_copied};
+ghost use Rattle.std.specs.Prelude.{◌≡◌, ℕ, ◌+◌, ◌^◌, ◌<◌, ◌≤◌, ◌↔◌, ◌||◌, ◌&&◌, nat_le, nat_lt, false};
+ghost use Rattle.std.specs.Prelude.{IsOk, IsNone, IfOk, IfSome, IfNone, OnOk, OnErr, option_copied};
 ghost use Rattle.std.specs.Borrow.{LendsIf, sem};
 ghost use Rattle.std.specs.FinMap as map;
 ghost use Rattle.std.specs.FinSet as set;
 ghost use Rattle.std.specs.Option.{option_copied_mut};
 ghost use Rattle.hv_pages.specs.PageSet.{IsDisjoint, IsLowest};
-ghost use Rattle.hv_partition.specs.Partition.{new_partition, in_use, available, finalized, pages_in, with_pages, with_vp_of};
+ghost use Rattle.hv_partition.specs.Partition.{new_partition, in_use, available, finalized};
+ghost use Rattle.hv_partition.specs.Partition.{pages_in, with_pages, with_vp_of};
 ghost use Rattle.hv_partition.specs.contracts.partition.Partition.{the_row};
 ghost use Rattle.hv_vp.specs.contracts.vp.Vp.{the_row as vp_row};
 
@@ -23,8 +25,8 @@ use std::marker::Model;
 
 /// A partition, in memory of an allocator `A`.
 ///
-/// Its pages are loose, or pooled for the hypervisor's own use. Each of its processors has an index, and each of its ports
-/// and connections an id. A partition that is dropped gives its memory back.
+/// Its pages are loose, or pooled for the hypervisor's own use. Each of its processors has an index, and each
+/// of its ports and connections an id. A partition that is dropped gives its memory back.
 #[derive(Drop)]
 pub struct Partition<A: Allocator> {
     life: Life,
@@ -61,7 +63,8 @@ impl<A: Allocator> Model for Partition<A> {
 }
 
 impl<A: Allocator + Clone> Partition<A> {
-    /// A partition with no pages, processors, ports and connections, and with the CPU properties of the start.
+    /// A partition with no pages, processors, ports and connections, and with the CPU properties of the
+    /// start.
     ///
     /// `Err` where the allocator can't be cloned.
     pub fn new(alloc: A, life: Life, mask: Privileges) -> Result<Partition<A>, AllocError>
@@ -173,8 +176,8 @@ impl<A: Allocator> Partition<A> {
         self.conns.clear();
     }
 
-    /// How many pooled pages so many children and its processors, ports and connections use. The charges are this project's
-    /// own.
+    /// How many pooled pages so many children and its processors, ports and connections use. The charges are
+    /// this project's own.
     pub fn in_use(&self, children: u32) -> u64
         ensures { result ≡ in_use children self.now }
     {
@@ -184,7 +187,8 @@ impl<A: Allocator> Partition<A> {
             + CONNECTION_CHARGE * u64::from(self.conn_count())
     }
 
-    /// How many pooled pages may still be used, beside what so many children and its processors, ports and connections use.
+    /// How many pooled pages may still be used, beside what so many children and its processors, ports and
+    /// connections use.
     pub fn available(&self, children: u32) -> u64
         requires { in_use children self.now ≤ set.len self.now.pooled.pages }
         ensures { result ≡ available children self.now }
@@ -204,7 +208,8 @@ impl<A: Allocator> Partition<A> {
 
     /// The processor with this index, to be changed.
     pub fn vp_mut(&mut self, index: u32) -> Option<&mut Vp<A>>
-        ensures* writes_back { sem 𝓛 (LendsIf (the_row A.row A.Allocator) (vp_row A.row A.Allocator) self.entry result
+        ensures* writes_back { sem 𝓛 (LendsIf (the_row A.row A.Allocator) (vp_row A.row A.Allocator)
+            self.entry result
             (λ w. with_vp_of self.old index w) self.old) }
         ensures value { option_copied_mut result ≡ map.get self.old.vps.vps index }
     {
@@ -220,8 +225,8 @@ impl<A: Allocator> Partition<A> {
 
     /// Makes room for one processor more.
     ///
-    /// `Err` where there is no memory for it, or where the partition has 2^32 - 1 processors, and then the partition is as it
-    /// was. Room that is there already always suffices.
+    /// `Err` where there is no memory for it, or where the partition has 2^32 - 1 processors, and then the
+    /// partition is as it was. Room that is there already always suffices.
     pub fn reserve_vp(&mut self) -> Result<(), AllocError>
         ensures ok { OnOk result (1 ≤ self.new.vps.room) }
         ensures enough { 1 ≤ self.old.vps.room → IsOk result }
@@ -290,6 +295,29 @@ impl<A: Allocator> Partition<A> {
         match kind {
             PageKind::Loose => self.loose.put(page),
             PageKind::Pooled => self.pooled.put(page),
+        }
+    }
+
+    /// Puts in so many pages of a kind from a first one on, of which none is among them. It takes no memory.
+    ///
+    /// They must find room for one change, however many they are.
+    pub fn put_run(&mut self, kind: PageKind, start: u32, length: u64)
+        requires room { 1 ≤ (pages_in kind self.old).room }
+        requires some { 1 ≤ length }
+        requires fits { start + length ≤ 2 ^ 32 }
+        requires new { (page : ℕ) → start ≤ page → page < start + length
+            → set.contains (pages_in kind self.old).pages page ≡ false }
+        ensures pages { (page : ℕ) → set.contains (pages_in kind self.new).pages page
+            ≡ (set.contains (pages_in kind self.old).pages page
+            || (nat_le start page && nat_lt page (start + length))) }
+        ensures count { set.len (pages_in kind self.new).pages
+            ≡ set.len (pages_in kind self.old).pages + length }
+        ensures room { (pages_in kind self.old).room ≤ (pages_in kind self.new).room + 1 }
+        ensures rest { self.new ≡ with_pages kind (pages_in kind self.new) self.old }
+    {
+        match kind {
+            PageKind::Loose => self.loose.put_run(start, length),
+            PageKind::Pooled => self.pooled.put_run(start, length),
         }
     }
 
