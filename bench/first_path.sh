@@ -8,7 +8,7 @@ folder=$(mktemp -d)
 trap 'rm -rf -- "$folder"' EXIT
 
 source "$root/bench/measure.sh"
-"$root/bin/hvpm" --help >/dev/null
+"$root/bin/hvpm" --prove
 
 boot='boot 32 12 1 0x000000f700000044 4294967295'
 call='1.0 call 0x46 0 0 -'

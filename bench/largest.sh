@@ -11,7 +11,7 @@ folder=$(mktemp -d)
 trap 'rm -rf -- "$folder"' EXIT
 
 source "$root/bench/measure.sh"
-"$root/bin/hvpm" --help >/dev/null
+"$root/bin/hvpm" --prove
 
 # Makes a script of a kind: a boot line, as many lines as fit, and a comment that fills it up.
 make() {

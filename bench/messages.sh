@@ -11,7 +11,7 @@ folder=$(mktemp -d)
 trap 'rm -rf -- "$folder"' EXIT
 
 source "$root/bench/measure.sh"
-"$root/bin/hvpm" --help >/dev/null
+"$root/bin/hvpm" --prove
 
 # Makes a script of 1,600 turns, by the kind of script and its numbers. Connections have the ids of their ports.
 make() {

@@ -9,7 +9,7 @@ folder=$(mktemp -d)
 trap 'rm -rf -- "$folder"' EXIT
 
 source "$root/bench/measure.sh"
-"$root/bin/hvpm" --help >/dev/null
+"$root/bin/hvpm" --prove
 
 # The 8 bytes of a number below 65,536.
 number() {

@@ -10,7 +10,7 @@ folder=$(mktemp -d)
 trap 'rm -rf -- "$folder"' EXIT
 
 source "$root/bench/measure.sh"
-"$root/bin/hvpm" --help >/dev/null
+"$root/bin/hvpm" --prove
 
 turns=64
 

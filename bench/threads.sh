@@ -8,7 +8,7 @@
 # 0, nothing is told on standard error, the numbers of its audit rise from 1 by one to `events 5000`, and each processor's
 # lines are, but for their numbers, those of a run with --serial, in that order. The WORDs go to each run that is counted: with
 # --serial no threads run, and what passes is this script. HVPM, where it is set, is the program that is run, which is not
-# built then. The status is 1 where a run failed.
+# built then. The last line is 'N passed, M failed', and the status is 1 where a run failed.
 set -eu
 
 root=$(cd -- "$(dirname -- "${BASH_SOURCE[0]}")/.." && pwd)
@@ -23,7 +23,7 @@ trap 'rm -rf -- "$folder"' EXIT
 
 source "$root/bench/measure.sh"
 program=${HVPM:-$root/crates/hvpm/out/hvpm}
-[[ -n ${HVPM:-} ]] || "$root/bin/hvpm" --help >/dev/null
+[[ -n ${HVPM:-} ]] || "$root/bin/hvpm" --prove
 
 processors=8
 turns=25
@@ -101,7 +101,7 @@ for ((i = 1; i <= runs; i++)); do
     failed=$((failed + 1))
     echo "FAILED run $i: $(<"$folder/report")"
 done
-echo "$runs runs, $failed failed"
 echo "runs whose order is not the script's: $others"
 echo "processor time of a run: $(average "$folder/times"), with --serial $(average "$folder/serial_times")"
+echo "$((runs - failed)) passed, $failed failed"
 ((failed == 0))
