@@ -11,7 +11,7 @@ mod access;
 mod refused;
 mod rules;
 
-pub use access::{unmet_access, unmet_by_caller};
+pub use access::{unmet_by_target, unmet_by_caller};
 pub use refused::Refused;
 pub use rules::{
     Balance, has_available, has_vp, is_child, is_state_allowed, meant, memory_balance,

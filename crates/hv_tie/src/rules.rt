@@ -1,12 +1,11 @@
 // Rules that several chapters ask, and what they read of the tree for them.
-ghost use Rattle.std.specs.Prelude.{◌≡◌, ◌==◌, nat_le, if◌then◌else◌};
+ghost use Rattle.std.specs.Prelude.{◌≡◌, ◌==◌, if◌then◌else◌};
 ghost use Rattle.std.specs.FinMap.{contains_key};
 ghost use Rattle.std.specs.Int.{w64, to_le_bytes};
-ghost use Rattle.hv_policy.specs.Call.{meant_id};
 ghost use Rattle.hv_policy.specs.Count.{available as available_of, in_use as in_use_of};
 ghost use Rattle.hv_policy.specs.Flat.{Flat};
-ghost use Rattle.hv_policy.specs.Met.{is_child as is_child_of, on_part};
-ghost use Rattle.hv_policy.specs.Needs.{is_among};
+ghost use Rattle.hv_policy.specs.Met.{has_available as has_available_of, is_child as is_child_of, is_in};
+ghost use Rattle.hv_policy.specs.Needs.{meant_id};
 ghost use Rattle.hv_tie.specs.Served.{AreLawful};
 ghost use Rattle.hv_tie.specs.Tie.{IsTied};
 
@@ -46,7 +45,7 @@ pub fn is_state_allowed<A: Allocator>(
     id: u64,
     states: States,
 ) -> bool
-    ensures { (f : Flat) → IsTied tree.now f → result ≡ on_part f id (λ row. is_among row.life states) }
+    ensures { (f : Flat) → IsTied tree.now f → result ≡ is_in f id states }
 {
     match tree.get(id) {
         None => false,
@@ -67,7 +66,7 @@ pub fn has_vp<A: Allocator>(tree: &IdTree<Partition<A>, A>, id: u64, index: u32)
 /// P24: whether a partition has so many available pages.
 pub fn has_available<A: Allocator>(tree: &IdTree<Partition<A>, A>, id: u64, charge: u64) -> bool
     requires { AreLawful tree.now }
-    ensures { (f : Flat) → IsTied tree.now f → result ≡ nat_le charge (available_of f id) }
+    ensures { (f : Flat) → IsTied tree.now f → result ≡ has_available_of f id charge }
 {
     charge <= memory_balance(tree, id).available
 }
