@@ -8,16 +8,14 @@ ghost use Rattle.hv_tie.specs.Tie.{IsTied};
 use crate::rows::{create, delete, finalize, initialize};
 use crate::rules::{is_childless, is_depth_left, is_previous_there, next_child};
 use hv_defs::PARTITION_CHARGE;
-use hv_partition::Partition;
 use hv_policy::{CallOutput, Rule, States};
-use hv_tie::{Refused, has_available, is_state_allowed, meant, number_output};
-use hv_tree::IdTree;
+use hv_tie::{Partitions, Refused, has_available, is_state_allowed, meant, number_output};
 use std::alloc::{AllocError, Allocator};
 
 /// HvCreatePartition: a new partition with the id `next` below the caller, Created and without pages. The flags have no
 /// effect. It uses 2 pages of the caller's pool.
 pub fn create_partition<A: Allocator + Clone>(
-    tree: &mut IdTree<Partition<A>, A>,
+    tree: &mut Partitions<A>,
     alloc: &A,
     caller: u64,
     next: u64,
@@ -37,7 +35,7 @@ pub fn create_partition<A: Allocator + Clone>(
 
 // P14 and P24.
 fn unmet_create<A: Allocator>(
-    tree: &IdTree<Partition<A>, A>,
+    tree: &Partitions<A>,
     caller: u64,
     flags: u64,
 ) -> Option<Rule>
@@ -56,7 +54,7 @@ fn unmet_create<A: Allocator>(
 
 /// HvInitializePartition: the target becomes Active.
 pub fn initialize_partition<A: Allocator>(
-    tree: &mut IdTree<Partition<A>, A>,
+    tree: &mut Partitions<A>,
     caller: u64,
     partition: u64,
 ) -> Result<CallOutput, Refused>
@@ -72,7 +70,7 @@ pub fn initialize_partition<A: Allocator>(
 
 /// HvFinalizePartition: the target becomes Finalized, and its virtual processors go. Its pages stay.
 pub fn finalize_partition<A: Allocator>(
-    tree: &mut IdTree<Partition<A>, A>,
+    tree: &mut Partitions<A>,
     caller: u64,
     partition: u64,
 ) -> Result<CallOutput, Refused>
@@ -87,7 +85,7 @@ pub fn finalize_partition<A: Allocator>(
 
 // P12 and P13.
 fn unmet_finalize<A: Allocator>(
-    tree: &IdTree<Partition<A>, A>,
+    tree: &Partitions<A>,
     caller: u64,
     partition: u64,
 ) -> Option<Rule>
@@ -105,7 +103,7 @@ fn unmet_finalize<A: Allocator>(
 
 /// HvDeletePartition: the target goes, and all its pages become loose pages of the caller.
 pub fn delete_partition<A: Allocator>(
-    tree: &mut IdTree<Partition<A>, A>,
+    tree: &mut Partitions<A>,
     caller: u64,
     partition: u64,
 ) -> Result<CallOutput, Refused>
@@ -124,7 +122,7 @@ pub fn delete_partition<A: Allocator>(
 
 /// HvGetPartitionId: the caller's id.
 pub fn get_partition_id<A: Allocator>(
-    tree: &IdTree<Partition<A>, A>,
+    tree: &Partitions<A>,
     caller: u64,
 ) -> Result<CallOutput, Refused>
     ensures { (f : Flat) → IsTied tree.now f → IsOutcome f caller call.GetPartitionId tree.now result tree.now }
@@ -135,7 +133,7 @@ pub fn get_partition_id<A: Allocator>(
 
 /// HvGetNextChildPartition: the least id above `previous` among the target's children, 0 if there is none.
 pub fn get_next_child_partition<A: Allocator>(
-    tree: &IdTree<Partition<A>, A>,
+    tree: &Partitions<A>,
     caller: u64,
     partition: u64,
     previous: u64,
