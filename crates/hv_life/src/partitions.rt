@@ -34,11 +34,7 @@ pub fn create_partition<A: Allocator + Clone>(
 }
 
 // P14 and P24.
-fn unmet_create<A: Allocator>(
-    tree: &Partitions<A>,
-    caller: u64,
-    flags: u64,
-) -> Option<Rule>
+fn unmet_create<A: Allocator>(tree: &Partitions<A>, caller: u64, flags: u64) -> Option<Rule>
     requires { AreLawful tree.now }
     ensures { (f : Flat) → IsTied tree.now f → result ≡ unmet_further f caller (call.CreatePartition flags) }
 {
@@ -68,7 +64,8 @@ pub fn initialize_partition<A: Allocator>(
     Ok(CallOutput::new())
 }
 
-/// HvFinalizePartition: the target becomes Finalized, and its virtual processors go. Its pages stay.
+/// HvFinalizePartition: the target becomes Finalized. Its virtual processors go with the messages that stand there, its ports
+/// and its connections go; its pages stay.
 pub fn finalize_partition<A: Allocator>(
     tree: &mut Partitions<A>,
     caller: u64,
@@ -84,11 +81,7 @@ pub fn finalize_partition<A: Allocator>(
 }
 
 // P12 and P13.
-fn unmet_finalize<A: Allocator>(
-    tree: &Partitions<A>,
-    caller: u64,
-    partition: u64,
-) -> Option<Rule>
+fn unmet_finalize<A: Allocator>(tree: &Partitions<A>, caller: u64, partition: u64) -> Option<Rule>
     ensures { (f : Flat) → IsTied tree.now f → result ≡ unmet_further f caller (call.FinalizePartition partition) }
 {
     let target = meant(caller, partition);

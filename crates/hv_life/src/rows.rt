@@ -69,11 +69,7 @@ pub fn finalize<A: Allocator>(tree: &mut Partitions<A>, id: u64)
 }
 
 // Hands all pages of a partition without children to `heir` as loose pages, and removes it.
-pub fn delete<A: Allocator>(
-    tree: &mut Partitions<A>,
-    heir: u64,
-    id: u64,
-) -> Result<(), AllocError>
+pub fn delete<A: Allocator>(tree: &mut Partitions<A>, heir: u64, id: u64) -> Result<(), AllocError>
     requires { MayDelete tree.old heir id }
     ensures deleted { OnOk result (IsDeleted tree.old tree.new heir id) }
     ensures kept { OnErr result (tree.new ≡ tree.old) }
@@ -95,11 +91,7 @@ pub fn delete<A: Allocator>(
 
 // Makes room for more loose pages of a partition.
 #[tactic(auto, using(hv_tree::proofs::Laws::unchanged))]
-fn make_room<A: Allocator>(
-    tree: &mut Partitions<A>,
-    id: u64,
-    more: u64,
-) -> Result<(), AllocError>
+fn make_room<A: Allocator>(tree: &mut Partitions<A>, id: u64, more: u64) -> Result<(), AllocError>
     requires { contains_key tree.old id ≡ true }
     ensures room { OnOk result (HasRoom tree.old tree.new id more) }
     ensures kept { OnErr result (tree.new ≡ tree.old) }

@@ -43,11 +43,7 @@ fn depth<A: Allocator>(tree: &Partitions<A>, id: u64) -> Option<u64>
 }
 
 // P15: whether the previous child is 0, or a child of the partition.
-pub fn is_previous_there<A: Allocator>(
-    tree: &Partitions<A>,
-    parent: u64,
-    previous: u64,
-) -> bool
+pub fn is_previous_there<A: Allocator>(tree: &Partitions<A>, parent: u64, previous: u64) -> bool
     ensures { (f : Flat) → IsTied tree.now f → result ≡ (previous == 0) || is_child_of f parent previous }
 {
     previous == 0 || is_child(tree, parent, previous)

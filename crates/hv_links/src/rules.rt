@@ -56,12 +56,7 @@ pub fn is_peer<A: Allocator>(tree: &Partitions<A>, id: u64, port: u32, peer: u64
 }
 
 // P21: whether a port takes what a connection to it would.
-pub fn is_kind<A: Allocator>(
-    tree: &Partitions<A>,
-    id: u64,
-    port: u32,
-    kind: PortKind,
-) -> bool
+pub fn is_kind<A: Allocator>(tree: &Partitions<A>, id: u64, port: u32, kind: PortKind) -> bool
     ensures { (f : Flat) → IsTied tree.now f → result ≡ on_port f (id, port) (λ row. is_same row.kind kind) }
 {
     match port_of(tree, id, port) {
