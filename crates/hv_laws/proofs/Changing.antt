@@ -13,13 +13,12 @@ use Rattle.hv_policy.specs.Effect.{given, rows_but, with_row}
 use Rattle.hv_defs.specs.Flags.{pair_cmp}
 use Rattle.hv_policy.specs.Flat.{Flat, PartRow}
 use Rattle.hv_policy.specs.Mail.{mail_but}
-use Rattle.hv_policy.specs.Met.{is_active, test_row}
+use Rattle.hv_policy.specs.Met.{is_active, is_running, test_row}
 use Rattle.hv_policy.specs.declared.property.Property.{Property}
 use Rattle.hv_policy.specs.declared.property.Property.TheVariants.{PrivilegeFlags, CpuReserve, CpuCap, CpuWeight}
 use Rattle.hv_privs.specs.Privileges.{IsSubset, of}
 use Rattle.hv_policy.proofs.Rows.{get-with_row, get-rows_but}
 use Rattle.hv_defs.proofs.Tallies.{count-alike, count-fewer, none-counted}
-use Rattle.hv_policy.specs.Allowed.{is_running}
 use Rattle.hv_laws.proofs.Mailing.{AreMailed, mail_left, mailed_of, ports_but}
 use Rattle.hv_laws.specs.Lawful.{IsLawful}
 

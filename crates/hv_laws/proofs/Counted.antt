@@ -1,17 +1,19 @@
 -- What events leave as the count of served events.
 use Rattle.std.proofs.Common.{◌≡◌, ℕ, ◌+◌, ◌≤◌, List, [], ◌∷◌, length, Option, Some, None, refl, arith}
 use Rattle.hv_calls.specs.declared.call.Call.{Call}
-use Rattle.hv_calls.specs.declared.call.Call.TheVariants.{CreatePartition, InitializePartition, FinalizePartition, DeletePartition, GetPartitionProperty, SetPartitionProperty, GetPartitionId, GetNextChildPartition, DepositMemory, WithdrawMemory, GetMemoryBalance, CreateVp, DeleteVp, GetVpRegisters, SetVpRegisters, DeletePort, DisconnectPort, PostMessage, SignalEvent, CreatePort, ConnectPort}
+use Rattle.hv_calls.specs.declared.call.Call.TheVariants.{CreatePartition, SetVpRegisters, PostMessage, SignalEvent}
 use Rattle.hv_defs.specs.Registers.{name_of_msr}
 use Rattle.hv_policy.specs.Aim.{aim_of}
 use Rattle.hv_policy.specs.Boot.{boot}
-use Rattle.hv_policy.specs.Call.{called, target_of}
+use Rattle.hv_policy.specs.Call.{called}
 use Rattle.hv_policy.specs.Effect.{action_effect, call_effect, served_effect}
 use Rattle.hv_policy.specs.Flat.{Flat}
-use Rattle.hv_policy.specs.Step.{run, run_from, step, step_by, unmet}
+use Rattle.hv_policy.specs.Needs.{target_of}
+use Rattle.hv_policy.specs.Rules.{unmet}
+use Rattle.hv_policy.specs.Step.{run, run_from, step, step_by}
 use Rattle.hv_policy.specs.declared.config.Config.{Config}
 use Rattle.hv_policy.specs.declared.event.Action.{Action}
-use Rattle.hv_policy.specs.declared.event.Action.TheVariants.{Hypercall, ReadMsr, WriteMsr, ReadSlot, ClearSlot, ReadFlags, ClearFlag, TakeInterrupt}
+use Rattle.hv_policy.specs.declared.event.Action.TheVariants.{Hypercall, WriteMsr}
 use Rattle.hv_policy.specs.declared.event.Caller.{Caller}
 use Rattle.hv_policy.specs.declared.event.Event.{Event}
 use Rattle.hv_policy.specs.declared.rule.Rule.{Rule}
@@ -20,26 +22,10 @@ use Rattle.hv_laws.proofs.Ended.{posted_counted, register_counted, signalled_cou
 -- what a call changes isn't the count
 pub call_served : (call : Call) (f : Flat) (caller target : ℕ) → (call_effect call f caller target).served ≡ f.served
 call_served (CreatePartition flags) f caller target = refl
-call_served (InitializePartition partition) f caller target = refl
-call_served (FinalizePartition partition) f caller target = refl
-call_served (DeletePartition partition) f caller target = refl
-call_served (GetPartitionProperty partition code) f caller target = refl
-call_served (SetPartitionProperty partition code value) f caller target = refl
-call_served GetPartitionId f caller target = refl
-call_served (GetNextChildPartition partition previous) f caller target = refl
-call_served (DepositMemory partition page) f caller target = refl
-call_served (WithdrawMemory partition) f caller target = refl
-call_served (GetMemoryBalance partition) f caller target = refl
-call_served (CreateVp partition vp) f caller target = refl
-call_served (DeleteVp partition vp) f caller target = refl
-call_served (GetVpRegisters partition vp name) f caller target = refl
 call_served (SetVpRegisters partition vp name value) f caller target = (register_counted target vp name value f).served
-call_served (DeletePort partition port) f caller target = refl
-call_served (DisconnectPort partition connection) f caller target = refl
 call_served (PostMessage connection message_type payload) f caller target = (posted_counted (aim_of f (target, connection)) message_type payload f).served
 call_served (SignalEvent connection flag) f caller target = (signalled_counted (aim_of f (target, connection)) flag f).served
-call_served (CreatePort partition port peer port_kind sint vp base count) f caller target = refl
-call_served (ConnectPort partition connection port_partition port port_kind) f caller target = refl
+call_served call f caller target = refl
 
 served_by : (f : Flat) (caller : ℕ) (call : Option Call) → (served_effect f caller call).served ≡ f.served
 served_by f caller None = refl
@@ -49,13 +35,8 @@ module _ {A : Type 0} where
   -- nor what any action changes
   pub action_served : (what : Action A) (f : Flat) (by : Caller) → (action_effect f by what).served ≡ f.served
   action_served (Hypercall frame) f by = served_by f by.part (called frame)
-  action_served (ReadMsr msr) f by = refl
   action_served (WriteMsr msr value) f by = write_served_is by.part by.vp (name_of_msr msr) value f
-  action_served (ReadSlot sint) f by = refl
-  action_served (ClearSlot sint) f by = refl
-  action_served (ReadFlags sint) f by = refl
-  action_served (ClearFlag sint flag) f by = refl
-  action_served TakeInterrupt f by = refl
+  action_served what f by = refl
 
   -- an event counts once where it is served, and not where it is refused
   pub step_served : (f : Flat) (e : Event A) → (step f e).0.served ≤ f.served + 1

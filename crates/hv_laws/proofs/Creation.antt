@@ -6,14 +6,13 @@ use Rattle.std.specs.FinMap.{get, insert, nat_cmp-IsAntisymmetric}
 use Rattle.hv_policy.specs.Count.{is_parent, available, child_count, in_use, pooled_count}
 use Rattle.hv_policy.specs.Effect.{counted, mask_of, new_row}
 use Rattle.hv_policy.specs.Flat.{Flat, PartRow}
-use Rattle.hv_policy.specs.Met.{is_active, test_row}
+use Rattle.hv_policy.specs.Met.{is_active, is_running, test_row}
 use Rattle.hv_privs.proofs.PrivilegesLemmas.{restrict-HasBit}
 use Rattle.hv_privs.specs.Privileges.{IsSubset, restrict}
 use Rattle.hv_privs.specs.declared.TheConstants.Privileges as privilege
 use Rattle.hv_defs.proofs.Maps.{get_at-insert}
 use Rattle.hv_defs.proofs.Tallies.{count-insert}
 use Rattle.hv_policy.proofs.Rows.{row_of}
-use Rattle.hv_policy.specs.Allowed.{is_running}
 use Rattle.hv_laws.proofs.Mailing.{AreMailed, mail_counted, mailed_of}
 use Rattle.hv_laws.specs.Lawful.{IsLawful}
 

@@ -10,16 +10,16 @@ use Rattle.hv_defs.specs.declared.life.Life.{Life}
 use Rattle.hv_defs.specs.declared.port_kind.PortKind.{PortKind}
 use Rattle.hv_defs.specs.declared.life.Life.TheVariants.{Created, Active, Finalized}
 use Rattle.hv_policy.specs.Aim.{aim_of}
-use Rattle.hv_policy.specs.Call.{target_of}
 use Rattle.hv_policy.specs.Count.{available, child_count, in_use}
 use Rattle.hv_policy.specs.Boot.{start_vp}
 use Rattle.hv_policy.specs.Effect.{call_effect, counted, effect, served_effect}
 use Rattle.hv_policy.specs.Flat.{Flat, PartRow}
 use Rattle.hv_policy.specs.Mail.{mail_but_at, place_at}
-use Rattle.hv_policy.specs.Met.{call_met, is_active, may_give, test_row}
-use Rattle.hv_policy.specs.Needs.{is_among, needs_of, states_to_set}
+use Rattle.hv_policy.specs.Met.{is_active, is_in, is_running, may_give, test_row}
+use Rattle.hv_policy.specs.Needs.{is_among, needs_of, states_to_set, target_of}
 use Rattle.hv_policy.specs.Property.{property_of}
-use Rattle.hv_policy.specs.Step.{run_from, step, step_by, unmet}
+use Rattle.hv_policy.specs.Rules.{IsAllowed, unmet}
+use Rattle.hv_policy.specs.Step.{run_from, step, step_by}
 use Rattle.hv_policy.specs.declared.event.Action.{Action}
 use Rattle.hv_policy.specs.declared.event.Action.TheVariants.{Hypercall, ReadMsr, WriteMsr, ReadSlot, ClearSlot, ReadFlags, ClearFlag, TakeInterrupt}
 use Rattle.hv_policy.specs.declared.event.Caller.{Caller}
@@ -27,7 +27,6 @@ use Rattle.hv_policy.specs.declared.event.Event.{Event}
 use Rattle.hv_policy.specs.declared.need.States.TheVariants as states
 use Rattle.hv_policy.specs.declared.property.Property.TheVariants.{PrivilegeFlags}
 use Rattle.hv_policy.specs.declared.rule.Rule.{Rule}
-use Rattle.hv_policy.specs.declared.rule.Rule.TheVariants.{TargetState}
 use Rattle.hv_privs.proofs.PrivilegesLemmas.{contains-IsSubset}
 use Rattle.hv_privs.specs.Privileges.{contains, of}
 use Rattle.hv_laws.proofs.Changing.{activated, closed, given_row}
@@ -39,7 +38,6 @@ use Rattle.hv_laws.proofs.Mailing.{mail_counted, mail_left, mailed_of}
 use Rattle.hv_laws.proofs.Posting.{cleared_lawful, msr_lawful, post_lawful, register_lawful, signal_lawful}
 use Rattle.hv_laws.proofs.Staffing.{conn_added, conn_removed, port_added, port_removed, vp_added, vp_changed, vp_removed}
 use Rattle.hv_policy.proofs.Rows.{row_of}
-use Rattle.hv_policy.specs.Allowed.{IsAllowed, is_running}
 use Rattle.hv_laws.specs.Bounded.{IsBounded}
 use Rattle.hv_laws.specs.Lawful.{IsLawful}
 
@@ -110,7 +108,7 @@ module _ (pages : ℕ) (f : Flat) (l : IsLawful pages f) (caller : ℕ) where
   unless false h = refl
 
   -- the target of a call that asks for an Active one
-  runs : (call : Call) → (needs_of call).states ≡ states.Active → IsAllowed f caller call → call_met TargetState f caller call ≡ true → is_running f (target_of call caller) ≡ true
+  runs : (call : Call) → (needs_of call).states ≡ states.Active → IsAllowed f caller call → is_in f (target_of call caller) (needs_of call).states ≡ true → is_running f (target_of call caller) ≡ true
   runs call asks a h =
       let (row, there, state) = state_row f caller call a h in
       ap (test_row (λ row. is_active row.life)) there ∙ running row.life (subst (λ states. is_among row.life states ≡ true) asks state)

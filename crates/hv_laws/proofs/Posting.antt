@@ -2,10 +2,11 @@
 use Rattle.std.proofs.Common.{◌≡◌, ℕ, zero, suc, ◌+◌, ◌==◌, ◌&&◌, not, Bool, true, false, cond, List, [], ◌∷◌, ◌++◌, Option, Some, None, refl, ap, ◌∙◌, arith}
 use Rattle.std.proofs.lemmas.Bool.{and_from, eq-eqb, eqb-true, le-leb, or_right}
 use Rattle.std.specs.FinMap.{get}
+use Rattle.std.specs.Option.{option_map_or}
 use Rattle.hv_defs.specs.Registers.{takes_messages}
 use Rattle.hv_defs.specs.declared.registers.TheConstants.{EOM}
 use Rattle.hv_defs.specs.declared.sizes.TheConstants.{SINTS}
-use Rattle.hv_policy.specs.Aim.{Aim, aim_by, aim_of, aim_with, is_same_birth, on_aim, on_vp, test_aim, vp_key}
+use Rattle.hv_policy.specs.Aim.{Aim, aim_by, aim_of, aim_with, is_same_birth, on_aim, on_vp, vp_key}
 use Rattle.hv_policy.specs.Effect.{end_if, post, post_to, row_raised, row_signalled, show, show_each, signal_to, write_msr, write_register, written}
 use Rattle.hv_policy.specs.Flat.{ConnRow, Flat, MailRow, PortRow}
 use Rattle.hv_policy.specs.Mail.{Place, cleared, has_next, place_of, shown_next, stands_at}
@@ -68,7 +69,7 @@ module _ (pages : ℕ) where
   pub post_lawful : (key : ℕ × ℕ) (type : ℕ) (payload : List ℕ) (f : Flat) → on_aim f key is_same_birth ≡ true → IsLawful pages f → IsLawful pages (post_to (aim_of f key) type payload f)
   post_lawful key type payload f born l = by_conn (get f.conn key) born
     where
-      by_port : (conn : ConnRow) (port : Option PortRow) → get f.port (conn.part, conn.port) ≡ port → test_aim is_same_birth (aim_with conn port) ≡ true → IsLawful pages (post_to (aim_with conn port) type payload f)
+      by_port : (conn : ConnRow) (port : Option PortRow) → get f.port (conn.part, conn.port) ≡ port → option_map_or is_same_birth (aim_with conn port) false ≡ true → IsLawful pages (post_to (aim_with conn port) type payload f)
       by_port conn None is born = l
       by_port conn (Some port) is born = posted_lawful (row_through conn port type payload) f placed l
         where
@@ -79,7 +80,7 @@ module _ (pages : ℕ) where
               and_from _ _ (le-leb conn.born f.served (omega arith))
               (ap (is_aimed (row_through conn port type payload)) is ∙ or_right _ _ (and_from _ _ (eq-eqb port.vp port.vp refl) (eq-eqb port.sint port.sint refl)))
 
-      by_conn : (conn : Option ConnRow) → test_aim is_same_birth (aim_by f conn) ≡ true → IsLawful pages (post_to (aim_by f conn) type payload f)
+      by_conn : (conn : Option ConnRow) → option_map_or is_same_birth (aim_by f conn) false ≡ true → IsLawful pages (post_to (aim_by f conn) type payload f)
       by_conn None born = l
       by_conn (Some conn) born = by_port conn (get f.port (conn.part, conn.port)) refl born
 

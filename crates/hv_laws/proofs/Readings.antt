@@ -7,10 +7,10 @@ use Rattle.hv_defs.proofs.Counts.{passes}
 use Rattle.hv_policy.proofs.Pairs.{pair_cmp_total, pair_cmp_exact}
 use Rattle.hv_policy.specs.Count.{conn_count, in_use, port_count, vp_count}
 use Rattle.hv_defs.specs.Flags.{pair_cmp}
+use Rattle.hv_policy.specs.Met.{is_running}
 use Rattle.hv_policy.specs.Flat.{ConnRow, Flat, PartRow, PortRow, VpRow}
 use Rattle.hv_laws.proofs.Changing.{childless}
 use Rattle.hv_defs.proofs.Tallies.{none-counted}
-use Rattle.hv_policy.specs.Allowed.{is_running}
 use Rattle.hv_laws.specs.Lawful.{IsLawful}
 
 -- a row by (partition, number) is counted at its partition

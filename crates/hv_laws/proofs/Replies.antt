@@ -1,76 +1,99 @@
 -- What each reply of the flat machine tells of its event.
-use Rattle.std.proofs.Common.{◌≡◌, ℕ, zero, suc, ◌+◌, ◌<◌, ◌/◌, ◌^◌, Bool, true, false, cond, not, List, [], ◌∷◌, Option, Some, None, find, is_some, nat_le, refl, sym, ap, subst, ◌∙◌, arith}
+use Rattle.std.proofs.Common.{◌≡◌, ℕ, zero, suc, ◌+◌, ◌<◌, ◌/◌, ◌^◌, ◌&&◌, Bool, true, false, cond, not, List, [], ◌∷◌, Option, Some, None, is_some, nat_le, refl, sym, ap, subst, ◌∙◌, arith}
 use Rattle.std.proofs.Math.Nat.{mod-lt}
-use Rattle.std.proofs.lemmas.Bool.{or_parts, leb-false}
-use Rattle.std.specs.List.{AllByRecursion, Contains}
+use Rattle.std.proofs.lemmas.Bool.{and_parts, or_parts, leb-false}
+use Rattle.std.specs.List.{Contains}
 use Rattle.hv_abi.specs.CallRow.{row_of}
 use Rattle.hv_abi.specs.Check.{call_of}
 use Rattle.hv_abi.specs.declared.call_kind.CallKind.{CallKind}
-use Rattle.hv_abi.specs.declared.call_kind.CallKind.TheVariants as kind
 use Rattle.hv_abi.specs.declared.frame.Frame.{Frame}
 use Rattle.hv_abi.specs.declared.status.Status.{Status}
+use Rattle.hv_calls.specs.Params.{parameters}
+use Rattle.hv_calls.specs.declared.call.Call.{Call}
+use Rattle.hv_calls.specs.declared.call.Call.TheVariants.{CreatePartition}
 use Rattle.hv_defs.specs.Bits.{bits}
 use Rattle.hv_policy.specs.Answer.{is_done}
-use Rattle.hv_policy.specs.Asked.{asked, call_rules}
+use Rattle.hv_policy.specs.Call.{call_event}
 use Rattle.hv_policy.specs.Flat.{Flat}
-use Rattle.hv_policy.specs.Met.{met}
+use Rattle.hv_policy.specs.Needs.{charge_of, needs_of, target_of}
 use Rattle.hv_policy.specs.Next.{GoesOn}
 use Rattle.hv_policy.specs.Result.{HasResult}
 use Rattle.hv_policy.specs.Rule.{rule_status}
-use Rattle.hv_policy.specs.Step.{NamesAsked, denied_with, step, step_by, unmet}
+use Rattle.hv_policy.specs.Rules.{Ask, action_asks, asked, asks, call_asks, first_unmet, hypercall_asks, rules_of, unmet}
+use Rattle.hv_policy.specs.Step.{IsAsked, NamesAsked, denied_with, step, step_by}
 use Rattle.hv_policy.specs.declared.event.Action.{Action}
-use Rattle.hv_policy.specs.declared.event.Action.TheVariants.{Hypercall, ReadMsr, WriteMsr, ReadSlot, ClearSlot, ReadFlags, ClearFlag, TakeInterrupt}
+use Rattle.hv_policy.specs.declared.event.Action.TheVariants.{Hypercall}
 use Rattle.hv_policy.specs.declared.event.Caller.{Caller}
 use Rattle.hv_policy.specs.declared.event.Event.{Event}
+use Rattle.hv_policy.specs.declared.need.States.{States}
 use Rattle.hv_policy.specs.declared.reply.Reply.TheVariants.{Served, More}
 use Rattle.hv_policy.specs.declared.rule.Rule.{Rule}
+use Rattle.hv_policy.specs.declared.rule.Rule.TheVariants.{CallerExists, CallerActive, CallerVpExists, CallCode, InputValue, Alignment, Parameters, Privilege, TargetExists, Kinship}
 
--- what is found stands in the list
-found_in : {X : Type 0} (p : X → Bool) (xs : List X) (x : X) → find p xs ≡ Some x → Contains xs x
-found_in p [] x e = cc
-found_in {X = X} p (y ∷ ys) x e = by (p y) e (found_in p ys x)
+-- an unmet rule is one of those that are asked
+found_in : (asks : List Ask) (rule : Rule) → first_unmet asks ≡ Some rule → Contains (rules_of asks) rule
+found_in [] rule e = cc
+found_in (ask ∷ asks) rule e = by ask.1 e (found_in asks rule)
   where
-    by : (b : Bool) → cond b (Some y) (find p ys) ≡ Some x → (find p ys ≡ Some x → Contains ys x) → Contains (y ∷ ys) x
-    by true e rest = let is : y ≡ x = cc in (zero, omega arith, is)
-    by false e rest = let (i, lt, is) = rest e in (suc i, omega arith, is)
+    by : (met : Bool) → cond met (first_unmet asks) (Some ask.0) ≡ Some rule → (first_unmet asks ≡ Some rule → Contains (rules_of asks) rule) → Contains (ask.0 ∷ rules_of asks) rule
+    by true e rest = let (i, lt, is) = rest e in (suc i, omega arith, is)
+    by false e rest = let is : ask.0 ≡ rule = cc in (zero, omega arith, is)
 
--- and has what all in the list have
-found_has : {X : Type 0} (p q : X → Bool) (xs : List X) (x : X) → AllByRecursion (λ x. q x ≡ true) xs → find p xs ≡ Some x → q x ≡ true
-found_has p q [] x all e = cc
-found_has {X = X} p q (y ∷ ys) x all e = by (p y) e (found_has p q ys x all.1)
+-- and has what all of them have
+abbrev all_have : (Rule → Bool) → List Ask → Bool
+all_have test [] = true
+all_have test (ask ∷ asks) = test ask.0 && all_have test asks
+
+found_has : (test : Rule → Bool) (asks : List Ask) (rule : Rule) → all_have test asks ≡ true → first_unmet asks ≡ Some rule → test rule ≡ true
+found_has test [] rule all e = cc
+found_has test (ask ∷ asks) rule all e = by ask.1 e (found_has test asks rule both.1)
   where
-    by : (b : Bool) → cond b (Some y) (find p ys) ≡ Some x → (find p ys ≡ Some x → q x ≡ true) → q x ≡ true
-    by true e rest = let is : y ≡ x = cc in sym (ap q is) ∙ all.0
-    by false e rest = rest e
+    both : (test ask.0 ≡ true) × (all_have test asks ≡ true)
+    both = and_parts (test ask.0) (all_have test asks) all
 
-named : {A : Type 0} (frame : Frame A) (rules : List Rule) (rule : Rule) (status : Option Status) → Contains rules rule → (by : Caller) → rules ≡ asked (record { by = by; what = Hypercall frame }) → NamesAsked (record { by = by; what = Hypercall frame }) (denied_with frame rule status)
-named frame rules rule None there by is = subst (λ rules. Contains rules rule) is there
-named frame rules rule (Some status) there by is = subst (λ rules. Contains rules rule) is there
+    by : (met : Bool) → cond met (first_unmet asks) (Some ask.0) ≡ Some rule → (first_unmet asks ≡ Some rule → test rule ≡ true) → test rule ≡ true
+    by true e rest = rest e
+    by false e rest = let is : ask.0 ≡ rule = cc in sym (ap test is) ∙ both.0
 
--- the rules that a call is asked have a status for it
-have_status : (k : Option CallKind) → AllByRecursion (λ rule. is_some (rule_status rule k) ≡ true) (call_rules k)
-have_status None = (refl, tt)
-have_status (Some kind.CreatePartition) = (refl, (refl, (refl, (refl, (refl, (refl, (refl, (refl, (refl, tt)))))))))
-have_status (Some kind.InitializePartition) = (refl, (refl, (refl, (refl, (refl, (refl, (refl, (refl, tt))))))))
-have_status (Some kind.FinalizePartition) = (refl, (refl, (refl, (refl, (refl, (refl, (refl, (refl, (refl, tt)))))))))
-have_status (Some kind.DeletePartition) = (refl, (refl, (refl, (refl, (refl, (refl, (refl, (refl, tt))))))))
-have_status (Some kind.GetPartitionProperty) = (refl, (refl, (refl, (refl, (refl, (refl, (refl, (refl, tt))))))))
-have_status (Some kind.SetPartitionProperty) = (refl, (refl, (refl, (refl, (refl, (refl, (refl, (refl, (refl, (refl, (refl, tt)))))))))))
-have_status (Some kind.GetPartitionId) = (refl, (refl, (refl, (refl, (refl, (refl, (refl, tt)))))))
-have_status (Some kind.GetNextChildPartition) = (refl, (refl, (refl, (refl, (refl, (refl, (refl, (refl, tt))))))))
-have_status (Some kind.DepositMemory) = (refl, (refl, (refl, (refl, (refl, (refl, (refl, (refl, (refl, tt)))))))))
-have_status (Some kind.WithdrawMemory) = (refl, (refl, (refl, (refl, (refl, (refl, (refl, (refl, tt))))))))
-have_status (Some kind.GetMemoryBalance) = (refl, (refl, (refl, (refl, (refl, (refl, (refl, tt)))))))
-have_status (Some kind.CreateVp) = (refl, (refl, (refl, (refl, (refl, (refl, (refl, (refl, (refl, (refl, tt))))))))))
-have_status (Some kind.DeleteVp) = (refl, (refl, (refl, (refl, (refl, (refl, (refl, (refl, (refl, tt)))))))))
-have_status (Some kind.GetVpRegisters) = (refl, (refl, (refl, (refl, (refl, (refl, (refl, (refl, (refl, (refl, (refl, tt)))))))))))
-have_status (Some kind.SetVpRegisters) = (refl, (refl, (refl, (refl, (refl, (refl, (refl, (refl, (refl, (refl, (refl, tt)))))))))))
-have_status (Some kind.DeletePort) = (refl, (refl, (refl, (refl, (refl, (refl, (refl, (refl, (refl, tt)))))))))
-have_status (Some kind.DisconnectPort) = (refl, (refl, (refl, (refl, (refl, (refl, (refl, (refl, (refl, tt)))))))))
-have_status (Some kind.PostMessage) = (refl, (refl, (refl, (refl, (refl, (refl, (refl, (refl, (refl, (refl, (refl, (refl, (refl, tt)))))))))))))
-have_status (Some kind.SignalEvent) = (refl, (refl, (refl, (refl, (refl, (refl, (refl, (refl, (refl, (refl, (refl, (refl, tt))))))))))))
-have_status (Some kind.CreatePort) = (refl, (refl, (refl, (refl, (refl, (refl, (refl, (refl, (refl, (refl, (refl, (refl, tt))))))))))))
-have_status (Some kind.ConnectPort) = (refl, (refl, (refl, (refl, (refl, (refl, (refl, (refl, (refl, (refl, (refl, (refl, (refl, (refl, tt))))))))))))))
+abbrev has_status : Option CallKind → Rule → Bool
+has_status k rule = is_some (rule_status rule k)
+
+module _ (f : Flat) (caller target : ℕ) (states : States) (charge : ℕ) where
+  -- the rules that a call is asked have a status
+  call_status : (k : Option CallKind) (call : Call) → all_have (has_status k) (call_asks f caller target states charge call) ≡ true
+  call_status k (CreatePartition flags) = refl
+  call_status k call = refl
+
+  -- and the call alone decides which they are
+  call_alike : (g : Flat) (call : Call) → rules_of (call_asks f caller target states charge call) ≡ rules_of (call_asks g caller target states charge call)
+  call_alike g (CreatePartition flags) = refl
+  call_alike g call = refl
+
+module _ {A : Type 0} (f : Flat) where
+  hypercall_status : (caller : ℕ) (frame : Frame A) (named k : Option CallKind) → all_have (has_status named) (hypercall_asks f caller frame k) ≡ true
+  hypercall_status caller frame named None = refl
+  hypercall_status caller frame named (Some kind) =
+      let call : Call = parameters kind frame in
+      call_status f caller (target_of call caller) (needs_of call).states (charge_of call) named call
+
+  hypercall_alike : (g : Flat) (caller : ℕ) (frame : Frame A) (k : Option CallKind) → rules_of (hypercall_asks f caller frame k) ≡ rules_of (hypercall_asks g caller frame k)
+  hypercall_alike g caller frame None = refl
+  hypercall_alike g caller frame (Some kind) =
+      let call : Call = parameters kind frame in
+      ap (λ rules. CallCode ∷ InputValue ∷ Alignment ∷ Parameters ∷ Privilege ∷ TargetExists ∷ Kinship ∷ rules)
+      (call_alike f caller (target_of call caller) (needs_of call).states (charge_of call) g call)
+
+  action_alike : (g : Flat) (caller : ℕ) (what : Action A) → rules_of (action_asks f caller what) ≡ rules_of (action_asks g caller what)
+  action_alike g caller (Hypercall frame) = hypercall_alike g caller frame (call_of frame)
+  action_alike g caller what = refl
+
+  -- the event alone decides which rules are asked
+  pub asked_alike : (g : Flat) (e : Event A) → asked f e ≡ asked g e
+  asked_alike g e = ap (λ rules. CallerExists ∷ CallerActive ∷ CallerVpExists ∷ rules) (action_alike g e.by.part e.what)
+
+  -- so an unmet one is asked, whatever the state
+  refused : (e : Event A) (rule : Rule) → unmet f e ≡ Some rule → IsAsked e rule
+  refused e rule is g = subst (λ rules. Contains rules rule) (asked_alike g e) (found_in (asks f e) rule is)
 
 module _ {A : Type 0} (f : Flat) (caller : Caller) (frame : Frame A) where
   abbrev event : Event A
@@ -101,34 +124,23 @@ module _ {A : Type 0} (f : Flat) (caller : Caller) (frame : Frame A) where
       by (Some rule) is = denied rule (rule_status rule (call_of frame)) (status rule is)
         where
           status : (rule : Rule) → unmet f event ≡ Some rule → is_some (rule_status rule (call_of frame)) ≡ true
-          status rule is = found_has (λ rule. not (met rule f event)) (λ rule. is_some (rule_status rule (call_of frame))) (asked event) rule (refl, (refl, (refl, have_status (call_of frame)))) is
+          status rule is = found_has (has_status (call_of frame)) (asks f event) rule (hypercall_status f caller.part frame (call_of frame) (call_of frame)) is
 
 -- the rule of a refusal is one that is asked
 module _ {A : Type 0} (f : Flat) where
-  refused : (e : Event A) (rule : Rule) → unmet f e ≡ Some rule → Contains (asked e) rule
-  refused e rule is = found_in (λ rule. not (met rule f e)) (asked e) rule is
-
   done : (e : Event A) (b : Bool) (bytes : List ℕ) (next : ℕ) → NamesAsked e (cond b (Served bytes) (More next bytes))
   done e true bytes next = tt
   done e false bytes next = tt
 
+  named : (e : Event A) (frame : Frame A) (rule : Rule) (status : Option Status) → IsAsked e rule → NamesAsked e (denied_with frame rule status)
+  named e frame rule None is = is
+  named e frame rule (Some status) is = is
+
   by_action : (by : Caller) (what : Action A) (rule : Option Rule) → unmet f (record { by = by; what = what }) ≡ rule → NamesAsked (record { by = by; what = what }) (step_by f (record { by = by; what = what }) rule).1
-  by_action by (Hypercall frame) None is = done (record { by = by; what = Hypercall frame }) (is_done frame (call_of frame)) _ _
-  by_action by (Hypercall frame) (Some rule) is = named frame (asked (record { by = by; what = Hypercall frame })) rule (rule_status rule (call_of frame)) (refused (record { by = by; what = Hypercall frame }) rule is) by refl
-  by_action by (ReadMsr msr) None is = tt
-  by_action by (ReadMsr msr) (Some rule) is = refused (record { by = by; what = ReadMsr msr }) rule is
-  by_action by (WriteMsr msr value) None is = tt
-  by_action by (WriteMsr msr value) (Some rule) is = refused (record { by = by; what = WriteMsr msr value }) rule is
-  by_action by (ReadSlot sint) None is = tt
-  by_action by (ReadSlot sint) (Some rule) is = refused (record { by = by; what = ReadSlot sint }) rule is
-  by_action by (ClearSlot sint) None is = tt
-  by_action by (ClearSlot sint) (Some rule) is = refused (record { by = by; what = ClearSlot sint }) rule is
-  by_action by (ReadFlags sint) None is = tt
-  by_action by (ReadFlags sint) (Some rule) is = refused (record { by = by; what = ReadFlags sint }) rule is
-  by_action by (ClearFlag sint flag) None is = tt
-  by_action by (ClearFlag sint flag) (Some rule) is = refused (record { by = by; what = ClearFlag sint flag }) rule is
-  by_action by TakeInterrupt None is = tt
-  by_action by TakeInterrupt (Some rule) is = refused (record { by = by; what = TakeInterrupt }) rule is
+  by_action by (Hypercall frame) None is = done (call_event by frame) (is_done frame (call_of frame)) _ _
+  by_action by (Hypercall frame) (Some rule) is = named (call_event by frame) frame rule (rule_status rule (call_of frame)) (refused f (call_event by frame) rule is)
+  by_action by what None is = tt
+  by_action by what (Some rule) is = refused f (record { by = by; what = what }) rule is
 
   pub names_asked : (e : Event A) → NamesAsked e (step f e).1
   names_asked e = by_action e.by e.what (unmet f e) refl
@@ -146,20 +158,8 @@ module _ {A : Type 0} (f : Flat) where
   went_on : (by : Caller) (what : Action A) (rule : Option Rule) → GoesOn what (step_by f (record { by = by; what = what }) rule).1
   went_on by (Hypercall frame) None = next_of by frame (is_done frame (call_of frame)) refl _
   went_on by (Hypercall frame) (Some rule) = ended_by frame rule (rule_status rule (call_of frame))
-  went_on by (ReadMsr msr) None = tt
-  went_on by (ReadMsr msr) (Some rule) = tt
-  went_on by (WriteMsr msr value) None = tt
-  went_on by (WriteMsr msr value) (Some rule) = tt
-  went_on by (ReadSlot sint) None = tt
-  went_on by (ReadSlot sint) (Some rule) = tt
-  went_on by (ClearSlot sint) None = tt
-  went_on by (ClearSlot sint) (Some rule) = tt
-  went_on by (ReadFlags sint) None = tt
-  went_on by (ReadFlags sint) (Some rule) = tt
-  went_on by (ClearFlag sint flag) None = tt
-  went_on by (ClearFlag sint flag) (Some rule) = tt
-  went_on by TakeInterrupt None = tt
-  went_on by TakeInterrupt (Some rule) = tt
+  went_on by what None = tt
+  went_on by what (Some rule) = tt
 
   pub goes_on : (e : Event A) → GoesOn e.what (step f e).1
   goes_on e = went_on e.by e.what (unmet f e)

@@ -1,39 +1,46 @@
 -- States that differ in nothing but the order of messages across places do the same.
-use Rattle.std.proofs.Common.{◌≡◌, ℕ, zero, suc, ◌+◌, ◌==◌, ◌&&◌, not, nat_le, nat_lt, Bool, true, false, cond, List, [], ◌∷◌, ◌++◌, Option, Some, None, find, refl, sym, ap, subst, ◌∙◌}
+use Rattle.std.proofs.Common.{◌≡◌, ℕ, zero, suc, ◌+◌, ◌==◌, ◌&&◌, not, nat_le, nat_lt, Bool, true, false, cond, List, [], ◌∷◌, ◌++◌, Option, Some, None, is_ok, is_some, refl, sym, ap, subst, ◌∙◌}
 use Rattle.std.proofs.lemmas.List.Elements.{filter-append}
-use Rattle.std.specs.FinMap.{get}
+use Rattle.std.specs.FinMap.{FinMap, contains_key, get}
+use Rattle.std.specs.Option.{option_map_or}
 use Rattle.std.specs.List.{filter, list_any}
+use Rattle.hv_abi.specs.Check.{call_of}
+use Rattle.hv_abi.specs.declared.call_kind.CallKind.{CallKind}
+use Rattle.hv_abi.specs.declared.frame.Frame.{Frame}
+use Rattle.hv_calls.specs.Params.{parameters}
 use Rattle.hv_calls.specs.declared.call.Call.{Call}
 use Rattle.hv_calls.specs.declared.call.Call.TheVariants.{CreatePartition, FinalizePartition, SetPartitionProperty, DeleteVp, GetVpRegisters, SetVpRegisters, PostMessage, SignalEvent}
-use Rattle.hv_defs.specs.Registers.{name_of_msr, row_of, takes_messages}
+use Rattle.hv_defs.specs.Flags.{pair_cmp}
+use Rattle.hv_defs.specs.Registers.{kept, name_of_msr, row_of, takes_messages}
 use Rattle.hv_defs.specs.declared.registers.RegisterRow.{RegisterRow}
 use Rattle.hv_defs.specs.declared.registers.TheConstants.{EOM}
 use Rattle.hv_defs.specs.declared.sizes.TheConstants.{MAX_DEPTH, MAX_MESSAGES, SINTS}
 use Rattle.hv_policy.proofs.SameMail.{all_same, kept_same, left_same, next_same, slot_same}
-use Rattle.hv_policy.specs.Aim.{Aim, aim_by, aim_of, is_same_birth, on_vp, test_aim, test_vp}
+use Rattle.hv_policy.specs.Aim.{Aim, aim_by, aim_of, is_same_birth, on_aim, on_vp}
 use Rattle.hv_policy.specs.Answer.{answer, output, output_of, reply_with}
-use Rattle.hv_policy.specs.Asked.{asked}
-use Rattle.hv_policy.specs.Call.{action_subject, called, on_call, on_msr, target_of}
+use Rattle.hv_policy.specs.Call.{called}
 use Rattle.hv_policy.specs.Count.{depth_within, one_more, parent_of}
 use Rattle.hv_policy.specs.Effect.{action_effect, call_effect, counted, effect, end_if, post, post_to, row_raised, served_effect, show, show_each, signal_to, with_vp, write_msr, write_register, written}
-use Rattle.hv_policy.specs.Flat.{ConnRow, Flat, MailRow}
+use Rattle.hv_policy.specs.Flat.{ConnRow, Flat, MailRow, VpRow}
 use Rattle.hv_policy.specs.Mail.{Place, has_next, is_shown, is_some_row, place_at, place_of, stands_at}
-use Rattle.hv_policy.specs.Met.{call_met, has_message_room, is_conn_good, is_kin, is_other_there, is_port_good, is_ready_for, is_right, is_subject_good, is_vp_good, may_access, may_access_msr, may_give, met, on_part}
-use Rattle.hv_policy.specs.Needs.{needs_of}
+use Rattle.hv_policy.specs.Met.{has_available, has_flag, has_message_room, has_privilege, is_aimed_at_vp, is_for_messages, is_in, is_in_range, is_kin, is_ready_for_flags, is_ready_for_messages, may_access, may_access_msr, may_give, on_part, takes_msr}
+use Rattle.hv_policy.specs.Needs.{charge_of, needs_of, target_of}
 use Rattle.hv_policy.specs.Property.{property_of}
 use Rattle.hv_policy.specs.Same.{IsSame, IsSameMail}
-use Rattle.hv_policy.specs.Step.{run_from, step, step_by, unmet}
+use Rattle.hv_policy.specs.Rules.{action_asks, call_asks, caller_asks, first_unmet, frame_asks, hypercall_asks, target_asks, unmet}
+use Rattle.hv_policy.specs.Step.{run_from, step, step_by}
 use Rattle.hv_policy.specs.declared.event.Action.{Action}
-use Rattle.hv_policy.specs.declared.event.Action.TheVariants.{Hypercall, WriteMsr, ReadSlot, ClearSlot}
+use Rattle.hv_policy.specs.declared.event.Action.TheVariants.{Hypercall, ReadMsr, WriteMsr, ReadSlot, ClearSlot}
 use Rattle.hv_policy.specs.declared.event.Caller.{Caller}
 use Rattle.hv_policy.specs.declared.event.Event.{Event}
 use Rattle.hv_policy.specs.declared.need.Kin.{Kin}
 use Rattle.hv_policy.specs.declared.need.Kin.TheVariants as kin
+use Rattle.hv_policy.specs.declared.need.States.{States}
 use Rattle.hv_policy.specs.declared.property.Property.{Property}
 use Rattle.hv_policy.specs.declared.property.Property.TheVariants.{PrivilegeFlags}
 use Rattle.hv_policy.specs.declared.reply.Reply.TheVariants.{Served}
 use Rattle.hv_policy.specs.declared.rule.Rule.{Rule}
-use Rattle.hv_policy.specs.declared.rule.Rule.TheVariants.{CallerExists, CallerActive, CallerVpExists, CallCode, InputValue, Alignment, Parameters, Kinship, Depth, OtherExists, Connection, Port, Right, VpExists, Subject, VpReady, PortRoom, MsrKnown, MsrPrivilege, MsrWrite}
+use Rattle.hv_policy.specs.declared.rule.Rule.TheVariants.{Privilege, TargetExists, Kinship, PropertyKnown, TargetState, Depth, Connection, Port, Right, VpExists, PropertyRange, Subject, VpReady, PortRoom, Pages, MsrKnown, MsrPrivilege, MsrWrite}
 use Rattle.hv_laws.specs.Lawful.{IsLawful, is_placed}
 
 -- a state with its messages in another order
@@ -74,7 +81,7 @@ each_same part vp (suc sint) f g s = shown_same (record { part = part; vp = vp; 
 ended_same : (is : Bool) (part vp : ℕ) (f g : Flat) → IsSame f g → IsSame (end_if is part vp f) (end_if is part vp g)
 ended_same false part vp f g s = s
 ended_same true part vp f g s =
-    subst (λ b. IsSame (end_if true part vp f) (cond b (show_each part vp SINTS g) g)) (ap (λ vps. test_vp (λ row. takes_messages row.registers) (get vps (part, vp))) s.vp)
+    subst (λ b. IsSame (end_if true part vp f) (cond b (show_each part vp SINTS g) g)) (ap (λ (vps : FinMap pair_cmp VpRow). option_map_or (λ row. takes_messages row.registers) (get vps (part, vp)) false) s.vp)
     (by (on_vp f (part, vp) (λ row. takes_messages row.registers)))
   where
     by : (b : Bool) → IsSame (cond b (show_each part vp SINTS f) f) (cond b (show_each part vp SINTS g) g)
@@ -132,74 +139,60 @@ module _ (f : Flat) (mail : List MailRow) (same : IsSameMail f.mail mail) where
   aims : (key : ℕ × ℕ) → aim_of f key ≡ aim_of g key
   aims key = aim_same (get f.conn key)
 
-  other_same : (call : Call) (caller target : ℕ) → is_other_there call f caller target ≡ is_other_there call g caller target
-  other_same (CreatePartition flags) caller target = refl
-  other_same call caller target = refl
+  -- a test of where a connection leads, which looks at the state alike
+  led : (key : ℕ × ℕ) (test other : Aim → Bool) → ((aim : Aim) → test aim ≡ other aim) → on_aim f key test ≡ on_aim g key other
+  led key test other same = λ i. option_map_or (λ aim. same aim i) (aims key i) false
 
-  conn_same : (call : Call) (target : ℕ) → is_conn_good call f target ≡ is_conn_good call g target
-  conn_same (CreatePartition flags) target = refl
-  conn_same call target = refl
+  room_same : (aim : Aim) → has_message_room f aim ≡ has_message_room g aim
+  room_same aim = ap (λ n. nat_lt n MAX_MESSAGES) (kept_same aim.conn.part aim.conn.port aim.conn.born f.mail mail same)
 
-  port_same : (call : Call) (caller target : ℕ) → is_port_good call f caller target ≡ is_port_good call g caller target
-  port_same (PostMessage connection message_type payload) caller target = ap (test_aim is_same_birth) (aims (target, connection))
-  port_same (SignalEvent connection flag) caller target = ap (test_aim is_same_birth) (aims (target, connection))
-  port_same call caller target = refl
+  module _ (caller target : ℕ) (states : States) (charge : ℕ) where
+    call_same : (call : Call) → call_asks f caller target states charge call ≡ call_asks g caller target states charge call
+    call_same (CreatePartition flags) = λ i. (Depth, on_part f caller (λ row. nat_le (depth_same caller caller i + 1) MAX_DEPTH)) ∷ (Pages, has_available f target charge) ∷ []
+    call_same (SetPartitionProperty partition code value) = λ i.
+        (PropertyKnown, is_some (property_of code)) ∷ (TargetState, is_in f target states) ∷ (Right, give_same (property_of code) value caller i)
+        ∷ (PropertyRange, is_in_range (property_of code) value) ∷ []
+    call_same (GetVpRegisters partition vp name) = λ i.
+        (TargetState, is_in f target states) ∷ (Right, access_same (row_of name) caller i) ∷ (VpExists, contains_key f.vp (target, vp))
+        ∷ (Subject, is_some (row_of name)) ∷ []
+    call_same (SetVpRegisters partition vp name value) = λ i.
+        (TargetState, is_in f target states) ∷ (Right, access_same (row_of name) caller i) ∷ (VpExists, contains_key f.vp (target, vp))
+        ∷ (Subject, is_ok (kept (row_of name) value)) ∷ []
+    call_same (PostMessage connection message_type payload) = λ i.
+        (Connection, contains_key f.conn (target, connection)) ∷ (Port, led (target, connection) is_same_birth is_same_birth (λ _. refl) i)
+        ∷ (VpExists, led (target, connection) (is_aimed_at_vp f) (is_aimed_at_vp g) (λ _. refl) i)
+        ∷ (Subject, led (target, connection) is_for_messages is_for_messages (λ _. refl) i)
+        ∷ (VpReady, led (target, connection) (is_ready_for_messages f) (is_ready_for_messages g) (λ _. refl) i)
+        ∷ (PortRoom, led (target, connection) (has_message_room f) (has_message_room g) room_same i) ∷ []
+    call_same (SignalEvent connection flag) = λ i.
+        (Connection, contains_key f.conn (target, connection)) ∷ (Port, led (target, connection) is_same_birth is_same_birth (λ _. refl) i)
+        ∷ (VpExists, led (target, connection) (is_aimed_at_vp f) (is_aimed_at_vp g) (λ _. refl) i)
+        ∷ (Subject, led (target, connection) (has_flag flag) (has_flag flag) (λ _. refl) i)
+        ∷ (VpReady, led (target, connection) (is_ready_for_flags f) (is_ready_for_flags g) (λ _. refl) i) ∷ []
+    call_same call = refl
 
-  right_same : (call : Call) (caller : ℕ) → is_right call f caller ≡ is_right call g caller
-  right_same (SetPartitionProperty partition code value) caller = give_same (property_of code) value caller
-  right_same (GetVpRegisters partition vp name) caller = access_same (row_of name) caller
-  right_same (SetVpRegisters partition vp name value) caller = access_same (row_of name) caller
-  right_same call caller = refl
-
-  vp_same : (call : Call) (target : ℕ) → is_vp_good call f target ≡ is_vp_good call g target
-  vp_same (PostMessage connection message_type payload) target = ap (test_aim _) (aims (target, connection))
-  vp_same (SignalEvent connection flag) target = ap (test_aim _) (aims (target, connection))
-  vp_same call target = refl
-
-  subject_same : (call : Call) (caller : ℕ) → is_subject_good call f caller ≡ is_subject_good call g caller
-  subject_same (PostMessage connection message_type payload) caller = ap (test_aim _) (aims (caller, connection))
-  subject_same (SignalEvent connection flag) caller = ap (test_aim _) (aims (caller, connection))
-  subject_same call caller = refl
-
-  ready_same : (call : Call) (caller : ℕ) → is_ready_for call f caller ≡ is_ready_for call g caller
-  ready_same (PostMessage connection message_type payload) caller = ap (test_aim _) (aims (caller, connection))
-  ready_same (SignalEvent connection flag) caller = ap (test_aim _) (aims (caller, connection))
-  ready_same call caller = refl
-
-  room_same : (call : Call) (caller : ℕ) → has_message_room call f caller ≡ has_message_room call g caller
-  room_same (PostMessage connection message_type payload) caller = λ i. test_aim (λ aim. nat_lt (kept_same aim.conn.part aim.conn.port aim.conn.born f.mail mail same i) MAX_MESSAGES) (aims (caller, connection) i)
-  room_same call caller = refl
-
-  call_same : (rule : Rule) (caller : ℕ) (call : Call) → call_met rule f caller call ≡ call_met rule g caller call
-  call_same Kinship caller call = kin_same (needs_of call).kin caller (target_of call caller)
-  call_same Depth caller call = ap (λ depth. on_part f caller (λ row. nat_le (depth + 1) MAX_DEPTH)) (depth_same caller caller)
-  call_same OtherExists caller call = other_same call caller (target_of call caller)
-  call_same Connection caller call = conn_same call (target_of call caller)
-  call_same Port caller call = port_same call caller (target_of call caller)
-  call_same Right caller call = right_same call caller
-  call_same VpExists caller call = vp_same call (target_of call caller)
-  call_same Subject caller call = subject_same call caller
-  call_same VpReady caller call = ready_same call caller
-  call_same PortRoom caller call = room_same call caller
-  call_same rule caller call = refl
+  targets_same : (caller : ℕ) (call : Call) → target_asks f caller call ≡ target_asks g caller call
+  targets_same caller call = λ i.
+      (Privilege, has_privilege f caller (needs_of call).privilege) ∷ (TargetExists, contains_key f.part (target_of call caller))
+      ∷ (Kinship, kin_same (needs_of call).kin caller (target_of call caller) i) ∷ []
 
   module _ {A : Type 0} where
-    met_same : (rule : Rule) (e : Event A) → met rule f e ≡ met rule g e
-    met_same CallerExists e = refl
-    met_same CallerActive e = refl
-    met_same CallerVpExists e = refl
-    met_same CallCode e = refl
-    met_same InputValue e = refl
-    met_same Alignment e = refl
-    met_same Parameters e = refl
-    met_same Subject e = ap (λ test. action_subject test e.what) (λ i call. call_same Subject e.by.part call i)
-    met_same MsrKnown e = refl
-    met_same MsrPrivilege e = ap (λ test. on_msr test e) (λ i msr. access_msr_same (name_of_msr msr) e.by.part i)
-    met_same MsrWrite e = refl
-    met_same rule e = ap (λ test. on_call test e) (λ i call. call_same rule e.by.part call i)
+    hypercall_same : (caller : ℕ) (frame : Frame A) (k : Option CallKind) → hypercall_asks f caller frame k ≡ hypercall_asks g caller frame k
+    hypercall_same caller frame None = refl
+    hypercall_same caller frame (Some kind) = λ i.
+        frame_asks kind frame
+        ++ (targets_same caller (parameters kind frame) i
+        ++ call_same caller (target_of (parameters kind frame) caller) (needs_of (parameters kind frame)).states (charge_of (parameters kind frame)) (parameters kind frame) i)
+
+    asks_same : (caller : ℕ) (what : Action A) → action_asks f caller what ≡ action_asks g caller what
+    asks_same caller (Hypercall frame) = hypercall_same caller frame (call_of frame)
+    asks_same caller (ReadMsr msr) = λ i. (MsrKnown, is_some (name_of_msr msr)) ∷ (MsrPrivilege, access_msr_same (name_of_msr msr) caller i) ∷ []
+    asks_same caller (WriteMsr msr value) = λ i.
+        (MsrKnown, is_some (name_of_msr msr)) ∷ (MsrPrivilege, access_msr_same (name_of_msr msr) caller i) ∷ (MsrWrite, takes_msr (name_of_msr msr) value) ∷ []
+    asks_same caller what = refl
 
     unmet_same : (e : Event A) → unmet f e ≡ unmet g e
-    unmet_same e = ap {A = Rule → Bool} (λ test. find (λ rule. not (test rule)) (asked e)) (λ i rule. met_same rule e i)
+    unmet_same e = ap (λ rest. first_unmet (caller_asks f e.by ++ rest)) (asks_same e.by.part e.what)
 
   -- no reply but that of a slot shows them, and it shows its own place
   output_same : (call : Call) (caller target : ℕ) → output call f caller target ≡ output call g caller target

@@ -7,10 +7,10 @@ use Rattle.std.specs.Option.{option_map}
 use Rattle.std.specs.Ordering.{eq_by_cmp}
 use Rattle.hv_policy.proofs.Pairs.{pair_cmp_exact}
 use Rattle.hv_policy.proofs.Rows.{get-with_vp}
-use Rattle.hv_policy.specs.Allowed.{is_running}
 use Rattle.hv_policy.specs.Count.{available, in_use, pooled_count}
 use Rattle.hv_policy.specs.Effect.{counted, with_vp}
 use Rattle.hv_defs.specs.Flags.{pair_cmp}
+use Rattle.hv_policy.specs.Met.{is_running}
 use Rattle.hv_policy.specs.Flat.{ConnRow, Flat, MailRow, PortRow, VpRow}
 use Rattle.hv_laws.proofs.Mailing.{AreMailed, mailed_of, port_left, port_more}
 use Rattle.hv_laws.proofs.Owned.{added_owned, no_more, owned, removed_owned}

@@ -5,7 +5,7 @@ use Rattle.std.specs.FinMap.{get, contains_key}
 use Rattle.hv_defs.specs.declared.sizes.TheConstants.{EVENT_FLAGS, SINTS}
 use Rattle.hv_policy.specs.Count.{in_use, pooled_count}
 use Rattle.hv_policy.specs.Flat.{Flat, MailRow, PartRow, PageRow, PortRow}
-use Rattle.hv_policy.specs.Allowed.{is_running}
+use Rattle.hv_policy.specs.Met.{is_running}
 use Rattle.hv_privs.specs.Privileges.{IsSubset}
 
 -- what holds of a port once so many events were served

@@ -14,12 +14,13 @@ ghost use Rattle.hv_policy.specs.Mail.{kept_of, mail_at};
 ghost use Rattle.hv_policy.specs.Same.{IsSame};
 ghost use Rattle.hv_policy.specs.Next.{GoesOn};
 ghost use Rattle.hv_policy.specs.Result.{HasResult};
-ghost use Rattle.hv_policy.specs.Step.{NamesAsked, run, run_from, step, unmet};
+ghost use Rattle.hv_policy.specs.Rules.{asked, unmet};
+ghost use Rattle.hv_policy.specs.Step.{NamesAsked, run, run_from, step};
 ghost use Rattle.hv_policy.specs.declared.event.Action.TheVariants.{Hypercall};
 ghost use Rattle.hv_policy.specs.declared.event.Caller.{Caller};
 ghost use Rattle.hv_policy.specs.declared.config.Config.{Config};
 ghost use Rattle.hv_policy.specs.declared.event.Event.{Event};
-ghost use Rattle.hv_policy.specs.Allowed.{is_running};
+ghost use Rattle.hv_policy.specs.Met.{is_running};
 ghost use Rattle.hv_policy.specs.BootFault.{boot_fault};
 ghost use Rattle.hv_laws.specs.Lawful.{IsLawful};
 
@@ -56,6 +57,11 @@ pub fn order_across_places_does_not_count<A>()
 /// No more events of a run are served than there are.
 pub fn no_more_events_are_served_than_there_are<A>()
     ensures runs { (config : Config) (events : List (Event A)) → (run config events).0.served ≤ length events }
+{}
+
+/// Which rules are asked, and in which order, the event alone decides: whatever the state, they are the same.
+pub fn the_event_decides_what_is_asked<A>()
+    ensures { (f g : Flat) (e : Event A) → asked f e ≡ asked g e }
 {}
 
 /// A refusal names a rule that its event is asked, each reply to a hypercall has a result value, and a call goes on with the

@@ -10,11 +10,10 @@ use Rattle.hv_defs.specs.declared.sizes.TheConstants.{MAX_PAGES}
 use Rattle.hv_laws.proofs.Granted as granted
 use Rattle.hv_laws.specs.Lawful.{IsLawful}
 use Rattle.hv_partition.specs.Partition.{PartitionState}
-use Rattle.hv_policy.specs.Allowed.{IsAllowed}
-use Rattle.hv_policy.specs.Call.{target_of}
+use Rattle.hv_policy.specs.Rules.{IsAllowed}
 use Rattle.hv_policy.specs.Flat.{Flat}
 use Rattle.hv_policy.specs.Met.{is_active}
-use Rattle.hv_policy.specs.Needs.{is_among}
+use Rattle.hv_policy.specs.Needs.{is_among, target_of}
 use Rattle.hv_policy.specs.declared.need.States.TheVariants as states
 use Rattle.hv_tie.proofs.Allowed.{caller_row, child_row, state_row}
 use Rattle.hv_tie.proofs.Counted.{available_counted}

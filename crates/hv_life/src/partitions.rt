@@ -8,16 +8,14 @@ ghost use Rattle.hv_tie.specs.Tie.{IsTied};
 use crate::rows::{create, delete, finalize, initialize};
 use crate::rules::{is_childless, is_depth_left, is_previous_there, next_child};
 use hv_defs::PARTITION_CHARGE;
-use hv_partition::Partition;
 use hv_policy::{CallOutput, Rule, States};
-use hv_tie::{Refused, has_available, is_state_allowed, meant, number_output};
-use hv_tree::IdTree;
+use hv_tie::{Partitions, Refused, has_available, is_state_allowed, meant, number_output};
 use std::alloc::{AllocError, Allocator};
 
 /// HvCreatePartition: a new partition with the id `next` below the caller, Created and without pages. The flags have no
 /// effect. It uses 2 pages of the caller's pool.
 pub fn create_partition<A: Allocator + Clone>(
-    tree: &mut IdTree<Partition<A>, A>,
+    tree: &mut Partitions<A>,
     alloc: &A,
     caller: u64,
     next: u64,
@@ -36,11 +34,7 @@ pub fn create_partition<A: Allocator + Clone>(
 }
 
 // P14 and P24.
-fn unmet_create<A: Allocator>(
-    tree: &IdTree<Partition<A>, A>,
-    caller: u64,
-    flags: u64,
-) -> Option<Rule>
+fn unmet_create<A: Allocator>(tree: &Partitions<A>, caller: u64, flags: u64) -> Option<Rule>
     requires { AreLawful tree.now }
     ensures { (f : Flat) → IsTied tree.now f → result ≡ unmet_further f caller (call.CreatePartition flags) }
 {
@@ -56,7 +50,7 @@ fn unmet_create<A: Allocator>(
 
 /// HvInitializePartition: the target becomes Active.
 pub fn initialize_partition<A: Allocator>(
-    tree: &mut IdTree<Partition<A>, A>,
+    tree: &mut Partitions<A>,
     caller: u64,
     partition: u64,
 ) -> Result<CallOutput, Refused>
@@ -70,9 +64,10 @@ pub fn initialize_partition<A: Allocator>(
     Ok(CallOutput::new())
 }
 
-/// HvFinalizePartition: the target becomes Finalized, and its virtual processors go. Its pages stay.
+/// HvFinalizePartition: the target becomes Finalized. Its virtual processors go with the messages that stand there, its ports
+/// and its connections go; its pages stay.
 pub fn finalize_partition<A: Allocator>(
-    tree: &mut IdTree<Partition<A>, A>,
+    tree: &mut Partitions<A>,
     caller: u64,
     partition: u64,
 ) -> Result<CallOutput, Refused>
@@ -86,11 +81,7 @@ pub fn finalize_partition<A: Allocator>(
 }
 
 // P12 and P13.
-fn unmet_finalize<A: Allocator>(
-    tree: &IdTree<Partition<A>, A>,
-    caller: u64,
-    partition: u64,
-) -> Option<Rule>
+fn unmet_finalize<A: Allocator>(tree: &Partitions<A>, caller: u64, partition: u64) -> Option<Rule>
     ensures { (f : Flat) → IsTied tree.now f → result ≡ unmet_further f caller (call.FinalizePartition partition) }
 {
     let target = meant(caller, partition);
@@ -105,7 +96,7 @@ fn unmet_finalize<A: Allocator>(
 
 /// HvDeletePartition: the target goes, and all its pages become loose pages of the caller.
 pub fn delete_partition<A: Allocator>(
-    tree: &mut IdTree<Partition<A>, A>,
+    tree: &mut Partitions<A>,
     caller: u64,
     partition: u64,
 ) -> Result<CallOutput, Refused>
@@ -124,7 +115,7 @@ pub fn delete_partition<A: Allocator>(
 
 /// HvGetPartitionId: the caller's id.
 pub fn get_partition_id<A: Allocator>(
-    tree: &IdTree<Partition<A>, A>,
+    tree: &Partitions<A>,
     caller: u64,
 ) -> Result<CallOutput, Refused>
     ensures { (f : Flat) → IsTied tree.now f → IsOutcome f caller call.GetPartitionId tree.now result tree.now }
@@ -135,7 +126,7 @@ pub fn get_partition_id<A: Allocator>(
 
 /// HvGetNextChildPartition: the least id above `previous` among the target's children, 0 if there is none.
 pub fn get_next_child_partition<A: Allocator>(
-    tree: &IdTree<Partition<A>, A>,
+    tree: &Partitions<A>,
     caller: u64,
     partition: u64,
     previous: u64,

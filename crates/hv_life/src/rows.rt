@@ -10,12 +10,13 @@ ghost use Rattle.hv_life.specs.Change.{IsCreated, IsDeleted, MayCreate, MayDelet
 use hv_defs::Life;
 use hv_partition::{PageKind, Partition};
 use hv_privs::Privileges;
+use hv_tie::Partitions;
 use hv_tree::{IdTree, InsertRefused};
 use std::alloc::{AllocError, Allocator};
 
 // Makes a partition below `parent`, with no pages and a restricted mask.
 pub fn create<A: Allocator + Clone>(
-    tree: &mut IdTree<Partition<A>, A>,
+    tree: &mut Partitions<A>,
     alloc: &A,
     parent: u64,
     id: u64,
@@ -33,7 +34,7 @@ pub fn create<A: Allocator + Clone>(
 }
 
 fn insert<A: Allocator + Clone>(
-    tree: &mut IdTree<Partition<A>, A>,
+    tree: &mut Partitions<A>,
     parent: u64,
     id: u64,
     partition: Partition<A>,
@@ -50,7 +51,7 @@ fn insert<A: Allocator + Clone>(
 }
 
 #[tactic(auto, using(hv_tree::proofs::Laws::unchanged))]
-pub fn initialize<A: Allocator>(tree: &mut IdTree<Partition<A>, A>, id: u64)
+pub fn initialize<A: Allocator>(tree: &mut Partitions<A>, id: u64)
     ensures { tree.new ≡ changed tree.old id (λ p. record p { life = life.Active }) }
 {
     if let Some(partition) = tree.get_mut(id) {
@@ -59,7 +60,7 @@ pub fn initialize<A: Allocator>(tree: &mut IdTree<Partition<A>, A>, id: u64)
 }
 
 #[tactic(auto, using(hv_tree::proofs::Laws::unchanged))]
-pub fn finalize<A: Allocator>(tree: &mut IdTree<Partition<A>, A>, id: u64)
+pub fn finalize<A: Allocator>(tree: &mut Partitions<A>, id: u64)
     ensures { tree.new ≡ changed tree.old id finalized }
 {
     if let Some(partition) = tree.get_mut(id) {
@@ -68,11 +69,7 @@ pub fn finalize<A: Allocator>(tree: &mut IdTree<Partition<A>, A>, id: u64)
 }
 
 // Hands all pages of a partition without children to `heir` as loose pages, and removes it.
-pub fn delete<A: Allocator>(
-    tree: &mut IdTree<Partition<A>, A>,
-    heir: u64,
-    id: u64,
-) -> Result<(), AllocError>
+pub fn delete<A: Allocator>(tree: &mut Partitions<A>, heir: u64, id: u64) -> Result<(), AllocError>
     requires { MayDelete tree.old heir id }
     ensures deleted { OnOk result (IsDeleted tree.old tree.new heir id) }
     ensures kept { OnErr result (tree.new ≡ tree.old) }
@@ -94,11 +91,7 @@ pub fn delete<A: Allocator>(
 
 // Makes room for more loose pages of a partition.
 #[tactic(auto, using(hv_tree::proofs::Laws::unchanged))]
-fn make_room<A: Allocator>(
-    tree: &mut IdTree<Partition<A>, A>,
-    id: u64,
-    more: u64,
-) -> Result<(), AllocError>
+fn make_room<A: Allocator>(tree: &mut Partitions<A>, id: u64, more: u64) -> Result<(), AllocError>
     requires { contains_key tree.old id ≡ true }
     ensures room { OnOk result (HasRoom tree.old tree.new id more) }
     ensures kept { OnErr result (tree.new ≡ tree.old) }
@@ -110,7 +103,7 @@ fn make_room<A: Allocator>(
 }
 
 // Hands all pages of a partition that is gone to another.
-fn hand_over<A: Allocator>(tree: &mut IdTree<Partition<A>, A>, heir: u64, gone: Partition<A>)
+fn hand_over<A: Allocator>(tree: &mut Partitions<A>, heir: u64, gone: Partition<A>)
     requires { MayTakeOver tree.old heir gone }
     ensures { HasTakenOver tree.old tree.new heir gone }
 {

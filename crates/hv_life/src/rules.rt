@@ -1,24 +1,21 @@
 // The rules that this chapter asks alone, and what it reads of the tree for them.
-ghost use Rattle.std.specs.Prelude.{◌≡◌, ◌+◌, ◌==◌, ◌||◌, nat_le};
+ghost use Rattle.std.specs.Prelude.{◌≡◌, ◌==◌, ◌||◌};
 ghost use Rattle.std.specs.FinMap.{get};
 ghost use Rattle.std.specs.Option.{option_map};
-ghost use Rattle.hv_defs.specs.declared.sizes.TheConstants.{MAX_DEPTH as DEPTH};
 ghost use Rattle.hv_policy.specs.Answer.{next_child as next_child_of};
-ghost use Rattle.hv_policy.specs.Count.{child_count, depth as depth_of};
+ghost use Rattle.hv_policy.specs.Count.{depth as depth_of};
 ghost use Rattle.hv_policy.specs.Flat.{Flat};
-ghost use Rattle.hv_policy.specs.Met.{is_child as is_child_of, on_part};
+ghost use Rattle.hv_policy.specs.Met.{is_child as is_child_of, is_childless as is_childless_of, is_depth_left as is_depth_left_of};
 ghost use Rattle.hv_tie.specs.Served.{AreLawful};
 ghost use Rattle.hv_tie.specs.Tie.{IsTied};
 
 use hv_defs::MAX_DEPTH;
-use hv_partition::Partition;
-use hv_tie::is_child;
-use hv_tree::IdTree;
+use hv_tie::{Partitions, is_child};
 use std::alloc::Allocator;
 
 // P13: whether a partition is there, without children.
-pub fn is_childless<A: Allocator>(tree: &IdTree<Partition<A>, A>, id: u64) -> bool
-    ensures { (f : Flat) → IsTied tree.now f → result ≡ on_part f id (λ row. child_count f id == 0) }
+pub fn is_childless<A: Allocator>(tree: &Partitions<A>, id: u64) -> bool
+    ensures { (f : Flat) → IsTied tree.now f → result ≡ is_childless_of f id }
 {
     match tree.children_of(id) {
         None => false,
@@ -27,9 +24,9 @@ pub fn is_childless<A: Allocator>(tree: &IdTree<Partition<A>, A>, id: u64) -> bo
 }
 
 // P14: whether a partition is there, and a child of it would stand at most at the most depth.
-pub fn is_depth_left<A: Allocator>(tree: &IdTree<Partition<A>, A>, id: u64) -> bool
+pub fn is_depth_left<A: Allocator>(tree: &Partitions<A>, id: u64) -> bool
     requires { AreLawful tree.now }
-    ensures { (f : Flat) → IsTied tree.now f → result ≡ on_part f id (λ row. nat_le (depth_of f id + 1) DEPTH) }
+    ensures { (f : Flat) → IsTied tree.now f → result ≡ is_depth_left_of f id }
 {
     match depth(tree, id) {
         None => false,
@@ -38,7 +35,7 @@ pub fn is_depth_left<A: Allocator>(tree: &IdTree<Partition<A>, A>, id: u64) -> b
 }
 
 // How many partitions stand above one.
-fn depth<A: Allocator>(tree: &IdTree<Partition<A>, A>, id: u64) -> Option<u64>
+fn depth<A: Allocator>(tree: &Partitions<A>, id: u64) -> Option<u64>
     requires { AreLawful tree.now }
     ensures { (f : Flat) → IsTied tree.now f → result ≡ option_map (λ row. depth_of f id) (get f.part id) }
 {
@@ -46,18 +43,14 @@ fn depth<A: Allocator>(tree: &IdTree<Partition<A>, A>, id: u64) -> Option<u64>
 }
 
 // P15: whether the previous child is 0, or a child of the partition.
-pub fn is_previous_there<A: Allocator>(
-    tree: &IdTree<Partition<A>, A>,
-    parent: u64,
-    previous: u64,
-) -> bool
+pub fn is_previous_there<A: Allocator>(tree: &Partitions<A>, parent: u64, previous: u64) -> bool
     ensures { (f : Flat) → IsTied tree.now f → result ≡ (previous == 0) || is_child_of f parent previous }
 {
     previous == 0 || is_child(tree, parent, previous)
 }
 
 // The least id above `previous` among a partition's children, or 0.
-pub fn next_child<A: Allocator>(tree: &IdTree<Partition<A>, A>, parent: u64, previous: u64) -> u64
+pub fn next_child<A: Allocator>(tree: &Partitions<A>, parent: u64, previous: u64) -> u64
     ensures { (f : Flat) → IsTied tree.now f → result ≡ next_child_of f parent previous }
 {
     match tree.child_after(parent, previous) {

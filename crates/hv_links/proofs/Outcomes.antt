@@ -5,7 +5,7 @@ use Rattle.std.specs.Option.{option_map}
 use Rattle.hv_calls.specs.declared.call.Call.TheVariants.{CreatePort, ConnectPort, DeletePort, DisconnectPort}
 use Rattle.hv_defs.specs.declared.port_kind.PortKind.{PortKind}
 use Rattle.hv_partition.specs.Partition.{PartitionState}
-use Rattle.hv_policy.specs.Call.{meant_id, target_of}
+use Rattle.hv_policy.specs.Needs.{meant_id, target_of}
 use Rattle.hv_policy.specs.Effect.{born_of, call_effect, flags_of}
 use Rattle.hv_policy.specs.Flat.{ConnRow, Flat, PortRow}
 use Rattle.hv_ports.specs.declared.ports.Conn.{Conn}

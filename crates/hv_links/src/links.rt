@@ -10,11 +10,9 @@ ghost use Rattle.hv_tie.specs.Tie.{IsTied};
 use crate::rows::{add_conn, add_port, remove_conn, remove_port};
 use crate::rules::{born_of, has_conn, has_port, is_kind, is_peer, is_there};
 use hv_defs::{CONNECTION_CHARGE, PORT_CHARGE, PortKind};
-use hv_partition::Partition;
 use hv_policy::{CallOutput, Rule, States};
 use hv_ports::{Conn, Port};
-use hv_tie::{Refused, has_available, has_vp, is_state_allowed, meant};
-use hv_tree::IdTree;
+use hv_tie::{Partitions, Refused, has_available, has_vp, is_state_allowed, meant};
 use std::alloc::{AllocError, Allocator};
 
 /// A port to be made, as HvCreatePort has it.
@@ -37,7 +35,7 @@ pub struct NewPort {
 /// HvCreatePort: the target gets a port, whose birth is the count of served events after this one; `served` is the count
 /// before. It uses 1 page of the target's pool.
 pub fn create_port<A: Allocator>(
-    tree: &mut IdTree<Partition<A>, A>,
+    tree: &mut Partitions<A>,
     caller: u64,
     served: u64,
     partition: u64,
@@ -67,7 +65,7 @@ pub fn create_port<A: Allocator>(
 
 // P12, P15, P17, P19 and P24.
 fn unmet_create<A: Allocator>(
-    tree: &IdTree<Partition<A>, A>,
+    tree: &Partitions<A>,
     caller: u64,
     partition: u64,
     new: NewPort,
@@ -106,7 +104,7 @@ fn flags_of(kind: PortKind, number: u16) -> u16
 
 /// HvDeletePort: the target's port with this id goes. Connections to it stay.
 pub fn delete_port<A: Allocator>(
-    tree: &mut IdTree<Partition<A>, A>,
+    tree: &mut Partitions<A>,
     caller: u64,
     partition: u64,
     port: u32,
@@ -128,7 +126,7 @@ pub fn delete_port<A: Allocator>(
 /// HvConnectPort: the target gets a connection, which keeps the port's partition, id, type and birth. It uses 1 page of the
 /// target's pool.
 pub fn connect_port<A: Allocator>(
-    tree: &mut IdTree<Partition<A>, A>,
+    tree: &mut Partitions<A>,
     caller: u64,
     partition: u64,
     connection: u32,
@@ -166,7 +164,7 @@ pub fn connect_port<A: Allocator>(
 
 // P12, P15, P16, P17, P18, P21 and P24.
 fn unmet_connect<A: Allocator>(
-    tree: &IdTree<Partition<A>, A>,
+    tree: &Partitions<A>,
     caller: u64,
     partition: u64,
     connection: u32,
@@ -205,7 +203,7 @@ fn unmet_connect<A: Allocator>(
 
 /// HvDisconnectPort: the target's connection with this id goes.
 pub fn disconnect_port<A: Allocator>(
-    tree: &mut IdTree<Partition<A>, A>,
+    tree: &mut Partitions<A>,
     caller: u64,
     partition: u64,
     connection: u32,

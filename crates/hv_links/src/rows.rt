@@ -3,15 +3,14 @@ ghost use Rattle.std.specs.Prelude.{◌≡◌, true, OnOk, OnErr};
 ghost use Rattle.std.specs.FinMap.{contains_key, insert, remove};
 ghost use Rattle.hv_links.specs.Change.{HasConns, HasPorts, MayAddConn, MayAddPort};
 
-use hv_partition::Partition;
 use hv_ports::{Conn, Port};
-use hv_tree::IdTree;
+use hv_tie::Partitions;
 use std::alloc::{AllocError, Allocator};
 
 // Adds a port with an id that is free to a partition that is there.
 #[tactic(auto, using(hv_tree::proofs::Laws::unchanged))]
 pub fn add_port<A: Allocator>(
-    tree: &mut IdTree<Partition<A>, A>,
+    tree: &mut Partitions<A>,
     id: u64,
     port: u32,
     row: Port,
@@ -29,7 +28,7 @@ pub fn add_port<A: Allocator>(
 }
 
 // Removes a port of a partition that is there.
-pub fn remove_port<A: Allocator>(tree: &mut IdTree<Partition<A>, A>, id: u64, port: u32)
+pub fn remove_port<A: Allocator>(tree: &mut Partitions<A>, id: u64, port: u32)
     requires { contains_key tree.old id ≡ true }
     ensures { HasPorts tree.old tree.new id (λ rows. remove rows port) }
 {
@@ -42,7 +41,7 @@ pub fn remove_port<A: Allocator>(tree: &mut IdTree<Partition<A>, A>, id: u64, po
 // Adds a connection with an id that is free to a partition that is there.
 #[tactic(auto, using(hv_tree::proofs::Laws::unchanged))]
 pub fn add_conn<A: Allocator>(
-    tree: &mut IdTree<Partition<A>, A>,
+    tree: &mut Partitions<A>,
     id: u64,
     connection: u32,
     row: Conn,
@@ -60,7 +59,7 @@ pub fn add_conn<A: Allocator>(
 }
 
 // Removes a connection of a partition that is there.
-pub fn remove_conn<A: Allocator>(tree: &mut IdTree<Partition<A>, A>, id: u64, connection: u32)
+pub fn remove_conn<A: Allocator>(tree: &mut Partitions<A>, id: u64, connection: u32)
     requires { contains_key tree.old id ≡ true }
     ensures { HasConns tree.old tree.new id (λ rows. remove rows connection) }
 {

@@ -7,20 +7,19 @@ ghost use Rattle.hv_policy.specs.Met.{is_kind as is_same, on_port};
 ghost use Rattle.hv_tie.specs.Tie.{IsTied, port_row_of};
 
 use hv_defs::PortKind;
-use hv_partition::Partition;
 use hv_ports::Port;
-use hv_tree::IdTree;
+use hv_tie::Partitions;
 use std::alloc::Allocator;
 
 // P15: whether a partition is there.
-pub fn is_there<A: Allocator>(tree: &IdTree<Partition<A>, A>, id: u64) -> bool
+pub fn is_there<A: Allocator>(tree: &Partitions<A>, id: u64) -> bool
     ensures { (f : Flat) → IsTied tree.now f → result ≡ contains_key f.part id }
 {
     tree.get(id).is_some()
 }
 
 // P16: whether a partition has a connection with this id.
-pub fn has_conn<A: Allocator>(tree: &IdTree<Partition<A>, A>, id: u64, connection: u32) -> bool
+pub fn has_conn<A: Allocator>(tree: &Partitions<A>, id: u64, connection: u32) -> bool
     ensures { (f : Flat) → IsTied tree.now f → result ≡ contains_key f.conn (id, connection) }
 {
     match tree.get(id) {
@@ -30,7 +29,7 @@ pub fn has_conn<A: Allocator>(tree: &IdTree<Partition<A>, A>, id: u64, connectio
 }
 
 // A partition's port with this id, if it has one.
-fn port_of<A: Allocator>(tree: &IdTree<Partition<A>, A>, id: u64, port: u32) -> Option<Port>
+fn port_of<A: Allocator>(tree: &Partitions<A>, id: u64, port: u32) -> Option<Port>
     ensures { (f : Flat) → IsTied tree.now f → option_map port_row_of result ≡ get f.port (id, port) }
 {
     match tree.get(id) {
@@ -40,14 +39,14 @@ fn port_of<A: Allocator>(tree: &IdTree<Partition<A>, A>, id: u64, port: u32) -> 
 }
 
 // P17: whether a partition has a port with this id.
-pub fn has_port<A: Allocator>(tree: &IdTree<Partition<A>, A>, id: u64, port: u32) -> bool
+pub fn has_port<A: Allocator>(tree: &Partitions<A>, id: u64, port: u32) -> bool
     ensures { (f : Flat) → IsTied tree.now f → result ≡ contains_key f.port (id, port) }
 {
     port_of(tree, id, port).is_some()
 }
 
 // P18: whether a port lets this partition connect.
-pub fn is_peer<A: Allocator>(tree: &IdTree<Partition<A>, A>, id: u64, port: u32, peer: u64) -> bool
+pub fn is_peer<A: Allocator>(tree: &Partitions<A>, id: u64, port: u32, peer: u64) -> bool
     ensures { (f : Flat) → IsTied tree.now f → result ≡ on_port f (id, port) (λ row. row.peer == peer) }
 {
     match port_of(tree, id, port) {
@@ -57,12 +56,7 @@ pub fn is_peer<A: Allocator>(tree: &IdTree<Partition<A>, A>, id: u64, port: u32,
 }
 
 // P21: whether a port takes what a connection to it would.
-pub fn is_kind<A: Allocator>(
-    tree: &IdTree<Partition<A>, A>,
-    id: u64,
-    port: u32,
-    kind: PortKind,
-) -> bool
+pub fn is_kind<A: Allocator>(tree: &Partitions<A>, id: u64, port: u32, kind: PortKind) -> bool
     ensures { (f : Flat) → IsTied tree.now f → result ≡ on_port f (id, port) (λ row. is_same row.kind kind) }
 {
     match port_of(tree, id, port) {
@@ -81,7 +75,7 @@ fn are_same(a: PortKind, b: PortKind) -> bool
 }
 
 // When a port was made, or 0 where there is none.
-pub fn born_of<A: Allocator>(tree: &IdTree<Partition<A>, A>, id: u64, port: u32) -> u64
+pub fn born_of<A: Allocator>(tree: &Partitions<A>, id: u64, port: u32) -> u64
     ensures { (f : Flat) → IsTied tree.now f → result ≡ born_at (get f.port (id, port)) }
 {
     match port_of(tree, id, port) {

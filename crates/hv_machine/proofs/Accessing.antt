@@ -10,7 +10,8 @@ use Rattle.hv_policy.specs.Asked.{action_rules, caller_rules}
 use Rattle.hv_policy.specs.Call.{is_call}
 use Rattle.hv_policy.specs.Effect.{action_effect, counted}
 use Rattle.hv_policy.specs.Flat.{Flat}
-use Rattle.hv_policy.specs.Step.{first_unmet, refusal, step, step_by, unmet}
+use Rattle.hv_policy.specs.Step.{refusal, step, step_by}
+use Rattle.hv_policy.specs.Rules.{first_unmet, unmet}
 use Rattle.hv_policy.specs.declared.event.Action.{Action}
 use Rattle.hv_policy.specs.declared.event.Action.TheVariants.{Hypercall, ReadMsr, WriteMsr, ReadSlot, ClearSlot, ReadFlags, ClearFlag, TakeInterrupt}
 use Rattle.hv_policy.specs.declared.event.Caller.{Caller}

@@ -2,14 +2,14 @@
 use Rattle.std.proofs.Common.{◌≡◌, ℕ, ◌+◌, None, refl, ap, ◌∙◌}
 use Rattle.std.specs.declared.result.Result.TheVariants.{Err}
 use Rattle.hv_calls.specs.declared.call.Call.{Call}
-use Rattle.hv_calls.specs.declared.call.Call.TheVariants.{CreatePartition, InitializePartition, FinalizePartition, DeletePartition, GetPartitionProperty, SetPartitionProperty, GetPartitionId, GetNextChildPartition, DepositMemory, WithdrawMemory, GetMemoryBalance, CreateVp, DeleteVp, GetVpRegisters, SetVpRegisters, DeletePort, DisconnectPort, PostMessage, SignalEvent, CreatePort, ConnectPort}
+use Rattle.hv_calls.specs.declared.call.Call.TheVariants.{CreatePartition, SetVpRegisters, PostMessage, SignalEvent}
 use Rattle.hv_laws.proofs.Counted.{call_served}
 use Rattle.hv_laws.proofs.Ended.{posted_counted, register_counted, signalled_counted}
 use Rattle.hv_laws.proofs.Laws.{granted_lawful}
 use Rattle.hv_laws.specs.Bounded.{IsBounded}
 use Rattle.hv_partition.specs.Partition.{PartitionState}
 use Rattle.hv_policy.specs.Aim.{aim_of}
-use Rattle.hv_policy.specs.Call.{target_of}
+use Rattle.hv_policy.specs.Needs.{target_of}
 use Rattle.hv_policy.specs.Effect.{call_effect, counted}
 use Rattle.hv_policy.specs.Flat.{Flat}
 use Rattle.hv_tie.proofs.Allowed.{admitted_allowed}
@@ -30,26 +30,10 @@ use Rattle.hv_machine.specs.State.{State}
 -- what a call leaves as the next id
 next_is : (call : Call) (f : Flat) (caller target : ℕ) → (call_effect call f caller target).next ≡ next_after call f.next
 next_is (CreatePartition flags) f caller target = refl
-next_is (InitializePartition partition) f caller target = refl
-next_is (FinalizePartition partition) f caller target = refl
-next_is (DeletePartition partition) f caller target = refl
-next_is (GetPartitionProperty partition code) f caller target = refl
-next_is (SetPartitionProperty partition code value) f caller target = refl
-next_is GetPartitionId f caller target = refl
-next_is (GetNextChildPartition partition previous) f caller target = refl
-next_is (DepositMemory partition page) f caller target = refl
-next_is (WithdrawMemory partition) f caller target = refl
-next_is (GetMemoryBalance partition) f caller target = refl
-next_is (CreateVp partition vp) f caller target = refl
-next_is (DeleteVp partition vp) f caller target = refl
-next_is (GetVpRegisters partition vp name) f caller target = refl
 next_is (SetVpRegisters partition vp name value) f caller target = (register_counted target vp name value f).next
-next_is (DeletePort partition port) f caller target = refl
-next_is (DisconnectPort partition connection) f caller target = refl
 next_is (PostMessage connection message_type payload) f caller target = (posted_counted (aim_of f (target, connection)) message_type payload f).next
 next_is (SignalEvent connection flag) f caller target = (signalled_counted (aim_of f (target, connection)) flag f).next
-next_is (CreatePort partition port peer port_kind sint vp base count) f caller target = refl
-next_is (ConnectPort partition connection port_partition port port_kind) f caller target = refl
+next_is call f caller target = refl
 
 -- a machine of this tree
 abbrev pub state_of : Rows PartitionState → ℕ → ℕ → ℕ → State
@@ -80,7 +64,7 @@ module _ (tree new : Rows PartitionState) (pages next served caller : ℕ) (call
   done_lasting l a bounded met tied = record {
     flat = counted (call_effect call l.flat caller (target_of call caller));
     stands = done_flat l.flat l.stands tied;
-    lawful = granted_lawful pages l.flat l.lawful caller call (admitted_allowed tree caller call (record { rows = lawful_tree tree pages next served l; active = a.active; access = a.access }) met) bounded;
+    lawful = granted_lawful pages l.flat l.lawful caller call (admitted_allowed tree caller call (record { rows = lawful_tree tree pages next served l; active = a.active; target = a.target }) met) bounded;
     bounded = l.bounded;
   }
 

@@ -1,11 +1,16 @@
--- What is known of a call for which P1 to P10 are met.
+-- What is known of a call for which P1 to P10 are met, and accesses as events.
 use Rattle.std.specs.Prelude.{◌≡◌, ℕ, true}
 use Rattle.hv_calls.specs.declared.call.Call.{Call}
-use Rattle.hv_policy.specs.Allowed.{AreMet, is_running}
-use Rattle.hv_policy.specs.Asked.{access_rules}
+use Rattle.hv_policy.specs.Met.{is_running}
+use Rattle.hv_policy.specs.Rules.{AreMet}
+use Rattle.hv_policy.specs.Call.{action_of}
 use Rattle.hv_policy.specs.Flat.{Flat}
 
 -- the caller is Active, and P8 to P10 are met for its call
 pub record HasAccess (f : Flat) (caller : ℕ) (call : Call) : Type 0 where
   pub active : is_running f caller ≡ true
-  pub access : AreMet f caller call access_rules
+  pub target : AreMet (target_asks f caller call)
+
+-- an access as an event
+abbrev pub access_event : {A : Type 0} → Caller → Access → Event A
+access_event by access = record { by = by; what = action_of access }

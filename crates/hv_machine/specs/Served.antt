@@ -5,10 +5,9 @@ use Rattle.std.specs.declared.result.Result.TheVariants.{Ok, Err}
 use Rattle.hv_calls.specs.Call.{kind_of_call}
 use Rattle.hv_calls.specs.declared.call.Call.{Call}
 use Rattle.hv_policy.specs.Answer.{output}
-use Rattle.hv_policy.specs.Call.{target_of}
 use Rattle.hv_policy.specs.Effect.{call_effect, counted}
 use Rattle.hv_policy.specs.Flat.{Flat}
-use Rattle.hv_policy.specs.Needs.{takes_memory}
+use Rattle.hv_policy.specs.Needs.{takes_memory, target_of}
 use Rattle.hv_tie.specs.Served.{unmet_further}
 use Rattle.hv_tie.specs.declared.refused.Refused.{Refused}
 use Rattle.hv_tie.specs.declared.refused.Refused.TheVariants.{Unmet, Memory}

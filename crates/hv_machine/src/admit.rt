@@ -2,9 +2,9 @@
 ghost use Rattle.std.specs.Prelude.{◌≡◌, Some, IfOk, IfErr};
 ghost use Rattle.hv_abi.specs.Check.{IsShape};
 ghost use Rattle.hv_laws.specs.Bounded.{IsBounded};
-ghost use Rattle.hv_policy.specs.CallEvent.{IsCall, call_event};
+ghost use Rattle.hv_policy.specs.Call.{IsCall, call_event};
 ghost use Rattle.hv_policy.specs.Flat.{Flat};
-ghost use Rattle.hv_policy.specs.Step.{unmet};
+ghost use Rattle.hv_policy.specs.Rules.{unmet};
 ghost use Rattle.hv_tie.specs.Served.{unmet_further};
 ghost use Rattle.hv_machine.specs.Access.{HasAccess};
 ghost use Rattle.hv_machine.specs.IsFlat.{IsFlat};
@@ -13,7 +13,7 @@ use crate::machine::Machine;
 use hv_abi::{Frame, Shape};
 use hv_calls::Call;
 use hv_policy::{Caller, Rule, ask_frame};
-use hv_tie::{unmet_access, unmet_by_caller};
+use hv_tie::{unmet_by_target, unmet_by_caller};
 use std::alloc::Allocator;
 
 impl<A: Allocator> Machine<A> {
@@ -34,7 +34,7 @@ impl<A: Allocator> Machine<A> {
             Ok(asked) => asked,
             Err(rule) => return Err(rule),
         };
-        if let Some(rule) = unmet_access(&self.tree, by, &call) {
+        if let Some(rule) = unmet_by_target(&self.tree, by, &call) {
             return Err(rule);
         }
         Ok((shape, call))

@@ -1,7 +1,7 @@
 // The calls and accesses, each to its chapter.
-ghost use Rattle.std.specs.Prelude.{◌≡◌, false, ◌+◌, ◌-◌, ◌^◌, ◌<◌};
+ghost use Rattle.std.specs.Prelude.{◌≡◌, ◌+◌, ◌-◌, ◌^◌, ◌<◌};
 ghost use Rattle.hv_defs.specs.declared.sizes.TheConstants.{MAX_SERVED};
-ghost use Rattle.hv_policy.specs.Call.{is_call};
+ghost use Rattle.hv_policy.specs.Call.{action_of};
 ghost use Rattle.hv_policy.specs.Flat.{Flat};
 ghost use Rattle.hv_tie.specs.Access.{IsAccess};
 ghost use Rattle.hv_tie.specs.Served.{IsAdmitted, IsOutcome};
@@ -17,21 +17,19 @@ use hv_links::{NewPort, connect_port, create_port, delete_port, disconnect_port}
 use hv_messages::{
     clear_flag, clear_slot, post_message, read_flags, read_slot, signal_event, take_interrupt,
 };
-use hv_partition::Partition;
-use hv_policy::{Action, CallOutput, Caller, Output, Rule};
+use hv_policy::{Access, CallOutput, Caller, Output, Rule};
 use hv_pools::{deposit_memory, get_memory_balance, withdraw_memory};
 use hv_processors::{
     create_vp, delete_vp, get_vp_registers, read_msr, set_vp_registers, write_msr,
 };
 use hv_properties::{get_partition_property, set_partition_property};
-use hv_tie::Refused;
-use hv_tree::IdTree;
+use hv_tie::{Partitions, Refused};
 use std::alloc::Allocator;
 
 // Hands a call for which P1 to P10 are met to its chapter. `next` is the id that the next partition gets, and `served` how many
 // events were served.
 pub fn dispatch<A: Allocator + Clone>(
-    tree: &mut IdTree<Partition<A>, A>,
+    tree: &mut Partitions<A>,
     alloc: &A,
     caller: u64,
     next: u64,
@@ -128,22 +126,20 @@ pub fn dispatch<A: Allocator + Clone>(
 
 // Hands an access for which P1 to P3 are met to its chapter.
 pub fn dispatch_access<A: Allocator>(
-    tree: &mut IdTree<Partition<A>, A>,
+    tree: &mut Partitions<A>,
     by: Caller,
-    what: &Action<A>,
+    access: Access,
 ) -> Result<Output, Rule>
-    requires { is_call what.now ≡ false }
-    ensures { (f : Flat) → IsTied tree.old f → IsAccess f by what.now tree.old result tree.new }
+    ensures { (f : Flat) → IsTied tree.old f → IsAccess {A = A} f by (action_of access) tree.old result tree.new }
 {
-    match what {
-        Action::Hypercall(_) => unreachable!(),
-        Action::ReadMsr(msr) => read_msr(tree, by, *msr),
-        Action::WriteMsr(msr, value) => write_msr(tree, by, *msr, *value),
-        Action::ReadSlot(sint) => read_slot(tree, by, *sint),
-        Action::ClearSlot(sint) => clear_slot(tree, by, *sint),
-        Action::ReadFlags(sint) => read_flags(tree, by, *sint),
-        Action::ClearFlag(sint, flag) => clear_flag(tree, by, *sint, *flag),
-        Action::TakeInterrupt => take_interrupt(tree, by),
+    match access {
+        Access::ReadMsr(msr) => read_msr(tree, by, msr),
+        Access::WriteMsr(msr, value) => write_msr(tree, by, msr, value),
+        Access::ReadSlot(sint) => read_slot(tree, by, sint),
+        Access::ClearSlot(sint) => clear_slot(tree, by, sint),
+        Access::ReadFlags(sint) => read_flags(tree, by, sint),
+        Access::ClearFlag(sint, flag) => clear_flag(tree, by, sint, flag),
+        Access::TakeInterrupt => take_interrupt(tree, by),
     }
 }
 
@@ -154,25 +150,6 @@ pub fn next_after(call: &Call<'_>, next: u64) -> u64
 {
     match call {
         Call::CreatePartition { .. } => next + 1,
-        Call::InitializePartition { .. }
-        | Call::FinalizePartition { .. }
-        | Call::DeletePartition { .. }
-        | Call::GetPartitionProperty { .. }
-        | Call::SetPartitionProperty { .. }
-        | Call::GetPartitionId
-        | Call::GetNextChildPartition { .. }
-        | Call::DepositMemory { .. }
-        | Call::WithdrawMemory { .. }
-        | Call::GetMemoryBalance { .. }
-        | Call::CreateVp { .. }
-        | Call::DeleteVp { .. }
-        | Call::GetVpRegisters { .. }
-        | Call::SetVpRegisters { .. }
-        | Call::DeletePort { .. }
-        | Call::DisconnectPort { .. }
-        | Call::PostMessage { .. }
-        | Call::SignalEvent { .. }
-        | Call::CreatePort { .. }
-        | Call::ConnectPort { .. } => next,
+        _ => next,
     }
 }

@@ -1,16 +1,16 @@
 // The machine and its one step.
-ghost use Rattle.std.specs.Prelude.{◌≡◌, ◌<◌, None, false, IsTrue, IfOk, OnOk, OnErr};
+ghost use Rattle.std.specs.Prelude.{◌≡◌, ◌<◌, None, IsTrue, IfOk, OnOk, OnErr};
 ghost use Rattle.hv_defs.specs.declared.sizes.TheConstants.{MAX_SERVED};
 ghost use Rattle.hv_abi.specs.declared.frame.Frame.{Frame as CallFrame};
 ghost use Rattle.hv_laws.specs.Bounded.{IsBounded};
-ghost use Rattle.hv_policy.specs.Call.{is_call, may_take_memory};
-ghost use Rattle.hv_policy.specs.CallEvent.{call_event};
+ghost use Rattle.hv_policy.specs.Call.{call_event, is_call, may_take_memory};
 ghost use Rattle.hv_policy.specs.Flat.{Flat};
 ghost use Rattle.hv_policy.specs.Result.{HasResult};
-ghost use Rattle.hv_policy.specs.Step.{NamesAsked, step, unmet};
+ghost use Rattle.hv_policy.specs.Step.{NamesAsked, step};
+ghost use Rattle.hv_policy.specs.Rules.{unmet};
 ghost use Rattle.hv_policy.specs.declared.event.Action.TheVariants.{Hypercall};
 ghost use Rattle.hv_tie.specs.Room.{roomless};
-ghost use Rattle.hv_machine.specs.Access.{HasAccess};
+ghost use Rattle.hv_machine.specs.Access.{HasAccess, access_event};
 ghost use Rattle.hv_machine.specs.IsFlat.{IsFlat};
 ghost use Rattle.hv_machine.specs.Lasting.{IsLasting};
 ghost use Rattle.hv_machine.specs.Served.{IsResult};
@@ -19,17 +19,15 @@ ghost use Rattle.hv_machine.specs.Sound.{IsSound};
 use crate::dispatch::{dispatch, dispatch_access, next_after};
 use hv_abi::Frame;
 use hv_calls::Call;
-use hv_partition::Partition;
-use hv_policy::{Action, CallOutput, CallReply, Caller, Event, Reply, refused_reply, served_reply};
-use hv_tie::{Refused, unmet_by_caller};
-use hv_tree::IdTree;
+use hv_policy::{Access, CallOutput, CallReply, Caller, Event, Reply, refused_reply, served_reply};
+use hv_tie::{Partitions, Refused, unmet_by_caller};
 use std::alloc::Allocator;
 use std::marker::Model;
 
 /// The partitions that are there, with all that they hold.
 #[derive(Drop)]
 pub struct Machine<A: Allocator> {
-    pub(crate) tree: IdTree<Partition<A>, A>,
+    pub(crate) tree: Partitions<A>,
     pub(crate) pages: u32,
     pub(crate) next: u64,
     pub(crate) served: u64,
@@ -84,18 +82,12 @@ impl<A: Allocator + Clone> Machine<A> {
         ensures pages { self.new.pages ≡ self.old.pages }
         ensures sound { IsSound self.new }
     {
-        match &event.what {
-            Action::Hypercall(frame) => match self.hypercall(event.by, frame) {
+        match event.what.as_access() {
+            Ok(access) => Ok(self.access(event.by, access)),
+            Err(frame) => match self.hypercall(event.by, frame) {
                 Ok(reply) => Ok(reply.to_reply()),
                 Err(why) => Err(why),
             },
-            Action::ReadMsr(_)
-            | Action::WriteMsr(_, _)
-            | Action::ReadSlot(_)
-            | Action::ClearSlot(_)
-            | Action::ReadFlags(_)
-            | Action::ClearFlag(_, _)
-            | Action::TakeInterrupt => Ok(self.access(event)),
         }
     }
 
@@ -128,19 +120,18 @@ impl<A: Allocator + Clone> Machine<A> {
     }
 
     // One access.
-    fn access(&mut self, event: &Event<A>) -> Reply
-        requires count { self.old.served < MAX_SERVED }
-        requires access { is_call event.now.what ≡ false }
-        ensures reply { (f : Flat) → IsFlat self.old f → result ≡ (step f event.now).1 }
-        ensures state { (f : Flat) → IsFlat self.old f → IsFlat self.new (step f event.now).0 }
-        ensures asked { NamesAsked event.now result }
+    fn access(&mut self, by: Caller, access: Access) -> Reply
+        requires { self.old.served < MAX_SERVED }
+        ensures reply { (f : Flat) → IsFlat self.old f → result ≡ (step {A = A} f (access_event by access)).1 }
+        ensures state { (f : Flat) → IsFlat self.old f → IsFlat self.new (step {A = A} f (access_event by access)).0 }
+        ensures asked { NamesAsked {A = A} (access_event by access) result }
         ensures lasting { IsLasting self.new }
         ensures pages { self.new.pages ≡ self.old.pages }
     {
-        if let Some(rule) = unmet_by_caller(&self.tree, event.by) {
+        if let Some(rule) = unmet_by_caller(&self.tree, by) {
             return Reply::Fault { rule };
         }
-        match dispatch_access(&mut self.tree, event.by, &event.what) {
+        match dispatch_access(&mut self.tree, by, access) {
             Ok(output) => {
                 self.served += 1;
                 Reply::Served(output)
@@ -193,7 +184,7 @@ impl<A: Allocator> Machine<A> {
 
     /// The partitions, as a tree. What contracts see of a machine is this tree without the room of its page sets,
     /// processors and tables.
-    pub fn tree(&self) -> &IdTree<Partition<A>, A>
+    pub fn tree(&self) -> &Partitions<A>
         ensures { roomless result.now ≡ self.now.rows }
     {
         &self.tree

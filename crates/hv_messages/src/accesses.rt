@@ -7,17 +7,12 @@ ghost use Rattle.hv_tie.specs.Tie.{IsTied};
 
 use crate::rows::{clear, clear_one_flag, flags, slot, take};
 use hv_defs::{EVENT_FLAGS, SINTS};
-use hv_partition::Partition;
 use hv_policy::{Caller, Output, Rule};
-use hv_tree::IdTree;
+use hv_tie::Partitions;
 use std::alloc::Allocator;
 
 /// A read of the message slot of one of the caller's SINTs, in 256 bytes.
-pub fn read_slot<A: Allocator>(
-    tree: &IdTree<Partition<A>, A>,
-    by: Caller,
-    sint: u8,
-) -> Result<Output, Rule>
+pub fn read_slot<A: Allocator>(tree: &Partitions<A>, by: Caller, sint: u8) -> Result<Output, Rule>
     ensures { (f : Flat) → IsTied tree.now f → IsAccess {A = A} f by (action.ReadSlot sint) tree.now result tree.now }
 {
     if u32::from(sint) >= SINTS {
@@ -28,7 +23,7 @@ pub fn read_slot<A: Allocator>(
 
 /// The message that one of the caller's SINTs shows is removed, if it shows one. None is shown in its place.
 pub fn clear_slot<A: Allocator>(
-    tree: &mut IdTree<Partition<A>, A>,
+    tree: &mut Partitions<A>,
     by: Caller,
     sint: u8,
 ) -> Result<Output, Rule>
@@ -42,11 +37,7 @@ pub fn clear_slot<A: Allocator>(
 }
 
 /// A read of the event flags of one of the caller's SINTs, in 256 bytes.
-pub fn read_flags<A: Allocator>(
-    tree: &IdTree<Partition<A>, A>,
-    by: Caller,
-    sint: u8,
-) -> Result<Output, Rule>
+pub fn read_flags<A: Allocator>(tree: &Partitions<A>, by: Caller, sint: u8) -> Result<Output, Rule>
     ensures { (f : Flat) → IsTied tree.now f → IsAccess {A = A} f by (action.ReadFlags sint) tree.now result tree.now }
 {
     if u32::from(sint) >= SINTS {
@@ -57,7 +48,7 @@ pub fn read_flags<A: Allocator>(
 
 /// An event flag of one of the caller's SINTs is cleared.
 pub fn clear_flag<A: Allocator>(
-    tree: &mut IdTree<Partition<A>, A>,
+    tree: &mut Partitions<A>,
     by: Caller,
     sint: u8,
     flag: u16,
@@ -72,10 +63,7 @@ pub fn clear_flag<A: Allocator>(
 }
 
 /// The highest of the vectors that are pending at the caller is taken, in 1 byte, which is 0 where none is.
-pub fn take_interrupt<A: Allocator>(
-    tree: &mut IdTree<Partition<A>, A>,
-    by: Caller,
-) -> Result<Output, Rule>
+pub fn take_interrupt<A: Allocator>(tree: &mut Partitions<A>, by: Caller) -> Result<Output, Rule>
     ensures { (f : Flat) → IsTied tree.old f → IsAccess {A = A} f by action.TakeInterrupt tree.old result tree.new }
 {
     let vector = take(tree, by.part, by.vp);

@@ -1,21 +1,17 @@
 // Where a connection leads, and the rules that look there.
-ghost use Rattle.std.specs.Prelude.{◌≡◌, ℕ, ◌<◌, nat_lt, option_map, IfOk, IfErr, Some};
+ghost use Rattle.std.specs.Prelude.{◌≡◌, option_map, IfOk, IfErr, Some};
 ghost use Rattle.std.specs.FinMap.{get};
-ghost use Rattle.hv_defs.specs.Registers as register;
-ghost use Rattle.hv_defs.specs.declared.sizes.TheConstants.{MAX_MESSAGES as MOST};
-ghost use Rattle.hv_policy.specs.Aim.{on_vp, vp_key};
 ghost use Rattle.hv_policy.specs.Flat.{Flat};
-ghost use Rattle.hv_policy.specs.Mail.{kept_of};
+ghost use Rattle.hv_policy.specs.Met.{has_message_room as has_message_room_of, is_ready_for_flags, is_ready_for_messages};
+ghost use Rattle.hv_policy.specs.Rules.{first_unmet};
 ghost use Rattle.hv_tie.specs.Served.{AreLawful};
 ghost use Rattle.hv_tie.specs.Tie.{IsTied, conn_row_of, port_row_of};
-ghost use Rattle.hv_messages.specs.Aimed.{IsReached, aim_row, unreached};
+ghost use Rattle.hv_messages.specs.Aimed.{IsReached, aim_row, reach_asks};
 
 use hv_defs::MAX_MESSAGES;
-use hv_partition::Partition;
 use hv_policy::Rule;
 use hv_ports::{Conn, Port};
-use hv_tie::has_vp;
-use hv_tree::IdTree;
+use hv_tie::{Partitions, has_vp};
 use hv_vp::Vp;
 use std::alloc::Allocator;
 
@@ -28,12 +24,12 @@ pub struct Target {
 
 // P16, P17 and P19 of a post or a signal: where the caller's connection leads, or the first of them that isn't met.
 pub fn reach<A: Allocator>(
-    tree: &IdTree<Partition<A>, A>,
+    tree: &Partitions<A>,
     caller: u64,
     connection: u32,
 ) -> Result<Target, Rule>
     ensures reached { IfOk result (λ target. (f : Flat) → IsTied tree.now f → IsReached f (caller, connection) target) }
-    ensures first { IfErr result (λ rule. (f : Flat) → IsTied tree.now f → unreached f (caller, connection) ≡ Some rule) }
+    ensures first { IfErr result (λ rule. (f : Flat) → IsTied tree.now f → first_unmet (reach_asks f (caller, connection)) ≡ Some rule) }
 {
     let Some(conn) = conn_of(tree, caller, connection) else {
         return Err(Rule::Connection);
@@ -51,7 +47,7 @@ pub fn reach<A: Allocator>(
 }
 
 // A partition's connection with this id, if it has one.
-fn conn_of<A: Allocator>(tree: &IdTree<Partition<A>, A>, id: u64, connection: u32) -> Option<Conn>
+fn conn_of<A: Allocator>(tree: &Partitions<A>, id: u64, connection: u32) -> Option<Conn>
     ensures { (f : Flat) → IsTied tree.now f → option_map conn_row_of result ≡ get f.conn (id, connection) }
 {
     match tree.get(id) {
@@ -61,7 +57,7 @@ fn conn_of<A: Allocator>(tree: &IdTree<Partition<A>, A>, id: u64, connection: u3
 }
 
 // A partition's port with this id, if it has one.
-fn port_of<A: Allocator>(tree: &IdTree<Partition<A>, A>, id: u64, port: u32) -> Option<Port>
+fn port_of<A: Allocator>(tree: &Partitions<A>, id: u64, port: u32) -> Option<Port>
     ensures { (f : Flat) → IsTied tree.now f → option_map port_row_of result ≡ get f.port (id, port) }
 {
     match tree.get(id) {
@@ -71,8 +67,8 @@ fn port_of<A: Allocator>(tree: &IdTree<Partition<A>, A>, id: u64, port: u32) -> 
 }
 
 // P22 of a message: whether the port's processor takes messages.
-pub fn takes_messages<A: Allocator>(tree: &IdTree<Partition<A>, A>, target: Target) -> bool
-    ensures { (f : Flat) → IsTied tree.now f → result ≡ on_vp f (vp_key (aim_row target)) (λ row. register.takes_messages row.registers) }
+pub fn takes_messages<A: Allocator>(tree: &Partitions<A>, target: Target) -> bool
+    ensures { (f : Flat) → IsTied tree.now f → result ≡ is_ready_for_messages f (aim_row target) }
 {
     let Some(partition) = tree.get(target.conn.part) else {
         return false;
@@ -84,8 +80,8 @@ pub fn takes_messages<A: Allocator>(tree: &IdTree<Partition<A>, A>, target: Targ
 }
 
 // P22 of a signal: whether the port's processor takes event flags.
-pub fn takes_flags<A: Allocator>(tree: &IdTree<Partition<A>, A>, target: Target) -> bool
-    ensures { (f : Flat) → IsTied tree.now f → result ≡ on_vp f (vp_key (aim_row target)) (λ row. register.takes_flags row.registers) }
+pub fn takes_flags<A: Allocator>(tree: &Partitions<A>, target: Target) -> bool
+    ensures { (f : Flat) → IsTied tree.now f → result ≡ is_ready_for_flags f (aim_row target) }
 {
     let Some(partition) = tree.get(target.conn.part) else {
         return false;
@@ -99,14 +95,14 @@ pub fn takes_flags<A: Allocator>(tree: &IdTree<Partition<A>, A>, target: Target)
 // P23: whether fewer than the most messages of the port and its birth are kept. They stand at the port's processor, if
 // anywhere.
 pub fn has_message_room<A: Allocator>(
-    tree: &IdTree<Partition<A>, A>,
+    tree: &Partitions<A>,
     caller: u64,
     connection: u32,
     target: Target,
 ) -> bool
     requires lawful { AreLawful tree.now }
     requires reached { (f : Flat) → IsTied tree.now f → IsReached f (caller, connection) target }
-    ensures { (f : Flat) → IsTied tree.now f → result ≡ nat_lt (kept_of target.conn.part target.conn.port target.conn.born f.mail) MOST }
+    ensures { (f : Flat) → IsTied tree.now f → result ≡ has_message_room_of f (aim_row target) }
 {
     let Some(partition) = tree.get(target.conn.part) else {
         return false;

@@ -13,17 +13,15 @@ use crate::rows::{post, signal};
 use hv_calls::Payload;
 use hv_defs::PortKind;
 use hv_mail::Message;
-use hv_partition::Partition;
 use hv_policy::{CallOutput, Rule};
 use hv_ports::Port;
-use hv_tie::Refused;
-use hv_tree::IdTree;
+use hv_tie::{Partitions, Refused};
 use std::alloc::{AllocError, Allocator};
 
 /// HvPostMessage: a message goes last among those at the SINT at which the connection's port aims. Where none is shown there, the
 /// oldest is, and the SINT raises its vector.
 pub fn post_message<A: Allocator + Clone>(
-    tree: &mut IdTree<Partition<A>, A>,
+    tree: &mut Partitions<A>,
     caller: u64,
     connection: u32,
     message_type: u32,
@@ -51,7 +49,7 @@ pub fn post_message<A: Allocator + Clone>(
 
 // P16, P17, P19, P21, P22 and P23: where the connection leads, or the first of them that isn't met.
 fn ask_post<A: Allocator>(
-    tree: &IdTree<Partition<A>, A>,
+    tree: &Partitions<A>,
     caller: u64,
     connection: u32,
 ) -> Result<Target, Rule>
@@ -89,7 +87,7 @@ fn is_for_messages(port: Port) -> bool
 /// HvSignalEvent: an event flag of the SINT at which the connection's port aims is set, counted from the port's first flag. Where
 /// it was clear, the SINT raises its vector.
 pub fn signal_event<A: Allocator>(
-    tree: &mut IdTree<Partition<A>, A>,
+    tree: &mut Partitions<A>,
     caller: u64,
     connection: u32,
     flag: u16,
@@ -114,7 +112,7 @@ pub fn signal_event<A: Allocator>(
 
 // P16, P17, P19, P21 and P22: where the connection leads, or the first of them that isn't met.
 fn ask_signal<A: Allocator>(
-    tree: &IdTree<Partition<A>, A>,
+    tree: &Partitions<A>,
     caller: u64,
     connection: u32,
     flag: u16,

@@ -11,14 +11,13 @@ ghost use Rattle.hv_tree.specs.Rows.{change as changed};
 ghost use Rattle.hv_vp.specs.Vp.{flag_cleared, interrupted, posted, signalled, slot_cleared};
 
 use hv_mail::Message;
-use hv_partition::Partition;
-use hv_tree::IdTree;
+use hv_tie::Partitions;
 use std::alloc::{AllocError, Allocator};
 
 // Posts a message at a SINT of a processor, where both are there.
 #[tactic(auto, using(hv_tree::proofs::Laws::unchanged, crate::proofs::Written::same_vp))]
 pub fn post<A: Allocator + Clone>(
-    tree: &mut IdTree<Partition<A>, A>,
+    tree: &mut Partitions<A>,
     id: u64,
     index: u32,
     sint: u8,
@@ -39,13 +38,7 @@ pub fn post<A: Allocator + Clone>(
 
 // Sets an event flag of a SINT of a processor, where both are there.
 #[tactic(auto, using(hv_tree::proofs::Laws::unchanged))]
-pub fn signal<A: Allocator>(
-    tree: &mut IdTree<Partition<A>, A>,
-    id: u64,
-    index: u32,
-    sint: u8,
-    flag: u16,
-)
+pub fn signal<A: Allocator>(tree: &mut Partitions<A>, id: u64, index: u32, sint: u8, flag: u16)
     requires sint { sint < SINTS }
     requires flag { flag < EVENT_FLAGS }
     ensures { tree.new ≡ changed tree.old id (with_state_of index (signalled sint flag)) }
@@ -59,7 +52,7 @@ pub fn signal<A: Allocator>(
 
 // Removes the message that a SINT of a processor shows, where both are there.
 #[tactic(auto, using(hv_tree::proofs::Laws::unchanged))]
-pub fn clear<A: Allocator>(tree: &mut IdTree<Partition<A>, A>, id: u64, index: u32, sint: u8)
+pub fn clear<A: Allocator>(tree: &mut Partitions<A>, id: u64, index: u32, sint: u8)
     requires { sint < SINTS }
     ensures { tree.new ≡ changed tree.old id (with_state_of index (slot_cleared sint)) }
 {
@@ -73,7 +66,7 @@ pub fn clear<A: Allocator>(tree: &mut IdTree<Partition<A>, A>, id: u64, index: u
 // Clears an event flag of a SINT of a processor, where both are there.
 #[tactic(auto, using(hv_tree::proofs::Laws::unchanged))]
 pub fn clear_one_flag<A: Allocator>(
-    tree: &mut IdTree<Partition<A>, A>,
+    tree: &mut Partitions<A>,
     id: u64,
     index: u32,
     sint: u8,
@@ -92,7 +85,7 @@ pub fn clear_one_flag<A: Allocator>(
 
 // Takes the highest vector that is pending at a processor, where both are there, or 0 where none is.
 #[tactic(auto, using(hv_tree::proofs::Laws::unchanged))]
-pub fn take<A: Allocator>(tree: &mut IdTree<Partition<A>, A>, id: u64, index: u32) -> u8
+pub fn take<A: Allocator>(tree: &mut Partitions<A>, id: u64, index: u32) -> u8
     ensures vector { (f : Flat) → IsTied tree.old f → result ≡ vector_of (get f.vp (id, index)) }
     ensures taken { tree.new ≡ changed tree.old id (with_state_of index interrupted) }
 {
@@ -109,12 +102,7 @@ pub fn take<A: Allocator>(tree: &mut IdTree<Partition<A>, A>, id: u64, index: u3
 }
 
 // The bytes of a message slot, zeros where there is no such processor.
-pub fn slot<A: Allocator>(
-    tree: &IdTree<Partition<A>, A>,
-    id: u64,
-    index: u32,
-    sint: u8,
-) -> [u8; 256]
+pub fn slot<A: Allocator>(tree: &Partitions<A>, id: u64, index: u32, sint: u8) -> [u8; 256]
     requires { sint < SINTS }
     ensures { (f : Flat) → IsTied tree.now f → result ≡ slot_at (here id index sint) f.mail }
 {
@@ -128,12 +116,7 @@ pub fn slot<A: Allocator>(
 }
 
 // The bytes of a SINT's event flags, zeros where there is no such processor.
-pub fn flags<A: Allocator>(
-    tree: &IdTree<Partition<A>, A>,
-    id: u64,
-    index: u32,
-    sint: u8,
-) -> [u8; 256]
+pub fn flags<A: Allocator>(tree: &Partitions<A>, id: u64, index: u32, sint: u8) -> [u8; 256]
     requires { sint < SINTS }
     ensures { (f : Flat) → IsTied tree.now f → result ≡ flags_at (get f.vp (id, index)) sint }
 {

@@ -55,28 +55,28 @@ module _ {A : Type 0} (f : Flat) (event : Event A) where
   pub past_caller : first_unmet (caller_asks f event.by) ≡ None → unmet f event ≡ first_unmet (action_asks f event.by.part event.what)
   past_caller = first_of_back (caller_asks f event.by) (action_asks f event.by.part event.what)
 
-module _ {A : Type 0} (f : Flat) (caller : Caller) (frame : Frame A) (caller_met : first_unmet (caller_asks f caller) ≡ None) where
+module _ {A : Type 0} (f : Flat) (by : Caller) (frame : Frame A) (caller_met : first_unmet (caller_asks f by) ≡ None) where
   -- the caller is Active
-  pub caller_active : is_running f caller.part ≡ true
-  caller_active = (all_met (caller_asks f caller) caller_met).1.0
+  pub caller_active : is_running f by.part ≡ true
+  caller_active = (all_met (caller_asks f by) caller_met).1.0
 
   -- one of P4 to P7 refuses
-  pub unmet_by_frame : (rule : Rule) → first_unmet (hypercall_asks f caller.part frame (call_of frame)) ≡ Some rule → unmet f (call_event caller frame) ≡ Some rule
-  unmet_by_frame rule h = past_caller f (call_event caller frame) caller_met ∙ h
+  pub unmet_by_frame : (rule : Rule) → first_unmet (hypercall_asks f by.part frame (call_of frame)) ≡ Some rule → unmet f (call_event by frame) ≡ Some rule
+  unmet_by_frame rule h = past_caller f (call_event by frame) caller_met ∙ h
 
   module _ (call : Call) (is : call_of frame ≡ Some (kind_of_call call)) (served : called frame ≡ Some call) (frame_met : first_unmet (frame_asks (kind_of_call call) frame) ≡ None) where
-    past_frame : unmet f (call_event caller frame) ≡ first_unmet (target_asks f caller.part call ++ further_asks f caller.part call)
+    past_frame : unmet f (call_event by frame) ≡ first_unmet (target_asks f by.part call ++ further_asks f by.part call)
     past_frame =
         let made : Some (parameters (kind_of_call call) frame) ≡ Some call = sym (ap (option_map (λ kind. parameters kind frame)) is) ∙ served in
         let held : parameters (kind_of_call call) frame ≡ call = cc in
-        past_caller f (call_event caller frame) caller_met ∙ ap (λ kind. first_unmet (hypercall_asks f caller.part frame kind)) is
-        ∙ first_of_back (frame_asks (kind_of_call call) frame) (target_asks f caller.part (parameters (kind_of_call call) frame) ++ further_asks f caller.part (parameters (kind_of_call call) frame)) frame_met
-        ∙ ap (λ call. first_unmet (target_asks f caller.part call ++ further_asks f caller.part call)) held
+        past_caller f (call_event by frame) caller_met ∙ ap (λ kind. first_unmet (hypercall_asks f by.part frame kind)) is
+        ∙ first_of_back (frame_asks (kind_of_call call) frame) (target_asks f by.part (parameters (kind_of_call call) frame) ++ further_asks f by.part (parameters (kind_of_call call) frame)) frame_met
+        ∙ ap (λ call. first_unmet (target_asks f by.part call ++ further_asks f by.part call)) held
 
     -- one of P8 to P10 refuses
-    pub unmet_by_target : (rule : Rule) → first_unmet (target_asks f caller.part call) ≡ Some rule → unmet f (call_event caller frame) ≡ Some rule
-    unmet_by_target rule h = past_frame ∙ first_of_front (target_asks f caller.part call) (further_asks f caller.part call) rule h
+    pub unmet_by_target : (rule : Rule) → first_unmet (target_asks f by.part call) ≡ Some rule → unmet f (call_event by frame) ≡ Some rule
+    unmet_by_target rule h = past_frame ∙ first_of_front (target_asks f by.part call) (further_asks f by.part call) rule h
 
     -- P1 to P10 are met: what is left is the call's own
-    pub unmet_past_target : first_unmet (target_asks f caller.part call) ≡ None → unmet f (call_event caller frame) ≡ first_unmet (further_asks f caller.part call)
-    unmet_past_target h = past_frame ∙ first_of_back (target_asks f caller.part call) (further_asks f caller.part call) h
+    pub unmet_past_target : first_unmet (target_asks f by.part call) ≡ None → unmet f (call_event by frame) ≡ first_unmet (further_asks f by.part call)
+    unmet_past_target h = past_frame ∙ first_of_back (target_asks f by.part call) (further_asks f by.part call) h

@@ -1,7 +1,7 @@
 -- Where a connection leads.
 use Rattle.std.specs.Prelude.{ℕ, ◌==◌, Bool, false, Option, None, Some}
 use Rattle.std.specs.FinMap.{get}
-use Rattle.std.specs.Option.{option_map_or}
+use Rattle.std.specs.Option.{option_and_then, option_map, option_map_or}
 use Rattle.hv_policy.specs.Flat.{Flat, ConnRow, PortRow, VpRow}
 
 -- a connection, and the port with the id that it keeps, whatever that port's birth
@@ -10,12 +10,10 @@ pub record Aim : Type 0 where
   pub port : PortRow
 
 abbrev pub aim_with : ConnRow → Option PortRow → Option Aim
-aim_with conn None = None
-aim_with conn (Some port) = Some (record { conn = conn; port = port })
+aim_with conn port = option_map (λ port. record { conn = conn; port = port }) port
 
 abbrev pub aim_by : Flat → Option ConnRow → Option Aim
-aim_by f None = None
-aim_by f (Some conn) = aim_with conn (get f.port (conn.part, conn.port))
+aim_by f conn = option_and_then (λ conn. aim_with conn (get f.port (conn.part, conn.port))) conn
 
 -- of the connection with this key, if both are there
 abbrev pub aim_of : Flat → ℕ × ℕ → Option Aim

@@ -8,7 +8,7 @@ use Rattle.hv_defs.specs.declared.life.Life.TheVariants.{Active}
 use Rattle.hv_defs.specs.declared.port_kind.PortKind.{PortKind}
 use Rattle.hv_defs.specs.declared.port_kind.PortKind.TheVariants.{Message, Event}
 use Rattle.hv_defs.specs.declared.registers.RegisterRow.{RegisterRow}
-use Rattle.hv_defs.specs.declared.sizes.TheConstants.{MAX_DEPTH, MAX_MESSAGES}
+use Rattle.hv_defs.specs.declared.sizes.TheConstants.{MAX_DEPTH, MAX_MESSAGES, MAX_VPS}
 use Rattle.hv_privs.specs.Privileges.{contains, of}
 use Rattle.hv_privs.specs.declared.Privileges.{Privileges}
 use Rattle.hv_policy.specs.Aim.{Aim, on_vp, vp_key}
@@ -67,6 +67,10 @@ is_depth_left f id = on_part f id (λ row. nat_le (depth f id + 1) MAX_DEPTH)
 -- its pool has so many pages available
 abbrev pub has_available : Flat → ℕ → ℕ → Bool
 has_available f id charge = nat_le charge (available f id)
+
+-- a new processor may have this index, which is below the most and free
+abbrev pub is_vp_free : Flat → ℕ → ℕ → Bool
+is_vp_free f id vp = nat_lt vp MAX_VPS && not (contains_key f.vp (id, vp))
 
 -- the page with this row is a loose page of a partition
 abbrev pub is_loose : ℕ → Option PageRow → Bool

@@ -34,7 +34,6 @@ result_of frame (Fault rule) = 0
 
 -- a call's reply: no fault, and the next element of a rep call has an index
 abbrev pub HasResult : Reply → Type 0
-HasResult (Served output) = Unit {0}
 HasResult (More next output) = next < REPS_END
-HasResult (Denied rule status reps) = Unit {0}
 HasResult (Fault rule) = ⊥
+HasResult reply = Unit {0}

@@ -10,10 +10,10 @@ use Rattle.hv_calls.specs.Params.{are_parameters_valid, parameters}
 use Rattle.hv_calls.specs.declared.call.Call.{Call}
 use Rattle.hv_calls.specs.declared.call.Call.TheVariants.{CreatePartition, InitializePartition, FinalizePartition, DeletePartition, GetPartitionProperty, SetPartitionProperty, GetPartitionId, GetNextChildPartition, DepositMemory, WithdrawMemory, GetMemoryBalance, CreateVp, DeleteVp, GetVpRegisters, SetVpRegisters, DeletePort, DisconnectPort, PostMessage, SignalEvent, CreatePort, ConnectPort}
 use Rattle.hv_defs.specs.Registers as register
-use Rattle.hv_defs.specs.declared.sizes.TheConstants.{EVENT_FLAGS, MAX_VPS, SINTS}
+use Rattle.hv_defs.specs.declared.sizes.TheConstants.{EVENT_FLAGS, SINTS}
 use Rattle.hv_policy.specs.Flat.{Flat}
 use Rattle.hv_policy.specs.Aim.{is_same_birth, on_aim}
-use Rattle.hv_policy.specs.Met.{has_available, has_flag, has_message_room, has_privilege, is_aimed_at_vp, is_child, is_childless, is_depth_left, is_for_messages, is_in, is_in_range, is_kin, is_kind, is_loose, is_ready_for_flags, is_ready_for_messages, is_running, may_access, may_access_msr, may_give, on_port, takes_msr}
+use Rattle.hv_policy.specs.Met.{has_available, has_flag, has_message_room, has_privilege, is_aimed_at_vp, is_child, is_childless, is_depth_left, is_for_messages, is_in, is_in_range, is_kin, is_kind, is_loose, is_ready_for_flags, is_ready_for_messages, is_running, is_vp_free, may_access, may_access_msr, may_give, on_port, takes_msr}
 use Rattle.hv_policy.specs.Needs.{charge_of, meant_id, needs_of, target_of}
 use Rattle.hv_policy.specs.Property.{property_of}
 use Rattle.hv_policy.specs.declared.event.Action.{Action}
@@ -67,8 +67,7 @@ module _ (f : Flat) (caller target : ℕ) (states : States) (charge : ℕ) where
   call_asks (WithdrawMemory partition) = (Pages, has_available f target charge) ∷ []
   call_asks (GetMemoryBalance partition) = []
   call_asks (CreateVp partition vp) =
-      (TargetState, is_in f target states) ∷ (VpExists, nat_lt vp MAX_VPS && not (contains_key f.vp (target, vp)))
-      ∷ (Pages, has_available f target charge) ∷ []
+      (TargetState, is_in f target states) ∷ (VpExists, is_vp_free f target vp) ∷ (Pages, has_available f target charge) ∷ []
   call_asks (DeleteVp partition vp) = (TargetState, is_in f target states) ∷ (VpExists, contains_key f.vp (target, vp)) ∷ []
   call_asks (GetVpRegisters partition vp name) =
       (TargetState, is_in f target states) ∷ (Right, may_access f caller (register.row_of name))

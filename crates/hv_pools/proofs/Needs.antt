@@ -9,8 +9,8 @@ use Rattle.hv_laws.proofs.Granted as granted
 use Rattle.hv_laws.specs.Lawful.{IsLawful}
 use Rattle.hv_partition.specs.Partition.{PartitionState, pages_in}
 use Rattle.hv_partition.specs.declared.kind.PageKind.TheVariants.{Loose, Pooled}
-use Rattle.hv_policy.specs.Allowed.{IsAllowed}
-use Rattle.hv_policy.specs.Call.{target_of}
+use Rattle.hv_policy.specs.Rules.{IsAllowed}
+use Rattle.hv_policy.specs.Needs.{target_of}
 use Rattle.hv_policy.specs.Flat.{Flat}
 use Rattle.hv_tie.proofs.Allowed.{caller_row, state_row, target_row}
 use Rattle.hv_tie.proofs.Counted.{available_counted}

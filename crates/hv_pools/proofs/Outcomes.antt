@@ -4,7 +4,7 @@ use Rattle.hv_calls.specs.declared.call.Call.TheVariants.{DepositMemory, Withdra
 use Rattle.hv_pages.specs.PageSet.{IsLowest}
 use Rattle.hv_partition.specs.Partition.{PartitionState}
 use Rattle.hv_partition.specs.declared.kind.PageKind.TheVariants.{Pooled}
-use Rattle.hv_policy.specs.Call.{target_of}
+use Rattle.hv_policy.specs.Needs.{target_of}
 use Rattle.hv_policy.specs.Effect.{call_effect, withdrawn}
 use Rattle.hv_policy.specs.Flat.{Flat}
 use Rattle.hv_tie.proofs.Allowed.{admitted_allowed}

@@ -7,15 +7,15 @@ ghost use Rattle.hv_tie.specs.Tie.{IsTied};
 
 use crate::rows::{deposit, withdraw};
 use crate::rules::{is_loose, lowest_pooled};
-use hv_partition::Partition;
 use hv_policy::{CallOutput, Rule, States};
-use hv_tie::{Refused, has_available, is_state_allowed, meant, memory_balance, number_output};
-use hv_tree::IdTree;
+use hv_tie::{
+    Partitions, Refused, has_available, is_state_allowed, meant, memory_balance, number_output,
+};
 use std::alloc::{AllocError, Allocator};
 
 /// HvDepositMemory: the page, a loose page of the caller, goes to the target's pool.
 pub fn deposit_memory<A: Allocator>(
-    tree: &mut IdTree<Partition<A>, A>,
+    tree: &mut Partitions<A>,
     caller: u64,
     partition: u64,
     page: u64,
@@ -37,7 +37,7 @@ pub fn deposit_memory<A: Allocator>(
 
 // P12 and P21.
 fn unmet_deposit<A: Allocator>(
-    tree: &IdTree<Partition<A>, A>,
+    tree: &Partitions<A>,
     caller: u64,
     partition: u64,
     page: u64,
@@ -56,7 +56,7 @@ fn unmet_deposit<A: Allocator>(
 
 /// HvWithdrawMemory: the lowest pooled page of the target becomes a loose page of the caller.
 pub fn withdraw_memory<A: Allocator>(
-    tree: &mut IdTree<Partition<A>, A>,
+    tree: &mut Partitions<A>,
     caller: u64,
     partition: u64,
 ) -> Result<CallOutput, Refused>
@@ -75,11 +75,7 @@ pub fn withdraw_memory<A: Allocator>(
 }
 
 // P24.
-fn unmet_withdraw<A: Allocator>(
-    tree: &IdTree<Partition<A>, A>,
-    caller: u64,
-    partition: u64,
-) -> Option<Rule>
+fn unmet_withdraw<A: Allocator>(tree: &Partitions<A>, caller: u64, partition: u64) -> Option<Rule>
     requires { AreLawful tree.now }
     ensures { (f : Flat) → IsTied tree.now f → result ≡ unmet_further f caller (call.WithdrawMemory partition) }
 {
@@ -91,7 +87,7 @@ fn unmet_withdraw<A: Allocator>(
 
 /// HvGetMemoryBalance: the target's available pages, and those in use.
 pub fn get_memory_balance<A: Allocator>(
-    tree: &IdTree<Partition<A>, A>,
+    tree: &Partitions<A>,
     caller: u64,
     partition: u64,
 ) -> Result<CallOutput, Refused>

@@ -4,12 +4,12 @@ ghost use Rattle.hv_tie.specs.Room.{IsSameButRoom};
 ghost use Rattle.hv_pools.specs.Change.{CanGain, CanLose, HasGained, HasLost, HasLostLowest, HasOneRoom, HasPages, IsDeposited, IsWithdrawn, MayDeposit, MayWithdraw, pages_at};
 
 use hv_partition::{PageKind, Partition};
-use hv_tree::IdTree;
+use hv_tie::Partitions;
 use std::alloc::{AllocError, Allocator};
 
 // Moves a loose page of `from` to the pool of `to`.
 pub fn deposit<A: Allocator>(
-    tree: &mut IdTree<Partition<A>, A>,
+    tree: &mut Partitions<A>,
     from: u64,
     to: u64,
     page: u32,
@@ -32,7 +32,7 @@ pub fn deposit<A: Allocator>(
 
 // Moves the lowest pooled page of `from` to the loose pages of `to`.
 pub fn withdraw<A: Allocator>(
-    tree: &mut IdTree<Partition<A>, A>,
+    tree: &mut Partitions<A>,
     from: u64,
     to: u64,
 ) -> Result<(), AllocError>
@@ -52,7 +52,7 @@ pub fn withdraw<A: Allocator>(
 // Makes room for one more page of a kind of a partition.
 #[tactic(auto, using(hv_tree::proofs::Laws::unchanged))]
 fn reserve<A: Allocator>(
-    tree: &mut IdTree<Partition<A>, A>,
+    tree: &mut Partitions<A>,
     id: u64,
     kind: PageKind,
 ) -> Result<(), AllocError>
@@ -69,7 +69,7 @@ fn reserve<A: Allocator>(
 // Takes a page that is there out of a partition's pages of a kind, once there is room for the change.
 #[tactic(auto, using(hv_tree::proofs::Laws::unchanged))]
 fn take<A: Allocator>(
-    tree: &mut IdTree<Partition<A>, A>,
+    tree: &mut Partitions<A>,
     id: u64,
     kind: PageKind,
     page: u32,
@@ -86,7 +86,7 @@ fn take<A: Allocator>(
     Ok(())
 }
 
-fn put<A: Allocator>(tree: &mut IdTree<Partition<A>, A>, id: u64, kind: PageKind, page: u32)
+fn put<A: Allocator>(tree: &mut Partitions<A>, id: u64, kind: PageKind, page: u32)
     requires { CanGain page (pages_at tree.old id kind) }
     ensures { HasPages tree.old tree.new id kind (HasGained page) }
 {
@@ -97,7 +97,7 @@ fn put<A: Allocator>(tree: &mut IdTree<Partition<A>, A>, id: u64, kind: PageKind
 }
 
 // Takes out the lowest page of a kind of a partition that has one.
-fn take_lowest<A: Allocator>(tree: &mut IdTree<Partition<A>, A>, id: u64, kind: PageKind) -> u32
+fn take_lowest<A: Allocator>(tree: &mut Partitions<A>, id: u64, kind: PageKind) -> u32
     requires { CanLose (pages_at tree.old id kind) }
     ensures { HasPages tree.old tree.new id kind (HasLostLowest result) }
 {

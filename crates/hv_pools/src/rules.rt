@@ -9,11 +9,11 @@ ghost use Rattle.hv_tie.specs.Served.{AreLawful};
 ghost use Rattle.hv_tie.specs.Tie.{IsTied};
 
 use hv_partition::{PageKind, Partition};
-use hv_tree::IdTree;
+use hv_tie::Partitions;
 use std::alloc::Allocator;
 
 // P21: whether a page is one of a partition's loose pages, whatever number it is.
-pub fn is_loose<A: Allocator>(tree: &IdTree<Partition<A>, A>, id: u64, page: u64) -> bool
+pub fn is_loose<A: Allocator>(tree: &Partitions<A>, id: u64, page: u64) -> bool
     requires { AreLawful tree.now }
     ensures { (f : Flat) → IsTied tree.now f → result ≡ is_loose_of id (get f.page page) }
 {
@@ -27,7 +27,7 @@ pub fn is_loose<A: Allocator>(tree: &IdTree<Partition<A>, A>, id: u64, page: u64
 }
 
 // The lowest pooled page of a partition, or 0.
-pub fn lowest_pooled<A: Allocator>(tree: &IdTree<Partition<A>, A>, id: u64) -> u64
+pub fn lowest_pooled<A: Allocator>(tree: &Partitions<A>, id: u64) -> u64
     ensures { (f : Flat) → IsTied tree.now f → result ≡ page_or_0 (lowest_pooled_of f id) }
 {
     let Some(partition) = tree.get(id) else {

@@ -6,7 +6,7 @@ use Rattle.std.specs.Option.{option_map}
 use Rattle.hv_calls.specs.declared.call.Call.TheVariants.{CreateVp, DeleteVp, SetVpRegisters}
 use Rattle.hv_defs.specs.Registers.{name_of_msr}
 use Rattle.hv_partition.specs.Partition.{PartitionState}
-use Rattle.hv_policy.specs.Call.{target_of}
+use Rattle.hv_policy.specs.Needs.{target_of}
 use Rattle.hv_policy.specs.Effect.{call_effect, write_msr}
 use Rattle.hv_policy.specs.Flat.{Flat}
 use Rattle.hv_policy.specs.declared.event.Caller.{Caller}

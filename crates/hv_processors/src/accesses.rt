@@ -1,26 +1,21 @@
 // The accesses of this chapter.
-ghost use Rattle.std.specs.Prelude.{◌≡◌, ◌∷◌, []};
+ghost use Rattle.std.specs.Prelude.{◌≡◌};
 ghost use Rattle.hv_policy.specs.Flat.{Flat};
-ghost use Rattle.hv_policy.specs.Step.{first_unmet};
+ghost use Rattle.hv_policy.specs.Rules.{first_unmet};
 ghost use Rattle.hv_policy.specs.declared.event.Action.TheVariants as action;
-ghost use Rattle.hv_policy.specs.declared.rule.Rule.TheVariants.{MsrKnown, MsrPrivilege};
 ghost use Rattle.hv_tie.specs.Access.{IsAccess};
 ghost use Rattle.hv_tie.specs.Tie.{IsTied};
+ghost use Rattle.hv_processors.specs.Asked.{msr_asks};
 
 use crate::rows::write_register;
 use crate::rules::{may_access_msr, msr_register, takes_msr};
-use hv_partition::Partition;
 use hv_policy::{Caller, Output, Rule};
-use hv_tree::IdTree;
+use hv_tie::Partitions;
 use hv_vp::name_of_msr;
 use std::alloc::Allocator;
 
 /// A read of one of the caller's model-specific registers: its value, in 8 bytes.
-pub fn read_msr<A: Allocator>(
-    tree: &IdTree<Partition<A>, A>,
-    by: Caller,
-    msr: u32,
-) -> Result<Output, Rule>
+pub fn read_msr<A: Allocator>(tree: &Partitions<A>, by: Caller, msr: u32) -> Result<Output, Rule>
     ensures { (f : Flat) → IsTied tree.now f → IsAccess {A = A} f by (action.ReadMsr msr) tree.now result tree.now }
 {
     if let Some(rule) = unmet_msr(tree, by, msr) {
@@ -33,7 +28,7 @@ pub fn read_msr<A: Allocator>(
 
 /// A write to one of the caller's model-specific registers, which keeps what it keeps of the value.
 pub fn write_msr<A: Allocator>(
-    tree: &mut IdTree<Partition<A>, A>,
+    tree: &mut Partitions<A>,
     by: Caller,
     msr: u32,
     value: u64,
@@ -51,8 +46,8 @@ pub fn write_msr<A: Allocator>(
 }
 
 // P25 and P26, which reading and writing ask alike.
-fn unmet_msr<A: Allocator>(tree: &IdTree<Partition<A>, A>, by: Caller, msr: u32) -> Option<Rule>
-    ensures { (f : Flat) → IsTied tree.now f → result ≡ first_unmet {A = A} f (record { by = by; what = action.ReadMsr msr }) (MsrKnown ∷ MsrPrivilege ∷ []) }
+fn unmet_msr<A: Allocator>(tree: &Partitions<A>, by: Caller, msr: u32) -> Option<Rule>
+    ensures { (f : Flat) → IsTied tree.now f → result ≡ first_unmet (msr_asks f by.part msr) }
 {
     if name_of_msr(msr).is_none() {
         return Some(Rule::MsrKnown);

@@ -1,26 +1,25 @@
 // The calls of this chapter.
-ghost use Rattle.std.specs.Prelude.{◌≡◌, ◌++◌, ◌∷◌, []};
+ghost use Rattle.std.specs.Prelude.{◌≡◌, ◌++◌};
 ghost use Rattle.std.specs.Int.{w64, to_le_bytes};
 ghost use Rattle.hv_calls.specs.declared.call.Call.TheVariants as call;
 ghost use Rattle.hv_policy.specs.Flat.{Flat};
-ghost use Rattle.hv_policy.specs.Met.{unmet_of};
-ghost use Rattle.hv_policy.specs.declared.rule.Rule.TheVariants.{TargetState, Right, VpExists};
+ghost use Rattle.hv_policy.specs.Needs.{meant_id};
+ghost use Rattle.hv_policy.specs.Rules.{first_unmet};
+ghost use Rattle.hv_processors.specs.Asked.{register_asks};
 ghost use Rattle.hv_tie.specs.Served.{AreLawful, IsAdmitted, IsOutcome, unmet_further};
 ghost use Rattle.hv_tie.specs.Tie.{IsTied};
 
 use crate::rows::{add, remove, write};
 use crate::rules::{is_known, is_vp_free, may_access, register, takes};
 use hv_defs::VP_CHARGE;
-use hv_partition::Partition;
 use hv_policy::{CallOutput, Rule, States};
-use hv_tie::{Refused, has_available, has_vp, is_state_allowed, meant};
-use hv_tree::IdTree;
+use hv_tie::{Partitions, Refused, has_available, has_vp, is_state_allowed, meant};
 use std::alloc::{AllocError, Allocator};
 
 /// HvCreateVp: the target gets a processor with this index, whose registers are at their start. It uses 4 pages of the target's
 /// pool.
 pub fn create_vp<A: Allocator + Clone>(
-    tree: &mut IdTree<Partition<A>, A>,
+    tree: &mut Partitions<A>,
     alloc: &A,
     caller: u64,
     partition: u64,
@@ -40,7 +39,7 @@ pub fn create_vp<A: Allocator + Clone>(
 
 // P12, P19 and P24.
 fn unmet_create<A: Allocator>(
-    tree: &IdTree<Partition<A>, A>,
+    tree: &Partitions<A>,
     caller: u64,
     partition: u64,
     vp: u32,
@@ -63,7 +62,7 @@ fn unmet_create<A: Allocator>(
 
 /// HvDeleteVp: the target's processor with this index goes, with its registers.
 pub fn delete_vp<A: Allocator>(
-    tree: &mut IdTree<Partition<A>, A>,
+    tree: &mut Partitions<A>,
     caller: u64,
     partition: u64,
     vp: u32,
@@ -84,7 +83,7 @@ pub fn delete_vp<A: Allocator>(
 
 /// HvGetVpRegisters, one element: the value of a register of the target's processor, in the lower half of 16 bytes.
 pub fn get_vp_registers<A: Allocator>(
-    tree: &IdTree<Partition<A>, A>,
+    tree: &Partitions<A>,
     caller: u64,
     partition: u64,
     vp: u32,
@@ -100,7 +99,7 @@ pub fn get_vp_registers<A: Allocator>(
 
 // P12, P18, P19 and P21.
 fn unmet_get<A: Allocator>(
-    tree: &IdTree<Partition<A>, A>,
+    tree: &Partitions<A>,
     caller: u64,
     partition: u64,
     vp: u32,
@@ -119,13 +118,13 @@ fn unmet_get<A: Allocator>(
 
 // P12, P18 and P19, which reading and writing a register ask alike.
 fn unmet_register<A: Allocator>(
-    tree: &IdTree<Partition<A>, A>,
+    tree: &Partitions<A>,
     caller: u64,
     partition: u64,
     vp: u32,
     name: u32,
 ) -> Option<Rule>
-    ensures { (f : Flat) → IsTied tree.now f → result ≡ unmet_of f caller (call.GetVpRegisters partition vp name) (TargetState ∷ Right ∷ VpExists ∷ []) }
+    ensures { (f : Flat) → IsTied tree.now f → result ≡ first_unmet (register_asks f caller (meant_id caller partition) vp name) }
 {
     let target = meant(caller, partition);
     if !is_state_allowed(tree, target, States::Active) {
@@ -152,7 +151,7 @@ fn register_output(value: u64) -> CallOutput
 
 /// HvSetVpRegisters, one element: a register of the target's processor keeps what it keeps of the value.
 pub fn set_vp_registers<A: Allocator>(
-    tree: &mut IdTree<Partition<A>, A>,
+    tree: &mut Partitions<A>,
     caller: u64,
     partition: u64,
     vp: u32,
@@ -170,7 +169,7 @@ pub fn set_vp_registers<A: Allocator>(
 
 // P12, P18, P19 and P21.
 fn unmet_set<A: Allocator>(
-    tree: &IdTree<Partition<A>, A>,
+    tree: &Partitions<A>,
     caller: u64,
     partition: u64,
     vp: u32,

@@ -8,15 +8,14 @@ ghost use Rattle.hv_vp.specs.Vp.{new_vp, written, written_msr};
 ghost use Rattle.hv_tie.specs.Vp.{with_state_of};
 ghost use Rattle.hv_processors.specs.Change.{HasVps, MayAdd};
 
-use hv_partition::Partition;
-use hv_tree::IdTree;
+use hv_tie::Partitions;
 use hv_vp::Vp;
 use std::alloc::{AllocError, Allocator};
 
 // Adds a processor with an index that is free to a partition that is there.
 #[tactic(auto, using(hv_tree::proofs::Laws::unchanged))]
 pub fn add<A: Allocator + Clone>(
-    tree: &mut IdTree<Partition<A>, A>,
+    tree: &mut Partitions<A>,
     alloc: &A,
     id: u64,
     index: u32,
@@ -35,7 +34,7 @@ pub fn add<A: Allocator + Clone>(
 }
 
 // Removes a processor of a partition that is there.
-pub fn remove<A: Allocator>(tree: &mut IdTree<Partition<A>, A>, id: u64, index: u32)
+pub fn remove<A: Allocator>(tree: &mut Partitions<A>, id: u64, index: u32)
     requires { contains_key tree.old id ≡ true }
     ensures { HasVps tree.old tree.new id (λ vps. map.remove vps index) }
 {
@@ -47,13 +46,7 @@ pub fn remove<A: Allocator>(tree: &mut IdTree<Partition<A>, A>, id: u64, index: 
 
 // Writes a value to a register of a processor, where both are there.
 #[tactic(auto, using(hv_tree::proofs::Laws::unchanged))]
-pub fn write<A: Allocator>(
-    tree: &mut IdTree<Partition<A>, A>,
-    id: u64,
-    index: u32,
-    name: u32,
-    value: u64,
-)
+pub fn write<A: Allocator>(tree: &mut Partitions<A>, id: u64, index: u32, name: u32, value: u64)
     ensures { tree.new ≡ changed tree.old id (with_state_of index (written name value)) }
 {
     if let Some(partition) = tree.get_mut(id) {
@@ -67,7 +60,7 @@ pub fn write<A: Allocator>(
 // The same for a model-specific register.
 #[tactic(auto, using(hv_tree::proofs::Laws::unchanged))]
 pub fn write_register<A: Allocator>(
-    tree: &mut IdTree<Partition<A>, A>,
+    tree: &mut Partitions<A>,
     id: u64,
     index: u32,
     msr: u32,

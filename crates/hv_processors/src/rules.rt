@@ -1,30 +1,27 @@
 // The rules that this chapter asks alone, and what it reads of the tree.
-ghost use Rattle.std.specs.Prelude.{◌≡◌, ◌&&◌, nat_lt, not, is_some, is_ok};
-ghost use Rattle.std.specs.FinMap.{contains_key, get};
+ghost use Rattle.std.specs.Prelude.{◌≡◌, is_some, is_ok};
+ghost use Rattle.std.specs.FinMap.{get};
 ghost use Rattle.hv_defs.specs.Registers.{kept as kept_by, name_of_msr as msr_name, row_of};
-ghost use Rattle.hv_defs.specs.declared.sizes.TheConstants.{MAX_VPS as VPS};
 ghost use Rattle.hv_policy.specs.Answer.{msr_of, register_of};
 ghost use Rattle.hv_policy.specs.Flat.{Flat};
-ghost use Rattle.hv_policy.specs.Met.{may_access as may_access_of, may_access_msr as may_access_msr_of, takes_msr as takes_msr_of};
+ghost use Rattle.hv_policy.specs.Met.{is_vp_free as is_vp_free_of, may_access as may_access_of, may_access_msr as may_access_msr_of, takes_msr as takes_msr_of};
 ghost use Rattle.hv_tie.specs.Tie.{IsTied};
 
 use hv_defs::MAX_VPS;
-use hv_partition::Partition;
 use hv_privs::Privileges;
-use hv_tie::has_vp;
-use hv_tree::IdTree;
+use hv_tie::{Partitions, has_vp};
 use hv_vp::{kept, name_of_msr, privilege_of};
 use std::alloc::Allocator;
 
 // P19: whether a partition may get a processor with this index.
-pub fn is_vp_free<A: Allocator>(tree: &IdTree<Partition<A>, A>, id: u64, index: u32) -> bool
-    ensures { (f : Flat) → IsTied tree.now f → result ≡ nat_lt index VPS && not (contains_key f.vp (id, index)) }
+pub fn is_vp_free<A: Allocator>(tree: &Partitions<A>, id: u64, index: u32) -> bool
+    ensures { (f : Flat) → IsTied tree.now f → result ≡ is_vp_free_of f id index }
 {
     index < MAX_VPS && !has_vp(tree, id, index)
 }
 
 // P18: whether a partition has the privilege of the register with this name, if there is one.
-pub fn may_access<A: Allocator>(tree: &IdTree<Partition<A>, A>, id: u64, name: u32) -> bool
+pub fn may_access<A: Allocator>(tree: &Partitions<A>, id: u64, name: u32) -> bool
     ensures { (f : Flat) → IsTied tree.now f → result ≡ may_access_of f id (row_of name) }
 {
     match privilege_of(name) {
@@ -51,7 +48,7 @@ pub fn takes(name: u32, value: u64) -> bool
 }
 
 // P26: whether a partition has the privilege of a model-specific register.
-pub fn may_access_msr<A: Allocator>(tree: &IdTree<Partition<A>, A>, id: u64, msr: u32) -> bool
+pub fn may_access_msr<A: Allocator>(tree: &Partitions<A>, id: u64, msr: u32) -> bool
     ensures { (f : Flat) → IsTied tree.now f → result ≡ may_access_msr_of f id (msr_name msr) }
 {
     match name_of_msr(msr) {
@@ -71,7 +68,7 @@ pub fn takes_msr(msr: u32, value: u64) -> bool
 }
 
 // The value of a processor's register, or 0 where there is none.
-pub fn register<A: Allocator>(tree: &IdTree<Partition<A>, A>, id: u64, index: u32, name: u32) -> u64
+pub fn register<A: Allocator>(tree: &Partitions<A>, id: u64, index: u32, name: u32) -> u64
     ensures { (f : Flat) → IsTied tree.now f → result ≡ register_of (get f.vp (id, index)) name }
 {
     let Some(partition) = tree.get(id) else {
@@ -87,12 +84,7 @@ pub fn register<A: Allocator>(tree: &IdTree<Partition<A>, A>, id: u64, index: u3
 }
 
 // The value of a processor's model-specific register, or 0 where there is none.
-pub fn msr_register<A: Allocator>(
-    tree: &IdTree<Partition<A>, A>,
-    id: u64,
-    index: u32,
-    msr: u32,
-) -> u64
+pub fn msr_register<A: Allocator>(tree: &Partitions<A>, id: u64, index: u32, msr: u32) -> u64
     ensures { (f : Flat) → IsTied tree.now f → result ≡ msr_of (get f.vp (id, index)) (msr_name msr) }
 {
     match name_of_msr(msr) {

@@ -7,15 +7,13 @@ ghost use Rattle.hv_tie.specs.Tie.{IsTied};
 
 use crate::rows::set_property;
 use crate::rules::{is_in_range, is_known, may_give, property_value};
-use hv_partition::Partition;
 use hv_policy::{CallOutput, Property, Rule, states_to_set};
-use hv_tie::{Refused, is_state_allowed, meant, number_output};
-use hv_tree::IdTree;
+use hv_tie::{Partitions, Refused, is_state_allowed, meant, number_output};
 use std::alloc::Allocator;
 
 /// HvGetPartitionProperty: the value of a property of the target.
 pub fn get_partition_property<A: Allocator>(
-    tree: &IdTree<Partition<A>, A>,
+    tree: &Partitions<A>,
     caller: u64,
     partition: u64,
     code: u32,
@@ -30,7 +28,7 @@ pub fn get_partition_property<A: Allocator>(
 
 /// HvSetPartitionProperty: a property of the target gets its new value.
 pub fn set_partition_property<A: Allocator>(
-    tree: &mut IdTree<Partition<A>, A>,
+    tree: &mut Partitions<A>,
     caller: u64,
     partition: u64,
     code: u32,
@@ -47,7 +45,7 @@ pub fn set_partition_property<A: Allocator>(
 
 // P11, P12, P18 and P20.
 fn unmet_set<A: Allocator>(
-    tree: &IdTree<Partition<A>, A>,
+    tree: &Partitions<A>,
     caller: u64,
     partition: u64,
     code: u32,

@@ -7,10 +7,9 @@ ghost use Rattle.hv_policy.specs.Met.{is_in_range as is_in_range_of, may_give as
 ghost use Rattle.hv_policy.specs.Property.{property_of};
 ghost use Rattle.hv_tie.specs.Tie.{IsTied};
 
-use hv_partition::Partition;
 use hv_policy::Property;
 use hv_privs::Privileges;
-use hv_tree::IdTree;
+use hv_tie::Partitions;
 use std::alloc::Allocator;
 
 // P11: whether the profile has a property with this code.
@@ -21,12 +20,7 @@ pub fn is_known(code: u32) -> bool
 }
 
 // P18: whether a partition may give this value to the property with this code: a mask lies within its own.
-pub fn may_give<A: Allocator>(
-    tree: &IdTree<Partition<A>, A>,
-    caller: u64,
-    code: u32,
-    value: u64,
-) -> bool
+pub fn may_give<A: Allocator>(tree: &Partitions<A>, caller: u64, code: u32, value: u64) -> bool
     ensures { (f : Flat) → IsTied tree.now f → result ≡ may_give_of (property_of code) value f caller }
 {
     match Property::of(code) {
@@ -50,7 +44,7 @@ pub fn is_in_range(code: u32, value: u64) -> bool
 }
 
 // The value of a property, or 0 where there is none.
-pub fn property_value<A: Allocator>(tree: &IdTree<Partition<A>, A>, id: u64, code: u32) -> u64
+pub fn property_value<A: Allocator>(tree: &Partitions<A>, id: u64, code: u32) -> u64
     ensures { (f : Flat) → IsTied tree.now f → result ≡ value_of (property_of code) (get f.part id) }
 {
     let Some(property) = Property::of(code) else {

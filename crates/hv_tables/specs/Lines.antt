@@ -1,5 +1,5 @@
 -- The lines of the tables, made of the definitions and constants that contracts cite.
-use Rattle.std.specs.Prelude.{ℕ, ◌==◌, Bool, false, List, [], ◌∷◌, find, map, Option}
+use Rattle.std.specs.Prelude.{ℕ, ◌==◌, Bool, List, [], ◌∷◌, find, is_none, map, Option}
 use Rattle.std.specs.FinSet.{from_list}
 use Rattle.std.specs.List.{filter}
 use Rattle.std.specs.Option.{option_map}
@@ -10,6 +10,7 @@ use Rattle.hv_abi.specs.declared.call_kind.CallKind.{CallKind}
 use Rattle.hv_abi.specs.declared.frame.AbiFault.{AbiFault}
 use Rattle.hv_abi.specs.declared.frame.Frame.{Frame}
 use Rattle.hv_abi.specs.declared.status.Status.{Status}
+use Rattle.hv_calls.specs.Call.{kind_of_call}
 use Rattle.hv_calls.specs.declared.call.Call.{Call}
 use Rattle.hv_defs.specs.Flags.{flag_bytes}
 use Rattle.hv_defs.specs.declared.life.Life.{Life}
@@ -17,10 +18,10 @@ use Rattle.hv_defs.specs.declared.life.Life.TheVariants.{Created, Active, Finali
 use Rattle.hv_defs.specs.declared.registers.Takes.{Takes}
 use Rattle.hv_defs.specs.declared.registers.TheConstants.{REGISTERS}
 use Rattle.hv_privs.specs.Privileges.{bits_of}
-use Rattle.hv_policy.specs.Asked.{action_rules}
-use Rattle.hv_policy.specs.Call.{action_subject}
-use Rattle.hv_policy.specs.Needs.{needs_of, is_among, further_rules, charge_of, takes_memory}
+use Rattle.hv_policy.specs.Flat.{Flat}
+use Rattle.hv_policy.specs.Needs.{needs_of, is_among, charge_of, takes_memory}
 use Rattle.hv_policy.specs.Rule.{rule_number, rule_name, rule_status}
+use Rattle.hv_policy.specs.Rules.{action_asks, first_unmet, further_asks, rules_of}
 use Rattle.hv_policy.specs.declared.event.Action.{Action}
 use Rattle.hv_policy.specs.declared.need.Kin.{Kin}
 use Rattle.hv_policy.specs.declared.need.States.{States}
@@ -42,17 +43,18 @@ lives states = filter (λ life. is_among life states) (Created ∷ Active ∷ Fi
 abbrev pub need_line : Call → ℕ × Kin × List Life
 need_line call = (bits_of (needs_of call).privilege, (needs_of call).kin, lives (needs_of call).states)
 
--- the numbers of the further rules, the charge in pages, and whether it may want memory of the host
-abbrev pub rules_line : CallKind → List ℕ × ℕ × Bool
-rules_line kind = (map rule_number (further_rules kind), charge_of kind, takes_memory kind)
+-- the numbers of the further rules, in whatever state and of whatever caller, the charge in pages, and whether it may want memory
+-- of the host
+abbrev pub rules_line : Flat → ℕ → Call → List ℕ × ℕ × Bool
+rules_line f caller call = (map rule_number (rules_of (further_asks f caller call)), charge_of call, takes_memory (kind_of_call call))
 
--- the numbers of the rules that an action is asked beside its caller's
-abbrev pub asked_line : Action (Unit {0}) → List ℕ
-asked_line action = map rule_number (action_rules action)
+-- the numbers of the rules that an access is asked beside its caller's
+abbrev pub asked_line : Flat → ℕ → Action (Unit {0}) → List ℕ
+asked_line f caller access = map rule_number (rules_of (action_asks f caller access))
 
--- whether the SINT and the flag that an access names are there
-abbrev pub subject_line : Action (Unit {0}) → Bool
-subject_line access = action_subject (λ call. false) access
+-- and whether they are met, as where the SINT and the flag that it names are there
+abbrev pub subject_line : Flat → ℕ → Action (Unit {0}) → Bool
+subject_line f caller access = is_none (first_unmet (action_asks f caller access))
 
 -- a rule's number, its name, and the number of the status with which it refuses a call
 abbrev pub rule_line : Rule → Option CallKind → ℕ × List ℕ × Option ℕ

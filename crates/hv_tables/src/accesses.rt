@@ -1,35 +1,34 @@
 // The accesses, and the processors that calls may name.
 ghost use Rattle.std.specs.Prelude.{◌≡◌, ℕ, true, false, [], ◌∷◌, None, Some};
 ghost use Rattle.std.specs.FinMap.{contains_key};
-ghost use Rattle.hv_calls.specs.declared.call.Call.TheVariants.{CreateVp};
 ghost use Rattle.hv_defs.specs.Registers.{name_of_msr};
 ghost use Rattle.hv_policy.specs.Flat.{Flat};
-ghost use Rattle.hv_policy.specs.Met.{is_vp_good};
+ghost use Rattle.hv_policy.specs.Met.{is_vp_free};
 ghost use Rattle.hv_policy.specs.declared.event.Action.TheVariants.{ReadMsr, WriteMsr, ReadSlot, ClearSlot, ReadFlags, ClearFlag, TakeInterrupt};
 ghost use Rattle.hv_tables.specs.Lines.{asked_line, subject_line};
 
 /// The rules of each access beside P1 to P3, by their numbers.
 pub fn each_access_has_its_rules()
-    ensures read_msr { (msr : ℕ) → asked_line (ReadMsr msr) ≡ 25 ∷ 26 ∷ [] }
-    ensures write_msr { (msr value : ℕ) → asked_line (WriteMsr msr value) ≡ 25 ∷ 26 ∷ 27 ∷ [] }
-    ensures read_slot { (sint : ℕ) → asked_line (ReadSlot sint) ≡ 21 ∷ [] }
-    ensures clear_slot { (sint : ℕ) → asked_line (ClearSlot sint) ≡ 21 ∷ [] }
-    ensures read_flags { (sint : ℕ) → asked_line (ReadFlags sint) ≡ 21 ∷ [] }
-    ensures clear_flag { (sint flag : ℕ) → asked_line (ClearFlag sint flag) ≡ 21 ∷ [] }
-    ensures take_interrupt { asked_line TakeInterrupt ≡ [] }
+    ensures read_msr { (f : Flat) (caller msr : ℕ) → asked_line f caller (ReadMsr msr) ≡ 25 ∷ 26 ∷ [] }
+    ensures write_msr { (f : Flat) (caller msr value : ℕ) → asked_line f caller (WriteMsr msr value) ≡ 25 ∷ 26 ∷ 27 ∷ [] }
+    ensures read_slot { (f : Flat) (caller sint : ℕ) → asked_line f caller (ReadSlot sint) ≡ 21 ∷ [] }
+    ensures clear_slot { (f : Flat) (caller sint : ℕ) → asked_line f caller (ClearSlot sint) ≡ 21 ∷ [] }
+    ensures read_flags { (f : Flat) (caller sint : ℕ) → asked_line f caller (ReadFlags sint) ≡ 21 ∷ [] }
+    ensures clear_flag { (f : Flat) (caller sint flag : ℕ) → asked_line f caller (ClearFlag sint flag) ≡ 21 ∷ [] }
+    ensures take_interrupt { (f : Flat) (caller : ℕ) → asked_line f caller TakeInterrupt ≡ [] }
 {}
 
 /// The last SINT and flag that an access may name, and those behind them, which rule P21 refuses.
 pub fn each_access_has_its_edges()
-    ensures read_slot { subject_line (ReadSlot 15) ≡ true }
-    ensures read_slot_beyond { subject_line (ReadSlot 16) ≡ false }
-    ensures clear_slot { subject_line (ClearSlot 15) ≡ true }
-    ensures clear_slot_beyond { subject_line (ClearSlot 16) ≡ false }
-    ensures read_flags { subject_line (ReadFlags 15) ≡ true }
-    ensures read_flags_beyond { subject_line (ReadFlags 16) ≡ false }
-    ensures clear_flag { subject_line (ClearFlag 15 2047) ≡ true }
-    ensures clear_flag_beyond_the_sints { subject_line (ClearFlag 16 0) ≡ false }
-    ensures clear_flag_beyond_the_flags { subject_line (ClearFlag 0 2048) ≡ false }
+    ensures read_slot { (f : Flat) (caller : ℕ) → subject_line f caller (ReadSlot 15) ≡ true }
+    ensures read_slot_beyond { (f : Flat) (caller : ℕ) → subject_line f caller (ReadSlot 16) ≡ false }
+    ensures clear_slot { (f : Flat) (caller : ℕ) → subject_line f caller (ClearSlot 15) ≡ true }
+    ensures clear_slot_beyond { (f : Flat) (caller : ℕ) → subject_line f caller (ClearSlot 16) ≡ false }
+    ensures read_flags { (f : Flat) (caller : ℕ) → subject_line f caller (ReadFlags 15) ≡ true }
+    ensures read_flags_beyond { (f : Flat) (caller : ℕ) → subject_line f caller (ReadFlags 16) ≡ false }
+    ensures clear_flag { (f : Flat) (caller : ℕ) → subject_line f caller (ClearFlag 15 2047) ≡ true }
+    ensures clear_flag_beyond_the_sints { (f : Flat) (caller : ℕ) → subject_line f caller (ClearFlag 16 0) ≡ false }
+    ensures clear_flag_beyond_the_flags { (f : Flat) (caller : ℕ) → subject_line f caller (ClearFlag 0 2048) ≡ false }
 {}
 
 /// The register of each MSR, by its name in a call, and the numbers beside them, which are no MSR.
@@ -54,8 +53,8 @@ pub fn each_msr_has_its_register()
 
 /// The highest index of a processor.
 pub fn each_processor_has_its_index()
-    ensures last { (f : Flat) (partition target : ℕ) → contains_key f.vp (target, 63) ≡ false → is_vp_good (CreateVp partition 63) f target ≡ true }
-    ensures taken { (f : Flat) (partition target : ℕ) → contains_key f.vp (target, 63) ≡ true → is_vp_good (CreateVp partition 63) f target ≡ false }
-    ensures beyond { (f : Flat) (partition target : ℕ) → is_vp_good (CreateVp partition 64) f target ≡ false }
-    ensures any { (f : Flat) (partition target : ℕ) → is_vp_good (CreateVp partition 0xFFFFFFFF) f target ≡ false }
+    ensures last { (f : Flat) (target : ℕ) → contains_key f.vp (target, 63) ≡ false → is_vp_free f target 63 ≡ true }
+    ensures taken { (f : Flat) (target : ℕ) → contains_key f.vp (target, 63) ≡ true → is_vp_free f target 63 ≡ false }
+    ensures beyond { (f : Flat) (target : ℕ) → is_vp_free f target 64 ≡ false }
+    ensures any { (f : Flat) (target : ℕ) → is_vp_free f target 0xFFFFFFFF ≡ false }
 {}

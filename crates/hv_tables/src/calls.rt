@@ -6,7 +6,7 @@ ghost use Rattle.hv_abi.specs.declared.call_kind.TheConstants.{ALL_CALLS};
 ghost use Rattle.hv_calls.specs.declared.call.Call.TheVariants as call;
 ghost use Rattle.hv_defs.specs.declared.life.Life.TheVariants.{Created, Active, Finalized};
 ghost use Rattle.hv_defs.specs.declared.port_kind.PortKind.{PortKind};
-ghost use Rattle.hv_policy.specs.Call.{target_of, meant_id};
+ghost use Rattle.hv_policy.specs.Needs.{target_of, meant_id};
 ghost use Rattle.hv_policy.specs.Flat.{Flat};
 ghost use Rattle.hv_policy.specs.Property.{property_of};
 ghost use Rattle.hv_policy.specs.Met.{is_kin, is_child};
@@ -109,29 +109,30 @@ pub fn each_kin_has_its_partitions()
     ensures child { (f : Flat) (caller id : ℕ) → is_kin kin.Child f caller id ≡ is_child f caller id }
 {}
 
-/// The further rules of each call by their numbers, its charge in pages, and whether it may want memory of the host.
+/// The further rules of each call by their numbers, whatever its parameters, its caller and the state; its charge in pages, and
+/// whether it may want memory of the host.
 pub fn each_call_has_its_rules()
-    ensures create_partition { rules_line kind.CreatePartition ≡ (14 ∷ 24 ∷ [], 2, true) }
-    ensures initialize_partition { rules_line kind.InitializePartition ≡ (12 ∷ [], 0, false) }
-    ensures finalize_partition { rules_line kind.FinalizePartition ≡ (12 ∷ 13 ∷ [], 0, false) }
-    ensures delete_partition { rules_line kind.DeletePartition ≡ (12 ∷ [], 0, true) }
-    ensures get_partition_property { rules_line kind.GetPartitionProperty ≡ (11 ∷ [], 0, false) }
-    ensures set_partition_property { rules_line kind.SetPartitionProperty ≡ (11 ∷ 12 ∷ 18 ∷ 20 ∷ [], 0, false) }
-    ensures get_partition_id { rules_line kind.GetPartitionId ≡ ([], 0, false) }
-    ensures get_next_child_partition { rules_line kind.GetNextChildPartition ≡ (15 ∷ [], 0, false) }
-    ensures deposit_memory { rules_line kind.DepositMemory ≡ (12 ∷ 21 ∷ [], 0, true) }
-    ensures withdraw_memory { rules_line kind.WithdrawMemory ≡ (24 ∷ [], 1, true) }
-    ensures get_memory_balance { rules_line kind.GetMemoryBalance ≡ ([], 0, false) }
-    ensures create_vp { rules_line kind.CreateVp ≡ (12 ∷ 19 ∷ 24 ∷ [], 4, true) }
-    ensures delete_vp { rules_line kind.DeleteVp ≡ (12 ∷ 19 ∷ [], 0, false) }
-    ensures get_vp_registers { rules_line kind.GetVpRegisters ≡ (12 ∷ 18 ∷ 19 ∷ 21 ∷ [], 0, false) }
-    ensures set_vp_registers { rules_line kind.SetVpRegisters ≡ (12 ∷ 18 ∷ 19 ∷ 21 ∷ [], 0, false) }
-    ensures delete_port { rules_line kind.DeletePort ≡ (12 ∷ 17 ∷ [], 0, false) }
-    ensures disconnect_port { rules_line kind.DisconnectPort ≡ (12 ∷ 16 ∷ [], 0, false) }
-    ensures post_message { rules_line kind.PostMessage ≡ (16 ∷ 17 ∷ 19 ∷ 21 ∷ 22 ∷ 23 ∷ [], 0, true) }
-    ensures signal_event { rules_line kind.SignalEvent ≡ (16 ∷ 17 ∷ 19 ∷ 21 ∷ 22 ∷ [], 0, false) }
-    ensures create_port { rules_line kind.CreatePort ≡ (12 ∷ 15 ∷ 17 ∷ 19 ∷ 24 ∷ [], 1, true) }
-    ensures connect_port { rules_line kind.ConnectPort ≡ (12 ∷ 15 ∷ 16 ∷ 17 ∷ 18 ∷ 21 ∷ 24 ∷ [], 1, true) }
+    ensures create_partition { (f : Flat) (caller flags : ℕ) → rules_line f caller (call.CreatePartition flags) ≡ (14 ∷ 24 ∷ [], 2, true) }
+    ensures initialize_partition { (f : Flat) (caller partition : ℕ) → rules_line f caller (call.InitializePartition partition) ≡ (12 ∷ [], 0, false) }
+    ensures finalize_partition { (f : Flat) (caller partition : ℕ) → rules_line f caller (call.FinalizePartition partition) ≡ (12 ∷ 13 ∷ [], 0, false) }
+    ensures delete_partition { (f : Flat) (caller partition : ℕ) → rules_line f caller (call.DeletePartition partition) ≡ (12 ∷ [], 0, true) }
+    ensures get_partition_property { (f : Flat) (caller partition code : ℕ) → rules_line f caller (call.GetPartitionProperty partition code) ≡ (11 ∷ [], 0, false) }
+    ensures set_partition_property { (f : Flat) (caller partition code value : ℕ) → rules_line f caller (call.SetPartitionProperty partition code value) ≡ (11 ∷ 12 ∷ 18 ∷ 20 ∷ [], 0, false) }
+    ensures get_partition_id { (f : Flat) (caller : ℕ) → rules_line f caller call.GetPartitionId ≡ ([], 0, false) }
+    ensures get_next_child_partition { (f : Flat) (caller partition previous : ℕ) → rules_line f caller (call.GetNextChildPartition partition previous) ≡ (15 ∷ [], 0, false) }
+    ensures deposit_memory { (f : Flat) (caller partition page : ℕ) → rules_line f caller (call.DepositMemory partition page) ≡ (12 ∷ 21 ∷ [], 0, true) }
+    ensures withdraw_memory { (f : Flat) (caller partition : ℕ) → rules_line f caller (call.WithdrawMemory partition) ≡ (24 ∷ [], 1, true) }
+    ensures get_memory_balance { (f : Flat) (caller partition : ℕ) → rules_line f caller (call.GetMemoryBalance partition) ≡ ([], 0, false) }
+    ensures create_vp { (f : Flat) (caller partition vp : ℕ) → rules_line f caller (call.CreateVp partition vp) ≡ (12 ∷ 19 ∷ 24 ∷ [], 4, true) }
+    ensures delete_vp { (f : Flat) (caller partition vp : ℕ) → rules_line f caller (call.DeleteVp partition vp) ≡ (12 ∷ 19 ∷ [], 0, false) }
+    ensures get_vp_registers { (f : Flat) (caller partition vp name : ℕ) → rules_line f caller (call.GetVpRegisters partition vp name) ≡ (12 ∷ 18 ∷ 19 ∷ 21 ∷ [], 0, false) }
+    ensures set_vp_registers { (f : Flat) (caller partition vp name value : ℕ) → rules_line f caller (call.SetVpRegisters partition vp name value) ≡ (12 ∷ 18 ∷ 19 ∷ 21 ∷ [], 0, false) }
+    ensures delete_port { (f : Flat) (caller partition port : ℕ) → rules_line f caller (call.DeletePort partition port) ≡ (12 ∷ 17 ∷ [], 0, false) }
+    ensures disconnect_port { (f : Flat) (caller partition connection : ℕ) → rules_line f caller (call.DisconnectPort partition connection) ≡ (12 ∷ 16 ∷ [], 0, false) }
+    ensures post_message { (f : Flat) (caller connection message_type : ℕ) (payload : List ℕ) → rules_line f caller (call.PostMessage connection message_type payload) ≡ (16 ∷ 17 ∷ 19 ∷ 21 ∷ 22 ∷ 23 ∷ [], 0, true) }
+    ensures signal_event { (f : Flat) (caller connection flag : ℕ) → rules_line f caller (call.SignalEvent connection flag) ≡ (16 ∷ 17 ∷ 19 ∷ 21 ∷ 22 ∷ [], 0, false) }
+    ensures create_port { (f : Flat) (caller partition port peer : ℕ) (port_kind : PortKind) (sint vp base count : ℕ) → rules_line f caller (call.CreatePort partition port peer port_kind sint vp base count) ≡ (12 ∷ 15 ∷ 17 ∷ 19 ∷ 24 ∷ [], 1, true) }
+    ensures connect_port { (f : Flat) (caller partition connection port_partition port : ℕ) (port_kind : PortKind) → rules_line f caller (call.ConnectPort partition connection port_partition port port_kind) ≡ (12 ∷ 15 ∷ 16 ∷ 17 ∷ 18 ∷ 21 ∷ 24 ∷ [], 1, true) }
 {}
 
 /// The target of each call: the caller, or the partition that a parameter names, where all ones is the caller's own id.

@@ -2,18 +2,15 @@
 use Rattle.std.proofs.Common.{◌≡◌, ℕ, Bool, true, Option, Some, None, is_some, refl, sym, ap, subst, ◌∙◌}
 use Rattle.std.specs.FinMap.{get}
 use Rattle.std.specs.Option.{option_map}
-use Rattle.hv_calls.specs.Call.{kind_of_call}
 use Rattle.hv_calls.specs.declared.call.Call.{Call}
 use Rattle.hv_laws.proofs.Granted as granted
 use Rattle.hv_partition.specs.Partition.{PartitionState}
-use Rattle.hv_policy.proofs.Rows.{all_met}
-use Rattle.hv_policy.specs.Allowed.{IsAllowed}
-use Rattle.hv_policy.specs.Call.{target_of}
+use Rattle.hv_policy.proofs.Unmet.{all_met}
 use Rattle.hv_policy.specs.Flat.{Flat, PartRow}
-use Rattle.hv_policy.specs.Met.{call_met, is_active, on_part, test_row}
-use Rattle.hv_policy.specs.Needs.{further_rules, is_among, needs_of}
+use Rattle.hv_policy.specs.Met.{is_active, is_in, on_part, test_row}
+use Rattle.hv_policy.specs.Needs.{is_among, needs_of, target_of}
+use Rattle.hv_policy.specs.Rules.{IsAllowed, further_asks}
 use Rattle.hv_policy.specs.declared.need.Kin.TheVariants as kin
-use Rattle.hv_policy.specs.declared.rule.Rule.TheVariants.{TargetState}
 use Rattle.hv_tree.specs.Rows.{Row, Rows}
 use Rattle.hv_tie.specs.Served.{IsAdmitted, unmet_further}
 use Rattle.hv_tie.specs.Tie.{IsTied, part_row}
@@ -58,13 +55,13 @@ module _ (rows : Rows PartitionState) (f : Flat) (flat : IsTied rows f) where
         (r, at, ap {A = PartRow} (λ row. row.parent) same ∙ parent)
 
     -- the target is in one of the life states that the call allows, where it asks
-    pub state_row : call_met TargetState f caller call ≡ true → (r : Row PartitionState) × (get rows (target_of call caller) ≡ Some r) × (is_among r.1.life (needs_of call).states ≡ true)
+    pub state_row : is_in f (target_of call caller) (needs_of call).states ≡ true → (r : Row PartitionState) × (get rows (target_of call caller) ≡ Some r) × (is_among r.1.life (needs_of call).states ≡ true)
     state_row h = row_of (target_of call caller) (λ row. is_among row.life (needs_of call).states) h
 
 -- a call that is admitted and meets its own rules is allowed
 pub admitted_allowed : (rows : Rows PartitionState) (caller : ℕ) (call : Call) (a : IsAdmitted rows caller call) → unmet_further a.rows.flat caller call ≡ None → IsAllowed a.rows.flat caller call
 admitted_allowed rows caller call a met = record {
   active = a.active;
-  access = a.access;
-  further = all_met (λ rule. call_met rule a.rows.flat caller call) (further_rules (kind_of_call call)) met;
+  target = a.target;
+  further = all_met (further_asks a.rows.flat caller call) met;
 }

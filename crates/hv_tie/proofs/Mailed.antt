@@ -4,7 +4,7 @@ use Rattle.std.proofs.lemmas.Bool.{eq-eqb}
 use Rattle.std.specs.FinMap.{get}
 use Rattle.std.specs.FinSet as set
 use Rattle.std.specs.List.{filter, list_any}
-use Rattle.std.specs.Option.{option_map}
+use Rattle.std.specs.Option.{option_map, option_map_or}
 use Rattle.hv_defs.specs.Registers.{after_write, kept, row_of, takes_messages}
 use Rattle.hv_defs.specs.Vectors.{highest, without}
 use Rattle.hv_defs.specs.declared.registers.TheConstants.{EOM}
@@ -15,9 +15,9 @@ use Rattle.hv_mail.specs.Slot.{slot_bytes}
 use Rattle.hv_mail.specs.declared.message.Message.{Message}
 use Rattle.hv_partition.specs.Partition.{PartitionState}
 use Rattle.hv_policy.proofs.Places.{cleared_apart, cleared_there, is_place_same, last_there, next_apart, next_rows, next_there, posted as list_posted, posted_apart, posted_there}
-use Rattle.hv_policy.specs.Aim.{on_vp, test_vp}
+use Rattle.hv_policy.specs.Aim.{on_vp}
 use Rattle.hv_policy.specs.Effect.{end_if, end_message, post, row_raised, row_signalled, show, show_each, with_vp, write_msr, write_register, written as row_written}
-use Rattle.hv_policy.specs.Flat.{Flat, MailRow}
+use Rattle.hv_policy.specs.Flat.{Flat, MailRow, VpRow}
 use Rattle.hv_policy.specs.Mail.{Place, cleared, has_next, is_shown, is_some_row, mail_at, row_bytes, shown_next, slot_at}
 use Rattle.hv_tree.specs.Rows.{Rows, change}
 use Rattle.hv_vp.specs.Vp.{VpState, ended, ended_if, flag_cleared, interrupted, posted, shown, shown_each, signalled, slot_cleared, written, written_msr}
@@ -113,7 +113,7 @@ module _ (rows : Rows PartitionState) (f : Flat) (flat : IsTied rows f) (id inde
 
   -- whether the processor takes messages
   takes_told : (v : VpState) → now ≡ Some v → on_vp f (id, index) (λ row. takes_messages row.registers) ≡ takes_messages v.registers
-  takes_told v is = ap (test_vp (λ row. takes_messages row.registers)) (vp_there rows f flat id index ∙ ap (option_map vp_row_of) is)
+  takes_told v is = ap (λ (vp : Option VpRow). option_map_or (λ row. takes_messages row.registers) vp false) (vp_there rows f flat id index ∙ ap (option_map vp_row_of) is)
 
 -- Show at each of the first so many SINTs
 pub shown_each_tied : (rows : Rows PartitionState) (f : Flat) → IsTied rows f → (id index n : ℕ) → IsTied (change rows id (with_state_of index (shown_each n))) (show_each id index n f)

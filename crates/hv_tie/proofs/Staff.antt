@@ -12,7 +12,7 @@ use Rattle.hv_partition.specs.Partition.{PartitionState}
 use Rattle.hv_policy.proofs.Pairs.{tied_pairs}
 use Rattle.hv_policy.proofs.Places.{is_place, is_vp}
 use Rattle.hv_policy.proofs.Rows.{get-with_vp}
-use Rattle.hv_policy.specs.Effect.{vp_changed_at, with_vp}
+use Rattle.hv_policy.specs.Effect.{changed_at as vp_changed_at, with_vp}
 use Rattle.hv_policy.specs.Flat.{Flat, MailRow, VpRow}
 use Rattle.hv_policy.specs.Mail.{Place, mail_at}
 use Rattle.hv_tree.specs.Rows.{Row, Rows, change, changed_at}

@@ -4,10 +4,9 @@ use Rattle.std.specs.declared.result.Result.{Result}
 use Rattle.std.specs.declared.result.Result.TheVariants.{Ok, Err}
 use Rattle.hv_partition.specs.Partition.{PartitionState}
 use Rattle.hv_policy.specs.Answer.{action_answer}
-use Rattle.hv_policy.specs.Asked.{action_rules}
 use Rattle.hv_policy.specs.Effect.{action_effect}
 use Rattle.hv_policy.specs.Flat.{Flat}
-use Rattle.hv_policy.specs.Step.{first_unmet}
+use Rattle.hv_policy.specs.Rules.{action_asks, first_unmet}
 use Rattle.hv_policy.specs.declared.event.Action.{Action}
 use Rattle.hv_policy.specs.declared.event.Caller.{Caller}
 use Rattle.hv_policy.specs.declared.reply.Reply.TheVariants.{Served}
@@ -17,7 +16,7 @@ use Rattle.hv_tree.specs.Rows.{Rows}
 
 -- it was served: its output bytes and the rows that it left are the policy's
 pub record IsAccessed {A : Type 0} (f : Flat) (by : Caller) (what : Action A) (bytes : List ℕ) (new : Rows PartitionState) : Type 0 where
-  pub met : first_unmet f (record { by = by; what = what }) (action_rules what) ≡ None
+  pub met : first_unmet (action_asks f by.part what) ≡ None
   pub reply : Served bytes ≡ action_answer f by what
   pub rows : IsTied new (action_effect f by what)
 
@@ -25,5 +24,4 @@ pub record IsAccessed {A : Type 0} (f : Flat) (by : Caller) (what : Action A) (b
 -- refused by its first unmet rule with the rows as they were. It never wants memory
 abbrev pub IsAccess : {A : Type 0} → Flat → Caller → Action A → Rows PartitionState → Result (List ℕ) Rule → Rows PartitionState → Type 0
 IsAccess f by what old (Ok bytes) new = IsAccessed f by what bytes new
-IsAccess f by what old (Err rule) new =
-    (first_unmet f (record { by = by; what = what }) (action_rules what) ≡ Some rule) × (new ≡ old)
+IsAccess f by what old (Err rule) new = (first_unmet (action_asks f by.part what) ≡ Some rule) × (new ≡ old)

@@ -7,14 +7,12 @@ use Rattle.hv_calls.specs.declared.call.Call.{Call}
 use Rattle.hv_defs.specs.declared.sizes.TheConstants.{MAX_PAGES}
 use Rattle.hv_laws.specs.Lawful.{IsLawful}
 use Rattle.hv_partition.specs.Partition.{PartitionState}
-use Rattle.hv_policy.specs.Allowed.{AreMet, is_running}
 use Rattle.hv_policy.specs.Answer.{output}
-use Rattle.hv_policy.specs.Asked.{access_rules}
-use Rattle.hv_policy.specs.Call.{target_of}
 use Rattle.hv_policy.specs.Effect.{call_effect}
 use Rattle.hv_policy.specs.Flat.{Flat}
-use Rattle.hv_policy.specs.Met.{unmet_of}
-use Rattle.hv_policy.specs.Needs.{further_rules, takes_memory}
+use Rattle.hv_policy.specs.Met.{is_running}
+use Rattle.hv_policy.specs.Needs.{takes_memory, target_of}
+use Rattle.hv_policy.specs.Rules.{AreMet, first_unmet, further_asks, target_asks}
 use Rattle.hv_policy.specs.declared.rule.Rule.{Rule}
 use Rattle.hv_tree.specs.Rows.{Rows}
 use Rattle.hv_tie.specs.Room.{IsSameButRoom}
@@ -34,11 +32,11 @@ pub record AreLawful (rows : Rows PartitionState) : Type 0 where
 pub record IsAdmitted (tree : Rows PartitionState) (caller : ℕ) (call : Call) : Type 0 where
   pub rows : AreLawful tree
   pub active : is_running rows.flat caller ≡ true
-  pub access : AreMet rows.flat caller call access_rules
+  pub target : AreMet (target_asks rows.flat caller call)
 
 -- the first of its own rules that a call doesn't meet
 abbrev pub unmet_further : Flat → ℕ → Call → Option Rule
-unmet_further f caller call = unmet_of f caller call (further_rules (kind_of_call call))
+unmet_further f caller call = first_unmet (further_asks f caller call)
 
 -- a call was served: its output bytes and the rows that it left are the policy's
 pub record IsServed (f : Flat) (caller : ℕ) (call : Call) (bytes : List ℕ) (new : Rows PartitionState) : Type 0 where

@@ -1,24 +1,21 @@
 // The rules of the caller, and those that ask whether it may make the call.
 ghost use Rattle.std.specs.Prelude.{◌≡◌};
-ghost use Rattle.hv_policy.specs.Asked.{access_rules, caller_rules};
-ghost use Rattle.hv_policy.specs.Call.{target_of};
 ghost use Rattle.hv_policy.specs.Flat.{Flat};
-ghost use Rattle.hv_policy.specs.Met.{unmet_of, is_kin as is_kin_of};
-ghost use Rattle.hv_policy.specs.Step.{first_unmet};
-ghost use Rattle.hv_policy.specs.declared.event.Action.{Action as What};
+ghost use Rattle.hv_policy.specs.Met.{is_kin as is_kin_of};
+ghost use Rattle.hv_policy.specs.Needs.{target_of};
+ghost use Rattle.hv_policy.specs.Rules.{caller_asks, first_unmet, target_asks};
 ghost use Rattle.hv_tie.specs.Tie.{IsTied};
 
+use crate::partitions::Partitions;
 use crate::rules::{is_child, meant};
 use hv_calls::Call;
 use hv_defs::Life;
-use hv_partition::Partition;
 use hv_policy::{Caller, Kin, Rule, needs};
-use hv_tree::IdTree;
 use std::alloc::Allocator;
 
 /// P1 to P3: the first of them that isn't met.
-pub fn unmet_by_caller<A: Allocator>(tree: &IdTree<Partition<A>, A>, by: Caller) -> Option<Rule>
-    ensures { (f : Flat) (what : What A) → IsTied tree.now f → result ≡ first_unmet f (record { by = by; what = what }) caller_rules }
+pub fn unmet_by_caller<A: Allocator>(tree: &Partitions<A>, by: Caller) -> Option<Rule>
+    ensures { (f : Flat) → IsTied tree.now f → result ≡ first_unmet (caller_asks f by) }
 {
     let Some(caller) = tree.get(by.part) else {
         return Some(Rule::CallerExists);
@@ -33,12 +30,12 @@ pub fn unmet_by_caller<A: Allocator>(tree: &IdTree<Partition<A>, A>, by: Caller)
 }
 
 /// P8 to P10: the first of them that isn't met.
-pub fn unmet_access<A: Allocator>(
-    tree: &IdTree<Partition<A>, A>,
+pub fn unmet_by_target<A: Allocator>(
+    tree: &Partitions<A>,
     by: Caller,
     call: &Call<'_>,
 ) -> Option<Rule>
-    ensures { (f : Flat) → IsTied tree.now f → result ≡ unmet_of f by.part call.now access_rules }
+    ensures { (f : Flat) → IsTied tree.now f → result ≡ first_unmet (target_asks f by.part call.now) }
 {
     let need = needs(call);
     let Some(caller) = tree.get(by.part) else {
@@ -58,7 +55,7 @@ pub fn unmet_access<A: Allocator>(
 }
 
 // Whether a call that allows this kin may name the partition.
-fn is_kin<A: Allocator>(tree: &IdTree<Partition<A>, A>, kin: Kin, caller: u64, id: u64) -> bool
+fn is_kin<A: Allocator>(tree: &Partitions<A>, kin: Kin, caller: u64, id: u64) -> bool
     ensures { (f : Flat) → IsTied tree.now f → result ≡ is_kin_of kin f caller id }
 {
     match kin {

@@ -8,10 +8,12 @@
 #![tactic(auto)]
 
 mod access;
+mod partitions;
 mod refused;
 mod rules;
 
-pub use access::{unmet_access, unmet_by_caller};
+pub use access::{unmet_by_caller, unmet_by_target};
+pub use partitions::Partitions;
 pub use refused::Refused;
 pub use rules::{
     Balance, has_available, has_vp, is_child, is_state_allowed, meant, memory_balance,

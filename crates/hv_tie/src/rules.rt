@@ -1,19 +1,17 @@
 // Rules that several chapters ask, and what they read of the tree for them.
-ghost use Rattle.std.specs.Prelude.{◌≡◌, ◌==◌, nat_le, if◌then◌else◌};
+ghost use Rattle.std.specs.Prelude.{◌≡◌, ◌==◌, if◌then◌else◌};
 ghost use Rattle.std.specs.FinMap.{contains_key};
 ghost use Rattle.std.specs.Int.{w64, to_le_bytes};
-ghost use Rattle.hv_policy.specs.Call.{meant_id};
 ghost use Rattle.hv_policy.specs.Count.{available as available_of, in_use as in_use_of};
 ghost use Rattle.hv_policy.specs.Flat.{Flat};
-ghost use Rattle.hv_policy.specs.Met.{is_child as is_child_of, on_part};
-ghost use Rattle.hv_policy.specs.Needs.{is_among};
+ghost use Rattle.hv_policy.specs.Met.{has_available as has_available_of, is_child as is_child_of, is_in};
+ghost use Rattle.hv_policy.specs.Needs.{meant_id};
 ghost use Rattle.hv_tie.specs.Served.{AreLawful};
 ghost use Rattle.hv_tie.specs.Tie.{IsTied};
 
+use crate::partitions::Partitions;
 use hv_defs::SELF_ID;
-use hv_partition::Partition;
 use hv_policy::{CallOutput, States};
-use hv_tree::IdTree;
 use std::alloc::Allocator;
 
 /// A partition's pages: those of its pool that it may still use, and those that it uses.
@@ -31,7 +29,7 @@ pub fn meant(caller: u64, id: u64) -> u64
 }
 
 /// Whether `id` is a child of `parent`.
-pub fn is_child<A: Allocator>(tree: &IdTree<Partition<A>, A>, parent: u64, id: u64) -> bool
+pub fn is_child<A: Allocator>(tree: &Partitions<A>, parent: u64, id: u64) -> bool
     ensures { (f : Flat) → IsTied tree.now f → result ≡ is_child_of f parent id }
 {
     match tree.parent_of(id) {
@@ -41,12 +39,8 @@ pub fn is_child<A: Allocator>(tree: &IdTree<Partition<A>, A>, parent: u64, id: u
 }
 
 /// P12: whether a partition is there, in one of these life states.
-pub fn is_state_allowed<A: Allocator>(
-    tree: &IdTree<Partition<A>, A>,
-    id: u64,
-    states: States,
-) -> bool
-    ensures { (f : Flat) → IsTied tree.now f → result ≡ on_part f id (λ row. is_among row.life states) }
+pub fn is_state_allowed<A: Allocator>(tree: &Partitions<A>, id: u64, states: States) -> bool
+    ensures { (f : Flat) → IsTied tree.now f → result ≡ is_in f id states }
 {
     match tree.get(id) {
         None => false,
@@ -55,7 +49,7 @@ pub fn is_state_allowed<A: Allocator>(
 }
 
 /// P19: whether a partition has a processor with this index.
-pub fn has_vp<A: Allocator>(tree: &IdTree<Partition<A>, A>, id: u64, index: u32) -> bool
+pub fn has_vp<A: Allocator>(tree: &Partitions<A>, id: u64, index: u32) -> bool
     ensures { (f : Flat) → IsTied tree.now f → result ≡ contains_key f.vp (id, index) }
 {
     let Some(partition) = tree.get(id) else {
@@ -65,15 +59,15 @@ pub fn has_vp<A: Allocator>(tree: &IdTree<Partition<A>, A>, id: u64, index: u32)
 }
 
 /// P24: whether a partition has so many available pages.
-pub fn has_available<A: Allocator>(tree: &IdTree<Partition<A>, A>, id: u64, charge: u64) -> bool
+pub fn has_available<A: Allocator>(tree: &Partitions<A>, id: u64, charge: u64) -> bool
     requires { AreLawful tree.now }
-    ensures { (f : Flat) → IsTied tree.now f → result ≡ nat_le charge (available_of f id) }
+    ensures { (f : Flat) → IsTied tree.now f → result ≡ has_available_of f id charge }
 {
     charge <= memory_balance(tree, id).available
 }
 
 /// A partition's balance of pages, 0 and 0 where there is none.
-pub fn memory_balance<A: Allocator>(tree: &IdTree<Partition<A>, A>, id: u64) -> Balance
+pub fn memory_balance<A: Allocator>(tree: &Partitions<A>, id: u64) -> Balance
     requires { AreLawful tree.now }
     ensures available { (f : Flat) → IsTied tree.now f → result.available ≡ available_of f id }
     ensures in_use { (f : Flat) → IsTied tree.now f → result.in_use ≡ in_use_of f id }

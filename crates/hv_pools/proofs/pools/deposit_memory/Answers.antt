@@ -2,7 +2,7 @@ use Rattle.std.proofs.Common.{◌≡◌, sym, rules}
 use Rattle.hv_calls.specs.declared.call.Call.TheVariants.{DepositMemory}
 use Rattle.hv_pools.proofs.Outcomes.{deposited, may_deposit}
 use Rattle.hv_pools.specs.Change.{IsDeposited}
-use Rattle.hv_policy.specs.Call.{target_of}
+use Rattle.hv_policy.specs.Needs.{target_of}
 use Rattle.hv_pools.proofs.pools.deposit_memory.Goals as goal
 
 pub deposit-requires : goal.deposit-requires

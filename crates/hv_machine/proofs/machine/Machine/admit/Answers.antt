@@ -3,7 +3,7 @@ use Rattle.hv_laws.proofs.Granted.{bounded_frame}
 use Rattle.hv_policy.proofs.Rows.{all_met}
 use Rattle.hv_policy.proofs.Unmet.{caller_active, unmet_by_caller, unmet_by_frame, unmet_by_access, unmet_past_access}
 use Rattle.hv_policy.specs.Asked.{access_rules}
-use Rattle.hv_policy.specs.CallEvent.{call_event}
+use Rattle.hv_policy.specs.Call.{call_event}
 use Rattle.hv_policy.specs.Met.{call_met}
 use Rattle.hv_policy.specs.declared.event.Action.TheVariants.{Hypercall}
 use Rattle.hv_machine.proofs.Serving.{tied_tree}

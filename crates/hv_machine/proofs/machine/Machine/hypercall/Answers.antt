@@ -8,7 +8,7 @@ use Rattle.hv_policy.specs.Step.{NamesAsked, refusal}
 use Rattle.hv_policy.specs.declared.event.Action.TheVariants.{Hypercall}
 use Rattle.hv_machine.proofs.Sound.{sound}
 use Rattle.hv_machine.proofs.Steps.{refused_step}
-use Rattle.hv_policy.specs.CallEvent.{call_event}
+use Rattle.hv_policy.specs.Call.{call_event}
 use Rattle.hv_machine.specs.IsFlat.{IsFlat}
 use Rattle.hv_machine.specs.Served.{IsResult}
 use Rattle.hv_machine.proofs.machine.Machine.hypercall.Goals as goal

@@ -10,7 +10,7 @@ pub dispatch-requires-clause-admitted : goal.dispatch-requires-clause-admitted
 dispatch-requires-clause-admitted g c =
     let l : IsLasting (state_of c.self.inside.tree c.self.inside.pages c.self.inside.next c.self.inside.served) = c.self.invariant in
     let access = c.requires.access l.flat (rw (← c.self.view_is) l.stands) in
-    (record { rows = lawful_tree c.self.inside.tree c.self.inside.pages c.self.inside.next c.self.inside.served l; active = access.active; access = access.access }, l.stands.next)
+    (record { rows = lawful_tree c.self.inside.tree c.self.inside.pages c.self.inside.next c.self.inside.served l; active = access.active; target = access.target }, l.stands.next)
 
 pub invariant_of-self : goal.invariant_of-self
 invariant_of-self g c =
