@@ -1,3 +1,5 @@
+pub mod Elements
 pub mod Outputs
+pub mod Rooms
 pub mod Rows
 pub mod Runs

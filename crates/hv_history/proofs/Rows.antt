@@ -1,21 +1,22 @@
 -- Rows of a history, once one comes.
-use Rattle.std.proofs.Common.{◌≡◌, ℕ, ◌+◌, ◌<◌, ◌≤◌, List, [], ◌∷◌, ◌++◌, Some, inl, inr, get_or, length, take, drop, refl, sym, ap, subst, ◌∙◌, arith}
-use Rattle.std.proofs.lemmas.List.{take-append-drop, take-append-le, drop-append-le, length-drop, length-take, map-append, get_or_append_left}
+use Rattle.std.proofs.Common.{◌≡◌, ℕ, ◌+◌, ◌-◌, ◌<◌, ◌≤◌, List, [], ◌∷◌, ◌++◌, Some, inl, inr, get_or, length, take, drop, refl, sym, ap, subst, ◌∙◌, arith}
+use Rattle.std.proofs.lemmas.List.{length-map, take-append-drop, take-append-le, drop-append-le, length-drop, length-take, map-append, get_or_append_left}
 use Rattle.std.proofs.lemmas.Bool.{le-leb, lt-leb, cases_lt}
 use Rattle.std.proofs.lemmas.List.Elements.{All-head, All-push, All-tail, All-weaker}
-use Rattle.std.proofs.lemmas.Option.{slice_get-get_or}
+use Rattle.std.proofs.lemmas.Option.{slice_get-get_or, slice_get-map}
 use Rattle.std.specs.Int.{w64, from_le_bytes}
 use Rattle.std.specs.List.{slice_get}
+use Rattle.std.specs.Prelude.{option_map}
 use Rattle.hv_defs.specs.Slot.{zeros}
 use Rattle.hv_policy.specs.Parts.{reply_of}
 use Rattle.hv_policy.specs.declared.event.Action.{Action}
 use Rattle.hv_policy.specs.declared.event.Event.{Event}
 use Rattle.hv_policy.specs.declared.reply.Reply.{Reply}
-use Rattle.hv_history.specs.Row.{ArePlaced, AreWithin, IsPlaced, IsThere, action_of, asked_in, bytes_at, entries_of, entry_from, entry_of, head_at, input_in, output_at}
-use Rattle.hv_history.specs.declared.entry.Asked.{Asked}
-use Rattle.hv_history.specs.declared.entry.Asked.TheVariants as asked
+use Rattle.hv_history.specs.Row.{ArePlaced, AreWithin, IsPlaced, IsThere, action_of, asked_in, bytes_at, entries_of, entry_from, entry_of, head_at, input_in, output_at, r8_in}
 use Rattle.hv_history.specs.declared.entry.Entry.{Entry}
 use Rattle.hv_history.specs.declared.row.Head.{Head}
+use Rattle.hv_history.specs.declared.row.Kind.{Kind}
+use Rattle.hv_history.specs.declared.row.Kind.TheVariants as kind
 use Rattle.hv_history.specs.declared.row.Row.{Row}
 
 -- what stands within the bytes isn't moved by more of them
@@ -129,19 +130,21 @@ module _ {A : Type 0} where
       ∙ same-more heads (drop head_len new_heads) inputs (drop in_len new_inputs) outputs (drop out_len new_outputs) rows all_within all_placed in
       map-append (entry_of new_heads new_inputs new_outputs) rows (row ∷ []) ∙ (λ i. same i ++ entry i ∷ [])
 
-  -- what was asked for has its own input
-  own_input : (asked : Asked) (input : List ℕ) → action_of {A = A} asked (input_in (action_of {A = A} asked input)) ≡ action_of asked input
-  own_input (asked.Hypercall rcx rdx r8) input = refl
-  own_input (asked.ReadMsr msr) input = refl
-  own_input (asked.WriteMsr msr value) input = refl
-  own_input (asked.ReadSlot sint) input = refl
-  own_input (asked.ClearSlot sint) input = refl
-  own_input (asked.ReadFlags sint) input = refl
-  own_input (asked.ClearFlag sint flag) input = refl
-  own_input asked.TakeInterrupt input = refl
+  -- what was asked for has its own R8 and input
+  own : (k : Kind) (first second r8 : ℕ) (input : List ℕ)
+      → action_of {A = A} (asked_in k first second (r8_in (action_of {A = A} (asked_in k first second r8) input))) (input_in (action_of {A = A} (asked_in k first second r8) input)) ≡ action_of (asked_in k first second r8) input
+  own kind.Hypercall first second r8 input = refl
+  own kind.ReadMsr first second r8 input = refl
+  own kind.WriteMsr first second r8 input = refl
+  own kind.ReadSlot first second r8 input = refl
+  own kind.ClearSlot first second r8 input = refl
+  own kind.ReadFlags first second r8 input = refl
+  own kind.ClearFlag first second r8 input = refl
+  own kind.TakeInterrupt first second r8 input = refl
 
-  pub asks : (asked : Asked) (input : List ℕ) (what : Action A) → action_of asked input ≡ what → action_of asked (input_in what) ≡ what
-  asks asked input what is = ap (λ (w : Action A). action_of {A = A} asked (input_in w)) (sym is) ∙ own_input asked input ∙ is
+  pub asks : (k : Kind) (first second r8 : ℕ) (input : List ℕ) (what : Action A) → action_of (asked_in k first second r8) input ≡ what → action_of (asked_in k first second (r8_in what)) (input_in what) ≡ what
+  asks k first second r8 input what is =
+      ap (λ (w : Action A). action_of {A = A} (asked_in k first second (r8_in w)) (input_in w)) (sym is) ∙ own k first second r8 input ∙ is
 
   -- rows with the same numbers, under heads with the same, stand for the same
   pub alike : (heads other_heads : List Head) (inputs other_inputs outputs other_outputs : List ℕ) (row that : Row)
@@ -156,3 +159,14 @@ module _ {A : Type 0} where
         event = record { by = by i; what = action_of (asked_in (kind i) (first i) (second i) (r8 i)) (input i) };
         reply = reply_of (answer i) (output i ++ zeros (zs i));
       }
+
+  -- the last row stands for the last entry, so that its event is known where that entry's is
+  pub last_is : (heads : List Head) (inputs outputs : List ℕ) (rows : List Row) (place : ℕ) (row : Row) (event : Event A) → place + 1 ≡ length rows → row ≡ get_or rows place row
+      → ((entry : Entry A) → slice_get (entries_of heads inputs outputs rows) (length (entries_of {A = A} heads inputs outputs rows) - 1) ≡ Some entry → entry.event ≡ event)
+      → (slice_get (entries_of heads inputs outputs rows) (length (entries_of {A = A} heads inputs outputs rows) - 1) ≡ Some (entry_of {A = A} heads inputs outputs row)) × ((entry_of {A = A} heads inputs outputs row).event ≡ event)
+  last_is heads inputs outputs rows place row event is row_is known =
+      let row_at = stands rows place row (omega arith) row_is in
+      let at : length (entries_of {A = A} heads inputs outputs rows) - 1 ≡ place = omega (arith, length-map rows (entry_of {A = A} heads inputs outputs)) in
+      let here : slice_get (entries_of {A = A} heads inputs outputs rows) place ≡ Some (entry_of heads inputs outputs row) = slice_get-map _ rows place ∙ ap (option_map _) row_at in
+      let found = ap (slice_get (entries_of {A = A} heads inputs outputs rows)) at ∙ here in
+      (found, known (entry_of heads inputs outputs row) found)

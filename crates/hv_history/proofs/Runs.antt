@@ -1,9 +1,10 @@
 -- A run that goes on by one event.
-use Rattle.std.proofs.Common.{◌≡◌, ℕ, ◌≤◌, ◌<◌, List, [], ◌∷◌, ◌++◌, length, true, false, IsTrue, refl, sym, subst, ap, ◌∙◌, arith, length-append}
+use Rattle.std.proofs.Common.{◌≡◌, ℕ, ◌≤◌, ◌<◌, List, [], ◌∷◌, ◌++◌, length, None, true, false, IsTrue, refl, sym, subst, ap, ◌∙◌, arith, length-append}
 use Rattle.std.proofs.lemmas.List.{length-map, map-append}
 use Rattle.hv_laws.proofs.Counted.{run_few}
 use Rattle.hv_laws.proofs.Replies.{goes_on}
 use Rattle.hv_policy.specs.Boot.{boot}
+use Rattle.hv_policy.specs.BootFault.{boot_fault}
 use Rattle.hv_policy.specs.Flat.{Flat}
 use Rattle.hv_policy.specs.Parts.{reply_of}
 use Rattle.hv_policy.specs.Step.{run, run_from, step}
@@ -18,6 +19,7 @@ use Rattle.hv_policy.specs.declared.reply.Reply.{Reply}
 use Rattle.hv_policy.specs.declared.reply.Reply.TheVariants.{Served, More, Denied, Fault}
 use Rattle.hv_defs.specs.declared.sizes.TheConstants.{REPS_END}
 use Rattle.hv_machine.specs.IsFlat.{IsFlat}
+use Rattle.hv_machine.specs.Sound.{IsSound}
 use Rattle.hv_machine.specs.State.{State}
 use Rattle.hv_history.specs.Row.{events_of, next_in, replies_of}
 use Rattle.hv_history.specs.Kept.{HasStepped, HasTaken, Kept, IsRun}
@@ -43,8 +45,9 @@ pub longer : {A : Type 0} (k : Kept A) (event : Event A) (reply : Reply) (m : St
     → IsRun k → length k.history < k.limit
     → ((f : Flat) → IsFlat k.machine f → reply ≡ (step f event).1)
     → ((f : Flat) → IsFlat k.machine f → IsFlat m (step f event).0)
+    → m.pages ≡ k.machine.pages → IsSound m
     → IsRun (record { config = k.config; limit = k.limit; history = k.history ++ record { event = event; reply = reply } ∷ []; machine = m })
-longer {A} k event reply m is room told made =
+longer {A} k event reply m is room told made pages sound =
     let entry : Entry A = record { event = event; reply = reply } in
     let events : events_of (k.history ++ entry ∷ []) ≡ events_of k.history ++ event ∷ [] = map-append (λ entry. entry.event) k.history (entry ∷ []) in
     let replies : replies_of (k.history ++ entry ∷ []) ≡ replies_of k.history ++ reply ∷ [] = map-append (λ entry. entry.reply) k.history (entry ∷ []) in
@@ -53,6 +56,9 @@ longer {A} k event reply m is room told made =
       machine = rw (events, pushed.0) (made _ is.machine);
       replies = rw (replies, events, pushed.1, is.replies) (ap (λ r. (run k.config (events_of k.history)).1 ++ r ∷ []) (told _ is.machine));
       within = omega (arith, length-append k.history (entry ∷ []));
+      boots = is.boots;
+      pages = pages ∙ is.pages;
+      sound = sound;
     }
 
 pub room : {A : Type 0} {k old : Kept A} → k ≡ old → IsRun k → (length old.history ≡ old.limit → IsTrue false) → length k.history < k.limit
@@ -62,8 +68,9 @@ room {A} {k} {old} same is not_full =
     omega arith
 
 -- nothing happened yet
-pub started : {A : Type 0} (config : Config) (limit : ℕ) (m : State) → IsFlat m (boot config) → IsRun {A = A} (record { config = config; limit = limit; history = []; machine = m })
-started config limit m flat = record { machine = flat; replies = refl; within = omega arith }
+pub started : {A : Type 0} (config : Config) (limit : ℕ) (m : State) → IsFlat m (boot config) → boot_fault config ≡ None → m.pages ≡ config.pages → IsSound m
+    → IsRun {A = A} (record { config = config; limit = limit; history = []; machine = m })
+started config limit m flat boots pages sound = record { machine = flat; replies = refl; within = omega arith; boots = boots; pages = pages; sound = sound }
 
 -- a call goes on with an element that has an index
 pub has_index : {A : Type 0} (what : Action A) (reply : Reply) → GoesOn what reply → next_in reply < REPS_END
@@ -100,7 +107,7 @@ module _ {A : Type 0} (k : Kept A) (event : Event A) (m : State) (history : List
 
   -- a run whose machine took an event is a run with that event more
   pub is_run : IsRun k → length k.history < k.limit → IsRun new_of
-  is_run is room = rw (took.pushed) (longer k event took.reply m is room took.told took.made)
+  is_run is room = rw (took.pushed) (longer k event took.reply m is room took.told took.made took.pages took.sound)
 
   pub has_taken : IsRun k → HasTaken event k new_of
   has_taken is = record {

@@ -1,8 +1,8 @@
 -- What a history stands for.
-use Rattle.std.specs.Prelude.{◌+◌, ◌-◌, ◌^◌, ◌≤◌, ◌<◌, List, length, vec_len, vec_capacity}
+use Rattle.std.specs.Prelude.{ℕ, ◌≡◌, ◌+◌, ◌-◌, ◌*◌, ◌^◌, ◌≤◌, ◌<◌, ◌⊎◌, Option, Some, List, length, vec_len, vec_capacity}
 use Rattle.hv_policy.specs.declared.event.Event.{Event}
 use Rattle.hv_history.specs.Output.{shown}
-use Rattle.hv_history.specs.Row.{entries_of, entry_from, input_in}
+use Rattle.hv_history.specs.Row.{Common, common_of, entries_of, entry_from, input_in, last_common, most_output}
 use Rattle.hv_history.specs.declared.entry.Entry.{Entry}
 use Rattle.hv_history.specs.declared.entry.EntryRef.{EntryRef}
 use Rattle.hv_history.specs.declared.row.History.{History}
@@ -15,10 +15,41 @@ entries h = entries_of h.heads.items h.inputs.items h.outputs.items h.rows.items
 abbrev pub entry_by : {A : Type 0} → EntryRef → Entry A
 entry_by e = entry_from e.by e.asked e.input.now e.answer (shown e.output)
 
--- there is room for this event, whatever its reply
-pub record HasRoom {A : Type 0} (h : History A) (event : Event A) : Type 0 where
-  pub row : vec_len h.rows < vec_capacity h.rows
+-- how many more rows, heads, places of a head, bytes that are put in and bytes that are put out there is room for, and what
+-- the last event has in common with those that would share its head
+pub record Room : Type 0 where
+  pub rows : ℕ
+  pub heads : ℕ
+  pub places : ℕ
+  pub inputs : ℕ
+  pub outputs : ℕ
+  pub last : Option Common
+
+abbrev pub room_of : {A : Type 0} → History A → Room
+room_of h = record {
+  rows = vec_capacity h.rows - vec_len h.rows;
+  heads = vec_capacity h.heads - vec_len h.heads;
+  places = 2 ^ 32 - 1 - vec_len h.heads;
+  inputs = vec_capacity h.inputs - vec_len h.inputs;
+  outputs = vec_capacity h.outputs - vec_len h.outputs;
+  last = last_common h.heads.items h.inputs.items;
+}
+
+-- there is room for a head with so many bytes of input
+pub record IsRoomForHead {A : Type 0} (h : History A) (bytes : ℕ) : Type 0 where
   pub few : vec_len h.heads < 2 ^ 32 - 1
   pub head : vec_len h.heads < vec_capacity h.heads
-  pub input : vec_len h.inputs + length (input_in event.what) ≤ vec_capacity h.inputs
-  pub output : vec_len h.outputs + 256 ≤ vec_capacity h.outputs
+  pub input : vec_len h.inputs + bytes ≤ vec_capacity h.inputs
+
+-- the same, by the room that there is
+pub record HasRoomForHead (room : Room) (bytes : ℕ) : Type 0 where
+  pub heads : 0 < room.heads
+  pub places : 0 < room.places
+  pub inputs : bytes ≤ room.inputs
+
+-- There is room for so many events of one call, this one and those that ask for other elements, whatever their replies: they
+-- share one head.
+pub record HasRoomFor {A : Type 0} (count : ℕ) (room : Room) (event : Event A) : Type 0 where
+  pub rows : count ≤ room.rows
+  pub outputs : count * most_output event.what ≤ room.outputs
+  pub head : 0 < count → (room.last ≡ Some (common_of event)) ⊎ HasRoomForHead room (length (input_in event.what))

@@ -1,6 +1,7 @@
 -- What is kept of a machine, and that it is a run.
-use Rattle.std.specs.Prelude.{ℕ, ◌≡◌, ◌≤◌, List, [], ◌∷◌, ◌++◌, length}
+use Rattle.std.specs.Prelude.{ℕ, ◌≡◌, ◌≤◌, List, [], ◌∷◌, ◌++◌, length, None}
 use Rattle.hv_abi.specs.declared.frame.Frame.{Frame}
+use Rattle.hv_policy.specs.BootFault.{boot_fault}
 use Rattle.hv_policy.specs.Flat.{Flat}
 use Rattle.hv_policy.specs.Next.{GoesOn}
 use Rattle.hv_policy.specs.Result.{HasResult}
@@ -10,6 +11,7 @@ use Rattle.hv_policy.specs.declared.event.Action.TheVariants.{Hypercall}
 use Rattle.hv_policy.specs.declared.event.Event.{Event}
 use Rattle.hv_policy.specs.declared.reply.Reply.{Reply}
 use Rattle.hv_machine.specs.IsFlat.{IsFlat}
+use Rattle.hv_machine.specs.Sound.{IsSound}
 use Rattle.hv_machine.specs.State.{State}
 use Rattle.hv_history.specs.Row.{events_of, replies_of}
 use Rattle.hv_history.specs.declared.entry.Entry.{Entry}
@@ -21,12 +23,17 @@ pub record Kept (A : Type 0) : Type 0 where
   pub history : List (Entry A)
   pub machine : State
 
--- the history is a run of the flat machine: the machine stands for the state in which the run of the events ends, each
--- reply is the run's, and there are no more of them than the limit
+-- The history is a run of the flat machine, from a configuration that boots: the machine stands for the state in which the run of
+-- the events ends, each reply is the run's, and there are no more of them than the limit. In the machine each page of the
+-- configuration stands in one page set of one partition and no other page in any, what a partition uses is within its pool, and
+-- it has no privilege that its parent lacks.
 pub record IsRun {A : Type 0} (k : Kept A) : Type 0 where
   pub machine : IsFlat k.machine (run k.config (events_of k.history)).0
   pub replies : replies_of k.history ≡ (run k.config (events_of k.history)).1
   pub within : length k.history ≤ k.limit
+  pub boots : boot_fault k.config ≡ None
+  pub pages : k.machine.pages ≡ k.config.pages
+  pub sound : IsSound k.machine
 
 -- an event more at the end, with its reply; what boot was given and the limit are the same
 pub record HasGained {A : Type 0} (event : Event A) (reply : Reply) (old new : Kept A) : Type 0 where
@@ -49,11 +56,13 @@ pub record Stands (m : State) : Type 0 where
   pub is : IsFlat m flat
 
 -- a machine took an event, and the history has it more, with its reply: of each flat state that the machine stood for, the
--- reply is the flat step's, and the machine now stands for that step's state
+-- reply is the flat step's, and the machine now stands for that step's state, is sound, and has as many pages
 pub record HasStepped {A : Type 0} (event : Event A) (old : State) (before : List (Entry A)) (new : State) (after : List (Entry A)) : Type 0 where
   pub reply : Reply
   pub told : (f : Flat) → IsFlat old f → reply ≡ (step f event).1
   pub made : (f : Flat) → IsFlat old f → IsFlat new (step f event).0
+  pub pages : new.pages ≡ old.pages
+  pub sound : IsSound new
   pub pushed : after ≡ before ++ record { event = event; reply = reply } ∷ []
   pub asked : NamesAsked event reply
   pub result : (frame : Frame A) → event.what ≡ Hypercall frame → HasResult reply

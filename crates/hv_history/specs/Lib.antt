@@ -2,3 +2,4 @@ pub mod History
 pub mod Kept
 pub mod Output
 pub mod Row
+pub mod Run

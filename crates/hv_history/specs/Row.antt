@@ -1,5 +1,5 @@
 -- What is kept of an event and of its reply, and what it stands for.
-use Rattle.std.specs.Prelude.{ℕ, ◌+◌, ◌%◌, ◌^◌, ◌≤◌, ◌<◌, List, [], ◌++◌, map, take, drop, slice_index_or, nat_le, if◌then◌else◌}
+use Rattle.std.specs.Prelude.{ℕ, ◌≡◌, ◌+◌, ◌-◌, ◌%◌, ◌^◌, ◌≤◌, ◌<◌, Option, None, Some, List, [], ◌∷◌, ◌++◌, length, map, take, drop, slice_index_or, nat_le, if◌then◌else◌}
 use Rattle.std.specs.Int.{w64, from_le_bytes}
 use Rattle.std.specs.List.{All}
 use Rattle.hv_defs.specs.Slot.{zeros}
@@ -19,7 +19,7 @@ use Rattle.hv_history.specs.declared.row.Head.{Head}
 use Rattle.hv_history.specs.declared.row.Kind.{Kind}
 use Rattle.hv_history.specs.declared.row.Kind.TheVariants as kind
 use Rattle.hv_history.specs.declared.row.Row.{Row}
-use Rattle.hv_history.specs.declared.row.TheConstants.{IN_ROW}
+use Rattle.hv_history.specs.declared.row.TheConstants.{IN_ROW, MOST_CALL_OUTPUT, MOST_OUTPUT}
 
 -- the bytes of the input list of a call; an access has none
 abbrev pub input_in : {A : Type 0} → Action A → List ℕ
@@ -31,6 +31,48 @@ input_in (action.ClearSlot sint) = []
 input_in (action.ReadFlags sint) = []
 input_in (action.ClearFlag sint flag) = []
 input_in action.TakeInterrupt = []
+
+-- R8 of a call; an access has none
+abbrev pub r8_in : {A : Type 0} → Action A → ℕ
+r8_in (action.Hypercall frame) = frame.r8
+r8_in (action.ReadMsr msr) = 0
+r8_in (action.WriteMsr msr value) = 0
+r8_in (action.ReadSlot sint) = 0
+r8_in (action.ClearSlot sint) = 0
+r8_in (action.ReadFlags sint) = 0
+r8_in (action.ClearFlag sint flag) = 0
+r8_in action.TakeInterrupt = 0
+
+-- the most bytes that an event puts out: an element of a call two numbers, an access a message slot
+abbrev pub most_output : {A : Type 0} → Action A → ℕ
+most_output (action.Hypercall frame) = MOST_CALL_OUTPUT
+most_output (action.ReadMsr msr) = MOST_OUTPUT
+most_output (action.WriteMsr msr value) = MOST_OUTPUT
+most_output (action.ReadSlot sint) = MOST_OUTPUT
+most_output (action.ClearSlot sint) = MOST_OUTPUT
+most_output (action.ReadFlags sint) = MOST_OUTPUT
+most_output (action.ClearFlag sint flag) = MOST_OUTPUT
+most_output action.TakeInterrupt = MOST_OUTPUT
+
+-- the same by a row's kind
+abbrev pub most_of : Kind → ℕ
+most_of kind.Hypercall = MOST_CALL_OUTPUT
+most_of kind.ReadMsr = MOST_OUTPUT
+most_of kind.WriteMsr = MOST_OUTPUT
+most_of kind.ReadSlot = MOST_OUTPUT
+most_of kind.ClearSlot = MOST_OUTPUT
+most_of kind.ReadFlags = MOST_OUTPUT
+most_of kind.ClearFlag = MOST_OUTPUT
+most_of kind.TakeInterrupt = MOST_OUTPUT
+
+-- what the elements of one call have in common: who asks, R8 and the input list
+pub record Common : Type 0 where
+  pub by : Caller
+  pub r8 : ℕ
+  pub input : List ℕ
+
+abbrev pub common_of : {A : Type 0} → Event A → Common
+common_of event = record { by = event.by; r8 = r8_in event.what; input = input_in event.what }
 
 -- what was asked for, with these bytes as the input list of a call
 abbrev pub action_of : {A : Type 0} → Asked → List ℕ → Action A
@@ -73,6 +115,22 @@ head_at heads at = slice_index_or heads at (record { by = record { part = 0; vp 
 abbrev pub bytes_at : List ℕ → ℕ → ℕ → List ℕ
 bytes_at bytes start len = take len (drop start bytes)
 
+-- what a head has of the events of its rows
+abbrev pub common_at : List ℕ → Head → Common
+common_at inputs head = record { by = head.by; r8 = head.r8; input = bytes_at inputs head.input_start head.input_len }
+
+-- what the last head has
+abbrev pub last_common : List Head → List ℕ → Option Common
+last_common [] inputs = None
+last_common (head ∷ heads) inputs = Some (common_at inputs (head_at (head ∷ heads) (length heads)))
+
+-- the last head has these
+pub record IsLast (heads : List Head) (inputs : List ℕ) (by : Caller) (r8 : ℕ) (input : List ℕ) : Type 0 where
+  pub some : 0 < length heads
+  pub by_is : (head_at heads (length heads - 1)).by ≡ by
+  pub r8_is : (head_at heads (length heads - 1)).r8 ≡ r8
+  pub input_is : bytes_at inputs (head_at heads (length heads - 1)).input_start (head_at heads (length heads - 1)).input_len ≡ input
+
 -- an output but for the zeros at its end, of which a row keeps so much: up to 8 bytes, or where more of them start
 abbrev pub output_at : List ℕ → List ℕ → ℕ → List ℕ
 output_at outputs kept len = if nat_le len IN_ROW then take len kept else bytes_at outputs (from_le_bytes w64 kept) len
@@ -104,11 +162,11 @@ abbrev pub IsThere : ℕ → List ℕ → ℕ → Type 0
 IsThere outputs kept len = IN_ROW < len → from_le_bytes w64 kept + len ≤ outputs
 
 -- the row's head is one of so many, its output but for the zeros at its end stands within so many bytes and with them is no longer
--- than an output may be, and where its call goes on, the next element has an index
+-- than an output of its kind may be, and where its call goes on, the next element has an index
 pub record IsPlaced (heads outputs : ℕ) (row : Row) : Type 0 where
   pub head : row.head < heads
   pub output : IsThere outputs row.output row.output_len
-  pub most : row.output_len + row.output_zeros ≤ 256
+  pub most : row.output_len + row.output_zeros ≤ most_of row.kind
   pub index : next_in (reply_of row.answer []) < REPS_END
 
 abbrev pub ArePlaced : ℕ → ℕ → List Row → Type 0

@@ -1,30 +1,48 @@
 // What happened.
-ghost use Rattle.std.specs.Prelude.{◌≡◌, ◌+◌, ◌^◌, ◌-◌, ◌<◌, ◌≤◌, ◌↔◌, ◌⊎◌, ◌++◌, [], ◌∷◌, IsTrue, length, take, drop, OnOk, Some, slice_get, vec_len, vec_capacity};
+ghost use Rattle.std.specs.Prelude.{◌≡◌, ◌+◌, ◌^◌, ◌-◌, ◌<◌, ◌≤◌, ◌↔◌, ◌⊎◌, ◌++◌, [], ◌∷◌, ℕ, IsTrue, length, take, drop, OnOk, Some, slice_get, vec_len, vec_capacity};
 ghost use Rattle.hv_defs.specs.declared.sizes.TheConstants.{REPS_END};
-ghost use Rattle.hv_history.specs.History.{HasRoom, entries, entry_by};
+ghost use Rattle.hv_history.specs.History.{HasRoomFor, IsRoomForHead, entries, entry_by, room_of};
 ghost use Rattle.hv_history.specs.Output.{shown};
-ghost use Rattle.hv_history.specs.Row.{IsThere, bytes_at, head_at, next_in, output_at};
+ghost use Rattle.hv_history.specs.Row.{IsLast, IsThere, bytes_at, head_at, most_output, next_in, output_at};
 ghost use Rattle.hv_history.specs.declared.row.TheConstants.{IN_ROW};
 ghost use Rattle.hv_history.specs.declared.entry.Entry.{Entry};
 ghost use Rattle.hv_policy.specs.Parts.{reply_of};
 
 use crate::entry::EntryRef;
 use crate::output::OutputRef;
-use crate::row::{Head, History, IN_ROW, Row, asked_of, input_in, numbers_of};
+use crate::row::{
+    Head, History, IN_ROW, Row, asked_of, input_in, most_outputs, numbers_of, outputs_in, r8_in,
+};
 use hv_machine::{Answer, Caller, Event};
 use std::alloc::{AllocError, Allocator};
-
-// The most bytes that an event puts out.
-const MOST_OUTPUT: usize = 256;
 
 // The most heads, whose places a u32 names.
 const MOST_HEADS: usize = u32::MAX as usize;
 
+/// The allocators of a history, one for each thing that it keeps.
+#[derive(Drop)]
+pub struct Allocators<A: Allocator> {
+    /// For a row of each event.
+    pub rows: A,
+    /// For what events share with the ones before them.
+    pub heads: A,
+    /// For the bytes that events put in.
+    pub inputs: A,
+    /// For the bytes that events put out.
+    pub outputs: A,
+}
+
 impl<A: Allocator> History<A> {
-    /// No events. The rows, their heads, the inputs and the outputs have an allocator each.
-    pub fn new(rows: A, heads: A, inputs: A, outputs: A) -> History<A>
+    /// No events.
+    pub fn new(allocators: Allocators<A>) -> History<A>
         ensures { entries result ≡ [] }
     {
+        let Allocators {
+            rows,
+            heads,
+            inputs,
+            outputs,
+        } = allocators;
         History {
             rows: Vec::new(rows),
             heads: Vec::new(heads),
@@ -138,25 +156,50 @@ impl<A: Allocator> History<A> {
         self.output_of(row) == other.output_of(that)
     }
 
-    /// Makes room for this event.
+    /// Makes room for so many events of a call: this one and those that ask for other elements. They share one head, so that the
+    /// input is counted once.
     #[inline(always)]
-    pub fn reserve(&mut self, event: &Event<A>) -> Result<(), AllocError>
+    pub fn reserve(&mut self, event: &Event<A>, count: u32) -> Result<(), AllocError>
         ensures same { entries self.new ≡ entries self.old }
-        ensures room { OnOk result (HasRoom self.new event.now) }
+        ensures room { OnOk result (HasRoomFor count (room_of self.new) event.now) }
     {
         if self.heads.len() >= MOST_HEADS {
             return Err(AllocError);
         }
-        self.rows.reserve(1)?;
+        self.rows.reserve(count as usize)?;
         self.heads.reserve(1)?;
         self.inputs.reserve(input_in(&event.what).len())?;
-        self.outputs.reserve(MOST_OUTPUT)
+        self.outputs.reserve(most_outputs(&event.what, count))
+    }
+
+    /// For how many events of a call there is room: this one and those that ask for other elements.
+    pub fn room(&self, event: &Event<A>) -> usize
+        ensures fits { HasRoomFor result (room_of self.now) event.now }
+        ensures most { (count : ℕ) → HasRoomFor count (room_of self.now) event.now → count ≤ result }
+    {
+        let input = input_in(&event.what);
+        if !self.is_last(event.by, r8_in(&event.what), input) && !self.has_room_for_head(input) {
+            return 0;
+        }
+        let rows = self.rows.capacity() - self.rows.len();
+        let outputs = outputs_in(&event.what, self.outputs.capacity() - self.outputs.len());
+        if rows < outputs { rows } else { outputs }
+    }
+
+    // Whether there is room for a head with this input.
+    fn has_room_for_head(&self, input: &[u8]) -> bool
+        ensures { IsTrue result ↔ IsRoomForHead self.now (length input.now) }
+    {
+        self.heads.len() < MOST_HEADS
+            && self.heads.len() < self.heads.capacity()
+            && input.len() <= self.inputs.capacity() - self.inputs.len()
     }
 
     // Adds an event with its reply, for which there is room. The reply comes as its answer and what it puts out.
     #[inline(always)]
     pub(crate) fn push(&mut self, event: &Event<A>, answer: Answer, output: OutputRef<'_>)
-        requires room { HasRoom self.old event.now }
+        requires room { HasRoomFor 1 (room_of self.old) event.now }
+        requires most { length (shown output) ≤ most_output event.now.what }
         requires index { next_in (reply_of answer []) < REPS_END }
         ensures { entries self.new ≡ entries self.old ++ record { event = event.now; reply = reply_of answer (shown output.entry) } ∷ [] }
     {
@@ -180,12 +223,14 @@ impl<A: Allocator> History<A> {
     pub fn push_last(&mut self, event: &Event<A>, other: &History<A>)
         requires some { 0 < length (entries other.now) }
         requires last { (entry : Entry A) → slice_get (entries other.now) (length (entries other.now) - 1) ≡ Some entry → entry.event ≡ event.now }
-        requires room { HasRoom self.old event.now }
-        ensures { (entry : Entry A) → slice_get (entries other.now) (length (entries other.now) - 1) ≡ Some entry → entries self.new ≡ entries self.old ++ entry ∷ [] }
+        requires room { HasRoomFor 1 (room_of self.old) event.now }
+        ensures pushed { (entry : Entry A) → slice_get (entries other.now) (length (entries other.now) - 1) ≡ Some entry → entries self.new ≡ entries self.old ++ entry ∷ [] }
+
+        // Where there was room for more events, there is for one less.
+        ensures room { (more : ℕ) → HasRoomFor (more + 1) (room_of self.old) event.now → HasRoomFor more (room_of self.new) event.now }
     {
         let row = &other.rows[other.rows.len() - 1];
-        let that = &other.heads[row.head as usize];
-        let head = self.place_head(event.by, that.r8, input_in(&event.what));
+        let head = self.place_head(event.by, r8_in(&event.what), input_in(&event.what));
         let output = self.place_output(other.output_of(row));
         self.rows.push_reserved(Row {
             output,
@@ -194,40 +239,45 @@ impl<A: Allocator> History<A> {
         });
     }
 
-    // The place of a head with this caller, R8 and input: the last one's, if they are the same, and else a new one's.
+    // The place of a head with this caller, R8 and input, which is then the last one: it is, or a new one becomes so.
     #[inline(always)]
     fn place_head(&mut self, by: Caller, r8: u64, input: &[u8]) -> u32
-        requires few { vec_len self.old.heads < 2 ^ 32 - 1 }
-        requires head { vec_len self.old.heads < vec_capacity self.old.heads }
-        requires input { vec_len self.old.inputs + length input.now ≤ vec_capacity self.old.inputs }
+        requires { IsLast self.old.heads.items self.old.inputs.items by r8 input.now ⊎ IsRoomForHead self.old (length input.now) }
         ensures rows { self.new.rows ≡ self.old.rows }
         ensures outputs { self.new.outputs ≡ self.old.outputs }
         ensures heads { take (vec_len self.old.heads) self.new.heads.items ≡ self.old.heads.items }
         ensures inputs { take (vec_len self.old.inputs) self.new.inputs.items ≡ self.old.inputs.items }
-        ensures within { result < vec_len self.new.heads }
+        ensures last { result + 1 ≡ vec_len self.new.heads }
         ensures by { (head_at self.new.heads.items result).by ≡ by }
         ensures r8 { (head_at self.new.heads.items result).r8 ≡ r8 }
         ensures input { let head = head_at self.new.heads.items result in bytes_at self.new.inputs.items head.input_start head.input_len ≡ input.now }
     {
-        if let Some(head) = self.heads.last() {
-            if head.by == by && head.r8 == r8 && self.has_input(head, input) {
-                return (self.heads.len() - 1) as u32;
-            }
+        if self.is_last(by, r8, input) {
+            return (self.heads.len() - 1) as u32;
         }
         self.new_head(by, r8, input)
+    }
+
+    // Whether the last head has these.
+    #[inline(always)]
+    fn is_last(&self, by: Caller, r8: u64, input: &[u8]) -> bool
+        ensures { IsTrue result ↔ IsLast self.now.heads.items self.now.inputs.items by r8 input.now }
+    {
+        match self.heads.last() {
+            Some(head) => head.by == by && head.r8 == r8 && self.has_input(head, input),
+            None => false,
+        }
     }
 
     // The place of a new head with these.
     #[inline(never)]
     fn new_head(&mut self, by: Caller, r8: u64, input: &[u8]) -> u32
-        requires few { vec_len self.old.heads < 2 ^ 32 - 1 }
-        requires head { vec_len self.old.heads < vec_capacity self.old.heads }
-        requires input { vec_len self.old.inputs + length input.now ≤ vec_capacity self.old.inputs }
+        requires { IsRoomForHead self.old (length input.now) }
         ensures rows { self.new.rows ≡ self.old.rows }
         ensures outputs { self.new.outputs ≡ self.old.outputs }
         ensures heads { take (vec_len self.old.heads) self.new.heads.items ≡ self.old.heads.items }
         ensures inputs { take (vec_len self.old.inputs) self.new.inputs.items ≡ self.old.inputs.items }
-        ensures within { result < vec_len self.new.heads }
+        ensures last { result + 1 ≡ vec_len self.new.heads }
         ensures by { (head_at self.new.heads.items result).by ≡ by }
         ensures r8 { (head_at self.new.heads.items result).r8 ≡ r8 }
         ensures input { let head = head_at self.new.heads.items result in bytes_at self.new.inputs.items head.input_start head.input_len ≡ input.now }
@@ -273,6 +323,8 @@ impl<A: Allocator> History<A> {
         ensures outputs { take (vec_len self.old.outputs) self.new.outputs.items ≡ self.old.outputs.items }
         ensures there { IsThere (vec_len self.new.outputs) result (length output.now) }
         ensures placed { output_at self.new.outputs.items result (length output.now) ≡ output.now }
+        ensures used { vec_len self.new.outputs ≤ vec_len self.old.outputs + length output.now }
+        ensures room { vec_capacity self.old.outputs ≤ vec_capacity self.new.outputs }
     {
         if output.len() <= IN_ROW {
             in_row(output)
@@ -291,6 +343,8 @@ impl<A: Allocator> History<A> {
         ensures outputs { take (vec_len self.old.outputs) self.new.outputs.items ≡ self.old.outputs.items }
         ensures within { result + length output.now ≤ vec_len self.new.outputs }
         ensures placed { bytes_at self.new.outputs.items result (length output.now) ≡ output.now }
+        ensures used { vec_len self.new.outputs ≤ vec_len self.old.outputs + length output.now }
+        ensures room { vec_capacity self.old.outputs ≤ vec_capacity self.new.outputs }
     {
         let end = self.outputs.len();
         if output.len() <= end {

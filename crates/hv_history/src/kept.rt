@@ -3,14 +3,16 @@ ghost use Rattle.std.specs.Prelude.{◌≡◌, ◌<◌, ◌↔◌, [], length, N
 ghost use Rattle.hv_abi.specs.declared.frame.Frame.{Frame};
 ghost use Rattle.hv_defs.specs.declared.sizes.TheConstants.{MAX_SERVED};
 ghost use Rattle.hv_policy.specs.BootFault.{boot_fault, IsBootRefusal};
-ghost use Rattle.hv_policy.specs.Call.{may_take_memory};
 ghost use Rattle.hv_policy.specs.Next.{GoesOn};
 ghost use Rattle.hv_policy.specs.Result.{HasResult};
 ghost use Rattle.hv_policy.specs.Step.{NamesAsked};
 ghost use Rattle.hv_policy.specs.declared.event.Action.TheVariants.{Hypercall};
-ghost use Rattle.hv_history.specs.History.{HasRoom, entries};
+ghost use Rattle.hv_history.specs.History.{HasRoomFor, entries, room_of};
 ghost use Rattle.hv_history.specs.Kept.{HasGained, HasStepped, HasTaken, IsRun, Stands};
+ghost use Rattle.hv_history.specs.Row.{most_output};
+ghost use Rattle.hv_history.specs.declared.row.TheConstants.{MOST_OUTPUT};
 
+use crate::history::Allocators;
 use crate::output::OutputRef;
 use crate::row::History;
 use hv_machine::{Action, BootRefused, Config, Event, Machine, Reply, check_config};
@@ -77,7 +79,12 @@ impl<A: Allocator + Clone> Kept<A> {
         Ok(Kept {
             config,
             limit,
-            history: History::new(rows, heads, inputs, alloc),
+            history: History::new(Allocators {
+                rows,
+                heads,
+                inputs,
+                outputs: alloc,
+            }),
             machine,
         })
     }
@@ -90,7 +97,7 @@ impl<A: Allocator + Clone> Kept<A> {
         ensures number { IfOk result (λ r. r.0 ≡ length self.new.history) }
         ensures run { IsRun self.new }
 
-        // A full history takes no event, before any rule. Else the host wants memory, and only for what may take it.
+        // A full history takes no event, before any rule. Else the host wants memory, for the machine or for the history.
         ensures full { IsErrOf result HostRefused.HistoryFull ↔ (length self.old.history ≡ self.old.limit) }
         ensures refused { OnErr result (self.new ≡ self.old) }
 
@@ -122,7 +129,7 @@ impl<A: Allocator + Clone> Kept<A> {
         if self.is_full() {
             return Err(HostRefused::HistoryFull);
         }
-        if self.history.reserve(event).is_err() {
+        if self.history.reserve(event, 1).is_err() {
             return Err(HostRefused::Memory);
         }
         let Ok(()) = step_into(&mut self.machine, &mut self.history, event) else {
@@ -142,7 +149,7 @@ fn step_into<A: Allocator + Clone>(
 ) -> Result<(), AllocError>
     requires stands { Stands machine.old }
     requires count { machine.old.served < MAX_SERVED }
-    requires room { HasRoom history.old event.now }
+    requires room { HasRoomFor 1 (room_of history.old) event.now }
     ensures stepped { OnOk result (HasStepped event.now machine.old (entries history.old) machine.new (entries history.new)) }
     ensures machine { OnErr result (machine.new ≡ machine.old) }
     ensures history { OnErr result (entries history.new ≡ entries history.old) }
@@ -173,9 +180,10 @@ fn access_into<A: Allocator + Clone>(
     history: &mut History<A>,
     event: &Event<A>,
 ) -> Result<(), AllocError>
+    requires access { most_output event.now.what ≡ MOST_OUTPUT }
     requires stands { Stands machine.old }
     requires count { machine.old.served < MAX_SERVED }
-    requires room { HasRoom history.old event.now }
+    requires room { HasRoomFor 1 (room_of history.old) event.now }
     ensures stepped { OnOk result (HasStepped event.now machine.old (entries history.old) machine.new (entries history.new)) }
     ensures machine { OnErr result (machine.new ≡ machine.old) }
     ensures history { OnErr result (entries history.new ≡ entries history.old) }
@@ -191,7 +199,7 @@ fn access_into<A: Allocator + Clone>(
 }
 
 impl<A: Allocator> Kept<A> {
-    /// What happened, in its order. It is a run of the policy with the replies of that run.
+    /// What happened, in its order. It is a run of the policy with the replies of that run, from a configuration that boots.
     pub fn history(&self) -> &History<A>
         ensures list { entries result.now ≡ self.now.history }
         ensures run { IsRun self.now }
@@ -199,7 +207,8 @@ impl<A: Allocator> Kept<A> {
         &self.history
     }
 
-    /// The machine that the history made.
+    /// The machine that the history made. Each page has one owner, what is in use is within its pool, and each mask within the
+    /// parent's.
     pub fn machine(&self) -> &Machine<A>
         ensures machine { result.now ≡ self.now.machine }
         ensures run { IsRun self.now }

@@ -10,9 +10,12 @@ mod history;
 mod kept;
 mod output;
 mod row;
+mod run;
 
 pub use entry::{Asked, Entry, EntryRef};
+pub use history::Allocators;
 pub use hv_machine::Answer;
 pub use kept::{HostRefused, Kept};
 pub use output::OutputRef;
 pub use row::History;
+pub use run::{RunDone, at_element};

@@ -1,6 +1,6 @@
 // What is kept of an event and of its reply.
-ghost use Rattle.std.specs.Prelude.{◌≡◌, vec_len};
-ghost use Rattle.hv_history.specs.Row.{ArePlaced, AreWithin, action_of, asked_in, input_in};
+ghost use Rattle.std.specs.Prelude.{◌≡◌, ◌*◌, ◌^◌, ◌-◌, ◌≤◌, ℕ, vec_len};
+ghost use Rattle.hv_history.specs.Row.{ArePlaced, AreWithin, action_of, asked_in, input_in, most_output, r8_in};
 
 use crate::entry::Asked;
 use hv_machine::{Action, Answer, Caller};
@@ -19,6 +19,12 @@ pub(crate) enum Kind {
     ClearFlag,
     TakeInterrupt,
 }
+
+// The most bytes that an event puts out, which are those of a message slot.
+pub(crate) const MOST_OUTPUT: usize = 256;
+
+// The most bytes that an element of a call puts out: two numbers of 8 bytes.
+pub(crate) const MOST_CALL_OUTPUT: usize = 16;
 
 // The most bytes of an output that stand in its row.
 pub(crate) const IN_ROW: usize = 8;
@@ -66,6 +72,7 @@ pub struct History<A: Allocator> {
     pub(crate) inputs: Vec<u8, A>,
     // The bytes that they put out, where their rows haven't room for them, one after the other.
     pub(crate) outputs: Vec<u8, A>,
+    ghost few: { vec_len heads ≤ 2 ^ 32 - 1 },
     ghost within: { AreWithin (vec_len inputs) heads.items },
     ghost placed: { ArePlaced (vec_len heads) (vec_len outputs) rows.items },
 }
@@ -95,7 +102,8 @@ impl Numbers {
 
 // What an event asks for, but for the bytes of its input.
 pub(crate) fn numbers_of<A: Allocator>(what: &Action<A>) -> Numbers
-    ensures { action_of (asked_in result.kind result.first result.second result.r8) (input_in what.now) ≡ what.now }
+    ensures what { action_of (asked_in result.kind result.first result.second result.r8) (input_in what.now) ≡ what.now }
+    ensures r8 { result.r8 ≡ r8_in what.now }
 {
     match what {
         Action::Hypercall(frame) => Numbers {
@@ -138,6 +146,57 @@ pub(crate) fn asked_of(row: &Row, r8: u64) -> Asked
             (row.second % (1 << 16)) as u16,
         ),
         Kind::TakeInterrupt => Asked::TakeInterrupt,
+    }
+}
+
+// R8 of a call. An access has none.
+#[inline(always)]
+pub(crate) fn r8_in<A: Allocator>(what: &Action<A>) -> u64
+    ensures { result ≡ r8_in what.now }
+{
+    match what {
+        Action::Hypercall(frame) => frame.r8,
+        Action::ReadMsr(_)
+        | Action::WriteMsr(_, _)
+        | Action::ReadSlot(_)
+        | Action::ClearSlot(_)
+        | Action::ReadFlags(_)
+        | Action::ClearFlag(_, _)
+        | Action::TakeInterrupt => 0,
+    }
+}
+
+// The most bytes that so many events put out, this one and those that ask for other elements of its call.
+#[inline(always)]
+pub(crate) fn most_outputs<A: Allocator>(what: &Action<A>, count: u32) -> usize
+    ensures { result ≡ count * most_output what.now }
+{
+    match what {
+        Action::Hypercall(_) => count as usize * MOST_CALL_OUTPUT,
+        Action::ReadMsr(_)
+        | Action::WriteMsr(_, _)
+        | Action::ReadSlot(_)
+        | Action::ClearSlot(_)
+        | Action::ReadFlags(_)
+        | Action::ClearFlag(_, _)
+        | Action::TakeInterrupt => count as usize * MOST_OUTPUT,
+    }
+}
+
+// How many such events' outputs fit so many bytes.
+pub(crate) fn outputs_in<A: Allocator>(what: &Action<A>, bytes: usize) -> usize
+    ensures fits { result * most_output what.now ≤ bytes }
+    ensures most { (count : ℕ) → count * most_output what.now ≤ bytes → count ≤ result }
+{
+    match what {
+        Action::Hypercall(_) => bytes / MOST_CALL_OUTPUT,
+        Action::ReadMsr(_)
+        | Action::WriteMsr(_, _)
+        | Action::ReadSlot(_)
+        | Action::ClearSlot(_)
+        | Action::ReadFlags(_)
+        | Action::ClearFlag(_, _)
+        | Action::TakeInterrupt => bytes / MOST_OUTPUT,
     }
 }
 

@@ -1,18 +1,41 @@
-use Rattle.std.proofs.Common.{◌≡◌, ◌<◌, ◌-◌, ◌++◌, [], ◌∷◌, ℕ, List, Some, length, ap, refl, subst, sym, ◌∙◌, arith}
+use Rattle.std.proofs.Common.{◌≡◌, ◌<◌, ◌+◌, ◌-◌, ◌++◌, [], ◌∷◌, ℕ, List, Some, inl, length, vec_capacity, ap, refl, subst, sym, ◌∙◌, arith}
 use Rattle.std.proofs.lemmas.List.{length-map}
-use Rattle.std.proofs.lemmas.Option.{get_or_from_slice_get, slice_get-map}
-use Rattle.std.specs.List.{slice_get}
-use Rattle.std.specs.Prelude.{option_map}
+use Rattle.std.proofs.Math.Nat.{suc-mul}
 use Rattle.std.specs.Vec.{vec_len}
 use Rattle.hv_defs.specs.Slot.{zeros}
 use Rattle.hv_policy.specs.Parts.{reply_of}
 use Rattle.hv_policy.specs.declared.event.Event.{Event}
-use Rattle.hv_history.proofs.Rows.{asks, grown, has_head, placed_more, pushed, stands}
+use Rattle.hv_history.proofs.Rooms.{for_head, has_last, same_most}
+use Rattle.hv_history.proofs.Rows.{asks, grown, last_is, placed_more, pushed}
 use Rattle.hv_history.specs.History.{entries}
-use Rattle.hv_history.specs.Row.{IsPlaced, IsThere, action_of, asked_in, bytes_at, entry_of, head_at, input_in, output_at}
+use Rattle.hv_history.specs.Row.{IsPlaced, IsThere, action_of, asked_in, bytes_at, entry_of, head_at, input_in, most_of, most_output, output_at, r8_in}
 use Rattle.hv_history.specs.declared.entry.Entry.{Entry}
-use Rattle.hv_history.specs.declared.row.Head.{Head}
 use Rattle.hv_history.proofs.row.History.push_last.Goals as goal
+
+pub place_head-head-requires : goal.place_head-head-requires
+place_head-head-requires g c = rw (c.r8_in.ensures, c.input_in.ensures) (for_head c.args.self.now c.args.event.now c.requires.room)
+
+pub place_output-output-requires : goal.place_output-output-requires
+place_output-output-requires g c =
+    let h = c.args.self.now in
+    let o = c.args.other.now in
+    let event = c.args.event.now in
+    let row = c.index-row.result.now in
+    let head = c.place_head-head.ensures in
+    let outputs = ap vec_len head.outputs in
+    let outputs_room = ap vec_capacity head.outputs in
+    let room = c.requires.room.outputs in
+    let some = c.requires.some in
+    let place : c.len.result - 1 + 1 ≡ length o.rows.items = omega (arith, length-map o.rows.items (entry_of {A = g.row.A.Denot} o.heads.items o.inputs.items o.outputs.items)) in
+    let last = last_is o.heads.items o.inputs.items o.outputs.items o.rows.items (c.len.result - 1) row event place c.index-row.ensures c.requires.last in
+    let less : c.len.result - 1 < length o.rows.items = omega arith in
+    let is = subst (IsPlaced (vec_len o.heads) (vec_len o.outputs)) (sym c.index-row.ensures) (o.placed (c.len.result - 1) row less) in
+    let most = is.most in
+    let same = same_most row.kind row.first row.second (head_at o.heads.items row.head).r8 (bytes_at o.inputs.items (head_at o.heads.items row.head).input_start (head_at o.heads.items row.head).input_len) event.what (ap (λ (e : Event g.row.A.Denot). e.what) last.1) in
+    let len = c.output_of.ensures.len in
+    let times = suc-mul 0 (most_output event.what) in
+    let ok = h.outputs.ok in
+    omega (arith, ok.1)
 
 pub invariant_of-self-clause-placed : goal.invariant_of-self-clause-placed
 invariant_of-self-clause-placed g c =
@@ -25,7 +48,7 @@ invariant_of-self-clause-placed g c =
     let len : vec_len c.place_output-output.new.self.heads ≡ vec_len c.place_head-head.new.self.heads = ap vec_len output.heads in
     let heads_more = grown _ _ h.heads.items c.place_head-head.new.self.heads.items h.heads.ok.0 c.place_head-head.new.self.heads.ok.0 head.heads in
     let outputs_more = grown _ _ h.outputs.items c.place_output-output.new.self.outputs.items h.outputs.ok.0 c.place_output-output.new.self.outputs.ok.0 outputs in
-    let within = head.within in
+    let last = head.last in
     let some = c.requires.some in
     let less : c.len.result - 1 < length o.rows.items = omega (arith, length-map o.rows.items (entry_of {A = g.row.A.Denot} o.heads.items o.inputs.items o.outputs.items)) in
     let is = subst (IsPlaced (vec_len o.heads) (vec_len o.outputs)) (sym c.index-row.ensures) (o.placed (c.len.result - 1) row less) in
@@ -37,30 +60,24 @@ invariant_of-self-clause-placed g c =
       index = is.index;
     }))
 
-pub returns : goal.returns
-returns g c = λ entry is.
+pub returns-clause-pushed : goal.returns-clause-pushed
+returns-clause-pushed g c = λ entry is.
     let h = c.args.self.now in
     let o = c.args.other.now in
     let event = c.args.event.now in
     let row = c.index-row.result.now in
-    let that = c.index-that.result.now in
     let head = c.place_head-head.ensures in
     let output = c.place_output-output.ensures in
     let outputs = rw head.outputs at output.outputs in
     let some = c.requires.some in
-    let less : c.len.result - 1 < length o.rows.items = omega (arith, length-map o.rows.items (entry_of {A = g.row.A.Denot} o.heads.items o.inputs.items o.outputs.items)) in
-    let row_at = stands o.rows.items (c.len.result - 1) row less c.index-row.ensures in
-    let head_less = has_head _ _ _ o.rows.items (c.len.result - 1) row o.placed less c.index-row.ensures o.heads.ok.0 in
-    let at_head : head_at o.heads.items row.head ≡ that = get_or_from_slice_get o.heads.items row.head that _ (stands o.heads.items row.head that head_less c.index-that.ensures) in
-    let place : length (entries {A = g.row.A.Denot} o) - 1 ≡ c.len.result - 1 = omega (arith, length-map o.rows.items (entry_of {A = g.row.A.Denot} o.heads.items o.inputs.items o.outputs.items)) in
-    let here : slice_get (entries {A = g.row.A.Denot} o) (c.len.result - 1) ≡ Some (entry_of o.heads.items o.inputs.items o.outputs.items row) = slice_get-map _ o.rows.items (c.len.result - 1) ∙ ap (option_map _) row_at in
-    let found : Some entry ≡ Some (entry_of {A = g.row.A.Denot} o.heads.items o.inputs.items o.outputs.items row) = sym is ∙ ap (slice_get (entries {A = g.row.A.Denot} o)) place ∙ here in
+    let place : c.len.result - 1 + 1 ≡ length o.rows.items = omega (arith, length-map o.rows.items (entry_of {A = g.row.A.Denot} o.heads.items o.inputs.items o.outputs.items)) in
+    let last = last_is o.heads.items o.inputs.items o.outputs.items o.rows.items (c.len.result - 1) row event place c.index-row.ensures c.requires.last in
+    let found : Some entry ≡ Some (entry_of {A = g.row.A.Denot} o.heads.items o.inputs.items o.outputs.items row) = sym is ∙ last.0 in
     let entry_is : entry ≡ entry_of o.heads.items o.inputs.items o.outputs.items row = cc in
     let event_is = c.requires.last entry is in
-    let what : action_of (asked_in row.kind row.first row.second (head_at o.heads.items row.head).r8) (bytes_at o.inputs.items (head_at o.heads.items row.head).input_start (head_at o.heads.items row.head).input_len) ≡ event.what =
-    ap (λ (e : Entry g.row.A.Denot). e.event.what) (sym entry_is) ∙ ap (λ (e : Event g.row.A.Denot). e.what) event_is in
+    let what = ap (λ (e : Event g.row.A.Denot). e.what) last.1 in
     let asked : action_of (asked_in row.kind row.first row.second (head_at c.place_head-head.new.self.heads.items c.place_head-head.result).r8) (input_in event.what) ≡ event.what =
-    ap (λ r8. action_of (asked_in row.kind row.first row.second r8) (input_in event.what)) (head.r8 ∙ sym (ap (λ (x : Head). x.r8) at_head)) ∙ asks _ _ event.what what in
+    ap (λ r8. action_of (asked_in row.kind row.first row.second r8) (input_in event.what)) (head.r8 ∙ c.r8_in.ensures) ∙ asks _ _ _ _ _ event.what what in
     let input = head.input ∙ c.input_in.ensures in
     let out : List ℕ = output_at o.outputs.items row.output row.output_len in
     let puts : output_at c.place_output-output.new.self.outputs.items c.place_output-output.result row.output_len ≡ out =
@@ -71,3 +88,39 @@ returns g c = λ entry is.
     (pushed _ _ _ h.heads.items _ h.inputs.items _ h.outputs.items _ _ _ event reply _ _ h.heads.ok.0 h.inputs.ok.0 h.outputs.ok.0
     head.heads head.inputs outputs h.within h.placed head.by input asked puts refl)
     ∙ ap (λ (e : Entry g.row.A.Denot). entries h ++ e ∷ []) made
+
+pub returns-clause-room : goal.returns-clause-room
+returns-clause-room g c = λ more room.
+    let h = c.args.self.now in
+    let o = c.args.other.now in
+    let event = c.args.event.now in
+    let row = c.index-row.result.now in
+    let head = c.place_head-head.ensures in
+    let output = c.place_output-output.ensures in
+    let rows = ap vec_len output.rows ∙ ap vec_len head.rows in
+    let rows_room = ap vec_capacity output.rows ∙ ap vec_capacity head.rows in
+    let outputs = ap vec_len head.outputs in
+    let outputs_room = ap vec_capacity head.outputs in
+    let pushed = c.push_reserved.ensures in
+    let p1 = pushed.len in
+    let p2 = pushed.capacity in
+    let o1 = output.used in
+    let o2 = output.room in
+    let r1 = room.rows in
+    let r2 = room.outputs in
+    let some = c.requires.some in
+    let place : c.len.result - 1 + 1 ≡ length o.rows.items = omega (arith, length-map o.rows.items (entry_of {A = g.row.A.Denot} o.heads.items o.inputs.items o.outputs.items)) in
+    let last = last_is o.heads.items o.inputs.items o.outputs.items o.rows.items (c.len.result - 1) row event place c.index-row.ensures c.requires.last in
+    let less : c.len.result - 1 < length o.rows.items = omega arith in
+    let is = subst (IsPlaced (vec_len o.heads) (vec_len o.outputs)) (sym c.index-row.ensures) (o.placed (c.len.result - 1) row less) in
+    let most = is.most in
+    let same = same_most row.kind row.first row.second (head_at o.heads.items row.head).r8 (bytes_at o.inputs.items (head_at o.heads.items row.head).input_start (head_at o.heads.items row.head).input_len) event.what (ap (λ (e : Event g.row.A.Denot). e.what) last.1) in
+    let len = c.output_of.ensures.len in
+    let times = suc-mul more (most_output event.what) in
+    record {
+      rows = omega arith;
+      outputs = omega arith;
+      head = λ _. inl (rw (output.heads, output.inputs)
+          (has_last c.place_head-head.new.self.heads.items c.place_head-head.new.self.inputs.items c.place_head-head.result event.by (r8_in event.what) (input_in event.what)
+          (head.last ∙ c.place_head-head.new.self.heads.ok.0) head.by (head.r8 ∙ c.r8_in.ensures) (head.input ∙ c.input_in.ensures)));
+    }

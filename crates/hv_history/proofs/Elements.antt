@@ -1,0 +1,97 @@
+-- A call that goes on by one element.
+use Rattle.std.proofs.Common.{◌≡◌, ℕ, ◌+◌, ◌<◌, ◌≢◌, List, [], ◌∷◌, ◌++◌, refl, sym, subst, ap, ◌∙◌, arith, append_assoc, append-nil, length-append}
+use Rattle.hv_abi.specs.declared.frame.Frame.{Frame}
+use Rattle.hv_defs.specs.declared.sizes.TheConstants.{REPS_END}
+use Rattle.hv_policy.specs.Next.{GoesOn}
+use Rattle.hv_policy.specs.Result.{HasResult}
+use Rattle.hv_policy.specs.Step.{NamesAsked}
+use Rattle.hv_policy.specs.declared.event.Action.TheVariants.{Hypercall}
+use Rattle.hv_policy.specs.declared.event.Caller.{Caller}
+use Rattle.hv_policy.specs.declared.event.Event.{Event}
+use Rattle.hv_policy.specs.declared.reply.Reply.{Reply}
+use Rattle.hv_policy.specs.declared.reply.Reply.TheVariants.{More}
+use Rattle.hv_history.specs.Kept.{HasGained, Kept}
+use Rattle.hv_history.specs.Run.{AreElements, GoesOnAt, HasRun, HasStopped, IsMore, element, restart, start_of}
+use Rattle.hv_history.specs.declared.entry.Entry.{Entry}
+
+module _ {A : Type 0} where
+  -- one element more
+  pub elements-push : (by : Caller) (frame : Frame A) (es : List (Entry A)) (now : Frame A) (reply : Reply) → AreElements by frame es now → GoesOnAt (start_of now + 1) reply
+      → AreElements by frame (es ++ record { event = element by now; reply = reply } ∷ []) (restart now (start_of now + 1))
+  elements-push by frame [] now reply is goes =
+      (ap (element by) is, subst (λ (f : Frame A). GoesOnAt (start_of f + 1) reply) is goes, ap (λ (f : Frame A). restart f (start_of f + 1)) is)
+  elements-push by frame (e ∷ es) now reply is goes =
+      (is.0, is.1, elements-push by (restart frame (start_of frame + 1)) es now reply is.2 goes)
+
+  -- a call goes on with the element after the one that was served
+  pub goes_after : (now : Frame A) (next : ℕ) (output : List ℕ) (reply : Reply) → reply ≡ More next output → GoesOn (Hypercall now) reply → (GoesOnAt (start_of now + 1) reply) × (next ≡ start_of now + 1) × (next < REPS_END)
+  goes_after now next output reply is goes =
+      let on = subst (GoesOn (Hypercall now)) is goes in
+      (subst (GoesOnAt (start_of now + 1)) (sym is) (on.0, (let less = on.1 in let same = on.0 in omega arith)), on.0, on.1)
+
+  -- the elements so far are all answered that the call goes on, and this event is the next
+  pub record IsRunning (by : Caller) (frame : Frame A) (event : Event A) (events most : ℕ) (old now : Kept A) : Type 0 where
+    pub so_far : HasStopped by frame events most old now
+    pub event_is : event ≡ element by so_far.now
+
+  pub begins : (by : Caller) (frame : Frame A) (most : ℕ) (k : Kept A) → 0 < most → IsRunning by frame (element by frame) 0 most k k
+  begins by frame most k some =
+      record {
+        so_far = record { before = []; now = frame; elements = refl; history = sym (append-nil k.history); config = refl; limit = refl; count = refl; within = some };
+        event_is = refl;
+      }
+
+  module _ (by : Caller) (frame : Frame A) (event : Event A) (events most : ℕ) (old now : Kept A) (is : IsRunning by frame event events most old now) where
+    -- the host refused it
+    pub stopped : (new : Kept A) → new ≡ now → HasStopped by frame events most old new
+    stopped new same = subst (HasStopped by frame events most old) (sym same) is.so_far
+
+    module _ (reply : Reply) (new : Kept A) (gained : HasGained event reply now new) where
+      abbrev entry : Entry A
+      entry = record { event = element by is.so_far.now; reply = reply }
+
+      history : new.history ≡ old.history ++ (is.so_far.before ++ entry ∷ [])
+      history =
+          gained.history ∙ ap (λ (e : Event A). now.history ++ record { event = e; reply = reply } ∷ []) is.event_is
+          ∙ ap (λ (es : List (Entry A)). es ++ entry ∷ []) is.so_far.history
+          ∙ append_assoc old.history is.so_far.before (entry ∷ [])
+
+      -- it was the last
+      pub ran : (count : ℕ) → count ≡ events + 1 → (count < most → IsMore reply → ⊥) → NamesAsked event reply → ((frame : Frame A) → event.what ≡ Hypercall frame → HasResult reply) → HasRun by frame reply count most old new
+      ran count counted ends asked result =
+          record {
+            before = is.so_far.before;
+            last = is.so_far.now;
+            elements = is.so_far.elements;
+            history = history;
+            config = gained.config ∙ is.so_far.config;
+            limit = gained.limit ∙ is.so_far.limit;
+            count = let c = is.so_far.count in omega arith;
+            within = let w = is.so_far.within in omega arith;
+            ends = ends;
+            asked = subst (λ (e : Event A). NamesAsked e reply) is.event_is asked;
+            result = result is.so_far.now (ap (λ (e : Event A). e.what) is.event_is);
+          }
+
+      -- the call goes on
+      pub runs_on : (next : ℕ) (output : List ℕ) (later : Event A) (count : ℕ) → count ≡ events + 1 → count ≢ most → reply ≡ More next output → GoesOn event.what reply
+          → ((f : Frame A) → event.what ≡ Hypercall f → later ≡ element event.by (restart f next)) → IsRunning by frame later count most old new
+      runs_on next output later count counted fewer more goes then =
+          let on : GoesOn (Hypercall is.so_far.now) reply = subst (λ (e : Event A). GoesOn e.what reply) is.event_is goes in
+          let at = goes_after is.so_far.now next output reply more on in
+          record {
+            so_far = record {
+              before = is.so_far.before ++ entry ∷ [];
+              now = restart is.so_far.now (start_of is.so_far.now + 1);
+              elements = elements-push by frame is.so_far.before is.so_far.now reply is.so_far.elements at.0;
+              history = history;
+              config = gained.config ∙ is.so_far.config;
+              limit = gained.limit ∙ is.so_far.limit;
+              count = let c = is.so_far.count in omega (arith, length-append is.so_far.before (entry ∷ []));
+              within = let w = is.so_far.within in omega (arith, fewer);
+            };
+            event_is =
+                then is.so_far.now (ap (λ (e : Event A). e.what) is.event_is)
+                ∙ ap (λ (c : Caller). element c (restart is.so_far.now next)) (ap (λ (e : Event A). e.by) is.event_is)
+                ∙ ap (λ (n : ℕ). element by (restart is.so_far.now n)) at.1;
+          }
