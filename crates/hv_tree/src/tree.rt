@@ -113,7 +113,8 @@ impl<T, A: Allocator> IdTree<T, A> {
         self.root.find(&self.index, parent).child_after(previous)
     }
 
-    /// Makes room for one more child of `parent`. The next insert there needs memory for the node alone.
+    /// Makes room for one more child of `parent`. The next insert there needs memory for the node and for its
+    /// place in the index alone.
     pub fn reserve_child(&mut self, parent: u64) -> Result<(), ReserveRefused>
         ensures rows { self.new ≡ self.old }
         ensures no_parent { (result ≡ Err ReserveRefused.NoParent)
