@@ -9,6 +9,7 @@ pub mod Laws
 pub mod Lending
 pub mod Mailing
 pub mod Owned
+pub mod Partitions
 pub mod Posting
 pub mod Readings
 pub mod Replies
