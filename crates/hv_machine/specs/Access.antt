@@ -1,10 +1,13 @@
 -- What is known of a call for which P1 to P10 are met, and accesses as events.
 use Rattle.std.specs.Prelude.{◌≡◌, ℕ, true}
 use Rattle.hv_calls.specs.declared.call.Call.{Call}
-use Rattle.hv_policy.specs.Met.{is_running}
-use Rattle.hv_policy.specs.Rules.{AreMet}
 use Rattle.hv_policy.specs.Call.{action_of}
 use Rattle.hv_policy.specs.Flat.{Flat}
+use Rattle.hv_policy.specs.Met.{is_running}
+use Rattle.hv_policy.specs.Rules.{AreMet, target_asks}
+use Rattle.hv_policy.specs.declared.event.Access.{Access}
+use Rattle.hv_policy.specs.declared.event.Caller.{Caller}
+use Rattle.hv_policy.specs.declared.event.Event.{Event}
 
 -- the caller is Active, and P8 to P10 are met for its call
 pub record HasAccess (f : Flat) (caller : ℕ) (call : Call) : Type 0 where

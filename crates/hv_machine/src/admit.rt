@@ -13,7 +13,7 @@ use crate::machine::Machine;
 use hv_abi::{Frame, Shape};
 use hv_calls::Call;
 use hv_policy::{Caller, Rule, ask_frame};
-use hv_tie::{unmet_by_target, unmet_by_caller};
+use hv_tie::{unmet_by_caller, unmet_by_target};
 use std::alloc::Allocator;
 
 impl<A: Allocator> Machine<A> {

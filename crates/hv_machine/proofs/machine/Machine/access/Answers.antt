@@ -1,8 +1,10 @@
 use Rattle.std.proofs.Common.{◌≡◌, ◌+◌, None, Some, sym, ap, subst, ◌∙◌}
 use Rattle.hv_laws.proofs.Replies.{names_asked}
+use Rattle.hv_policy.proofs.Unmet.{unmet_by_caller}
 use Rattle.hv_policy.specs.Step.{NamesAsked, step}
-use Rattle.hv_machine.proofs.Accessing.{accessed_flat, accessed_lasting, refused_access, served_access, unmet_caller, unmet_own}
+use Rattle.hv_machine.proofs.Accessing.{accessed_flat, accessed_lasting, refused_access, served_access, unmet_own}
 use Rattle.hv_machine.proofs.Serving.{state_of, tied_tree}
+use Rattle.hv_machine.specs.Access.{access_event}
 use Rattle.hv_machine.specs.IsFlat.{IsFlat}
 use Rattle.hv_machine.specs.Lasting.{IsLasting}
 use Rattle.hv_machine.proofs.machine.Machine.access.Goals as goal
@@ -10,29 +12,29 @@ use Rattle.hv_machine.proofs.machine.Machine.access.Goals as goal
 pub returns-in-Some-clause-reply : goal.returns-in-Some-clause-reply
 returns-in-Some-clause-reply g c f flat =
     let tied = tied_tree c.self.inside.tree c.self.inside.pages c.self.inside.next c.self.inside.served f (rw c.self.view_is flat) in
-    let unmet = unmet_caller f c.args.event.now c.in-Some.rule (sym (c.in-Some.ensures f c.args.event.now.what tied)) in
-    sym (ap (λ s. s.1) (refused_access f c.args.event.now c.requires.access c.in-Some.rule unmet))
+    let unmet = unmet_by_caller f (access_event {A = g.row.A.Denot} c.args.by c.args.access) c.in-Some.rule (sym (c.in-Some.ensures f tied)) in
+    sym (ap (λ s. s.1) (refused_access g.row.A.Denot f c.args.by c.args.access c.in-Some.rule unmet))
 
 pub returns-in-Some-clause-state : goal.returns-in-Some-clause-state
 returns-in-Some-clause-state g c f flat =
     let tied = tied_tree c.self.inside.tree c.self.inside.pages c.self.inside.next c.self.inside.served f (rw c.self.view_is flat) in
-    let unmet = unmet_caller f c.args.event.now c.in-Some.rule (sym (c.in-Some.ensures f c.args.event.now.what tied)) in
-    subst (IsFlat c.args.self.now) (sym (ap (λ s. s.0) (refused_access f c.args.event.now c.requires.access c.in-Some.rule unmet))) flat
+    let unmet = unmet_by_caller f (access_event {A = g.row.A.Denot} c.args.by c.args.access) c.in-Some.rule (sym (c.in-Some.ensures f tied)) in
+    subst (IsFlat c.args.self.now) (sym (ap (λ s. s.0) (refused_access g.row.A.Denot f c.args.by c.args.access c.in-Some.rule unmet))) flat
 
 pub returns-in-Some-clause-asked : goal.returns-in-Some-clause-asked
 returns-in-Some-clause-asked g c =
     let f = c.self.invariant.flat in
     let tied = tied_tree c.self.inside.tree c.self.inside.pages c.self.inside.next c.self.inside.served f c.self.invariant.stands in
-    let unmet = unmet_caller f c.args.event.now c.in-Some.rule (sym (c.in-Some.ensures f c.args.event.now.what tied)) in
-    subst (NamesAsked c.args.event.now) (ap (λ s. s.1) (refused_access f c.args.event.now c.requires.access c.in-Some.rule unmet)) (names_asked f c.args.event.now)
+    let unmet = unmet_by_caller f (access_event {A = g.row.A.Denot} c.args.by c.args.access) c.in-Some.rule (sym (c.in-Some.ensures f tied)) in
+    subst (NamesAsked (access_event {A = g.row.A.Denot} c.args.by c.args.access)) (ap (λ s. s.1) (refused_access g.row.A.Denot f c.args.by c.args.access c.in-Some.rule unmet)) (names_asked f (access_event {A = g.row.A.Denot} c.args.by c.args.access))
 
 pub invariant_of-self : goal.invariant_of-self
 invariant_of-self g c =
     let l : IsLasting (state_of c.self.inside.tree c.self.inside.pages c.self.inside.next c.self.inside.served) = c.self.invariant in
     let tied = tied_tree c.self.inside.tree c.self.inside.pages c.self.inside.next c.self.inside.served l.flat l.stands in
     let done = c.in-Ok.ensures l.flat tied in
-    let met = unmet_own l.flat c.args.event.now None (sym (c.in_default.ensures l.flat c.args.event.now.what tied)) done.met in
-    accessed_lasting c.self.inside.tree c.dispatch_access.new.tree c.self.inside.pages c.self.inside.next c.self.inside.served c.args.event.now c.requires.access l met done.rows
+    let met = unmet_own g.row.A.Denot l.flat c.args.by c.args.access None (sym (c.in_default.ensures l.flat tied)) done.met in
+    accessed_lasting g.row.A.Denot c.self.inside.tree c.dispatch_access.new.tree c.self.inside.pages c.self.inside.next c.self.inside.served c.args.by c.args.access l met done.rows
 
 pub invariant_of-self-in-Err : goal.invariant_of-self-in-Err
 invariant_of-self-in-Err g c =
@@ -44,17 +46,17 @@ pub returns-in-Ok-clause-reply : goal.returns-in-Ok-clause-reply
 returns-in-Ok-clause-reply g c f flat =
     let tied = tied_tree c.self.inside.tree c.self.inside.pages c.self.inside.next c.self.inside.served f (rw c.self.view_is flat) in
     let done = c.in-Ok.ensures f tied in
-    let met = unmet_own f c.args.event.now None (sym (c.in_default.ensures f c.args.event.now.what tied)) done.met in
-    done.reply ∙ sym (ap (λ s. s.1) (served_access f c.args.event.now met))
+    let met = unmet_own g.row.A.Denot f c.args.by c.args.access None (sym (c.in_default.ensures f tied)) done.met in
+    done.reply ∙ sym (ap (λ s. s.1) (served_access g.row.A.Denot f c.args.by c.args.access met))
 
 pub returns-in-Ok-clause-state : goal.returns-in-Ok-clause-state
 returns-in-Ok-clause-state g c f flat =
     let stands : IsFlat (state_of c.self.inside.tree c.self.inside.pages c.self.inside.next c.self.inside.served) f = rw c.self.view_is flat in
     let tied = tied_tree c.self.inside.tree c.self.inside.pages c.self.inside.next c.self.inside.served f stands in
     let done = c.in-Ok.ensures f tied in
-    let met = unmet_own f c.args.event.now None (sym (c.in_default.ensures f c.args.event.now.what tied)) done.met in
-    subst (IsFlat (state_of c.dispatch_access.new.tree c.self.inside.pages c.self.inside.next (c.self.inside.served + 1))) (sym (ap (λ s. s.0) (served_access f c.args.event.now met)))
-    (accessed_flat c.self.inside.tree c.dispatch_access.new.tree c.self.inside.pages c.self.inside.next c.self.inside.served c.args.event.now c.requires.access f stands done.rows)
+    let met = unmet_own g.row.A.Denot f c.args.by c.args.access None (sym (c.in_default.ensures f tied)) done.met in
+    subst (IsFlat (state_of c.dispatch_access.new.tree c.self.inside.pages c.self.inside.next (c.self.inside.served + 1))) (sym (ap (λ s. s.0) (served_access g.row.A.Denot f c.args.by c.args.access met)))
+    (accessed_flat g.row.A.Denot c.self.inside.tree c.dispatch_access.new.tree c.self.inside.pages c.self.inside.next c.self.inside.served c.args.by c.args.access f stands done.rows)
 
 pub returns-in-Ok-clause-lasting : goal.returns-in-Ok-clause-lasting
 returns-in-Ok-clause-lasting g c = invariant_of-self g c
@@ -62,25 +64,25 @@ returns-in-Ok-clause-lasting g c = invariant_of-self g c
 pub returns-in-Err-clause-reply : goal.returns-in-Err-clause-reply
 returns-in-Err-clause-reply g c f flat =
     let tied = tied_tree c.self.inside.tree c.self.inside.pages c.self.inside.next c.self.inside.served f (rw c.self.view_is flat) in
-    let unmet = unmet_own f c.args.event.now (Some c.in-Err.rule) (sym (c.in_default.ensures f c.args.event.now.what tied)) (c.in-Err.ensures f tied).0 in
-    sym (ap (λ s. s.1) (refused_access f c.args.event.now c.requires.access c.in-Err.rule unmet))
+    let unmet = unmet_own g.row.A.Denot f c.args.by c.args.access (Some c.in-Err.rule) (sym (c.in_default.ensures f tied)) (c.in-Err.ensures f tied).0 in
+    sym (ap (λ s. s.1) (refused_access g.row.A.Denot f c.args.by c.args.access c.in-Err.rule unmet))
 
 pub returns-in-Err-clause-state : goal.returns-in-Err-clause-state
 returns-in-Err-clause-state g c f flat =
     let tied = tied_tree c.self.inside.tree c.self.inside.pages c.self.inside.next c.self.inside.served f (rw c.self.view_is flat) in
     let kept = c.in-Err.ensures f tied in
-    let unmet = unmet_own f c.args.event.now (Some c.in-Err.rule) (sym (c.in_default.ensures f c.args.event.now.what tied)) kept.0 in
+    let unmet = unmet_own g.row.A.Denot f c.args.by c.args.access (Some c.in-Err.rule) (sym (c.in_default.ensures f tied)) kept.0 in
     let same : state_of c.dispatch_access.new.tree c.self.inside.pages c.self.inside.next c.self.inside.served ≡ c.args.self.now =
     ap (λ rows. state_of rows c.self.inside.pages c.self.inside.next c.self.inside.served) kept.1 ∙ c.self.view_is in
-    subst (λ m. IsFlat m (step f c.args.event.now).0) (sym same)
-    (subst (IsFlat c.args.self.now) (sym (ap (λ s. s.0) (refused_access f c.args.event.now c.requires.access c.in-Err.rule unmet))) flat)
+    subst (λ m. IsFlat m (step f (access_event {A = g.row.A.Denot} c.args.by c.args.access)).0) (sym same)
+    (subst (IsFlat c.args.self.now) (sym (ap (λ s. s.0) (refused_access g.row.A.Denot f c.args.by c.args.access c.in-Err.rule unmet))) flat)
 
 pub returns-in-Err-clause-asked : goal.returns-in-Err-clause-asked
 returns-in-Err-clause-asked g c =
     let f = c.self.invariant.flat in
     let tied = tied_tree c.self.inside.tree c.self.inside.pages c.self.inside.next c.self.inside.served f c.self.invariant.stands in
-    let unmet = unmet_own f c.args.event.now (Some c.in-Err.rule) (sym (c.in_default.ensures f c.args.event.now.what tied)) (c.in-Err.ensures f tied).0 in
-    subst (NamesAsked c.args.event.now) (ap (λ s. s.1) (refused_access f c.args.event.now c.requires.access c.in-Err.rule unmet)) (names_asked f c.args.event.now)
+    let unmet = unmet_own g.row.A.Denot f c.args.by c.args.access (Some c.in-Err.rule) (sym (c.in_default.ensures f tied)) (c.in-Err.ensures f tied).0 in
+    subst (NamesAsked (access_event {A = g.row.A.Denot} c.args.by c.args.access)) (ap (λ s. s.1) (refused_access g.row.A.Denot f c.args.by c.args.access c.in-Err.rule unmet)) (names_asked f (access_event {A = g.row.A.Denot} c.args.by c.args.access))
 
 pub returns-in-Err-clause-lasting : goal.returns-in-Err-clause-lasting
 returns-in-Err-clause-lasting g c = invariant_of-self-in-Err g c

@@ -1,18 +1,38 @@
-use Rattle.std.proofs.Common.{ap, subst, ◌∙◌}
-use Rattle.hv_policy.specs.Step.{step}
-use Rattle.hv_machine.specs.IsFlat.{IsFlat}
-use Rattle.hv_machine.proofs.Sound.{sound}
+use Rattle.std.proofs.Common.{sym, ap, subst, ◌∙◌}
+use Rattle.hv_policy.specs.Call.{call_event}
+use Rattle.hv_policy.specs.Step.{NamesAsked, step}
+use Rattle.hv_machine.proofs.Accessing.{access_event_is}
 use Rattle.hv_machine.proofs.Calls.{call_event_is}
+use Rattle.hv_machine.proofs.Sound.{sound}
+use Rattle.hv_machine.specs.IsFlat.{IsFlat}
 use Rattle.hv_machine.proofs.machine.Machine.step.Goals as goal
 
 pub returns-in-Ok-clause-reply : goal.returns-in-Ok-clause-reply
 returns-in-Ok-clause-reply g c f flat =
-    c.to_reply.ensures ∙ c.in-Ok.ensures.reply f flat ∙ ap (λ e. (step f e).1) (call_event_is c.args.event.now c.in-Hypercall.frame c.in-Hypercall.is)
+    c.access.ensures.reply f flat ∙ ap (λ e. (step f e).1) (access_event_is c.args.event.now c.in-Ok.access c.in-Ok.ensures.access)
 
 pub returns-in-Ok-clause-state : goal.returns-in-Ok-clause-state
 returns-in-Ok-clause-state g c f flat =
-    subst (λ e. IsFlat c.hypercall.new.self (step f e).0) (call_event_is c.args.event.now c.in-Hypercall.frame c.in-Hypercall.is)
-    (c.in-Ok.ensures.state f flat)
+    subst (λ e. IsFlat c.access.new.self (step f e).0) (access_event_is c.args.event.now c.in-Ok.access c.in-Ok.ensures.access)
+    (c.access.ensures.state f flat)
 
-pub returns-in-ReadMsr-clause-sound : goal.returns-in-ReadMsr-clause-sound
-returns-in-ReadMsr-clause-sound g c = sound c.access.new.self c.access.ensures.lasting
+pub returns-in-Ok-clause-asked : goal.returns-in-Ok-clause-asked
+returns-in-Ok-clause-asked g c =
+    subst (λ e. NamesAsked e c.access.result) (access_event_is c.args.event.now c.in-Ok.access c.in-Ok.ensures.access) c.access.ensures.asked
+
+pub returns-in-Ok-clause-sound : goal.returns-in-Ok-clause-sound
+returns-in-Ok-clause-sound g c = sound c.access.new.self c.access.ensures.lasting
+
+pub returns-in-Ok-hypercall-clause-reply : goal.returns-in-Ok-hypercall-clause-reply
+returns-in-Ok-hypercall-clause-reply g c f flat =
+    c.to_reply.ensures ∙ c.in-Ok-hypercall.ensures.reply f flat ∙ ap (λ e. (step f e).1) (call_event_is c.args.event.now c.in-Err.frame.now (sym c.in-Err.ensures.call))
+
+pub returns-in-Ok-hypercall-clause-state : goal.returns-in-Ok-hypercall-clause-state
+returns-in-Ok-hypercall-clause-state g c f flat =
+    subst (λ e. IsFlat c.hypercall.new.self (step f e).0) (call_event_is c.args.event.now c.in-Err.frame.now (sym c.in-Err.ensures.call))
+    (c.in-Ok-hypercall.ensures.state f flat)
+
+pub returns-in-Ok-hypercall-clause-asked : goal.returns-in-Ok-hypercall-clause-asked
+returns-in-Ok-hypercall-clause-asked g c =
+    subst (λ e. NamesAsked e c.to_reply.result) (call_event_is c.args.event.now c.in-Err.frame.now (sym c.in-Err.ensures.call))
+    (subst (NamesAsked (call_event c.args.event.now.by c.in-Err.frame.now)) (sym c.to_reply.ensures) c.in-Ok-hypercall.ensures.asked)
