@@ -92,7 +92,7 @@ fn make_root<A: Allocator + Clone>(alloc: &A, config: Config) -> Result<Partitio
     Ok(root)
 }
 
-// Gives the pages from one number up to another: from the highest down, in which order a set fills fastest.
+// Gives the pages from one number up to another, as one run.
 fn give<A: Allocator>(
     root: &mut Partition<A>,
     kind: PageKind,
@@ -101,16 +101,16 @@ fn give<A: Allocator>(
 ) -> Result<(), AllocError>
     requires order { from ≤ to }
     requires none { (pages_in kind root.old).pages ≡ set.empty }
-    ensures pages { OnOk result ((page : ℕ) → set.contains (pages_in kind root.new).pages page ≡ nat_le from page && nat_lt page to) }
+    ensures pages { OnOk result ((page : ℕ) → set.contains (pages_in kind root.new).pages page
+        ≡ nat_le from page && nat_lt page to) }
     ensures count { OnOk result (set.len (pages_in kind root.new).pages + from ≡ to) }
     ensures rest { root.new ≡ with_pages kind (pages_in kind root.new) root.old }
 {
-    root.reserve(kind, (to - from) as usize)?;
-    let mut next = to;
-    while next > from {
-        next -= 1;
-        root.put(kind, next);
+    if from == to {
+        return Ok(());
     }
+    root.reserve(kind, 1)?;
+    root.put_run(kind, from, u64::from(to - from));
     Ok(())
 }
 
@@ -121,7 +121,8 @@ fn give_vps<A: Allocator + Clone>(
     to: u32,
 ) -> Result<(), AllocError>
     requires { root.old.vps.vps ≡ map.empty }
-    ensures vps { OnOk result ((index : ℕ) → map.get root.new.vps.vps index ≡ cond (nat_lt index to) (Some (new_vp index)) None) }
+    ensures vps { OnOk result ((index : ℕ) → map.get root.new.vps.vps index
+        ≡ cond (nat_lt index to) (Some (new_vp index)) None) }
     ensures count { OnOk result (map.len root.new.vps.vps ≡ to) }
     ensures rest { root.new ≡ record root.old { vps = root.new.vps } }
 {

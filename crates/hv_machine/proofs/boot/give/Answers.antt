@@ -1,27 +1,56 @@
-use Rattle.std.proofs.Common.{◌-◌, ap, ◌∙◌, arith}
-use Rattle.hv_defs.proofs.Ranges.{no_range, range_lower}
+use Rattle.std.proofs.Common.{◌≡◌, ℕ, ◌+◌, ◌-◌, ◌≤◌, ◌<◌, ◌&&◌, ◌||◌, nat_le, nat_lt, false, refl, ap, ◌∙◌, arith}
+use Rattle.std.specs.Ordering.{nat_cmp}
+use Rattle.std.specs.FinSet as set
+use Rattle.std.specs.FinSet.{contains-empty, len-empty}
+use Rattle.hv_defs.proofs.Ranges.{no_range}
+use Rattle.hv_pages.specs.PageSet.{Pages}
 use Rattle.hv_partition.proofs.Written.{with_twice}
-use Rattle.hv_partition.specs.Partition.{pages_in, with_pages}
+use Rattle.hv_partition.specs.Partition.{PartitionState, pages_in, with_pages}
+use Rattle.hv_partition.specs.declared.kind.PageKind.{PageKind}
+use Rattle.hv_partition.specs.declared.kind.PageKind.TheVariants.{Loose, Pooled}
 use Rattle.hv_machine.proofs.boot.give.Goals as goal
 
-pub loop-next-init : goal.loop-next-init
-loop-next-init g c =
-    let reserved = c.in_ok-reserve.ensures in
-    record {
-      low = omega arith;
-      room = omega (arith, reserved.ok);
-      pages = no_range (pages_in c.args.kind c.reserve.new.self).pages c.args.to (reserved.pages ∙ c.requires.none);
-      rest = reserved.rest;
-    }
+-- a partition to which nothing is written
+with_same : (kind : PageKind) (p : PartitionState) → p ≡ with_pages kind (pages_in kind p) p
+with_same Loose p = refl
+with_same Pooled p = refl
 
-pub loop-next-preserved : goal.loop-next-preserved
-loop-next-preserved g c =
-    let before = c.loop-next.invariant in
-    let put = c.put.ensures in
+none_in : (pages : Pages) → pages ≡ set.empty → (page : ℕ) → set.contains pages page ≡ false
+none_in pages none page = ap (λ (s : Pages). set.contains s page) none ∙ contains-empty nat_cmp page
+
+pub returns-then-from-to-clause-pages : goal.returns-then-from-to-clause-pages
+returns-then-from-to-clause-pages g c =
+    λ page.
+    (no_range (pages_in c.args.kind c.args.root.now).pages c.args.from c.requires.none).members page
+    ∙ ap (λ e. nat_le c.args.from page && nat_lt page e) c.if-from-to.true
+
+pub returns-then-from-to-clause-count : goal.returns-then-from-to-clause-count
+returns-then-from-to-clause-count g c = (no_range (pages_in c.args.kind c.args.root.now).pages c.args.from c.requires.none).count ∙ c.if-from-to.true
+
+pub returns-then-from-to-clause-rest : goal.returns-then-from-to-clause-rest
+returns-then-from-to-clause-rest g c = with_same c.args.kind c.args.root.now
+
+pub put_run-requires-clause-new : goal.put_run-requires-clause-new
+put_run-requires-clause-new g c =
+    λ page low high. none_in (pages_in c.args.kind c.reserve.new.self).pages (c.in_ok-reserve.ensures.pages ∙ c.requires.none) page
+
+pub returns-clause-pages : goal.returns-clause-pages
+returns-clause-pages g c =
+    λ page.
+    let end : c.args.from + c.from.result ≡ c.args.to = omega (arith, c.requires.order) in
+    let absent = none_in (pages_in c.args.kind c.reserve.new.self).pages (c.in_ok-reserve.ensures.pages ∙ c.requires.none) page in
+    c.put_run.ensures.pages page
+    ∙ ap (λ b. b || (nat_le c.args.from page && nat_lt page (c.args.from + c.from.result))) absent
+    ∙ ap (λ e. nat_le c.args.from page && nat_lt page e) end
+
+pub returns-clause-count : goal.returns-clause-count
+returns-clause-count g c =
+    let none = ap set.len (c.in_ok-reserve.ensures.pages ∙ c.requires.none) ∙ len-empty nat_cmp in
+    omega (arith, none, c.put_run.ensures.count, c.requires.order)
+
+pub returns-clause-rest : goal.returns-clause-rest
+returns-clause-rest g c =
     let kind = c.args.kind in
-    record {
-      low = omega arith;
-      room = omega (arith, put.room);
-      pages = range_lower (pages_in kind c.loop-next.root).pages (pages_in kind c.put.new.self).pages (c.loop-next.next - 1) c.loop-next.next c.args.to (omega arith) before.pages put.pages;
-      rest = put.rest ∙ ap (with_pages kind (pages_in kind c.put.new.self)) before.rest ∙ with_twice kind (pages_in kind c.put.new.self) (pages_in kind c.loop-next.root) c.args.root.now;
-    }
+    c.put_run.ensures.rest
+    ∙ ap (with_pages kind (pages_in kind c.put_run.new.self)) c.in_ok-reserve.ensures.rest
+    ∙ with_twice kind (pages_in kind c.put_run.new.self) (pages_in kind c.reserve.new.self) c.args.root.now
