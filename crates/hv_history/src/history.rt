@@ -19,38 +19,21 @@ use std::alloc::{AllocError, Allocator};
 // The most heads, whose places a u32 names.
 const MOST_HEADS: usize = u32::MAX as usize;
 
-/// The allocators of a history, one for each thing that it keeps.
-#[derive(Drop)]
-pub struct Allocators<A: Allocator> {
-    /// For a row of each event.
-    pub rows: A,
-    /// For what events share with the ones before them.
-    pub heads: A,
-    /// For the bytes that events put in.
-    pub inputs: A,
-    /// For the bytes that events put out.
-    pub outputs: A,
+impl<A: Allocator + Copy> History<A> {
+    /// No events.
+    pub fn new(alloc: A) -> History<A>
+        ensures { entries result ≡ [] }
+    {
+        History {
+            rows: Vec::new(alloc),
+            heads: Vec::new(alloc),
+            inputs: Vec::new(alloc),
+            outputs: Vec::new(alloc),
+        }
+    }
 }
 
 impl<A: Allocator> History<A> {
-    /// No events.
-    pub fn new(allocators: Allocators<A>) -> History<A>
-        ensures { entries result ≡ [] }
-    {
-        let Allocators {
-            rows,
-            heads,
-            inputs,
-            outputs,
-        } = allocators;
-        History {
-            rows: Vec::new(rows),
-            heads: Vec::new(heads),
-            inputs: Vec::new(inputs),
-            outputs: Vec::new(outputs),
-        }
-    }
-
     /// How many events happened.
     pub fn len(&self) -> usize
         ensures { result ≡ length (entries self.now) }

@@ -12,10 +12,9 @@ ghost use Rattle.hv_history.specs.Kept.{HasGained, HasStepped, HasTaken, IsRun, 
 ghost use Rattle.hv_history.specs.Row.{most_output};
 ghost use Rattle.hv_history.specs.declared.row.TheConstants.{MOST_OUTPUT};
 
-use crate::history::Allocators;
 use crate::output::OutputRef;
 use crate::row::History;
-use hv_machine::{Action, BootRefused, Config, Event, Machine, Reply, check_config};
+use hv_machine::{Action, BootRefused, Config, Event, Machine, Reply};
 use std::alloc::{AllocError, Allocator};
 use std::marker::Model;
 
@@ -52,7 +51,7 @@ impl<A: Allocator> Model for Kept<A> {
     ghost invariant = { λ k. IsRun (record { config = k.config; limit = k.limit; history = entries k.history; machine = k.machine }) };
 }
 
-impl<A: Allocator + Clone> Kept<A> {
+impl<A: Allocator + Copy> Kept<A> {
     /// Boots a machine, to which nothing happened yet. It will take at most `limit` events.
     pub fn boot(alloc: A, config: Config, limit: u32) -> Result<Kept<A>, BootRefused>
         ensures refused { IfErr result (IsBootRefusal config) }
@@ -62,33 +61,17 @@ impl<A: Allocator + Clone> Kept<A> {
         ensures history { IfOk result (λ k. k.history ≡ []) }
         ensures run { IfOk result IsRun }
     {
-        check_config(config)?;
-        let Ok(own) = alloc.clone() else {
-            return Err(BootRefused::Memory);
-        };
-        let Ok(rows) = alloc.clone() else {
-            return Err(BootRefused::Memory);
-        };
-        let Ok(heads) = alloc.clone() else {
-            return Err(BootRefused::Memory);
-        };
-        let Ok(inputs) = alloc.clone() else {
-            return Err(BootRefused::Memory);
-        };
-        let machine = Machine::boot(own, config)?;
+        let machine = Machine::boot(alloc, config)?;
         Ok(Kept {
             config,
             limit,
-            history: History::new(Allocators {
-                rows,
-                heads,
-                inputs,
-                outputs: alloc,
-            }),
+            history: History::new(alloc),
             machine,
         })
     }
+}
 
+impl<A: Allocator + Clone> Kept<A> {
     /// Lets an event happen, and answers its number and its reply. Numbers count from 1, in the order in which events happen.
     pub fn apply(&mut self, event: &Event<A>) -> Result<(u64, Reply), HostRefused>
         // The history has the event with its reply more, and is a run still, so that the reply and the new state are those

@@ -13,7 +13,6 @@ mod row;
 mod run;
 
 pub use entry::{Asked, Entry, EntryRef};
-pub use history::Allocators;
 pub use hv_machine::Answer;
 pub use kept::{HostRefused, Kept};
 pub use output::OutputRef;

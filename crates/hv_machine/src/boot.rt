@@ -19,7 +19,7 @@ use hv_tree::IdTree;
 use hv_vp::Vp;
 use std::alloc::{AllocError, Allocator};
 
-impl<A: Allocator + Clone> Machine<A> {
+impl<A: Allocator + Copy> Machine<A> {
     /// Makes the root partition of the configuration, and nothing else.
     pub fn boot(alloc: A, config: Config) -> Result<Machine<A>, BootRefused>
         ensures refused { IfErr result (IsBootRefusal config) }
@@ -45,8 +45,8 @@ impl<A: Allocator + Clone> Machine<A> {
     }
 }
 
-/// Names the first fault of a configuration, if it has one.
-pub fn check_config(config: Config) -> Result<(), BootRefused>
+// Names the first fault of a configuration, if it has one.
+fn check_config(config: Config) -> Result<(), BootRefused>
     ensures ok { IfOk result (λ u. boot_fault config ≡ None) }
     ensures fault { IfErr result (λ e. boot_fault config ≡ Some e) }
 {
@@ -66,7 +66,7 @@ pub fn check_config(config: Config) -> Result<(), BootRefused>
 }
 
 // The tree of the root alone.
-fn make_tree<A: Allocator + Clone>(
+fn make_tree<A: Allocator + Copy>(
     alloc: &A,
     config: Config,
 ) -> Result<IdTree<Partition<A>, A>, AllocError>
@@ -74,7 +74,7 @@ fn make_tree<A: Allocator + Clone>(
     ensures { IfOk result (IsBootTree config) }
 {
     let root = make_root(alloc, config)?;
-    match IdTree::new(alloc.clone()?, ROOT_ID, root) {
+    match IdTree::new(*alloc, ROOT_ID, root) {
         Ok(tree) => Ok(tree),
         Err(_) => Err(AllocError),
     }

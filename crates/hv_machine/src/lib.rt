@@ -17,7 +17,6 @@ mod boot;
 mod dispatch;
 mod machine;
 
-pub use boot::check_config;
 pub use hv_policy::{
     Access, Action, Answer, BootRefused, CallReply, Caller, Config, Event, Output, Reply, Rule,
     result_of,
