@@ -43,32 +43,34 @@ fn event(alloc: Global, call: Call<'_>) -> Result<Event<Global>, Fail> {
     Ok(Event { by, what })
 }
 
+// What a reply says: the next element, or the rule that refuses and how many elements were done before.
+#[derive(Clone, Copy, PartialEq, Eq)]
+enum Told {
+    Served,
+    More(u16),
+    Denied(Rule, u16),
+    Fault,
+}
+
+fn said_by(reply: &Reply) -> Told {
+    match reply {
+        Reply::Served(_) => Told::Served,
+        Reply::More { next, .. } => Told::More(*next),
+        Reply::Denied { rule, reps, .. } => Told::Denied(*rule, *reps),
+        Reply::Fault { .. } => Told::Fault,
+    }
+}
+
 fn step(
     rt: &impl Abort,
     alloc: Global,
     machine: &mut Machine<Global>,
     call: Call<'_>,
-) -> Result<Reply, Fail> {
+) -> Result<Told, Fail> {
     assert!(rt; machine.served() < 20);
     let event = event(alloc, call)?;
-    Ok(machine.step(&event)?)
-}
-
-// What a reply says: the next element, or the rule that refuses and how many elements were done before.
-#[derive(Clone, Copy, PartialEq, Eq, Debug)]
-enum Told {
-    Served,
-    More(u16),
-    Denied(Rule, u16),
-}
-
-fn said_by(rt: &impl Abort, reply: &Reply) -> Told {
-    match reply {
-        Reply::Served(_) => Told::Served,
-        Reply::More { next, .. } => Told::More(*next),
-        Reply::Denied { rule, reps, .. } => Told::Denied(*rule, *reps),
-        Reply::Fault { .. } => panic!(rt; "a fault"),
-    }
+    let reply = machine.step(&event)?;
+    Ok(said_by(&reply))
 }
 
 // Makes the calls one after another, and compares what each is answered.
@@ -79,8 +81,8 @@ fn run(
     steps: &[(Call<'_>, Told)],
 ) -> Result<(), Fail> {
     for (call, wanted) in steps {
-        let reply = step(rt, alloc, machine, *call)?;
-        assert_eq!(rt; said_by(rt, &reply), *wanted, "{:#x}", call.rcx);
+        let told = step(rt, alloc, machine, *call)?;
+        assert!(rt; told == *wanted, "{:#x}", call.rcx);
     }
     Ok(())
 }
@@ -250,21 +252,6 @@ const MADE_AGAIN: [(Call<'static>, Told); 2] = [
     (PORT, Told::Served),
 ];
 
-// Makes the calls. Then port 5 of partition 2 was made at the one birth, and the port to which the root's connection 7 goes at the
-// other.
-fn run_to_births(
-    rt: &impl Abort,
-    alloc: Global,
-    machine: &mut Machine<Global>,
-    steps: &[(Call<'_>, Told)],
-    births: (u64, u64),
-) -> Result<(), Fail> {
-    run(rt, alloc, machine, steps)?;
-    assert!(rt; port_birth(machine) == births.0);
-    assert!(rt; connection_birth(machine) == births.1);
-    Ok(())
-}
-
 fn port_birth(machine: &Machine<Global>) -> u64 {
     match machine.tree().get(2) {
         Some(partition) => match partition.port(5) {
@@ -285,11 +272,27 @@ fn connection_birth(machine: &Machine<Global>) -> u64 {
     }
 }
 
-// A port's birth is the count of served events after its making, and a connection keeps that of the port that it was made to,
-// also where another port has the id by then.
+// The births of port 5 of partition 2, and of the port to which the root's connection 7 goes; then the next id.
+fn births(machine: &Machine<Global>) -> [u64; 3] {
+    [
+        port_birth(machine),
+        connection_birth(machine),
+        machine.next_id(),
+    ]
+}
+
+fn make_twice(rt: &impl Abort, alloc: Global, machine: &mut Machine<Global>) -> Result<(), Fail> {
+    run(rt, alloc, machine, &MADE)?;
+    let first = births(machine);
+    run(rt, alloc, machine, &MADE_AGAIN)?;
+    assert!(rt; first == [10, 10, 3] && births(machine) == [13, 10, 3]);
+    Ok(())
+}
+
+// A port's birth is the count of served events after its making, and a connection keeps that of the port that it was
+// made to, also where another port has the id by then.
 #[test]
 fn a_connection_keeps_the_birth_of_its_port(rt: HostRuntime) -> Result<(), Fail> {
     let mut machine = boot(rt.alloc())?;
-    run_to_births(&rt, rt.alloc(), &mut machine, &MADE, (10, 10))?;
-    run_to_births(&rt, rt.alloc(), &mut machine, &MADE_AGAIN, (13, 10))
+    make_twice(&rt, rt.alloc(), &mut machine)
 }
