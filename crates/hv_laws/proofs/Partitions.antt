@@ -11,11 +11,13 @@ use Rattle.hv_defs.specs.declared.registers.TheConstants.{EOM}
 use Rattle.hv_defs.specs.declared.sizes.TheConstants.{ROOT_ID, SINTS}
 use Rattle.hv_policy.specs.Aim.{Aim, aim_of, on_vp}
 use Rattle.hv_policy.specs.Boot.{boot, root_row}
-use Rattle.hv_policy.specs.Call.{called, target_of}
+use Rattle.hv_policy.specs.Call.{called}
 use Rattle.hv_policy.specs.Effect.{action_effect, call_effect, changed_at, end_if, given, mask_of, new_row, post_to, served_effect, show_each, signal_to, with_vp, write_msr, write_register, written}
 use Rattle.hv_policy.specs.Flat.{Flat, PartRow}
+use Rattle.hv_policy.specs.Needs.{target_of}
 use Rattle.hv_policy.specs.Property.{property_of}
-use Rattle.hv_policy.specs.Step.{run, run_from, step, step_by, unmet}
+use Rattle.hv_policy.specs.Rules.{unmet}
+use Rattle.hv_policy.specs.Step.{run, run_from, step, step_by}
 use Rattle.hv_policy.specs.declared.config.Config.{Config}
 use Rattle.hv_policy.specs.declared.event.Action.{Action}
 use Rattle.hv_policy.specs.declared.event.Action.TheVariants.{Hypercall, ReadMsr, WriteMsr, ReadSlot, ClearSlot, ReadFlags, ClearFlag, TakeInterrupt}
