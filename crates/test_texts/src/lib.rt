@@ -5,13 +5,7 @@
 #[cfg(test)]
 mod audit;
 #[cfg(test)]
-mod bytes;
-#[cfg(test)]
 mod cuts;
-#[cfg(test)]
-mod lines;
-#[cfg(test)]
-mod phases;
 #[cfg(test)]
 mod readers;
 #[cfg(test)]
