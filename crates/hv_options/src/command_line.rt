@@ -1,5 +1,5 @@
 // The command line, and what its words ask for.
-ghost use Rattle.std.specs.Prelude.{◌≡◌, [], Bool, List, ℕ, Some, true, false, map, IfOk, IfErr, OnOk};
+ghost use Rattle.std.specs.Prelude.{◌≡◌, [], Bool, List, ℕ, Some, true, false, codes, map, IfOk, IfErr, OnOk};
 ghost use Rattle.clap.specs.Words.{HasKind, Kinds, app_of, found_of, kind_of, rows_of, rule_of};
 ghost use Rattle.clap.specs.declared.builder.command.Command.TheViews.{out-Command as fields_of};
 ghost use Rattle.hv_options.specs.Options.{Explains, command_line, faults_of, flag_rule, is_given};
@@ -39,7 +39,7 @@ fn command<'a>(alloc: Global) -> Result<Command<'a>, AllocError>
     let run = run_command(alloc)?;
     Command::new(alloc, "hvpm")
         .version(VERSION)
-        .about("Runs a script of hypercalls on a model of Hyper-V's partition manager")
+        .about("Runs a script of hypercalls and accesses on a model of Hyper-V's partition manager")
         .subcommand_required(true)
         .subcommand(run)
 }
@@ -49,31 +49,43 @@ fn run_command<'a>(alloc: Global) -> Result<Command<'a>, AllocError>
     ensures shape { IfOk result (λ c. app_of c ≡ run_line) }
     ensures local { IfOk result (λ c. (fields_of c).has_globals ≡ false) }
 {
-    let serial = flag(
-        alloc,
-        "serial",
-        "Run the lines in the script's order, and start no thread",
-    );
-    let table = flag(
-        alloc,
-        "table",
-        "Print the table of partitions after the audit",
-    );
     Command::new(alloc, "run")
-        .about("Runs a script and prints its audit")
+        .about("Runs a script of calls, accesses and phases, and prints its audit")
         .arg(script_argument(alloc))?
-        .arg(serial)?
-        .arg(table)
+        .arg(serial_flag(alloc))?
+        .arg(table_flag(alloc))
 }
 
-// The script's path, which can't be left out.
+// The script, which can't be left out.
 fn script_argument<'a>(alloc: Global) -> Arg<'a>
     ensures rule { rule_of result ≡ script_rule }
     ensures local { result.global ≡ false }
 {
     Arg::new(alloc, "SCRIPT")
         .required(true)
-        .help("The script: a boot line, and a line for each hypercall")
+        .help("The script's file, or - for standard input")
+}
+
+fn serial_flag<'a>(alloc: Global) -> Arg<'a>
+    ensures rule { rule_of result ≡ flag_rule (codes "serial") }
+    ensures local { result.global ≡ false }
+{
+    flag(
+        alloc,
+        "serial",
+        "Run the lines in the script's order, and start no thread",
+    )
+}
+
+fn table_flag<'a>(alloc: Global) -> Arg<'a>
+    ensures rule { rule_of result ≡ flag_rule (codes "table") }
+    ensures local { result.global ≡ false }
+{
+    flag(
+        alloc,
+        "table",
+        "Print the table of partitions after the audit",
+    )
 }
 
 fn flag<'a>(alloc: Global, name: &'a str, help: &'a str) -> Arg<'a>
@@ -90,8 +102,8 @@ fn flag<'a>(alloc: Global, name: &'a str, help: &'a str) -> Arg<'a>
 fn read<'a>(alloc: Global, matches: &ArgMatches<'a>) -> Result<Options<'a>, Usage>
     ensures said { IfOk result (λ o. said_by_matches matches.now ≡ Some (o.script.now, o.serial, o.table)) }
     ensures refused { IfErr result (Explains []) }
-    ensures accepted { (script : List ℕ) (serial table : Bool) → said_by_matches matches.now
-        ≡ Some (script, serial, table)
+    ensures accepted { (script : List ℕ) (serial table : Bool)
+        → said_by_matches matches.now ≡ Some (script, serial, table)
         → IfErr result (λ usage. usage ≡ Usage.Memory) }
 {
     let Some((_, run)) = matches.subcommand() else {

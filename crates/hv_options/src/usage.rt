@@ -8,7 +8,7 @@ use thiserror::Error;
 /// What the words of the command line ask for.
 #[derive(Clone, Copy, Debug)]
 pub struct Options<'a> {
-    /// The path of the script.
+    /// The word that names the script: the path of its file, or `-` for standard input.
     pub script: &'a str,
     /// Whether the lines run in the script's order, with no thread.
     pub serial: bool,
@@ -42,8 +42,8 @@ impl From<AllocError> for Usage {
 }
 
 impl Usage {
-    /// A refusal of the program's own, with a text that ends its line. It is `Words`, or `Memory` where
-    /// there is none for the text.
+    /// A refusal of the program's own, with a text that ends its line. It is `Words`, or `Memory` where there
+    /// is none for the text.
     pub fn mistake(alloc: Global, text: &str) -> Usage
         ensures { Explains [] result }
     {
