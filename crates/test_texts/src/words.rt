@@ -11,12 +11,12 @@ fn shown(usage: &Usage) -> (bool, &str) {
     }
 }
 
-const HELP: &str = "Runs a script of hypercalls on a model of Hyper-V's partition manager
+const HELP: &str = "Runs a script of hypercalls and accesses on a model of Hyper-V's partition manager
 
 Usage: hvpm <COMMAND>
 
 Commands:
-  run   Runs a script and prints its audit
+  run   Runs a script of calls, accesses and phases, and prints its audit
   help  Print this message or the help of the given subcommand(s)
 
 Options:
@@ -26,12 +26,12 @@ Options:
 
 const VERSION: &str = "hvpm 0.1.0\n";
 
-const RUN_HELP: &str = "Runs a script and prints its audit
+const RUN_HELP: &str = "Runs a script of calls, accesses and phases, and prints its audit
 
 Usage: hvpm run [OPTIONS] <SCRIPT>
 
 Arguments:
-  <SCRIPT>  The script: a boot line, and a line for each hypercall
+  <SCRIPT>  The script's file, or - for standard input
 
 Options:
       --serial  Run the lines in the script's order, and start no thread
