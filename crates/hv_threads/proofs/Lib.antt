@@ -1,12 +1,2 @@
-pub mod Merging
-pub mod Merged
-pub mod Packed
-pub mod Passes
-pub mod Opened
-pub mod Driving
-pub mod Holding
 pub mod Phases
-pub mod Performing
-pub mod Crosses
-pub mod Callers
-pub mod Counting
+pub mod Working

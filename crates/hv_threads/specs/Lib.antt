@@ -1,14 +1,1 @@
-pub mod ByCaller
-pub mod Counted
-pub mod Drive
-pub mod Held
-pub mod HeldValue
-pub mod Merge
-pub mod Pass
-pub mod PassValue
-pub mod Receipts
 pub mod Phase
-pub mod Settle
-pub mod SharedValue
-pub mod Shared
-pub mod Told

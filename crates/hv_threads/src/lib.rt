@@ -1,24 +1,15 @@
-//! Threads that share one history, and the settlement of what each of them was told.
+//! Threads that share one history.
 //!
-//! A [`Shared`] is a lock round a machine with its history. Each thread has a [`Pass`]: its caller, a receipt of each event
-//! that it made happen, and its share of the count of all events. [`settle`] compares the history with all receipts, and is
-//! Ok exactly where the history is a merge of them (`IsMerge` in `specs/`). Threads, passes and gates are this project's own.
+//! [`run_phase`] lets each of many works go on in a thread of its own, on one [`Shared`]. What stands below the threads, the lock
+//! with what it holds, the passes and their settlement, is `hv_shared`'s, whose names are all here, so that a user names this
+//! crate alone.
 #![tactic(auto)]
 
-mod drive;
-mod fault;
-mod gate;
-mod held;
-mod laws;
 mod phase;
-mod receipts;
-mod shared;
 
-pub use drive::DriveRefused;
-pub use fault::{SettleFault, SettleRefused};
-pub use gate::{Gate, Open};
-pub use held::{Held, Pass, settle};
-pub use laws::{a_merge_counts_each_number_once, each_caller_did_what_its_pass_has};
-pub use phase::{Done, End, PhaseRefused, Task, Work, perform, run_phase, run_tasks};
-pub use receipts::{Receipt, ReceiptRef, Receipts};
-pub use shared::Shared;
+pub use hv_shared::{
+    DriveRefused, Gate, Held, Open, Pass, Receipt, ReceiptRef, Receipts, SettleFault,
+    SettleRefused, Shared, a_merge_counts_each_number_once, each_caller_did_what_its_pass_has,
+    perform, settle,
+};
+pub use phase::{Done, End, PhaseRefused, Task, Work, run_phase, run_tasks};

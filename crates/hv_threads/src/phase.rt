@@ -1,16 +1,11 @@
 // Many threads, each with a pass.
 ghost use Rattle.std.specs.Prelude.{◌≡◌, ◌<◌, ◌≤◌, ◌+◌, [], ℕ, List, IfOk, IfErr, OnOk, OnErr, length, vec_len, vec_capacity, slice_index_or, map, reverse};
-ghost use Rattle.hv_policy.specs.declared.event.Action.TheVariants.{Hypercall};
-ghost use Rattle.hv_threads.specs.Phase.{IsDoneAt, EachDone, HasPerformed, HasBegun, done_of};
+ghost use Rattle.hv_threads.specs.Phase.{IsDoneAt, EachDone, done_of};
 ghost use Rattle.hv_threads.specs.declared.phase.Task.{Task};
 
-use crate::drive::next_of;
-use crate::gate::Gate;
-use crate::held::Pass;
-use crate::shared::Shared;
-use hv_abi::Frame;
 use hv_history::HostRefused;
-use hv_policy::{Action, Event};
+use hv_policy::Action;
+use hv_shared::{Gate, Pass, Shared, perform};
 use std::alloc::Global;
 use std::sync::Wait;
 use std::sync::ledger::Ledger;
@@ -54,54 +49,6 @@ pub struct Task<L: Ledger> {
     /// How many actions came to their end.
     pub done: u64,
     pub end: End,
-}
-
-/// Lets one action come to its end: a hypercall element by element, anything else as one event.
-#[inline(always)]
-pub fn perform<L: Ledger, R: Wait, G: Gate>(
-    rt: &R,
-    shared: &Shared<L>,
-    gate: &G,
-    pass: &mut Pass<L>,
-    action: Action<Global>,
-) -> Result<(), HostRefused>
-    ensures performed { OnOk result (HasPerformed action pass.old pass.new) }
-    ensures refused { OnErr result (HasBegun action pass.old pass.new) }
-{
-    let by = pass.caller();
-    let event = Event { by, what: action };
-    let answer = shared.happen(rt, pass, gate, &event)?;
-    match event.what {
-        Action::Hypercall(frame) => match next_of(answer) {
-            Some(next) => go_on(rt, shared, gate, pass, frame.with_start(next)),
-            None => Ok(()),
-        },
-        Action::ReadMsr(_)
-        | Action::WriteMsr(_, _)
-        | Action::ReadSlot(_)
-        | Action::ClearSlot(_)
-        | Action::ReadFlags(_)
-        | Action::ClearFlag(_, _)
-        | Action::TakeInterrupt => Ok(()),
-    }
-}
-
-// Lets the other elements of a rep call come to their end.
-#[inline(never)]
-fn go_on<L: Ledger, R: Wait, G: Gate>(
-    rt: &R,
-    shared: &Shared<L>,
-    gate: &G,
-    pass: &mut Pass<L>,
-    frame: Frame<Global>,
-) -> Result<(), HostRefused>
-    ensures performed { OnOk result (HasPerformed (Hypercall frame) pass.old pass.new) }
-    ensures refused { OnErr result (HasBegun (Hypercall frame) pass.old pass.new) }
-{
-    match shared.finish(rt, pass, gate, frame) {
-        Ok(_) => Ok(()),
-        Err(refused) => Err(refused.why),
-    }
 }
 
 // Does the actions in order, up to the first that the host refuses.

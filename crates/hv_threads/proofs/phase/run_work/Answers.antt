@@ -1,4 +1,4 @@
-use Rattle.hv_threads.proofs.Performing.{goes_on}
+use Rattle.hv_threads.proofs.Working.{goes_on}
 use Rattle.hv_threads.proofs.phase.run_work.Goals as goal
 
 pub loop-action-preserved : goal.loop-action-preserved

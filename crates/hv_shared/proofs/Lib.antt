@@ -1,0 +1,13 @@
+pub mod Merging
+pub mod Merged
+pub mod Packed
+pub mod Passes
+pub mod Rooms
+pub mod Opened
+pub mod Elements
+pub mod Driving
+pub mod Holding
+pub mod Performing
+pub mod Crosses
+pub mod Callers
+pub mod Counting

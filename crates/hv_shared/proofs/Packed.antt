@@ -1,0 +1,100 @@
+-- What stands in packed receipts.
+use Rattle.std.proofs.Common.{◌≡◌, ℕ, suc, zero, Some, ◌<◌, ◌≤◌, ◌==◌, List, [], ◌∷◌, ◌++◌, length, drop, get_or, false, refl, sym, ap, subst, ◌∙◌, ◌+◌, arith}
+use Rattle.std.proofs.lemmas.List.{drop_all, length-append}
+use Rattle.std.proofs.lemmas.List.Elements.{All-push}
+use Rattle.std.proofs.lemmas.Option.{slice_get-get_or}
+use Rattle.std.specs.List.{slice_get}
+use Rattle.std.specs.Prelude.{option_map}
+use Rattle.std.specs.declared.alloc.Global.{Global}
+use Rattle.hv_history.specs.declared.entry.Entry.{Entry}
+use Rattle.hv_policy.specs.declared.event.Caller.{Caller}
+use Rattle.hv_policy.specs.declared.event.Event.{Event}
+use Rattle.hv_policy.specs.declared.reply.Reply.{Reply}
+use Rattle.hv_shared.specs.Merge.{IsOf, next_is}
+use Rattle.hv_shared.specs.Pass.{receipt}
+use Rattle.hv_shared.specs.PassValue.{IsPass}
+use Rattle.hv_shared.specs.Receipts.{receipt_of, receipts_from}
+use Rattle.hv_shared.specs.declared.receipts.Receipt.{Receipt}
+
+pub count : (ns : List ℕ) (es : List (Entry Global)) → length ns ≡ length es → length (receipts_from ns es) ≡ length ns
+count [] es same = refl
+count (n ∷ ns) [] same = cc
+count (n ∷ ns) (e ∷ es) same = ap suc (count ns es (omega (arith, same)))
+
+pub numbers : (ns : List ℕ) (es : List (Entry Global)) (k : ℕ) → length ns ≡ length es → option_map (λ r. r.number) (slice_get (receipts_from ns es) k) ≡ slice_get ns k
+numbers [] es k same = refl
+numbers (n ∷ ns) [] k same = cc
+numbers (n ∷ ns) (e ∷ es) zero same = refl
+numbers (n ∷ ns) (e ∷ es) (suc k) same = numbers ns es k (omega (arith, same))
+
+-- a receipt is its number and its entry
+pub place : (ns : List ℕ) (es : List (Entry Global)) (k n : ℕ) (e : Entry Global) → slice_get ns k ≡ Some n → slice_get es k ≡ Some e → slice_get (receipts_from ns es) k ≡ Some (receipt_of n e)
+place [] es k n e number entry = cc
+place (m ∷ ns) [] k n e number entry = cc
+place (m ∷ ns) (d ∷ es) zero n e number entry = grind arith
+place (m ∷ ns) (d ∷ es) (suc k) n e number entry = place ns es k n e number entry
+
+-- one receipt more
+pub more : (ns : List ℕ) (es : List (Entry Global)) (n : ℕ) (e : Entry Global) → length ns ≡ length es → receipts_from (ns ++ n ∷ []) (es ++ e ∷ []) ≡ receipts_from ns es ++ receipt_of n e ∷ []
+more [] [] n e same = refl
+more [] (d ∷ es) n e same = cc
+more (m ∷ ns) [] n e same = cc
+more (m ∷ ns) (d ∷ es) n e same = ap (λ (rs : List Receipt). receipt_of m d ∷ rs) (more ns es n e (omega (arith, same)))
+
+pub past_all : (rs : List Receipt) (k : ℕ) → length rs ≤ k → drop k rs ≡ []
+past_all rs k past = drop_all k rs past
+
+-- the number of the receipt that comes next is the one at its place
+pub next_number : (rs : List Receipt) (k m n : ℕ) → option_map (λ r. r.number) (slice_get rs k) ≡ Some m → next_is n (drop k rs) ≡ (m == n)
+next_number [] k m n is = cc
+next_number (r ∷ rs) zero m n is = grind arith
+next_number (r ∷ rs) (suc k) m n is = next_number rs k m n is
+
+pub no_number : (rs : List Receipt) (k n : ℕ) → length rs ≤ k → next_is n (drop k rs) ≡ false
+no_number rs k n past = ap (next_is n) (past_all rs k past)
+
+-- the receipt that comes next is of an entry where the one at its place is
+pub next_of : (rs : List Receipt) (k n : ℕ) (own e : Entry Global) → slice_get rs k ≡ Some (receipt_of n own) → (own ≡ e → IsOf e (drop k rs)) × (IsOf e (drop k rs) → own ≡ e)
+next_of [] k n own e is = cc
+next_of (r ∷ rs) zero n own e is =
+    let same : r ≡ receipt_of n own = grind arith in
+    rw same (λ h. (ap (λ (x : Entry Global). x.event) h, ap (λ (x : Entry Global). x.reply) h), λ h. λ i. record { event = h.0 i; reply = h.1 i })
+next_of (r ∷ rs) (suc k) n own e is = next_of rs k n own e is
+
+injective : (x y : Entry Global) → Some x ≡ Some y → x ≡ y
+injective x y same = cc
+
+-- and that one is of an entry where the packed entry beside its number is
+pub next_is_of : (ns : List ℕ) (es : List (Entry Global)) (k : ℕ) (e : Entry Global) → length ns ≡ length es → k < length es
+    → (slice_get es k ≡ Some e → IsOf e (drop k (receipts_from ns es))) × (IsOf e (drop k (receipts_from ns es)) → slice_get es k ≡ Some e)
+next_is_of ns es k e same less =
+    let own : slice_get es k ≡ Some (get_or es k e) = slice_get-get_or es k e less in
+    let number : slice_get ns k ≡ Some (get_or ns k 0) = slice_get-get_or ns k 0 (omega arith) in
+    let next = next_of (receipts_from ns es) k (get_or ns k 0) (get_or es k e) e (place ns es k (get_or ns k 0) (get_or es k e) number own) in
+    (λ is. next.0 (injective (get_or es k e) e (sym own ∙ is)), λ of. own ∙ ap Some (next.1 of))
+
+-- there is an entry at each place
+pub there_is : (es : List (Entry Global)) (k : ℕ) → k < length es → (e : Entry Global) × (slice_get es k ≡ Some e)
+there_is [] k less = absurd (omega arith)
+there_is (e ∷ es) zero less = (e, refl)
+there_is (e ∷ es) (suc k) less = there_is es k (omega arith)
+
+pub none_next : (rs : List Receipt) (k : ℕ) (e : Entry Global) → length rs ≤ k → IsOf e (drop k rs) → ⊥
+none_next rs k e past is = subst (IsOf e) (past_all rs k past) is
+
+pub all_past : (rs : List Receipt) (k : ℕ) → drop k rs ≡ [] → length rs ≤ k
+all_past [] k none = omega arith
+all_past (r ∷ rs) zero none = cc
+all_past (r ∷ rs) (suc k) none = let rest = all_past rs k none in omega (arith, rest)
+
+-- one receipt more, which is counted
+pub one_more : (by : Caller) (old mid new : List Receipt) (parts amount new_parts new_amount number : ℕ) (event : Event Global) (reply : Reply) → IsPass by old parts amount
+    → mid ≡ old → new ≡ mid ++ receipt number event reply ∷ [] → new_parts ≡ parts → new_amount ≡ amount + 1 → event.by ≡ by → IsPass by new new_parts new_amount
+one_more by old mid new parts amount new_parts new_amount number event reply is same pushed parts_is amount_is own =
+    let all : new ≡ old ++ receipt number event reply ∷ [] = pushed ∙ ap (λ (rs : List Receipt). rs ++ receipt number event reply ∷ []) same in
+    rw all
+    (record {
+      one = parts_is ∙ is.one;
+      counted = let counted = is.counted in omega (arith, length-append old (receipt number event reply ∷ []));
+      own = All-push (λ (r : Receipt). r.event.by ≡ by) old (receipt number event reply) is.own own;
+    })

@@ -1,0 +1,38 @@
+-- What the passes' rests are at one place, and after a change there.
+use Rattle.std.proofs.Common.{◌≡◌, ℕ, suc, zero, ◌+◌, ◌<◌, ◌≤◌, List, [], ◌∷◌, ◌++◌, length, drop, take, get_or, sym, ap, ◌∙◌, arith, Bool, false}
+use Rattle.std.proofs.Math.ListN.{set}
+use Rattle.std.proofs.lemmas.List.{length-map, map-set, map-append, get_or-map, get_or_past, take_more_set, drop-drop}
+use Rattle.hv_shared.specs.Merge.{rest_of, rests_of, receipts_of, next_is, IsNext, without}
+use Rattle.hv_shared.specs.PassValue.{PassValue}
+use Rattle.hv_shared.specs.declared.receipts.Receipt.{Receipt}
+
+pub rest_at : (ps : List PassValue) (i : ℕ) (p : PassValue) → i < length ps → p ≡ get_or ps i p → get_or (rests_of ps) i [] ≡ rest_of p
+rest_at ps i p h e = get_or-map rest_of ps i p [] h ∙ ap rest_of (sym e)
+
+pub rest_past : (ps : List PassValue) (i : ℕ) → length ps ≤ i → get_or (rests_of ps) i [] ≡ []
+rest_past ps i h = get_or_past (rests_of ps) i [] (let e = length-map ps rest_of in omega arith)
+
+-- a list that goes on with a number is there
+pub next_there : (n : ℕ) (lists : List (List Receipt)) (i : ℕ) → IsNext n lists i → i < length lists
+next_there n [] i h = cc
+next_there n (x ∷ xs) zero h = omega arith
+next_there n (x ∷ xs) (suc i) h = let r = next_there n xs i h in omega arith
+
+pub next_at : (n : ℕ) (ps : List PassValue) (i : ℕ) (p : PassValue) (b : Bool) → i < length ps → p ≡ get_or ps i p → b ≡ next_is n (rest_of p) → next_is n (get_or (rests_of ps) i []) ≡ b
+next_at n ps i p b h e is = ap (next_is n) (rest_at ps i p h e) ∙ sym is
+
+pub not_next : (n : ℕ) (ps : List PassValue) (i : ℕ) (p : PassValue) (b : Bool) → i < length ps → p ≡ get_or ps i p → b ≡ next_is n (rest_of p) → b ≡ false → IsNext n (rests_of ps) i → ⊥
+not_next n ps i p b h e is isnt next = let s = next_at n ps i p b h e is in cc
+
+-- one pass more stands at its beginning
+pub begun : (ps : List PassValue) (i : ℕ) (q : PassValue) → i < length ps → q.settled ≡ 0 → rests_of (take i ps) ≡ receipts_of (take i ps)
+    → rests_of (take (i + 1) (set ps i q)) ≡ receipts_of (take (i + 1) (set ps i q))
+begun ps i q h zero_settled so_far =
+    rw (take_more_set ps i q h, map-append rest_of (take i ps) (q ∷ []), map-append (λ (p : PassValue). p.receipts) (take i ps) (q ∷ []), so_far)
+    (ap (λ (r : List Receipt). receipts_of (take i ps) ++ r ∷ []) (ap (λ (n : ℕ). drop n q.receipts) zero_settled))
+
+-- the rests after one of the passes lost its first receipt
+pub rests_after : (ps : List PassValue) (i : ℕ) (p q : PassValue) → i < length ps → p ≡ get_or ps i p → q ≡ record (get_or ps i p) { settled = (get_or ps i p).settled + 1 }
+    → rests_of (set ps i q) ≡ without (rests_of ps) i
+rests_after ps i p q h at is =
+    map-set rest_of ps i q ∙ ap (set (rests_of ps) i) (ap rest_of is ∙ sym (drop-drop 1 (get_or ps i p).settled (get_or ps i p).receipts) ∙ ap (drop 1) (ap rest_of (sym at) ∙ sym (rest_at ps i p h at)))

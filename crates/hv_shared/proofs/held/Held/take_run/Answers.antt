@@ -1,0 +1,30 @@
+use Rattle.std.proofs.Common.{rules, ◌≡◌, ◌≢◌, ◌-◌}
+use Rattle.hv_shared.proofs.Elements.{begins, ended, goes_on, what_is}
+use Rattle.hv_shared.proofs.held.Held.take_run.Goals as goal
+
+pub loop-answer-init : goal.loop-answer-init
+loop-answer-init g c = begins c.args.frame c.caller-by.result c.args.most c.args.self.now c.args.pass.now c.caller-by.ensures c.requires.some c.requires.room
+
+pub returns-in_default-clause-held : goal.returns-in_default-clause-held
+returns-in_default-clause-held g c =
+    let l = c.loop-answer in
+    let did = c.in-Ok.ensures.held in
+    let what = what_is c.args.frame l.event l.left c.args.most c.args.self.now l.self c.args.pass.now l.pass l.invariant in
+    ended c.args.frame l.event l.left c.args.most c.args.self.now l.self c.args.pass.now l.pass l.invariant c.in-Ok.answer c.take.new.self c.take.new.pass did c.in-Ok.ensures.count
+    c.frame_of-in_default.result (c.frame_of-in_default.ensures l.invariant.at what) (λ fewer. c.in_default.ensures.none did.output)
+
+pub returns-then-left-eq0-clause-held : goal.returns-then-left-eq0-clause-held
+returns-then-left-eq0-clause-held g c =
+    let l = c.loop-answer in
+    let did = c.in-Ok.ensures.held in
+    let what = what_is c.args.frame l.event l.left c.args.most c.args.self.now l.self c.args.pass.now l.pass l.invariant in
+    let none : l.left - 1 ≡ 0 = search rules in
+    ended c.args.frame l.event l.left c.args.most c.args.self.now l.self c.args.pass.now l.pass l.invariant c.in-Ok.answer c.take.new.self c.take.new.pass did c.in-Ok.ensures.count
+    c.frame_of-then-left-eq0.result (c.frame_of-then-left-eq0.ensures l.invariant.at what) (λ fewer more. fewer none)
+
+pub loop-answer-preserved : goal.loop-answer-preserved
+loop-answer-preserved g c =
+    let l = c.loop-answer in
+    let fewer : l.left - 1 ≢ 0 = search rules in
+    goes_on c.args.frame l.event l.left c.args.most c.args.self.now l.self c.args.pass.now l.pass l.invariant c.in-Ok.answer c.take.new.self c.take.new.pass c.in-Ok.ensures.held c.in-Ok.ensures.count
+    c.in-Some.next c.at_element-event.result fewer c.in-Some.ensures.some c.at_element-event.ensures

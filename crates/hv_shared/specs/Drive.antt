@@ -1,0 +1,54 @@
+-- What a call does that is driven to its end.
+use Rattle.std.specs.Prelude.{ℕ, ◌≡◌, List, [], ◌∷◌, ◌++◌, map}
+use Rattle.std.specs.declared.alloc.Global.{Global}
+use Rattle.hv_abi.specs.InputValue.{input_value}
+use Rattle.hv_abi.specs.declared.frame.Frame.{Frame}
+use Rattle.hv_history.specs.Run.{AreElements as AreAsked, IsMore, element, restart}
+use Rattle.hv_history.specs.declared.entry.Entry.{Entry}
+use Rattle.hv_policy.specs.Result.{HasResult, result_of}
+use Rattle.hv_policy.specs.declared.event.Caller.{Caller}
+use Rattle.hv_policy.specs.declared.reply.Reply.{Reply}
+use Rattle.hv_shared.specs.Pass.{HasReceipts, receipt}
+use Rattle.hv_shared.specs.PassValue.{PassValue}
+use Rattle.hv_shared.specs.declared.receipts.Receipt.{Receipt}
+
+-- the entry that a receipt is of
+abbrev pub entry_in : Receipt → Entry Global
+entry_in r = record { event = r.event; reply = r.reply }
+
+-- one receipt for each element from this frame on, at its start index, the next one and so on; each reply says that the call
+-- goes on with the element after it, and `now` is the frame that is to be asked after them
+abbrev pub AreElements : Caller → Frame Global → List Receipt → Frame Global → Type 0
+AreElements by frame list now = AreAsked by frame (map entry_in list) now
+
+-- one receipt for each element of a call from this frame on, to the last one, after whose reply the call doesn't go on
+pub record IsWholeCall (by : Caller) (frame : Frame Global) (list : List Receipt) (last : Frame Global) (reply : Reply) : Type 0 where
+  pub before : List Receipt
+  pub number : ℕ
+  pub elements : AreElements by frame before last
+  pub all : list ≡ before ++ receipt number (element by last) reply ∷ []
+  pub ends : IsMore reply → ⊥
+
+-- the pass has the receipts of a whole call more, and the call has the result value of its last element and reply
+pub record HasDriven (frame : Frame Global) (value : ℕ) (reply : Reply) (old new : PassValue) : Type 0 where
+  pub more : List Receipt
+  pub last : Frame Global
+  pub whole : IsWholeCall old.caller frame more last reply
+  pub value_is : value ≡ result_of last reply
+  pub gained : HasReceipts more old new
+
+-- the pass has the receipts more of the elements before the one with the start index `next`
+pub record HasStopped (frame : Frame Global) (next : ℕ) (old new : PassValue) : Type 0 where
+  pub more : List Receipt
+  pub now : Frame Global
+  pub elements : AreElements old.caller frame more now
+  pub next_is : next ≡ (input_value now.rcx).start
+  pub gained : HasReceipts more old new
+
+-- the pass has the receipts of a whole call more, up to the element of this frame
+pub record HasFinished (frame last : Frame Global) (old new : PassValue) : Type 0 where
+  pub more : List Receipt
+  pub reply : Reply
+  pub whole : IsWholeCall old.caller frame more last reply
+  pub gained : HasReceipts more old new
+  pub result : HasResult reply

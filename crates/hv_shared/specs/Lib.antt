@@ -1,0 +1,16 @@
+pub mod ByCaller
+pub mod Counted
+pub mod Drive
+pub mod Held
+pub mod HeldValue
+pub mod Hold
+pub mod Merge
+pub mod Pass
+pub mod PassValue
+pub mod Perform
+pub mod Receipts
+pub mod Room
+pub mod Settle
+pub mod Shared
+pub mod SharedValue
+pub mod Told

@@ -1,0 +1,68 @@
+-- What comes of one action.
+use Rattle.std.specs.Prelude.{ℕ, ◌≡◌, List, [], ◌∷◌, ◌++◌}
+use Rattle.std.specs.declared.alloc.Global.{Global}
+use Rattle.hv_abi.specs.declared.frame.Frame.{Frame}
+use Rattle.hv_policy.specs.declared.event.Action.{Action}
+use Rattle.hv_policy.specs.declared.event.Action.TheVariants.{Hypercall, ReadMsr, WriteMsr, ReadSlot, ClearSlot, ReadFlags, ClearFlag, TakeInterrupt}
+use Rattle.hv_policy.specs.declared.event.Caller.{Caller}
+use Rattle.hv_policy.specs.declared.reply.Reply.{Reply}
+use Rattle.hv_shared.specs.Drive.{AreElements, IsWholeCall}
+use Rattle.hv_shared.specs.Pass.{HasReceipts, receipt}
+use Rattle.hv_shared.specs.PassValue.{PassValue}
+use Rattle.hv_shared.specs.declared.receipts.Receipt.{Receipt}
+
+-- the receipt of an access
+pub record IsAccess (by : Caller) (what : Action Global) (list : List Receipt) : Type 0 where
+  pub number : ℕ
+  pub reply : Reply
+  pub all : list ≡ receipt number (record { by = by; what = what }) reply ∷ []
+
+-- the receipts of a call that came to its end
+pub record IsCall (by : Caller) (frame : Frame Global) (list : List Receipt) : Type 0 where
+  pub last : Frame Global
+  pub reply : Reply
+  pub whole : IsWholeCall by frame list last reply
+
+-- the receipts of an action that came to its end: of a hypercall one for each element, else one
+abbrev pub IsWhole : Caller → Action Global → List Receipt → Type 0
+IsWhole by (Hypercall frame) list = IsCall by frame list
+IsWhole by (ReadMsr msr) list = IsAccess by (ReadMsr msr) list
+IsWhole by (WriteMsr msr value) list = IsAccess by (WriteMsr msr value) list
+IsWhole by (ReadSlot sint) list = IsAccess by (ReadSlot sint) list
+IsWhole by (ClearSlot sint) list = IsAccess by (ClearSlot sint) list
+IsWhole by (ReadFlags sint) list = IsAccess by (ReadFlags sint) list
+IsWhole by (ClearFlag sint flag) list = IsAccess by (ClearFlag sint flag) list
+IsWhole by TakeInterrupt list = IsAccess by TakeInterrupt list
+
+-- the receipts of the elements of a call that the host stopped
+pub record IsPart (by : Caller) (frame : Frame Global) (list : List Receipt) : Type 0 where
+  pub now : Frame Global
+  pub elements : AreElements by frame list now
+
+-- the receipts of an action that the host stopped: of a hypercall one for each element before, else none
+abbrev pub IsStopped : Caller → Action Global → List Receipt → Type 0
+IsStopped by (Hypercall frame) list = IsPart by frame list
+IsStopped by (ReadMsr msr) list = list ≡ []
+IsStopped by (WriteMsr msr value) list = list ≡ []
+IsStopped by (ReadSlot sint) list = list ≡ []
+IsStopped by (ClearSlot sint) list = list ≡ []
+IsStopped by (ReadFlags sint) list = list ≡ []
+IsStopped by (ClearFlag sint flag) list = list ≡ []
+IsStopped by TakeInterrupt list = list ≡ []
+
+-- the receipts of these actions, one after another, each to its end
+abbrev pub AreWhole : Caller → List (Action Global) → List Receipt → Type 0
+AreWhole by [] list = list ≡ []
+AreWhole by (what ∷ more) list = (own : List Receipt) × (rest : List Receipt) × (list ≡ own ++ rest) × IsWhole by what own × AreWhole by more rest
+
+-- the pass has the receipts more of an action that came to its end
+pub record HasPerformed (what : Action Global) (old new : PassValue) : Type 0 where
+  pub more : List Receipt
+  pub whole : IsWhole old.caller what more
+  pub gained : HasReceipts more old new
+
+-- the pass has the receipts more of an action that the host stopped
+pub record HasBegun (what : Action Global) (old new : PassValue) : Type 0 where
+  pub more : List Receipt
+  pub stopped : IsStopped old.caller what more
+  pub gained : HasReceipts more old new

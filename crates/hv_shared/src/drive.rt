@@ -1,0 +1,102 @@
+// A hypercall from its first element to its last.
+ghost use Rattle.std.specs.Prelude.{◌≡◌, ◌<◌, ◌≤◌, ℕ, List, IfOk, IfErr, IfSome, IfNone};
+ghost use Rattle.hv_history.specs.Run.{IsMore};
+ghost use Rattle.hv_policy.specs.Parts.{reply_of};
+ghost use Rattle.hv_policy.specs.declared.reply.Reply.TheVariants.{More};
+ghost use Rattle.hv_shared.specs.Drive.{HasDriven, HasFinished, HasStopped};
+ghost use Rattle.hv_shared.specs.Told.{IsAsked};
+
+use crate::gate::Gate;
+use crate::held::Pass;
+use crate::shared::Shared;
+use hv_abi::{Frame, InputValue, ResultValue};
+use hv_history::{Answer, HostRefused};
+use hv_policy::{Reply, result_of};
+use std::alloc::Global;
+use std::sync::Wait;
+use std::sync::ledger::Ledger;
+
+/// Why the host didn't let a hypercall come to its end, and the start index of the element that it refused. The elements
+/// before it were served and have their receipts.
+#[derive(Clone, Copy, PartialEq, Eq, Debug)]
+pub struct DriveRefused {
+    pub why: HostRefused,
+    pub next: u16,
+}
+
+// The element with which a call goes on after this answer.
+pub(crate) fn next_of(answer: Answer) -> Option<u16>
+    ensures some { IfSome result (λ next. (output : List ℕ) → reply_of answer output ≡ More next output) }
+    ensures none { IfNone result ((output : List ℕ) → IsMore (reply_of answer output) → ⊥) }
+{
+    match answer {
+        Answer::More { next } => Some(next),
+        Answer::Served | Answer::Denied { .. } | Answer::Fault { .. } => None,
+    }
+}
+
+// The most elements of a call for which the lock is taken once.
+const MOST_IN_A_HOLD: u16 = 16;
+
+// For how many elements of a call the lock is taken once: as many as are left from the start index on, at most 16, and one of a
+// simple call.
+#[inline(always)]
+pub(crate) fn elements_in_a_hold(rcx: u64) -> u32
+    ensures some { 0 < result }
+    ensures few { result ≤ 16 }
+{
+    if rcx < 1 << 32 {
+        return 1;
+    }
+    let InputValue { reps, start, .. } = InputValue::read(rcx);
+    if reps <= start {
+        return 1;
+    }
+    let left = reps - start;
+    if left < MOST_IN_A_HOLD {
+        u32::from(left)
+    } else {
+        u32::from(MOST_IN_A_HOLD)
+    }
+}
+
+impl<L: Ledger> Shared<L> {
+    /// Drives a hypercall to its end: the elements of a rep call one after another from its start index on, each an event
+    /// of its own, of which all rules are asked, and up to 16 of them while the lock is taken once. It ends with the last
+    /// element, or with one that a rule refuses. Answers the result value of the whole call, and the reply to its last event.
+    pub fn drive<R: Wait, G: Gate>(
+        &self,
+        rt: &R,
+        pass: &mut Pass<L>,
+        gate: &G,
+        frame: Frame<Global>,
+    ) -> Result<(ResultValue, Reply), DriveRefused>
+        ensures driven { IfOk result (λ r. HasDriven frame r.0 r.1 pass.old pass.new) }
+        ensures refused { IfErr result (λ e. HasStopped frame e.next pass.old pass.new) }
+    {
+        let last = self.finish(rt, pass, gate, frame)?;
+        let reply = pass.last_reply();
+        Ok((result_of(&last, &reply), reply))
+    }
+
+    // Drives a hypercall to its end, and gives back the frame of its last element. The replies stand in the receipts.
+    pub(crate) fn finish<R: Wait, G: Gate>(
+        &self,
+        rt: &R,
+        pass: &mut Pass<L>,
+        gate: &G,
+        frame: Frame<Global>,
+    ) -> Result<Frame<Global>, DriveRefused>
+        ensures finished { IfOk result (λ last. HasFinished frame last pass.old pass.new) }
+        ensures refused { IfErr result (λ e. HasStopped frame e.next pass.old pass.new) }
+    {
+        let (mut last, mut answer) = self.ask(rt, pass, gate, frame)?;
+        while let Some(next) = next_of(answer) {
+            let later = last.with_start(next);
+            let (asked, told) = self.ask(rt, pass, gate, later)?;
+            last = asked;
+            answer = told;
+        }
+        Ok(last)
+    }
+}

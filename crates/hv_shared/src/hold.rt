@@ -1,0 +1,93 @@
+// Several elements of one call in one hold of the lock.
+ghost use Rattle.std.specs.Prelude.{◌≡◌, ◌<◌, ◌↔◌, IfOk, OnErr, IfErr, length};
+ghost use Rattle.hv_abi.specs.declared.frame.Frame.{Frame};
+ghost use Rattle.hv_history.specs.Kept.{IsRun};
+ghost use Rattle.hv_history.specs.Run.{element};
+ghost use Rattle.hv_policy.specs.declared.event.Action.TheVariants.{Hypercall};
+ghost use Rattle.hv_shared.specs.Hold.{HasHeldFor, HasHeldPart, HasHeldRun, HasHeldUpTo, IsCall};
+ghost use Rattle.hv_shared.specs.Room.{HasRoom};
+
+use crate::drive::next_of;
+use crate::held::{Held, Pass};
+use hv_abi::Frame;
+use hv_history::{Answer, HostRefused, RunDone, at_element};
+use hv_policy::{Action, Event};
+use std::alloc::Global;
+use std::sync::ledger::Ledger;
+
+// The frame of a call.
+#[inline(always)]
+pub(crate) fn frame_of(event: Event<Global>) -> Frame<Global>
+    requires { IsCall event.what }
+    ensures { (frame : Frame Global) → event.what ≡ Hypercall frame → result ≡ frame }
+{
+    let Action::Hypercall(frame) = event.what else {
+        unreachable!()
+    };
+    frame
+}
+
+impl<L: Ledger> Held<L> {
+    // Lets the elements of a call happen from the frame's start index on, and keeps their receipts. It stops after `most` of
+    // them, after one that is answered otherwise than that the call goes on, or where the host refuses one. Answers the frame
+    // of the last that was asked, and its reply without the output.
+    #[inline(always)]
+    pub(crate) fn take_run(
+        &mut self,
+        pass: &mut Pass<L>,
+        frame: Frame<Global>,
+        most: u32,
+    ) -> (Frame<Global>, Result<Answer, HostRefused>)
+        requires some { 0 < most }
+        requires room { HasRoom most pass.old.room (element pass.old.caller frame) }
+        ensures held { IfOk result.1 (λ answer. HasHeldFor frame result.0 answer most self.old self.new pass.old pass.new) }
+        ensures refused { OnErr result.1 (HasHeldUpTo frame result.0 most self.old self.new pass.old pass.new) }
+        ensures run { IsRun self.new.kept }
+        ensures full { IfErr result.1 (λ why. (why ≡ HostRefused.HistoryFull) ↔ (length self.new.kept.history ≡ self.new.kept.limit)) }
+    {
+        let by = pass.caller();
+        let mut event = Event {
+            by,
+            what: Action::Hypercall(frame),
+        };
+        let mut left = most;
+        loop {
+            let answer = match self.take(pass, &event) {
+                Ok(answer) => answer,
+                Err(why) => return (frame_of(event), Err(why)),
+            };
+            left -= 1;
+            let Some(next) = next_of(answer) else {
+                return (frame_of(event), Ok(answer));
+            };
+            if left == 0 {
+                return (frame_of(event), Ok(answer));
+            }
+            event = at_element(event, next);
+        }
+    }
+
+    /// Lets the elements of a call by the pass's caller happen as `Kept::apply_run` does, and keeps their receipts, without a
+    /// lock.
+    pub fn hold_run(&mut self, pass: &mut Pass<L>, frame: Frame<Global>, most: u32) -> RunDone
+        requires some { 0 < most }
+        requires room { HasRoom most pass.old.room (element pass.old.caller frame) }
+        ensures held { IfOk result.last (λ reply. HasHeldRun frame reply result.events most self.old self.new pass.old pass.new) }
+        ensures stopped { OnErr result.last (HasHeldPart frame result.events most self.old self.new pass.old pass.new) }
+        ensures run { IsRun self.new.kept }
+        ensures full { IfErr result.last (λ why. (why ≡ HostRefused.HistoryFull) ↔ (length self.new.kept.history ≡ self.new.kept.limit)) }
+    {
+        let before = pass.receipts().len();
+        let (_, told) = self.take_run(pass, frame, most);
+        match told {
+            Ok(_) => RunDone {
+                events: (pass.receipts().len() - before) as u32,
+                last: Ok(pass.last_reply()),
+            },
+            Err(why) => RunDone {
+                events: (pass.receipts().len() - before) as u32,
+                last: Err(why),
+            },
+        }
+    }
+}
