@@ -61,7 +61,8 @@ impl<'h> EntryRef<'h> {
 
     // Whether both ask for the same. Only a hypercall has an input list.
     fn asks_the_same<A: Allocator>(&self, other: &EntryRef<'_>) -> bool
-        ensures { IsTrue result ↔ (action_of {A = A} self.now.asked self.now.input.now ≡ action_of other.now.asked other.now.input.now) }
+        ensures { IsTrue result ↔ (action_of {A = A} self.now.asked self.now.input.now
+            ≡ action_of other.now.asked other.now.input.now) }
     {
         match self.asked {
             Asked::Hypercall { .. } => self.asked == other.asked && self.input == other.input,
@@ -77,7 +78,8 @@ impl<'h> EntryRef<'h> {
 
     // Whether both are answered the same. Only what is served puts something out.
     fn is_answered_the_same(&self, other: &EntryRef<'_>) -> bool
-        ensures { IsTrue result ↔ (reply_of self.now.answer (shown self.now.output) ≡ reply_of other.now.answer (shown other.now.output)) }
+        ensures { IsTrue result ↔ (reply_of self.now.answer (shown self.now.output)
+            ≡ reply_of other.now.answer (shown other.now.output)) }
     {
         match (self.answer, other.answer) {
             (Answer::Served, Answer::Served) => self.output.is_same(&other.output),

@@ -1,5 +1,6 @@
 // What happened.
-ghost use Rattle.std.specs.Prelude.{◌≡◌, ◌+◌, ◌^◌, ◌-◌, ◌<◌, ◌≤◌, ◌↔◌, ◌⊎◌, ◌++◌, [], ◌∷◌, ℕ, IsTrue, length, take, drop, OnOk, Some, slice_get, vec_len, vec_capacity};
+ghost use Rattle.std.specs.Prelude.{◌≡◌, ◌+◌, ◌^◌, ◌-◌, ◌<◌, ◌≤◌, ◌↔◌, ◌⊎◌, ◌++◌, [], ◌∷◌, ℕ, IsTrue, length};
+ghost use Rattle.std.specs.Prelude.{take, drop, OnOk, Some, slice_get, vec_len, vec_capacity};
 ghost use Rattle.hv_defs.specs.declared.sizes.TheConstants.{REPS_END};
 ghost use Rattle.hv_history.specs.History.{HasRoomFor, IsRoomForHead, entries, entry_by, room_of};
 ghost use Rattle.hv_history.specs.Output.{shown};
@@ -96,7 +97,8 @@ impl<A: Allocator> History<A> {
         &self.outputs[start..start + len]
     }
 
-    // Whether both are kept alike, as almost always where they are the same: then there is no need to read them.
+    // Whether both are kept alike, as almost always where they are the same: then there is no need to
+    // read them.
     #[inline(always)]
     fn is_kept_alike(&self, at: usize, other: &History<A>, other_at: usize) -> bool
         requires here { at < length (entries self.now) }
@@ -128,7 +130,8 @@ impl<A: Allocator> History<A> {
     fn puts_out_alike(&self, row: &Row, other: &History<A>, that: &Row) -> bool
         requires here { IsThere (vec_len self.now.outputs) row.now.output row.now.output_len }
         requires there { IsThere (vec_len other.now.outputs) that.now.output that.now.output_len }
-        ensures { IsTrue result → output_at self.now.outputs.items row.now.output row.now.output_len ≡ output_at other.now.outputs.items that.now.output that.now.output_len }
+        ensures { IsTrue result → output_at self.now.outputs.items row.now.output row.now.output_len
+            ≡ output_at other.now.outputs.items that.now.output that.now.output_len }
     {
         if row.output_len != that.output_len {
             return false;
@@ -139,8 +142,8 @@ impl<A: Allocator> History<A> {
         self.output_of(row) == other.output_of(that)
     }
 
-    /// Makes room for so many events of a call: this one and those that ask for other elements. They share one head, so that the
-    /// input is counted once.
+    /// Makes room for so many events of a call: this one and those that ask for other elements. They
+    /// share one head, so that the input is counted once.
     #[inline(always)]
     pub fn reserve(&mut self, event: &Event<A>, count: u32) -> Result<(), AllocError>
         ensures same { entries self.new ≡ entries self.old }
@@ -178,13 +181,15 @@ impl<A: Allocator> History<A> {
             && input.len() <= self.inputs.capacity() - self.inputs.len()
     }
 
-    // Adds an event with its reply, for which there is room. The reply comes as its answer and what it puts out.
+    // Adds an event with its reply, for which there is room. The reply comes as its answer and what it
+    // puts out.
     #[inline(always)]
     pub(crate) fn push(&mut self, event: &Event<A>, answer: Answer, output: OutputRef<'_>)
         requires room { HasRoomFor 1 (room_of self.old) event.now }
         requires most { length (shown output) ≤ most_output event.now.what }
         requires index { next_in (reply_of answer []) < REPS_END }
-        ensures { entries self.new ≡ entries self.old ++ record { event = event.now; reply = reply_of answer (shown output.entry) } ∷ [] }
+        ensures { entries self.new ≡ entries self.old
+            ++ record { event = event.now; reply = reply_of answer (shown output.entry) } ∷ [] }
     {
         let asked = numbers_of(&event.what);
         let head = self.place_head(event.by, asked.r8, input_in(&event.what));
@@ -205,12 +210,15 @@ impl<A: Allocator> History<A> {
     #[inline(always)]
     pub fn push_last(&mut self, event: &Event<A>, other: &History<A>)
         requires some { 0 < length (entries other.now) }
-        requires last { (entry : Entry A) → slice_get (entries other.now) (length (entries other.now) - 1) ≡ Some entry → entry.event ≡ event.now }
+        requires last { (entry : Entry A) → slice_get (entries other.now) (length (entries other.now) - 1)
+            ≡ Some entry → entry.event ≡ event.now }
         requires room { HasRoomFor 1 (room_of self.old) event.now }
-        ensures pushed { (entry : Entry A) → slice_get (entries other.now) (length (entries other.now) - 1) ≡ Some entry → entries self.new ≡ entries self.old ++ entry ∷ [] }
+        ensures pushed { (entry : Entry A) → slice_get (entries other.now) (length (entries other.now) - 1)
+            ≡ Some entry → entries self.new ≡ entries self.old ++ entry ∷ [] }
 
         // Where there was room for more events, there is for one less.
-        ensures room { (more : ℕ) → HasRoomFor (more + 1) (room_of self.old) event.now → HasRoomFor more (room_of self.new) event.now }
+        ensures room { (more : ℕ) → HasRoomFor (more + 1) (room_of self.old) event.now
+            → HasRoomFor more (room_of self.new) event.now }
     {
         let row = &other.rows[other.rows.len() - 1];
         let head = self.place_head(event.by, r8_in(&event.what), input_in(&event.what));
@@ -222,10 +230,12 @@ impl<A: Allocator> History<A> {
         });
     }
 
-    // The place of a head with this caller, R8 and input, which is then the last one: it is, or a new one becomes so.
+    // The place of a head with this caller, R8 and input, which is then the last one: it is, or a new one
+    // becomes so.
     #[inline(always)]
     fn place_head(&mut self, by: Caller, r8: u64, input: &[u8]) -> u32
-        requires { IsLast self.old.heads.items self.old.inputs.items by r8 input.now ⊎ IsRoomForHead self.old (length input.now) }
+        requires { IsLast self.old.heads.items self.old.inputs.items by r8 input.now
+            ⊎ IsRoomForHead self.old (length input.now) }
         ensures rows { self.new.rows ≡ self.old.rows }
         ensures outputs { self.new.outputs ≡ self.old.outputs }
         ensures heads { take (vec_len self.old.heads) self.new.heads.items ≡ self.old.heads.items }
@@ -233,7 +243,8 @@ impl<A: Allocator> History<A> {
         ensures last { result + 1 ≡ vec_len self.new.heads }
         ensures by { (head_at self.new.heads.items result).by ≡ by }
         ensures r8 { (head_at self.new.heads.items result).r8 ≡ r8 }
-        ensures input { let head = head_at self.new.heads.items result in bytes_at self.new.inputs.items head.input_start head.input_len ≡ input.now }
+        ensures input { let head = head_at self.new.heads.items result in bytes_at self.new.inputs.items
+            head.input_start head.input_len ≡ input.now }
     {
         if self.is_last(by, r8, input) {
             return (self.heads.len() - 1) as u32;
@@ -263,7 +274,8 @@ impl<A: Allocator> History<A> {
         ensures last { result + 1 ≡ vec_len self.new.heads }
         ensures by { (head_at self.new.heads.items result).by ≡ by }
         ensures r8 { (head_at self.new.heads.items result).r8 ≡ r8 }
-        ensures input { let head = head_at self.new.heads.items result in bytes_at self.new.inputs.items head.input_start head.input_len ≡ input.now }
+        ensures input { let head = head_at self.new.heads.items result in bytes_at self.new.inputs.items
+            head.input_start head.input_len ≡ input.now }
     {
         let input_start = self.place_input(input);
         let at = self.heads.len() as u32;
@@ -276,7 +288,8 @@ impl<A: Allocator> History<A> {
         at
     }
 
-    // Where these bytes stand among the inputs: where the last head's do, if they are the same, and else at the end.
+    // Where these bytes stand among the inputs: where the last head's do, if they are the same, and else
+    // at the end.
     fn place_input(&mut self, input: &[u8]) -> usize
         requires { vec_len self.old.inputs + length input.now ≤ vec_capacity self.old.inputs }
         ensures rows { self.new.rows ≡ self.old.rows }
@@ -344,7 +357,8 @@ impl<A: Allocator> History<A> {
     #[inline(always)]
     fn has_input(&self, head: &Head, input: &[u8]) -> bool
         requires { head.now.input_start + head.now.input_len ≤ vec_len self.now.inputs }
-        ensures { IsTrue result ↔ (bytes_at self.now.inputs.items head.now.input_start head.now.input_len ≡ input.now) }
+        ensures { IsTrue result ↔ (bytes_at self.now.inputs.items head.now.input_start head.now.input_len
+            ≡ input.now) }
     {
         let start = head.input_start;
         let len = head.input_len;

@@ -1,5 +1,6 @@
 // The machine with its history.
-ghost use Rattle.std.specs.Prelude.{◌≡◌, ◌<◌, ◌↔◌, [], length, None, IsTrue, IfOk, IfErr, OnOk, OnErr, IsErrOf};
+ghost use Rattle.std.specs.Prelude.{◌≡◌, ◌<◌, ◌↔◌, [], length, None, IsTrue, IfOk, IfErr, OnOk, OnErr};
+ghost use Rattle.std.specs.Prelude.{IsErrOf};
 ghost use Rattle.hv_abi.specs.declared.frame.Frame.{Frame};
 ghost use Rattle.hv_defs.specs.declared.sizes.TheConstants.{MAX_SERVED};
 ghost use Rattle.hv_policy.specs.BootFault.{boot_fault, IsBootRefusal};
@@ -46,9 +47,21 @@ impl<A: Allocator> Model for Kept<A> {
 
     ghost coded = { Prim.hlevel (codes, state_code) };
 
-    ghost view = { λ k. record { config = k.config; limit = k.limit; history = entries k.history; machine = k.machine } };
+    ghost view = { λ k. record {
+      config = k.config;
+      limit = k.limit;
+      history = entries k.history;
+      machine =
+          k.machine;
+    } };
 
-    ghost invariant = { λ k. IsRun (record { config = k.config; limit = k.limit; history = entries k.history; machine = k.machine }) };
+    ghost invariant = { λ k. IsRun (record {
+      config = k.config;
+      limit = k.limit;
+      history = entries
+          k.history;
+      machine = k.machine;
+    }) };
 }
 
 impl<A: Allocator + Copy> Kept<A> {
@@ -72,22 +85,25 @@ impl<A: Allocator + Copy> Kept<A> {
 }
 
 impl<A: Allocator + Clone> Kept<A> {
-    /// Lets an event happen, and answers its number and its reply. Numbers count from 1, in the order in which events happen.
+    /// Lets an event happen, and answers its number and its reply. Numbers count from 1, in the order in
+    /// which events happen.
     pub fn apply(&mut self, event: &Event<A>) -> Result<(u64, Reply), HostRefused>
-        // The history has the event with its reply more, and is a run still, so that the reply and the new state are those
-        // of the flat step. The number is its place.
+        // The history has the event with its reply more, and is a run still, so that the reply and the
+        // new state are those of the flat step. The number is its place.
         ensures applied { IfOk result (λ r. HasGained event.now r.1 self.old self.new) }
         ensures number { IfOk result (λ r. r.0 ≡ length self.new.history) }
         ensures run { IsRun self.new }
 
-        // A full history takes no event, before any rule. Else the host wants memory, for the machine or for the history.
+        // A full history takes no event, before any rule. Else the host wants memory, for the machine or
+        // for the history.
         ensures full { IsErrOf result HostRefused.HistoryFull ↔ (length self.old.history ≡ self.old.limit) }
         ensures refused { OnErr result (self.new ≡ self.old) }
 
-        // A refusal by a rule names one that is asked, a reply to a hypercall has a result value, and a call goes on with
-        // the element after the one that was served.
+        // A refusal by a rule names one that is asked, a reply to a hypercall has a result value, and a
+        // call goes on with the element after the one that was served.
         ensures asked { IfOk result (λ r. NamesAsked event.now r.1) }
-        ensures result { (frame : Frame A) → event.now.what ≡ Hypercall frame → IfOk result (λ r. HasResult r.1) }
+        ensures result { (frame : Frame A) → event.now.what ≡ Hypercall frame
+            → IfOk result (λ r. HasResult r.1) }
         ensures next { IfOk result (λ r. GoesOn event.now.what r.1) }
     {
         match self.take(event) {
@@ -100,7 +116,8 @@ impl<A: Allocator + Clone> Kept<A> {
         }
     }
 
-    /// Lets an event happen as [`Kept::apply`] does, and answers its number alone: its reply stands in the history.
+    /// Lets an event happen as [`Kept::apply`] does, and answers its number alone: its reply stands in
+    /// the history.
     #[inline(always)]
     pub fn take(&mut self, event: &Event<A>) -> Result<u64, HostRefused>
         ensures taken { OnOk result (HasTaken event.now self.old self.new) }
@@ -122,8 +139,9 @@ impl<A: Allocator + Clone> Kept<A> {
     }
 }
 
-// Lets an event happen to a machine, and adds it with its reply to a history that has room for it. Not inlined, nor is what it
-// does for an access, so that a call makes no room on the stack for the output of one.
+// Lets an event happen to a machine, and adds it with its reply to a history that has room for it. Not
+// inlined, nor is what it does for an access, so that a call makes no room on the stack for the output of
+// one.
 #[inline(never)]
 fn step_into<A: Allocator + Clone>(
     machine: &mut Machine<A>,
@@ -133,7 +151,8 @@ fn step_into<A: Allocator + Clone>(
     requires stands { Stands machine.old }
     requires count { machine.old.served < MAX_SERVED }
     requires room { HasRoomFor 1 (room_of history.old) event.now }
-    ensures stepped { OnOk result (HasStepped event.now machine.old (entries history.old) machine.new (entries history.new)) }
+    ensures stepped { OnOk result (HasStepped event.now machine.old (entries history.old) machine.new
+        (entries history.new)) }
     ensures machine { OnErr result (machine.new ≡ machine.old) }
     ensures history { OnErr result (entries history.new ≡ entries history.old) }
 {
@@ -167,7 +186,8 @@ fn access_into<A: Allocator + Clone>(
     requires stands { Stands machine.old }
     requires count { machine.old.served < MAX_SERVED }
     requires room { HasRoomFor 1 (room_of history.old) event.now }
-    ensures stepped { OnOk result (HasStepped event.now machine.old (entries history.old) machine.new (entries history.new)) }
+    ensures stepped { OnOk result (HasStepped event.now machine.old (entries history.old) machine.new
+        (entries history.new)) }
     ensures machine { OnErr result (machine.new ≡ machine.old) }
     ensures history { OnErr result (entries history.new ≡ entries history.old) }
 {
@@ -182,7 +202,8 @@ fn access_into<A: Allocator + Clone>(
 }
 
 impl<A: Allocator> Kept<A> {
-    /// What happened, in its order. It is a run of the policy with the replies of that run, from a configuration that boots.
+    /// What happened, in its order. It is a run of the policy with the replies of that run, from a
+    /// configuration that boots.
     pub fn history(&self) -> &History<A>
         ensures list { entries result.now ≡ self.now.history }
         ensures run { IsRun self.now }
@@ -190,8 +211,8 @@ impl<A: Allocator> Kept<A> {
         &self.history
     }
 
-    /// The machine that the history made. Each page has one owner, what is in use is within its pool, and each mask within the
-    /// parent's.
+    /// The machine that the history made. Each page has one owner, what is in use is within its pool, and
+    /// each mask within the parent's.
     pub fn machine(&self) -> &Machine<A>
         ensures machine { result.now ≡ self.now.machine }
         ensures run { IsRun self.now }

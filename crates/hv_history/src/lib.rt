@@ -1,8 +1,9 @@
 //! What happened, and the machine that it made.
 //!
-//! A [`Kept`] has a machine with the list of the events that it took since boot and their replies, at most as many as its
-//! limit. `IsRun` in `specs/` says what holds of each: the history is a run of the flat policy, and the machine stands for
-//! the state in which that run ends. The history, its limit and its numbers are this project's own.
+//! A [`Kept`] has a machine with the list of the events that it took since boot and their replies, at
+//! most as many as its limit. `IsRun` in `specs/` says what holds of each: the history is a run of the
+//! flat policy, and the machine stands for the state in which that run ends. The history, its limit and
+//! its numbers are this project's own.
 #![tactic(auto)]
 
 mod entry;

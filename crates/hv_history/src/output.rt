@@ -4,8 +4,8 @@ ghost use Rattle.std.specs.Prelude.{◌≡◌, ◌+◌, ◌≤◌, ◌↔◌, Is
 use crate::row::IN_ROW;
 use hv_machine::Output;
 
-/// The bytes that an event put out, at most 256, borrowed. Most of a message slot are zeros at its end, and those aren't kept one
-/// by one.
+/// The bytes that an event put out, at most 256, borrowed. Most of a message slot are zeros at its end,
+/// and those aren't kept one by one.
 #[derive(Clone, Copy)]
 pub struct OutputRef<'h> {
     /// The bytes up to a place.

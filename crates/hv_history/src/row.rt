@@ -1,6 +1,7 @@
 // What is kept of an event and of its reply.
 ghost use Rattle.std.specs.Prelude.{◌≡◌, ◌*◌, ◌^◌, ◌-◌, ◌≤◌, ℕ, vec_len};
-ghost use Rattle.hv_history.specs.Row.{ArePlaced, AreWithin, action_of, asked_in, input_in, most_output, r8_in};
+ghost use Rattle.hv_history.specs.Row.{ArePlaced, AreWithin, action_of, asked_in, input_in, most_output};
+ghost use Rattle.hv_history.specs.Row.{r8_in};
 
 use crate::entry::Asked;
 use hv_machine::{Action, Answer, Caller};
@@ -36,7 +37,8 @@ pub(crate) struct Row {
     pub(crate) first: u64,
     // RDX of a call, else the value written or the flag's number.
     pub(crate) second: u64,
-    // The bytes of its output, where no more than fit. Of more, where they start among those of all events, the lowest byte first.
+    // The bytes of its output, where no more than fit. Of more, where they start among those of all
+    // events, the lowest byte first.
     pub(crate) output: [u8; IN_ROW],
     // The place of its head.
     pub(crate) head: u32,
@@ -51,8 +53,8 @@ pub(crate) struct Row {
 // A history is the largest thing in memory, and most of it are its rows.
 const _: () = prove!(size_of::<Row>() == 40);
 
-// What most events share with the one before them: who asked, R8 of a call, else 0, and where the input starts among those
-// of all events.
+// What most events share with the one before them: who asked, R8 of a call, else 0, and where the input
+// starts among those of all events.
 #[derive(Clone, Copy)]
 pub(crate) struct Head {
     pub(crate) by: Caller,
@@ -61,8 +63,9 @@ pub(crate) struct Head {
     pub(crate) input_len: usize,
 }
 
-/// Events with their replies, in the order in which they happened. An event with the same caller, R8 and input as the one
-/// before it, as the elements of a rep call have, takes no bytes for them, and none for the same output, nor for a short one.
+/// Events with their replies, in the order in which they happened. An event with the same caller, R8 and
+/// input as the one before it, as the elements of a rep call have, takes no bytes for them, and none for
+/// the same output, nor for a short one.
 #[derive(Drop)]
 pub struct History<A: Allocator> {
     pub(crate) rows: Vec<Row, A>,
@@ -102,7 +105,8 @@ impl Numbers {
 
 // What an event asks for, but for the bytes of its input.
 pub(crate) fn numbers_of<A: Allocator>(what: &Action<A>) -> Numbers
-    ensures what { action_of (asked_in result.kind result.first result.second result.r8) (input_in what.now) ≡ what.now }
+    ensures what { action_of (asked_in result.kind result.first result.second result.r8) (input_in what.now)
+        ≡ what.now }
     ensures r8 { result.r8 ≡ r8_in what.now }
 {
     match what {

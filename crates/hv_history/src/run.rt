@@ -22,8 +22,9 @@ pub struct RunDone {
 }
 
 impl<A: Allocator + Clone> Kept<A> {
-    /// Lets the elements of a call happen from the frame's start index on, each as [`Kept::apply`] would. It stops after `most`
-    /// of them, after one that is answered otherwise than that the call goes on, or where the host refuses one.
+    /// Lets the elements of a call happen from the frame's start index on, each as [`Kept::apply`] would.
+    /// It stops after `most` of them, after one that is answered otherwise than that the call goes on, or
+    /// where the host refuses one.
     pub fn apply_run(&mut self, by: Caller, frame: Frame<A>, most: u32) -> RunDone
         requires { 0 < most }
         ensures ran { IfOk result.last (λ reply. HasRun by frame reply result.events most self.old self.new) }
@@ -33,7 +34,8 @@ impl<A: Allocator + Clone> Kept<A> {
         ensures run { IsRun self.new }
 
         // The host refuses an element for a full history where there is one, and else for want of memory.
-        ensures full { IfErr result.last (λ why. (why ≡ HostRefused.HistoryFull) ↔ (length self.new.history ≡ self.new.limit)) }
+        ensures full { IfErr result.last (λ why. (why ≡ HostRefused.HistoryFull)
+            ↔ (length self.new.history ≡ self.new.limit)) }
     {
         let mut event = Event {
             by,
@@ -82,7 +84,8 @@ fn next_in(reply: &Reply) -> Option<u16>
 /// The event in which the same caller asks for another element of the same call.
 pub fn at_element<A: Allocator>(event: Event<A>, start: u16) -> Event<A>
     requires { start < REPS_END }
-    ensures { (frame : Frame A) → event.what ≡ Hypercall frame → result ≡ element event.by (restart frame start) }
+    ensures { (frame : Frame A) → event.what ≡ Hypercall frame → result
+        ≡ element event.by (restart frame start) }
 {
     let Event { by, what } = event;
     match what {

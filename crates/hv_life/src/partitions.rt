@@ -12,8 +12,8 @@ use hv_policy::{CallOutput, Rule, States};
 use hv_tie::{Partitions, Refused, has_available, is_state_allowed, meant, number_output};
 use std::alloc::{AllocError, Allocator};
 
-/// HvCreatePartition: a new partition with the id `next` below the caller, Created and without pages. The flags have no
-/// effect. It uses 2 pages of the caller's pool.
+/// HvCreatePartition: a new partition with the id `next` below the caller, Created and without pages. The
+/// flags have no effect. It uses 2 pages of the caller's pool.
 pub fn create_partition<A: Allocator + Clone>(
     tree: &mut Partitions<A>,
     alloc: &A,
@@ -22,7 +22,8 @@ pub fn create_partition<A: Allocator + Clone>(
     flags: u64,
 ) -> Result<CallOutput, Refused>
     requires { (a : IsAdmitted tree.old caller (call.CreatePartition flags)) × (a.rows.flat.next ≡ next) }
-    ensures { (f : Flat) → IsTied tree.old f → f.next ≡ next → IsOutcome f caller (call.CreatePartition flags) tree.old result tree.new }
+    ensures { (f : Flat) → IsTied tree.old f → f.next ≡ next
+        → IsOutcome f caller (call.CreatePartition flags) tree.old result tree.new }
 {
     if let Some(rule) = unmet_create(tree, caller, flags) {
         return Err(Refused::Unmet(rule));
@@ -54,7 +55,8 @@ pub fn initialize_partition<A: Allocator>(
     caller: u64,
     partition: u64,
 ) -> Result<CallOutput, Refused>
-    ensures { (f : Flat) → IsTied tree.old f → IsOutcome f caller (call.InitializePartition partition) tree.old result tree.new }
+    ensures { (f : Flat) → IsTied tree.old f
+        → IsOutcome f caller (call.InitializePartition partition) tree.old result tree.new }
 {
     let target = meant(caller, partition);
     if !is_state_allowed(tree, target, States::Created) {
@@ -64,14 +66,15 @@ pub fn initialize_partition<A: Allocator>(
     Ok(CallOutput::new())
 }
 
-/// HvFinalizePartition: the target becomes Finalized. Its virtual processors go with the messages that stand there, its ports
-/// and its connections go; its pages stay.
+/// HvFinalizePartition: the target becomes Finalized. Its virtual processors go with the messages that
+/// stand there, its ports and its connections go; its pages stay.
 pub fn finalize_partition<A: Allocator>(
     tree: &mut Partitions<A>,
     caller: u64,
     partition: u64,
 ) -> Result<CallOutput, Refused>
-    ensures { (f : Flat) → IsTied tree.old f → IsOutcome f caller (call.FinalizePartition partition) tree.old result tree.new }
+    ensures { (f : Flat) → IsTied tree.old f
+        → IsOutcome f caller (call.FinalizePartition partition) tree.old result tree.new }
 {
     if let Some(rule) = unmet_finalize(tree, caller, partition) {
         return Err(Refused::Unmet(rule));
@@ -82,7 +85,8 @@ pub fn finalize_partition<A: Allocator>(
 
 // P12 and P13.
 fn unmet_finalize<A: Allocator>(tree: &Partitions<A>, caller: u64, partition: u64) -> Option<Rule>
-    ensures { (f : Flat) → IsTied tree.now f → result ≡ unmet_further f caller (call.FinalizePartition partition) }
+    ensures { (f : Flat) → IsTied tree.now f → result
+        ≡ unmet_further f caller (call.FinalizePartition partition) }
 {
     let target = meant(caller, partition);
     if !is_state_allowed(tree, target, States::CreatedOrActive) {
@@ -101,7 +105,8 @@ pub fn delete_partition<A: Allocator>(
     partition: u64,
 ) -> Result<CallOutput, Refused>
     requires { IsAdmitted tree.old caller (call.DeletePartition partition) }
-    ensures { (f : Flat) → IsTied tree.old f → IsOutcome f caller (call.DeletePartition partition) tree.old result tree.new }
+    ensures { (f : Flat) → IsTied tree.old f
+        → IsOutcome f caller (call.DeletePartition partition) tree.old result tree.new }
 {
     let target = meant(caller, partition);
     if !is_state_allowed(tree, target, States::CreatedOrFinalized) {
@@ -118,7 +123,8 @@ pub fn get_partition_id<A: Allocator>(
     tree: &Partitions<A>,
     caller: u64,
 ) -> Result<CallOutput, Refused>
-    ensures { (f : Flat) → IsTied tree.now f → IsOutcome f caller call.GetPartitionId tree.now result tree.now }
+    ensures { (f : Flat) → IsTied tree.now f
+        → IsOutcome f caller call.GetPartitionId tree.now result tree.now }
 {
     let _ = tree;
     Ok(number_output(caller))
@@ -131,7 +137,8 @@ pub fn get_next_child_partition<A: Allocator>(
     partition: u64,
     previous: u64,
 ) -> Result<CallOutput, Refused>
-    ensures { (f : Flat) → IsTied tree.now f → IsOutcome f caller (call.GetNextChildPartition partition previous) tree.now result tree.now }
+    ensures { (f : Flat) → IsTied tree.now f
+        → IsOutcome f caller (call.GetNextChildPartition partition previous) tree.now result tree.now }
 {
     let target = meant(caller, partition);
     if !is_previous_there(tree, target, previous) {

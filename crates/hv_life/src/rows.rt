@@ -5,7 +5,8 @@ ghost use Rattle.std.specs.FinMap as map;
 ghost use Rattle.hv_defs.specs.declared.life.Life.TheVariants as life;
 ghost use Rattle.hv_partition.specs.Partition.{finalized};
 ghost use Rattle.hv_tree.specs.Rows.{change as changed};
-ghost use Rattle.hv_life.specs.Change.{IsCreated, IsDeleted, MayCreate, MayDelete, HasRoom, MayTakeOver, HasTakenOver};
+ghost use Rattle.hv_life.specs.Change.{IsCreated, IsDeleted, MayCreate, MayDelete, HasRoom, MayTakeOver};
+ghost use Rattle.hv_life.specs.Change.{HasTakenOver};
 
 use hv_defs::Life;
 use hv_partition::{PageKind, Partition};

@@ -5,7 +5,8 @@ ghost use Rattle.std.specs.Option.{option_map};
 ghost use Rattle.hv_policy.specs.Answer.{next_child as next_child_of};
 ghost use Rattle.hv_policy.specs.Count.{depth as depth_of};
 ghost use Rattle.hv_policy.specs.Flat.{Flat};
-ghost use Rattle.hv_policy.specs.Met.{is_child as is_child_of, is_childless as is_childless_of, is_depth_left as is_depth_left_of};
+ghost use Rattle.hv_policy.specs.Met.{is_child as is_child_of, is_childless as is_childless_of};
+ghost use Rattle.hv_policy.specs.Met.{is_depth_left as is_depth_left_of};
 ghost use Rattle.hv_tie.specs.Served.{AreLawful};
 ghost use Rattle.hv_tie.specs.Tie.{IsTied};
 

@@ -32,8 +32,8 @@ pub struct NewPort {
     pub count: u16,
 }
 
-/// HvCreatePort: the target gets a port, whose birth is the count of served events after this one; `served` is the count
-/// before. It uses 1 page of the target's pool.
+/// HvCreatePort: the target gets a port, whose birth is the count of served events after this one;
+/// `served` is the count before. It uses 1 page of the target's pool.
 pub fn create_port<A: Allocator>(
     tree: &mut Partitions<A>,
     caller: u64,
@@ -41,9 +41,12 @@ pub fn create_port<A: Allocator>(
     partition: u64,
     new: NewPort,
 ) -> Result<CallOutput, Refused>
-    requires admitted { IsAdmitted tree.old caller (call.CreatePort partition new.port new.peer new.kind new.sint new.vp new.base new.count) }
+    requires admitted { IsAdmitted tree.old caller (call.CreatePort partition new.port new.peer new.kind
+        new.sint new.vp new.base new.count) }
     requires count { served < MAX_SERVED }
-    ensures { (f : Flat) → IsTied tree.old f → f.served ≡ served → IsOutcome f caller (call.CreatePort partition new.port new.peer new.kind new.sint new.vp new.base new.count) tree.old result tree.new }
+    ensures { (f : Flat) → IsTied tree.old f → f.served ≡ served
+        → IsOutcome f caller (call.CreatePort partition new.port new.peer new.kind new.sint new.vp new.base
+        new.count) tree.old result tree.new }
 {
     if let Some(rule) = unmet_create(tree, caller, partition, new) {
         return Err(Refused::Unmet(rule));
@@ -71,7 +74,9 @@ fn unmet_create<A: Allocator>(
     new: NewPort,
 ) -> Option<Rule>
     requires { AreLawful tree.now }
-    ensures { (f : Flat) → IsTied tree.now f → result ≡ unmet_further f caller (call.CreatePort partition new.port new.peer new.kind new.sint new.vp new.base new.count) }
+    ensures { (f : Flat) → IsTied tree.now f → result
+        ≡ unmet_further f caller (call.CreatePort partition new.port new.peer new.kind new.sint new.vp
+        new.base new.count) }
 {
     let target = meant(caller, partition);
     if !is_state_allowed(tree, target, States::Active) {
@@ -110,7 +115,8 @@ pub fn delete_port<A: Allocator>(
     port: u32,
 ) -> Result<CallOutput, Refused>
     requires { IsAdmitted tree.old caller (call.DeletePort partition port) }
-    ensures { (f : Flat) → IsTied tree.old f → IsOutcome f caller (call.DeletePort partition port) tree.old result tree.new }
+    ensures { (f : Flat) → IsTied tree.old f
+        → IsOutcome f caller (call.DeletePort partition port) tree.old result tree.new }
 {
     let target = meant(caller, partition);
     if !is_state_allowed(tree, target, States::Active) {
@@ -123,8 +129,8 @@ pub fn delete_port<A: Allocator>(
     Ok(CallOutput::new())
 }
 
-/// HvConnectPort: the target gets a connection, which keeps the port's partition, id, type and birth. It uses 1 page of the
-/// target's pool.
+/// HvConnectPort: the target gets a connection, which keeps the port's partition, id, type and birth. It
+/// uses 1 page of the target's pool.
 pub fn connect_port<A: Allocator>(
     tree: &mut Partitions<A>,
     caller: u64,
@@ -135,7 +141,9 @@ pub fn connect_port<A: Allocator>(
     kind: PortKind,
 ) -> Result<CallOutput, Refused>
     requires { IsAdmitted tree.old caller (call.ConnectPort partition connection port_partition port kind) }
-    ensures { (f : Flat) → IsTied tree.old f → IsOutcome f caller (call.ConnectPort partition connection port_partition port kind) tree.old result tree.new }
+    ensures { (f : Flat) → IsTied tree.old f
+        → IsOutcome f caller (call.ConnectPort partition connection port_partition port kind) tree.old
+        result tree.new }
 {
     if let Some(rule) = unmet_connect(
         tree,
@@ -173,7 +181,8 @@ fn unmet_connect<A: Allocator>(
     kind: PortKind,
 ) -> Option<Rule>
     requires { AreLawful tree.now }
-    ensures { (f : Flat) → IsTied tree.now f → result ≡ unmet_further f caller (call.ConnectPort partition connection port_partition port kind) }
+    ensures { (f : Flat) → IsTied tree.now f → result
+        ≡ unmet_further f caller (call.ConnectPort partition connection port_partition port kind) }
 {
     let target = meant(caller, partition);
     let part = meant(caller, port_partition);
@@ -209,7 +218,8 @@ pub fn disconnect_port<A: Allocator>(
     connection: u32,
 ) -> Result<CallOutput, Refused>
     requires { IsAdmitted tree.old caller (call.DisconnectPort partition connection) }
-    ensures { (f : Flat) → IsTied tree.old f → IsOutcome f caller (call.DisconnectPort partition connection) tree.old result tree.new }
+    ensures { (f : Flat) → IsTied tree.old f
+        → IsOutcome f caller (call.DisconnectPort partition connection) tree.old result tree.new }
 {
     let target = meant(caller, partition);
     if !is_state_allowed(tree, target, States::Active) {

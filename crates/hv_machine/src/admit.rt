@@ -17,15 +17,17 @@ use hv_tie::{unmet_by_caller, unmet_by_target};
 use std::alloc::Allocator;
 
 impl<A: Allocator> Machine<A> {
-    // The call that a frame holds where P1 to P10 are met, and what its input value says; else the first of them that
-    // isn't met.
+    // The call that a frame holds where P1 to P10 are met, and what its input value says; else the first
+    // of them that isn't met.
     pub fn admit<'f>(&self, by: Caller, frame: &'f Frame<A>) -> Result<(Shape, Call<'f>), Rule>
         ensures shape { IfOk result (λ asked. IsShape frame.now asked.0) }
         ensures call { IfOk result (λ asked. IsCall frame.now asked.0 asked.1) }
         ensures bounded { IfOk result (λ asked. IsBounded asked.1) }
         ensures access { IfOk result (λ asked. (f : Flat) → IsFlat self.now f → HasAccess f by.part asked.1) }
-        ensures further { IfOk result (λ asked. (f : Flat) → IsFlat self.now f → unmet f (call_event by frame.now) ≡ unmet_further f by.part asked.1) }
-        ensures first { IfErr result (λ rule. (f : Flat) → IsFlat self.now f → unmet f (call_event by frame.now) ≡ Some rule) }
+        ensures further { IfOk result (λ asked. (f : Flat) → IsFlat self.now f
+            → unmet f (call_event by frame.now) ≡ unmet_further f by.part asked.1) }
+        ensures first { IfErr result (λ rule. (f : Flat) → IsFlat self.now f
+            → unmet f (call_event by frame.now) ≡ Some rule) }
     {
         if let Some(rule) = unmet_by_caller(&self.tree, by) {
             return Err(rule);

@@ -1,5 +1,6 @@
 // The machine as it boots.
-ghost use Rattle.std.specs.Prelude.{◌≡◌, ◌+◌, ◌≤◌, ◌&&◌, ℕ, Some, None, cond, nat_le, nat_lt, IfOk, IfErr, OnOk};
+ghost use Rattle.std.specs.Prelude.{◌≡◌, ◌+◌, ◌≤◌, ◌&&◌, ℕ, Some, None, cond, nat_le, nat_lt, IfOk, IfErr};
+ghost use Rattle.std.specs.Prelude.{OnOk};
 ghost use Rattle.std.specs.FinMap as map;
 ghost use Rattle.std.specs.FinSet as set;
 ghost use Rattle.hv_partition.specs.Partition.{pages_in, with_pages};
@@ -27,7 +28,8 @@ impl<A: Allocator + Copy> Machine<A> {
         ensures state { IfOk result (λ m. IsFlat m (booted config)) }
         ensures pages { IfOk result (λ m. m.pages ≡ config.pages) }
 
-        // The state is lawful, so that what is said of each flat state that the machine stands for is said of one.
+        // The state is lawful, so that what is said of each flat state that the machine stands for is
+        // said of one.
         ensures lasting { IfOk result IsLasting }
         ensures sound { IfOk result IsSound }
     {

@@ -26,8 +26,8 @@ use hv_properties::{get_partition_property, set_partition_property};
 use hv_tie::{Partitions, Refused};
 use std::alloc::Allocator;
 
-// Hands a call for which P1 to P10 are met to its chapter. `next` is the id that the next partition gets, and `served` how many
-// events were served.
+// Hands a call for which P1 to P10 are met to its chapter. `next` is the id that the next partition gets,
+// and `served` how many events were served.
 pub fn dispatch<A: Allocator + Clone>(
     tree: &mut Partitions<A>,
     alloc: &A,
@@ -38,7 +38,8 @@ pub fn dispatch<A: Allocator + Clone>(
 ) -> Result<CallOutput, Refused>
     requires admitted { (a : IsAdmitted tree.old caller call.now) × (a.rows.flat.next ≡ next) }
     requires count { served < MAX_SERVED }
-    ensures { (f : Flat) → IsTied tree.old f → f.next ≡ next → f.served ≡ served → IsOutcome f caller call.now tree.old result tree.new }
+    ensures { (f : Flat) → IsTied tree.old f → f.next ≡ next → f.served ≡ served
+        → IsOutcome f caller call.now tree.old result tree.new }
 {
     match call {
         Call::CreatePartition { flags } => create_partition(tree, alloc, caller, next, *flags),
@@ -130,7 +131,8 @@ pub fn dispatch_access<A: Allocator>(
     by: Caller,
     access: Access,
 ) -> Result<Output, Rule>
-    ensures { (f : Flat) → IsTied tree.old f → IsAccess {A = A} f by (action_of access) tree.old result tree.new }
+    ensures { (f : Flat) → IsTied tree.old f
+        → IsAccess {A = A} f by (action_of access) tree.old result tree.new }
 {
     match access {
         Access::ReadMsr(msr) => read_msr(tree, by, msr),

@@ -46,7 +46,12 @@ impl<A: Allocator> Model for Machine<A> {
 
     ghost view = { λ m. record { rows = roomless m.tree; pages = m.pages; next = m.next; served = m.served } };
 
-    ghost invariant = { λ m. IsLasting (record { rows = roomless m.tree; pages = m.pages; next = m.next; served = m.served }) };
+    ghost invariant = { λ m. IsLasting (record {
+      rows = roomless m.tree;
+      pages = m.pages;
+      next = m.next;
+      served = m.served;
+    }) };
 }
 
 /// Why an event couldn't be handled by the host. Nothing changed.
@@ -67,7 +72,8 @@ impl<A: Allocator + Clone> Machine<A> {
         ensures reply { (f : Flat) → IsFlat self.old f → IfOk result (λ r. r ≡ (step f event.now).1) }
         ensures state { (f : Flat) → IsFlat self.old f → OnOk result (IsFlat self.new (step f event.now).0) }
 
-        // The host refuses only what would be served, and only where it may take memory. Then nothing changes.
+        // The host refuses only what would be served, and only where it may take memory. Then nothing
+        // changes.
         ensures refused { (f : Flat) → IsFlat self.old f → OnErr result (unmet f event.now ≡ None) }
         ensures memory { OnErr result (IsTrue (may_take_memory event.now)) }
         ensures kept { OnErr result (self.new ≡ self.old) }
@@ -76,8 +82,9 @@ impl<A: Allocator + Clone> Machine<A> {
         ensures asked { IfOk result (NamesAsked event.now) }
         ensures result { (frame : CallFrame A) → event.now.what ≡ Hypercall frame → IfOk result HasResult }
 
-        // The machine stands for a lawful flat state, so that what is said of each is said of one; each boot page stays
-        // in exactly one page set, what is in use within what is pooled, and each mask within the parent's.
+        // The machine stands for a lawful flat state, so that what is said of each is said of one; each
+        // boot page stays in exactly one page set, what is in use within what is pooled, and each mask
+        // within the parent's.
         ensures lasting { IsLasting self.new }
         ensures pages { self.new.pages ≡ self.old.pages }
         ensures sound { IsSound self.new }
@@ -91,13 +98,16 @@ impl<A: Allocator + Clone> Machine<A> {
         }
     }
 
-    /// Takes one hypercall of a processor, as [`Machine::step`] takes it as an event, with the same promises. A
-    /// [`CallReply`] has no room for the output of an access.
+    /// Takes one hypercall of a processor, as [`Machine::step`] takes it as an event, with the same
+    /// promises. A [`CallReply`] has no room for the output of an access.
     pub fn hypercall(&mut self, by: Caller, frame: &Frame<A>) -> Result<CallReply, HostRefused>
         requires { self.old.served < MAX_SERVED }
-        ensures reply { (f : Flat) → IsFlat self.old f → IfOk result (λ r. r ≡ (step f (call_event by frame.now)).1) }
-        ensures state { (f : Flat) → IsFlat self.old f → OnOk result (IsFlat self.new (step f (call_event by frame.now)).0) }
-        ensures refused { (f : Flat) → IsFlat self.old f → OnErr result (unmet f (call_event by frame.now) ≡ None) }
+        ensures reply { (f : Flat) → IsFlat self.old f
+            → IfOk result (λ r. r ≡ (step f (call_event by frame.now)).1) }
+        ensures state { (f : Flat) → IsFlat self.old f
+            → OnOk result (IsFlat self.new (step f (call_event by frame.now)).0) }
+        ensures refused { (f : Flat) → IsFlat self.old f
+            → OnErr result (unmet f (call_event by frame.now) ≡ None) }
         ensures memory { OnErr result (IsTrue (may_take_memory (call_event by frame.now))) }
         ensures kept { OnErr result (self.new ≡ self.old) }
         ensures asked { IfOk result (NamesAsked (call_event by frame.now)) }
@@ -122,8 +132,10 @@ impl<A: Allocator + Clone> Machine<A> {
     // One access.
     fn access(&mut self, by: Caller, access: Access) -> Reply
         requires { self.old.served < MAX_SERVED }
-        ensures reply { (f : Flat) → IsFlat self.old f → result ≡ (step {A = A} f (access_event by access)).1 }
-        ensures state { (f : Flat) → IsFlat self.old f → IsFlat self.new (step {A = A} f (access_event by access)).0 }
+        ensures reply { (f : Flat) → IsFlat self.old f → result
+            ≡ (step {A = A} f (access_event by access)).1 }
+        ensures state { (f : Flat) → IsFlat self.old f
+            → IsFlat self.new (step {A = A} f (access_event by access)).0 }
         ensures asked { NamesAsked {A = A} (access_event by access) result }
         ensures lasting { IsLasting self.new }
         ensures pages { self.new.pages ≡ self.old.pages }
@@ -145,7 +157,8 @@ impl<A: Allocator + Clone> Machine<A> {
         requires count { self.old.served < MAX_SERVED }
         requires bounded { IsBounded call.now }
         requires access { (f : Flat) → IsFlat self.old f → HasAccess f by.part call.now }
-        ensures outcome { (f : Flat) → IsFlat self.old f → IsResult f by.part call.now self.old result self.new }
+        ensures outcome { (f : Flat) → IsFlat self.old f
+            → IsResult f by.part call.now self.old result self.new }
         ensures lasting { IsLasting self.new }
         ensures pages { self.new.pages ≡ self.old.pages }
     {
@@ -182,8 +195,8 @@ impl<A: Allocator> Machine<A> {
         self.next
     }
 
-    /// The partitions, as a tree. What contracts see of a machine is this tree without the room of its page sets,
-    /// processors and tables.
+    /// The partitions, as a tree. What contracts see of a machine is this tree without the room of its
+    /// page sets, processors and tables.
     pub fn tree(&self) -> &Partitions<A>
         ensures { roomless result.now ≡ self.now.rows }
     {

@@ -13,7 +13,8 @@ use std::alloc::Allocator;
 
 /// A read of the message slot of one of the caller's SINTs, in 256 bytes.
 pub fn read_slot<A: Allocator>(tree: &Partitions<A>, by: Caller, sint: u8) -> Result<Output, Rule>
-    ensures { (f : Flat) → IsTied tree.now f → IsAccess {A = A} f by (action.ReadSlot sint) tree.now result tree.now }
+    ensures { (f : Flat) → IsTied tree.now f
+        → IsAccess {A = A} f by (action.ReadSlot sint) tree.now result tree.now }
 {
     if u32::from(sint) >= SINTS {
         return Err(Rule::Subject);
@@ -27,7 +28,8 @@ pub fn clear_slot<A: Allocator>(
     by: Caller,
     sint: u8,
 ) -> Result<Output, Rule>
-    ensures { (f : Flat) → IsTied tree.old f → IsAccess {A = A} f by (action.ClearSlot sint) tree.old result tree.new }
+    ensures { (f : Flat) → IsTied tree.old f
+        → IsAccess {A = A} f by (action.ClearSlot sint) tree.old result tree.new }
 {
     if u32::from(sint) >= SINTS {
         return Err(Rule::Subject);
@@ -38,7 +40,8 @@ pub fn clear_slot<A: Allocator>(
 
 /// A read of the event flags of one of the caller's SINTs, in 256 bytes.
 pub fn read_flags<A: Allocator>(tree: &Partitions<A>, by: Caller, sint: u8) -> Result<Output, Rule>
-    ensures { (f : Flat) → IsTied tree.now f → IsAccess {A = A} f by (action.ReadFlags sint) tree.now result tree.now }
+    ensures { (f : Flat) → IsTied tree.now f
+        → IsAccess {A = A} f by (action.ReadFlags sint) tree.now result tree.now }
 {
     if u32::from(sint) >= SINTS {
         return Err(Rule::Subject);
@@ -53,7 +56,8 @@ pub fn clear_flag<A: Allocator>(
     sint: u8,
     flag: u16,
 ) -> Result<Output, Rule>
-    ensures { (f : Flat) → IsTied tree.old f → IsAccess {A = A} f by (action.ClearFlag sint flag) tree.old result tree.new }
+    ensures { (f : Flat) → IsTied tree.old f
+        → IsAccess {A = A} f by (action.ClearFlag sint flag) tree.old result tree.new }
 {
     if u32::from(sint) >= SINTS || u32::from(flag) >= EVENT_FLAGS {
         return Err(Rule::Subject);
@@ -64,7 +68,8 @@ pub fn clear_flag<A: Allocator>(
 
 /// The highest of the vectors that are pending at the caller is taken, in 1 byte, which is 0 where none is.
 pub fn take_interrupt<A: Allocator>(tree: &mut Partitions<A>, by: Caller) -> Result<Output, Rule>
-    ensures { (f : Flat) → IsTied tree.old f → IsAccess {A = A} f by action.TakeInterrupt tree.old result tree.new }
+    ensures { (f : Flat) → IsTied tree.old f
+        → IsAccess {A = A} f by action.TakeInterrupt tree.old result tree.new }
 {
     let vector = take(tree, by.part, by.vp);
     let mut output = Output::new();

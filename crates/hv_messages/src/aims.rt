@@ -2,7 +2,8 @@
 ghost use Rattle.std.specs.Prelude.{◌≡◌, option_map, IfOk, IfErr, Some};
 ghost use Rattle.std.specs.FinMap.{get};
 ghost use Rattle.hv_policy.specs.Flat.{Flat};
-ghost use Rattle.hv_policy.specs.Met.{has_message_room as has_message_room_of, is_ready_for_flags, is_ready_for_messages};
+ghost use Rattle.hv_policy.specs.Met.{has_message_room as has_message_room_of, is_ready_for_flags};
+ghost use Rattle.hv_policy.specs.Met.{is_ready_for_messages};
 ghost use Rattle.hv_policy.specs.Rules.{first_unmet};
 ghost use Rattle.hv_tie.specs.Served.{AreLawful};
 ghost use Rattle.hv_tie.specs.Tie.{IsTied, conn_row_of, port_row_of};
@@ -22,14 +23,17 @@ pub struct Target {
     pub port: Port,
 }
 
-// P16, P17 and P19 of a post or a signal: where the caller's connection leads, or the first of them that isn't met.
+// P16, P17 and P19 of a post or a signal: where the caller's connection leads, or the first of them that
+// isn't met.
 pub fn reach<A: Allocator>(
     tree: &Partitions<A>,
     caller: u64,
     connection: u32,
 ) -> Result<Target, Rule>
-    ensures reached { IfOk result (λ target. (f : Flat) → IsTied tree.now f → IsReached f (caller, connection) target) }
-    ensures first { IfErr result (λ rule. (f : Flat) → IsTied tree.now f → first_unmet (reach_asks f (caller, connection)) ≡ Some rule) }
+    ensures reached { IfOk result (λ target. (f : Flat) → IsTied tree.now f
+        → IsReached f (caller, connection) target) }
+    ensures first { IfErr result (λ rule. (f : Flat) → IsTied tree.now f
+        → first_unmet (reach_asks f (caller, connection)) ≡ Some rule) }
 {
     let Some(conn) = conn_of(tree, caller, connection) else {
         return Err(Rule::Connection);
@@ -92,8 +96,8 @@ pub fn takes_flags<A: Allocator>(tree: &Partitions<A>, target: Target) -> bool
     }
 }
 
-// P23: whether fewer than the most messages of the port and its birth are kept. They stand at the port's processor, if
-// anywhere.
+// P23: whether fewer than the most messages of the port and its birth are kept. They stand at the port's
+// processor, if anywhere.
 pub fn has_message_room<A: Allocator>(
     tree: &Partitions<A>,
     caller: u64,

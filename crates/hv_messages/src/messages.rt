@@ -18,8 +18,8 @@ use hv_ports::Port;
 use hv_tie::{Partitions, Refused};
 use std::alloc::{AllocError, Allocator};
 
-/// HvPostMessage: a message goes last among those at the SINT at which the connection's port aims. Where none is shown there, the
-/// oldest is, and the SINT raises its vector.
+/// HvPostMessage: a message goes last among those at the SINT at which the connection's port aims. Where
+/// none is shown there, the oldest is, and the SINT raises its vector.
 pub fn post_message<A: Allocator + Clone>(
     tree: &mut Partitions<A>,
     caller: u64,
@@ -28,7 +28,8 @@ pub fn post_message<A: Allocator + Clone>(
     payload: &Payload<'_>,
 ) -> Result<CallOutput, Refused>
     requires { IsAdmitted tree.old caller (call.PostMessage connection message_type payload.now) }
-    ensures { (f : Flat) → IsTied tree.old f → IsOutcome f caller (call.PostMessage connection message_type payload.now) tree.old result tree.new }
+    ensures { (f : Flat) → IsTied tree.old f
+        → IsOutcome f caller (call.PostMessage connection message_type payload.now) tree.old result tree.new }
 {
     let target = match ask_post(tree, caller, connection) {
         Ok(target) => target,
@@ -54,9 +55,12 @@ fn ask_post<A: Allocator>(
     connection: u32,
 ) -> Result<Target, Rule>
     requires { AreLawful tree.now }
-    ensures reached { IfOk result (λ target. (f : Flat) → IsTied tree.now f → IsReached f (caller, connection) target) }
-    ensures met { IfOk result (λ _. (f : Flat) (type : ℕ) (payload : List ℕ) → IsTied tree.now f → unmet_further f caller (call.PostMessage connection type payload) ≡ None) }
-    ensures first { IfErr result (λ rule. (f : Flat) (type : ℕ) (payload : List ℕ) → IsTied tree.now f → unmet_further f caller (call.PostMessage connection type payload) ≡ Some rule) }
+    ensures reached { IfOk result (λ target. (f : Flat) → IsTied tree.now f
+        → IsReached f (caller, connection) target) }
+    ensures met { IfOk result (λ _. (f : Flat) (type : ℕ) (payload : List ℕ) → IsTied tree.now f
+        → unmet_further f caller (call.PostMessage connection type payload) ≡ None) }
+    ensures first { IfErr result (λ rule. (f : Flat) (type : ℕ) (payload : List ℕ) → IsTied tree.now f
+        → unmet_further f caller (call.PostMessage connection type payload) ≡ Some rule) }
 {
     let target = match reach(tree, caller, connection) {
         Ok(target) => target,
@@ -84,8 +88,8 @@ fn is_for_messages(port: Port) -> bool
     }
 }
 
-/// HvSignalEvent: an event flag of the SINT at which the connection's port aims is set, counted from the port's first flag. Where
-/// it was clear, the SINT raises its vector.
+/// HvSignalEvent: an event flag of the SINT at which the connection's port aims is set, counted from the
+/// port's first flag. Where it was clear, the SINT raises its vector.
 pub fn signal_event<A: Allocator>(
     tree: &mut Partitions<A>,
     caller: u64,
@@ -93,7 +97,8 @@ pub fn signal_event<A: Allocator>(
     flag: u16,
 ) -> Result<CallOutput, Refused>
     requires { IsAdmitted tree.old caller (call.SignalEvent connection flag) }
-    ensures { (f : Flat) → IsTied tree.old f → IsOutcome f caller (call.SignalEvent connection flag) tree.old result tree.new }
+    ensures { (f : Flat) → IsTied tree.old f
+        → IsOutcome f caller (call.SignalEvent connection flag) tree.old result tree.new }
 {
     let target = match ask_signal(tree, caller, connection, flag) {
         Ok(target) => target,
@@ -117,10 +122,13 @@ fn ask_signal<A: Allocator>(
     connection: u32,
     flag: u16,
 ) -> Result<Target, Rule>
-    ensures reached { IfOk result (λ target. (f : Flat) → IsTied tree.now f → IsReached f (caller, connection) target) }
+    ensures reached { IfOk result (λ target. (f : Flat) → IsTied tree.now f
+        → IsReached f (caller, connection) target) }
     ensures flag { IfOk result (λ target. flag < target.port.count) }
-    ensures met { IfOk result (λ _. (f : Flat) → IsTied tree.now f → unmet_further f caller (call.SignalEvent connection flag) ≡ None) }
-    ensures first { IfErr result (λ rule. (f : Flat) → IsTied tree.now f → unmet_further f caller (call.SignalEvent connection flag) ≡ Some rule) }
+    ensures met { IfOk result (λ _. (f : Flat) → IsTied tree.now f
+        → unmet_further f caller (call.SignalEvent connection flag) ≡ None) }
+    ensures first { IfErr result (λ rule. (f : Flat) → IsTied tree.now f
+        → unmet_further f caller (call.SignalEvent connection flag) ≡ Some rule) }
 {
     let target = match reach(tree, caller, connection) {
         Ok(target) => target,

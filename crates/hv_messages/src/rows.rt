@@ -24,7 +24,8 @@ pub fn post<A: Allocator + Clone>(
     message: Message,
 ) -> Result<(), AllocError>
     requires { sint < SINTS }
-    ensures posted { OnOk result (tree.new ≡ changed tree.old id (with_state_of index (posted sint message))) }
+    ensures posted { OnOk result (tree.new
+        ≡ changed tree.old id (with_state_of index (posted sint message))) }
     ensures kept { OnErr result (tree.new ≡ tree.old) }
 {
     if let Some(partition) = tree.get_mut(id) {

@@ -18,9 +18,9 @@ use std::alloc::Global;
 use std::sync::Wait;
 use std::sync::ledger::Ledger;
 
-/// Runs the lines one after the other, and tells why the first processor that the host stopped was stopped, in the order of
-/// their first lines in the phase. A processor that was stopped does no line more, and no phase begins after one in which a
-/// processor was stopped.
+/// Runs the lines one after the other, and tells why the first processor that the host stopped was
+/// stopped, in the order of their first lines in the phase. A processor that was stopped does no line
+/// more, and no phase begins after one in which a processor was stopped.
 pub fn run_in_order<L: Ledger, R: Wait, G: Gate>(
     rt: &R,
     gate: &G,
@@ -61,7 +61,8 @@ fn run_line<L: Ledger, R: Wait, G: Gate>(
     requires different { AreDifferent (callers_in tasks.old) }
     requires named { Contains (callers_in tasks.old) line.by }
     ensures callers { IsPermutation (callers_in tasks.old) (callers_in tasks.new) }
-    ensures run { (ran : List (Line Global)) → All (IsAfter ran) tasks.old → All (IsAfter (ran ++ line ∷ [])) tasks.new }
+    ensures run { (ran : List (Line Global)) → All (IsAfter ran) tasks.old
+        → All (IsAfter (ran ++ line ∷ [])) tasks.new }
 {
     let Line { by, action, .. } = line;
     let place = enlist(tasks, members, by);
@@ -69,7 +70,8 @@ fn run_line<L: Ledger, R: Wait, G: Gate>(
     if place < members { members } else { place + 1 }
 }
 
-// Lets a task's processor do one thing, unless it was stopped. Where the host refuses an event of it, it is stopped.
+// Lets a task's processor do one thing, unless it was stopped. Where the host refuses an event of it, it
+// is stopped.
 fn do_next<L: Ledger, R: Wait, G: Gate>(
     rt: &R,
     gate: &G,
@@ -77,7 +79,8 @@ fn do_next<L: Ledger, R: Wait, G: Gate>(
     task: &mut Task<L>,
     action: Action<Global>,
 )
-    ensures done { task.new.end ≡ Finished → (task.old.end ≡ Finished) × HasPerformed action task.old.work.pass task.new.work.pass }
+    ensures done { task.new.end ≡ Finished → (task.old.end ≡ Finished)
+        × HasPerformed action task.old.work.pass task.new.work.pass }
     ensures caller { task.new.work.pass.caller ≡ task.old.work.pass.caller }
     ensures actions { task.new.work.actions.items ≡ task.old.work.actions.items }
     ensures stopped { task.old.end ≢ Finished → task.new ≡ task.old }

@@ -1,9 +1,10 @@
 //! A script's lines, run on passes: in threads, or in the script's order.
 //!
-//! Each processor that a script names has one [`hv_threads::Pass`] for the whole run. In a phase, which ends before the next
-//! one begins, each of its processors drives its lines in order, in a thread of its own; or all lines run in the script's
-//! order, with no thread. At the end the passes' receipts are settled with the history. [`run_lines`] answers the machine
-//! with its history, and why the lines didn't all run, if they didn't. Scripts and phases are this project's own.
+//! Each processor that a script names has one [`hv_threads::Pass`] for the whole run. In a phase, which
+//! ends before the next one begins, each of its processors drives its lines in order, in a thread of its
+//! own; or all lines run in the script's order, with no thread. At the end the passes' receipts are
+//! settled with the history. [`run_lines`] answers the machine with its history, and why the lines didn't
+//! all run, if they didn't. Scripts and phases are this project's own.
 #![tactic(auto)]
 
 mod callers;

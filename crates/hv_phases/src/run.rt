@@ -27,10 +27,10 @@ pub enum Unfinished {
     Settlement(SettleFault),
 }
 
-/// Runs the lines of a script on a machine to which nothing happened yet, each processor of a phase in a thread of its own,
-/// or with `serial` all in their order and with no thread. Answers the machine with its history, and why it isn't a whole
-/// run of the lines, if it isn't. Where it is, each processor's events are those that its lines ask for, in their order
-/// (`lines`).
+/// Runs the lines of a script on a machine to which nothing happened yet, each processor of a phase in a
+/// thread of its own, or with `serial` all in their order and with no thread. Answers the machine with
+/// its history, and why it isn't a whole run of the lines, if it isn't. Where it is, each processor's
+/// events are those that its lines ask for, in their order (`lines`).
 pub fn run_lines<R: Threads + Wait + Sync, G: Gate>(
     rt: &R,
     gate: &G,

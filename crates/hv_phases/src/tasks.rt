@@ -1,5 +1,6 @@
 // The tasks of a script's processors.
-ghost use Rattle.std.specs.Prelude.{◌≡◌, ◌≤◌, ◌<◌, [], ℕ, All, IfOk, IfNone, IfSome, length, map, reverse, slice_index_or, vec_capacity, vec_len};
+ghost use Rattle.std.specs.Prelude.{◌≡◌, ◌≤◌, ◌<◌, [], ℕ, All, IfOk, IfNone, IfSome, length, map, reverse};
+ghost use Rattle.std.specs.Prelude.{slice_index_or, vec_capacity, vec_len};
 ghost use Rattle.std.specs.List.{Contains};
 ghost use Rattle.std.specs.List.Sorted.{IsPermutation};
 ghost use Rattle.hv_phases.specs.Crew.{AreIdleFrom, IsGoing, callers_in, passes_in};
@@ -17,7 +18,8 @@ pub fn tasks_of<L: Ledger>(passes: &mut Vec<Pass<L>>) -> Result<Vec<Task<L>>, Al
     ensures tasks { IfOk result (λ tasks. passes_in tasks.items ≡ reverse passes.old.items) }
     ensures going { IfOk result (λ tasks. All IsGoing tasks.items) }
     ensures idle { IfOk result (λ tasks. AreIdleFrom 0 tasks.items) }
-    ensures room { IfOk result (λ tasks. (passes.new.items ≡ []) × (vec_len tasks ≤ vec_capacity passes.new)) }
+    ensures room { IfOk result (λ tasks. (passes.new.items ≡ [])
+        × (vec_len tasks ≤ vec_capacity passes.new)) }
 {
     let alloc = *passes.allocator();
     let mut tasks = Vec::new(alloc);
@@ -53,7 +55,9 @@ pub fn give_back<L: Ledger>(tasks: Vec<Task<L>>, passes: &mut Vec<Pass<L>>)
 /// Why the first task that the host stopped was stopped, in the order in which they stand.
 pub fn first_stop<L: Ledger>(tasks: &[Task<L>]) -> Option<HostRefused>
     ensures none { IfNone result (All IsGoing tasks.now) }
-    ensures some { IfSome result (λ why. (i : ℕ) × (i < length tasks.now) × ((d : Task L) → (slice_index_or tasks.now i d).end ≡ Host why) × ((j : ℕ) → j < i → (d : Task L) → IsGoing (slice_index_or tasks.now j d))) }
+    ensures some { IfSome result (λ why. (i : ℕ) × (i < length tasks.now)
+        × ((d : Task L) → (slice_index_or tasks.now i d).end ≡ Host why)
+        × ((j : ℕ) → j < i → (d : Task L) → IsGoing (slice_index_or tasks.now j d))) }
 {
     for i in 0..tasks.len() {
         match tasks[i].end {
@@ -78,14 +82,16 @@ fn place_of<L: Ledger>(tasks: &[Task<L>], by: Caller) -> usize
     unreachable!()
 }
 
-/// Brings the task of a processor to the place `members`, unless it stands before that, and tells where it stands: before
-/// that place stand the processors of the phase that had a line, in the order of their first lines.
+/// Brings the task of a processor to the place `members`, unless it stands before that, and tells where
+/// it stands: before that place stand the processors of the phase that had a line, in the order of their
+/// first lines.
 pub fn enlist<L: Ledger>(tasks: &mut [Task<L>], members: usize, by: Caller) -> usize
     requires { Contains (callers_in tasks.old) by }
     ensures same { IsPermutation tasks.old tasks.new }
     ensures there { (result ≤ members) × (result < length tasks.new) }
     ensures by { (d : Task L) → (slice_index_or tasks.new result d).work.pass.caller ≡ by }
-    ensures idle { AreIdleFrom members tasks.old → (i : ℕ) (d : Task L) → members ≤ i → result < i → i < length tasks.new → (slice_index_or tasks.new i d).work.actions.items ≡ [] }
+    ensures idle { AreIdleFrom members tasks.old → (i : ℕ) (d : Task L) → members ≤ i → result < i
+        → i < length tasks.new → (slice_index_or tasks.new i d).work.actions.items ≡ [] }
 {
     let place = place_of(tasks, by);
     if place < members {

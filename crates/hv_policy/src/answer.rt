@@ -30,7 +30,8 @@ pub enum Answer {
     },
 }
 
-/// The output bytes of a simple hypercall, or of one element of a rep hypercall: at most two numbers of 8 bytes.
+/// The output bytes of a simple hypercall, or of one element of a rep hypercall: at most two numbers of 8
+/// bytes.
 #[derive(Debug, Drop)]
 pub struct CallOutput {
     first: u64,
@@ -105,7 +106,8 @@ impl Model for CallReply {
 }
 
 impl CallReply {
-    /// The reply in two parts: the answer, and the output's bytes with what stands after them, and how many they are.
+    /// The reply in two parts: the answer, and the output's bytes with what stands after them, and how
+    /// many they are.
     pub fn parts(&self) -> (Answer, [u8; 16], usize)
         ensures reply { reply_of result.0 (take result.2 result.1) ≡ self.now }
         ensures most { result.2 ≤ 16 }

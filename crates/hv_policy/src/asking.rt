@@ -10,12 +10,14 @@ use hv_abi::{AbiFault, Frame, Shape};
 use hv_calls::{Call, Malformed, decode};
 use std::alloc::Allocator;
 
-/// P4 to P7: the call that a frame holds, and what its input value says; else the first of them that isn't met.
+/// P4 to P7: the call that a frame holds, and what its input value says; else the first of them that
+/// isn't met.
 pub fn ask_frame<A: Allocator>(frame: &Frame<A>) -> Result<(Shape, Call<'_>), Rule>
     ensures shape { IfOk result (λ asked. IsShape frame.now asked.0) }
     ensures call { IfOk result (λ asked. IsCall frame.now asked.0 asked.1) }
     ensures met { IfOk result (λ asked. first_unmet (frame_asks asked.0.kind frame.now) ≡ None) }
-    ensures first { IfErr result (λ rule. (f : Flat) (caller : ℕ) → first_unmet (hypercall_asks f caller frame.now (call_of frame.now)) ≡ Some rule) }
+    ensures first { IfErr result (λ rule. (f : Flat) (caller : ℕ)
+        → first_unmet (hypercall_asks f caller frame.now (call_of frame.now)) ≡ Some rule) }
 {
     let shape = match frame.check() {
         Ok(shape) => shape,

@@ -6,8 +6,8 @@ ghost use Rattle.hv_policy.specs.declared.event.Action.TheVariants.{Hypercall};
 use hv_abi::Frame;
 use std::alloc::{AllocError, Allocator};
 
-/// The virtual processor that asks: its partition's id, and its index there. Where one is named, it is `by`; `caller` is
-/// the id of its partition alone.
+/// The virtual processor that asks: its partition's id, and its index there. Where one is named, it is
+/// `by`; `caller` is the id of its partition alone.
 #[derive(Clone, Copy, PartialEq, Eq, Debug)]
 pub struct Caller {
     pub part: u64,

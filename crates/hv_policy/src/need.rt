@@ -52,8 +52,8 @@ pub struct Need {
     pub states: States,
 }
 
-/// The row of a call in the table of needs. One cell looks at the call's parameters: the life states in which a
-/// property may be set.
+/// The row of a call in the table of needs. One cell looks at the call's parameters: the life states in
+/// which a property may be set.
 pub fn needs(call: &Call) -> Need
     ensures { result ≡ needs_of call.now }
 {
@@ -146,8 +146,8 @@ pub fn needs(call: &Call) -> Need
     }
 }
 
-/// The life states in which a property may be set: the mask before the partition runs, the others while it does
-/// too. A code that no property has is refused by P11 before they matter.
+/// The life states in which a property may be set: the mask before the partition runs, the others while
+/// it does too. A code that no property has is refused by P11 before they matter.
 pub fn states_to_set(property: Option<Property>) -> States
     ensures { result ≡ states_to_set_of property }
 {

@@ -3,7 +3,8 @@ ghost use Rattle.std.specs.Prelude.{◌≡◌, ◌<◌, Some};
 ghost use Rattle.hv_defs.specs.declared.sizes.TheConstants.{REPS_END};
 ghost use Rattle.hv_abi.specs.Check.{IsShape, call_of};
 ghost use Rattle.hv_policy.specs.Answer.{reply_with};
-ghost use Rattle.hv_policy.specs.Result.{HasResult, kind_in, refused_reps as refused_reps_of, completed_reps as completed_reps_of, result_of as result_value_of};
+ghost use Rattle.hv_policy.specs.Result.{HasResult, kind_in, refused_reps as refused_reps_of};
+ghost use Rattle.hv_policy.specs.Result.{completed_reps as completed_reps_of, result_of as result_value_of};
 ghost use Rattle.hv_policy.specs.Step.{refusal};
 ghost use Rattle.hv_policy.specs.declared.event.Action.TheVariants.{Hypercall};
 
@@ -74,7 +75,8 @@ fn kind_of(rcx: u64) -> Option<CallKind>
     CallKind::of(InputValue::read(rcx).call)
 }
 
-/// The reps completed of a call with this input value that was refused: its start index where P4 and P5 are met, else 0.
+/// The reps completed of a call with this input value that was refused: its start index where P4 and P5
+/// are met, else 0.
 pub fn refused_reps(rcx: u64) -> u16
     ensures value { result ≡ refused_reps_of rcx }
     ensures fits { result < REPS_END }
@@ -85,7 +87,8 @@ pub fn refused_reps(rcx: u64) -> u16
     }
 }
 
-/// The reps completed of a call with this input value whose last element was served: all of them, and none of a simple call.
+/// The reps completed of a call with this input value whose last element was served: all of them, and
+/// none of a simple call.
 pub fn completed_reps(rcx: u64) -> u16
     ensures value { result ≡ completed_reps_of rcx }
     ensures fits { result < REPS_END }

@@ -21,7 +21,8 @@ pub fn deposit_memory<A: Allocator>(
     page: u64,
 ) -> Result<CallOutput, Refused>
     requires { IsAdmitted tree.old caller (call.DepositMemory partition page) }
-    ensures { (f : Flat) → IsTied tree.old f → IsOutcome f caller (call.DepositMemory partition page) tree.old result tree.new }
+    ensures { (f : Flat) → IsTied tree.old f
+        → IsOutcome f caller (call.DepositMemory partition page) tree.old result tree.new }
 {
     if let Some(rule) = unmet_deposit(tree, caller, partition, page) {
         return Err(Refused::Unmet(rule));
@@ -43,7 +44,8 @@ fn unmet_deposit<A: Allocator>(
     page: u64,
 ) -> Option<Rule>
     requires { AreLawful tree.now }
-    ensures { (f : Flat) → IsTied tree.now f → result ≡ unmet_further f caller (call.DepositMemory partition page) }
+    ensures { (f : Flat) → IsTied tree.now f → result
+        ≡ unmet_further f caller (call.DepositMemory partition page) }
 {
     if !is_state_allowed(tree, meant(caller, partition), States::CreatedOrActive) {
         return Some(Rule::TargetState);
@@ -61,7 +63,8 @@ pub fn withdraw_memory<A: Allocator>(
     partition: u64,
 ) -> Result<CallOutput, Refused>
     requires { IsAdmitted tree.old caller (call.WithdrawMemory partition) }
-    ensures { (f : Flat) → IsTied tree.old f → IsOutcome f caller (call.WithdrawMemory partition) tree.old result tree.new }
+    ensures { (f : Flat) → IsTied tree.old f
+        → IsOutcome f caller (call.WithdrawMemory partition) tree.old result tree.new }
 {
     if let Some(rule) = unmet_withdraw(tree, caller, partition) {
         return Err(Refused::Unmet(rule));
@@ -77,7 +80,8 @@ pub fn withdraw_memory<A: Allocator>(
 // P24.
 fn unmet_withdraw<A: Allocator>(tree: &Partitions<A>, caller: u64, partition: u64) -> Option<Rule>
     requires { AreLawful tree.now }
-    ensures { (f : Flat) → IsTied tree.now f → result ≡ unmet_further f caller (call.WithdrawMemory partition) }
+    ensures { (f : Flat) → IsTied tree.now f → result
+        ≡ unmet_further f caller (call.WithdrawMemory partition) }
 {
     if !has_available(tree, meant(caller, partition), 1) {
         return Some(Rule::Pages);
@@ -92,7 +96,8 @@ pub fn get_memory_balance<A: Allocator>(
     partition: u64,
 ) -> Result<CallOutput, Refused>
     requires { AreLawful tree.now }
-    ensures { (f : Flat) → IsTied tree.now f → IsOutcome f caller (call.GetMemoryBalance partition) tree.now result tree.now }
+    ensures { (f : Flat) → IsTied tree.now f
+        → IsOutcome f caller (call.GetMemoryBalance partition) tree.now result tree.now }
 {
     let balance = memory_balance(tree, meant(caller, partition));
     let mut output = number_output(balance.available);

@@ -1,7 +1,10 @@
-// What a deposit and a withdrawal change in the tree: one page goes from one partition to another, or within one.
+// What a deposit and a withdrawal change in the tree: one page goes from one partition to another, or
+// within one.
 ghost use Rattle.std.specs.Prelude.{◌≡◌, IsSome, OnOk, OnErr};
 ghost use Rattle.hv_tie.specs.Room.{IsSameButRoom};
-ghost use Rattle.hv_pools.specs.Change.{CanGain, CanLose, HasGained, HasLost, HasLostLowest, HasOneRoom, HasPages, IsDeposited, IsWithdrawn, MayDeposit, MayWithdraw, pages_at};
+ghost use Rattle.hv_pools.specs.Change.{CanGain, CanLose, HasGained, HasLost, HasLostLowest, HasOneRoom};
+ghost use Rattle.hv_pools.specs.Change.{HasPages, IsDeposited, IsWithdrawn, MayDeposit, MayWithdraw};
+ghost use Rattle.hv_pools.specs.Change.{pages_at};
 
 use hv_partition::{PageKind, Partition};
 use hv_tie::Partitions;

@@ -16,7 +16,8 @@ use std::alloc::Allocator;
 
 /// A read of one of the caller's model-specific registers: its value, in 8 bytes.
 pub fn read_msr<A: Allocator>(tree: &Partitions<A>, by: Caller, msr: u32) -> Result<Output, Rule>
-    ensures { (f : Flat) → IsTied tree.now f → IsAccess {A = A} f by (action.ReadMsr msr) tree.now result tree.now }
+    ensures { (f : Flat) → IsTied tree.now f
+        → IsAccess {A = A} f by (action.ReadMsr msr) tree.now result tree.now }
 {
     if let Some(rule) = unmet_msr(tree, by, msr) {
         return Err(rule);
@@ -33,7 +34,8 @@ pub fn write_msr<A: Allocator>(
     msr: u32,
     value: u64,
 ) -> Result<Output, Rule>
-    ensures { (f : Flat) → IsTied tree.old f → IsAccess {A = A} f by (action.WriteMsr msr value) tree.old result tree.new }
+    ensures { (f : Flat) → IsTied tree.old f
+        → IsAccess {A = A} f by (action.WriteMsr msr value) tree.old result tree.new }
 {
     if let Some(rule) = unmet_msr(tree, by, msr) {
         return Err(rule);

@@ -1,9 +1,10 @@
-//! Virtual processors: making and deleting them, and reading and writing their registers, by calls and as model-specific
-//! registers (TLFS 4.0, "Virtual Processor Management").
+//! Virtual processors: making and deleting them, and reading and writing their registers, by calls and as
+//! model-specific registers (TLFS 4.0, "Virtual Processor Management").
 //!
-//! One public function for each call; of a rep call it serves one element. It asks the call's own rules in the policy's order,
-//! makes what room it needs, and then changes the tree; its contract says in the policy's words what became of the call
-//! (`IsOutcome`). An access has such a function too, told that P1 to P3 are met (`IsAccess`).
+//! One public function for each call; of a rep call it serves one element. It asks the call's own rules
+//! in the policy's order, makes what room it needs, and then changes the tree; its contract says in the
+//! policy's words what became of the call (`IsOutcome`). An access has such a function too, told that P1
+//! to P3 are met (`IsAccess`).
 #![tactic(auto)]
 
 mod accesses;

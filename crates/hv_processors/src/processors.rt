@@ -16,8 +16,8 @@ use hv_policy::{CallOutput, Rule, States};
 use hv_tie::{Partitions, Refused, has_available, has_vp, is_state_allowed, meant};
 use std::alloc::{AllocError, Allocator};
 
-/// HvCreateVp: the target gets a processor with this index, whose registers are at their start. It uses 4 pages of the target's
-/// pool.
+/// HvCreateVp: the target gets a processor with this index, whose registers are at their start. It uses 4
+/// pages of the target's pool.
 pub fn create_vp<A: Allocator + Clone>(
     tree: &mut Partitions<A>,
     alloc: &A,
@@ -26,7 +26,8 @@ pub fn create_vp<A: Allocator + Clone>(
     vp: u32,
 ) -> Result<CallOutput, Refused>
     requires { IsAdmitted tree.old caller (call.CreateVp partition vp) }
-    ensures { (f : Flat) → IsTied tree.old f → IsOutcome f caller (call.CreateVp partition vp) tree.old result tree.new }
+    ensures { (f : Flat) → IsTied tree.old f
+        → IsOutcome f caller (call.CreateVp partition vp) tree.old result tree.new }
 {
     if let Some(rule) = unmet_create(tree, caller, partition, vp) {
         return Err(Refused::Unmet(rule));
@@ -68,7 +69,8 @@ pub fn delete_vp<A: Allocator>(
     vp: u32,
 ) -> Result<CallOutput, Refused>
     requires { IsAdmitted tree.old caller (call.DeleteVp partition vp) }
-    ensures { (f : Flat) → IsTied tree.old f → IsOutcome f caller (call.DeleteVp partition vp) tree.old result tree.new }
+    ensures { (f : Flat) → IsTied tree.old f
+        → IsOutcome f caller (call.DeleteVp partition vp) tree.old result tree.new }
 {
     let target = meant(caller, partition);
     if !is_state_allowed(tree, target, States::Active) {
@@ -81,7 +83,8 @@ pub fn delete_vp<A: Allocator>(
     Ok(CallOutput::new())
 }
 
-/// HvGetVpRegisters, one element: the value of a register of the target's processor, in the lower half of 16 bytes.
+/// HvGetVpRegisters, one element: the value of a register of the target's processor, in the lower half of
+/// 16 bytes.
 pub fn get_vp_registers<A: Allocator>(
     tree: &Partitions<A>,
     caller: u64,
@@ -89,7 +92,8 @@ pub fn get_vp_registers<A: Allocator>(
     vp: u32,
     name: u32,
 ) -> Result<CallOutput, Refused>
-    ensures { (f : Flat) → IsTied tree.now f → IsOutcome f caller (call.GetVpRegisters partition vp name) tree.now result tree.now }
+    ensures { (f : Flat) → IsTied tree.now f
+        → IsOutcome f caller (call.GetVpRegisters partition vp name) tree.now result tree.now }
 {
     if let Some(rule) = unmet_get(tree, caller, partition, vp, name) {
         return Err(Refused::Unmet(rule));
@@ -105,7 +109,8 @@ fn unmet_get<A: Allocator>(
     vp: u32,
     name: u32,
 ) -> Option<Rule>
-    ensures { (f : Flat) → IsTied tree.now f → result ≡ unmet_further f caller (call.GetVpRegisters partition vp name) }
+    ensures { (f : Flat) → IsTied tree.now f → result
+        ≡ unmet_further f caller (call.GetVpRegisters partition vp name) }
 {
     if let Some(rule) = unmet_register(tree, caller, partition, vp, name) {
         return Some(rule);
@@ -124,7 +129,8 @@ fn unmet_register<A: Allocator>(
     vp: u32,
     name: u32,
 ) -> Option<Rule>
-    ensures { (f : Flat) → IsTied tree.now f → result ≡ first_unmet (register_asks f caller (meant_id caller partition) vp name) }
+    ensures { (f : Flat) → IsTied tree.now f → result
+        ≡ first_unmet (register_asks f caller (meant_id caller partition) vp name) }
 {
     let target = meant(caller, partition);
     if !is_state_allowed(tree, target, States::Active) {
@@ -158,7 +164,8 @@ pub fn set_vp_registers<A: Allocator>(
     name: u32,
     value: u64,
 ) -> Result<CallOutput, Refused>
-    ensures { (f : Flat) → IsTied tree.old f → IsOutcome f caller (call.SetVpRegisters partition vp name value) tree.old result tree.new }
+    ensures { (f : Flat) → IsTied tree.old f
+        → IsOutcome f caller (call.SetVpRegisters partition vp name value) tree.old result tree.new }
 {
     if let Some(rule) = unmet_set(tree, caller, partition, vp, name, value) {
         return Err(Refused::Unmet(rule));
@@ -176,7 +183,8 @@ fn unmet_set<A: Allocator>(
     name: u32,
     value: u64,
 ) -> Option<Rule>
-    ensures { (f : Flat) → IsTied tree.now f → result ≡ unmet_further f caller (call.SetVpRegisters partition vp name value) }
+    ensures { (f : Flat) → IsTied tree.now f → result
+        ≡ unmet_further f caller (call.SetVpRegisters partition vp name value) }
 {
     if let Some(rule) = unmet_register(tree, caller, partition, vp, name) {
         return Some(rule);

@@ -4,7 +4,8 @@ ghost use Rattle.std.specs.FinMap.{get};
 ghost use Rattle.hv_defs.specs.Registers.{kept as kept_by, name_of_msr as msr_name, row_of};
 ghost use Rattle.hv_policy.specs.Answer.{msr_of, register_of};
 ghost use Rattle.hv_policy.specs.Flat.{Flat};
-ghost use Rattle.hv_policy.specs.Met.{is_vp_free as is_vp_free_of, may_access as may_access_of, may_access_msr as may_access_msr_of, takes_msr as takes_msr_of};
+ghost use Rattle.hv_policy.specs.Met.{is_vp_free as is_vp_free_of, may_access as may_access_of};
+ghost use Rattle.hv_policy.specs.Met.{may_access_msr as may_access_msr_of, takes_msr as takes_msr_of};
 ghost use Rattle.hv_tie.specs.Tie.{IsTied};
 
 use hv_defs::MAX_VPS;

@@ -18,7 +18,8 @@ pub fn get_partition_property<A: Allocator>(
     partition: u64,
     code: u32,
 ) -> Result<CallOutput, Refused>
-    ensures { (f : Flat) → IsTied tree.now f → IsOutcome f caller (call.GetPartitionProperty partition code) tree.now result tree.now }
+    ensures { (f : Flat) → IsTied tree.now f
+        → IsOutcome f caller (call.GetPartitionProperty partition code) tree.now result tree.now }
 {
     if !is_known(code) {
         return Err(Refused::Unmet(Rule::PropertyKnown));
@@ -34,7 +35,8 @@ pub fn set_partition_property<A: Allocator>(
     code: u32,
     value: u64,
 ) -> Result<CallOutput, Refused>
-    ensures { (f : Flat) → IsTied tree.old f → IsOutcome f caller (call.SetPartitionProperty partition code value) tree.old result tree.new }
+    ensures { (f : Flat) → IsTied tree.old f
+        → IsOutcome f caller (call.SetPartitionProperty partition code value) tree.old result tree.new }
 {
     if let Some(rule) = unmet_set(tree, caller, partition, code, value) {
         return Err(Refused::Unmet(rule));
@@ -51,7 +53,8 @@ fn unmet_set<A: Allocator>(
     code: u32,
     value: u64,
 ) -> Option<Rule>
-    ensures { (f : Flat) → IsTied tree.now f → result ≡ unmet_further f caller (call.SetPartitionProperty partition code value) }
+    ensures { (f : Flat) → IsTied tree.now f → result
+        ≡ unmet_further f caller (call.SetPartitionProperty partition code value) }
 {
     if !is_known(code) {
         return Some(Rule::PropertyKnown);

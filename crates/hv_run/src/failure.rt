@@ -20,7 +20,8 @@ pub enum Exit {
     Script = 1,
     /// The words of the command line are wrong.
     Usage = 2,
-    /// Memory was wanting, the history was full, the settlement found a fault, or standard output took no more.
+    /// Memory was wanting, the history was full, the settlement found a fault, or standard output took no
+    /// more.
     Host = 3,
 }
 

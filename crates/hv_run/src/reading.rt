@@ -9,10 +9,11 @@ use std::alloc::Global;
 use std::io;
 use std::io::{ErrorKind, Read};
 
-/// All bytes of a script, and of one that is too long the first 1,048,577: one byte too many, so that it is never
-/// taken for a shorter script.
+/// All bytes of a script, and of one that is too long the first 1,048,577: one byte too many, so that it
+/// is never taken for a shorter script.
 pub fn read_script<R: Read + Drop>(alloc: Global, reader: R) -> Result<Vec<u8>, Failure>
-    ensures bytes { IfOk result (λ script. IfSome (R.remaining reader) (λ text. script.items ≡ take (MOST + 1) text)) }
+    ensures bytes { IfOk result (λ script. IfSome (R.remaining reader) (λ text. script.items
+        ≡ take (MOST + 1) text)) }
     ensures unread { IfErr result IsUnread }
 {
     let mut script = Vec::new(alloc);

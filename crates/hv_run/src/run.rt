@@ -1,5 +1,6 @@
 // A whole run, from the script's bytes to the exit status.
-ghost use Rattle.std.specs.Prelude.{◌≡◌, ◌≢◌, ◌<◌, length, IfErr, IfOk, IfSome, IsErr, IsNone, IsSome, OnOk, Ok};
+ghost use Rattle.std.specs.Prelude.{◌≡◌, ◌≢◌, ◌<◌, length, IfErr, IfOk, IfSome, IsErr, IsNone, IsSome, OnOk};
+ghost use Rattle.std.specs.Prelude.{Ok};
 ghost use Rattle.std.specs.Io.KnownBytes.{Appends};
 ghost use Rattle.hv_history.specs.Kept.{IsRun};
 ghost use Rattle.hv_script.specs.Reading.{said};
@@ -21,8 +22,8 @@ use std::io::{Read, Write};
 use std::sync::Wait;
 use std::thread::Threads;
 
-/// Reads a script to its end and runs it, as [`run_text`] does. A script that is too long, or whose reader fails in
-/// mid-stream, isn't run, however it begins.
+/// Reads a script to its end and runs it, as [`run_text`] does. A script that is too long, or whose
+/// reader fails in mid-stream, isn't run, however it begins.
 pub fn run_reader<T: Threads + Wait + Sync, R: Read + Drop, W: Write, E: Write>(
     rt: &T,
     alloc: Global,
@@ -31,7 +32,8 @@ pub fn run_reader<T: Threads + Wait + Sync, R: Read + Drop, W: Write, E: Write>(
     out: &mut W,
     err: &mut E,
 ) -> Exit
-    ensures told { result ≡ Exit.Done → IfSome (R.remaining reader) (λ text. HasToldOf text options.now.table (W.contents out.old) (W.contents out.new)) }
+    ensures told { result ≡ Exit.Done → IfSome (R.remaining reader)
+        (λ text. HasToldOf text options.now.table (W.contents out.old) (W.contents out.new)) }
     ensures long { IfSome (R.remaining reader) (λ text. MOST < length text → out.new ≡ out.old) }
     ensures long_status { IfSome (R.remaining reader) (λ text. MOST < length text → result ≢ Exit.Done) }
     ensures silent { result ≡ Exit.Script → out.new ≡ out.old }
@@ -43,7 +45,8 @@ pub fn run_reader<T: Threads + Wait + Sync, R: Read + Drop, W: Write, E: Write>(
     }
 }
 
-/// Runs a script and prints its audit on `out`, and with `--table` its table. Why it didn't all run goes to `err`, in one line.
+/// Runs a script and prints its audit on `out`, and with `--table` its table. Why it didn't all run goes
+/// to `err`, in one line.
 ///
 /// After a fault of the script or a refused boot nothing is written to `out`. A processor whose event is
 /// refused by the host stops, and the others of its phase go on: the audit then has what happened.
@@ -55,7 +58,8 @@ pub fn run_text<T: Threads + Wait + Sync, W: Write, E: Write>(
     out: &mut W,
     err: &mut E,
 ) -> Exit
-    ensures told { result ≡ Exit.Done → HasToldOf script.now options.now.table (W.contents out.old) (W.contents out.new) }
+    ensures told { result ≡ Exit.Done → HasToldOf script.now options.now.table (W.contents out.old)
+        (W.contents out.new) }
     ensures long { MOST < length script.now → result ≡ Exit.Script }
     ensures silent { result ≡ Exit.Script → out.new ≡ out.old }
     ensures no_usage { result ≢ Exit.Usage }
@@ -63,8 +67,8 @@ pub fn run_text<T: Threads + Wait + Sync, W: Write, E: Write>(
     run_gated(rt, alloc, script, options, &Open, out, err)
 }
 
-/// Runs a script as [`run_text`] does, with a gate that is told of each event before the machine's lock is taken and after
-/// the event's receipt is kept.
+/// Runs a script as [`run_text`] does, with a gate that is told of each event before the machine's lock
+/// is taken and after the event's receipt is kept.
 pub fn run_gated<T: Threads + Wait + Sync, G: Gate, W: Write, E: Write>(
     rt: &T,
     alloc: Global,
@@ -74,7 +78,8 @@ pub fn run_gated<T: Threads + Wait + Sync, G: Gate, W: Write, E: Write>(
     out: &mut W,
     err: &mut E,
 ) -> Exit
-    ensures told { result ≡ Exit.Done → HasToldOf script.now options.now.table (W.contents out.old) (W.contents out.new) }
+    ensures told { result ≡ Exit.Done → HasToldOf script.now options.now.table (W.contents out.old)
+        (W.contents out.new) }
     ensures long { MOST < length script.now → result ≡ Exit.Script }
     ensures silent { result ≡ Exit.Script → out.new ≡ out.old }
     ensures no_usage { result ≢ Exit.Usage }
@@ -87,7 +92,8 @@ pub fn run_gated<T: Threads + Wait + Sync, G: Gate, W: Write, E: Write>(
 
 // Reads a script's bytes and then its lines. The bytes are given back before anything runs.
 fn read_parsed<R: Read + Drop>(alloc: Global, reader: R) -> Result<Script<Global>, Failure>
-    ensures script { IfOk result (λ script. IfSome (R.remaining reader) (λ text. script_of text ≡ Ok (said script))) }
+    ensures script { IfOk result (λ script. IfSome (R.remaining reader) (λ text. script_of text
+        ≡ Ok (said script))) }
 {
     let text = read_script(alloc, reader)?;
     let script = parse(alloc, text.as_slice())?;
@@ -95,8 +101,8 @@ fn read_parsed<R: Read + Drop>(alloc: Global, reader: R) -> Result<Script<Global
     Ok(script)
 }
 
-// Gives a script's bytes back, all but one before the rest: a whole large block that comes back makes the C library's
-// allocator keep later ones instead of giving them back.
+// Gives a script's bytes back, all but one before the rest: a whole large block that comes back makes the
+// C library's allocator keep later ones instead of giving them back.
 fn give_back(text: Vec<u8>) {
     let mut text = text;
     text.clear();
@@ -113,7 +119,8 @@ fn finish<T: Threads + Wait + Sync, G: Gate, W: Write, E: Write>(
     out: &mut W,
     err: &mut E,
 ) -> Exit
-    ensures told { result ≡ Exit.Done → HasTold (said script) options.now.table (W.contents out.old) (W.contents out.new) }
+    ensures told { result ≡ Exit.Done → HasTold (said script) options.now.table (W.contents out.old)
+        (W.contents out.new) }
     ensures silent { result ≡ Exit.Script → out.new ≡ out.old }
     ensures no_usage { result ≢ Exit.Usage }
 {
@@ -132,7 +139,8 @@ fn run_script<T: Threads + Wait + Sync, G: Gate, W: Write>(
     gate: &G,
     out: &mut W,
 ) -> Result<(), Failure>
-    ensures told { OnOk result (HasTold (said script) options.now.table (W.contents out.old) (W.contents out.new)) }
+    ensures told { OnOk result (HasTold (said script) options.now.table (W.contents out.old)
+        (W.contents out.new)) }
     ensures silent { IfErr result (λ failure. exit_of failure ≡ Exit.Script → out.new ≡ out.old) }
 {
     let Script {
@@ -147,7 +155,8 @@ fn run_script<T: Threads + Wait + Sync, G: Gate, W: Write>(
 
 // Prints the audit, and the table if it is asked for.
 fn print<W: Write>(kept: &Kept<Global>, with_table: bool, out: &mut W) -> Result<(), Failure>
-    ensures told { OnOk result (Appends (W.contents out.old) (W.contents out.new) (told_by with_table kept.now)) }
+    ensures told { OnOk result (Appends (W.contents out.old) (W.contents out.new)
+        (told_by with_table kept.now)) }
     ensures host { IfErr result (λ failure. exit_of failure ≡ Exit.Host) }
     ensures run { IsRun kept.now }
 {

@@ -81,7 +81,8 @@ impl<A: Allocator + Clone> Reading<A> {
     #[tactic(auto, unfolding(crate::specs::Script::later_line))]
     fn later_line(&mut self, alloc: &A, line: &CutLine<'_>) -> Result<(), FaultKind>
         requires { self.old.phase + 1 < 2 ^ 32 }
-        ensures read { IsRead result (λ _. so_far self.new) (later_line (so_far self.old) (words_of line.now)) }
+        ensures read { IsRead result (λ _. so_far self.new) (later_line (so_far self.old)
+            (words_of line.now)) }
         ensures phase { OnOk result (self.new.phase ≤ self.old.phase + 1) }
     {
         if line.begins_with(b"boot".as_slice()) {
@@ -97,7 +98,8 @@ impl<A: Allocator + Clone> Reading<A> {
     #[tactic(auto, using(crate::proofs::CallerLemmas::no_callers))]
     fn phase_line(&mut self, line: &CutLine<'_>) -> Result<(), FaultKind>
         requires { self.old.phase + 1 < 2 ^ 32 }
-        ensures read { IsRead result (λ _. so_far self.new) (phase_line (so_far self.old) (words_of line.now)) }
+        ensures read { IsRead result (λ _. so_far self.new) (phase_line (so_far self.old)
+            (words_of line.now)) }
         ensures phase { OnOk result (self.new.phase ≤ self.old.phase + 1) }
     {
         if !line.has_words(1) {
@@ -111,7 +113,8 @@ impl<A: Allocator + Clone> Reading<A> {
     // Reads a line of a processor.
     #[tactic(auto, unfolding(crate::specs::Script::processor_line))]
     fn processor_line(&mut self, alloc: &A, line: &CutLine<'_>) -> Result<(), FaultKind>
-        ensures read { IsRead result (λ _. so_far self.new) (processor_line (so_far self.old) (words_of line.now)) }
+        ensures read { IsRead result (λ _. so_far self.new) (processor_line (so_far self.old)
+            (words_of line.now)) }
         ensures phase { self.new.phase ≡ self.old.phase }
     {
         let by = processor(line.word(0))?;

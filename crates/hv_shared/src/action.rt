@@ -16,8 +16,8 @@ use std::alloc::Global;
 use std::sync::Wait;
 use std::sync::ledger::Ledger;
 
-/// Lets one action come to its end: a hypercall element by element, up to 16 of them while the lock is taken once, anything else
-/// as one event.
+/// Lets one action come to its end: a hypercall element by element, up to 16 of them while the lock is
+/// taken once, anything else as one event.
 #[inline(always)]
 pub fn perform<L: Ledger, R: Wait, G: Gate>(
     rt: &R,

@@ -16,8 +16,8 @@ use std::alloc::Global;
 use std::sync::Wait;
 use std::sync::ledger::Ledger;
 
-/// Why the host didn't let a hypercall come to its end, and the start index of the element that it refused. The elements
-/// before it were served and have their receipts.
+/// Why the host didn't let a hypercall come to its end, and the start index of the element that it
+/// refused. The elements before it were served and have their receipts.
 #[derive(Clone, Copy, PartialEq, Eq, Debug)]
 pub struct DriveRefused {
     pub why: HostRefused,
@@ -38,8 +38,8 @@ pub(crate) fn next_of(answer: Answer) -> Option<u16>
 // The most elements of a call for which the lock is taken once.
 const MOST_IN_A_HOLD: u16 = 16;
 
-// For how many elements of a call the lock is taken once: as many as are left from the start index on, at most 16, and one of a
-// simple call.
+// For how many elements of a call the lock is taken once: as many as are left from the start index on, at
+// most 16, and one of a simple call.
 #[inline(always)]
 pub(crate) fn elements_in_a_hold(rcx: u64) -> u32
     ensures some { 0 < result }
@@ -61,9 +61,10 @@ pub(crate) fn elements_in_a_hold(rcx: u64) -> u32
 }
 
 impl<L: Ledger> Shared<L> {
-    /// Drives a hypercall to its end: the elements of a rep call one after another from its start index on, each an event
-    /// of its own, of which all rules are asked, and up to 16 of them while the lock is taken once. It ends with the last
-    /// element, or with one that a rule refuses. Answers the result value of the whole call, and the reply to its last event.
+    /// Drives a hypercall to its end: the elements of a rep call one after another from its start index
+    /// on, each an event of its own, of which all rules are asked, and up to 16 of them while the lock is
+    /// taken once. It ends with the last element, or with one that a rule refuses. Answers the result
+    /// value of the whole call, and the reply to its last event.
     pub fn drive<R: Wait, G: Gate>(
         &self,
         rt: &R,
@@ -79,7 +80,8 @@ impl<L: Ledger> Shared<L> {
         Ok((result_of(&last, &reply), reply))
     }
 
-    // Drives a hypercall to its end, and gives back the frame of its last element. The replies stand in the receipts.
+    // Drives a hypercall to its end, and gives back the frame of its last element. The replies stand in
+    // the receipts.
     pub(crate) fn finish<R: Wait, G: Gate>(
         &self,
         rt: &R,

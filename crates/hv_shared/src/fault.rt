@@ -3,14 +3,14 @@
 use hv_history::Kept;
 use std::alloc::Global;
 
-/// Why the receipts don't make the history. The least number of the history that fails decides, and what is looked for at a
-/// number stands in the order of the variants.
+/// Why the receipts don't make the history. The least number of the history that fails decides, and what
+/// is looked for at a number stands in the order of the variants.
 #[derive(Clone, Copy, PartialEq, Eq, Debug)]
 pub enum SettleFault {
     /// A number of the history is no pass's next receipt.
     Missing,
-    /// Two passes claim a number, an event or reply differs, receipts are left over, or the history was begun with another
-    /// configuration or limit.
+    /// Two passes claim a number, an event or reply differs, receipts are left over, or the history was
+    /// begun with another configuration or limit.
     Differs,
 }
 

@@ -1,6 +1,8 @@
-// What the lock holds, what each thread holds, and the one step that changes both. The fields of `Held` and `Pass` are
-// private to this file.
-ghost use Rattle.std.specs.Prelude.{◌≡◌, ◌<◌, ◌≤◌, ◌+◌, ◌++◌, [], ◌∷◌, ℕ, List, IsTrue, ◌↔◌, IfOk, OnOk, OnErr, IsErrOf, IfErr, IfSome, IfNone, Some, length, slice_get, vec_len, sum};
+// What the lock holds, what each thread holds, and the one step that changes both. The fields of `Held`
+// and `Pass` are private to this file.
+ghost use Rattle.std.specs.Prelude.{◌≡◌, ◌<◌, ◌≤◌, ◌+◌, ◌++◌, [], ◌∷◌, ℕ, List, IsTrue, ◌↔◌, IfOk, OnOk};
+ghost use Rattle.std.specs.Prelude.{OnErr, IsErrOf, IfErr, IfSome, IfNone, Some, length, slice_get, vec_len};
+ghost use Rattle.std.specs.Prelude.{sum};
 ghost use Rattle.hv_abi.specs.declared.frame.Frame.{Frame};
 ghost use Rattle.hv_policy.specs.Next.{GoesOn};
 ghost use Rattle.hv_policy.specs.Result.{HasResult};
@@ -10,7 +12,8 @@ ghost use Rattle.hv_history.specs.History.{entries};
 ghost use Rattle.hv_history.specs.Kept.{HasGained, IsRun};
 ghost use Rattle.hv_history.specs.declared.entry.Entry.{Entry};
 ghost use Rattle.hv_shared.specs.Held.{IsHeld};
-ghost use Rattle.hv_shared.specs.Merge.{next_is, rest_of, IsOf, IsNext, IsOnlyNext, FailsAt, AreDone, MergesFrom, FailsFrom, rests_of, receipts_of, shares_of};
+ghost use Rattle.hv_shared.specs.Merge.{next_is, rest_of, IsOf, IsNext, IsOnlyNext, FailsAt, AreDone};
+ghost use Rattle.hv_shared.specs.Merge.{MergesFrom, FailsFrom, rests_of, receipts_of, shares_of};
 ghost use Rattle.hv_shared.specs.Pass.{HasReceipt, IsAsBefore};
 ghost use Rattle.hv_shared.specs.Receipts.{list_of};
 ghost use Rattle.hv_shared.specs.Room.{HasRoom};
@@ -43,7 +46,13 @@ impl<L: Ledger> Model for Pass<L> {
 
     ghost Value = { PassValue };
 
-    ghost view = { λ p. record { caller = p.caller; receipts = list_of p.receipts; share = p.share.amount; settled = p.settled; room = room_in p.receipts } };
+    ghost view = { λ p. record {
+      caller = p.caller;
+      receipts = list_of p.receipts;
+      share = p.share.amount;
+      settled = p.settled;
+      room = room_in p.receipts;
+    } };
 
     ghost invariant = { λ p. IsPass p.caller (list_of p.receipts) p.share.parts p.share.amount };
 }
@@ -85,7 +94,8 @@ impl<L: Ledger> Pass<L> {
         &self.receipts
     }
 
-    /// Makes room for so many more receipts of this event, or of others that ask for other elements of its call.
+    /// Makes room for so many more receipts of this event, or of others that ask for other elements of
+    /// its call.
     #[inline(always)]
     pub fn reserve(&mut self, event: &Event<Global>, more: u32) -> Result<(), AllocError>
         ensures room { OnOk result (HasRoom more self.new.room event.now) }
@@ -94,7 +104,8 @@ impl<L: Ledger> Pass<L> {
         self.receipts.reserve(event, more)
     }
 
-    /// For how many more receipts of this event, or of others that ask for other elements of its call, there is room.
+    /// For how many more receipts of this event, or of others that ask for other elements of its call,
+    /// there is room.
     pub fn room(&self, event: &Event<Global>) -> usize
         ensures fits { HasRoom result self.now.room event.now }
         ensures most { (count : ℕ) → HasRoom count self.now.room event.now → count ≤ result }
@@ -131,7 +142,8 @@ impl<L: Ledger> Pass<L> {
     // Whether the next receipt has the event and the reply at this place of a history.
     fn agrees(&self, history: &History<Global>, at: usize) -> bool
         requires { at < length (entries history.now) }
-        ensures { (entry : Entry Global) → slice_get (entries history.now) at ≡ Some entry → (IsTrue result ↔ IsOf entry (rest_of self.now)) }
+        ensures { (entry : Entry Global) → slice_get (entries history.now) at ≡ Some entry
+            → (IsTrue result ↔ IsOf entry (rest_of self.now)) }
     {
         if self.settled < self.receipts.len() {
             self.receipts.is_of(self.settled, history, at)
@@ -165,7 +177,8 @@ impl<L: Ledger> Pass<L> {
     // The reply of the last receipt.
     pub(crate) fn last_reply(&self) -> Reply
         requires { 0 < length self.now.receipts }
-        ensures { (before : List Receipt) (last : Receipt) → self.now.receipts ≡ before ++ last ∷ [] → result ≡ last.reply }
+        ensures { (before : List Receipt) (last : Receipt) → self.now.receipts ≡ before ++ last ∷ []
+            → result ≡ last.reply }
     {
         let last = self.receipts.get(self.receipts.len() - 1);
         let output = last.entry.output.to_output();
@@ -188,16 +201,18 @@ impl<L: Ledger> Held<L> {
         // The history has the event with its reply more, and the pass a receipt of it. Both are counted.
         ensures kept { IfOk result (λ r. HasGained event.now r self.old.kept self.new.kept) }
         ensures count { OnOk result (self.new.count ≡ self.old.count + 1) }
-        ensures receipt { IfOk result (λ r. HasReceipt (length self.new.kept.history) event.now r pass.old pass.new) }
+        ensures receipt { IfOk result (λ r. HasReceipt (length self.new.kept.history) event.now r pass.old
+            pass.new) }
         ensures run { IsRun self.new.kept }
 
         // A full history takes no event, before any rule. Else the host wants memory.
-        ensures full { IsErrOf result HostRefused.HistoryFull ↔ (length self.old.kept.history ≡ self.old.kept.limit) }
+        ensures full { IsErrOf result HostRefused.HistoryFull
+            ↔ (length self.old.kept.history ≡ self.old.kept.limit) }
         ensures refused { OnErr result (self.new ≡ self.old) }
         ensures pass { OnErr result (pass.new ≡ pass.old) }
 
-        // A refusal by a rule names one that is asked, a reply to a hypercall has a result value, and a call goes on with
-        // the element after the one that was served.
+        // A refusal by a rule names one that is asked, a reply to a hypercall has a result value, and a
+        // call goes on with the element after the one that was served.
         ensures asked { IfOk result (λ r. NamesAsked event.now r) }
         ensures result { (frame : Frame Global) → event.now.what ≡ Hypercall frame → IfOk result HasResult }
         ensures next { IfOk result (λ r. GoesOn event.now.what r) }
@@ -208,7 +223,8 @@ impl<L: Ledger> Held<L> {
         }
     }
 
-    // Lets an event happen as `hold` does, and answers its reply without the output, which stands in the pass's receipt.
+    // Lets an event happen as `hold` does, and answers its reply without the output, which stands in the
+    // pass's receipt.
     #[inline(always)]
     pub(crate) fn take(
         &mut self,
@@ -217,10 +233,12 @@ impl<L: Ledger> Held<L> {
     ) -> Result<Answer, HostRefused>
         requires by { event.now.by ≡ pass.old.caller }
         requires room { HasRoom 1 pass.old.room event.now }
-        ensures held { IfOk result (λ answer. IsHeld event.now answer self.old.kept self.new.kept pass.old pass.new) }
+        ensures held { IfOk result (λ answer. IsHeld event.now answer self.old.kept self.new.kept pass.old
+            pass.new) }
         ensures count { OnOk result (self.new.count ≡ self.old.count + 1) }
         ensures run { IsRun self.new.kept }
-        ensures full { IsErrOf result HostRefused.HistoryFull ↔ (length self.old.kept.history ≡ self.old.kept.limit) }
+        ensures full { IsErrOf result HostRefused.HistoryFull
+            ↔ (length self.old.kept.history ≡ self.old.kept.limit) }
         ensures refused { OnErr result (self.new ≡ self.old) }
         ensures pass { OnErr result (pass.new ≡ pass.old) }
     {
@@ -270,8 +288,10 @@ pub(crate) fn open<L: Ledger>(
 
 // The first pass from `from` on whose next receipt has this number.
 fn find_next<L: Ledger>(passes: &[Pass<L>], from: usize, number: u64) -> Option<usize>
-    ensures some { IfSome result (λ i. (from ≤ i) × (i < length passes.now) × IsNext number (rests_of passes.now) i) }
-    ensures first { IfSome result (λ i. (j : ℕ) → from ≤ j → j < i → IsNext number (rests_of passes.now) j → ⊥) }
+    ensures some { IfSome result (λ i. (from ≤ i) × (i < length passes.now)
+        × IsNext number (rests_of passes.now) i) }
+    ensures first { IfSome result (λ i. (j : ℕ) → from ≤ j → j < i → IsNext number (rests_of passes.now) j
+        → ⊥) }
     ensures none { IfNone result ((j : ℕ) → from ≤ j → IsNext number (rests_of passes.now) j → ⊥) }
 {
     for i in from..passes.len() {
@@ -314,10 +334,12 @@ fn find_owner<L: Ledger>(
     at: usize,
 ) -> Result<usize, SettleFault>
     requires { at < length (entries history.now) }
-    ensures ok { (entry : Entry Global) → slice_get (entries history.now) at ≡ Some entry → IfOk result (λ i. IsOnlyNext number entry (rests_of passes.now) i) }
+    ensures ok { (entry : Entry Global) → slice_get (entries history.now) at ≡ Some entry
+        → IfOk result (λ i. IsOnlyNext number entry (rests_of passes.now) i) }
     ensures there { IfOk result (λ i. i < length passes.now) }
     ensures next { IfOk result (IsNext number (rests_of passes.now)) }
-    ensures err { (entry : Entry Global) → slice_get (entries history.now) at ≡ Some entry → IfErr result (λ f. FailsAt number entry (rests_of passes.now) f) }
+    ensures err { (entry : Entry Global) → slice_get (entries history.now) at ≡ Some entry
+        → IfErr result (λ f. FailsAt number entry (rests_of passes.now) f) }
 {
     let Some(i) = find_next(passes, 0, number) else {
         return Err(SettleFault::Missing);
@@ -359,7 +381,8 @@ fn first_fault<L: Ledger>(history: &History<Global>, passes: &mut [Pass<L>]) -> 
 
 // The shares of all passes in one.
 fn gather<L: Ledger>(passes: Vec<Pass<L>>) -> Option<Share<L>>
-    ensures some { IfSome result (λ s. (s.parts ≡ vec_len passes) × (s.amount ≡ sum (shares_of passes.items))) }
+    ensures some { IfSome result (λ s. (s.parts ≡ vec_len passes)
+        × (s.amount ≡ sum (shares_of passes.items))) }
     ensures none { IfNone result (vec_len passes ≡ 0) }
 {
     let mut passes = passes;
@@ -400,16 +423,19 @@ fn fault_of<L: Ledger>(
     first_fault(kept.history(), passes)
 }
 
-/// Whether the history is a merge of the passes' receipts, and was begun as `shared` says. The machine with its history is
-/// handed back either way. It takes no memory.
+/// Whether the history is a merge of the passes' receipts, and was begun as `shared` says. The machine
+/// with its history is handed back either way. It takes no memory.
 pub fn settle<L: Ledger>(
     shared: Shared<L>,
     passes: Vec<Pass<L>>,
 ) -> Result<Kept<Global>, SettleRefused>
     ensures ok { IfOk result (λ k. IsMadeOf shared.config shared.limit k (receipts_of passes.items)) }
-    ensures only { IfErr result (λ e. IsMadeOf shared.config shared.limit e.kept (receipts_of passes.items) → ⊥) }
-    ensures fault { IfErr result (λ e. IsFault shared.config shared.limit e.kept (receipts_of passes.items) e.fault) }
-    ensures count { vec_len passes ≡ shared.passes → length (kept_of result).history ≡ sum (shares_of passes.items) }
+    ensures only { IfErr result (λ e. IsMadeOf shared.config shared.limit e.kept (receipts_of passes.items)
+        → ⊥) }
+    ensures fault { IfErr result (λ e. IsFault shared.config shared.limit e.kept (receipts_of passes.items)
+        e.fault) }
+    ensures count { vec_len passes ≡ shared.passes → length (kept_of result).history
+        ≡ sum (shares_of passes.items) }
     ensures run { IsRun (kept_of result) }
 {
     let mut passes = passes;

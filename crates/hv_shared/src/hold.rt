@@ -28,9 +28,10 @@ pub(crate) fn frame_of(event: Event<Global>) -> Frame<Global>
 }
 
 impl<L: Ledger> Held<L> {
-    // Lets the elements of a call happen from the frame's start index on, and keeps their receipts. It stops after `most` of
-    // them, after one that is answered otherwise than that the call goes on, or where the host refuses one. Answers the frame
-    // of the last that was asked, and its reply without the output.
+    // Lets the elements of a call happen from the frame's start index on, and keeps their receipts. It
+    // stops after `most` of them, after one that is answered otherwise than that the call goes on, or
+    // where the host refuses one. Answers the frame of the last that was asked, and its reply without the
+    // output.
     #[inline(always)]
     pub(crate) fn take_run(
         &mut self,
@@ -40,10 +41,13 @@ impl<L: Ledger> Held<L> {
     ) -> (Frame<Global>, Result<Answer, HostRefused>)
         requires some { 0 < most }
         requires room { HasRoom most pass.old.room (element pass.old.caller frame) }
-        ensures held { IfOk result.1 (λ answer. HasHeldFor frame result.0 answer most self.old self.new pass.old pass.new) }
-        ensures refused { OnErr result.1 (HasHeldUpTo frame result.0 most self.old self.new pass.old pass.new) }
+        ensures held { IfOk result.1 (λ answer. HasHeldFor frame result.0 answer most self.old self.new
+            pass.old pass.new) }
+        ensures refused { OnErr result.1 (HasHeldUpTo frame result.0 most self.old self.new pass.old
+            pass.new) }
         ensures run { IsRun self.new.kept }
-        ensures full { IfErr result.1 (λ why. (why ≡ HostRefused.HistoryFull) ↔ (length self.new.kept.history ≡ self.new.kept.limit)) }
+        ensures full { IfErr result.1 (λ why. (why ≡ HostRefused.HistoryFull)
+            ↔ (length self.new.kept.history ≡ self.new.kept.limit)) }
     {
         let by = pass.caller();
         let mut event = Event {
@@ -67,15 +71,18 @@ impl<L: Ledger> Held<L> {
         }
     }
 
-    /// Lets the elements of a call by the pass's caller happen as `Kept::apply_run` does, and keeps their receipts, without a
-    /// lock.
+    /// Lets the elements of a call by the pass's caller happen as `Kept::apply_run` does, and keeps their
+    /// receipts, without a lock.
     pub fn hold_run(&mut self, pass: &mut Pass<L>, frame: Frame<Global>, most: u32) -> RunDone
         requires some { 0 < most }
         requires room { HasRoom most pass.old.room (element pass.old.caller frame) }
-        ensures held { IfOk result.last (λ reply. HasHeldRun frame reply result.events most self.old self.new pass.old pass.new) }
-        ensures stopped { OnErr result.last (HasHeldPart frame result.events most self.old self.new pass.old pass.new) }
+        ensures held { IfOk result.last (λ reply. HasHeldRun frame reply result.events most self.old
+            self.new pass.old pass.new) }
+        ensures stopped { OnErr result.last (HasHeldPart frame result.events most self.old self.new pass.old
+            pass.new) }
         ensures run { IsRun self.new.kept }
-        ensures full { IfErr result.last (λ why. (why ≡ HostRefused.HistoryFull) ↔ (length self.new.kept.history ≡ self.new.kept.limit)) }
+        ensures full { IfErr result.last (λ why. (why ≡ HostRefused.HistoryFull)
+            ↔ (length self.new.kept.history ≡ self.new.kept.limit)) }
     {
         let before = pass.receipts().len();
         let (_, told) = self.take_run(pass, frame, most);

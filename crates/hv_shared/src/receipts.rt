@@ -1,5 +1,6 @@
 // What a thread was told of its events, packed as a history is, with a number beside each entry.
-ghost use Rattle.std.specs.Prelude.{◌≡◌, ◌<◌, ◌≤◌, ◌-◌, ◌++◌, ◌↔◌, [], ◌∷◌, ℕ, IsTrue, OnOk, Some, drop, length, option_map, slice_get, vec_len};
+ghost use Rattle.std.specs.Prelude.{◌≡◌, ◌<◌, ◌≤◌, ◌-◌, ◌++◌, ◌↔◌, [], ◌∷◌, ℕ, IsTrue, OnOk, Some, drop};
+ghost use Rattle.std.specs.Prelude.{length, option_map, slice_get, vec_len};
 ghost use Rattle.hv_history.specs.History.{entries};
 ghost use Rattle.hv_history.specs.Output.{shown};
 ghost use Rattle.hv_history.specs.declared.entry.Entry.{Entry};
@@ -82,7 +83,8 @@ impl Receipts {
     pub(crate) fn is_of(&self, at: usize, history: &History<Global>, place: usize) -> bool
         requires here { at < length (list_of self.now) }
         requires there { place < length (entries history.now) }
-        ensures { (entry : Entry Global) → slice_get (entries history.now) place ≡ Some entry → (IsTrue result ↔ IsOf entry (drop at (list_of self.now))) }
+        ensures { (entry : Entry Global) → slice_get (entries history.now) place ≡ Some entry
+            → (IsTrue result ↔ IsOf entry (drop at (list_of self.now))) }
     {
         self.packed.is_same(at, history, place)
     }
@@ -111,10 +113,14 @@ impl Receipts {
     #[inline(always)]
     pub(crate) fn push(&mut self, number: u64, event: &Event<Global>, history: &History<Global>)
         requires some { 0 < length (entries history.now) }
-        requires last { (entry : Entry Global) → slice_get (entries history.now) (length (entries history.now) - 1) ≡ Some entry → entry.event ≡ event.now }
+        requires last { (entry : Entry Global)
+            → slice_get (entries history.now) (length (entries history.now) - 1) ≡ Some entry → entry.event
+            ≡ event.now }
         requires room { HasRoom 1 (room_in self.old) event.now }
         ensures room { HasUsedOne event.now (room_in self.old) (room_in self.new) }
-        ensures pushed { (entry : Entry Global) → slice_get (entries history.now) (length (entries history.now) - 1) ≡ Some entry → list_of self.new ≡ list_of self.old ++ receipt_of number entry ∷ [] }
+        ensures pushed { (entry : Entry Global)
+            → slice_get (entries history.now) (length (entries history.now) - 1) ≡ Some entry
+            → list_of self.new ≡ list_of self.old ++ receipt_of number entry ∷ [] }
     {
         self.numbers.push_reserved(number);
         self.packed.push_last(event, history);

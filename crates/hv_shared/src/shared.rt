@@ -21,7 +21,8 @@ use std::marker::Model;
 use std::sync::ledger::{Blank, Ledger};
 use std::sync::{Mutex, Wait};
 
-/// A lock round a machine with its history, and beside it how many passes there are and with what the history was begun.
+/// A lock round a machine with its history, and beside it how many passes there are and with what the
+/// history was begun.
 #[derive(Drop)]
 pub struct Shared<L: Ledger> {
     held: Mutex<Held<L>>,
@@ -42,8 +43,8 @@ impl<L: Ledger> Model for Shared<L> {
 }
 
 impl<L: Ledger> Shared<L> {
-    /// A lock round a machine to which nothing happened yet, and a pass for each caller, in order. The blank has as many
-    /// parts as there are callers. For want of memory the machine comes back.
+    /// A lock round a machine to which nothing happened yet, and a pass for each caller, in order. The
+    /// blank has as many parts as there are callers. For want of memory the machine comes back.
     pub fn new(
         kept: Kept<Global>,
         blank: Blank,
@@ -82,7 +83,8 @@ impl<L: Ledger> Shared<L> {
         ensures called { IfOk result (λ r. HasCalled what r pass.old pass.new) }
         ensures refused { OnErr result (IsAsBefore pass.old pass.new) }
 
-        // A reply to a hypercall has a result value, and a call goes on with the element after the one that was served.
+        // A reply to a hypercall has a result value, and a call goes on with the element after the one
+        // that was served.
         ensures result { (frame : Frame Global) → what ≡ Hypercall frame → IfOk result HasResult }
         ensures next { IfOk result (λ r. GoesOn what r) }
     {
@@ -93,8 +95,8 @@ impl<L: Ledger> Shared<L> {
         }
     }
 
-    // Lets an event by the pass's caller happen, and keeps its receipt. Answers its reply without the output. Room for the
-    // receipt is made before the gate is asked.
+    // Lets an event by the pass's caller happen, and keeps its receipt. Answers its reply without the
+    // output. Room for the receipt is made before the gate is asked.
     #[inline(always)]
     pub(crate) fn happen<R: Wait, G: Gate>(
         &self,
@@ -117,8 +119,9 @@ impl<L: Ledger> Shared<L> {
         answer
     }
 
-    // Asks for the elements of a call from the frame's start index on, up to 16 of them, while the lock is taken once. Room for
-    // their receipts is made before the gate is asked. Answers the frame of the last element, and its reply without the output.
+    // Asks for the elements of a call from the frame's start index on, up to 16 of them, while the lock
+    // is taken once. Room for their receipts is made before the gate is asked. Answers the frame of the
+    // last element, and its reply without the output.
     #[inline(always)]
     pub(crate) fn ask<R: Wait, G: Gate>(
         &self,

@@ -4,17 +4,20 @@ ghost use Rattle.std.specs.FinMap.{contains_key};
 ghost use Rattle.hv_defs.specs.Registers.{name_of_msr};
 ghost use Rattle.hv_policy.specs.Flat.{Flat};
 ghost use Rattle.hv_policy.specs.Met.{is_vp_free};
-ghost use Rattle.hv_policy.specs.declared.event.Action.TheVariants.{ReadMsr, WriteMsr, ReadSlot, ClearSlot, ReadFlags, ClearFlag, TakeInterrupt};
+ghost use Rattle.hv_policy.specs.declared.event.Action.TheVariants.{ReadMsr, WriteMsr, ReadSlot, ClearSlot};
+ghost use Rattle.hv_policy.specs.declared.event.Action.TheVariants.{ReadFlags, ClearFlag, TakeInterrupt};
 ghost use Rattle.hv_tables.specs.Lines.{asked_line, subject_line};
 
 /// The rules of each access beside P1 to P3, by their numbers.
 pub fn each_access_has_its_rules()
     ensures read_msr { (f : Flat) (caller msr : ℕ) → asked_line f caller (ReadMsr msr) ≡ 25 ∷ 26 ∷ [] }
-    ensures write_msr { (f : Flat) (caller msr value : ℕ) → asked_line f caller (WriteMsr msr value) ≡ 25 ∷ 26 ∷ 27 ∷ [] }
+    ensures write_msr { (f : Flat) (caller msr value : ℕ) → asked_line f caller (WriteMsr msr value) ≡ 25
+        ∷ 26 ∷ 27 ∷ [] }
     ensures read_slot { (f : Flat) (caller sint : ℕ) → asked_line f caller (ReadSlot sint) ≡ 21 ∷ [] }
     ensures clear_slot { (f : Flat) (caller sint : ℕ) → asked_line f caller (ClearSlot sint) ≡ 21 ∷ [] }
     ensures read_flags { (f : Flat) (caller sint : ℕ) → asked_line f caller (ReadFlags sint) ≡ 21 ∷ [] }
-    ensures clear_flag { (f : Flat) (caller sint flag : ℕ) → asked_line f caller (ClearFlag sint flag) ≡ 21 ∷ [] }
+    ensures clear_flag { (f : Flat) (caller sint flag : ℕ) → asked_line f caller (ClearFlag sint flag) ≡ 21
+        ∷ [] }
     ensures take_interrupt { (f : Flat) (caller : ℕ) → asked_line f caller TakeInterrupt ≡ [] }
 {}
 
@@ -27,8 +30,10 @@ pub fn each_access_has_its_edges()
     ensures read_flags { (f : Flat) (caller : ℕ) → subject_line f caller (ReadFlags 15) ≡ true }
     ensures read_flags_beyond { (f : Flat) (caller : ℕ) → subject_line f caller (ReadFlags 16) ≡ false }
     ensures clear_flag { (f : Flat) (caller : ℕ) → subject_line f caller (ClearFlag 15 2047) ≡ true }
-    ensures clear_flag_beyond_the_sints { (f : Flat) (caller : ℕ) → subject_line f caller (ClearFlag 16 0) ≡ false }
-    ensures clear_flag_beyond_the_flags { (f : Flat) (caller : ℕ) → subject_line f caller (ClearFlag 0 2048) ≡ false }
+    ensures clear_flag_beyond_the_sints { (f : Flat) (caller : ℕ) → subject_line f caller (ClearFlag 16 0)
+        ≡ false }
+    ensures clear_flag_beyond_the_flags { (f : Flat) (caller : ℕ) → subject_line f caller (ClearFlag 0 2048)
+        ≡ false }
 {}
 
 /// The register of each MSR, by its name in a call, and the numbers beside them, which are no MSR.
@@ -53,8 +58,10 @@ pub fn each_msr_has_its_register()
 
 /// The highest index of a processor.
 pub fn each_processor_has_its_index()
-    ensures last { (f : Flat) (target : ℕ) → contains_key f.vp (target, 63) ≡ false → is_vp_free f target 63 ≡ true }
-    ensures taken { (f : Flat) (target : ℕ) → contains_key f.vp (target, 63) ≡ true → is_vp_free f target 63 ≡ false }
+    ensures last { (f : Flat) (target : ℕ) → contains_key f.vp (target, 63) ≡ false → is_vp_free f target 63
+        ≡ true }
+    ensures taken { (f : Flat) (target : ℕ) → contains_key f.vp (target, 63) ≡ true → is_vp_free f target 63
+        ≡ false }
     ensures beyond { (f : Flat) (target : ℕ) → is_vp_free f target 64 ≡ false }
     ensures any { (f : Flat) (target : ℕ) → is_vp_free f target 0xFFFFFFFF ≡ false }
 {}

@@ -1,5 +1,6 @@
 // The table of calls. A call's privilege is a power of 2, by its bit.
-ghost use Rattle.std.specs.Prelude.{◌≡◌, ℕ, ◌+◌, ◌*◌, ◌^◌, ◌==◌, ◌||◌, true, false, List, [], ◌∷◌, length, None};
+ghost use Rattle.std.specs.Prelude.{◌≡◌, ℕ, ◌+◌, ◌*◌, ◌^◌, ◌==◌, ◌||◌, true, false, List, [], ◌∷◌, length};
+ghost use Rattle.std.specs.Prelude.{None};
 ghost use Rattle.hv_abi.specs.CallRow.{kind_of};
 ghost use Rattle.hv_abi.specs.declared.call_kind.CallKind.TheVariants as kind;
 ghost use Rattle.hv_abi.specs.declared.call_kind.TheConstants.{ALL_CALLS};
@@ -75,89 +76,173 @@ pub fn each_call_has_its_lists()
 
 /// The privilege that each call needs, which partitions may be its target, and their life states.
 pub fn each_call_has_its_needs()
-    ensures create_partition { (flags : ℕ) → need_line (call.CreatePartition flags) ≡ (2 ^ 32, kin.Caller, Created ∷ Active ∷ Finalized ∷ []) }
-    ensures initialize_partition { (partition : ℕ) → need_line (call.InitializePartition partition) ≡ (2 ^ 32, kin.Child, Created ∷ []) }
-    ensures finalize_partition { (partition : ℕ) → need_line (call.FinalizePartition partition) ≡ (2 ^ 32, kin.Child, Created ∷ Active ∷ []) }
-    ensures delete_partition { (partition : ℕ) → need_line (call.DeletePartition partition) ≡ (2 ^ 32, kin.Child, Created ∷ Finalized ∷ []) }
-    ensures get_partition_property { (partition code : ℕ) → need_line (call.GetPartitionProperty partition code) ≡ (2 ^ 32, kin.CallerOrChild, Created ∷ Active ∷ Finalized ∷ []) }
-    ensures set_partition_property_privilege_flags { (partition value : ℕ) → need_line (call.SetPartitionProperty partition 0x00010000 value) ≡ (2 ^ 32, kin.Child, Created ∷ []) }
-    ensures set_partition_property_cpu_reserve { (partition value : ℕ) → need_line (call.SetPartitionProperty partition 0x00020001 value) ≡ (2 ^ 32, kin.Child, Created ∷ Active ∷ []) }
-    ensures set_partition_property_cpu_cap { (partition value : ℕ) → need_line (call.SetPartitionProperty partition 0x00020002 value) ≡ (2 ^ 32, kin.Child, Created ∷ Active ∷ []) }
-    ensures set_partition_property_cpu_weight { (partition value : ℕ) → need_line (call.SetPartitionProperty partition 0x00020003 value) ≡ (2 ^ 32, kin.Child, Created ∷ Active ∷ []) }
-    ensures set_partition_property_of_no_code { (partition code value : ℕ) → property_of code ≡ None → need_line (call.SetPartitionProperty partition code value) ≡ (2 ^ 32, kin.Child, Created ∷ []) }
-    ensures get_partition_id { need_line call.GetPartitionId ≡ (2 ^ 33, kin.Caller, Created ∷ Active ∷ Finalized ∷ []) }
-    ensures get_next_child_partition { (partition previous : ℕ) → need_line (call.GetNextChildPartition partition previous) ≡ (2 ^ 32, kin.CallerOrChild, Created ∷ Active ∷ Finalized ∷ []) }
-    ensures deposit_memory { (partition page : ℕ) → need_line (call.DepositMemory partition page) ≡ (2 ^ 34, kin.CallerOrChild, Created ∷ Active ∷ []) }
-    ensures withdraw_memory { (partition : ℕ) → need_line (call.WithdrawMemory partition) ≡ (2 ^ 34, kin.CallerOrChild, Created ∷ Active ∷ Finalized ∷ []) }
-    ensures get_memory_balance { (partition : ℕ) → need_line (call.GetMemoryBalance partition) ≡ (2 ^ 34, kin.CallerOrChild, Created ∷ Active ∷ Finalized ∷ []) }
-    ensures create_vp { (partition vp : ℕ) → need_line (call.CreateVp partition vp) ≡ (2 ^ 32, kin.CallerOrChild, Active ∷ []) }
-    ensures delete_vp { (partition vp : ℕ) → need_line (call.DeleteVp partition vp) ≡ (2 ^ 32, kin.CallerOrChild, Active ∷ []) }
-    ensures get_vp_registers { (partition vp name : ℕ) → need_line (call.GetVpRegisters partition vp name) ≡ (2 ^ 32, kin.CallerOrChild, Active ∷ []) }
-    ensures set_vp_registers { (partition vp name value : ℕ) → need_line (call.SetVpRegisters partition vp name value) ≡ (2 ^ 32, kin.CallerOrChild, Active ∷ []) }
-    ensures delete_port { (partition port : ℕ) → need_line (call.DeletePort partition port) ≡ (2 ^ 38, kin.CallerOrChild, Active ∷ []) }
-    ensures disconnect_port { (partition connection : ℕ) → need_line (call.DisconnectPort partition connection) ≡ (2 ^ 39, kin.CallerOrChild, Active ∷ []) }
-    ensures post_message { (connection message_type : ℕ) (payload : List ℕ) → need_line (call.PostMessage connection message_type payload) ≡ (2 ^ 36, kin.Caller, Created ∷ Active ∷ Finalized ∷ []) }
-    ensures signal_event { (connection flag : ℕ) → need_line (call.SignalEvent connection flag) ≡ (2 ^ 37, kin.Caller, Created ∷ Active ∷ Finalized ∷ []) }
-    ensures create_port { (partition port peer : ℕ) (port_kind : PortKind) (sint vp base count : ℕ) → need_line (call.CreatePort partition port peer port_kind sint vp base count) ≡ (2 ^ 38, kin.CallerOrChild, Active ∷ []) }
-    ensures connect_port { (partition connection port_partition port : ℕ) (port_kind : PortKind) → need_line (call.ConnectPort partition connection port_partition port port_kind) ≡ (2 ^ 39, kin.CallerOrChild, Active ∷ []) }
+    ensures create_partition { (flags : ℕ) → need_line (call.CreatePartition flags)
+        ≡ (2 ^ 32, kin.Caller, Created ∷ Active ∷ Finalized ∷ []) }
+    ensures initialize_partition { (partition : ℕ) → need_line (call.InitializePartition partition)
+        ≡ (2 ^ 32, kin.Child, Created ∷ []) }
+    ensures finalize_partition { (partition : ℕ) → need_line (call.FinalizePartition partition)
+        ≡ (2 ^ 32, kin.Child, Created ∷ Active ∷ []) }
+    ensures delete_partition { (partition : ℕ) → need_line (call.DeletePartition partition)
+        ≡ (2 ^ 32, kin.Child, Created ∷ Finalized ∷ []) }
+    ensures get_partition_property { (partition code : ℕ)
+        → need_line (call.GetPartitionProperty partition code)
+        ≡ (2 ^ 32, kin.CallerOrChild, Created ∷ Active ∷ Finalized ∷ []) }
+    ensures set_partition_property_privilege_flags { (partition value : ℕ)
+        → need_line (call.SetPartitionProperty partition 0x00010000 value)
+        ≡ (2 ^ 32, kin.Child, Created ∷ []) }
+    ensures set_partition_property_cpu_reserve { (partition value : ℕ)
+        → need_line (call.SetPartitionProperty partition 0x00020001 value)
+        ≡ (2 ^ 32, kin.Child, Created ∷ Active ∷ []) }
+    ensures set_partition_property_cpu_cap { (partition value : ℕ)
+        → need_line (call.SetPartitionProperty partition 0x00020002 value)
+        ≡ (2 ^ 32, kin.Child, Created ∷ Active ∷ []) }
+    ensures set_partition_property_cpu_weight { (partition value : ℕ)
+        → need_line (call.SetPartitionProperty partition 0x00020003 value)
+        ≡ (2 ^ 32, kin.Child, Created ∷ Active ∷ []) }
+    ensures set_partition_property_of_no_code { (partition code value : ℕ) → property_of code ≡ None
+        → need_line (call.SetPartitionProperty partition code value) ≡ (2 ^ 32, kin.Child, Created ∷ []) }
+    ensures get_partition_id { need_line call.GetPartitionId
+        ≡ (2 ^ 33, kin.Caller, Created ∷ Active ∷ Finalized ∷ []) }
+    ensures get_next_child_partition { (partition previous : ℕ)
+        → need_line (call.GetNextChildPartition partition previous)
+        ≡ (2 ^ 32, kin.CallerOrChild, Created ∷ Active ∷ Finalized ∷ []) }
+    ensures deposit_memory { (partition page : ℕ) → need_line (call.DepositMemory partition page)
+        ≡ (2 ^ 34, kin.CallerOrChild, Created ∷ Active ∷ []) }
+    ensures withdraw_memory { (partition : ℕ) → need_line (call.WithdrawMemory partition)
+        ≡ (2 ^ 34, kin.CallerOrChild, Created ∷ Active ∷ Finalized ∷ []) }
+    ensures get_memory_balance { (partition : ℕ) → need_line (call.GetMemoryBalance partition)
+        ≡ (2 ^ 34, kin.CallerOrChild, Created ∷ Active ∷ Finalized ∷ []) }
+    ensures create_vp { (partition vp : ℕ) → need_line (call.CreateVp partition vp)
+        ≡ (2 ^ 32, kin.CallerOrChild, Active ∷ []) }
+    ensures delete_vp { (partition vp : ℕ) → need_line (call.DeleteVp partition vp)
+        ≡ (2 ^ 32, kin.CallerOrChild, Active ∷ []) }
+    ensures get_vp_registers { (partition vp name : ℕ) → need_line (call.GetVpRegisters partition vp name)
+        ≡ (2 ^ 32, kin.CallerOrChild, Active ∷ []) }
+    ensures set_vp_registers { (partition vp name value : ℕ)
+        → need_line (call.SetVpRegisters partition vp name value) ≡ (2 ^ 32, kin.CallerOrChild, Active ∷ []) }
+    ensures delete_port { (partition port : ℕ) → need_line (call.DeletePort partition port)
+        ≡ (2 ^ 38, kin.CallerOrChild, Active ∷ []) }
+    ensures disconnect_port { (partition connection : ℕ)
+        → need_line (call.DisconnectPort partition connection) ≡ (2 ^ 39, kin.CallerOrChild, Active ∷ []) }
+    ensures post_message { (connection message_type : ℕ) (payload : List ℕ)
+        → need_line (call.PostMessage connection message_type payload)
+        ≡ (2 ^ 36, kin.Caller, Created ∷ Active ∷ Finalized ∷ []) }
+    ensures signal_event { (connection flag : ℕ) → need_line (call.SignalEvent connection flag)
+        ≡ (2 ^ 37, kin.Caller, Created ∷ Active ∷ Finalized ∷ []) }
+    ensures create_port { (partition port peer : ℕ) (port_kind : PortKind) (sint vp base count : ℕ)
+        → need_line (call.CreatePort partition port peer port_kind sint vp base count)
+        ≡ (2 ^ 38, kin.CallerOrChild, Active ∷ []) }
+    ensures connect_port { (partition connection port_partition port : ℕ) (port_kind : PortKind)
+        → need_line (call.ConnectPort partition connection port_partition port port_kind)
+        ≡ (2 ^ 39, kin.CallerOrChild, Active ∷ []) }
 {}
 
 /// Which partitions of a state each kin names.
 pub fn each_kin_has_its_partitions()
     ensures caller { (f : Flat) (caller id : ℕ) → is_kin kin.Caller f caller id ≡ (id == caller) }
-    ensures caller_or_child { (f : Flat) (caller id : ℕ) → is_kin kin.CallerOrChild f caller id ≡ ((id == caller) || is_child f caller id) }
+    ensures caller_or_child { (f : Flat) (caller id : ℕ) → is_kin kin.CallerOrChild f caller id
+        ≡ ((id == caller) || is_child f caller id) }
     ensures child { (f : Flat) (caller id : ℕ) → is_kin kin.Child f caller id ≡ is_child f caller id }
 {}
 
-/// The further rules of each call by their numbers, whatever its parameters, its caller and the state; its charge in pages, and
-/// whether it may want memory of the host.
+/// The further rules of each call by their numbers, whatever its parameters, its caller and the state;
+/// its charge in pages, and whether it may want memory of the host.
 pub fn each_call_has_its_rules()
-    ensures create_partition { (f : Flat) (caller flags : ℕ) → rules_line f caller (call.CreatePartition flags) ≡ (14 ∷ 24 ∷ [], 2, true) }
-    ensures initialize_partition { (f : Flat) (caller partition : ℕ) → rules_line f caller (call.InitializePartition partition) ≡ (12 ∷ [], 0, false) }
-    ensures finalize_partition { (f : Flat) (caller partition : ℕ) → rules_line f caller (call.FinalizePartition partition) ≡ (12 ∷ 13 ∷ [], 0, false) }
-    ensures delete_partition { (f : Flat) (caller partition : ℕ) → rules_line f caller (call.DeletePartition partition) ≡ (12 ∷ [], 0, true) }
-    ensures get_partition_property { (f : Flat) (caller partition code : ℕ) → rules_line f caller (call.GetPartitionProperty partition code) ≡ (11 ∷ [], 0, false) }
-    ensures set_partition_property { (f : Flat) (caller partition code value : ℕ) → rules_line f caller (call.SetPartitionProperty partition code value) ≡ (11 ∷ 12 ∷ 18 ∷ 20 ∷ [], 0, false) }
-    ensures get_partition_id { (f : Flat) (caller : ℕ) → rules_line f caller call.GetPartitionId ≡ ([], 0, false) }
-    ensures get_next_child_partition { (f : Flat) (caller partition previous : ℕ) → rules_line f caller (call.GetNextChildPartition partition previous) ≡ (15 ∷ [], 0, false) }
-    ensures deposit_memory { (f : Flat) (caller partition page : ℕ) → rules_line f caller (call.DepositMemory partition page) ≡ (12 ∷ 21 ∷ [], 0, true) }
-    ensures withdraw_memory { (f : Flat) (caller partition : ℕ) → rules_line f caller (call.WithdrawMemory partition) ≡ (24 ∷ [], 1, true) }
-    ensures get_memory_balance { (f : Flat) (caller partition : ℕ) → rules_line f caller (call.GetMemoryBalance partition) ≡ ([], 0, false) }
-    ensures create_vp { (f : Flat) (caller partition vp : ℕ) → rules_line f caller (call.CreateVp partition vp) ≡ (12 ∷ 19 ∷ 24 ∷ [], 4, true) }
-    ensures delete_vp { (f : Flat) (caller partition vp : ℕ) → rules_line f caller (call.DeleteVp partition vp) ≡ (12 ∷ 19 ∷ [], 0, false) }
-    ensures get_vp_registers { (f : Flat) (caller partition vp name : ℕ) → rules_line f caller (call.GetVpRegisters partition vp name) ≡ (12 ∷ 18 ∷ 19 ∷ 21 ∷ [], 0, false) }
-    ensures set_vp_registers { (f : Flat) (caller partition vp name value : ℕ) → rules_line f caller (call.SetVpRegisters partition vp name value) ≡ (12 ∷ 18 ∷ 19 ∷ 21 ∷ [], 0, false) }
-    ensures delete_port { (f : Flat) (caller partition port : ℕ) → rules_line f caller (call.DeletePort partition port) ≡ (12 ∷ 17 ∷ [], 0, false) }
-    ensures disconnect_port { (f : Flat) (caller partition connection : ℕ) → rules_line f caller (call.DisconnectPort partition connection) ≡ (12 ∷ 16 ∷ [], 0, false) }
-    ensures post_message { (f : Flat) (caller connection message_type : ℕ) (payload : List ℕ) → rules_line f caller (call.PostMessage connection message_type payload) ≡ (16 ∷ 17 ∷ 19 ∷ 21 ∷ 22 ∷ 23 ∷ [], 0, true) }
-    ensures signal_event { (f : Flat) (caller connection flag : ℕ) → rules_line f caller (call.SignalEvent connection flag) ≡ (16 ∷ 17 ∷ 19 ∷ 21 ∷ 22 ∷ [], 0, false) }
-    ensures create_port { (f : Flat) (caller partition port peer : ℕ) (port_kind : PortKind) (sint vp base count : ℕ) → rules_line f caller (call.CreatePort partition port peer port_kind sint vp base count) ≡ (12 ∷ 15 ∷ 17 ∷ 19 ∷ 24 ∷ [], 1, true) }
-    ensures connect_port { (f : Flat) (caller partition connection port_partition port : ℕ) (port_kind : PortKind) → rules_line f caller (call.ConnectPort partition connection port_partition port port_kind) ≡ (12 ∷ 15 ∷ 16 ∷ 17 ∷ 18 ∷ 21 ∷ 24 ∷ [], 1, true) }
+    ensures create_partition { (f : Flat) (caller flags : ℕ)
+        → rules_line f caller (call.CreatePartition flags) ≡ (14 ∷ 24 ∷ [], 2, true) }
+    ensures initialize_partition { (f : Flat) (caller partition : ℕ)
+        → rules_line f caller (call.InitializePartition partition) ≡ (12 ∷ [], 0, false) }
+    ensures finalize_partition { (f : Flat) (caller partition : ℕ)
+        → rules_line f caller (call.FinalizePartition partition) ≡ (12 ∷ 13 ∷ [], 0, false) }
+    ensures delete_partition { (f : Flat) (caller partition : ℕ)
+        → rules_line f caller (call.DeletePartition partition) ≡ (12 ∷ [], 0, true) }
+    ensures get_partition_property { (f : Flat) (caller partition code : ℕ)
+        → rules_line f caller (call.GetPartitionProperty partition code) ≡ (11 ∷ [], 0, false) }
+    ensures set_partition_property { (f : Flat) (caller partition code value : ℕ)
+        → rules_line f caller (call.SetPartitionProperty partition code value)
+        ≡ (11 ∷ 12 ∷ 18 ∷ 20 ∷ [], 0, false) }
+    ensures get_partition_id { (f : Flat) (caller : ℕ) → rules_line f caller call.GetPartitionId
+        ≡ ([], 0, false) }
+    ensures get_next_child_partition { (f : Flat) (caller partition previous : ℕ)
+        → rules_line f caller (call.GetNextChildPartition partition previous) ≡ (15 ∷ [], 0, false) }
+    ensures deposit_memory { (f : Flat) (caller partition page : ℕ)
+        → rules_line f caller (call.DepositMemory partition page) ≡ (12 ∷ 21 ∷ [], 0, true) }
+    ensures withdraw_memory { (f : Flat) (caller partition : ℕ)
+        → rules_line f caller (call.WithdrawMemory partition) ≡ (24 ∷ [], 1, true) }
+    ensures get_memory_balance { (f : Flat) (caller partition : ℕ)
+        → rules_line f caller (call.GetMemoryBalance partition) ≡ ([], 0, false) }
+    ensures create_vp { (f : Flat) (caller partition vp : ℕ)
+        → rules_line f caller (call.CreateVp partition vp) ≡ (12 ∷ 19 ∷ 24 ∷ [], 4, true) }
+    ensures delete_vp { (f : Flat) (caller partition vp : ℕ)
+        → rules_line f caller (call.DeleteVp partition vp) ≡ (12 ∷ 19 ∷ [], 0, false) }
+    ensures get_vp_registers { (f : Flat) (caller partition vp name : ℕ)
+        → rules_line f caller (call.GetVpRegisters partition vp name) ≡ (12 ∷ 18 ∷ 19 ∷ 21 ∷ [], 0, false) }
+    ensures set_vp_registers { (f : Flat) (caller partition vp name value : ℕ)
+        → rules_line f caller (call.SetVpRegisters partition vp name value)
+        ≡ (12 ∷ 18 ∷ 19 ∷ 21 ∷ [], 0, false) }
+    ensures delete_port { (f : Flat) (caller partition port : ℕ)
+        → rules_line f caller (call.DeletePort partition port) ≡ (12 ∷ 17 ∷ [], 0, false) }
+    ensures disconnect_port { (f : Flat) (caller partition connection : ℕ)
+        → rules_line f caller (call.DisconnectPort partition connection) ≡ (12 ∷ 16 ∷ [], 0, false) }
+    ensures post_message { (f : Flat) (caller connection message_type : ℕ) (payload : List ℕ)
+        → rules_line f caller (call.PostMessage connection message_type payload)
+        ≡ (16 ∷ 17 ∷ 19 ∷ 21 ∷ 22 ∷ 23 ∷ [], 0, true) }
+    ensures signal_event { (f : Flat) (caller connection flag : ℕ)
+        → rules_line f caller (call.SignalEvent connection flag) ≡ (16 ∷ 17 ∷ 19 ∷ 21 ∷ 22 ∷ [], 0, false) }
+    ensures create_port { (f : Flat) (caller partition port peer : ℕ) (port_kind : PortKind)
+        (sint vp base count : ℕ)
+        → rules_line f caller (call.CreatePort partition port peer port_kind sint vp base count)
+        ≡ (12 ∷ 15 ∷ 17 ∷ 19 ∷ 24 ∷ [], 1, true) }
+    ensures connect_port { (f : Flat) (caller partition connection port_partition port : ℕ) (port_kind : PortKind)
+        → rules_line f caller (call.ConnectPort partition connection port_partition port port_kind)
+        ≡ (12 ∷ 15 ∷ 16 ∷ 17 ∷ 18 ∷ 21 ∷ 24 ∷ [], 1, true) }
 {}
 
-/// The target of each call: the caller, or the partition that a parameter names, where all ones is the caller's own id.
+/// The target of each call: the caller, or the partition that a parameter names, where all ones is the
+/// caller's own id.
 pub fn each_call_has_its_target()
     ensures all_ones { (caller : ℕ) → meant_id caller 18446744073709551615 ≡ caller }
     ensures another_id { (caller id : ℕ) → ¬ (id ≡ 18446744073709551615) → meant_id caller id ≡ id }
     ensures create_partition { (caller flags : ℕ) → target_of (call.CreatePartition flags) caller ≡ caller }
-    ensures initialize_partition { (caller partition : ℕ) → target_of (call.InitializePartition partition) caller ≡ meant_id caller partition }
-    ensures finalize_partition { (caller partition : ℕ) → target_of (call.FinalizePartition partition) caller ≡ meant_id caller partition }
-    ensures delete_partition { (caller partition : ℕ) → target_of (call.DeletePartition partition) caller ≡ meant_id caller partition }
-    ensures get_partition_property { (caller partition code : ℕ) → target_of (call.GetPartitionProperty partition code) caller ≡ meant_id caller partition }
-    ensures set_partition_property { (caller partition code value : ℕ) → target_of (call.SetPartitionProperty partition code value) caller ≡ meant_id caller partition }
+    ensures initialize_partition { (caller partition : ℕ)
+        → target_of (call.InitializePartition partition) caller ≡ meant_id caller partition }
+    ensures finalize_partition { (caller partition : ℕ)
+        → target_of (call.FinalizePartition partition) caller ≡ meant_id caller partition }
+    ensures delete_partition { (caller partition : ℕ) → target_of (call.DeletePartition partition) caller
+        ≡ meant_id caller partition }
+    ensures get_partition_property { (caller partition code : ℕ)
+        → target_of (call.GetPartitionProperty partition code) caller ≡ meant_id caller partition }
+    ensures set_partition_property { (caller partition code value : ℕ)
+        → target_of (call.SetPartitionProperty partition code value) caller ≡ meant_id caller partition }
     ensures get_partition_id { (caller : ℕ) → target_of call.GetPartitionId caller ≡ caller }
-    ensures get_next_child_partition { (caller partition previous : ℕ) → target_of (call.GetNextChildPartition partition previous) caller ≡ meant_id caller partition }
-    ensures deposit_memory { (caller partition page : ℕ) → target_of (call.DepositMemory partition page) caller ≡ meant_id caller partition }
-    ensures withdraw_memory { (caller partition : ℕ) → target_of (call.WithdrawMemory partition) caller ≡ meant_id caller partition }
-    ensures get_memory_balance { (caller partition : ℕ) → target_of (call.GetMemoryBalance partition) caller ≡ meant_id caller partition }
-    ensures create_vp { (caller partition vp : ℕ) → target_of (call.CreateVp partition vp) caller ≡ meant_id caller partition }
-    ensures delete_vp { (caller partition vp : ℕ) → target_of (call.DeleteVp partition vp) caller ≡ meant_id caller partition }
-    ensures get_vp_registers { (caller partition vp name : ℕ) → target_of (call.GetVpRegisters partition vp name) caller ≡ meant_id caller partition }
-    ensures set_vp_registers { (caller partition vp name value : ℕ) → target_of (call.SetVpRegisters partition vp name value) caller ≡ meant_id caller partition }
-    ensures delete_port { (caller partition port : ℕ) → target_of (call.DeletePort partition port) caller ≡ meant_id caller partition }
-    ensures disconnect_port { (caller partition connection : ℕ) → target_of (call.DisconnectPort partition connection) caller ≡ meant_id caller partition }
-    ensures post_message { (caller connection message_type : ℕ) (payload : List ℕ) → target_of (call.PostMessage connection message_type payload) caller ≡ caller }
-    ensures signal_event { (caller connection flag : ℕ) → target_of (call.SignalEvent connection flag) caller ≡ caller }
-    ensures create_port { (caller partition port peer : ℕ) (port_kind : PortKind) (sint vp base count : ℕ) → target_of (call.CreatePort partition port peer port_kind sint vp base count) caller ≡ meant_id caller partition }
-    ensures connect_port { (caller partition connection port_partition port : ℕ) (port_kind : PortKind) → target_of (call.ConnectPort partition connection port_partition port port_kind) caller ≡ meant_id caller partition }
+    ensures get_next_child_partition { (caller partition previous : ℕ)
+        → target_of (call.GetNextChildPartition partition previous) caller ≡ meant_id caller partition }
+    ensures deposit_memory { (caller partition page : ℕ)
+        → target_of (call.DepositMemory partition page) caller ≡ meant_id caller partition }
+    ensures withdraw_memory { (caller partition : ℕ) → target_of (call.WithdrawMemory partition) caller
+        ≡ meant_id caller partition }
+    ensures get_memory_balance { (caller partition : ℕ) → target_of (call.GetMemoryBalance partition) caller
+        ≡ meant_id caller partition }
+    ensures create_vp { (caller partition vp : ℕ) → target_of (call.CreateVp partition vp) caller
+        ≡ meant_id caller partition }
+    ensures delete_vp { (caller partition vp : ℕ) → target_of (call.DeleteVp partition vp) caller
+        ≡ meant_id caller partition }
+    ensures get_vp_registers { (caller partition vp name : ℕ)
+        → target_of (call.GetVpRegisters partition vp name) caller ≡ meant_id caller partition }
+    ensures set_vp_registers { (caller partition vp name value : ℕ)
+        → target_of (call.SetVpRegisters partition vp name value) caller ≡ meant_id caller partition }
+    ensures delete_port { (caller partition port : ℕ) → target_of (call.DeletePort partition port) caller
+        ≡ meant_id caller partition }
+    ensures disconnect_port { (caller partition connection : ℕ)
+        → target_of (call.DisconnectPort partition connection) caller ≡ meant_id caller partition }
+    ensures post_message { (caller connection message_type : ℕ) (payload : List ℕ)
+        → target_of (call.PostMessage connection message_type payload) caller ≡ caller }
+    ensures signal_event { (caller connection flag : ℕ)
+        → target_of (call.SignalEvent connection flag) caller ≡ caller }
+    ensures create_port { (caller partition port peer : ℕ) (port_kind : PortKind) (sint vp base count : ℕ)
+        → target_of (call.CreatePort partition port peer port_kind sint vp base count) caller
+        ≡ meant_id caller partition }
+    ensures connect_port { (caller partition connection port_partition port : ℕ) (port_kind : PortKind)
+        → target_of (call.ConnectPort partition connection port_partition port port_kind) caller
+        ≡ meant_id caller partition }
 {}

@@ -12,15 +12,19 @@ pub fn each_input_value_has_its_parts()
     ensures not_fast { (input_value 0xFFFFFFFFFFFEFFFF).fast ≡ false }
     ensures reps { (input_value 0x0000073600000000).reps ≡ 0x736 }
     ensures start { (input_value 0x0736000000000000).start ≡ 0x736 }
-    ensures reserved { filter (λ bit. not (is_reserved_zero (2 ^ bit))) (range_with_len 0 64) ≡ 17 ∷ 18 ∷ 19 ∷ 20 ∷ 21 ∷ 22 ∷ 23 ∷ 24 ∷ 25 ∷ 26 ∷ 27 ∷ 28 ∷ 29 ∷ 30 ∷ 31 ∷ 44 ∷ 45 ∷ 46 ∷ 47 ∷ 60 ∷ 61 ∷ 62 ∷ 63 ∷ [] }
+    ensures reserved { filter (λ bit. not (is_reserved_zero (2 ^ bit))) (range_with_len 0 64) ≡ 17 ∷ 18 ∷ 19
+        ∷ 20 ∷ 21 ∷ 22 ∷ 23 ∷ 24 ∷ 25 ∷ 26 ∷ 27 ∷ 28 ∷ 29 ∷ 30 ∷ 31 ∷ 44 ∷ 45 ∷ 46 ∷ 47 ∷ 60 ∷ 61 ∷ 62 ∷ 63
+        ∷ [] }
     ensures restarted { restarted 0x0003000300010048 5 ≡ 0x0005000300010048 }
     ensures restarted_at_zero { restarted 0xFFFFFFFFFFFFFFFF 0 ≡ 0xF000FFFFFFFFFFFF }
     ensures restarted_at_the_last { restarted 0 4095 ≡ 0x0FFF000000000000 }
-    ensures registers { input_line 0x1817161514131211 0x2827262524232221 true ≡ 0x11 ∷ 0x12 ∷ 0x13 ∷ 0x14 ∷ 0x15 ∷ 0x16 ∷ 0x17 ∷ 0x18 ∷ 0x21 ∷ 0x22 ∷ 0x23 ∷ 0x24 ∷ 0x25 ∷ 0x26 ∷ 0x27 ∷ 0x28 ∷ [] }
+    ensures registers { input_line 0x1817161514131211 0x2827262524232221 true ≡ 0x11 ∷ 0x12 ∷ 0x13 ∷ 0x14
+        ∷ 0x15 ∷ 0x16 ∷ 0x17 ∷ 0x18 ∷ 0x21 ∷ 0x22 ∷ 0x23 ∷ 0x24 ∷ 0x25 ∷ 0x26 ∷ 0x27 ∷ 0x28 ∷ [] }
     ensures list { input_line 0x1817161514131211 0x2827262524232221 false ≡ [] }
 {}
 
-/// What is wrong first with a frame, by RCX, RDX and R8: the call code, then the input value, then the lists' places.
+/// What is wrong first with a frame, by RCX, RDX and R8: the call code, then the input value, then the
+/// lists' places.
 pub fn each_frame_has_its_fault()
     ensures plain { fault_line 0x46 0 0 ≡ None }
     ensures empty_list_anywhere { fault_line 0x46 3 0 ≡ None }

@@ -43,6 +43,15 @@ pub fn each_property_has_its_range()
 
 /// What the root and a new partition start with.
 pub fn each_property_has_its_start()
-    ensures root { (mask : Privileges) → root_row mask ≡ record { parent = None; life = Active; mask = mask; reserve = 0; cap = 65536; weight = 100 } }
-    ensures child { (parent : ℕ) (mask : Privileges) → new_row parent mask ≡ record { parent = Some parent; life = Created; mask = restrict mask (of 0x0000003000000044); reserve = 0; cap = 65536; weight = 100 } }
+    ensures root { (mask : Privileges) → root_row mask
+        ≡ record { parent = None; life = Active; mask = mask; reserve = 0; cap = 65536; weight = 100 } }
+    ensures child { (parent : ℕ) (mask : Privileges) → new_row parent mask
+        ≡ record {
+          parent = Some parent;
+          life = Created;
+          mask = restrict mask (of 0x0000003000000044);
+          reserve = 0;
+          cap = 65536;
+          weight = 100;
+        } }
 {}

@@ -4,10 +4,12 @@ ghost use Rattle.std.specs.FinMap.{get};
 ghost use Rattle.hv_defs.specs.Registers.{start_registers, take};
 ghost use Rattle.hv_defs.specs.declared.registers.RegFault.TheVariants.{ReadOnly, Value};
 ghost use Rattle.hv_defs.specs.declared.registers.Takes.TheVariants.{Nothing, Any, SintValue, EndOfMessage};
-ghost use Rattle.hv_defs.specs.declared.registers.TheConstants.{EOM, REGISTERS, SCONTROL, SIEFP, SIMP, SINT0, VP_INDEX};
+ghost use Rattle.hv_defs.specs.declared.registers.TheConstants.{EOM, REGISTERS, SCONTROL, SIEFP, SIMP, SINT0};
+ghost use Rattle.hv_defs.specs.declared.registers.TheConstants.{VP_INDEX};
 ghost use Rattle.hv_tables.specs.Lines.{access_line};
 
-/// What each register holds in a processor of this index that was just made. The table has 40 of them, and no others.
+/// What each register holds in a processor of this index that was just made. The table has 40 of them,
+/// and no others.
 #[tactic(auto, using(crate::proofs::Starts::found_at_start))]
 pub fn each_register_has_its_start()
     ensures vp_index_name { VP_INDEX ≡ 0x00090003 }

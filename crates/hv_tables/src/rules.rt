@@ -31,8 +31,10 @@ pub fn each_rule_has_its_line()
     ensures p22 { (call : Option CallKind) → rule_line rule.VpReady call ≡ (22, codes "P22", Some 0x18) }
     ensures p23 { (call : Option CallKind) → rule_line rule.PortRoom call ≡ (23, codes "P23", Some 0x13) }
     ensures p24_of_no_call { rule_line rule.Pages None ≡ (24, codes "P24", Some 0xB) }
-    ensures p24_of_withdraw_memory { rule_line rule.Pages (Some kind.WithdrawMemory) ≡ (24, codes "P24", Some 0x1D) }
-    ensures p24_of_another_call { (call : CallKind) → ¬ (call ≡ kind.WithdrawMemory) → rule_line rule.Pages (Some call) ≡ (24, codes "P24", Some 0xB) }
+    ensures p24_of_withdraw_memory { rule_line rule.Pages (Some kind.WithdrawMemory)
+        ≡ (24, codes "P24", Some 0x1D) }
+    ensures p24_of_another_call { (call : CallKind) → ¬ (call ≡ kind.WithdrawMemory)
+        → rule_line rule.Pages (Some call) ≡ (24, codes "P24", Some 0xB) }
     ensures p25 { (call : Option CallKind) → rule_line rule.MsrKnown call ≡ (25, codes "P25", None) }
     ensures p26 { (call : Option CallKind) → rule_line rule.MsrPrivilege call ≡ (26, codes "P26", None) }
     ensures p27 { (call : Option CallKind) → rule_line rule.MsrWrite call ≡ (27, codes "P27", None) }

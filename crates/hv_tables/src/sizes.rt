@@ -1,6 +1,14 @@
 // The numbers of the profile, and what boot, blocks and start values take from them.
 ghost use Rattle.std.specs.Prelude.{◌≡◌};
-ghost use Rattle.hv_defs.specs.declared.sizes.TheConstants.{PAGE_SIZE, MAX_PAGES, MAX_VPS, SELF_ID, ROOT_ID, MAX_DEPTH, FIRST_CHILD_ID, PARTITION_CHARGE, VP_CHARGE, PORT_CHARGE, CONNECTION_CHARGE, CPU_RESERVE_START, CPU_CAP_START, CPU_WEIGHT_START, MAX_CPU_RESERVE, MAX_CPU_CAP, MIN_CPU_WEIGHT, MAX_CPU_WEIGHT, SINTS, EVENT_FLAGS, MAX_MESSAGES, MAX_PAYLOAD, MAX_PORT_ID, MAX_MESSAGE_TYPE, ANY_VP, REPS_END, MAX_SERVED};
+ghost use Rattle.hv_defs.specs.declared.sizes.TheConstants.{PAGE_SIZE, MAX_PAGES, MAX_VPS, SELF_ID, ROOT_ID};
+ghost use Rattle.hv_defs.specs.declared.sizes.TheConstants.{MAX_DEPTH, FIRST_CHILD_ID, PARTITION_CHARGE};
+ghost use Rattle.hv_defs.specs.declared.sizes.TheConstants.{VP_CHARGE, PORT_CHARGE, CONNECTION_CHARGE};
+ghost use Rattle.hv_defs.specs.declared.sizes.TheConstants.{CPU_RESERVE_START, CPU_CAP_START};
+ghost use Rattle.hv_defs.specs.declared.sizes.TheConstants.{CPU_WEIGHT_START, MAX_CPU_RESERVE, MAX_CPU_CAP};
+ghost use Rattle.hv_defs.specs.declared.sizes.TheConstants.{MIN_CPU_WEIGHT, MAX_CPU_WEIGHT, SINTS};
+ghost use Rattle.hv_defs.specs.declared.sizes.TheConstants.{EVENT_FLAGS, MAX_MESSAGES, MAX_PAYLOAD};
+ghost use Rattle.hv_defs.specs.declared.sizes.TheConstants.{MAX_PORT_ID, MAX_MESSAGE_TYPE, ANY_VP, REPS_END};
+ghost use Rattle.hv_defs.specs.declared.sizes.TheConstants.{MAX_SERVED};
 
 /// The numbers of the profile.
 pub fn each_size_has_its_value()

@@ -1,5 +1,6 @@
 // The audit.
-ghost use Rattle.std.specs.Prelude.{◌≡◌, ◌≢◌, ◌+◌, ◌^◌, ◌≤◌, ◌<◌, ◌++◌, [], ℕ, List, length, codes, decimal, Err, OnOk, IfErr};
+ghost use Rattle.std.specs.Prelude.{◌≡◌, ◌≢◌, ◌+◌, ◌^◌, ◌≤◌, ◌<◌, ◌++◌, [], ℕ, List, length, codes, decimal};
+ghost use Rattle.std.specs.Prelude.{Err, OnOk, IfErr};
 ghost use Rattle.std.specs.Io.KnownBytes.{Appends};
 ghost use Rattle.hv_abi.specs.declared.frame.Frame.{Frame};
 ghost use Rattle.hv_defs.specs.declared.sizes.TheConstants.{REPS_END};
@@ -9,7 +10,8 @@ ghost use Rattle.hv_history.specs.Row.{action_of, next_in};
 ghost use Rattle.hv_policy.specs.Parts.{reply_of};
 ghost use Rattle.hv_policy.specs.Result.{result_of};
 ghost use Rattle.hv_policy.specs.Rule.{rule_name};
-ghost use Rattle.hv_text.specs.Audit.{audit_text, caller_text, entry_text, hex_32, hex_64, output_text, reply_text, result_text, what_text};
+ghost use Rattle.hv_text.specs.Audit.{audit_text, caller_text, entry_text, hex_32, hex_64, output_text};
+ghost use Rattle.hv_text.specs.Audit.{reply_text, result_text, what_text};
 ghost use Rattle.hv_text.specs.Fault.{IsCut};
 
 use crate::fault::PrintFault;
@@ -22,10 +24,13 @@ use hv_policy::{Caller, Rule, completed_reps, refused_reps};
 use std::alloc::Allocator;
 use std::io::Write;
 
-/// Writes the audit of what happened: a line for each event, and how many there are. It takes no memory, and doesn't flush.
+/// Writes the audit of what happened: a line for each event, and how many there are. It takes no memory,
+/// and doesn't flush.
 pub fn audit<W: Write, A: Allocator>(out: &mut W, kept: &Kept<A>) -> Result<(), PrintFault>
-    ensures ok { OnOk result (Appends (W.contents out.old) (W.contents out.new) (audit_text kept.now.history)) }
-    ensures cut { IfErr result (IsCut (W.contents out.old) (W.contents out.new) (audit_text kept.now.history)) }
+    ensures ok { OnOk result (Appends (W.contents out.old) (W.contents out.new)
+        (audit_text kept.now.history)) }
+    ensures cut { IfErr result (IsCut (W.contents out.old) (W.contents out.new)
+        (audit_text kept.now.history)) }
     ensures write { result ≢ Err PrintFault.Memory }
 {
     // The proof reads here that a history's length fits 32 bits.
@@ -42,8 +47,10 @@ fn put_history<W: Write, A: Allocator>(
 ) -> Result<(), PrintFault>
     requires empty { lines.old ≡ [] }
     requires few { length (entries history.now) < 2 ^ 32 }
-    ensures ok { OnOk result (Appends (W.contents out.old) (W.contents out.new) (audit_text (entries history.now))) }
-    ensures cut { IfErr result (IsCut (W.contents out.old) (W.contents out.new) (audit_text (entries history.now))) }
+    ensures ok { OnOk result (Appends (W.contents out.old) (W.contents out.new)
+        (audit_text (entries history.now))) }
+    ensures cut { IfErr result (IsCut (W.contents out.old) (W.contents out.new)
+        (audit_text (entries history.now))) }
     ensures write { result ≢ Err PrintFault.Memory }
 {
     let mut written = 0;
@@ -163,8 +170,10 @@ fn push_named_64(line: &mut Text, name: &[u8], number: u64)
 fn push_reply<A: Allocator>(line: &mut Text, entry: &EntryRef<'_>)
     requires index { next_in (reply_of entry.now.answer []) < REPS_END }
     requires room { length line.old + 540 ≤ 8192 }
-    ensures text { line.new ≡ line.old ++ reply_text (action_of {A = A} entry.now.asked entry.now.input.now) (reply_of entry.now.answer (shown entry.now.output)) }
-    ensures most { length (reply_text (action_of {A = A} entry.now.asked entry.now.input.now) (reply_of entry.now.answer (shown entry.now.output))) ≤ 540 }
+    ensures text { line.new ≡ line.old ++ reply_text (action_of {A = A} entry.now.asked entry.now.input.now)
+        (reply_of entry.now.answer (shown entry.now.output)) }
+    ensures most { length (reply_text (action_of {A = A} entry.now.asked entry.now.input.now)
+        (reply_of entry.now.answer (shown entry.now.output))) ≤ 540 }
 {
     match entry.answer {
         Answer::Served => {
@@ -197,8 +206,10 @@ fn push_reply<A: Allocator>(line: &mut Text, entry: &EntryRef<'_>)
 fn push_result<A: Allocator>(line: &mut Text, entry: &EntryRef<'_>)
     requires index { next_in (reply_of entry.now.answer []) < REPS_END }
     requires room { length line.old + 17 ≤ 8192 }
-    ensures text { line.new ≡ line.old ++ result_text (action_of {A = A} entry.now.asked entry.now.input.now) (reply_of entry.now.answer (shown entry.now.output)) }
-    ensures most { length (result_text (action_of {A = A} entry.now.asked entry.now.input.now) (reply_of entry.now.answer (shown entry.now.output))) ≤ 17 }
+    ensures text { line.new ≡ line.old ++ result_text (action_of {A = A} entry.now.asked
+        entry.now.input.now) (reply_of entry.now.answer (shown entry.now.output)) }
+    ensures most { length (result_text (action_of {A = A} entry.now.asked entry.now.input.now)
+        (reply_of entry.now.answer (shown entry.now.output))) ≤ 17 }
 {
     match entry.asked {
         Asked::Hypercall { rcx, .. } => {
@@ -217,7 +228,8 @@ fn push_result<A: Allocator>(line: &mut Text, entry: &EntryRef<'_>)
 // The result value of a hypercall with this input value that was answered so. What it put out doesn't matter.
 fn result_value<A: Allocator>(rcx: u64, answer: Answer) -> u64
     requires { next_in (reply_of answer []) < REPS_END }
-    ensures { (frame : Frame A) (output : List ℕ) → frame.rcx ≡ rcx → result ≡ result_of frame (reply_of answer output) }
+    ensures { (frame : Frame A) (output : List ℕ) → frame.rcx ≡ rcx → result
+        ≡ result_of frame (reply_of answer output) }
 {
     match answer {
         Answer::Served => ResultValue::new(Status::Success, completed_reps(rcx)).bits(),

@@ -1,5 +1,6 @@
 // The table.
-ghost use Rattle.std.specs.Prelude.{◌≡◌, ◌+◌, ◌*◌, ◌^◌, ◌≤◌, ◌<◌, ◌++◌, ℕ, List, length, Option, Some, IsSome, OnOk, IfErr, codes, decimal};
+ghost use Rattle.std.specs.Prelude.{◌≡◌, ◌+◌, ◌*◌, ◌^◌, ◌≤◌, ◌<◌, ◌++◌, ℕ, List, length, Option, Some};
+ghost use Rattle.std.specs.Prelude.{IsSome, OnOk, IfErr, codes, decimal};
 ghost use Rattle.std.specs.FinMap as map;
 ghost use Rattle.std.specs.FinSet as set;
 ghost use Rattle.std.specs.Int.{w64, to_be_bytes};
@@ -26,8 +27,10 @@ const TOO_MANY: usize = 1 << 40;
 
 /// Writes the table of the partitions that are there now, by rising id. It doesn't flush.
 pub fn table<W: Write, A: Allocator + Clone>(out: &mut W, kept: &Kept<A>) -> Result<(), PrintFault>
-    ensures ok { OnOk result (Appends (W.contents out.old) (W.contents out.new) (table_text kept.now.machine.rows)) }
-    ensures cut { IfErr result (IsCut (W.contents out.old) (W.contents out.new) (table_text kept.now.machine.rows)) }
+    ensures ok { OnOk result (Appends (W.contents out.old) (W.contents out.new)
+        (table_text kept.now.machine.rows)) }
+    ensures cut { IfErr result (IsCut (W.contents out.old) (W.contents out.new)
+        (table_text kept.now.machine.rows)) }
 {
     let tree = kept.machine().tree();
     match tree.ids() {
@@ -71,10 +74,12 @@ fn set_end(line: &mut Text, pages: u128)
     line.push_text(b"\n");
 }
 
-// Makes the line that of the partition with this id, without its line feed, and answers how many pages it holds.
+// Makes the line that of the partition with this id, without its line feed, and answers how many pages it
+// holds.
 fn set_row<A: Allocator>(line: &mut Text, tree: &IdTree<Partition<A>, A>, id: u64) -> u128
     requires { IsSome (map.get tree.now id) }
-    ensures text { (row : Row PartitionState) → map.get tree.now id ≡ Some row → line.new ≡ partition_text id (length (children tree.now id)) row }
+    ensures text { (row : Row PartitionState) → map.get tree.now id ≡ Some row → line.new
+        ≡ partition_text id (length (children tree.now id)) row }
     ensures pages { (row : Row PartitionState) → map.get tree.now id ≡ Some row → result ≡ pages_of row.1 }
     ensures few { result < 2 ^ 65 }
     ensures most { length line.new ≤ 700 }
@@ -110,7 +115,8 @@ fn set_partition<A: Allocator>(
 // Makes it the first part of that line, as far as the mask.
 fn set_head<A: Allocator>(line: &mut Text, id: u64, parent: Option<u64>, partition: &Partition<A>)
     ensures text { line.new
-        ≡ codes "partition " ++ decimal id ++ codes " parent " ++ parent_text parent ++ codes " " ++ life_text partition.now.life
+        ≡ codes "partition " ++ decimal id ++ codes " parent " ++ parent_text parent ++ codes " "
+        ++ life_text partition.now.life
         ++ codes " mask " ++ encode_lower (to_be_bytes w64 (bits_of partition.now.mask)) }
     ensures most { length line.new ≤ 90 }
 {
@@ -129,7 +135,8 @@ fn set_head<A: Allocator>(line: &mut Text, id: u64, parent: Option<u64>, partiti
 fn push_pages<A: Allocator>(line: &mut Text, count: u32, partition: &Partition<A>)
     requires { length line.old + 82 ≤ 8192 }
     ensures text { line.new
-        ≡ line.old ++ codes " loose " ++ decimal (set.len partition.now.loose.pages) ++ codes " pooled " ++ decimal (set.len partition.now.pooled.pages)
+        ≡ line.old ++ codes " loose " ++ decimal (set.len partition.now.loose.pages) ++ codes " pooled "
+        ++ decimal (set.len partition.now.pooled.pages)
         ++ codes " inuse " ++ decimal (in_use count partition.now) }
     ensures most { length line.new ≤ length line.old + 82 }
 {
@@ -145,7 +152,8 @@ fn push_pages<A: Allocator>(line: &mut Text, count: u32, partition: &Partition<A
 fn push_counts<A: Allocator>(line: &mut Text, partition: &Partition<A>)
     requires { length line.old + 85 ≤ 8192 }
     ensures text { line.new
-        ≡ line.old ++ codes " vps " ++ decimal (map.len partition.now.vps.vps) ++ codes " ports " ++ decimal (map.len partition.now.ports.rows)
+        ≡ line.old ++ codes " vps " ++ decimal (map.len partition.now.vps.vps) ++ codes " ports "
+        ++ decimal (map.len partition.now.ports.rows)
         ++ codes " connections " ++ decimal (map.len partition.now.conns.rows) }
     ensures most { length line.new ≤ length line.old + 85 }
 {

@@ -1,5 +1,6 @@
 // Many threads, each with a pass.
-ghost use Rattle.std.specs.Prelude.{◌≡◌, ◌<◌, ◌≤◌, ◌+◌, [], ℕ, List, IfOk, IfErr, OnOk, OnErr, length, vec_len, vec_capacity, slice_index_or, map, reverse};
+ghost use Rattle.std.specs.Prelude.{◌≡◌, ◌<◌, ◌≤◌, ◌+◌, [], ℕ, List, IfOk, IfErr, OnOk, OnErr, length};
+ghost use Rattle.std.specs.Prelude.{vec_len, vec_capacity, slice_index_or, map, reverse};
 ghost use Rattle.hv_threads.specs.Phase.{IsDoneAt, EachDone, done_of};
 ghost use Rattle.hv_threads.specs.declared.phase.Task.{Task};
 
@@ -42,7 +43,8 @@ pub struct PhaseRefused<L: Ledger> {
     pub work: Vec<Work<L>>,
 }
 
-/// A work while it is done. Threads work on a slice of tasks, which stay where they are, so that no pass can be lost.
+/// A work while it is done. Threads work on a slice of tasks, which stay where they are, so that no pass
+/// can be lost.
 #[derive(Drop)]
 pub struct Task<L: Ledger> {
     pub work: Work<L>,
@@ -100,15 +102,17 @@ fn dones_of<L: Ledger>(tasks: Vec<Task<L>>, dones: &mut Vec<Done<L>>)
     }
 }
 
-/// Does the tasks, each in a thread of its own, or after another where the system has no thread to give. A thread stops at the
-/// first event that the host refuses; the others go on. What the tasks' `done` and `end` were before doesn't count.
+/// Does the tasks, each in a thread of its own, or after another where the system has no thread to give.
+/// A thread stops at the first event that the host refuses; the others go on. What the tasks' `done` and
+/// `end` were before doesn't count.
 pub fn run_tasks<L: Ledger + Send + Sync, R: Threads + Wait + Sync, G: Gate>(
     rt: &R,
     shared: &Shared<L>,
     gate: &G,
     tasks: &mut [Task<L>],
 )
-    ensures { (i : ℕ) (d : Task L) → i < length tasks.old → IsDoneAt (slice_index_or tasks.old i d) (slice_index_or tasks.new i d) }
+    ensures { (i : ℕ) (d : Task L) → i < length tasks.old
+        → IsDoneAt (slice_index_or tasks.old i d) (slice_index_or tasks.new i d) }
 {
     let count = tasks.len();
     if count == 0 {
@@ -120,8 +124,8 @@ pub fn run_tasks<L: Ledger + Send + Sync, R: Threads + Wait + Sync, G: Gate>(
     thread::for_each_mut(rt, tasks, count, &one);
 }
 
-/// Does each work, as [`run_tasks`] does, and tells what each did, in order. For want of memory all work comes back, and no
-/// thread was started.
+/// Does each work, as [`run_tasks`] does, and tells what each did, in order. For want of memory all work
+/// comes back, and no thread was started.
 pub fn run_phase<L: Ledger + Send + Sync, R: Threads + Wait + Sync, G: Gate>(
     rt: &R,
     shared: &Shared<L>,

@@ -1,10 +1,11 @@
-//! The tree of partitions and the flat state of the policy: how they belong together, and what every chapter of calls
-//! reads of the tree.
+//! The tree of partitions and the flat state of the policy: how they belong together, and what every
+//! chapter of calls reads of the tree.
 //!
-//! `IsTied` in `specs/` says which flat state the tree's rows are those of, key by key. A chapter's function on a call is told
-//! that the call is admitted (`IsAdmitted`: P1 to P10 are met) and promises its outcome in the policy's words
-//! (`IsOutcome`). The functions here ask the rules of every call, P1 to P3 and P8 to P10, and single rules that several
-//! chapters ask, each for every flat state that the tree is tied to.
+//! `IsTied` in `specs/` says which flat state the tree's rows are those of, key by key. A chapter's
+//! function on a call is told that the call is admitted (`IsAdmitted`: P1 to P10 are met) and promises
+//! its outcome in the policy's words (`IsOutcome`). The functions here ask the rules of every call, P1 to
+//! P3 and P8 to P10, and single rules that several chapters ask, each for every flat state that the tree
+//! is tied to.
 #![tactic(auto)]
 
 mod access;

@@ -7,7 +7,8 @@
 //! - A refusal names its first cause, hands back what it was given, and leaves the rows as they were.
 //! - Look-ups, `get_mut` and `remove_leaf` take no memory.
 //!
-//! Beside the boxes stands an index from each id to its parent's, so that no call searches the tree for an id.
+//! Beside the boxes stands an index from each id to its parent's, so that no call searches the tree for
+//! an id.
 //!
 //! `specs/Rows.antt` has the words of the contracts. `proofs/Laws.antt` and `proofs/ChildLaws.antt` have what
 //! a caller's proof may need of them.

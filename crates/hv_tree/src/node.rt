@@ -1,11 +1,13 @@
 //! A node with all that is below it, seen as its rows in preorder.
-ghost use Rattle.std.specs.Prelude.{◌≡◌, ℕ, ◌<◌, ◌≤◌, ◌≢◌, ◌^◌, ◌==◌, ◌++◌, Some, None, [], ◌∷◌, true, false, cond, length, map, IsTrue, IfOk, OnOk, OnErr, IfErr, IfSome, IfNone};
+ghost use Rattle.std.specs.Prelude.{◌≡◌, ℕ, ◌<◌, ◌≤◌, ◌≢◌, ◌^◌, ◌==◌, ◌++◌, Some, None, [], ◌∷◌, true, false};
+ghost use Rattle.std.specs.Prelude.{cond, length, map, IsTrue, IfOk, OnOk, OnErr, IfErr, IfSome, IfNone};
 ghost use Rattle.std.specs.List.{All, HoldsAt};
 ghost use Rattle.std.specs.List.Sorted.{IsNonDecreasingBy, IsPartitionPoint};
 ghost use Rattle.std.specs.Option.{option_map};
 ghost use Rattle.hv_tree.specs.Rows.{children_in, IsLeastAbove};
 ghost use Rattle.hv_tree.specs.Index.{parents, IsIndexOf, IsWay, IsPath};
-ghost use Rattle.hv_tree.specs.Nest.{has_row, look, put_at, taken, top, first_content, IsGrownBy, IsWithout, IsPart, IsNest, AreDistinct, HasDepthIn};
+ghost use Rattle.hv_tree.specs.Nest.{has_row, look, put_at, taken, top, first_content, IsGrownBy, IsWithout};
+ghost use Rattle.hv_tree.specs.Nest.{IsPart, IsNest, AreDistinct, HasDepthIn};
 
 use crate::index::{Index, note, parent_in};
 use std::alloc::{AllocError, Allocator};
@@ -40,7 +42,11 @@ impl<T, A: Allocator> Model for Node<T, A> {
     ghost use Rattle.hv_tree.specs.Nest.{top};
     ghost use Rattle.hv_tree.specs.Below.{AreNests};
 
-    ghost invariant = { λ a. record { rising : IsNonDecreasingBy (λ k. top k.value) a.children.items; nests : AreNests a.children.items } };
+    ghost invariant = { λ a. record {
+      rising :
+          IsNonDecreasingBy (λ k. top k.value) a.children.items;
+      nests : AreNests a.children.items;
+    } };
 
     ghost size = { length };
 

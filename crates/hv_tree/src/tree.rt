@@ -1,10 +1,12 @@
 //! The tree, seen as its rows.
-ghost use Rattle.std.specs.Prelude.{◌≡◌, ◌<◌, ◌↔◌, [], ◌∷◌, None, Some, true, false, length, is_some, IsSome, IfSome, IfNone, OnSome, IfOk, IfErr, OnOk, OnErr};
+ghost use Rattle.std.specs.Prelude.{◌≡◌, ◌<◌, ◌↔◌, [], ◌∷◌, None, Some, true, false, length, is_some, IsSome};
+ghost use Rattle.std.specs.Prelude.{IfSome, IfNone, OnSome, IfOk, IfErr, OnOk, OnErr};
 ghost use Rattle.std.specs.Option.{option_copied, option_copied_mut, option_map};
 ghost use Rattle.std.specs.Borrow.{LendsIf, sem};
 ghost use Rattle.std.specs.FinMap as map;
 ghost use Rattle.hv_tree.specs.contracts.tree.IdTree.{the_row};
-ghost use Rattle.hv_tree.specs.Rows.{change, content, parent, children, is_leaf, HasDepth, IsLeastAbove, IsTree};
+ghost use Rattle.hv_tree.specs.Rows.{change, content, parent, children, is_leaf, HasDepth, IsLeastAbove};
+ghost use Rattle.hv_tree.specs.Rows.{IsTree};
 ghost use Rattle.hv_tree.specs.Full.{settled};
 ghost use Rattle.hv_tree.specs.Index.{parents, IsWay};
 ghost use Rattle.hv_tree.specs.Nest.{first_content, IsNest};

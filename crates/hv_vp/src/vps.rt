@@ -64,7 +64,8 @@ impl<A: Allocator> Vps<A> {
 
     /// The processor with this index, to be changed.
     pub fn get_mut(&mut self, index: u32) -> Option<&mut Vp<A>>
-        ensures* writes_back { sem 𝓛 (LendsIf (the_row A.row A.Allocator) (vp_row A.row A.Allocator) self.entry result
+        ensures* writes_back { sem 𝓛 (LendsIf (the_row A.row A.Allocator)
+            (vp_row A.row A.Allocator) self.entry result
             (λ w. with_vp self.old index w) self.old) }
         ensures value { option_copied_mut result ≡ map.get self.old.vps index }
     {

@@ -1,8 +1,8 @@
 //! The program `hvpm`: runs a script of hypercalls on the partition manager, and prints an audit of what
 //! happened.
 //!
-//! [`hv_options::options`] reads the words of the command line and [`hv_run::run_reader`] reads and runs a script
-//! over two writers. What stands here only fetches both, and gives back the exit status.
+//! [`hv_options::options`] reads the words of the command line and [`hv_run::run_reader`] reads and runs
+//! a script over two writers. What stands here only fetches both, and gives back the exit status.
 #![tactic(auto)]
 
 use hv_options::{Options, Usage, options};
@@ -15,7 +15,8 @@ use std::rt::{Env, Files};
 use std::sync::Wait;
 use std::thread::Threads;
 
-// How many bytes of the output are gathered. The blocks in which an audit comes are larger, and go out without a copy.
+// How many bytes of the output are gathered. The blocks in which an audit comes are larger, and go out
+// without a copy.
 const GATHERED: usize = 4096;
 
 fn main(rt: HostRuntime) -> ExitCode {

@@ -1,5 +1,5 @@
-// Hostile frames: inputs cut short, and input values with a bit flipped. Each is answered, and a refusal names a
-// rule that the call is asked.
+// Hostile frames: inputs cut short, and input values with a bit flipped. Each is answered, and a refusal
+// names a rule that the call is asked.
 
 ghost use Rattle.std.specs.Prelude.{◌≤◌};
 
@@ -170,7 +170,8 @@ fn make(
     Ok(())
 }
 
-// Whether the reply is one to a call: the next element has an index, and the rule of a refusal is one that is asked.
+// Whether the reply is one to a call: the next element has an index, and the rule of a refusal is one
+// that is asked.
 fn is_answer(rcx: u64, reply: &Reply) -> bool {
     match reply {
         Reply::Served(_) => true,
@@ -273,7 +274,8 @@ const ANY_BLOCK: [u8; 80] = [
     0, 0, 0, 0,
 ];
 
-// Whether a block of this call that is cut to so many bytes may be malformed: zeros can be, in some parameters.
+// Whether a block of this call that is cut to so many bytes may be malformed: zeros can be, in some
+// parameters.
 fn may_be_malformed(kind: CallKind, len: usize) -> bool {
     len < 43
         && matches!(
@@ -291,8 +293,8 @@ fn is_decoded(frame: &Frame<Global>, kind: CallKind, len: usize) -> Result<bool,
     }
 }
 
-// Whatever bytes are missing, a block is decoded to a call of its frame's kind, or is malformed as a parameter's zeros
-// can be.
+// Whatever bytes are missing, a block is decoded to a call of its frame's kind, or is malformed as a
+// parameter's zeros can be.
 #[test]
 fn cut_blocks_are_decoded(rt: HostRuntime) -> Result<(), Fail> {
     for (rcx, kind) in INPUT_VALUES {

@@ -1,4 +1,5 @@
-//! Hostile frames, made by the whole machine and decoded one by one, and calls stepped element by element. Tests only.
+//! Hostile frames, made by the whole machine and decoded one by one, and calls stepped element by
+//! element. Tests only.
 #![tactic(auto)]
 
 #[cfg(test)]

@@ -98,7 +98,8 @@ const BY_0: Call<'static> = Call {
     input: NONE,
 };
 
-// Forty reads of registers of processor 0 of partition 1, of which the first four are RAX, from the first element on.
+// Forty reads of registers of processor 0 of partition 1, of which the first four are RAX, from the first
+// element on.
 const READ: Call<'static> = Call {
     vp: 1,
     rcx: 0x28_0000_0050,
@@ -143,7 +144,8 @@ const DELETED: [(Call<'static>, Told); 5] = [
     ),
 ];
 
-// The processor of a rep call that goes on is deleted by another: the next element is denied, and counts those before it.
+// The processor of a rep call that goes on is deleted by another: the next element is denied, and counts
+// those before it.
 #[test]
 fn a_deleted_processor_reads_no_further(rt: HostRuntime) -> Result<(), Fail> {
     let mut machine = boot(rt.alloc())?;
@@ -272,7 +274,8 @@ fn connection_birth(machine: &Machine<Global>) -> u64 {
     }
 }
 
-// The births of port 5 of partition 2, and of the port to which the root's connection 7 goes; then the next id.
+// The births of port 5 of partition 2, and of the port to which the root's connection 7 goes; then the
+// next id.
 fn births(machine: &Machine<Global>) -> [u64; 3] {
     [
         port_birth(machine),
@@ -289,8 +292,8 @@ fn make_twice(rt: &impl Abort, alloc: Global, machine: &mut Machine<Global>) -> 
     Ok(())
 }
 
-// A port's birth is the count of served events after its making, and a connection keeps that of the port that it was
-// made to, also where another port has the id by then.
+// A port's birth is the count of served events after its making, and a connection keeps that of the port
+// that it was made to, also where another port has the id by then.
 #[test]
 fn a_connection_keeps_the_birth_of_its_port(rt: HostRuntime) -> Result<(), Fail> {
     let mut machine = boot(rt.alloc())?;

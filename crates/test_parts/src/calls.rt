@@ -2,7 +2,8 @@
 
 use hv_abi::CallKind;
 
-// A call and a rep count; then its code, whether it is a rep call and accepts the fast bit, and how long its lists are.
+// A call and a rep count; then its code, whether it is a rep call and accepts the fast bit, and how long
+// its lists are.
 const CALLS: [(CallKind, u16, (u16, bool, bool, u32, u32)); 10] = [
     (CallKind::CreatePartition, 0, (0x40, false, false, 8, 8)),
     (CallKind::InitializePartition, 0, (0x41, false, true, 8, 0)),

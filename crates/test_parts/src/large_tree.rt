@@ -1,7 +1,8 @@
-// A root with 300 children, each with 10 children of its own: made in no order, looked at, and taken out leaf by leaf.
+// A root with 300 children, each with 10 children of its own: made in no order, looked at, and taken out
+// leaf by leaf.
 //
-// The root is 1, its children 2 to 301, and the ten below the n-th of them 302 + 10 n to 311 + 10 n. Each content is its
-// node's id with all bits turned.
+// The root is 1, its children 2 to 301, and the ten below the n-th of them 302 + 10 n to 311 + 10 n. Each
+// content is its node's id with all bits turned.
 
 use crate::few::has_few;
 use hv_tree::IdTree;
@@ -49,7 +50,8 @@ fn look_at_ids(rt: &impl Abort, tree: &IdTree<u64, Global>) -> Result<(), Fail> 
     Ok(())
 }
 
-// Where a node stands: its parent, its depth, and its first child after this id; then how many children it has.
+// Where a node stands: its parent, its depth, and its first child after this id; then how many children
+// it has.
 fn place_of(tree: &IdTree<u64, Global>, id: u64, after: u64) -> ([Option<u64>; 3], Option<u32>) {
     let ids = [
         tree.parent_of(id),

@@ -1,5 +1,5 @@
-//! The public calls of the parts that no other crate makes, each run once with values from outside, and a large tree.
-//! Tests only.
+//! The public calls of the parts that no other crate makes, each run once with values from outside, and a
+//! large tree. Tests only.
 #![tactic(auto)]
 
 #[cfg(test)]

@@ -49,7 +49,8 @@ fn clear_all(mailbox: &mut Mailbox<Global>) {
     }
 }
 
-// The type, the payload's size, whether another waits, and the port, each of them little-endian, and then the payload.
+// The type, the payload's size, whether another waits, and the port, each of them little-endian, and then
+// the payload.
 const SHOWN_AT_2: [u8; 18] = [
     0x78, 0x56, 0x34, 0x12, 2, 0, 0, 0, 0x21, 0x43, 0x65, 0, 0, 0, 0, 0, 0xA5, 0xC3,
 ];

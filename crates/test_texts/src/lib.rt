@@ -1,5 +1,5 @@
-//! What is read and what is shown: the bytes and lines of a script, the words of a command line, the lines of the audit and
-//! of standard error. Tests only.
+//! What is read and what is shown: the bytes and lines of a script, the words of a command line, the
+//! lines of the audit and of standard error. Tests only.
 #![tactic(auto)]
 
 #[cfg(test)]

@@ -11,7 +11,8 @@ fn shown(usage: &Usage) -> (bool, &str) {
     }
 }
 
-const HELP: &str = "Runs a script of hypercalls and accesses on a model of Hyper-V's partition manager
+const HELP: &str =
+    "Runs a script of hypercalls and accesses on a model of Hyper-V's partition manager
 
 Usage: hvpm <COMMAND>
 

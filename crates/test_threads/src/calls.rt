@@ -40,7 +40,8 @@ pub(crate) fn numbers(alloc: Global, first: u64, more: Range<u64>) -> Result<Vec
     Ok(input)
 }
 
-// A lock round a machine that was just booted with two processors, and their passes, that of processor 0 first.
+// A lock round a machine that was just booted with two processors, and their passes, that of processor 0
+// first.
 pub(crate) fn open<L: Ledger>(
     rt: &impl Abort,
     alloc: Global,

@@ -88,7 +88,8 @@ fn deleted_as<L: Ledger + Send + Sync, R: Abort + Clock + Threads + Wait + Sync>
     Ok(())
 }
 
-// The rules are asked anew at each element: a rep call of a processor that is deleted meanwhile ends with the next element.
+// The rules are asked anew at each element: a rep call of a processor that is deleted meanwhile ends with
+// the next element.
 #[test]
 fn processor_deleted(rt: HostRuntime) -> Result<(), Fail> {
     deleted_as::<Brand, HostRuntime>(&rt, rt.alloc(), Blank::new(2))

@@ -63,7 +63,8 @@ impl<'a, C: Clock + Sync> Gate for Meeting<'a, C> {
     fn leave(&self, _by: Caller, _turn: u64) {}
 }
 
-// Holds processor 0 back until processor 1 has three receipts, and then processor 1 until processor 0 has one.
+// Holds processor 0 back until processor 1 has three receipts, and then processor 1 until processor 0 has
+// one.
 #[derive(Drop)]
 pub(crate) struct Halt<'a, C: Clock + Sync> {
     clock: &'a C,

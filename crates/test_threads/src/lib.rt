@@ -1,5 +1,5 @@
-//! Processors that take turns in threads of their own: phases that settle, a pass that is missing, threads that overlap, a
-//! rep call that ends early. Tests only.
+//! Processors that take turns in threads of their own: phases that settle, a pass that is missing,
+//! threads that overlap, a rep call that ends early. Tests only.
 #![tactic(auto)]
 
 #[cfg(test)]

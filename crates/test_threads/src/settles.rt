@@ -1,4 +1,5 @@
-// Deposits of two processors at the same time, and the settlement of what they were told, with all passes and without one.
+// Deposits of two processors at the same time, and the settlement of what they were told, with all passes
+// and without one.
 ghost use Rattle.std.specs.Prelude.{◌≡◌};
 
 use crate::calls::{assert_pooled, both, call, numbers, open, passes_of, phase, root, settled};
