@@ -53,17 +53,7 @@ no_range s n e = record {
 one_more : (s : FinSet nat_cmp) (k : ℕ) → contains s k ≡ false → len (insert s k) ≡ len s + 1
 one_more s k new = len-insert nat_cmp_total s k ∙ rw new refl
 
--- the set with the number before its first
-pub range_lower : (s t : FinSet nat_cmp) (low next high : ℕ) → low + 1 ≡ next → IsRange s next high → t ≡ insert s low → IsRange t low high
-range_lower s t low next high e range made =
-    let counted = range.count in
-    let longer = ap len made ∙ one_more s low (range.members low ∙ beneath next high low (omega arith)) in
-    record {
-      members = λ k. ap (λ u. contains u k) made ∙ contains-insert nat_cmp_total s low k ∙ ap (λ b. b || contains s k) (unsigned_tied k low) ∙ ap (λ b. (k == low) || b) (range.members k) ∙ lower low next high k e (omega arith);
-      count = omega arith;
-    }
-
--- and with the one after its last
+-- the set with the number after its last
 pub range_upper : (s t : FinSet nat_cmp) (low high next : ℕ) → high + 1 ≡ next → IsRange s low high → t ≡ insert s high → IsRange t low next
 range_upper s t low high next e range made =
     let counted = range.count in

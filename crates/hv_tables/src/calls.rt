@@ -132,7 +132,8 @@ pub fn each_call_has_its_needs()
     ensures create_port { (partition port peer : ℕ) (port_kind : PortKind) (sint vp base count : ℕ)
         → need_line (call.CreatePort partition port peer port_kind sint vp base count)
         ≡ (2 ^ 38, kin.CallerOrChild, Active ∷ []) }
-    ensures connect_port { (partition connection port_partition port : ℕ) (port_kind : PortKind)
+    ensures connect_port { (partition connection port_partition port : ℕ)
+        (port_kind : PortKind)
         → need_line (call.ConnectPort partition connection port_partition port port_kind)
         ≡ (2 ^ 39, kin.CallerOrChild, Active ∷ []) }
 {}
@@ -193,7 +194,8 @@ pub fn each_call_has_its_rules()
         (sint vp base count : ℕ)
         → rules_line f caller (call.CreatePort partition port peer port_kind sint vp base count)
         ≡ (12 ∷ 15 ∷ 17 ∷ 19 ∷ 24 ∷ [], 1, true) }
-    ensures connect_port { (f : Flat) (caller partition connection port_partition port : ℕ) (port_kind : PortKind)
+    ensures connect_port { (f : Flat) (caller partition connection port_partition port : ℕ)
+        (port_kind : PortKind)
         → rules_line f caller (call.ConnectPort partition connection port_partition port port_kind)
         ≡ (12 ∷ 15 ∷ 16 ∷ 17 ∷ 18 ∷ 21 ∷ 24 ∷ [], 1, true) }
 {}
@@ -242,7 +244,8 @@ pub fn each_call_has_its_target()
     ensures create_port { (caller partition port peer : ℕ) (port_kind : PortKind) (sint vp base count : ℕ)
         → target_of (call.CreatePort partition port peer port_kind sint vp base count) caller
         ≡ meant_id caller partition }
-    ensures connect_port { (caller partition connection port_partition port : ℕ) (port_kind : PortKind)
+    ensures connect_port { (caller partition connection port_partition port : ℕ)
+        (port_kind : PortKind)
         → target_of (call.ConnectPort partition connection port_partition port port_kind) caller
         ≡ meant_id caller partition }
 {}

@@ -57,3 +57,51 @@ fn a_page_is_taken(rt: HostRuntime) -> Result<(), Fail> {
     let mut set = PageSet::new(rt.alloc());
     take(&rt, &mut set)
 }
+
+// The set gives just these pages, the lowest first.
+fn gives(rt: &impl Abort, set: &mut PageSet<Global>, pages: &[u32]) {
+    for page in pages {
+        assert_eq!(rt; set.take_lowest(), Some(*page));
+    }
+    assert!(rt; set.take_lowest() == None && set.count() == 0);
+}
+
+// Pages that join what is held to one run, of which one goes again.
+fn join_and_part(rt: &impl Abort, set: &mut PageSet<Global>) -> Result<(), Fail> {
+    set.reserve(11)?;
+    for page in [0, 2, 4, 6, 8, 1, 3, 5, 7, 9] {
+        put(rt, set, page);
+    }
+    assert!(rt; set.count() == 10 && set.room() >= 1);
+    let held = set.take(4);
+    assert!(rt; held && set.holds(5));
+    gives(rt, set, &[0, 1, 2, 3, 5, 6, 7, 8, 9]);
+    Ok(())
+}
+
+#[test]
+fn pages_join_and_part(rt: HostRuntime) -> Result<(), Fail> {
+    let mut set = PageSet::new(rt.alloc());
+    join_and_part(&rt, &mut set)
+}
+
+// The last four pages that there are come as one, and part where one of them goes.
+fn come_as_one(rt: &impl Abort, set: &mut PageSet<Global>) -> Result<(), Fail> {
+    set.reserve(3)?;
+    let room = set.room();
+    assert!(rt; room >= 1);
+    set.put_run(u32::MAX - 3, 4);
+    assert!(rt; set.room() + 1 >= room && set.count() == 4 && !set.holds(u32::MAX - 4));
+    set.reserve(2)?;
+    let held = set.take(u32::MAX - 1);
+    assert!(rt; held);
+    put(rt, set, 0);
+    gives(rt, set, &[0, u32::MAX - 3, u32::MAX - 2, u32::MAX]);
+    Ok(())
+}
+
+#[test]
+fn a_run_comes_as_one_page_does(rt: HostRuntime) -> Result<(), Fail> {
+    let mut set = PageSet::new(rt.alloc());
+    come_as_one(&rt, &mut set)
+}
