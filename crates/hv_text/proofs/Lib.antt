@@ -4,5 +4,7 @@ pub mod Eights
 pub mod Entries
 pub mod Lanes
 pub mod Rows
+pub mod Runs
 pub mod TableCuts
+pub mod Tied
 pub mod Zeros

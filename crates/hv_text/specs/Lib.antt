@@ -1,3 +1,4 @@
 pub mod Audit
 pub mod Fault
+pub mod Rows
 pub mod Table

@@ -1,14 +1,12 @@
 -- The bytes of a table.
-use Rattle.std.specs.Prelude.{ℕ, ◌+◌, List, [], ◌∷◌, ◌++◌, length, codes, decimal, Option, None, Some}
-use Rattle.std.specs.Int.{w64, to_be_bytes}
-use Rattle.std.specs.FinMap as map
-use Rattle.std.specs.FinSet as set
-use Rattle.hex.specs.Hex.{encode_lower}
+use Rattle.std.specs.Prelude.{ℕ, ◌==◌, ◌&&◌, not, List, [], ◌∷◌, ◌++◌, map, codes, decimal, count_by, Option, None, Some}
+use Rattle.std.specs.FinMap.{entries, len}
 use Rattle.hv_defs.specs.declared.life.Life.{Life}
 use Rattle.hv_defs.specs.declared.life.Life.TheVariants.{Created, Active, Finalized}
-use Rattle.hv_partition.specs.Partition.{PartitionState, in_use}
+use Rattle.hv_policy.specs.Count.{conn_count, in_use, pooled_count, port_count, vp_count}
+use Rattle.hv_policy.specs.Flat.{Flat, PartRow}
 use Rattle.hv_privs.specs.Privileges.{bits_of}
-use Rattle.hv_tree.specs.Rows.{Row, Rows, children}
+use Rattle.hv_text.specs.Audit.{hex_64}
 
 -- the root has no parent
 abbrev pub parent_text : Option ℕ → List ℕ
@@ -20,29 +18,51 @@ life_text Created = codes "Created"
 life_text Active = codes "Active"
 life_text Finalized = codes "Finalized"
 
--- how many pages a partition holds
-abbrev pub pages_of : PartitionState → ℕ
-pages_of p = set.len p.loose.pages + set.len p.pooled.pages
+-- how many loose and pooled pages a partition has, how many pages it uses, and how many processors, ports and connections it has
+pub record Counts : Type 0 where
+  pub loose : ℕ
+  pub pooled : ℕ
+  pub in_use : ℕ
+  pub vps : ℕ
+  pub ports : ℕ
+  pub conns : ℕ
 
--- the line of a partition with its id, its parent and the number of its children, without its line feed
-unfoldable pub partition_text : ℕ → ℕ → Row PartitionState → List ℕ
-partition_text id count row =
-    codes "partition " ++ decimal id ++ codes " parent " ++ parent_text row.0 ++ codes " " ++ life_text row.1.life
-    ++ codes " mask " ++ encode_lower (to_be_bytes w64 (bits_of row.1.mask))
-    ++ codes " loose " ++ decimal (set.len row.1.loose.pages) ++ codes " pooled " ++ decimal (set.len row.1.pooled.pages)
-    ++ codes " inuse " ++ decimal (in_use count row.1) ++ codes " vps " ++ decimal (map.len row.1.vps.vps)
-    ++ codes " ports " ++ decimal (map.len row.1.ports.rows) ++ codes " connections " ++ decimal (map.len row.1.conns.rows)
+-- the line of the partition with this id, without its line feed
+unfoldable pub partition_text : ℕ → PartRow → Counts → List ℕ
+partition_text id row counts =
+    codes "partition " ++ decimal id ++ codes " parent " ++ parent_text row.parent ++ codes " " ++ life_text row.life
+    ++ codes " mask " ++ hex_64 (bits_of row.mask)
+    ++ codes " loose " ++ decimal counts.loose ++ codes " pooled " ++ decimal counts.pooled ++ codes " inuse " ++ decimal counts.in_use
+    ++ codes " vps " ++ decimal counts.vps ++ codes " ports " ++ decimal counts.ports ++ codes " connections " ++ decimal counts.conns
 
--- the lines of these rows of a tree
-abbrev pub rows_text : Rows PartitionState → List (ℕ × Row PartitionState) → List ℕ
-rows_text tree [] = []
-rows_text tree (row ∷ rows) = partition_text row.0 (length (children tree row.0)) row.1 ++ codes "\n" ++ rows_text tree rows
+-- a partition as a line shows it: its id, its row and its counts
+abbrev pub Line : Type 0
+Line = ℕ × (PartRow × Counts)
 
--- the pages of these rows
-abbrev pub pages_in : List (ℕ × Row PartitionState) → ℕ
-pages_in [] = 0
-pages_in (row ∷ rows) = pages_of row.1.1 + pages_in rows
+-- the lines of partitions, each with its line feed
+abbrev pub lines_text : List Line → List ℕ
+lines_text [] = []
+lines_text (line ∷ lines) = partition_text line.0 line.1.0 line.1.1 ++ codes "\n" ++ lines_text lines
 
--- the table: a line for each partition by rising id, and then how many pages all of them hold
-unfoldable pub table_text : Rows PartitionState → List ℕ
-table_text tree = rows_text tree (map.entries tree) ++ codes "pages " ++ decimal (pages_in (map.entries tree)) ++ codes "\n"
+-- the lines of partitions, and then a number of pages
+unfoldable pub text_of : List Line → ℕ → List ℕ
+text_of lines pages = lines_text lines ++ codes "pages " ++ decimal pages ++ codes "\n"
+
+-- how many loose pages a partition has
+abbrev pub loose_count : Flat → ℕ → ℕ
+loose_count f id = count_by (λ e. (e.1.owner == id) && not e.1.pooled) (entries f.page)
+
+-- a partition's counts, each over all rows of the state
+abbrev pub counts_of : Flat → ℕ → Counts
+counts_of f id = record {
+  loose = loose_count f id;
+  pooled = pooled_count f id;
+  in_use = in_use f id;
+  vps = vp_count f id;
+  ports = port_count f id;
+  conns = conn_count f id;
+}
+
+-- the table of a state: a line for each partition by rising id, and then how many pages there are
+unfoldable pub table_text : Flat → List ℕ
+table_text f = text_of (map (λ e. (e.0, (e.1, counts_of f e.0))) (entries f.part)) (len f.page)

@@ -13,9 +13,12 @@ ghost use Rattle.hv_policy.specs.Rule.{rule_name};
 ghost use Rattle.hv_text.specs.Audit.{audit_text, caller_text, entry_text, hex_32, hex_64, output_text};
 ghost use Rattle.hv_text.specs.Audit.{reply_text, result_text, what_text};
 ghost use Rattle.hv_text.specs.Fault.{IsCut};
+ghost use Rattle.hv_text.specs.declared.audit_text.TheConstants.{ASKED, CALLER, OUTPUT, REPLY, RESULT, RULE};
+ghost use Rattle.hv_text.specs.declared.numeral.TheConstants.{MOST_DIGITS};
+ghost use Rattle.hv_text.specs.declared.text.TheConstants.{LINE, ROOM};
 
 use crate::fault::PrintFault;
-use crate::numeral::Numeral;
+use crate::numeral::{MOST_DIGITS, Numeral};
 use crate::put::put;
 use crate::text::Text;
 use hv_abi::{ResultValue, Status};
@@ -24,13 +27,31 @@ use hv_policy::{Caller, Rule, completed_reps, refused_reps};
 use std::alloc::Allocator;
 use std::io::Write;
 
-/// Writes the audit of what happened: a line for each event, and how many there are. It takes no memory,
-/// and doesn't flush.
+// The most bytes of the caller.
+pub const CALLER: usize = 2 * MOST_DIGITS + 1;
+
+// The most bytes of what it asked for: a word, a SINT and a flag.
+pub const ASKED: usize = 11 + 2 * MOST_DIGITS;
+
+// The bytes of a result value and the space before it.
+pub const RESULT: usize = 17;
+
+// The most bytes of a rule's name.
+pub const RULE: usize = 3;
+
+// The most bytes of what an event put out.
+pub const OUTPUT: usize = 512;
+
+// The most bytes of how an event was answered: a word, a result value, and what the event put out.
+pub const REPLY: usize = 7 + RESULT + OUTPUT;
+
+/// Writes the audit of what happened: a line for each event, and how many there are. It takes no memory, and
+/// doesn't flush.
 pub fn audit<W: Write, A: Allocator>(out: &mut W, kept: &Kept<A>) -> Result<(), PrintFault>
-    ensures ok { OnOk result (Appends (W.contents out.old) (W.contents out.new)
-        (audit_text kept.now.history)) }
-    ensures cut { IfErr result (IsCut (W.contents out.old) (W.contents out.new)
-        (audit_text kept.now.history)) }
+    ensures ok { OnOk result
+        (Appends (W.contents out.old) (W.contents out.new) (audit_text kept.now.history)) }
+    ensures cut { IfErr result
+        (IsCut (W.contents out.old) (W.contents out.new) (audit_text kept.now.history)) }
     ensures write { result ≢ Err PrintFault.Memory }
 {
     // The proof reads here that a history's length fits 32 bits.
@@ -47,10 +68,10 @@ fn put_history<W: Write, A: Allocator>(
 ) -> Result<(), PrintFault>
     requires empty { lines.old ≡ [] }
     requires few { length (entries history.now) < 2 ^ 32 }
-    ensures ok { OnOk result (Appends (W.contents out.old) (W.contents out.new)
-        (audit_text (entries history.now))) }
-    ensures cut { IfErr result (IsCut (W.contents out.old) (W.contents out.new)
-        (audit_text (entries history.now))) }
+    ensures ok { OnOk result
+        (Appends (W.contents out.old) (W.contents out.new) (audit_text (entries history.now))) }
+    ensures cut { IfErr result
+        (IsCut (W.contents out.old) (W.contents out.new) (audit_text (entries history.now))) }
     ensures write { result ≢ Err PrintFault.Memory }
 {
     let mut written = 0;
@@ -71,9 +92,9 @@ fn put_history<W: Write, A: Allocator>(
 
 // The last line, with its line feed.
 fn push_end(line: &mut Text, count: u64)
-    requires { length line.old + 28 ≤ 8192 }
+    requires { length line.old + LINE ≤ ROOM }
     ensures text { line.new ≡ line.old ++ codes "events " ++ decimal count ++ codes "\n" }
-    ensures most { length line.new ≤ length line.old + 28 }
+    ensures most { length line.new ≤ length line.old + LINE }
 {
     line.push_text(b"events ");
     line.push_decimal(count);
@@ -83,9 +104,9 @@ fn push_end(line: &mut Text, count: u64)
 // The line of an event with its number, without its line feed.
 fn push_entry<A: Allocator>(line: &mut Text, number: &Numeral, entry: &EntryRef<'_>)
     requires index { next_in (reply_of entry.now.answer []) < REPS_END }
-    requires room { length line.old + 700 ≤ 8192 }
+    requires room { length line.old + LINE ≤ ROOM }
     ensures text { line.new ≡ line.old ++ entry_text number.now (entry_by {A = A} entry.now) }
-    ensures most { length line.new ≤ length line.old + 700 }
+    ensures most { length line.new < length line.old + LINE }
 {
     line.push_numeral(number);
     line.push_text(b" ");
@@ -98,9 +119,9 @@ fn push_entry<A: Allocator>(line: &mut Text, number: &Numeral, entry: &EntryRef<
 
 #[inline(always)]
 fn push_caller(line: &mut Text, by: Caller)
-    requires { length line.old + 41 ≤ 8192 }
+    requires { length line.old + CALLER ≤ ROOM }
     ensures text { line.new ≡ line.old ++ caller_text by }
-    ensures most { length (caller_text by) ≤ 41 }
+    ensures most { length (caller_text by) ≤ CALLER }
 {
     line.push_decimal(by.part);
     line.push_text(b".");
@@ -110,9 +131,9 @@ fn push_caller(line: &mut Text, by: Caller)
 // What an event asked for. The bytes of its input aren't shown.
 #[inline(always)]
 fn push_asked<A: Allocator>(line: &mut Text, asked: Asked, input: &[u8])
-    requires { length line.old + 51 ≤ 8192 }
+    requires { length line.old + ASKED ≤ ROOM }
     ensures text { line.new ≡ line.old ++ what_text (action_of {A = A} asked input.now) }
-    ensures most { length (what_text (action_of {A = A} asked input.now)) ≤ 51 }
+    ensures most { length (what_text (action_of {A = A} asked input.now)) ≤ ASKED }
 {
     match asked {
         Asked::Hypercall { rcx, .. } => push_named_64(line, b"call ", rcx),
@@ -135,9 +156,9 @@ fn push_asked<A: Allocator>(line: &mut Text, asked: Asked, input: &[u8])
 // Adds a word and a number in decimal.
 #[inline]
 fn push_named(line: &mut Text, name: &[u8], number: u64)
-    requires { length line.old + length name.now + 20 ≤ 8192 }
+    requires { length line.old + length name.now + MOST_DIGITS ≤ ROOM }
     ensures text { line.new ≡ line.old ++ (name.now ++ decimal number) }
-    ensures most { length (decimal number) ≤ 20 }
+    ensures most { length (decimal number) ≤ MOST_DIGITS }
 {
     line.push_text(name);
     line.push_decimal(number);
@@ -146,7 +167,7 @@ fn push_named(line: &mut Text, name: &[u8], number: u64)
 // Adds a word and a number of 32 bits in hexadecimal.
 #[inline]
 fn push_named_32(line: &mut Text, name: &[u8], number: u32)
-    requires { length line.old + length name.now + 8 ≤ 8192 }
+    requires { length line.old + length name.now + 8 ≤ ROOM }
     ensures text { line.new ≡ line.old ++ (name.now ++ hex_32 number) }
     ensures most { length (hex_32 number) ≤ 8 }
 {
@@ -157,7 +178,7 @@ fn push_named_32(line: &mut Text, name: &[u8], number: u32)
 // Adds a word and a number of 64 bits in hexadecimal.
 #[inline]
 fn push_named_64(line: &mut Text, name: &[u8], number: u64)
-    requires { length line.old + length name.now + 16 ≤ 8192 }
+    requires { length line.old + length name.now + 16 ≤ ROOM }
     ensures text { line.new ≡ line.old ++ (name.now ++ hex_64 number) }
     ensures most { length (hex_64 number) ≤ 16 }
 {
@@ -169,11 +190,11 @@ fn push_named_64(line: &mut Text, name: &[u8], number: u64)
 #[inline(always)]
 fn push_reply<A: Allocator>(line: &mut Text, entry: &EntryRef<'_>)
     requires index { next_in (reply_of entry.now.answer []) < REPS_END }
-    requires room { length line.old + 540 ≤ 8192 }
+    requires room { length line.old + REPLY ≤ ROOM }
     ensures text { line.new ≡ line.old ++ reply_text (action_of {A = A} entry.now.asked entry.now.input.now)
         (reply_of entry.now.answer (shown entry.now.output)) }
     ensures most { length (reply_text (action_of {A = A} entry.now.asked entry.now.input.now)
-        (reply_of entry.now.answer (shown entry.now.output))) ≤ 540 }
+        (reply_of entry.now.answer (shown entry.now.output))) ≤ REPLY }
 {
     match entry.answer {
         Answer::Served => {
@@ -205,11 +226,11 @@ fn push_reply<A: Allocator>(line: &mut Text, entry: &EntryRef<'_>)
 #[inline(always)]
 fn push_result<A: Allocator>(line: &mut Text, entry: &EntryRef<'_>)
     requires index { next_in (reply_of entry.now.answer []) < REPS_END }
-    requires room { length line.old + 17 ≤ 8192 }
-    ensures text { line.new ≡ line.old ++ result_text (action_of {A = A} entry.now.asked
-        entry.now.input.now) (reply_of entry.now.answer (shown entry.now.output)) }
+    requires room { length line.old + RESULT ≤ ROOM }
+    ensures text { line.new ≡ line.old ++ result_text (action_of {A = A} entry.now.asked entry.now.input.now)
+        (reply_of entry.now.answer (shown entry.now.output)) }
     ensures most { length (result_text (action_of {A = A} entry.now.asked entry.now.input.now)
-        (reply_of entry.now.answer (shown entry.now.output))) ≤ 17 }
+        (reply_of entry.now.answer (shown entry.now.output))) ≤ RESULT }
 {
     match entry.asked {
         Asked::Hypercall { rcx, .. } => {
@@ -228,8 +249,8 @@ fn push_result<A: Allocator>(line: &mut Text, entry: &EntryRef<'_>)
 // The result value of a hypercall with this input value that was answered so. What it put out doesn't matter.
 fn result_value<A: Allocator>(rcx: u64, answer: Answer) -> u64
     requires { next_in (reply_of answer []) < REPS_END }
-    ensures { (frame : Frame A) (output : List ℕ) → frame.rcx ≡ rcx → result
-        ≡ result_of frame (reply_of answer output) }
+    ensures { (frame : Frame A) (output : List ℕ) → frame.rcx ≡ rcx
+        → result ≡ result_of frame (reply_of answer output) }
 {
     match answer {
         Answer::Served => ResultValue::new(Status::Success, completed_reps(rcx)).bits(),
@@ -242,9 +263,9 @@ fn result_value<A: Allocator>(rcx: u64, answer: Answer) -> u64
 // The bytes that an event put out, or a dash where there are none.
 #[inline(always)]
 fn push_output(line: &mut Text, output: OutputRef<'_>)
-    requires { length line.old + 512 ≤ 8192 }
+    requires { length line.old + OUTPUT ≤ ROOM }
     ensures text { line.new ≡ line.old ++ output_text (shown output.entry) }
-    ensures most { length (output_text (shown output.entry)) ≤ 512 }
+    ensures most { length (output_text (shown output.entry)) ≤ OUTPUT }
 {
     if output.zeros > 0 {
         line.push_bytes(output.bytes);
@@ -257,9 +278,9 @@ fn push_output(line: &mut Text, output: OutputRef<'_>)
 }
 
 fn push_rule(line: &mut Text, rule: Rule)
-    requires { length line.old + 3 ≤ 8192 }
+    requires { length line.old + RULE ≤ ROOM }
     ensures text { line.new ≡ line.old ++ rule_name rule }
-    ensures most { length (rule_name rule) ≤ 3 }
+    ensures most { length (rule_name rule) ≤ RULE }
 {
     line.push_text(rule.name().as_bytes());
 }

@@ -1,10 +1,8 @@
-//! The texts that the program `hvpm` deals in: scripts, the audit of a history and the table of its
-//! partitions.
+//! The texts that the program `hvpm` writes: the audit of a history and the table of its partitions.
 //!
-//! [`parse`] reads a script, [`audit`] writes a line for each event of a history, and [`table`] a line
-//! for each partition that its machine has. Both write exactly the bytes that `specs/` define, and after
-//! a write that failed tell how many of the first bytes went out. The texts' forms are this project's
-//! own.
+//! [`audit`] writes a line for each event of a history, and [`table`] a line for each partition that its
+//! machine has. Both write exactly the bytes that `specs/` define, and after a write that failed tell how
+//! many of the first bytes went out. The texts' forms are this project's own.
 #![tactic(auto)]
 
 mod audit_text;
@@ -17,5 +15,4 @@ mod text;
 
 pub use audit_text::audit;
 pub use fault::PrintFault;
-pub use hv_script::{FaultKind, Line, MOST_BYTES, Script, ScriptFault, parse};
 pub use table_text::table;

@@ -1,11 +1,12 @@
 // A number that counts up.
 ghost use Rattle.std.specs.Prelude.{◌≡◌, ◌+◌, ◌^◌, ◌<◌, ◌≤◌, take, decimal};
+ghost use Rattle.hv_text.specs.declared.numeral.TheConstants.{MOST_DIGITS};
 
 use itoa::Buffer;
 use std::marker::Model;
 
 // The most digits of a number of 64 bits.
-pub(crate) const MOST_DIGITS: usize = 20;
+pub const MOST_DIGITS: usize = 20;
 
 // A number with its digits in decimal, of which mostly the last one alone changes when it is counted on.
 #[derive(Drop)]
@@ -17,12 +18,13 @@ pub(crate) struct Numeral {
 
 impl Model for Numeral {
     ghost use Rattle.std.specs.Prelude.{◌≡◌, ◌≤◌, ◌<◌, ℕ, take, decimal};
+    ghost use Rattle.hv_text.specs.declared.numeral.TheConstants.{MOST_DIGITS};
 
     ghost Value = { ℕ };
 
     ghost view = { λ n. n.number };
 
-    ghost invariant = { λ n. (take n.len n.digits ≡ decimal n.number) × (n.len ≤ 20) × (0 < n.len) };
+    ghost invariant = { λ n. (take n.len n.digits ≡ decimal n.number) × (n.len ≤ MOST_DIGITS) × (0 < n.len) };
 }
 
 impl Numeral {
@@ -57,7 +59,7 @@ impl Numeral {
     #[inline]
     pub(crate) fn digits(&self) -> (&[u8; MOST_DIGITS], usize)
         ensures digits { take result.1 result.0.now ≡ decimal self.now }
-        ensures most { result.1 ≤ 20 }
+        ensures most { result.1 ≤ MOST_DIGITS }
     {
         (&self.digits, self.len)
     }
@@ -68,7 +70,7 @@ impl Numeral {
 fn digits_in(number: u64) -> ([u8; MOST_DIGITS], usize)
     ensures digits { take result.1 result.0 ≡ decimal number }
     ensures some { 0 < result.1 }
-    ensures most { result.1 ≤ 20 }
+    ensures most { result.1 ≤ MOST_DIGITS }
 {
     let mut buffer = Buffer::new();
     let text = buffer.format(number).as_bytes();

@@ -3,14 +3,20 @@ ghost use Rattle.std.specs.Prelude.{◌≡◌, ◌+◌, ◌*◌, ◌^◌, ◌≤
 ghost use Rattle.std.specs.Prelude.{IsSome, OnOk, IfErr, codes, decimal};
 ghost use Rattle.std.specs.FinMap as map;
 ghost use Rattle.std.specs.FinSet as set;
-ghost use Rattle.std.specs.Int.{w64, to_be_bytes};
 ghost use Rattle.std.specs.Io.KnownBytes.{Appends};
-ghost use Rattle.hex.specs.Hex.{encode_lower};
+ghost use Rattle.hv_machine.specs.IsFlat.{IsFlat};
 ghost use Rattle.hv_partition.specs.Partition.{PartitionState, in_use};
+ghost use Rattle.hv_policy.specs.Flat.{Flat};
 ghost use Rattle.hv_privs.specs.Privileges.{bits_of};
+ghost use Rattle.hv_tie.specs.Tie.{part_row};
 ghost use Rattle.hv_tree.specs.Rows.{Row, children};
+ghost use Rattle.hv_text.specs.Audit.{hex_64};
 ghost use Rattle.hv_text.specs.Fault.{IsCut};
-ghost use Rattle.hv_text.specs.Table.{life_text, pages_of, parent_text, partition_text, table_text};
+ghost use Rattle.hv_text.specs.Rows.{kept_counts, pages_of, rows_text};
+ghost use Rattle.hv_text.specs.Table.{life_text, parent_text, partition_text, table_text};
+ghost use Rattle.hv_text.specs.declared.numeral.TheConstants.{MOST_DIGITS};
+ghost use Rattle.hv_text.specs.declared.table_text.TheConstants.{LIFE, PART};
+ghost use Rattle.hv_text.specs.declared.text.TheConstants.{LINE, ROOM};
 
 use crate::fault::PrintFault;
 use crate::put::put;
@@ -22,20 +28,26 @@ use hv_tree::IdTree;
 use std::alloc::Allocator;
 use std::io::Write;
 
-// More partitions than a machine can have: each but the first took an event, of which there are less.
-const TOO_MANY: usize = 1 << 40;
+// More bytes than each of the three parts of a line has.
+pub const PART: usize = 128;
 
-/// Writes the table of the partitions that are there now, by rising id. It doesn't flush.
+// The most bytes of a life state.
+pub const LIFE: usize = 9;
+
+/// Writes the table of the partitions that are there now, by rising id. It doesn't flush. It takes memory for
+/// their ids alone, and wants it before anything is written.
 pub fn table<W: Write, A: Allocator + Clone>(out: &mut W, kept: &Kept<A>) -> Result<(), PrintFault>
-    ensures ok { OnOk result (Appends (W.contents out.old) (W.contents out.new)
-        (table_text kept.now.machine.rows)) }
-    ensures cut { IfErr result (IsCut (W.contents out.old) (W.contents out.new)
-        (table_text kept.now.machine.rows)) }
+    ensures ok { (f : Flat) → IsFlat kept.now.machine f
+        → OnOk result (Appends (W.contents out.old) (W.contents out.new) (table_text f)) }
+    ensures cut { (f : Flat) → IsFlat kept.now.machine f
+        → IfErr result (IsCut (W.contents out.old) (W.contents out.new) (table_text f)) }
 {
+    // The proof reads here that a history's length fits 32 bits.
+    let _limit = kept.limit();
     let tree = kept.machine().tree();
     match tree.ids() {
-        Ok(ids) if ids.len() < TOO_MANY => put_rows(out, tree, &ids),
-        Ok(_) | Err(_) => Err(PrintFault::Memory),
+        Ok(ids) => put_rows(out, tree, &ids),
+        Err(_) => Err(PrintFault::Memory),
     }
 }
 
@@ -46,9 +58,9 @@ fn put_rows<W: Write, A: Allocator>(
     ids: &[u64],
 ) -> Result<(), PrintFault>
     requires ids { ids.now ≡ map.keys tree.now }
-    requires few { length ids.now < 2 ^ 40 }
-    ensures ok { OnOk result (Appends (W.contents out.old) (W.contents out.new) (table_text tree.now)) }
-    ensures cut { IfErr result (IsCut (W.contents out.old) (W.contents out.new) (table_text tree.now)) }
+    requires few { length ids.now ≤ 2 ^ 32 }
+    ensures ok { OnOk result (Appends (W.contents out.old) (W.contents out.new) (rows_text tree.now)) }
+    ensures cut { IfErr result (IsCut (W.contents out.old) (W.contents out.new) (rows_text tree.now)) }
 {
     let mut line = Text::new();
     let mut written = 0;
@@ -66,7 +78,7 @@ fn put_rows<W: Write, A: Allocator>(
 // Makes it the last line, with its line feed.
 fn set_end(line: &mut Text, pages: u128)
     ensures text { line.new ≡ codes "pages " ++ decimal pages ++ codes "\n" }
-    ensures most { length line.new ≤ 768 }
+    ensures most { length line.new ≤ LINE }
 {
     line.clear();
     line.push_text(b"pages ");
@@ -78,11 +90,11 @@ fn set_end(line: &mut Text, pages: u128)
 // holds.
 fn set_row<A: Allocator>(line: &mut Text, tree: &IdTree<Partition<A>, A>, id: u64) -> u128
     requires { IsSome (map.get tree.now id) }
-    ensures text { (row : Row PartitionState) → map.get tree.now id ≡ Some row → line.new
-        ≡ partition_text id (length (children tree.now id)) row }
+    ensures text { (row : Row PartitionState) → map.get tree.now id ≡ Some row
+        → line.new ≡ partition_text id (part_row row) (kept_counts (length (children tree.now id)) row.1) }
     ensures pages { (row : Row PartitionState) → map.get tree.now id ≡ Some row → result ≡ pages_of row.1 }
     ensures few { result < 2 ^ 65 }
-    ensures most { length line.new ≤ 700 }
+    ensures most { length line.new < LINE }
 {
     let Some(partition) = tree.get(id) else {
         unreachable!()
@@ -104,8 +116,9 @@ fn set_partition<A: Allocator>(
     count: u32,
     partition: &Partition<A>,
 )
-    ensures text { line.new ≡ partition_text id count (parent, partition.now) }
-    ensures most { length line.new ≤ 700 }
+    ensures text { line.new
+        ≡ partition_text id (part_row (parent, partition.now)) (kept_counts count partition.now) }
+    ensures most { length line.new < LINE }
 {
     set_head(line, id, parent, partition);
     push_pages(line, count, partition);
@@ -117,8 +130,8 @@ fn set_head<A: Allocator>(line: &mut Text, id: u64, parent: Option<u64>, partiti
     ensures text { line.new
         ≡ codes "partition " ++ decimal id ++ codes " parent " ++ parent_text parent ++ codes " "
         ++ life_text partition.now.life
-        ++ codes " mask " ++ encode_lower (to_be_bytes w64 (bits_of partition.now.mask)) }
-    ensures most { length line.new ≤ 90 }
+        ++ codes " mask " ++ hex_64 (bits_of partition.now.mask) }
+    ensures most { length line.new ≤ PART }
 {
     line.clear();
     line.push_text(b"partition ");
@@ -133,12 +146,12 @@ fn set_head<A: Allocator>(line: &mut Text, id: u64, parent: Option<u64>, partiti
 
 // Adds how many pages a partition with so many children has, and how many of them it uses.
 fn push_pages<A: Allocator>(line: &mut Text, count: u32, partition: &Partition<A>)
-    requires { length line.old + 82 ≤ 8192 }
+    requires { length line.old + PART ≤ ROOM }
     ensures text { line.new
-        ≡ line.old ++ codes " loose " ++ decimal (set.len partition.now.loose.pages) ++ codes " pooled "
-        ++ decimal (set.len partition.now.pooled.pages)
+        ≡ line.old ++ codes " loose " ++ decimal (set.len partition.now.loose.pages)
+        ++ codes " pooled " ++ decimal (set.len partition.now.pooled.pages)
         ++ codes " inuse " ++ decimal (in_use count partition.now) }
-    ensures most { length line.new ≤ length line.old + 82 }
+    ensures most { length line.new ≤ length line.old + PART }
 {
     line.push_text(b" loose ");
     line.push_decimal(partition.pages(PageKind::Loose).count());
@@ -150,12 +163,12 @@ fn push_pages<A: Allocator>(line: &mut Text, count: u32, partition: &Partition<A
 
 // Adds how many processors, ports and connections a partition has.
 fn push_counts<A: Allocator>(line: &mut Text, partition: &Partition<A>)
-    requires { length line.old + 85 ≤ 8192 }
+    requires { length line.old + PART ≤ ROOM }
     ensures text { line.new
-        ≡ line.old ++ codes " vps " ++ decimal (map.len partition.now.vps.vps) ++ codes " ports "
-        ++ decimal (map.len partition.now.ports.rows)
+        ≡ line.old ++ codes " vps " ++ decimal (map.len partition.now.vps.vps)
+        ++ codes " ports " ++ decimal (map.len partition.now.ports.rows)
         ++ codes " connections " ++ decimal (map.len partition.now.conns.rows) }
-    ensures most { length line.new ≤ length line.old + 85 }
+    ensures most { length line.new ≤ length line.old + PART }
 {
     line.push_text(b" vps ");
     line.push_decimal(u64::from(partition.vp_count()));
@@ -167,9 +180,9 @@ fn push_counts<A: Allocator>(line: &mut Text, partition: &Partition<A>)
 
 // The root has no parent.
 fn push_parent(line: &mut Text, parent: Option<u64>)
-    requires { length line.old + 20 ≤ 8192 }
+    requires { length line.old + MOST_DIGITS ≤ ROOM }
     ensures text { line.new ≡ line.old ++ parent_text parent }
-    ensures most { length (parent_text parent) ≤ 20 }
+    ensures most { length (parent_text parent) ≤ MOST_DIGITS }
 {
     match parent {
         None => line.push_text(b"-"),
@@ -178,9 +191,9 @@ fn push_parent(line: &mut Text, parent: Option<u64>)
 }
 
 fn push_life(line: &mut Text, life: Life)
-    requires { length line.old + 9 ≤ 8192 }
+    requires { length line.old + LIFE ≤ ROOM }
     ensures text { line.new ≡ line.old ++ life_text life }
-    ensures most { length (life_text life) ≤ 9 }
+    ensures most { length (life_text life) ≤ LIFE }
 {
     match life {
         Life::Created => line.push_text(b"Created"),

@@ -3,6 +3,8 @@ ghost use Rattle.std.specs.Prelude.{◌≡◌, ◌+◌, ◌*◌, ◌<◌, ◌≤
 ghost use Rattle.std.specs.Int.{w32, w64, to_be_bytes};
 ghost use Rattle.hex.specs.Hex.{encode_lower};
 ghost use Rattle.hv_defs.specs.Slot.{zeros};
+ghost use Rattle.hv_text.specs.declared.numeral.TheConstants.{MOST_DIGITS};
+ghost use Rattle.hv_text.specs.declared.text.TheConstants.{LINE, MOST_WIDE_DIGITS, ROOM};
 
 use crate::digits::digits_of;
 use crate::numeral::{MOST_DIGITS, Numeral};
@@ -10,12 +12,15 @@ use itoa::Buffer;
 use std::marker::Model;
 
 // The most bytes that there is room for.
-const ROOM: usize = 8192;
+pub const ROOM: usize = 8192;
 
 // More bytes than a line has.
-const LINE: usize = 768;
+pub const LINE: usize = 768;
 
-// Lines so far, of at most 8,192 bytes.
+// More digits than a number of 128 bits has.
+pub const MOST_WIDE_DIGITS: usize = 40;
+
+// Lines so far.
 #[derive(Drop)]
 pub(crate) struct Text {
     bytes: [u8; ROOM],
@@ -24,12 +29,13 @@ pub(crate) struct Text {
 
 impl Model for Text {
     ghost use Rattle.std.specs.Prelude.{◌≤◌, List, ℕ, take};
+    ghost use Rattle.hv_text.specs.declared.text.TheConstants.{ROOM};
 
     ghost Value = { List ℕ };
 
     ghost view = { λ l. take l.len l.bytes };
 
-    ghost invariant = { λ l. l.len ≤ 8192 };
+    ghost invariant = { λ l. l.len ≤ ROOM };
 }
 
 impl Text {
@@ -46,7 +52,7 @@ impl Text {
     // Whether there is room for any line more.
     #[inline]
     pub(crate) fn has_room(&self) -> bool
-        ensures { IsTrue result ↔ (length self.now + 768 ≤ 8192) }
+        ensures { IsTrue result ↔ (length self.now + LINE ≤ ROOM) }
     {
         self.len + LINE <= ROOM
     }
@@ -62,7 +68,7 @@ impl Text {
     #[inline]
     pub(crate) fn as_slice(&self) -> &[u8]
         ensures bytes { result.now ≡ self.now }
-        ensures most { length self.now ≤ 8192 }
+        ensures most { length self.now ≤ ROOM }
     {
         &self.bytes[..self.len]
     }
@@ -70,7 +76,7 @@ impl Text {
     // Adds these bytes.
     #[inline]
     pub(crate) fn push_text(&mut self, text: &[u8])
-        requires { length self.old + length text.now ≤ 8192 }
+        requires { length self.old + length text.now ≤ ROOM }
         ensures { self.new ≡ self.old ++ text.now }
     {
         let end = self.len + text.len();
@@ -81,20 +87,20 @@ impl Text {
     // Adds one byte.
     #[inline]
     fn push_byte(&mut self, byte: u8)
-        requires { length self.old + 1 ≤ 8192 }
+        requires { length self.old + 1 ≤ ROOM }
         ensures { self.new ≡ self.old ++ byte ∷ [] }
     {
         self.bytes[self.len] = byte;
         self.len += 1;
     }
 
-    // Adds a number in decimal, of at most 20 digits. Most have one.
+    // Adds a number in decimal. Most have one digit.
     #[tactic(auto, using(std::proofs::lemmas::Fmt::decimal_digit))]
     #[inline]
     pub(crate) fn push_decimal(&mut self, number: u64)
-        requires { length self.old + 20 ≤ 8192 }
+        requires { length self.old + MOST_DIGITS ≤ ROOM }
         ensures text { self.new ≡ self.old ++ decimal number }
-        ensures most { length (decimal number) ≤ 20 }
+        ensures most { length (decimal number) ≤ MOST_DIGITS }
     {
         if number < 10 {
             self.push_byte(b'0' + number as u8);
@@ -104,12 +110,12 @@ impl Text {
         }
     }
 
-    // Adds a number in decimal, of at most 20 digits, whose digits are there.
+    // Adds a number in decimal, whose digits are there.
     #[inline]
     pub(crate) fn push_numeral(&mut self, numeral: &Numeral)
-        requires { length self.old + 20 ≤ 8192 }
+        requires { length self.old + MOST_DIGITS ≤ ROOM }
         ensures text { self.new ≡ self.old ++ decimal numeral.now }
-        ensures most { length (decimal numeral.now) ≤ 20 }
+        ensures most { length (decimal numeral.now) ≤ MOST_DIGITS }
     {
         let (digits, len) = numeral.digits();
         // All that there is room for is copied, since that is quicker.
@@ -117,11 +123,11 @@ impl Text {
         self.len += len;
     }
 
-    // Adds a number of up to 128 bits in decimal, of at most 40 digits.
+    // Adds a number of up to 128 bits in decimal.
     pub(crate) fn push_wide(&mut self, number: u128)
-        requires { length self.old + 40 ≤ 8192 }
+        requires { length self.old + MOST_WIDE_DIGITS ≤ ROOM }
         ensures text { self.new ≡ self.old ++ decimal number }
-        ensures most { length (decimal number) ≤ 40 }
+        ensures most { length (decimal number) ≤ MOST_WIDE_DIGITS }
     {
         let mut buffer = Buffer::new();
         self.push_text(buffer.format(number).as_bytes());
@@ -130,7 +136,7 @@ impl Text {
     // Adds each byte as two hexadecimal digits, in lower case.
     #[inline]
     pub(crate) fn push_bytes(&mut self, bytes: &[u8])
-        requires { length self.old + 2 * length bytes.now ≤ 8192 }
+        requires { length self.old + 2 * length bytes.now ≤ ROOM }
         ensures text { self.new ≡ self.old ++ encode_lower bytes.now }
         ensures most { length (encode_lower bytes.now) ≤ 2 * length bytes.now }
     {
@@ -143,7 +149,7 @@ impl Text {
 
     // Adds each of these bytes alike, one by one.
     fn push_few(&mut self, bytes: &[u8])
-        requires { length self.old + 2 * length bytes.now ≤ 8192 }
+        requires { length self.old + 2 * length bytes.now ≤ ROOM }
         ensures text { self.new ≡ self.old ++ encode_lower bytes.now }
         ensures most { length (encode_lower bytes.now) ≤ 2 * length bytes.now }
     {
@@ -157,7 +163,7 @@ impl Text {
     // Adds so many bytes that are 0 as two hexadecimal digits each.
     #[inline]
     pub(crate) fn push_zeros(&mut self, count: usize)
-        requires { length self.old + 2 * count ≤ 8192 }
+        requires { length self.old + 2 * count ≤ ROOM }
         ensures text { self.new ≡ self.old ++ encode_lower (zeros count) }
         ensures most { length (encode_lower (zeros count)) ≤ 2 * count }
     {
@@ -170,7 +176,7 @@ impl Text {
     // Adds a number of 32 bits as 8 hexadecimal digits.
     #[inline]
     pub(crate) fn push_hex_32(&mut self, number: u32)
-        requires { length self.old + 8 ≤ 8192 }
+        requires { length self.old + 8 ≤ ROOM }
         ensures text { self.new ≡ self.old ++ encode_lower (to_be_bytes w32 number) }
         ensures most { length (encode_lower (to_be_bytes w32 number)) ≤ 8 }
     {
@@ -180,7 +186,7 @@ impl Text {
     // Adds a number of 64 bits as 16 hexadecimal digits.
     #[inline]
     pub(crate) fn push_hex_64(&mut self, number: u64)
-        requires { length self.old + 16 ≤ 8192 }
+        requires { length self.old + 16 ≤ ROOM }
         ensures text { self.new ≡ self.old ++ encode_lower (to_be_bytes w64 number) }
         ensures most { length (encode_lower (to_be_bytes w64 number)) ≤ 16 }
     {

@@ -1,4 +1,4 @@
-use Rattle.std.proofs.Common.{◌≡◌, ◌<◌, ◌++◌, ℕ, List, ap, sym, ◌∙◌, rules, append_assoc}
+use Rattle.std.proofs.Common.{◌<◌, ◌++◌, ℕ, List, ap, sym, ◌∙◌, rules, append_assoc}
 use Rattle.hex.specs.Hex.{encode_lower}
 use Rattle.hv_defs.specs.Slot.{zeros}
 use Rattle.hv_text.proofs.Zeros.{shown_length, shown_text}

@@ -4,6 +4,7 @@ use Rattle.std.specs.Io.KnownBytes.{Appends}
 use Rattle.hv_history.specs.History.{entries, entry_by}
 use Rattle.hv_text.specs.Audit.{entry_text}
 use Rattle.hv_text.specs.Fault.{IsCutAfter}
+use Rattle.hv_text.specs.declared.text.TheConstants.{LINE, ROOM}
 use Rattle.hv_text.proofs.Entries.{end-all, end-cut, ended, last_of, line_of, sent-all, sent-cut, sent-more}
 use Rattle.hv_text.proofs.audit_text.put_history.Goals.{then-not-has_room+in_ok-written, else-not-has_room}
 use Rattle.hv_text.proofs.audit_text.put_history.Goals as goal
@@ -44,7 +45,7 @@ loop-at-preserved g c =
             room = omega (arith, ap length none);
           }
       | else-not-has_room w ↦
-          let room : length c.push_text.new.self + 768 ≤ 8192 = search rules in
+          let room : length c.push_text.new.self + LINE ≤ ROOM = search rules in
           rw (w.out-is, w.lines-is, w.written-is) record { number = counted; sent = more; few = omega arith; room = room }
     ]
 

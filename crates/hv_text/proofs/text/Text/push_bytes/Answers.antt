@@ -1,4 +1,4 @@
-use Rattle.std.proofs.Common.{◌≡◌, ◌+◌, ◌*◌, ◌/◌, ◌≤◌, ◌++◌, [], ℕ, List, get_or, take, drop, length, ap, refl, sym, ◌∙◌, arith, append_assoc, length-append, take-add}
+use Rattle.std.proofs.Common.{◌≡◌, ◌*◌, ◌/◌, ◌++◌, ℕ, List, take, drop, length, ap, refl, sym, ◌∙◌, arith, append_assoc, length-append}
 use Rattle.std.proofs.lemmas.List.{length-take, take-append-drop}
 use Rattle.std.specs.Int.{w64, to_be_bytes}
 use Rattle.hex.proofs.HexLemmas.{length-encode_with}

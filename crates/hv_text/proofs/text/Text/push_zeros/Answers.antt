@@ -1,4 +1,4 @@
-use Rattle.std.proofs.Common.{◌≡◌, ◌+◌, ◌*◌, ◌%◌, ◌++◌, [], ◌∷◌, ℕ, List, codes, take, ap, sym, ◌∙◌, length, arith, append_assoc, length-append}
+use Rattle.std.proofs.Common.{◌*◌, ◌%◌, ◌++◌, ℕ, List, codes, take, ap, sym, ◌∙◌, length, arith, append_assoc, length-append}
 use Rattle.std.proofs.lemmas.List.{length-take}
 use Rattle.hex.specs.Hex.{encode_lower}
 use Rattle.hv_defs.specs.Slot.{zeros}
