@@ -1,5 +1,5 @@
 -- What lines ask of a processor, and what receipts it has of them.
-use Rattle.std.proofs.Common.{◌≡◌, List, [], ◌∷◌, ◌++◌, refl, sym, ap, ◌∙◌, subst, append_assoc, Bool, cond}
+use Rattle.std.proofs.Common.{◌≡◌, ◌+◌, List, [], ◌∷◌, ◌++◌, refl, sym, ap, ◌∙◌, subst, append_assoc, Bool, cond}
 use Rattle.std.specs.Prelude.{map, filter, All}
 use Rattle.std.specs.List.{Contains}
 use Rattle.std.proofs.lemmas.List.{map-append}
@@ -11,12 +11,13 @@ use Rattle.hv_policy.specs.declared.event.Action.TheVariants.{Hypercall, ReadMsr
 use Rattle.hv_policy.specs.declared.event.Caller.{Caller}
 use Rattle.hv_phases.specs.Lines.{asked_by}
 use Rattle.hv_script.specs.declared.line.Line.{Line}
-use Rattle.hv_threads.proofs.Callers.{is_another, is_itself}
-use Rattle.hv_threads.specs.ByCaller.{is_caller}
-use Rattle.hv_threads.specs.Drive.{AreElements, restart}
-use Rattle.hv_threads.specs.Pass.{receipt}
-use Rattle.hv_threads.specs.Phase.{AreWhole, IsAccess, IsWhole}
-use Rattle.hv_threads.specs.declared.receipts.Receipt.{Receipt}
+use Rattle.hv_shared.proofs.Callers.{is_another, is_itself}
+use Rattle.hv_shared.specs.ByCaller.{is_caller}
+use Rattle.hv_history.specs.Run.{restart, start_of}
+use Rattle.hv_shared.specs.Drive.{AreElements}
+use Rattle.hv_shared.specs.Pass.{receipt}
+use Rattle.hv_shared.specs.Perform.{AreWhole, IsAccess, IsWhole}
+use Rattle.hv_shared.specs.declared.receipts.Receipt.{Receipt}
 
 pub asked_by-append : (by : Caller) (xs ys : List (Line Global)) → asked_by by (xs ++ ys) ≡ asked_by by xs ++ asked_by by ys
 asked_by-append by xs ys =
@@ -51,7 +52,7 @@ IsBy by r = r.event.by ≡ by
 elements_by : (by : Caller) (frame : Frame Global) (list : List Receipt) (now : Frame Global) → AreElements by frame list now → All (IsBy by) list
 elements_by by frame [] now elements = All-nil (IsBy by)
 elements_by by frame (r ∷ rs) now elements =
-    All-cons (IsBy by) r rs (ap (λ e. e.by) elements.0) (elements_by by (restart frame elements.1.0) rs now elements.1.3)
+    All-cons (IsBy by) r rs (ap (λ e. e.by) elements.0) (elements_by by (restart frame (start_of frame + 1)) rs now elements.2)
 
 access_by : (by : Caller) (what : Action Global) (list : List Receipt) → IsAccess by what list → All (IsBy by) list
 access_by by what list access =

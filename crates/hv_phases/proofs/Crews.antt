@@ -18,15 +18,16 @@ use Rattle.hv_phases.specs.Crew.{AreCallersOf, AreIdleFrom, HasGiven, HasRun, Is
 use Rattle.hv_phases.specs.Lines.{asked_by}
 use Rattle.hv_phases.proofs.Asked.{asked_by-append, asked_by_other, asked_by_own, whole-append}
 use Rattle.hv_script.specs.declared.line.Line.{Line}
-use Rattle.hv_threads.proofs.Callers.{is_itself, same_caller}
-use Rattle.hv_threads.specs.ByCaller.{AreDifferent, is_caller}
-use Rattle.hv_threads.specs.PassValue.{PassValue}
-use Rattle.hv_threads.specs.Phase.{AreWhole, HasPerformed, IsDoneAt}
-use Rattle.hv_threads.specs.declared.receipts.Receipt.{Receipt}
+use Rattle.hv_shared.proofs.Callers.{is_itself, same_caller}
+use Rattle.hv_shared.specs.ByCaller.{AreDifferent, is_caller}
+use Rattle.hv_shared.specs.PassValue.{PassValue}
+use Rattle.hv_shared.specs.Perform.{AreWhole, HasPerformed}
+use Rattle.hv_threads.specs.Phase.{IsDoneAt}
+use Rattle.hv_shared.specs.declared.receipts.Receipt.{Receipt}
 use Rattle.hv_threads.specs.declared.phase.End.TheVariants.{Finished}
 use Rattle.hv_threads.specs.declared.phase.Task.{Task}
 use Rattle.std.specs.Bool.{Decides}
-use Rattle.hv_threads.proofs.Performing.{whole-push}
+use Rattle.hv_threads.proofs.Working.{whole-push}
 use Rattle.hv_threads.specs.Phase.{HasEnded}
 use Rattle.hv_threads.specs.declared.phase.End.{End}
 

@@ -11,7 +11,7 @@ use Rattle.hv_policy.specs.declared.event.Caller.{Caller}
 use Rattle.hv_phases.specs.Crew.{AreCallersOf, AreIdleFrom, AreReady, HasGiven, HasHandedOut, HasRun, HaveRun, IsAfter, IsGoing, callers_in, passes_in}
 use Rattle.hv_phases.proofs.Crews.{callers_permuted, ran_phase, idle_after, same_callers}
 use Rattle.hv_script.specs.declared.line.Line.{Line}
-use Rattle.hv_threads.specs.PassValue.{PassValue}
+use Rattle.hv_shared.specs.PassValue.{PassValue}
 use Rattle.hv_threads.specs.Phase.{IsDoneAt}
 use Rattle.hv_threads.specs.declared.phase.Task.{Task}
 

@@ -3,3 +3,4 @@ pub mod Crews
 pub mod Handing
 pub mod Named
 pub mod Settled
+pub mod Stops

@@ -13,8 +13,8 @@ use Rattle.hv_policy.specs.declared.event.Caller.{Caller}
 use Rattle.hv_phases.specs.Crew.{AreCallersOf, HasCaller}
 use Rattle.hv_phases.proofs.Crews.{different_pairs, different_permuted, pairs_different}
 use Rattle.hv_script.specs.declared.line.Line.{Line}
-use Rattle.hv_threads.proofs.Callers.{is_itself, same_caller}
-use Rattle.hv_threads.specs.ByCaller.{is_caller}
+use Rattle.hv_shared.proofs.Callers.{is_itself, same_caller}
+use Rattle.hv_shared.specs.ByCaller.{is_caller}
 
 among : (by : Caller) (xs : List Caller) → list_any (is_caller by) xs ≡ true → Contains xs by
 among by xs h =

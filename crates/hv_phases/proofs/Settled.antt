@@ -12,12 +12,12 @@ use Rattle.hv_phases.specs.Crew.{AreCallersOf, HaveRun}
 use Rattle.hv_phases.specs.Lines.{AreRun, asked_by}
 use Rattle.hv_phases.proofs.Asked.{asked_by_none, whole_by}
 use Rattle.hv_script.specs.declared.line.Line.{Line}
-use Rattle.hv_threads.proofs.Callers.{is_itself, same_caller, receipts_of_pass, no_receipts}
-use Rattle.hv_threads.specs.ByCaller.{is_caller, receipts_by}
-use Rattle.hv_threads.specs.Merge.{IsMerge, receipts_of}
-use Rattle.hv_threads.specs.PassValue.{PassValue}
-use Rattle.hv_threads.specs.Phase.{AreWhole}
-use Rattle.hv_threads.specs.declared.receipts.Receipt.{Receipt}
+use Rattle.hv_shared.proofs.Callers.{is_itself, same_caller, receipts_of_pass, no_receipts}
+use Rattle.hv_shared.specs.ByCaller.{is_caller, receipts_by}
+use Rattle.hv_shared.specs.Merge.{IsMerge, receipts_of}
+use Rattle.hv_shared.specs.PassValue.{PassValue}
+use Rattle.hv_shared.specs.Perform.{AreWhole}
+use Rattle.hv_shared.specs.declared.receipts.Receipt.{Receipt}
 
 -- whether a caller is among these
 is_among_at : (c x : Caller) (xs : List Caller) (t : Bool) → is_caller c x ≡ t → (Contains xs c ⊎ (Contains xs c → ⊥)) → Contains (x ∷ xs) c ⊎ (Contains (x ∷ xs) c → ⊥)

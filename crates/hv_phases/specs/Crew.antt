@@ -6,9 +6,9 @@ use Rattle.std.specs.declared.alloc.Global.{Global}
 use Rattle.hv_policy.specs.declared.event.Caller.{Caller}
 use Rattle.hv_script.specs.declared.line.Line.{Line}
 use Rattle.hv_phases.specs.Lines.{asked_by}
-use Rattle.hv_threads.specs.ByCaller.{AreDifferent}
-use Rattle.hv_threads.specs.PassValue.{PassValue}
-use Rattle.hv_threads.specs.Phase.{AreWhole}
+use Rattle.hv_shared.specs.ByCaller.{AreDifferent}
+use Rattle.hv_shared.specs.PassValue.{PassValue}
+use Rattle.hv_shared.specs.Perform.{AreWhole}
 use Rattle.hv_threads.specs.declared.phase.End.TheVariants.{Finished}
 use Rattle.hv_threads.specs.declared.phase.Task.{Task}
 

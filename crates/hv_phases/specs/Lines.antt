@@ -5,8 +5,8 @@ use Rattle.hv_history.specs.declared.entry.Entry.{Entry}
 use Rattle.hv_policy.specs.declared.event.Action.{Action}
 use Rattle.hv_policy.specs.declared.event.Caller.{Caller}
 use Rattle.hv_script.specs.declared.line.Line.{Line}
-use Rattle.hv_threads.specs.ByCaller.{is_caller, receipts_by}
-use Rattle.hv_threads.specs.Phase.{AreWhole}
+use Rattle.hv_shared.specs.ByCaller.{is_caller, receipts_by}
+use Rattle.hv_shared.specs.Perform.{AreWhole}
 
 -- what the lines of this processor ask for, in order
 abbrev pub asked_by : Caller → List (Line Global) → List (Action Global)

@@ -2,7 +2,7 @@
 ghost use Rattle.std.specs.Prelude.{◌≡◌, IfOk, OnOk};
 ghost use Rattle.std.specs.List.{list_any};
 ghost use Rattle.hv_phases.specs.Crew.{AreCallersOf, HasCaller};
-ghost use Rattle.hv_threads.specs.ByCaller.{is_caller};
+ghost use Rattle.hv_shared.specs.ByCaller.{is_caller};
 
 use hv_policy::Caller;
 use hv_script::Line;

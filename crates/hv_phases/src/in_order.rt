@@ -5,26 +5,26 @@ ghost use Rattle.std.specs.List.Sorted.{IsPermutation};
 ghost use Rattle.std.specs.declared.alloc.Global.{Global};
 ghost use Rattle.hv_phases.specs.Crew.{AreReady, HaveRun, IsAfter, callers_in, passes_in};
 ghost use Rattle.hv_script.specs.declared.line.Line.{Line};
-ghost use Rattle.hv_threads.specs.ByCaller.{AreDifferent};
-ghost use Rattle.hv_threads.specs.Phase.{HasPerformed};
+ghost use Rattle.hv_shared.specs.ByCaller.{AreDifferent};
+ghost use Rattle.hv_shared.specs.Perform.{HasPerformed};
 ghost use Rattle.hv_threads.specs.declared.phase.End.TheVariants.{Finished};
 
 use crate::tasks::{enlist, first_stop};
 use hv_history::HostRefused;
-use hv_policy::Action;
+use hv_policy::{Action, Caller};
 use hv_script::Line;
 use hv_threads::{End, Gate, Shared, Task, perform};
 use std::alloc::Global;
 use std::sync::Wait;
 use std::sync::ledger::Ledger;
 
-/// Runs the lines one after the other, and tells why the first processor that the host stopped was
-/// stopped, in the order of their first lines in the phase. A processor that was stopped does no line
-/// more, and no phase begins after one in which a processor was stopped.
+/// Runs the lines one after the other, and tells why the host stopped a processor, of all that it stopped the first among these
+/// callers. A processor that was stopped does no line more, and no phase begins after one in which a processor was stopped.
 pub fn run_in_order<L: Ledger, R: Wait, G: Gate>(
     rt: &R,
     gate: &G,
     shared: &Shared<L>,
+    callers: &[Caller],
     tasks: &mut [Task<L>],
     lines: Vec<Line<Global>>,
 ) -> Option<HostRefused>
@@ -37,7 +37,7 @@ pub fn run_in_order<L: Ledger, R: Wait, G: Gate>(
     let mut members = 0;
     while let Some(line) = left.pop() {
         if line.phase != phase {
-            if let Some(why) = first_stop(tasks) {
+            if let Some(why) = first_stop(tasks, callers) {
                 return Some(why);
             }
             phase = line.phase;
@@ -46,7 +46,7 @@ pub fn run_in_order<L: Ledger, R: Wait, G: Gate>(
         members = run_line(rt, gate, shared, tasks, members, line);
         shrink(&mut left);
     }
-    first_stop(tasks)
+    first_stop(tasks, callers)
 }
 
 // Runs a line, and tells how many of the first tasks had one in its phase.
@@ -61,8 +61,7 @@ fn run_line<L: Ledger, R: Wait, G: Gate>(
     requires different { AreDifferent (callers_in tasks.old) }
     requires named { Contains (callers_in tasks.old) line.by }
     ensures callers { IsPermutation (callers_in tasks.old) (callers_in tasks.new) }
-    ensures run { (ran : List (Line Global)) → All (IsAfter ran) tasks.old
-        → All (IsAfter (ran ++ line ∷ [])) tasks.new }
+    ensures run { (ran : List (Line Global)) → All (IsAfter ran) tasks.old → All (IsAfter (ran ++ line ∷ [])) tasks.new }
 {
     let Line { by, action, .. } = line;
     let place = enlist(tasks, members, by);
@@ -70,8 +69,7 @@ fn run_line<L: Ledger, R: Wait, G: Gate>(
     if place < members { members } else { place + 1 }
 }
 
-// Lets a task's processor do one thing, unless it was stopped. Where the host refuses an event of it, it
-// is stopped.
+// Lets a task's processor do one thing, unless it was stopped. Where the host refuses an event of it, it is stopped.
 fn do_next<L: Ledger, R: Wait, G: Gate>(
     rt: &R,
     gate: &G,
@@ -79,8 +77,7 @@ fn do_next<L: Ledger, R: Wait, G: Gate>(
     task: &mut Task<L>,
     action: Action<Global>,
 )
-    ensures done { task.new.end ≡ Finished → (task.old.end ≡ Finished)
-        × HasPerformed action task.old.work.pass task.new.work.pass }
+    ensures done { task.new.end ≡ Finished → (task.old.end ≡ Finished) × HasPerformed action task.old.work.pass task.new.work.pass }
     ensures caller { task.new.work.pass.caller ≡ task.old.work.pass.caller }
     ensures actions { task.new.work.actions.items ≡ task.old.work.actions.items }
     ensures stopped { task.old.end ≢ Finished → task.new ≡ task.old }

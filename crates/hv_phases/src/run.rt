@@ -1,8 +1,9 @@
 // A whole run of lines, from a machine to which nothing happened to its settlement.
-ghost use Rattle.std.specs.Prelude.{◌≡◌, ◌<◌, [], All, IfNone, IsNone, map, vec_len};
+ghost use Rattle.std.specs.Prelude.{◌≡◌, ◌<◌, [], All, IfNone, IsNone, Some, map, vec_len};
+ghost use Rattle.hv_history.specs.declared.kept.HostRefused.{HostRefused};
 ghost use Rattle.hv_phases.specs.Crew.{AreCallersOf, AreReady, HaveRun, passes_in};
 ghost use Rattle.hv_phases.specs.Lines.{AreRun};
-ghost use Rattle.hv_threads.specs.Merge.{IsMerge, receipts_of};
+ghost use Rattle.hv_shared.specs.Merge.{IsMerge, receipts_of};
 
 use crate::callers::callers_of;
 use crate::in_order::run_in_order;
@@ -71,16 +72,27 @@ fn run_under<L: Ledger + Send + Sync, R: Threads + Wait + Sync, G: Gate>(
     ensures limit { IfNone result.1 (result.0.limit ≡ kept.limit) }
     ensures lines { IfNone result.1 (AreRun lines.items result.0.history) }
 {
+    let Ok(order) = callers.clone() else {
+        return (kept, Some(Unfinished::Host(HostRefused::Memory)));
+    };
     match Shared::<L>::new(kept, blank, callers) {
         Ok((shared, mut passes)) => {
-            let stop = run_on(rt, gate, &shared, &mut passes, lines, serial);
+            let stop = run_on(
+                rt,
+                gate,
+                &shared,
+                order.as_slice(),
+                &mut passes,
+                lines,
+                serial,
+            );
             finish(shared, passes, stop)
         }
         Err(kept) => (kept, Some(Unfinished::Host(HostRefused::Memory))),
     }
 }
 
-// Settles, and tells what comes first: what the settlement found, or why the lines didn't all run.
+// Settles, and tells what comes first: why the lines didn't all run, or what the settlement found.
 fn finish<L: Ledger>(
     shared: Shared<L>,
     passes: Vec<Pass<L>>,
@@ -90,19 +102,23 @@ fn finish<L: Ledger>(
     ensures limit { IfNone result.1 (result.0.limit ≡ shared.limit) }
     ensures merge { IfNone result.1 (IsMerge result.0.history (receipts_of passes.items)) }
     ensures stop { IfNone result.1 (IsNone stop) }
+    ensures host { (why : HostRefused) → stop ≡ Some why → result.1 ≡ Some (Unfinished.Host why) }
 {
     match (settle(shared, passes), stop) {
         (Ok(kept), None) => (kept, None),
         (Ok(kept), Some(why)) => (kept, Some(Unfinished::Host(why))),
-        (Err(refused), _) => (refused.kept, Some(Unfinished::Settlement(refused.fault))),
+        (Err(refused), None) => (refused.kept, Some(Unfinished::Settlement(refused.fault))),
+        (Err(refused), Some(why)) => (refused.kept, Some(Unfinished::Host(why))),
     }
 }
 
-// Runs the lines on fresh passes, and tells why they didn't all run, if they didn't.
+// Runs the lines on fresh passes, and tells why they didn't all run, if they didn't: of several processors that the host stopped
+// it tells of the first among these callers.
 fn run_on<L: Ledger + Send + Sync, R: Threads + Wait + Sync, G: Gate>(
     rt: &R,
     gate: &G,
     shared: &Shared<L>,
+    callers: &[Caller],
     passes: &mut Vec<Pass<L>>,
     lines: Vec<Line<Global>>,
     serial: bool,
@@ -114,7 +130,15 @@ fn run_on<L: Ledger + Send + Sync, R: Threads + Wait + Sync, G: Gate>(
     let Ok(mut tasks) = tasks_of(passes) else {
         return Some(HostRefused::Memory);
     };
-    let stop = run_either(rt, gate, shared, tasks.as_mut_slice(), lines, serial);
+    let stop = run_either(
+        rt,
+        gate,
+        shared,
+        callers,
+        tasks.as_mut_slice(),
+        lines,
+        serial,
+    );
     give_back(tasks, passes);
     stop
 }
@@ -124,6 +148,7 @@ fn run_either<L: Ledger + Send + Sync, R: Threads + Wait + Sync, G: Gate>(
     rt: &R,
     gate: &G,
     shared: &Shared<L>,
+    callers: &[Caller],
     tasks: &mut [Task<L>],
     lines: Vec<Line<Global>>,
     serial: bool,
@@ -132,8 +157,8 @@ fn run_either<L: Ledger + Send + Sync, R: Threads + Wait + Sync, G: Gate>(
     ensures { IfNone result (HaveRun lines.items (passes_in tasks.new)) }
 {
     if serial {
-        run_in_order(rt, gate, shared, tasks, lines)
+        run_in_order(rt, gate, shared, callers, tasks, lines)
     } else {
-        run_in_threads(rt, gate, shared, tasks, lines)
+        run_in_threads(rt, gate, shared, callers, tasks, lines)
     }
 }

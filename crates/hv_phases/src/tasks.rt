@@ -1,9 +1,9 @@
 // The tasks of a script's processors.
-ghost use Rattle.std.specs.Prelude.{◌≡◌, ◌≤◌, ◌<◌, [], ℕ, All, IfOk, IfNone, IfSome, length, map, reverse};
-ghost use Rattle.std.specs.Prelude.{slice_index_or, vec_capacity, vec_len};
+ghost use Rattle.std.specs.Prelude.{◌≡◌, ◌≤◌, ◌<◌, [], ℕ, All, IfOk, IfNone, IfSome, length, map, reverse, slice_index_or, vec_capacity, vec_len};
 ghost use Rattle.std.specs.List.{Contains};
 ghost use Rattle.std.specs.List.Sorted.{IsPermutation};
-ghost use Rattle.hv_phases.specs.Crew.{AreIdleFrom, IsGoing, callers_in, passes_in};
+ghost use Rattle.hv_phases.specs.Crew.{AreIdleFrom, IsGoing, caller_of, callers_in, passes_in};
+ghost use Rattle.hv_phases.specs.Stop.{IsEarlier, IsFirstStop, place_among};
 ghost use Rattle.hv_threads.specs.declared.phase.End.TheVariants.{Host};
 ghost use Rattle.hv_threads.specs.declared.phase.Task.{Task};
 
@@ -18,8 +18,7 @@ pub fn tasks_of<L: Ledger>(passes: &mut Vec<Pass<L>>) -> Result<Vec<Task<L>>, Al
     ensures tasks { IfOk result (λ tasks. passes_in tasks.items ≡ reverse passes.old.items) }
     ensures going { IfOk result (λ tasks. All IsGoing tasks.items) }
     ensures idle { IfOk result (λ tasks. AreIdleFrom 0 tasks.items) }
-    ensures room { IfOk result (λ tasks. (passes.new.items ≡ [])
-        × (vec_len tasks ≤ vec_capacity passes.new)) }
+    ensures room { IfOk result (λ tasks. (passes.new.items ≡ []) × (vec_len tasks ≤ vec_capacity passes.new)) }
 {
     let alloc = *passes.allocator();
     let mut tasks = Vec::new(alloc);
@@ -52,20 +51,62 @@ pub fn give_back<L: Ledger>(tasks: Vec<Task<L>>, passes: &mut Vec<Pass<L>>)
     }
 }
 
-/// Why the first task that the host stopped was stopped, in the order in which they stand.
-pub fn first_stop<L: Ledger>(tasks: &[Task<L>]) -> Option<HostRefused>
+/// Why the host stopped a task, of all that it stopped the one whose caller stands first among these.
+pub fn first_stop<L: Ledger>(tasks: &[Task<L>], callers: &[Caller]) -> Option<HostRefused>
     ensures none { IfNone result (All IsGoing tasks.now) }
-    ensures some { IfSome result (λ why. (i : ℕ) × (i < length tasks.now)
-        × ((d : Task L) → (slice_index_or tasks.now i d).end ≡ Host why)
-        × ((j : ℕ) → j < i → (d : Task L) → IsGoing (slice_index_or tasks.now j d))) }
+    ensures some { IfSome result (λ why. (place : ℕ) × IsFirstStop callers.now place (length tasks.now) tasks.now why) }
 {
+    let mut first = None;
     for i in 0..tasks.len() {
-        match tasks[i].end {
-            End::Finished => {}
-            End::Host(why) => return Some(why),
+        first = earlier(first, stop_of(&tasks[i], callers));
+    }
+    match first {
+        Some((_, why)) => Some(why),
+        None => None,
+    }
+}
+
+// Where among the callers a task's stands and why it was stopped, if it was.
+fn stop_of<L: Ledger>(task: &Task<L>, callers: &[Caller]) -> Option<(usize, HostRefused)>
+    ensures none { IfNone result (IsGoing task.now) }
+    ensures some { IfSome result (λ stop. (task.now.end ≡ Host stop.1) × (stop.0 ≡ place_among (caller_of task.now) callers.now)) }
+{
+    match task.end {
+        End::Finished => None,
+        End::Host(why) => Some((place_among(callers, task.work.pass.caller()), why)),
+    }
+}
+
+// The one of two stops that stands earlier.
+fn earlier(
+    one: Option<(usize, HostRefused)>,
+    other: Option<(usize, HostRefused)>,
+) -> Option<(usize, HostRefused)>
+    ensures { IsEarlier one other result }
+{
+    match (one, other) {
+        (Some(first), Some(second)) => {
+            if second.0 < first.0 {
+                Some(second)
+            } else {
+                Some(first)
+            }
+        }
+        (Some(first), None) => Some(first),
+        (None, second) => second,
+    }
+}
+
+// How many of the callers stand before this one.
+fn place_among(callers: &[Caller], by: Caller) -> usize
+    ensures { result ≡ place_among by callers.now }
+{
+    for i in 0..callers.len() {
+        if callers[i] == by {
+            return i;
         }
     }
-    None
+    callers.len()
 }
 
 // Where the task of a processor stands.
@@ -82,16 +123,14 @@ fn place_of<L: Ledger>(tasks: &[Task<L>], by: Caller) -> usize
     unreachable!()
 }
 
-/// Brings the task of a processor to the place `members`, unless it stands before that, and tells where
-/// it stands: before that place stand the processors of the phase that had a line, in the order of their
-/// first lines.
+/// Brings the task of a processor to the place `members`, unless it stands before that, and tells where it stands: before
+/// that place stand the processors of the phase that had a line, in the order of their first lines.
 pub fn enlist<L: Ledger>(tasks: &mut [Task<L>], members: usize, by: Caller) -> usize
     requires { Contains (callers_in tasks.old) by }
     ensures same { IsPermutation tasks.old tasks.new }
     ensures there { (result ≤ members) × (result < length tasks.new) }
     ensures by { (d : Task L) → (slice_index_or tasks.new result d).work.pass.caller ≡ by }
-    ensures idle { AreIdleFrom members tasks.old → (i : ℕ) (d : Task L) → members ≤ i → result < i
-        → i < length tasks.new → (slice_index_or tasks.new i d).work.actions.items ≡ [] }
+    ensures idle { AreIdleFrom members tasks.old → (i : ℕ) (d : Task L) → members ≤ i → result < i → i < length tasks.new → (slice_index_or tasks.new i d).work.actions.items ≡ [] }
 {
     let place = place_of(tasks, by);
     if place < members {

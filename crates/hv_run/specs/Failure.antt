@@ -6,7 +6,7 @@ use Rattle.hv_script.specs.declared.fault.ScriptFault.{ScriptFault}
 use Rattle.hv_history.specs.declared.kept.HostRefused.TheVariants as refused
 use Rattle.hv_phases.specs.declared.run.Unfinished.{Unfinished}
 use Rattle.hv_phases.specs.declared.run.Unfinished.TheVariants as unfinished
-use Rattle.hv_threads.specs.declared.fault.SettleFault.TheVariants as fault
+use Rattle.hv_shared.specs.declared.fault.SettleFault.TheVariants as fault
 use Rattle.hv_run.specs.declared.failure.Exit.{Exit}
 use Rattle.hv_run.specs.declared.failure.Exit.TheVariants.{Script, Host}
 use Rattle.hv_run.specs.declared.failure.Failure.{Failure}

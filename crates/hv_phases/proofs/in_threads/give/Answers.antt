@@ -1,5 +1,5 @@
 use Rattle.std.proofs.Common.{ap}
-use Rattle.hv_threads.specs.PassValue.{PassValue}
+use Rattle.hv_shared.specs.PassValue.{PassValue}
 use Rattle.hv_phases.proofs.Crews.{given}
 use Rattle.hv_phases.proofs.in_threads.give.Goals as goal
 

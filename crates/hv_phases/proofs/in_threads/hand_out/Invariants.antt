@@ -2,7 +2,7 @@ use Rattle.std.proofs.Common.{◌≤◌, length}
 use Rattle.std.specs.Prelude.{All}
 use Rattle.std.specs.List.{Contains}
 use Rattle.hv_phases.specs.Crew.{AreIdleFrom, HasHandedOut, callers_in}
-use Rattle.hv_threads.specs.ByCaller.{AreDifferent}
+use Rattle.hv_shared.specs.ByCaller.{AreDifferent}
 use Rattle.hv_phases.proofs.in_threads.hand_out.Given as goal
 
 abbrev pub invariant-loop-left : goal.invariant-loop-left

@@ -9,6 +9,6 @@ both None None P Q R f none p q = f p q
 both None (Some y) P Q R f none p q = cc
 both (Some x) s P Q R f none p q = tt
 
-pub returns-in-Ok-clause-lines : goal.returns-in-Ok-clause-lines
-returns-in-Ok-clause-lines g c =
+pub returns-in-Ok-new-clause-lines : goal.returns-in-Ok-new-clause-lines
+returns-in-Ok-new-clause-lines g c =
     both c.finish.result.1 c.run_on-stop.result _ _ _ (λ ran merge. settled c.args.lines.items _ _ ran merge) c.finish.ensures.stop c.run_on-stop.ensures c.finish.ensures.merge
