@@ -3,17 +3,21 @@ use Rattle.std.specs.Prelude.{◌≡◌, ℕ, Bool, List, [], ◌++◌, if◌the
 use Rattle.std.specs.Io.KnownBytes.{Appends}
 use Rattle.std.specs.declared.alloc.Global.{Global}
 use Rattle.hv_history.specs.Kept.{Kept, IsRun}
+use Rattle.hv_history.specs.Row.{events_of}
 use Rattle.hv_phases.specs.Lines.{AreRun}
+use Rattle.hv_policy.specs.Step.{run}
 use Rattle.hv_script.specs.Script.{Said, script_of}
 use Rattle.hv_text.specs.Audit.{audit_text}
 use Rattle.hv_text.specs.Table.{table_text}
 
--- the audit of a history, and with `--table` the table of the partitions that it left
+-- the audit of a history, and with `--table` the table of the state in which the run of its events ends
 abbrev pub told_by : Bool → Kept Global → List ℕ
-told_by with_table kept = audit_text kept.history ++ (if with_table then table_text kept.machine.rows else [])
+told_by with_table kept =
+    audit_text kept.history ++ (if with_table then table_text (run kept.config (events_of kept.history)).0 else [])
 
 -- the writer got the audit, and the table if it is asked for, of a history that is a run from the script's boot, with at most
--- as many events as its limit; and each processor's events in it are those that its lines ask for, in their order
+-- as many events as its limit, in whose machine each page has one owner and no mask exceeds the parent's; and each processor's
+-- events in it are those that its lines ask for, in their order
 pub record HasTold (said : Said Global) (with_table : Bool) (old new : Option (List ℕ)) : Type 0 where
   pub kept : Kept Global
   pub run : IsRun kept

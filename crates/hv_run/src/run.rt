@@ -3,9 +3,12 @@ ghost use Rattle.std.specs.Prelude.{◌≡◌, ◌≢◌, ◌<◌, length, IfErr
 ghost use Rattle.std.specs.Prelude.{Ok};
 ghost use Rattle.std.specs.Io.KnownBytes.{Appends};
 ghost use Rattle.hv_history.specs.Kept.{IsRun};
+ghost use Rattle.hv_history.specs.Row.{events_of};
+ghost use Rattle.hv_policy.specs.Step.{run};
 ghost use Rattle.hv_script.specs.Reading.{said};
 ghost use Rattle.hv_script.specs.Script.{script_of};
 ghost use Rattle.hv_script.specs.declared.script.TheConstants.{MOST_BYTES as MOST};
+ghost use Rattle.hv_text.specs.Table.{table_text};
 ghost use Rattle.hv_run.specs.Failure.{exit_of};
 ghost use Rattle.hv_run.specs.Told.{HasTold, HasToldOf, told_by};
 
@@ -15,7 +18,7 @@ use hv_history::Kept;
 use hv_options::Options;
 use hv_phases::{Unfinished, run_lines};
 use hv_script::{Script, parse};
-use hv_text::{audit, table};
+use hv_text::{PrintFault, audit, table};
 use hv_threads::{Gate, Open};
 use std::alloc::Global;
 use std::io::{Read, Write};
@@ -164,9 +167,19 @@ fn print<W: Write>(kept: &Kept<Global>, with_table: bool, out: &mut W) -> Result
     let _history = kept.history();
     audit(out, kept)?;
     if with_table {
-        table(out, kept)?;
+        print_table(kept, out)?;
     }
     out.flush().map_err(|_| Failure::Write)
+}
+
+// Prints the table, which is that of the state in which the run of what happened ends.
+fn print_table<W: Write>(kept: &Kept<Global>, out: &mut W) -> Result<(), PrintFault>
+    ensures { OnOk result (Appends (W.contents out.old) (W.contents out.new)
+        (table_text (run kept.now.config (events_of kept.now.history)).0)) }
+{
+    // The proof reads here that what is kept is a run.
+    let _history = kept.history();
+    table(out, kept)
 }
 
 // How a run ended: why it isn't whole comes before output that couldn't be written.

@@ -1,8 +1,8 @@
-//! The program `hvpm`: runs a script of hypercalls on the partition manager, and prints an audit of what
-//! happened.
+//! The program `hvpm`: runs a script of hypercalls and accesses on the partition manager, and prints an audit
+//! of what happened.
 //!
-//! [`hv_options::options`] reads the words of the command line and [`hv_run::run_reader`] reads and runs
-//! a script over two writers. What stands here only fetches both, and gives back the exit status.
+//! [`hv_options::options`] reads the words of the command line and [`hv_run::run_reader`] reads and runs a
+//! script over two writers. What stands here only fetches both, and gives back the exit status.
 #![tactic(auto)]
 
 use hv_options::{Options, Usage, options};
@@ -11,7 +11,7 @@ use std::env;
 use std::fs::File;
 use std::io::{BufWriter, ErrorKind, Write};
 use std::process::ExitCode;
-use std::rt::{Env, Files};
+use std::rt::{Env, Files, Input};
 use std::sync::Wait;
 use std::thread::Threads;
 
@@ -28,7 +28,7 @@ fn main(rt: HostRuntime) -> ExitCode {
     ExitCode::from(exit as u8)
 }
 
-fn start<R: Env + Files + AllocGlobal + Threads + Wait + Sync, W: Write, E: Write>(
+fn start<R: Env + Files + Input + AllocGlobal + Threads + Wait + Sync, W: Write, E: Write>(
     rt: &R,
     out: &mut W,
     err: &mut E,
@@ -38,7 +38,7 @@ fn start<R: Env + Files + AllocGlobal + Threads + Wait + Sync, W: Write, E: Writ
         Err(usage) => return tell_usage(usage, out, err),
     };
     match options(rt.alloc(), words.as_slice()) {
-        Ok(options) => run_file(rt, &options, out, err),
+        Ok(options) => run_named(rt, &options, out, err),
         Err(usage) => tell_usage(usage, out, err),
     }
 }
@@ -52,12 +52,16 @@ fn read_words<R: Env + AllocGlobal>(rt: &R) -> Result<Vec<String>, Usage> {
     }
 }
 
-fn run_file<R: Files + AllocGlobal + Threads + Wait + Sync, W: Write, E: Write>(
+// Runs the script that the words name: standard input where they say `-`, and else a file.
+fn run_named<R: Files + Input + AllocGlobal + Threads + Wait + Sync, W: Write, E: Write>(
     rt: &R,
     options: &Options<'_>,
     out: &mut W,
     err: &mut E,
 ) -> Exit {
+    if options.script == "-" {
+        return run_reader(rt, rt.alloc(), rt.reader(), options, out, err);
+    }
     match File::open(rt, options.script) {
         Ok(file) => run_reader(rt, rt.alloc(), file, options, out, err),
         Err(error) => tell(unread(&error), err),
