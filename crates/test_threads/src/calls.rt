@@ -15,6 +15,9 @@ use std::sync::ledger::{Blank, Ledger};
 use std::test::Fail;
 use std::thread::Threads;
 
+// Asks for the caller's own id.
+pub(crate) const OWN_ID: u64 = 0x46;
+
 // A processor of the root.
 pub(crate) fn root(vp: u32) -> Caller {
     Caller { part: 1, vp }
@@ -40,25 +43,47 @@ pub(crate) fn numbers(alloc: Global, first: u64, more: Range<u64>) -> Result<Vec
     Ok(input)
 }
 
-// A lock round a machine that was just booted with two processors, and their passes, that of processor 0
-// first.
-pub(crate) fn open<L: Ledger>(
-    rt: &impl Abort,
-    alloc: Global,
-    blank: Blank,
-    pages: u32,
-    pool: u32,
-    limit: u32,
-) -> Result<(Shared<L>, Pass<L>, Pass<L>), Fail>
-    requires { (blank.name ≡ L.name) × (blank.parts ≡ L.parts) × (blank.parts ≡ 2) }
-{
+// Reads RAX of a processor of the root forty times.
+pub(crate) fn forty_reads(alloc: Global, vp: u64) -> Result<Frame<Global>, Fail> {
+    let mut input = numbers(alloc, 1, vp..vp + 1)?;
+    for _ in 0..40 {
+        input.extend_from_slice(&0x2_0000u32.to_le_bytes())?;
+    }
+    Ok(call(0x28_0000_0050, input))
+}
+
+// Deletes processor 1 of the root.
+pub(crate) fn delete(alloc: Global) -> Frame<Global> {
+    Frame {
+        rcx: 0x1_004f,
+        rdx: 1,
+        r8: 1,
+        input: Bytes::from_vec(Vec::new(alloc)),
+    }
+}
+
+// A machine that was just booted with two processors.
+pub(crate) fn boot(alloc: Global, limit: u32) -> Result<Kept<Global>, Fail> {
     let config = Config {
-        pages,
-        pool,
+        pages: 60,
+        pool: 20,
         vps: 2,
         mask: Privileges::of(0x0000_00f7_0000_0044),
     };
     let kept = Kept::boot(alloc, config, limit)?;
+    Ok(kept)
+}
+
+// A lock round such a machine, and the passes of its processors, that of processor 0 first.
+pub(crate) fn open<L: Ledger>(
+    rt: &impl Abort,
+    alloc: Global,
+    blank: Blank,
+    limit: u32,
+) -> Result<(Shared<L>, Pass<L>, Pass<L>), Fail>
+    requires { (blank.name ≡ L.name) × (blank.parts ≡ L.parts) × (blank.parts ≡ 2) }
+{
+    let kept = boot(alloc, limit)?;
     let callers = vec![in alloc; root(0), root(1)]?;
     let Ok((shared, mut passes)) = Shared::<L>::new(kept, blank, callers) else {
         panic!(rt; "no memory")
@@ -69,6 +94,12 @@ pub(crate) fn open<L: Ledger>(
     }
 }
 
+// What a processor with one call has to do.
+fn work<L: Ledger>(alloc: Global, pass: Pass<L>, frame: Frame<Global>) -> Result<Work<L>, Fail> {
+    let actions = vec![in alloc; Action::Hypercall(frame)]?;
+    Ok(Work { pass, actions })
+}
+
 // A phase of two processors, each with one call.
 pub(crate) fn both<L: Ledger>(
     alloc: Global,
@@ -76,15 +107,27 @@ pub(crate) fn both<L: Ledger>(
     second: (Pass<L>, Frame<Global>),
 ) -> Result<Vec<Work<L>>, Fail> {
     let mut works = Vec::new(alloc);
-    for (pass, frame) in [first, second] {
-        let actions = vec![in alloc; Action::Hypercall(frame)]?;
-        works.push(Work { pass, actions })?;
-    }
+    works.push(work(alloc, first.0, first.1)?)?;
+    works.push(work(alloc, second.0, second.1)?)?;
     Ok(works)
 }
 
+// Does the works, each of which comes to its end, and gives the passes back.
+pub(crate) fn phase<L: Ledger + Send + Sync, R: Abort + Threads + Wait + Sync, G: Gate>(
+    rt: &R,
+    alloc: Global,
+    shared: &Shared<L>,
+    gate: &G,
+    works: Vec<Work<L>>,
+) -> Result<Vec<Pass<L>>, Fail> {
+    match run_phase(rt, shared, gate, works) {
+        Ok(dones) => passes_of(rt, alloc, dones),
+        Err(_) => panic!(rt; "no memory"),
+    }
+}
+
 // The passes after a phase in which each processor came to the end of its one action.
-pub(crate) fn passes_of<L: Ledger>(
+fn passes_of<L: Ledger>(
     rt: &impl Abort,
     alloc: Global,
     dones: Vec<Done<L>>,
@@ -96,19 +139,6 @@ pub(crate) fn passes_of<L: Ledger>(
         passes.push(done.pass)?;
     }
     Ok(passes)
-}
-
-// What was done in a phase that there is memory for.
-pub(crate) fn phase<L: Ledger + Send + Sync, R: Abort + Threads + Wait + Sync, G: Gate>(
-    rt: &R,
-    shared: &Shared<L>,
-    gate: &G,
-    works: Vec<Work<L>>,
-) -> Vec<Done<L>> {
-    match run_phase(rt, shared, gate, works) {
-        Ok(dones) => dones,
-        Err(_) => panic!(rt; "no memory"),
-    }
 }
 
 // The machine with its history, which is a merge of the passes' receipts.

@@ -1,12 +1,14 @@
-// Gates at which the root's processors 0 and 1 wait for one another, for a while.
+// Gates: two at which the root's processors 0 and 1 wait for one another, for a while, and one that notes
+// its turns.
 
 use hv_policy::Caller;
 use hv_threads::Gate;
-use std::sync::atomic::{AtomicBool, Ordering};
+use std::sync::Wait;
+use std::sync::atomic::{AtomicBool, AtomicU64, Ordering};
 use std::thread;
 use std::time::{Clock, Duration};
 
-// How often a thread looks for a flag, and the pause after each look.
+// How often a thread looks for what it waits for, and the pause after each look.
 const MOST_LOOKS: u32 = 1000;
 
 const PAUSE_MILLIS: u64 = 1;
@@ -48,7 +50,7 @@ impl<'a, C: Clock + Sync> Meeting<'a, C> {
 }
 
 impl<'a, C: Clock + Sync> Gate for Meeting<'a, C> {
-    fn enter(&self, by: Caller, turn: u64) {
+    fn enter<R: Wait>(&self, _rt: &R, by: Caller, turn: u64) {
         if turn == 0 {
             let (own, other) = if by.vp == 0 {
                 (&self.zero, &self.one)
@@ -60,15 +62,15 @@ impl<'a, C: Clock + Sync> Gate for Meeting<'a, C> {
         }
     }
 
-    fn leave(&self, _by: Caller, _turn: u64) {}
+    fn leave<R: Wait>(&self, _rt: &R, _by: Caller, _turn: u64) {}
 }
 
-// Holds processor 0 back until processor 1 has three receipts, and then processor 1 until processor 0 has
-// one.
+// Holds processor 0 back until processor 1 comes to its turn 16, and then processor 1 until processor 0
+// has a receipt.
 #[derive(Drop)]
 pub(crate) struct Halt<'a, C: Clock + Sync> {
     clock: &'a C,
-    three: AtomicBool,
+    sixteen: AtomicBool,
     done: AtomicBool,
     late: AtomicBool,
 }
@@ -77,7 +79,7 @@ impl<'a, C: Clock + Sync> Halt<'a, C> {
     pub(crate) fn new(clock: &'a C) -> Halt<'a, C> {
         Halt {
             clock,
-            three: AtomicBool::new(false),
+            sixteen: AtomicBool::new(false),
             done: AtomicBool::new(false),
             late: AtomicBool::new(false),
         }
@@ -90,18 +92,98 @@ impl<'a, C: Clock + Sync> Halt<'a, C> {
 }
 
 impl<'a, C: Clock + Sync> Gate for Halt<'a, C> {
-    fn enter(&self, by: Caller, turn: u64) {
+    fn enter<R: Wait>(&self, _rt: &R, by: Caller, turn: u64) {
         if by.vp == 0 {
-            wait_for(self.clock, &self.three, &self.late);
-        } else if turn == 3 {
-            self.three.store(true, Ordering::SeqCst);
+            wait_for(self.clock, &self.sixteen, &self.late);
+        } else if turn == 16 {
+            self.sixteen.store(true, Ordering::SeqCst);
             wait_for(self.clock, &self.done, &self.late);
         }
     }
 
-    fn leave(&self, by: Caller, _turn: u64) {
+    fn leave<R: Wait>(&self, _rt: &R, by: Caller, _turn: u64) {
         if by.vp == 0 {
             self.done.store(true, Ordering::SeqCst);
         }
+    }
+}
+
+// Lets the processors' holds take turns, that of processor 0 first.
+#[derive(Drop)]
+pub(crate) struct Alternation<'a, C: Clock + Sync> {
+    clock: &'a C,
+    // How many holds are over.
+    over: AtomicU64,
+    late: AtomicBool,
+}
+
+impl<'a, C: Clock + Sync> Alternation<'a, C> {
+    pub(crate) fn new(clock: &'a C) -> Alternation<'a, C> {
+        Alternation {
+            clock,
+            over: AtomicU64::new(0),
+            late: AtomicBool::new(false),
+        }
+    }
+
+    // Whether a processor didn't come in time.
+    pub(crate) fn is_late(&self) -> bool {
+        self.late.load(Ordering::SeqCst)
+    }
+}
+
+impl<'a, C: Clock + Sync> Gate for Alternation<'a, C> {
+    fn enter<R: Wait>(&self, _rt: &R, by: Caller, _turn: u64) {
+        for _ in 0..MOST_LOOKS {
+            if self.over.load(Ordering::SeqCst) % 2 == u64::from(by.vp) {
+                return;
+            }
+            thread::sleep(self.clock, Duration::from_millis(PAUSE_MILLIS));
+        }
+        self.late.store(true, Ordering::SeqCst);
+    }
+
+    fn leave<R: Wait>(&self, _rt: &R, _by: Caller, _turn: u64) {
+        self.over.fetch_add(1, Ordering::SeqCst);
+    }
+}
+
+// Notes the turns that it is told, each with one more than itself in two decimal digits, the latest last.
+#[derive(Drop)]
+pub(crate) struct Notes {
+    entered: AtomicU64,
+    left: AtomicU64,
+}
+
+impl Notes {
+    pub(crate) fn new() -> Notes {
+        Notes {
+            entered: AtomicU64::new(0),
+            left: AtomicU64::new(0),
+        }
+    }
+
+    pub(crate) fn entered(&self) -> u64 {
+        self.entered.load(Ordering::SeqCst)
+    }
+
+    pub(crate) fn left(&self) -> u64 {
+        self.left.load(Ordering::SeqCst)
+    }
+}
+
+fn note(turns: &AtomicU64, turn: u64) {
+    let before = turns.load(Ordering::SeqCst);
+    let after = before.wrapping_mul(100).wrapping_add(turn).wrapping_add(1);
+    turns.store(after, Ordering::SeqCst);
+}
+
+impl Gate for Notes {
+    fn enter<R: Wait>(&self, _rt: &R, _by: Caller, turn: u64) {
+        note(&self.entered, turn);
+    }
+
+    fn leave<R: Wait>(&self, _rt: &R, _by: Caller, turn: u64) {
+        note(&self.left, turn);
     }
 }

@@ -1,7 +1,9 @@
-//! Processors that take turns in threads of their own: phases that settle, a pass that is missing,
-//! threads that overlap, a rep call that ends early. Tests only.
+//! Processors that share one history: phases in threads and their settlement, rep calls that go on hold
+//! by hold, gates, and what the host refuses. Tests only.
 #![tactic(auto)]
 
+#[cfg(test)]
+mod alone;
 #[cfg(test)]
 mod calls;
 #[cfg(test)]
@@ -11,7 +13,7 @@ mod gated;
 #[cfg(test)]
 mod gates;
 #[cfg(test)]
-mod overlaps;
+mod holds;
 #[cfg(test)]
 mod refuses;
 #[cfg(test)]

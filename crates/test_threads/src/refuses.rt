@@ -1,11 +1,12 @@
-// A rep call for which the history has no room.
+// What the host refuses, since the history is full.
 ghost use Rattle.std.specs.Prelude.{◌≡◌};
 
-use crate::calls::{assert_pooled, call, numbers, open, settled};
+use crate::calls::{OWN_ID, call, forty_reads, open, settled};
+use crate::gates::Notes;
 use hv_abi::ResultValue;
 use hv_history::{Answer, HostRefused};
 use hv_policy::{Action, Reply};
-use hv_threads::{DriveRefused, Open, Receipts, perform};
+use hv_threads::{DriveRefused, Receipts};
 use std::alloc::Global;
 use std::marker::Brand;
 use std::process::Abort;
@@ -13,42 +14,53 @@ use std::sync::Wait;
 use std::sync::ledger::{Blank, Ledger};
 use std::test::Fail;
 
-// The host refused the third element, since the history was full.
+// The host refused the twenty-first element, since the history was full.
 fn assert_refused(rt: &impl Abort, answer: Result<(ResultValue, Reply), DriveRefused>) {
     let wanted = DriveRefused {
         why: HostRefused::HistoryFull,
-        next: 2,
+        next: 20,
     };
     match answer {
-        Ok(_) => panic!(rt; "the history has no room for the third page"),
+        Ok(_) => panic!(rt; "the history has room for twenty elements"),
         Err(refused) => assert_eq!(rt; refused, wanted),
     }
 }
 
-// There is one for the partition that was made, and one for each of two elements.
+// There is one for each of twenty elements.
 fn assert_receipts(rt: &impl Abort, receipts: &Receipts) {
-    assert_eq!(rt; receipts.len(), 3);
-    assert_eq!(rt; receipts.get(0).entry.answer, Answer::Served);
-    assert_eq!(rt; receipts.get(1).entry.answer, Answer::More { next: 1 });
-    assert_eq!(rt; receipts.get(2).entry.answer, Answer::More { next: 2 });
+    assert_eq!(rt; receipts.len(), 20);
+    assert_eq!(rt; receipts.get(19).entry.answer, Answer::More { next: 20 });
 }
+
+// Turns 0 and 16, and turns 0, 16 and 20, as the gate notes them.
+const TWO_HOLDS: u64 = 1_17;
+
+const TWO_HOLDS_AND_A_CALL: u64 = 1_17_21;
 
 fn refuses_as<L: Ledger, R: Abort + Wait>(rt: &R, alloc: Global, blank: Blank) -> Result<(), Fail>
     requires { (blank.name ≡ L.name) × (blank.parts ≡ L.parts) × (blank.parts ≡ 2) }
 {
-    let (shared, mut pass, other) = open::<L>(rt, alloc, blank, 32, 12, 3)?;
-    let create = Action::Hypercall(call(0x40, Vec::new(alloc)));
-    perform(rt, &shared, &Open, &mut pass, create)?;
-    let deposit = call(0x3_0000_0048, numbers(alloc, 2, 12..15)?);
-    assert_refused(rt, shared.drive(rt, &mut pass, &Open, deposit));
+    let (shared, other, mut pass) = open::<L>(rt, alloc, blank, 20)?;
+    let gate = Notes::new();
+    assert_refused(
+        rt,
+        shared.drive(rt, &mut pass, &gate, forty_reads(alloc, 1)?),
+    );
+    assert_eq!(rt; gate.entered(), TWO_HOLDS);
+    assert_eq!(rt; gate.left(), TWO_HOLDS);
     assert_receipts(rt, pass.receipts());
-    let kept = settled(rt, shared, vec![in alloc; pass, other]?);
-    assert_eq!(rt; kept.history().len(), 3);
-    assert_pooled(rt, &kept, 2, 12..14);
+    let own_id = Action::Hypercall(call(OWN_ID, Vec::new(alloc)));
+    let refused = shared.call(rt, &mut pass, &gate, own_id);
+    assert!(rt; matches!(refused, Err(HostRefused::HistoryFull)));
+    assert_eq!(rt; gate.left(), TWO_HOLDS_AND_A_CALL);
+    assert_eq!(rt; pass.receipts().len(), 20);
+    let kept = settled(rt, shared, vec![in alloc; other, pass]?);
+    assert_eq!(rt; kept.history().len(), 20);
     Ok(())
 }
 
-// The elements before the first that the history has no room for are served and have their receipts.
+// The elements before the first that the history has no room for are served and have their receipts. The
+// gate is told when a hold ends also where the host refuses an event in it.
 #[test]
 fn refuses(rt: HostRuntime) -> Result<(), Fail> {
     refuses_as::<Brand, HostRuntime>(&rt, rt.alloc(), Blank::new(2))

@@ -2,7 +2,7 @@
 // and without one.
 ghost use Rattle.std.specs.Prelude.{◌≡◌};
 
-use crate::calls::{assert_pooled, both, call, numbers, open, passes_of, phase, root, settled};
+use crate::calls::{assert_pooled, both, call, numbers, open, phase, root, settled};
 use hv_history::{Answer, Asked, Kept};
 use hv_policy::{Action, Reply};
 use hv_threads::{Open, Pass, SettleFault, Shared, perform, settle};
@@ -28,7 +28,7 @@ fn fill<L: Ledger + Send + Sync, R: Abort + Threads + Wait + Sync>(
 ) -> Result<(Shared<L>, Vec<Pass<L>>), Fail>
     requires { (blank.name ≡ L.name) × (blank.parts ≡ L.parts) × (blank.parts ≡ 2) }
 {
-    let (shared, mut first, second) = open::<L>(rt, alloc, blank, 60, 20, 1000)?;
+    let (shared, mut first, second) = open::<L>(rt, alloc, blank, 1000)?;
     let create = Action::Hypercall(call(CREATE, Vec::new(alloc)));
     let made = shared.call(rt, &mut first, &Open, create)?;
     assert!(rt; matches!(made, Reply::Served(_)));
@@ -39,8 +39,7 @@ fn fill<L: Ledger + Send + Sync, R: Abort + Threads + Wait + Sync>(
         (first, call(TEN_DEPOSITS, numbers(alloc, 2, 20..30)?)),
         (second, call(TEN_DEPOSITS, numbers(alloc, 3, 30..40)?)),
     )?;
-    let dones = phase(rt, &shared, &Open, works);
-    let passes = passes_of(rt, alloc, dones)?;
+    let passes = phase(rt, alloc, &shared, &Open, works)?;
     Ok((shared, passes))
 }
 

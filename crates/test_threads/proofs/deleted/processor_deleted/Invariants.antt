@@ -1,4 +1,4 @@
-use Rattle.hv_turns.proofs.deleted.processor_deleted.Given as goal
+use Rattle.test_threads.proofs.deleted.processor_deleted.Given as goal
 
 -- the ledger is the one of the new blank
 abbrev pub ghosts-deleted_as : goal.ghosts-deleted_as

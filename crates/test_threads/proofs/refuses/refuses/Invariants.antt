@@ -1,4 +1,4 @@
-use Rattle.hv_turns.proofs.refuses.refuses.Given as goal
+use Rattle.test_threads.proofs.refuses.refuses.Given as goal
 
 -- the ledger is the one of the new blank
 abbrev pub ghosts-refuses_as : goal.ghosts-refuses_as

@@ -1,4 +1,4 @@
-use Rattle.hv_turns.proofs.settles.misses_a_pass.Given as goal
+use Rattle.test_threads.proofs.settles.misses_a_pass.Given as goal
 
 -- the ledger is the one of the new blank
 abbrev pub ghosts-misses_as : goal.ghosts-misses_as

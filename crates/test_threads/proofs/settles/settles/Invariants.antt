@@ -1,4 +1,4 @@
-use Rattle.hv_turns.proofs.settles.settles.Given as goal
+use Rattle.test_threads.proofs.settles.settles.Given as goal
 
 -- the ledger is the one of the new blank
 abbrev pub ghosts-settles_as : goal.ghosts-settles_as

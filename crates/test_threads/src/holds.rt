@@ -1,0 +1,106 @@
+// Rep calls of one processor alone and of two, which go on by sixteen elements at a time.
+ghost use Rattle.std.specs.Prelude.{◌≡◌};
+
+use crate::calls::{both, forty_reads, open, phase, root, settled};
+use crate::gates::{Alternation, Notes};
+use hv_history::{Answer, History};
+use hv_policy::Reply;
+use hv_threads::Receipts;
+use std::alloc::Global;
+use std::marker::Brand;
+use std::process::Abort;
+use std::sync::Wait;
+use std::sync::ledger::{Blank, Ledger};
+use std::test::Fail;
+use std::thread::Threads;
+use std::time::Clock;
+
+// Turns 0, 16 and 32, as the gate notes them.
+const THREE_HOLDS: u64 = 1_17_33;
+
+// The forty elements have the numbers 1 to 40, and each but the last says which is the next.
+fn assert_forty(rt: &impl Abort, receipts: &Receipts) {
+    assert_eq!(rt; receipts.len(), 40);
+    for at in 0..receipts.len() {
+        let wanted = if at == 39 {
+            Answer::Served
+        } else {
+            Answer::More {
+                next: (at % 40 + 1) as u16,
+            }
+        };
+        assert_eq!(rt; receipts.number(at), (at % 40 + 1) as u64);
+        assert_eq!(rt; receipts.get(at).entry.answer, wanted);
+    }
+}
+
+fn reads_alone_as<L: Ledger, R: Abort + Wait>(
+    rt: &R,
+    alloc: Global,
+    blank: Blank,
+) -> Result<(), Fail>
+    requires { (blank.name ≡ L.name) × (blank.parts ≡ L.parts) × (blank.parts ≡ 2) }
+{
+    let (shared, other, mut pass) = open::<L>(rt, alloc, blank, 100)?;
+    let gate = Notes::new();
+    let (value, reply) = shared.drive(rt, &mut pass, &gate, forty_reads(alloc, 1)?)?;
+    assert_eq!(rt; value.bits(), 0x0000_0028_0000_0000);
+    assert!(rt; matches!(reply, Reply::Served(_)));
+    assert_eq!(rt; gate.entered(), THREE_HOLDS);
+    assert_eq!(rt; gate.left(), THREE_HOLDS);
+    assert_forty(rt, pass.receipts());
+    let kept = settled(rt, shared, vec![in alloc; other, pass]?);
+    assert_eq!(rt; kept.history().len(), 40);
+    Ok(())
+}
+
+// A call of forty elements takes the lock three times, for 16, 16 and 8 of them.
+#[test]
+fn reads_alone(rt: HostRuntime) -> Result<(), Fail> {
+    reads_alone_as::<Brand, HostRuntime>(&rt, rt.alloc(), Blank::new(2))
+}
+
+// Whose the event at a place is, counted from 0, where two calls of forty elements take turns.
+fn processor_at(at: usize) -> u32 {
+    if at < 64 {
+        (at / 16 % 2) as u32
+    } else if at < 72 {
+        0
+    } else {
+        1
+    }
+}
+
+fn assert_in_turns(rt: &impl Abort, history: &History<Global>) {
+    assert_eq!(rt; history.len(), 80);
+    for at in 0..history.len() {
+        assert_eq!(rt; history.entry(at).by, root(processor_at(at)), "{at}");
+    }
+}
+
+fn takes_turns_as<L: Ledger + Send + Sync, R: Abort + Clock + Threads + Wait + Sync>(
+    rt: &R,
+    alloc: Global,
+    blank: Blank,
+) -> Result<(), Fail>
+    requires { (blank.name ≡ L.name) × (blank.parts ≡ L.parts) × (blank.parts ≡ 2) }
+{
+    let (shared, first, second) = open::<L>(rt, alloc, blank, 100)?;
+    let works = both(
+        alloc,
+        (first, forty_reads(alloc, 0)?),
+        (second, forty_reads(alloc, 1)?),
+    )?;
+    let gate = Alternation::new(rt);
+    let passes = phase(rt, alloc, &shared, &gate, works)?;
+    assert!(rt; !gate.is_late());
+    let kept = settled(rt, shared, passes);
+    assert_in_turns(rt, kept.history());
+    Ok(())
+}
+
+// The calls of two processors take turns hold by hold, and nobody comes between the elements of a hold.
+#[test]
+fn takes_turns(rt: HostRuntime) -> Result<(), Fail> {
+    takes_turns_as::<Brand, HostRuntime>(&rt, rt.alloc(), Blank::new(2))
+}
