@@ -15,18 +15,9 @@ ghost use Rattle.hv_history.specs.declared.row.TheConstants.{MOST_OUTPUT};
 
 use crate::output::OutputRef;
 use crate::row::History;
-use hv_machine::{Action, BootRefused, Config, Event, Machine, Reply};
+use hv_machine::{Action, BootRefused, Config, Event, HostRefused, Machine, Reply};
 use std::alloc::{AllocError, Allocator};
 use std::marker::Model;
-
-/// Why an event wasn't applied, in the order in which the causes are looked for. Nothing changed.
-#[derive(Clone, Copy, PartialEq, Eq, Debug)]
-pub enum HostRefused {
-    /// The history is as long as its limit. No rule was asked.
-    HistoryFull,
-    /// The host has no memory.
-    Memory,
-}
 
 /// A machine, with the events that made it what it is and their replies.
 #[derive(Drop)]
@@ -51,15 +42,13 @@ impl<A: Allocator> Model for Kept<A> {
       config = k.config;
       limit = k.limit;
       history = entries k.history;
-      machine =
-          k.machine;
+      machine = k.machine;
     } };
 
     ghost invariant = { λ k. IsRun (record {
       config = k.config;
       limit = k.limit;
-      history = entries
-          k.history;
+      history = entries k.history;
       machine = k.machine;
     }) };
 }

@@ -14,8 +14,8 @@ mod row;
 mod run;
 
 pub use entry::{Asked, Entry, EntryRef};
-pub use hv_machine::Answer;
-pub use kept::{HostRefused, Kept};
+pub use hv_machine::{Answer, HostRefused};
+pub use kept::Kept;
 pub use output::OutputRef;
 pub use row::History;
 pub use run::{RunDone, at_element};

@@ -7,9 +7,9 @@ ghost use Rattle.hv_policy.specs.declared.reply.Reply.TheVariants.{More};
 ghost use Rattle.hv_history.specs.Kept.{IsRun};
 ghost use Rattle.hv_history.specs.Run.{HasRun, HasStopped, IsMore, element, restart};
 
-use crate::kept::{HostRefused, Kept};
+use crate::kept::Kept;
 use hv_abi::Frame;
-use hv_machine::{Action, Caller, Event, Reply};
+use hv_machine::{Action, Caller, Event, HostRefused, Reply};
 use std::alloc::Allocator;
 
 /// What became of several elements of one call.

@@ -1,5 +1,5 @@
 // The machine and its one step.
-ghost use Rattle.std.specs.Prelude.{◌≡◌, ◌<◌, None, IsTrue, IfOk, OnOk, OnErr};
+ghost use Rattle.std.specs.Prelude.{◌≡◌, ◌<◌, None, IsTrue, IfOk, IfErr, OnOk, OnErr};
 ghost use Rattle.hv_defs.specs.declared.sizes.TheConstants.{MAX_SERVED};
 ghost use Rattle.hv_abi.specs.declared.frame.Frame.{Frame as CallFrame};
 ghost use Rattle.hv_laws.specs.Bounded.{IsBounded};
@@ -54,10 +54,13 @@ impl<A: Allocator> Model for Machine<A> {
     }) };
 }
 
-/// Why an event couldn't be handled by the host. Nothing changed.
+/// Why the host couldn't let an event happen, in the order in which the causes are looked for. Nothing
+/// changed.
 #[derive(Clone, Copy, PartialEq, Eq, Debug)]
 pub enum HostRefused {
-    /// The host has no memory for it. Only for an event that would be served.
+    /// The history is as long as its limit. No rule was asked. A machine by itself has no limit.
+    HistoryFull,
+    /// The host has no memory for it.
     Memory,
 }
 
@@ -76,6 +79,7 @@ impl<A: Allocator + Clone> Machine<A> {
         // changes.
         ensures refused { (f : Flat) → IsFlat self.old f → OnErr result (unmet f event.now ≡ None) }
         ensures memory { OnErr result (IsTrue (may_take_memory event.now)) }
+        ensures cause { IfErr result (λ why. why ≡ HostRefused.Memory) }
         ensures kept { OnErr result (self.new ≡ self.old) }
 
         // A refusal names a rule that is asked, and a reply to a hypercall has a result value.
@@ -109,6 +113,7 @@ impl<A: Allocator + Clone> Machine<A> {
         ensures refused { (f : Flat) → IsFlat self.old f
             → OnErr result (unmet f (call_event by frame.now) ≡ None) }
         ensures memory { OnErr result (IsTrue (may_take_memory (call_event by frame.now))) }
+        ensures cause { IfErr result (λ why. why ≡ HostRefused.Memory) }
         ensures kept { OnErr result (self.new ≡ self.old) }
         ensures asked { IfOk result (NamesAsked (call_event by frame.now)) }
         ensures result { IfOk result HasResult }

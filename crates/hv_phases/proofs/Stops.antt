@@ -5,7 +5,7 @@ use Rattle.std.proofs.lemmas.Bool.{cases_lt, ltb-false, ltb-true}
 use Rattle.std.proofs.lemmas.List.{at_drop_more, drop_all}
 use Rattle.std.proofs.lemmas.Option.{get_or_from_slice_get, slice_get-get_or}
 use borrow.Author.Count.{below_more}
-use Rattle.hv_history.specs.declared.kept.HostRefused.{HostRefused}
+use Rattle.hv_machine.specs.declared.machine.HostRefused.{HostRefused}
 use Rattle.hv_policy.specs.declared.event.Caller.{Caller}
 use Rattle.hv_phases.specs.Crew.{IsGoing, caller_of}
 use Rattle.hv_phases.specs.Stop.{AreBehind, IsEarlier, IsFirstStop, place_among}

@@ -1,6 +1,6 @@
 -- Which of the processors that the host stopped is told.
 use Rattle.std.specs.Prelude.{ℕ, ◌≡◌, ◌≤◌, ◌<◌, ◌+◌, if◌then◌else◌, Option, None, Some, nat_lt, List, [], ◌∷◌, length, slice_index_or}
-use Rattle.hv_history.specs.declared.kept.HostRefused.{HostRefused}
+use Rattle.hv_machine.specs.declared.machine.HostRefused.{HostRefused}
 use Rattle.hv_phases.specs.Crew.{IsGoing, caller_of}
 use Rattle.hv_policy.specs.declared.event.Caller.{Caller}
 use Rattle.hv_shared.specs.ByCaller.{is_caller}

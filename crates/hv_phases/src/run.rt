@@ -1,6 +1,6 @@
 // A whole run of lines, from a machine to which nothing happened to its settlement.
 ghost use Rattle.std.specs.Prelude.{◌≡◌, ◌<◌, [], All, IfNone, IsNone, Some, map, vec_len};
-ghost use Rattle.hv_history.specs.declared.kept.HostRefused.{HostRefused};
+ghost use Rattle.hv_machine.specs.declared.machine.HostRefused.{HostRefused};
 ghost use Rattle.hv_phases.specs.Crew.{AreCallersOf, AreReady, HaveRun, passes_in};
 ghost use Rattle.hv_phases.specs.Lines.{AreRun};
 ghost use Rattle.hv_shared.specs.Merge.{IsMerge, receipts_of};

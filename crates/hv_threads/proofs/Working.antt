@@ -3,7 +3,7 @@ use Rattle.std.proofs.Common.{◌≡◌, ℕ, ◌+◌, List, [], ◌∷◌, ◌+
 use Rattle.std.specs.Prelude.{reverse}
 use Rattle.std.proofs.lemmas.List.{length-append, reverse-append}
 use Rattle.std.specs.declared.alloc.Global.{Global}
-use Rattle.hv_history.specs.declared.kept.HostRefused.{HostRefused}
+use Rattle.hv_machine.specs.declared.machine.HostRefused.{HostRefused}
 use Rattle.hv_policy.specs.declared.event.Action.{Action}
 use Rattle.hv_policy.specs.declared.event.Caller.{Caller}
 use Rattle.hv_shared.specs.Pass.{HasReceipts}
