@@ -3,7 +3,7 @@ ghost use Rattle.std.specs.Prelude.{◌≡◌, ◌+◌, ◌≤◌, ◌&&◌, ℕ
 ghost use Rattle.std.specs.Prelude.{OnOk};
 ghost use Rattle.std.specs.FinMap as map;
 ghost use Rattle.std.specs.FinSet as set;
-ghost use Rattle.hv_partition.specs.Partition.{pages_in, with_pages};
+ghost use Rattle.hv_partition.specs.Partition.{new_partition, pages_in, with_pages};
 ghost use Rattle.hv_policy.specs.Boot.{boot as booted};
 ghost use Rattle.hv_policy.specs.BootFault.{boot_fault, IsBootRefusal};
 ghost use Rattle.hv_machine.specs.BootTree.{IsBootRoot, IsBootTree};
@@ -76,10 +76,7 @@ fn make_tree<A: Allocator + Copy>(
     ensures { IfOk result (IsBootTree config) }
 {
     let root = make_root(alloc, config)?;
-    match IdTree::new(*alloc, ROOT_ID, root) {
-        Ok(tree) => Ok(tree),
-        Err(_) => Err(AllocError),
-    }
+    IdTree::new(*alloc, ROOT_ID, root).map_err(|_| AllocError)
 }
 
 // The root: the first pages pooled, the others loose, and its processors.
@@ -88,10 +85,23 @@ fn make_root<A: Allocator + Clone>(alloc: &A, config: Config) -> Result<Partitio
     ensures { IfOk result (IsBootRoot config) }
 {
     let mut root = Partition::new(alloc.clone()?, Life::Active, config.mask)?;
-    give(&mut root, PageKind::Loose, config.pool, config.pages)?;
-    give(&mut root, PageKind::Pooled, 0, config.pool)?;
-    give_vps(&mut root, alloc, config.vps)?;
+    fill(&mut root, alloc, config)?;
     Ok(root)
+}
+
+// Gives the new root its pages and its processors.
+fn fill<A: Allocator + Clone>(
+    root: &mut Partition<A>,
+    alloc: &A,
+    config: Config,
+) -> Result<(), AllocError>
+    requires order { config.pool ≤ config.pages }
+    requires new { root.old ≡ new_partition Life.Active config.mask }
+    ensures { OnOk result (IsBootRoot config root.new) }
+{
+    give(root, PageKind::Loose, config.pool, config.pages)?;
+    give(root, PageKind::Pooled, 0, config.pool)?;
+    give_vps(root, alloc, config.vps)
 }
 
 // Gives the pages from one number up to another, as one run.
