@@ -4,8 +4,8 @@
 //! theorem about the definitions of `hv_policy`.
 #![tactic(auto)]
 
-ghost use Rattle.std.specs.Prelude.{◌≡◌, ◌≤◌, ℕ, Some, true, List, None, length};
-ghost use Rattle.std.specs.FinMap.{get};
+ghost use Rattle.std.specs.Prelude.{◌≡◌, ◌+◌, ◌≤◌, ℕ, Some, true, List, None, length};
+ghost use Rattle.std.specs.FinMap.{get, len};
 ghost use Rattle.hv_policy.specs.Boot.{boot};
 ghost use Rattle.hv_policy.specs.Effect.{effect};
 ghost use Rattle.hv_policy.specs.Flat.{Flat, PartRow, VpRow, PortRow, ConnRow};
@@ -73,7 +73,14 @@ pub fn no_more_events_are_served_than_there_are<A>()
         → (run config events).0.served ≤ length events }
 {}
 
-/// Which rules are asked, and in which order, the event alone decides: whatever the state, they are the same.
+/// A run has at most one partition more than it has events: each but the root took an event.
+pub fn each_partition_but_the_root_took_an_event<A>()
+    ensures { (config : Config) (events : List (Event A))
+        → len (run config events).0.part ≤ length events + 1 }
+{}
+
+/// Which rules are asked, and in which order, the event alone decides: whatever the state, they are the
+/// same.
 pub fn the_event_decides_what_is_asked<A>()
     ensures { (f g : Flat) (e : Event A) → asked f e ≡ asked g e }
 {}

@@ -76,7 +76,10 @@ fn make_tree<A: Allocator + Copy>(
     ensures { IfOk result (IsBootTree config) }
 {
     let root = make_root(alloc, config)?;
-    IdTree::new(*alloc, ROOT_ID, root).map_err(|_| AllocError)
+    match IdTree::new(*alloc, ROOT_ID, root) {
+        Ok(tree) => Ok(tree),
+        Err(_) => Err(AllocError),
+    }
 }
 
 // The root: the first pages pooled, the others loose, and its processors.
@@ -101,7 +104,8 @@ fn fill<A: Allocator + Clone>(
 {
     give(root, PageKind::Loose, config.pool, config.pages)?;
     give(root, PageKind::Pooled, 0, config.pool)?;
-    give_vps(root, alloc, config.vps)
+    give_vps(root, alloc, config.vps)?;
+    Ok(())
 }
 
 // Gives the pages from one number up to another, as one run.
