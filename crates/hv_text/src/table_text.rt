@@ -24,7 +24,7 @@ use crate::text::Text;
 use hv_defs::Life;
 use hv_history::Kept;
 use hv_partition::{PageKind, Partition};
-use hv_tree::IdTree;
+use hv_tie::Partitions;
 use std::alloc::Allocator;
 use std::io::Write;
 
@@ -54,7 +54,7 @@ pub fn table<W: Write, A: Allocator + Clone>(out: &mut W, kept: &Kept<A>) -> Res
 // Writes the lines of the partitions with these ids, which are all, and the last line.
 fn put_rows<W: Write, A: Allocator>(
     out: &mut W,
-    tree: &IdTree<Partition<A>, A>,
+    tree: &Partitions<A>,
     ids: &[u64],
 ) -> Result<(), PrintFault>
     requires ids { ids.now ≡ map.keys tree.now }
@@ -88,7 +88,7 @@ fn set_end(line: &mut Text, pages: u128)
 
 // Makes the line that of the partition with this id, without its line feed, and answers how many pages it
 // holds.
-fn set_row<A: Allocator>(line: &mut Text, tree: &IdTree<Partition<A>, A>, id: u64) -> u128
+fn set_row<A: Allocator>(line: &mut Text, tree: &Partitions<A>, id: u64) -> u128
     requires { IsSome (map.get tree.now id) }
     ensures text { (row : Row PartitionState) → map.get tree.now id ≡ Some row
         → line.new ≡ partition_text id (part_row row) (kept_counts (length (children tree.now id)) row.1) }
