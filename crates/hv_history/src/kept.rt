@@ -1,5 +1,6 @@
 // The machine with its history.
-ghost use Rattle.std.specs.Prelude.{◌≡◌, ◌<◌, ◌↔◌, [], length, None, IsTrue, IfOk, IfErr, OnOk, OnErr};
+ghost use Rattle.std.specs.Prelude.{◌≡◌, ◌<◌, ◌↔◌, ◌++◌, List, [], ◌∷◌, length, None, IsTrue, IfOk, IfErr};
+ghost use Rattle.std.specs.Prelude.{OnOk, OnErr};
 ghost use Rattle.std.specs.Prelude.{IsErrOf};
 ghost use Rattle.hv_abi.specs.declared.frame.Frame.{Frame};
 ghost use Rattle.hv_defs.specs.declared.sizes.TheConstants.{MAX_SERVED};
@@ -11,6 +12,7 @@ ghost use Rattle.hv_policy.specs.declared.event.Action.TheVariants.{Hypercall};
 ghost use Rattle.hv_history.specs.History.{HasRoomFor, entries, room_of};
 ghost use Rattle.hv_history.specs.Kept.{HasGained, HasStepped, HasTaken, IsRun, Stands};
 ghost use Rattle.hv_history.specs.Row.{most_output};
+ghost use Rattle.hv_history.specs.declared.entry.Entry.{Entry};
 ghost use Rattle.hv_history.specs.declared.row.TheConstants.{MOST_OUTPUT};
 
 use crate::output::OutputRef;
@@ -96,13 +98,20 @@ impl<A: Allocator + Clone> Kept<A> {
         ensures next { IfOk result (λ r. GoesOn event.now.what r.1) }
     {
         match self.take(event) {
-            Ok(number) => {
-                let entry = self.history.entry(self.history.len() - 1);
-                let output = entry.output.to_output();
-                Ok((number, Reply::of(entry.answer, output.as_slice())))
-            }
+            Ok(number) => Ok((number, self.last_reply())),
             Err(why) => Err(why),
         }
+    }
+
+    // The reply to the last event.
+    fn last_reply(&self) -> Reply
+        requires { 0 < length self.now.history }
+        ensures { (before : List (Entry A)) (last : Entry A) → self.now.history ≡ before ++ last ∷ []
+            → result ≡ last.reply }
+    {
+        let entry = self.history.entry(self.history.len() - 1);
+        let output = entry.output.to_output();
+        Reply::of(entry.answer, output.as_slice())
     }
 
     /// Lets an event happen as [`Kept::apply`] does, and answers its number alone: its reply stands in

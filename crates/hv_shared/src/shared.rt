@@ -5,7 +5,9 @@ ghost use Rattle.hv_policy.specs.Next.{GoesOn};
 ghost use Rattle.hv_policy.specs.Result.{HasResult};
 ghost use Rattle.hv_policy.specs.declared.event.Action.TheVariants.{Hypercall};
 ghost use Rattle.hv_shared.specs.Drive.{HasStopped};
+ghost use Rattle.hv_history.specs.Run.{element};
 ghost use Rattle.hv_shared.specs.Pass.{HasCalled, IsAsBefore};
+ghost use Rattle.hv_shared.specs.Room.{HasRoom};
 ghost use Rattle.hv_shared.specs.Shared.{AreOpened};
 ghost use Rattle.hv_shared.specs.Told.{IsAsked, IsTold};
 
@@ -147,6 +149,25 @@ impl<L: Ledger> Shared<L> {
                 next: InputValue::read(frame.rcx).start,
             });
         }
+        self.ask_held(rt, pass, gate, frame, most)
+    }
+
+    // Asks for so many elements while the lock is taken once. There is room for their receipts.
+    #[inline(always)]
+    fn ask_held<R: Wait, G: Gate>(
+        &self,
+        rt: &R,
+        pass: &mut Pass<L>,
+        gate: &G,
+        frame: Frame<Global>,
+        most: u32,
+    ) -> Result<(Frame<Global>, Answer), DriveRefused>
+        requires some { 0 < most }
+        requires room { HasRoom most pass.old.room (element pass.old.caller frame) }
+        ensures asked { IfOk result (λ r. IsAsked frame r.0 r.1 pass.old pass.new) }
+        ensures refused { IfErr result (λ e. HasStopped frame e.next pass.old pass.new) }
+    {
+        let by = pass.caller();
         let turn = pass.receipts().len() as u64;
         gate.enter(rt, by, turn);
         let (last, told) = self.held.lock(rt).take_run(pass, frame, most);

@@ -84,24 +84,3 @@ fn pages_join_and_part(rt: HostRuntime) -> Result<(), Fail> {
     let mut set = PageSet::new(rt.alloc());
     join_and_part(&rt, &mut set)
 }
-
-// The last four pages that there are come as one, and part where one of them goes.
-fn come_as_one(rt: &impl Abort, set: &mut PageSet<Global>) -> Result<(), Fail> {
-    set.reserve(3)?;
-    let room = set.room();
-    assert!(rt; room >= 1);
-    set.put_run(u32::MAX - 3, 4);
-    assert!(rt; set.room() + 1 >= room && set.count() == 4 && !set.holds(u32::MAX - 4));
-    set.reserve(2)?;
-    let held = set.take(u32::MAX - 1);
-    assert!(rt; held);
-    put(rt, set, 0);
-    gives(rt, set, &[0, u32::MAX - 3, u32::MAX - 2, u32::MAX]);
-    Ok(())
-}
-
-#[test]
-fn a_run_comes_as_one_page_does(rt: HostRuntime) -> Result<(), Fail> {
-    let mut set = PageSet::new(rt.alloc());
-    come_as_one(&rt, &mut set)
-}
