@@ -5,7 +5,7 @@ ghost use Rattle.hv_history.specs.History.{entries};
 ghost use Rattle.hv_history.specs.Output.{shown};
 ghost use Rattle.hv_history.specs.declared.entry.Entry.{Entry};
 
-use hv_history::{Allocators, EntryRef, History};
+use hv_history::{EntryRef, History};
 use hv_policy::{Event, Reply};
 use std::alloc::{AllocError, Global};
 
@@ -43,12 +43,7 @@ impl Receipts {
     {
         Receipts {
             numbers: Vec::new(alloc),
-            packed: History::new(Allocators {
-                rows: alloc,
-                heads: alloc,
-                inputs: alloc,
-                outputs: alloc,
-            }),
+            packed: History::new(alloc),
         }
     }
 
