@@ -1,7 +1,7 @@
 #!/usr/bin/env bash
-# How long `hvpm` takes for long rep calls on large page sets: all pages are withdrawn from the root's pool, the lowest
-# first, and then deposited into it again, 511 pages a call. Each page is an event. A page set is one list, so a page that
-# comes or goes in the middle of a large set moves those below it: the time of an event grows with the set, slowly.
+# How long `hvpm` takes for long rep calls on large page sets. First all pages are withdrawn from the root's pool, the lowest
+# first, and then deposited into it again, 511 pages a call; each page is an event, and each set is one run. Then every second
+# loose page is deposited, the lowest first, which leaves runs of one page: each event moves all runs that are lower.
 set -eu
 
 root=$(cd -- "$(dirname -- "${BASH_SOURCE[0]}")/.." && pwd)
@@ -33,9 +33,28 @@ make_script() {
     done
 }
 
+# Makes a script that deposits every second of $1 pages.
+make_scattered_script() {
+    local own page reps end
+    own=$(number 1)
+    echo "boot $1 8 1 0x000000f700000044 4294967295"
+    for ((page = 8; page < $1; page = end)); do
+        end=$((page + 1022 < $1 ? page + 1022 : $1))
+        reps=$(((end - page + 1) / 2))
+        printf '1.0 call 0x%x00000048 0 0 %s' "$reps" "$own"
+        for ((i = page; i < end; i += 2)); do number "$i"; done
+        echo
+    done
+}
+
 for pages in 4096 8192 16384 32768 65536; do
     moved=$((pages - 8 < 60000 ? pages - 8 : 60000))
     make_script "$pages" "$moved" >"$folder/pools.hv"
     echo "== $pages pages, $((2 * moved)) events, $(stat -c %s "$folder/pools.hv") bytes"
     measure "$root/bin/hvpm" "$folder/pools.hv"
+done
+for pages in 4096 8192 16384 32768 65536; do
+    make_scattered_script "$pages" >"$folder/scattered.hv"
+    echo "== every second of $pages pages, $(((pages - 8 + 1) / 2)) events, $(stat -c %s "$folder/scattered.hv") bytes"
+    measure "$root/bin/hvpm" "$folder/scattered.hv"
 done
