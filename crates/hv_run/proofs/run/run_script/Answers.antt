@@ -1,4 +1,7 @@
-use Rattle.std.proofs.Common.{◌≡◌, ◌∙◌, Option, None, Some, Result, Ok, Err, IfNone, OnOk, IsSome, IsNone, IsErr, refl}
+use Rattle.std.proofs.Common.{◌≡◌, ◌∙◌, Option, None, Some, Result, Ok, Err, IfErr, IfNone, OnOk, IsSome, IsNone, IsErr, refl, subst, sym}
+use Rattle.hv_run.specs.Failure.{exit_of}
+use Rattle.hv_run.specs.declared.failure.Exit.TheVariants.{Host, Script}
+use Rattle.hv_run.specs.declared.failure.Failure.{Failure}
 use Rattle.hv_run.proofs.run.run_script.Goals as goal
 
 -- a run that ended well was whole, and what was written is what was told
@@ -10,6 +13,19 @@ on_ok (Some why) (Ok value) written P Q stopped same is told =
     let wrong = stopped refl in
     cc
 on_ok (Some why) (Err failure) written P Q stopped same is told = tt
+
+-- a run that didn't end well has the host's status, whatever it is for
+on_err : {T S : Type 0} (unfinished : Option S) (result written : Result T Failure) (Q : Type 0)
+    → (IsSome unfinished → IfErr result (λ failure. exit_of failure ≡ Host)) → (IsNone unfinished → result ≡ written)
+    → IfErr written (λ failure. exit_of failure ≡ Host) → IfErr result (λ failure. exit_of failure ≡ Script → Q)
+on_err None (Ok value) written Q stop same host = tt
+on_err None (Err failure) written Q stop same host = λ script.
+    let is = subst (λ r. IfErr r (λ failure. exit_of failure ≡ Host)) (sym (same refl)) host in
+    cc
+on_err (Some why) (Ok value) written Q stop same host = tt
+on_err (Some why) (Err failure) written Q stop same host = λ script.
+    let is = stop refl in
+    cc
 
 -- what holds of a whole run
 whole : {S : Type 0} (unfinished : Option S) (P : Type 0) → IsNone unfinished → IfNone unfinished P → P
@@ -29,3 +45,6 @@ returns-clause-told g c =
       lines = whole unfinished _ none ran.lines;
       told = told;
     })
+
+pub returns-clause-silent : goal.returns-clause-silent
+returns-clause-silent g c = on_err _ _ _ _ c.ended.ensures.stop c.ended.ensures.written c.print.ensures.host
