@@ -11,7 +11,7 @@ use std::env;
 use std::fs::File;
 use std::io::{BufWriter, ErrorKind, Write};
 use std::process::ExitCode;
-use std::rt::{Env, Files, Input};
+use std::rt::{Env, Files};
 use std::sync::Wait;
 use std::thread::Threads;
 
