@@ -1,5 +1,5 @@
 // What the tests begin with: calls of the root's processors 0 and 1, and passes for the two.
-ghost use Rattle.std.specs.Prelude.{◌≡◌};
+ghost use Rattle.std.specs.Prelude.{◌≡◌, [], IfOk};
 
 use hv_abi::{Bytes, Frame};
 use hv_history::Kept;
@@ -44,7 +44,8 @@ pub(crate) fn numbers(alloc: Global, first: u64, more: Range<u64>) -> Result<Vec
 }
 
 // Reads RAX of a processor of the root forty times.
-pub(crate) fn forty_reads(alloc: Global, vp: u64) -> Result<Frame<Global>, Fail> {
+pub(crate) fn forty_reads(alloc: Global, vp: u32) -> Result<Frame<Global>, Fail> {
+    let vp = u64::from(vp);
     let mut input = numbers(alloc, 1, vp..vp + 1)?;
     for _ in 0..40 {
         input.extend_from_slice(&0x2_0000u32.to_le_bytes())?;
@@ -63,7 +64,9 @@ pub(crate) fn delete(alloc: Global) -> Frame<Global> {
 }
 
 // A machine that was just booted with two processors.
-pub(crate) fn boot(alloc: Global, limit: u32) -> Result<Kept<Global>, Fail> {
+pub(crate) fn boot(alloc: Global, limit: u32) -> Result<Kept<Global>, Fail>
+    ensures { IfOk result (λ kept. kept.history ≡ []) }
+{
     let config = Config {
         pages: 60,
         pool: 20,
