@@ -5,6 +5,7 @@ pub mod Lines
 pub mod Order
 pub mod Kids
 pub mod Child
+pub mod Found
 pub mod Gone
 pub mod Ids
 pub mod Search
@@ -17,3 +18,6 @@ pub mod Shrunk
 pub mod Kin
 pub mod Toward
 pub mod Indexed
+pub mod Edits
+pub mod Subtree
+pub mod SubtreeLaws

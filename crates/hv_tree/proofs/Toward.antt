@@ -14,7 +14,7 @@ use Rattle.hv_tree.proofs.Gone.{AreNests-get, has-nest}
 use Rattle.hv_tree.proofs.Laws.{parent_above, above_parent}
 use Rattle.hv_tree.proofs.Seen.{kid_there, root_only}
 
-or_right : {b : _} → (a : _) → b ≡ true → (a || b) ≡ true
+pub or_right : {b : _} → (a : _) → b ≡ true → (a || b) ≡ true
 or_right true e = refl
 or_right false e = e
 
@@ -49,7 +49,7 @@ same_child q p (x ∷ ks) d (suc i) zero k m li lj ki mj h g = absurd (omega (ar
 same_child q p (x ∷ ks) d (suc i) (suc j) k m li lj ki mj h g = ap suc (same_child q p ks (omega (arith, d, uses-append q (hang p x.value) (below p ks))) i j k m (omega arith) (omega arith) ki mj h g)
 
 -- a row is the first, or its parent is there too
-climbed : {T : Type 0} (q : ℕ) (es : List (Line T)) → IsNest es → has_row q es ≡ true → (o : Option (Option ℕ × Option T)) → look q es ≡ o → ((q ≡ top es) × (option_map (λ r. r.0) o ≡ Some None)) ⊎ ((r : ℕ) × (has_row r es ≡ true) × (option_map (λ r. r.0) o ≡ Some (Some r)))
+pub climbed : {T : Type 0} (q : ℕ) (es : List (Line T)) → IsNest es → has_row q es ≡ true → (o : Option (Option ℕ × Option T)) → look q es ≡ o → ((q ≡ top es) × (option_map (λ r. r.0) o ≡ Some None)) ⊎ ((r : ℕ) × (has_row r es ≡ true) × (option_map (λ r. r.0) o ≡ Some (Some r)))
 climbed q es n h None e = absurd (let f : true ≡ false = sym h ∙ has-look q es ∙ ap is_some e in cc)
 climbed q es n h (Some (None, c)) e = inl (root_only q es n.topped (ap (option_map (λ r. r.0)) e), refl)
 climbed q es n h (Some (Some r, c)) e = inr (

@@ -1,5 +1,5 @@
 -- The rows of a node and of all that is below it, as a list in which a parent comes before its children.
-use Rattle.std.specs.Prelude.{◌≡◌, ℕ, zero, suc, ◌+◌, ◌≤◌, ◌<◌, Bool, false, cond, ◌||◌, ◌==◌, Option, None, Some, is_some, List, [], ◌∷◌, ◌++◌}
+use Rattle.std.specs.Prelude.{◌≡◌, ℕ, zero, suc, ◌+◌, ◌≤◌, ◌<◌, Bool, true, false, cond, ◌||◌, ◌==◌, Option, None, Some, is_some, List, [], ◌∷◌, ◌++◌}
 use Rattle.std.specs.Option.{option_or, option_map}
 use Rattle.hv_tree.specs.Rows.{children_in}
 
@@ -79,6 +79,13 @@ HasDepthIn es q (suc d) = (p : ℕ) × (option_map (λ r. r.0) (look q es) ≡ S
 pub record IsPart {T : Type 0} (q : ℕ) (es sub : List (Line T)) : Type 0 where
   pub distinct : AreDistinct sub
   pub same : children_in q es ≡ children_in q sub
+
+-- sub is the part of the rows that is q, which is there, with all below it
+pub record IsFound {T : Type 0} (q : ℕ) (es sub : List (Line T)) : Type 0 where
+  pub there : has_row q es ≡ true
+  pub here : top sub ≡ q
+  pub content : Some (first_content sub) ≡ option_map (λ r. r.1) (look q es)
+  pub part : IsPart q es sub
 
 -- the rows with h as the content of the first row with the id q
 abbrev pub put_at : {T : Type 0} → ℕ → Option T → List (Line T) → List (Line T)

@@ -4,20 +4,25 @@
 //! content. One row alone, the root's, has no parent, and each other's parent has a row (`IsTree`).
 //!
 //! - A change is one row: a child put in, a leaf taken out, or a content written through `get_mut`.
+//! - `update_subtree` alone changes more: the contents of a node and of all below it, each by an `Edit`.
 //! - A refusal names its first cause, hands back what it was given, and leaves the rows as they were.
-//! - Look-ups, `get_mut` and `remove_leaf` take no memory.
+//! - Look-ups, `get_mut`, `update_subtree` and `remove_leaf` take no memory.
 //!
 //! Beside the boxes stands an index from each id to its parent's, so that no call searches the tree for
-//! an id.
+//! an id. The ways to nodes
+//! that are noted, by `note` and `note_child`, are kept: a look-up of such a node goes straight down.
 //!
-//! `specs/Rows.antt` has the words of the contracts. `proofs/Laws.antt` and `proofs/ChildLaws.antt` have what
-//! a caller's proof may need of them.
+//! `specs/Rows.antt` and `specs/Subtree.antt` have the words of the contracts. `proofs/Laws.antt`,
+//! `proofs/ChildLaws.antt` and `proofs/SubtreeLaws.antt` have what a caller's proof may need of them.
 #![tactic(auto)]
 
+mod edit;
 mod index;
 mod node;
 mod refused;
 mod tree;
+mod ways;
 
+pub use edit::Edit;
 pub use refused::{InsertRefused, ReserveRefused};
 pub use tree::IdTree;

@@ -5,11 +5,14 @@ ghost use Rattle.std.specs.List.{All, HoldsAt};
 ghost use Rattle.std.specs.List.Sorted.{IsNonDecreasingBy, IsPartitionPoint};
 ghost use Rattle.std.specs.Option.{option_map};
 ghost use Rattle.hv_tree.specs.Rows.{children_in, IsLeastAbove};
+ghost use Rattle.hv_tree.specs.Edited.{edited_in, IsEditedFrom};
 ghost use Rattle.hv_tree.specs.Index.{parents, IsIndexOf, IsWay, IsPath};
 ghost use Rattle.hv_tree.specs.Nest.{has_row, look, put_at, taken, top, first_content, IsGrownBy, IsWithout};
-ghost use Rattle.hv_tree.specs.Nest.{IsPart, IsNest, AreDistinct, HasDepthIn};
+ghost use Rattle.hv_tree.specs.Nest.{IsFound, IsNest, AreDistinct, HasDepthIn};
 
+use crate::edit::Edit;
 use crate::index::{Index, note, parent_in};
+use crate::ways::Way;
 use std::alloc::{AllocError, Allocator};
 use std::marker::Model;
 use std::mem::swap;
@@ -115,15 +118,40 @@ impl<T, A: Allocator> Node<T, A> {
     /// The node with the id, which is this one or below it.
     pub(crate) fn find(&self, index: &Index<A>, id: u64) -> &Node<T, A>
         requires { IsWay (parents index.now) id self.now }
-        ensures content { Some (first_content result.now) ≡ option_map (λ r. r.1) (look id self.now) }
-        ensures here { top result.now ≡ id }
-        ensures part { IsPart id self.now result.now }
+        ensures { IsFound id self.now result.now }
     {
         if id == self.id {
             return self;
         }
         let at = child_toward(&self.children, self.id, index, id);
         self.children[at].find(index, id)
+    }
+
+    /// The node to which the way leads, if that has the id.
+    pub(crate) fn follow(&self, way: &[u32], id: u64) -> Option<&Node<T, A>>
+        requires { AreDistinct self.now }
+        ensures { IfSome result (λ n. IsFound id self.now n.now) }
+    {
+        let Some((at, further)) = way.split_first() else {
+            return if id == self.id { Some(self) } else { None };
+        };
+        let at = *at as usize;
+        if at >= self.children.len() {
+            return None;
+        }
+        self.children[at].follow(further, id)
+    }
+
+    /// The way with the steps from this node down through these ids, each of which is that of a child of the
+    /// one before and the first that of a child of this node, as far as there are such.
+    pub(crate) fn trace(&self, ids: &[u64], way: Way) -> Way {
+        let Some((id, further)) = ids.split_first() else {
+            return way;
+        };
+        match search_child(&self.children, *id) {
+            Err(_) => way,
+            Ok(at) => self.children[at].trace(further, way.and(at)),
+        }
     }
 
     /// How many nodes are above the node with the id, up to this one.
@@ -167,6 +195,54 @@ impl<T, A: Allocator> Node<T, A> {
         }
         let at = child_toward(&self.children, self.id, index, id);
         self.children[at].exchange(index, id, slot);
+    }
+
+    /// Swaps the content of the node to which the way leads with the slot's, if that has the id.
+    pub(crate) fn exchange_along(&mut self, way: &[u32], id: u64, slot: &mut Option<T>) -> bool
+        requires { AreDistinct self.old }
+        ensures there { result ≡ true → has_row id self.old ≡ true }
+        ensures rows { self.new ≡ cond result (put_at id slot.old self.old) self.old }
+        ensures slot { slot.new ≡ cond result (taken id slot.old self.old) slot.old }
+        ensures top { top self.new ≡ top self.old }
+        ensures nest { IsNest self.new }
+    {
+        let Some((at, further)) = way.split_first() else {
+            if id != self.id {
+                return false;
+            }
+            swap(&mut self.content, slot);
+            return true;
+        };
+        let at = *at as usize;
+        if at >= self.children.len() {
+            return false;
+        }
+        self.children[at].exchange_along(further, id, slot)
+    }
+
+    /// Edits the content of each node from the one with the id down, which is this one or below it.
+    pub(crate) fn edit_below<E: Edit<T>>(&mut self, index: &Index<A>, id: u64, edit: &E)
+        requires { IsWay (parents index.now) id self.old }
+        ensures rows { IsEditedFrom (E.edited edit.now) id self.old self.new }
+        ensures nest { IsNest self.new }
+    {
+        if id == self.id {
+            self.edit_all(edit);
+            return;
+        }
+        let at = child_toward(&self.children, self.id, index, id);
+        self.children[at].edit_below(index, id, edit);
+    }
+
+    // Edits the content of this node and of each below it.
+    fn edit_all<E: Edit<T>>(&mut self, edit: &E)
+        ensures rows { self.new ≡ edited_in (E.edited edit.now) (λ _. true) self.old }
+        ensures nest { IsNest self.new }
+    {
+        for i in 0..self.children.len() {
+            self.children[i].edit_all(edit);
+        }
+        edit_content(&mut self.content, edit);
     }
 
     /// Makes room for one more child below `parent`.
@@ -238,6 +314,15 @@ impl<T, A: Allocator> Node<T, A> {
         }
         let node = self.children.remove(at);
         Some(Box::into_inner(node).into_content())
+    }
+}
+
+// Edits a content, unless it is lent.
+fn edit_content<T, E: Edit<T>>(content: &mut Option<T>, edit: &E)
+    ensures { content.new ≡ option_map (E.edited edit.now) content.old }
+{
+    if let Some(value) = content {
+        edit.edit(value);
     }
 }
 

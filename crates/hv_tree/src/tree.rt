@@ -1,6 +1,6 @@
 //! The tree, seen as its rows.
 ghost use Rattle.std.specs.Prelude.{◌≡◌, ◌<◌, ◌↔◌, [], ◌∷◌, None, Some, true, false, length, is_some, IsSome};
-ghost use Rattle.std.specs.Prelude.{IfSome, IfNone, OnSome, IfOk, IfErr, OnOk, OnErr};
+ghost use Rattle.std.specs.Prelude.{ℕ, IfSome, IfNone, OnSome, IfOk, IfErr, OnOk, OnErr};
 ghost use Rattle.std.specs.Option.{option_copied, option_copied_mut, option_map};
 ghost use Rattle.std.specs.Borrow.{LendsIf, sem};
 ghost use Rattle.std.specs.FinMap as map;
@@ -8,13 +8,16 @@ ghost use Rattle.hv_tree.specs.contracts.tree.IdTree.{the_row};
 ghost use Rattle.hv_tree.specs.Rows.{change, content, parent, children, is_leaf, HasDepth, IsLeastAbove};
 ghost use Rattle.hv_tree.specs.Rows.{IsTree};
 ghost use Rattle.hv_tree.specs.Full.{settled};
-ghost use Rattle.hv_tree.specs.Index.{parents, IsWay};
-ghost use Rattle.hv_tree.specs.Nest.{first_content, IsNest};
+ghost use Rattle.hv_tree.specs.Index.{parents, IsIndexOf, IsWay};
+ghost use Rattle.hv_tree.specs.Nest.{first_content, has_row, put_at, taken, AreDistinct, IsFound, IsNest};
 ghost use Rattle.hv_tree.specs.Refused.{Refuses};
+ghost use Rattle.hv_tree.specs.Subtree.{IsInSubtree};
 
+use crate::edit::Edit;
 use crate::index::{Index, forget, parent_in};
 use crate::node::Node;
 use crate::refused::{InsertRefused, ReserveRefused};
+use crate::ways::{MOST, Way, Ways};
 use indexmap::IndexMap;
 use std::alloc::{AllocError, AllocFailed, Allocator};
 use std::marker::Model;
@@ -22,7 +25,8 @@ use std::marker::Model;
 /// A tree whose nodes have ids of their own, each with a content. One node, the root, has no parent.
 ///
 /// A look-up goes down from the root. At each node it climbs in the index, from the id that it wants, to the
-/// child to go on with, and finds that child among its siblings in logarithmic time.
+/// child to go on with, and finds that child among its siblings in logarithmic time. A look-up of a node that
+/// was noted goes straight down.
 #[derive(Drop)]
 pub struct IdTree<T, A: Allocator> {
     root: Node<T, A>,
@@ -32,6 +36,7 @@ pub struct IdTree<T, A: Allocator> {
     count: u64,
     // The content that was lent last, with its node's id. It goes back at the next loan: nodes never move.
     lent: Option<(u64, T)>,
+    ways: Ways,
     alloc: A,
 }
 
@@ -57,10 +62,10 @@ impl<T, A: Allocator> IdTree<T, A> {
     pub fn get(&self, id: u64) -> Option<&T>
         ensures { option_copied result ≡ content self.now id }
     {
-        if !self.contains(id) {
+        let Some(node) = seek(&self.root, &self.index, self.ways.to(id), id) else {
             return None;
-        }
-        match self.root.find(&self.index, id).content() {
+        };
+        match node.content() {
             Some(content) => Some(content),
             None => match &self.lent {
                 None => None,
@@ -96,10 +101,9 @@ impl<T, A: Allocator> IdTree<T, A> {
         ensures none { IfNone result (children self.now id ≡ []) }
         ensures tree { IsTree self.now }
     {
-        if !self.contains(id) {
+        let Some(node) = seek(&self.root, &self.index, self.ways.to(id), id) else {
             return None;
-        }
-        let node = self.root.find(&self.index, id);
+        };
         Some(node.child_count() as u32)
     }
 
@@ -109,10 +113,35 @@ impl<T, A: Allocator> IdTree<T, A> {
         ensures value { IsLeastAbove previous (children self.now parent) result }
         ensures tree { IsTree self.now }
     {
-        if !self.contains(parent) {
+        let Some(node) = seek(&self.root, &self.index, self.ways.to(parent), parent) else {
             return None;
+        };
+        node.child_after(previous)
+    }
+
+    /// Notes the way to a node, so that look-ups of it go straight down, until one or two others are noted or
+    /// the tree changes on that way. It changes no answer.
+    pub fn note(&mut self, id: u64)
+        ensures { self.new ≡ self.old }
+    {
+        if self.root.follow(self.ways.to(id), id).is_some() {
+            return;
         }
-        self.root.find(&self.index, parent).child_after(previous)
+        let way = way_to(&self.root, &self.index, id);
+        self.ways.note_often(way);
+    }
+
+    /// Notes the way to a child of a node that was noted, until the next child is noted. It changes no answer.
+    pub fn note_child(&mut self, parent: u64, id: u64)
+        ensures { self.new ≡ self.old }
+    {
+        if let Some(node) = self.root.follow(self.ways.to(parent), parent) {
+            let mut way = Way::new(id);
+            for step in self.ways.to(parent) {
+                way = way.and(*step as usize);
+            }
+            self.ways.note_last(node.trace(&[id], way));
+        }
     }
 
     /// Makes room for one more child of `parent`. The next insert there needs memory for the node and for its
@@ -136,7 +165,7 @@ impl<T, A: Allocator> IdTree<T, A> {
         ensures none { result ≡ false → children self.now id ≡ [] }
         ensures tree { IsTree self.now }
     {
-        id == self.root.id() || parent_in(&self.index, id).is_some()
+        is_there(&self.root, &self.index, id)
     }
 }
 
@@ -162,9 +191,9 @@ impl<T: Drop, A: Allocator> IdTree<T, A> {
         if !self.contains(id) {
             return None;
         }
-        settle(&mut self.root, &self.index, &mut self.lent);
+        settle(&mut self.root, &self.index, &self.ways, &mut self.lent);
         let mut slot = None;
-        self.root.exchange(&self.index, id, &mut slot);
+        exchange(&mut self.root, &self.index, self.ways.to(id), id, &mut slot);
         let Some(content) = slot else {
             return None;
         };
@@ -173,6 +202,26 @@ impl<T: Drop, A: Allocator> IdTree<T, A> {
             None => None,
             Some(pair) => Some(&mut pair.1),
         }
+    }
+
+    /// Edits the content of a node, and of each node below it. It takes no memory.
+    /// `false` where no node has the id.
+    pub fn update_subtree<E: Edit<T>>(&mut self, id: u64, edit: &E) -> bool
+        ensures found { result ≡ map.contains_key self.old id }
+        ensures edited { (q : ℕ) → IsInSubtree self.old id q → map.get self.new q
+            ≡ option_map (λ r. (r.0, E.edited edit.now r.1)) (map.get self.old q) }
+        ensures others { (q : ℕ) → ¬ IsInSubtree self.old id q
+            → map.get self.new q ≡ map.get self.old q }
+        ensures parents { (q : ℕ) → option_map (λ r. r.0) (map.get self.new q)
+            ≡ option_map (λ r. r.0) (map.get self.old q) }
+        ensures absent { result ≡ false → self.new ≡ self.old }
+    {
+        if !self.contains(id) {
+            return false;
+        }
+        settle(&mut self.root, &self.index, &self.ways, &mut self.lent);
+        self.root.edit_below(&self.index, id, edit);
+        true
     }
 
     /// Takes a node out that has a parent and no children, and hands back its content. It takes no memory.
@@ -207,6 +256,7 @@ impl<T: Drop, A: Allocator + Copy> IdTree<T, A> {
             index: IndexMap::new(alloc),
             count: 1,
             lent: None,
+            ways: Ways::new(),
             alloc,
         })
     }
@@ -242,6 +292,56 @@ impl<T: Drop, A: Allocator + Clone> IdTree<T, A> {
         self.count = count;
         Ok(())
     }
+}
+
+// The node with the id, which is looked for where the way leads, and else from the root down.
+fn seek<'t, T, A: Allocator>(
+    root: &'t Node<T, A>,
+    index: &Index<A>,
+    way: &[u32],
+    id: u64,
+) -> Option<&'t Node<T, A>>
+    requires distinct { AreDistinct root.now }
+    requires nest { IsNest root.now }
+    requires indexed { IsIndexOf root.now (parents index.now) }
+    ensures found { IfSome result (λ n. IsFound id root.now n.now) }
+    ensures none { IfNone result (has_row id root.now ≡ false) }
+{
+    if let Some(node) = root.follow(way, id) {
+        return Some(node);
+    }
+    if !is_there(root, index, id) {
+        return None;
+    }
+    Some(root.find(index, id))
+}
+
+// The way to a node: the ids on it are found by a climb from its own, and then the steps among them.
+fn way_to<T, A: Allocator>(root: &Node<T, A>, index: &Index<A>, id: u64) -> Way {
+    let mut ids = [0; MOST];
+    let mut first = MOST;
+    let mut at = id;
+    for place in (0..MOST).rev() {
+        let Some(parent) = parent_in(index, at) else {
+            break;
+        };
+        ids[place] = at;
+        first = place;
+        at = parent;
+    }
+    match ids.get(first..) {
+        None => Way::new(id),
+        Some(ids) => root.trace(ids, Way::new(id)),
+    }
+}
+
+// Whether a node has the id.
+fn is_there<T, A: Allocator>(root: &Node<T, A>, index: &Index<A>, id: u64) -> bool
+    requires nest { IsNest root.now }
+    requires indexed { IsIndexOf root.now (parents index.now) }
+    ensures { result ≡ has_row id root.now }
+{
+    id == root.id() || parent_in(index, id).is_some()
 }
 
 // A node with nothing below it, or its content again.
@@ -286,6 +386,7 @@ fn unmake<T: Drop, A: Allocator>(node: Box<Node<T, A>, A>) -> T
 fn settle<T: Drop, A: Allocator>(
     root: &mut Node<T, A>,
     index: &Index<A>,
+    ways: &Ways,
     lent: &mut Option<(u64, T)>,
 )
     requires { IfSome lent.old (λ e. IsWay (parents index.now) e.0 root.old) }
@@ -295,7 +396,25 @@ fn settle<T: Drop, A: Allocator>(
 {
     if let Some((id, content)) = lent.take() {
         let mut slot = Some(content);
-        root.exchange(index, id, &mut slot);
+        exchange(root, index, ways.to(id), id, &mut slot);
+    }
+}
+
+// Swaps the content of the node with the id, to which the way may lead, with the slot's.
+fn exchange<T, A: Allocator>(
+    root: &mut Node<T, A>,
+    index: &Index<A>,
+    way: &[u32],
+    id: u64,
+    slot: &mut Option<T>,
+)
+    requires { IsWay (parents index.now) id root.old }
+    ensures rows { root.new ≡ put_at id slot.old root.old }
+    ensures slot { slot.new ≡ taken id slot.old root.old }
+    ensures nest { IsNest root.new }
+{
+    if !root.exchange_along(way, id, slot) {
+        root.exchange(index, id, slot);
     }
 }
 

@@ -21,4 +21,6 @@ mod small_tree;
 #[cfg(test)]
 mod statuses;
 #[cfg(test)]
+mod subtree;
+#[cfg(test)]
 mod tables;

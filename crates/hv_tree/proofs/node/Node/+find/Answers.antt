@@ -4,7 +4,7 @@ use Rattle.std.specs.Box.{with_value}
 use Rattle.std.specs.List.{insert, remove}
 use Rattle.std.proofs.lemmas.List.Sorted.{IsNonDecreasingBy-insert}
 use Rattle.hv_tree.specs.Rows.{children_in}
-use Rattle.hv_tree.specs.Nest.{top, has_row, first_content, IsNest, IsGrownBy, IsWithout, IsPart}
+use Rattle.hv_tree.specs.Nest.{top, has_row, first_content, IsNest, IsGrownBy, IsWithout, IsFound}
 use Rattle.hv_tree.specs.Below.{below}
 use Rattle.hv_tree.specs.Index.{parents, IsWay}
 use Rattle.hv_tree.proofs.Lists.{get_or_any, set-same, rising-set, rising-remove}
@@ -12,6 +12,7 @@ use Rattle.hv_tree.proofs.Lines.{top-put}
 use Rattle.hv_tree.proofs.Kids.{IsNest-view, AreNests-set, AreNests-insert, AreNests-remove}
 use Rattle.hv_tree.proofs.Child.{held-row, length-child, put-child, taken-child, off_before, kids-child, AreDistinct-child, IsPart-child, grown-here, grown-child}
 use Rattle.hv_tree.proofs.Gone.{IsWithout-here, IsWithout-child}
+use Rattle.hv_tree.proofs.Found.{IsFound-child}
 use Rattle.hv_tree.proofs.Toward.{path, way-child, on_ok, on_err, if_some, if_none}
 use Rattle.hv_tree.proofs.node.Node.+find.Goals as goal
 
@@ -38,8 +39,8 @@ find-requires g t c κs within =
     let here : IsWay up c.args.id c.deref-2.result.now = subst (λ es. IsWay up c.args.id es) (sym c.deref-2.ensures) (way-child up c.args.id own content ks w i k lt is has) in
     (omega (arith, c.decreases, length-child own ks i k lt is, ap length c.self.view_is, ap length c.deref-2.ensures), (within.0, (within.1, here)))
 
-pub returns-clause-content : goal.returns-clause-content
-returns-clause-content g t c =
+pub returns : goal.returns
+returns g t c =
     let ks = c.self.inside.children.items in
     let own = c.self.inside.id in
     let content = c.self.inside.content in
@@ -49,20 +50,5 @@ returns-clause-content g t c =
     let i = c.child_toward-at.result in
     let lt : i < length ks = rw (← c.deref.ensures.value) c.child_toward-at.ensures.bound in
     let is : k ≡ get_or ks i k = c.index.ensures in
-    let has : has_row c.args.id k.value ≡ true = rw (c.deref.ensures.value, ← c.index.ensures) at (c.child_toward-at.ensures.here k) in
-    let none : has_row c.args.id (below own (take i ks)) ≡ false = off_before own ks i k lt is content w.distinct c.args.id has in
-    rw (← c.self.view_is) (rw c.deref-2.ensures at c.find.ensures.content ∙ sym (held-row own ks i k lt is c.args.id none content (ne_eqb _ _ c.if-id-self.false) has))
-
-pub returns-clause-part : goal.returns-clause-part
-returns-clause-part g t c =
-    let ks = c.self.inside.children.items in
-    let own = c.self.inside.id in
-    let content = c.self.inside.content in
-    let up = parents c.args.index.now in
-    let w : IsWay up c.args.id ((own, (None, content)) ∷ below own ks) = subst (λ es. IsWay up c.args.id es) (sym c.self.view_is) c.requires in
-    let k = c.index.result.now in
-    let i = c.child_toward-at.result in
-    let lt : i < length ks = rw (← c.deref.ensures.value) c.child_toward-at.ensures.bound in
-    let is : k ≡ get_or ks i k = c.index.ensures in
-    let has : has_row c.args.id k.value ≡ true = rw (c.deref.ensures.value, ← c.index.ensures) at (c.child_toward-at.ensures.here k) in
-    rw (← c.self.view_is) (IsPart-child own ks i k lt is content w.distinct c.args.id has c.self.invariant.nests _ (rw c.deref-2.ensures at c.find.ensures.part))
+    let found : IsFound c.args.id k.value c.find.result.now = subst (λ es. IsFound c.args.id es c.find.result.now) c.deref-2.ensures c.find.ensures in
+    subst (λ es. IsFound c.args.id es c.find.result.now) c.self.view_is (IsFound-child own ks i k lt is content w.distinct c.args.id c.self.invariant.nests c.find.result.now found)

@@ -1,7 +1,7 @@
 use Rattle.std.proofs.Common.{rules, ◌≡◌, ◌<◌, ◌≤◌, ◌≢◌, ◌∙◌, ◌∷◌, ◌==◌, [], None, Some, true, false, refl, sym, ap, subst, length, arith, inl, inr, is_some}
 use Rattle.std.proofs.lemmas.Bool.{ne_eqb, eq-eqb}
 use Rattle.hv_tree.specs.Rows.{children, children_in, IsLeastAbove}
-use Rattle.hv_tree.specs.Nest.{top, has_row, IsNest}
+use Rattle.hv_tree.specs.Nest.{top, has_row, IsFound, IsNest}
 use Rattle.hv_tree.specs.Index.{parents, IsWay}
 use Rattle.hv_tree.proofs.Lists.{no_items}
 use Rattle.hv_tree.proofs.Child.{found_has}
@@ -12,23 +12,22 @@ use Rattle.hv_tree.proofs.Seen.{IsShown, IsTree-seen, has-seen, get-seen, get_no
 use Rattle.hv_tree.proofs.Toward.{way-there, has-indexed}
 use Rattle.hv_tree.proofs.tree.IdTree.child_after.Goals as goal
 
-pub returns-then-not-contains-clause-value : goal.returns-then-not-contains-clause-value
-returns-then-not-contains-clause-value g c =
-    rw (c.contains.ensures.none c.if-not-contains.true) (IsLeastAbove-none c.args.previous)
-
-pub find-requires : goal.find-requires
-find-requires g c =
+pub returns-in_default-clause-value : goal.returns-in_default-clause-value
+returns-in_default-clause-value g c =
     let s : IsShown c.self.inside.lent c.self.inside.root c.self.inside.count c.args.self.now = record { sound = c.self.invariant.sound; seen = c.self.view_is } in
-    let has : has_row c.args.parent c.self.inside.root ≡ true = sym (has-seen s c.args.parent) ∙ sym c.contains.ensures.value ∙ c.if-not-contains.false in
-    let way : IsWay (parents c.self.inside.index) c.args.parent c.self.inside.root = way-there c.args.parent c.self.inside.root (parents c.self.inside.index) c.self.invariant.sound.distinct c.self.invariant.indexed has in
-    way
+    let off : has_row c.args.parent c.self.inside.root ≡ false = rw c.in_default.is at c.seek.ensures.none in
+    rw (no_items (children c.args.self.now c.args.parent) (count-seen s c.args.parent ∙ ap length (c.self.invariant.sound.nest.closed c.args.parent off))) (IsLeastAbove-none c.args.previous)
 
 pub returns-clause-value : goal.returns-clause-value
 returns-clause-value g c =
     let s : IsShown c.self.inside.lent c.self.inside.root c.self.inside.count c.args.self.now = record { sound = c.self.invariant.sound; seen = c.self.view_is } in
-    let part = c.find.ensures.part in
-    let least = rw (kids-found c.args.parent c.self.inside.root c.find.result.now part c.find.ensures.here) at (c.child_after.ensures part.distinct) in
+    let found : IsFound c.args.parent c.self.inside.root c.in-Some.node.now = rw c.in-Some.is at c.seek.ensures.found in
+    let least = rw (kids-found c.args.parent c.self.inside.root c.in-Some.node.now found.part found.here) at (c.child_after.ensures found.part.distinct) in
     IsLeastAbove-permutation c.args.previous (children_in c.args.parent c.self.inside.root) (children c.args.self.now c.args.parent) c.child_after.result (kids-seen s c.args.parent) least
+
+pub returns-in_default-clause-tree : goal.returns-in_default-clause-tree
+returns-in_default-clause-tree g c =
+    IsTree-seen {l = c.self.inside.lent} {es = c.self.inside.root} {n = c.self.inside.count} (record { sound = c.self.invariant.sound; seen = c.self.view_is })
 
 pub returns-clause-tree : goal.returns-clause-tree
 returns-clause-tree g c =

@@ -12,33 +12,16 @@ use Rattle.hv_tree.proofs.Seen.{IsShown, IsTree-seen, has-seen, get-seen, get_no
 use Rattle.hv_tree.proofs.Toward.{way-there, has-indexed}
 use Rattle.hv_tree.proofs.tree.IdTree.contains.Goals as goal
 
-pub returns-then-id-clause-value : goal.returns-then-id-clause-value
-returns-then-id-clause-value g c =
+pub returns-clause-value : goal.returns-clause-value
+returns-clause-value g c =
     let s : IsShown c.self.inside.lent c.self.inside.root c.self.inside.count c.args.self.now = record { sound = c.self.invariant.sound; seen = c.self.view_is } in
-    let has : has_row c.args.id c.self.inside.root ≡ true = rw (c.if-id.true, c.id.ensures.value) (has-nest c.self.inside.root c.self.invariant.sound.nest) in
-    eq-eqb _ _ c.if-id.true ∙ sym (has-seen s c.args.id ∙ has)
+    c.is_there.ensures ∙ sym (has-seen s c.args.id)
 
-pub returns-then-id-clause-none : goal.returns-then-id-clause-none
-returns-then-id-clause-none g c =
+pub returns-clause-none : goal.returns-clause-none
+returns-clause-none g c =
     let s : IsShown c.self.inside.lent c.self.inside.root c.self.inside.count c.args.self.now = record { sound = c.self.invariant.sound; seen = c.self.view_is } in
-    λ e. no_items (children c.args.self.now c.args.id) (count-seen s c.args.id ∙ ap length (c.self.invariant.sound.nest.closed c.args.id (sym (has-seen s c.args.id) ∙ sym (returns-then-id-clause-value g c) ∙ e)))
+    λ e. no_items (children c.args.self.now c.args.id) (count-seen s c.args.id ∙ ap length (c.self.invariant.sound.nest.closed c.args.id (sym c.is_there.ensures ∙ e)))
 
-pub returns-then-id-clause-tree : goal.returns-then-id-clause-tree
-returns-then-id-clause-tree g c =
-    IsTree-seen {l = c.self.inside.lent} {es = c.self.inside.root} {n = c.self.inside.count} (record { sound = c.self.invariant.sound; seen = c.self.view_is })
-
-pub returns-else-id-clause-value : goal.returns-else-id-clause-value
-returns-else-id-clause-value g c =
-    let s : IsShown c.self.inside.lent c.self.inside.root c.self.inside.count c.args.self.now = record { sound = c.self.invariant.sound; seen = c.self.view_is } in
-    let off : (c.args.id == top c.self.inside.root) ≡ false = ne_eqb c.args.id (top c.self.inside.root) (λ e. c.if-id.false (e ∙ sym c.id.ensures.value)) in
-    let known = rw off at (has-indexed c.args.id c.self.inside.root (parents c.self.inside.index) c.self.invariant.sound.nest c.self.invariant.indexed) in
-    c.is_some.ensures ∙ ap is_some c.parent_in.ensures ∙ known ∙ sym (has-seen s c.args.id)
-
-pub returns-else-id-clause-none : goal.returns-else-id-clause-none
-returns-else-id-clause-none g c =
-    let s : IsShown c.self.inside.lent c.self.inside.root c.self.inside.count c.args.self.now = record { sound = c.self.invariant.sound; seen = c.self.view_is } in
-    λ e. no_items (children c.args.self.now c.args.id) (count-seen s c.args.id ∙ ap length (c.self.invariant.sound.nest.closed c.args.id (sym (has-seen s c.args.id) ∙ sym (returns-else-id-clause-value g c) ∙ e)))
-
-pub returns-else-id-clause-tree : goal.returns-else-id-clause-tree
-returns-else-id-clause-tree g c =
+pub returns-clause-tree : goal.returns-clause-tree
+returns-clause-tree g c =
     IsTree-seen {l = c.self.inside.lent} {es = c.self.inside.root} {n = c.self.inside.count} (record { sound = c.self.invariant.sound; seen = c.self.view_is })

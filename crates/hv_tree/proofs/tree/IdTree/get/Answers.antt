@@ -1,30 +1,23 @@
-use Rattle.std.proofs.Common.{rules, ◌≡◌, ◌<◌, ◌≤◌, ◌≢◌, ◌∙◌, ◌∷◌, ◌==◌, [], None, Some, true, false, refl, sym, ap, subst, length, arith, inl, inr, is_some}
-use Rattle.std.proofs.lemmas.Bool.{ne_eqb, eq-eqb}
-use Rattle.hv_tree.specs.Rows.{children, children_in, IsLeastAbove}
-use Rattle.hv_tree.specs.Nest.{top, has_row, IsNest}
-use Rattle.hv_tree.specs.Index.{parents, IsWay}
-use Rattle.hv_tree.proofs.Lists.{no_items}
-use Rattle.hv_tree.proofs.Child.{found_has}
-use Rattle.hv_tree.proofs.Gone.{has-nest}
-use Rattle.hv_tree.proofs.Got.{got_none, got_here, got_lent}
-use Rattle.hv_tree.proofs.Kin.{kids-seen, count-seen, IsLeastAbove-permutation, IsLeastAbove-none}
-use Rattle.hv_tree.proofs.Seen.{IsShown, IsTree-seen, has-seen, get-seen, get_none, get_some, kids-found, HasDepth-seen}
-use Rattle.hv_tree.proofs.Toward.{way-there, has-indexed}
+use Rattle.std.proofs.Common.{◌≡◌, ◌∙◌, false, Some, None, sym}
+use Rattle.hv_tree.specs.Nest.{IsFound, has_row}
+use Rattle.hv_tree.proofs.Got.{got_here, got_lent}
+use Rattle.hv_tree.proofs.Seen.{IsShown, get-seen, get_none}
 use Rattle.hv_tree.proofs.tree.IdTree.get.Goals as goal
 
-pub find-requires : goal.find-requires
-find-requires g c =
+pub returns-in_default : goal.returns-in_default
+returns-in_default g c =
     let s : IsShown c.self.inside.lent c.self.inside.root c.self.inside.count c.args.self.now = record { sound = c.self.invariant.sound; seen = c.self.view_is } in
-    let has : has_row c.args.id c.self.inside.root ≡ true = sym (has-seen s c.args.id) ∙ sym c.contains.ensures.value ∙ c.if-not-contains.false in
-    let way : IsWay (parents c.self.inside.index) c.args.id c.self.inside.root = way-there c.args.id c.self.inside.root (parents c.self.inside.index) c.self.invariant.sound.distinct c.self.invariant.indexed has in
-    way
+    let off : has_row c.args.id c.self.inside.root ≡ false = rw c.in_default.is at c.seek.ensures.none in
+    sym (get_none s c.args.id _ off)
 
-pub returns-in-Some : goal.returns-in-Some
-returns-in-Some g c =
+pub returns-in-Some-content : goal.returns-in-Some-content
+returns-in-Some-content g c =
     let s : IsShown c.self.inside.lent c.self.inside.root c.self.inside.count c.args.self.now = record { sound = c.self.invariant.sound; seen = c.self.view_is } in
-    rw (get-seen s c.args.id) (got_here c.self.inside.lent c.args.id _ c.in-Some.content (rw (← c.content.ensures, c.in-Some.is) at c.find.ensures.content))
+    let found : IsFound c.args.id c.self.inside.root c.in-Some.node.now = rw c.in-Some.is at c.seek.ensures.found in
+    rw (get-seen s c.args.id) (got_here c.self.inside.lent c.args.id _ c.in-Some-content.content (rw (← c.content.ensures, c.in-Some-content.is) at found.content))
 
 pub returns-in-Some-lent : goal.returns-in-Some-lent
 returns-in-Some-lent g c =
     let s : IsShown c.self.inside.lent c.self.inside.root c.self.inside.count c.args.self.now = record { sound = c.self.invariant.sound; seen = c.self.view_is } in
-    rw (get-seen s c.args.id) (got_lent c.self.inside.lent c.args.id _ _ c.in-Some-lent.content (c.self.invariant.sound.whole c.args.id) c.in-Some-lent.is (rw (← c.content.ensures, c.in-None.is) at c.find.ensures.content))
+    let found : IsFound c.args.id c.self.inside.root c.in-Some.node.now = rw c.in-Some.is at c.seek.ensures.found in
+    rw (get-seen s c.args.id) (got_lent c.self.inside.lent c.args.id _ _ c.in-Some-lent.content (c.self.invariant.sound.whole c.args.id) c.in-Some-lent.is (rw (← c.content.ensures, c.in-None.is) at found.content))

@@ -1,0 +1,32 @@
+-- A node that is found below a child is found below the child's parent, and so is a content that is swapped there.
+use Rattle.std.proofs.Common.{◌≡◌, ℕ, ◌<◌, ◌∙◌, true, false, Bool, cond, refl, sym, ap, Option, None, List, ◌∷◌, Box, length, get_or, take, set}
+use Rattle.std.specs.Box.{with_value}
+use Rattle.hv_tree.specs.Nest.{Line, AreDistinct, IsFound, has_row, put_at, taken}
+use Rattle.hv_tree.specs.Below.{below, AreNests}
+use Rattle.hv_tree.proofs.Child.{held-row, off_own, off_before, put-child, taken-child, IsPart-child}
+use Rattle.hv_tree.proofs.Lists.{set-same}
+use Rattle.hv_tree.proofs.Toward.{has-in, or_right}
+
+module _ {T A : Type 0} (own : ℕ) (ks : List (Box (List (Line T)) A)) (i : ℕ) (k : Box (List (Line T)) A) (lt : i < length ks) (is : k ≡ get_or ks i k) (content : Option T) (distinct : AreDistinct ((own, (None, content)) ∷ below own ks)) (q : ℕ) where
+  before : has_row q k.value ≡ true → has_row q (below own (take i ks)) ≡ false
+  before = off_before own ks i k lt is content distinct q
+
+  pub there-child : has_row q k.value ≡ true → has_row q ((own, (None, content)) ∷ below own ks) ≡ true
+  there-child has = or_right _ (has-in q own ks i k lt is has)
+
+  pub IsFound-child : AreNests ks → (sub : List (Line T)) → IsFound q k.value sub → IsFound q ((own, (None, content)) ∷ below own ks) sub
+  IsFound-child nests sub found = record {
+    there = there-child found.there;
+    here = found.here;
+    content = found.content ∙ sym (held-row own ks i k lt is q (before found.there) content (off_own own ks i k lt is content distinct q found.there) found.there);
+    part = IsPart-child own ks i k lt is content distinct q found.there nests sub found.part;
+  }
+
+  pub put-found : (did : Bool) (h : Option T) (new : List (Line T)) → (did ≡ true → has_row q k.value ≡ true) → new ≡ cond did (put_at q h k.value) k.value
+      → (own, (None, content)) ∷ below own (set ks i (with_value k new)) ≡ cond did (put_at q h ((own, (None, content)) ∷ below own ks)) ((own, (None, content)) ∷ below own ks)
+  put-found true h new has e = rw (off_own own ks i k lt is content distinct q (has refl), e) (ap (λ l. (own, (None, content)) ∷ l) (sym (put-child own ks i k lt is q (before (has refl)) h (has refl))))
+  put-found false h new has e = ap (λ s. (own, (None, content)) ∷ below own s) (ap (λ v. set ks i (with_value k v)) e ∙ set-same ks i k lt is)
+
+  pub taken-found : (did : Bool) (h new : Option T) → (did ≡ true → has_row q k.value ≡ true) → new ≡ cond did (taken q h k.value) h → new ≡ cond did (taken q h ((own, (None, content)) ∷ below own ks)) h
+  taken-found true h new has e = rw (off_own own ks i k lt is content distinct q (has refl)) (e ∙ sym (taken-child own ks i k lt is q (before (has refl)) h (has refl)))
+  taken-found false h new has e = e
