@@ -16,7 +16,7 @@ use Rattle.hv_policy.specs.Effect.{call_effect, counted, effect, served_effect}
 use Rattle.hv_policy.specs.Flat.{Flat, PartRow}
 use Rattle.hv_policy.specs.Mail.{mail_but_at, place_at}
 use Rattle.hv_policy.specs.Met.{is_active, is_in, is_running, may_give, test_row}
-use Rattle.hv_policy.specs.Needs.{is_among, needs_of, states_to_set, target_of}
+use Rattle.hv_policy.specs.Needs.{is_among, needs_of, target_of}
 use Rattle.hv_policy.specs.Property.{property_of}
 use Rattle.hv_policy.specs.Rules.{IsAllowed, unmet}
 use Rattle.hv_policy.specs.Step.{run_from, step, step_by}
@@ -29,7 +29,7 @@ use Rattle.hv_policy.specs.declared.property.Property.TheVariants.{PrivilegeFlag
 use Rattle.hv_policy.specs.declared.rule.Rule.{Rule}
 use Rattle.hv_privs.proofs.PrivilegesLemmas.{contains-IsSubset}
 use Rattle.hv_privs.specs.Privileges.{contains, of}
-use Rattle.hv_laws.proofs.Changing.{activated, closed, given_row}
+use Rattle.hv_laws.proofs.Changing.{activated, closed, set_row}
 use Rattle.hv_laws.proofs.Creation.{created}
 use Rattle.hv_laws.proofs.Deleting.{deleted}
 use Rattle.hv_laws.proofs.Granted.{caller_there, child_row, is_served, state_row, target_there}
@@ -63,11 +63,6 @@ idle_state Created h = refl
 idle_state Active h = cc
 idle_state Finalized h = refl
 
-not_running : (life : Life) → is_among life states.Created ≡ true → is_active life ≡ false
-not_running Created h = refl
-not_running Active h = cc
-not_running Finalized h = cc
-
 module _ (pages : ℕ) (f : Flat) (l : IsLawful pages f) (caller : ℕ) where
   -- what is there and isn't Active uses nothing
   unused : (id : ℕ) (row : PartRow) → get f.part id ≡ Some row → is_active row.life ≡ false → in_use f id ≡ 0
@@ -85,13 +80,11 @@ module _ (pages : ℕ) (f : Flat) (l : IsLawful pages f) (caller : ℕ) where
 
   set_lawful : (partition code value : ℕ) → IsAllowed f caller (SetPartitionProperty partition code value) → IsLawful pages (call_effect (SetPartitionProperty partition code value) f caller (target_of (SetPartitionProperty partition code value) caller))
   set_lawful partition code value a =
-      given_row pages f l (target_of (SetPartitionProperty partition code value) caller) (property_of code) value (λ is.
+      set_row pages f l (target_of (SetPartitionProperty partition code value) caller) (property_of code) value (λ is.
       let (row, there, parent) = child_row f caller (SetPartitionProperty partition code value) a refl in
-      let (old, was, state) = state_row f caller (SetPartitionProperty partition code value) a a.further.1.0 in
-      let created : is_among old.life states.Created ≡ true = subst (λ p. is_among old.life (states_to_set p) ≡ true) is state in
       let given : may_give (Some PrivilegeFlags) value f caller ≡ true = subst (λ p. may_give p value f caller ≡ true) is a.further.1.1.0 in
       let (above, up, within) = row_of f caller (λ row. contains row.mask (of value)) given in
-      (caller, row, above, there, parent, up, (contains-IsSubset above.mask (of value)).0 within, unused (target_of (SetPartitionProperty partition code value) caller) old was (not_running old.life created)))
+      (caller, row, above, there, parent, up, (contains-IsSubset above.mask (of value)).0 within))
 
   finalize_lawful : (partition : ℕ) → IsAllowed f caller (FinalizePartition partition) → IsLawful pages (call_effect (FinalizePartition partition) f caller (target_of (FinalizePartition partition) caller))
   finalize_lawful partition a =

@@ -4,6 +4,7 @@ pub mod Creation
 pub mod Counted
 pub mod Deleting
 pub mod Ended
+pub mod Gains
 pub mod Granted
 pub mod Laws
 pub mod Lending

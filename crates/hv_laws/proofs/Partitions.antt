@@ -1,10 +1,15 @@
 -- How many partitions there are: each but the root took an event of the run.
-use Rattle.std.proofs.Common.{◌≡◌, ℕ, zero, suc, ◌+◌, ◌-◌, ◌≤◌, ◌==◌, Bool, true, false, cond, List, [], ◌∷◌, length, Option, Some, None, refl, ap, arith}
+use Rattle.std.proofs.Common.{◌≡◌, ℕ, zero, suc, ◌+◌, ◌-◌, ◌≤◌, ◌==◌, Bool, true, false, cond, if◌then◌else◌, List, [], ◌∷◌, length, Option, Some, None, refl, sym, ap, ◌∙◌, arith}
+use Rattle.std.proofs.lemmas.List.Sums.{sum_by-cons}
 use Rattle.std.specs.Cmp.{nat_cmp_total}
-use Rattle.std.specs.FinMap.{FinMap, contains_key, empty, get, insert, len, len-empty, len-insert, len-remove, remove}
+use Rattle.std.specs.FinMap.{FinMap, contains_key, empty, entries, get, insert, len, len-empty, len-entries, len-insert, len-remove, nat_cmp-IsAntisymmetric, remove}
+use Rattle.std.specs.List.{count_by}
+use Rattle.std.specs.Option.{option_map}
 use Rattle.std.specs.Ordering.{nat_cmp}
 use Rattle.hv_calls.specs.declared.call.Call.{Call}
 use Rattle.hv_calls.specs.declared.call.Call.TheVariants.{CreatePartition, InitializePartition, FinalizePartition, DeletePartition, GetPartitionProperty, SetPartitionProperty, GetPartitionId, GetNextChildPartition, DepositMemory, WithdrawMemory, GetMemoryBalance, CreateVp, DeleteVp, GetVpRegisters, SetVpRegisters, DeletePort, DisconnectPort, PostMessage, SignalEvent, CreatePort, ConnectPort}
+use Rattle.hv_defs.proofs.Counts.{passes}
+use Rattle.hv_defs.proofs.Tallies.{count-fewer}
 use Rattle.hv_defs.specs.Registers.{name_of_msr, takes_messages}
 use Rattle.hv_defs.specs.declared.life.Life.TheVariants.{Active, Finalized}
 use Rattle.hv_defs.specs.declared.registers.TheConstants.{EOM}
@@ -12,18 +17,23 @@ use Rattle.hv_defs.specs.declared.sizes.TheConstants.{ROOT_ID, SINTS}
 use Rattle.hv_policy.specs.Aim.{Aim, aim_of, on_vp}
 use Rattle.hv_policy.specs.Boot.{boot, root_row}
 use Rattle.hv_policy.specs.Call.{called}
-use Rattle.hv_policy.specs.Effect.{action_effect, call_effect, changed_at, end_if, given, mask_of, new_row, post_to, served_effect, show_each, signal_to, with_vp, write_msr, write_register, written}
+use Rattle.hv_policy.specs.Effect.{action_effect, call_effect, changed_at, end_if, given, mask_of, narrowed, narrowed_row, narrows, new_row, post_to, served_effect, show_each, signal_to, with_row, with_vp, write_msr, write_register, written}
 use Rattle.hv_policy.specs.Flat.{Flat, PartRow}
 use Rattle.hv_policy.specs.Needs.{target_of}
 use Rattle.hv_policy.specs.Property.{property_of}
+use Rattle.hv_policy.proofs.Rows.{get-narrowed}
 use Rattle.hv_policy.specs.Rules.{unmet}
 use Rattle.hv_policy.specs.Step.{run, run_from, step, step_by}
+use Rattle.hv_policy.specs.Subtree.{is_in_subtree}
 use Rattle.hv_policy.specs.declared.config.Config.{Config}
 use Rattle.hv_policy.specs.declared.event.Action.{Action}
 use Rattle.hv_policy.specs.declared.event.Action.TheVariants.{Hypercall, ReadMsr, WriteMsr, ReadSlot, ClearSlot, ReadFlags, ClearFlag, TakeInterrupt}
 use Rattle.hv_policy.specs.declared.event.Caller.{Caller}
 use Rattle.hv_policy.specs.declared.event.Event.{Event}
+use Rattle.hv_policy.specs.declared.property.Property.{Property}
 use Rattle.hv_policy.specs.declared.rule.Rule.{Rule}
+use Rattle.hv_privs.specs.Privileges.{of}
+use Rattle.hv_privs.specs.declared.Privileges.{Privileges}
 
 -- a row that comes in is at most one more
 one_more : (part : FinMap nat_cmp PartRow) (id : ℕ) (row : PartRow) → len (insert part id row) ≤ len part + 1
@@ -60,24 +70,46 @@ ended_part true part vp f = by (on_vp f (part, vp) (λ row. takes_messages row.r
     by true is = rw is (shown_part part vp SINTS f)
     by false is = rw is refl
 
-register_part : (part vp name value : ℕ) (f : Flat) → (write_register part vp name value f).part ≡ f.part
+pub register_part : (part vp name value : ℕ) (f : Flat) → (write_register part vp name value f).part ≡ f.part
 register_part part vp name value f = ended_part (name == EOM) part vp (record f { vp = with_vp f.vp (part, vp) (written name value) })
 
-msr_part : (part vp : ℕ) (name : Option ℕ) (value : ℕ) (f : Flat) → (write_msr part vp name value f).part ≡ f.part
+pub msr_part : (part vp : ℕ) (name : Option ℕ) (value : ℕ) (f : Flat) → (write_msr part vp name value f).part ≡ f.part
 msr_part part vp None value f = refl
 msr_part part vp (Some name) value f = register_part part vp name value f
 
-posted_part : (aim : Option Aim) (type : ℕ) (payload : List ℕ) (f : Flat) → (post_to aim type payload f).part ≡ f.part
+pub posted_part : (aim : Option Aim) (type : ℕ) (payload : List ℕ) (f : Flat) → (post_to aim type payload f).part ≡ f.part
 posted_part None type payload f = refl
 posted_part (Some aim) type payload f = refl
 
-signalled_part : (aim : Option Aim) (flag : ℕ) (f : Flat) → (signal_to aim flag f).part ≡ f.part
+pub signalled_part : (aim : Option Aim) (flag : ℕ) (f : Flat) → (signal_to aim flag f).part ≡ f.part
 signalled_part None flag f = refl
 signalled_part (Some aim) flag f = refl
 
 -- the same partitions are none more
 as_many : (f g : Flat) → g.part ≡ f.part → len g.part ≤ len f.part + 1
 as_many f g same = let many = ap (λ (part : FinMap nat_cmp PartRow). len part) same in omega arith
+
+counted_all : (es : List (ℕ × PartRow)) → count_by (λ _. true) es ≡ length es
+counted_all [] = refl
+counted_all (e ∷ es) = let one = sum_by-cons (λ (_ : ℕ × PartRow). 1) e es in let rest = counted_all es in omega arith
+
+-- as many partitions are there when a subtree is narrowed
+narrowed_more : (f : Flat) (top : ℕ) (value : Privileges) → len (narrowed f top value) ≤ len f.part + 1
+narrowed_more f top value =
+    let few = count-fewer nat_cmp_total nat_cmp-IsAntisymmetric (λ _. true) (λ _. true) (narrowed f top value) f.part (λ q is. by q (get f.part q) (sym (ap (passes (λ _. true) q) (get-narrowed f top value q)) ∙ is)) in
+    let new = counted_all (entries (narrowed f top value)) in
+    let old = counted_all (entries f.part) in
+    let new_len = len-entries (narrowed f top value) in
+    let old_len = len-entries f.part in
+    omega arith
+  where
+    by : (q : ℕ) (r : Option PartRow) → passes (λ _. true) q (option_map (λ row. if is_in_subtree f top q then narrowed_row value row else row) r) ≡ true → passes (λ (_ : ℕ × PartRow). true) q r ≡ true
+    by q None h = h
+    by q (Some row) h = refl
+
+set_more : (b : Bool) (f : Flat) (target : ℕ) (property : Option Property) (value : ℕ) → len (if b then narrowed f target (of value) else with_row f.part target (given property value)) ≤ len f.part + 1
+set_more true f target property value = narrowed_more f target (of value)
+set_more false f target property value = changed_more f.part target (given property value) (get f.part target)
 
 -- a call makes at most one partition
 call_makes : (call : Call) (f : Flat) (caller target : ℕ) → len (call_effect call f caller target).part ≤ len f.part + 1
@@ -86,7 +118,7 @@ call_makes (InitializePartition partition) f caller target = changed_more f.part
 call_makes (FinalizePartition partition) f caller target = changed_more f.part target (λ row. record row { life = Finalized }) (get f.part target)
 call_makes (DeletePartition partition) f caller target = none_more f.part target
 call_makes (GetPartitionProperty partition code) f caller target = as_many f f refl
-call_makes (SetPartitionProperty partition code value) f caller target = changed_more f.part target (given (property_of code) value) (get f.part target)
+call_makes (SetPartitionProperty partition code value) f caller target = set_more (narrows (property_of code) f target) f target (property_of code) value
 call_makes GetPartitionId f caller target = as_many f f refl
 call_makes (GetNextChildPartition partition previous) f caller target = as_many f f refl
 call_makes (DepositMemory partition page) f caller target = as_many f f refl

@@ -4,7 +4,7 @@
 //! theorem about the definitions of `hv_policy`.
 #![tactic(auto)]
 
-ghost use Rattle.std.specs.Prelude.{◌≡◌, ◌+◌, ◌≤◌, ℕ, Some, true, List, None, length};
+ghost use Rattle.std.specs.Prelude.{◌≡◌, ◌+◌, ◌≤◌, ◌↔◌, ℕ, Some, true, List, None, length};
 ghost use Rattle.std.specs.FinMap.{get, len};
 ghost use Rattle.hv_policy.specs.Boot.{boot};
 ghost use Rattle.hv_policy.specs.Effect.{effect};
@@ -16,12 +16,14 @@ ghost use Rattle.hv_policy.specs.Next.{GoesOn};
 ghost use Rattle.hv_policy.specs.Result.{HasResult};
 ghost use Rattle.hv_policy.specs.Rules.{asked, unmet};
 ghost use Rattle.hv_policy.specs.Step.{NamesAsked, run, run_from, step};
+ghost use Rattle.hv_policy.specs.Subtree.{IsInSubtree, is_in_subtree};
 ghost use Rattle.hv_policy.specs.declared.event.Action.TheVariants.{Hypercall};
 ghost use Rattle.hv_policy.specs.declared.event.Caller.{Caller};
 ghost use Rattle.hv_policy.specs.declared.config.Config.{Config};
 ghost use Rattle.hv_policy.specs.declared.event.Event.{Event};
-ghost use Rattle.hv_policy.specs.Met.{is_running};
+ghost use Rattle.hv_policy.specs.Met.{is_active, is_running};
 ghost use Rattle.hv_policy.specs.BootFault.{boot_fault};
+ghost use Rattle.hv_privs.specs.Privileges.{IsSubset};
 ghost use Rattle.hv_laws.specs.Lawful.{IsLawful};
 
 /// The state that boot gives is lawful, one event leaves a lawful state lawful, and so is each state that
@@ -54,6 +56,20 @@ pub fn each_message_is_counted_where_its_port_aims()
     ensures kept { (pages : ℕ) (f : Flat) → IsLawful pages f → (part port born : ℕ) (row : PortRow)
         → get f.port (part, port) ≡ Some row → row.born ≡ born → kept_of part port born f.mail
         ≡ kept_of part port born (mail_at (record { part = part; vp = row.vp; sint = row.sint }) f.mail) }
+{}
+
+/// A partition that is Active gets no privilege that it hasn't got: what was taken from it stays taken.
+pub fn a_running_partition_gets_no_privilege<A>()
+    ensures { (pages : ℕ) (f : Flat) (e : Event A) → IsLawful pages f → (id : ℕ) (old new : PartRow)
+        → get f.part id ≡ Some old → is_active old.life ≡ true → get (step f e).0.part id ≡ Some new
+        → IsSubset new.mask old.mask }
+{}
+
+/// In a lawful state the test of a subtree is met by a partition just where a chain of parents leads from it
+/// to the top.
+pub fn each_partition_of_a_subtree_leads_up_to_its_top()
+    ensures { (pages : ℕ) (f : Flat) → IsLawful pages f → (top id : ℕ) → (is_in_subtree f top id ≡ true)
+        ↔ IsInSubtree f top id }
 {}
 
 /// The order of messages counts at each place alone: two states that differ in nothing but the order

@@ -4,4 +4,5 @@ pub mod Pairs
 pub mod Places
 pub mod Rows
 pub mod SameMail
+pub mod Subtrees
 pub mod Unmet

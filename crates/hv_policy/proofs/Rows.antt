@@ -1,16 +1,19 @@
 -- Rows of a flat state after a change, and those that rules which are met tell of.
-use Rattle.std.proofs.Common.{◌≡◌, ℕ, ◌==◌, Bool, true, cond, not, Option, Some, None, inl, inr, refl, sym, ap, ◌∙◌}
+use Rattle.std.proofs.Common.{◌≡◌, ℕ, ◌==◌, Bool, true, false, cond, if◌then◌else◌, not, List, [], ◌∷◌, map, Option, Some, None, inl, inr, refl, sym, ap, ◌∙◌}
 use Rattle.std.proofs.lemmas.Bool.{cases_Bool, eqb-true}
-use Rattle.std.specs.Cmp.{Equal-is}
-use Rattle.std.specs.FinMap.{FinMap, get, get-insert, get-retain_keys}
+use Rattle.std.specs.Cmp.{Equal-is, nat_cmp_total, unsigned_tied}
+use Rattle.std.specs.FinMap as finite
+use Rattle.std.specs.FinMap.{FinMap, get, entries, from_entries, get-entries, get-from_entries, get-insert, get-retain_keys}
 use Rattle.std.specs.Option.{option_map}
 use Rattle.std.specs.Ordering.{nat_cmp, eq_by_cmp}
 use Rattle.hv_defs.proofs.Maps.{get_at-insert}
 use Rattle.hv_policy.proofs.Pairs.{pair_cmp_total, pair_cmp_exact}
-use Rattle.hv_policy.specs.Effect.{with_row, with_vp, changed_at, rows_but}
+use Rattle.hv_policy.specs.Effect.{with_row, with_vp, changed_at, narrowed, narrowed_row, rows_but}
 use Rattle.hv_defs.specs.Flags.{pair_cmp}
 use Rattle.hv_policy.specs.Flat.{Flat, PartRow, VpRow}
 use Rattle.hv_policy.specs.Met.{test_row, on_part}
+use Rattle.hv_policy.specs.Subtree.{is_in_subtree}
+use Rattle.hv_privs.specs.declared.Privileges.{Privileges}
 
 -- a row of the model once one of them is changed
 pub get-with_row : (part : FinMap nat_cmp PartRow) (id : ℕ) (g : PartRow → PartRow) (q : ℕ) → get (with_row part id g) q ≡ cond (q == id) (option_map g (get part id)) (get part q)
@@ -22,6 +25,22 @@ get-with_row part id g q = by (get part id) refl
       | inr s ↦ rw s refl
     ]
     by (Some r) is = get_at-insert part id (g r) q
+
+find-mapped_at : {X : Type 0} (g : ℕ → X → X) (q : ℕ) (es : List (ℕ × X)) → finite.find nat_cmp q (map (λ e. (e.0, g e.0 e.1)) es) ≡ option_map (g q) (finite.find nat_cmp q es)
+find-mapped_at g q [] = refl
+find-mapped_at {X = X} g q (e ∷ es) = by (eq_by_cmp nat_cmp q e.0) refl (find-mapped_at g q es)
+  where
+    by : (b : Bool) → eq_by_cmp nat_cmp q e.0 ≡ b → finite.find nat_cmp q (map (λ e. (e.0, g e.0 e.1)) es) ≡ option_map (g q) (finite.find nat_cmp q es) → cond b (Some (g e.0 e.1)) (finite.find nat_cmp q (map (λ e. (e.0, g e.0 e.1)) es)) ≡ option_map (g q) (cond b (Some e.1) (finite.find nat_cmp q es))
+    by true is rest = ap (λ n. Some (g n e.1)) (sym (eqb-true q e.0 (sym (unsigned_tied q e.0) ∙ is)))
+    by false is rest = rest
+
+-- a row once each is changed, by its number
+pub get-mapped_at : {X : Type 0} (g : ℕ → X → X) (m : FinMap nat_cmp X) (q : ℕ) → get (from_entries {R = nat_cmp} (map (λ e. (e.0, g e.0 e.1)) (entries m))) q ≡ option_map (g q) (get m q)
+get-mapped_at g m q = get-from_entries nat_cmp_total (map (λ e. (e.0, g e.0 e.1)) (entries m)) q ∙ find-mapped_at g q (entries m) ∙ ap (option_map (g q)) (sym (get-entries m q))
+
+-- and a partition's row once a subtree is narrowed
+pub get-narrowed : (f : Flat) (top : ℕ) (value : Privileges) (q : ℕ) → get (narrowed f top value) q ≡ option_map (λ row. if is_in_subtree f top q then narrowed_row value row else row) (get f.part q)
+get-narrowed f top value q = get-mapped_at (λ q row. if is_in_subtree f top q then narrowed_row value row else row) f.part q
 
 -- a processor's row once one of them is changed
 pub get-with_vp : (vps : FinMap pair_cmp VpRow) (key : ℕ × ℕ) (g : VpRow → VpRow) (q : ℕ × ℕ) → get (with_vp vps key g) q ≡ cond (eq_by_cmp pair_cmp q key) (option_map g (get vps key)) (get vps q)

@@ -1,5 +1,5 @@
 -- What a served event changes.
-use Rattle.std.specs.Prelude.{ℕ, zero, suc, ◌+◌, ◌==◌, not, true, false, Bool, cond, if◌then◌else◌, List, [], ◌∷◌, ◌++◌, map, Option, None, Some}
+use Rattle.std.specs.Prelude.{ℕ, zero, suc, ◌+◌, ◌==◌, ◌&&◌, not, true, false, Bool, cond, if◌then◌else◌, List, [], ◌∷◌, ◌++◌, map, Option, None, Some}
 use Rattle.std.specs.Option.{option_map_or}
 use Rattle.std.specs.Ordering.{nat_cmp}
 use Rattle.std.specs.declared.cmp.Ordering.{Ordering}
@@ -29,9 +29,12 @@ use Rattle.hv_defs.specs.Flags.{pair_cmp}
 use Rattle.hv_policy.specs.Flat.{Flat, PartRow, PageRow, VpRow, PortRow, MailRow}
 use Rattle.hv_policy.specs.Mail as mail
 use Rattle.hv_policy.specs.Mail.{Place, place_at}
+use Rattle.hv_policy.specs.Met.{is_running}
 use Rattle.hv_policy.specs.Needs.{meant_id, target_of}
 use Rattle.hv_policy.specs.Property.{property_of, with_property}
+use Rattle.hv_policy.specs.Subtree.{is_in_subtree}
 use Rattle.hv_policy.specs.declared.property.Property.{Property}
+use Rattle.hv_policy.specs.declared.property.Property.TheVariants.{PrivilegeFlags, CpuReserve, CpuCap, CpuWeight}
 
 -- the mask of a partition's row, and no privilege where there is none
 abbrev pub mask_of : Option PartRow → Privileges
@@ -94,6 +97,32 @@ given (Some property) value row = with_property property value row
 -- a processor's row once a SINT raised its vector, where it did
 abbrev pub row_raised : Bool → ℕ → VpRow → VpRow
 row_raised did sint row = record row { pending = cond did (vectors.raised row.registers sint row.pending) row.pending }
+
+-- a partition's row with its mask restricted to a value, which gives no bit that it hasn't got
+abbrev pub narrowed_row : Privileges → PartRow → PartRow
+narrowed_row value row = record row { mask = restrict row.mask value }
+
+-- the partitions with each mask in the subtree of one of them restricted to a value
+abbrev pub narrowed : Flat → ℕ → Privileges → FinMap nat_cmp PartRow
+narrowed f top value =
+    from_entries (map (λ e. (e.0, if is_in_subtree f top e.0 then narrowed_row value e.1 else e.1)) (entries f.part))
+
+-- whether a property is the mask
+abbrev pub is_mask : Option Property → Bool
+is_mask None = false
+is_mask (Some PrivilegeFlags) = true
+is_mask (Some CpuReserve) = false
+is_mask (Some CpuCap) = false
+is_mask (Some CpuWeight) = false
+
+-- whether a new value of a property narrows a subtree: a mask does, that of a partition which is Active
+abbrev pub narrows : Option Property → Flat → ℕ → Bool
+narrows property f id = is_mask property && is_running f id
+
+-- the partitions once a property of one of them was set: its row gets the value, or the value narrows its subtree
+abbrev pub property_set : Flat → ℕ → Option Property → ℕ → FinMap nat_cmp PartRow
+property_set f id property value =
+    if narrows property f id then narrowed f id (of value) else with_row f.part id (given property value)
 
 -- Show at a place: where none is shown and one waits, the oldest is shown and the SINT raises its vector
 abbrev pub show : Place → Flat → Flat
@@ -171,8 +200,7 @@ call_effect (DeletePartition partition) f caller target = record f {
   part = remove f.part target;
   page = from_entries (map (λ e. (e.0, inherited target caller e.1)) (entries f.page));
 }
-call_effect (SetPartitionProperty partition code value) f caller target =
-    record f { part = with_row f.part target (given (property_of code) value) }
+call_effect (SetPartitionProperty partition code value) f caller target = record f { part = property_set f target (property_of code) value }
 call_effect (DepositMemory partition page) f caller target =
     record f { page = insert f.page page (record { owner = target; pooled = true }) }
 call_effect (WithdrawMemory partition) f caller target =

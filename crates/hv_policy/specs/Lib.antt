@@ -17,3 +17,4 @@ pub mod Rule
 pub mod Rules
 pub mod Same
 pub mod Step
+pub mod Subtree

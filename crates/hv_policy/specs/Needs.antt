@@ -29,10 +29,10 @@ is_among life.Created states.CreatedOrFinalized = true
 is_among life.Finalized states.CreatedOrFinalized = true
 is_among life states = false
 
--- the life states in which a property may be set: the mask before the partition runs, the others while it does too
+-- the life states in which a property may be set: before the partition runs, and while it does
 abbrev pub states_to_set : Option Property → States
 states_to_set None = states.Created
-states_to_set (Some PrivilegeFlags) = states.Created
+states_to_set (Some PrivilegeFlags) = states.CreatedOrActive
 states_to_set (Some CpuReserve) = states.CreatedOrActive
 states_to_set (Some CpuCap) = states.CreatedOrActive
 states_to_set (Some CpuWeight) = states.CreatedOrActive

@@ -146,16 +146,17 @@ pub fn needs(call: &Call) -> Need
     }
 }
 
-/// The life states in which a property may be set: the mask before the partition runs, the others while
-/// it does too. A code that no property has is refused by P11 before they matter.
+/// The life states in which a property may be set: before the partition runs, and while it does. A code
+/// that no property has is refused by P11 before they matter.
 pub fn states_to_set(property: Option<Property>) -> States
     ensures { result ≡ states_to_set_of property }
 {
     match property {
-        None | Some(Property::PrivilegeFlags) => States::Created,
-        Some(Property::CpuReserve) | Some(Property::CpuCap) | Some(Property::CpuWeight) => {
-            States::CreatedOrActive
-        }
+        None => States::Created,
+        Some(Property::PrivilegeFlags)
+        | Some(Property::CpuReserve)
+        | Some(Property::CpuCap)
+        | Some(Property::CpuWeight) => States::CreatedOrActive,
     }
 }
 

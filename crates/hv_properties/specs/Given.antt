@@ -1,9 +1,10 @@
--- A partition with a new value of a property.
+-- A partition with a new value of a property, and one with its mask narrowed.
 use Rattle.std.specs.Prelude.{ℕ, Option, None, Some}
 use Rattle.hv_partition.specs.Partition.{PartitionState}
 use Rattle.hv_policy.specs.declared.property.Property.{Property}
 use Rattle.hv_policy.specs.declared.property.Property.TheVariants.{PrivilegeFlags, CpuReserve, CpuCap, CpuWeight}
-use Rattle.hv_privs.specs.Privileges.{of}
+use Rattle.hv_privs.specs.Privileges.{of, restrict}
+use Rattle.hv_privs.specs.declared.Privileges.{Privileges}
 
 -- a partition with a property changed
 abbrev pub given : Option Property → ℕ → PartitionState → PartitionState
@@ -12,3 +13,7 @@ given (Some PrivilegeFlags) value p = record p { mask = of value }
 given (Some CpuReserve) value p = record p { reserve = value }
 given (Some CpuCap) value p = record p { cap = value }
 given (Some CpuWeight) value p = record p { weight = value }
+
+-- a partition with its mask restricted to a value
+abbrev pub narrowed : Privileges → PartitionState → PartitionState
+narrowed value p = record p { mask = restrict p.mask value }

@@ -2,7 +2,7 @@
 ghost use Rattle.std.specs.Prelude.{◌≡◌};
 ghost use Rattle.hv_calls.specs.declared.call.Call.TheVariants as call;
 ghost use Rattle.hv_policy.specs.Flat.{Flat};
-ghost use Rattle.hv_tie.specs.Served.{IsOutcome, unmet_further};
+ghost use Rattle.hv_tie.specs.Served.{IsAdmitted, IsOutcome, unmet_further};
 ghost use Rattle.hv_tie.specs.Tie.{IsTied};
 
 use crate::rows::set_property;
@@ -27,7 +27,8 @@ pub fn get_partition_property<A: Allocator>(
     Ok(number_output(property_value(tree, meant(caller, partition), code)))
 }
 
-/// HvSetPartitionProperty: a property of the target gets its new value.
+/// HvSetPartitionProperty: a property of the target gets its new value. A mask that an Active target is
+/// given narrows it and all partitions below it: each keeps those of its bits that the value has.
 pub fn set_partition_property<A: Allocator>(
     tree: &mut Partitions<A>,
     caller: u64,
@@ -35,6 +36,7 @@ pub fn set_partition_property<A: Allocator>(
     code: u32,
     value: u64,
 ) -> Result<CallOutput, Refused>
+    requires { IsAdmitted tree.old caller (call.SetPartitionProperty partition code value) }
     ensures { (f : Flat) → IsTied tree.old f
         → IsOutcome f caller (call.SetPartitionProperty partition code value) tree.old result tree.new }
 {

@@ -1,17 +1,59 @@
 // What setting a property changes in the tree.
 ghost use Rattle.std.specs.Prelude.{◌≡◌};
+ghost use Rattle.hv_policy.specs.Effect.{narrowed as narrowed_parts, narrows as narrows_of, property_set};
+ghost use Rattle.hv_policy.specs.Flat.{Flat};
 ghost use Rattle.hv_policy.specs.Property.{property_of};
+ghost use Rattle.hv_tie.specs.Served.{AreLawful};
+ghost use Rattle.hv_tie.specs.Tie.{IsTied};
 ghost use Rattle.hv_tree.specs.Rows.{change as changed};
 ghost use Rattle.hv_properties.specs.Given.{given};
 
+use hv_defs::Life;
+use hv_partition::Partition;
 use hv_policy::Property;
 use hv_privs::Privileges;
 use hv_tie::Partitions;
+use hv_tree::Edit;
 use std::alloc::Allocator;
+
+// Sets a property of a partition: it gets its new value, or the value narrows its subtree.
+pub fn set_property<A: Allocator>(tree: &mut Partitions<A>, id: u64, code: u32, value: u64)
+    requires { AreLawful tree.old }
+    ensures { (f : Flat) → IsTied tree.old f
+        → IsTied tree.new (record f { part = property_set f id (property_of code) value }) }
+{
+    if narrows(tree, id, code) {
+        narrow(tree, id, Privileges::of(value));
+    } else {
+        give(tree, id, code, value);
+    }
+}
+
+// Whether a new value of the property with this code narrows the subtree of a partition.
+fn narrows<A: Allocator>(tree: &Partitions<A>, id: u64, code: u32) -> bool
+    ensures { (f : Flat) → IsTied tree.now f → result ≡ narrows_of (property_of code) f id }
+{
+    match Property::of(code) {
+        None => false,
+        Some(Property::PrivilegeFlags) => match tree.get(id) {
+            None => false,
+            Some(partition) => partition.life() == Life::Active,
+        },
+        Some(Property::CpuReserve) | Some(Property::CpuCap) | Some(Property::CpuWeight) => false,
+    }
+}
+
+// Restricts each mask in the subtree of a partition to a value.
+fn narrow<A: Allocator>(tree: &mut Partitions<A>, id: u64, value: Privileges)
+    requires { AreLawful tree.old }
+    ensures { (f : Flat) → IsTied tree.old f → IsTied tree.new (record f { part = narrowed_parts f id value }) }
+{
+    tree.update_subtree(id, &Narrowing { to: value });
+}
 
 // Gives a property of a partition its new value.
 #[tactic(auto, using(hv_tree::proofs::Laws::unchanged))]
-pub fn set_property<A: Allocator>(tree: &mut Partitions<A>, id: u64, code: u32, value: u64)
+fn give<A: Allocator>(tree: &mut Partitions<A>, id: u64, code: u32, value: u64)
     ensures { tree.new ≡ changed tree.old id (given (property_of code) value) }
 {
     if let Some(partition) = tree.get_mut(id) {
@@ -22,5 +64,21 @@ pub fn set_property<A: Allocator>(tree: &mut Partitions<A>, id: u64, code: u32, 
             Some(Property::CpuCap) => partition.set_cpu_cap(value),
             Some(Property::CpuWeight) => partition.set_cpu_weight(value),
         }
+    }
+}
+
+// Restricts a partition's mask, which gives no bit that it hasn't got.
+#[derive(Drop)]
+struct Narrowing {
+    to: Privileges,
+}
+
+impl<A: Allocator> Edit<Partition<A>> for Narrowing {
+    ghost use Rattle.hv_properties.specs.Given.{narrowed};
+
+    ghost edited = { λ e p. narrowed e.to p };
+
+    fn edit(&self, content: &mut Partition<A>) {
+        content.set_mask(content.mask().restrict(self.to));
     }
 }

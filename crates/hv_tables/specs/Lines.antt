@@ -1,5 +1,6 @@
 -- The lines of the tables, made of the definitions and constants that contracts cite.
-use Rattle.std.specs.Prelude.{ℕ, ◌==◌, Bool, List, [], ◌∷◌, find, is_none, map, Option}
+use Rattle.std.specs.Prelude.{ℕ, ◌==◌, Bool, List, [], ◌∷◌, find, is_none, map, Option, Some}
+use Rattle.std.specs.FinMap.{empty, from_entries, get}
 use Rattle.std.specs.FinSet.{from_list}
 use Rattle.std.specs.List.{filter}
 use Rattle.std.specs.Option.{option_map}
@@ -17,7 +18,10 @@ use Rattle.hv_defs.specs.declared.life.Life.{Life}
 use Rattle.hv_defs.specs.declared.life.Life.TheVariants.{Created, Active, Finalized}
 use Rattle.hv_defs.specs.declared.registers.Takes.{Takes}
 use Rattle.hv_defs.specs.declared.registers.TheConstants.{REGISTERS}
-use Rattle.hv_privs.specs.Privileges.{bits_of}
+use Rattle.hv_defs.specs.declared.sizes.TheConstants.{FIRST_CHILD_ID}
+use Rattle.hv_privs.specs.Privileges.{bits_of, of}
+use Rattle.hv_policy.specs.Boot.{root_row}
+use Rattle.hv_policy.specs.Effect.{mask_of, property_set}
 use Rattle.hv_policy.specs.Flat.{Flat}
 use Rattle.hv_policy.specs.Needs.{needs_of, is_among, charge_of, takes_memory}
 use Rattle.hv_policy.specs.Rule.{rule_number, rule_name, rule_status}
@@ -25,6 +29,7 @@ use Rattle.hv_policy.specs.Rules.{action_asks, first_unmet, further_asks, rules_
 use Rattle.hv_policy.specs.declared.event.Action.{Action}
 use Rattle.hv_policy.specs.declared.need.Kin.{Kin}
 use Rattle.hv_policy.specs.declared.need.States.{States}
+use Rattle.hv_policy.specs.declared.property.Property.TheVariants.{PrivilegeFlags}
 use Rattle.hv_policy.specs.declared.rule.Rule.{Rule}
 
 -- a call's code, whether it is a rep call, and whether it accepts the fast bit
@@ -83,3 +88,21 @@ input_line rdx r8 fast = input_of (bare_frame 0 rdx r8) fast
 -- the bytes of a SINT's event flags, where these, as (SINT, flag), are set
 abbrev pub flags_line : List (ℕ × ℕ) → ℕ → List ℕ
 flags_line flags sint = flag_bytes (from_list flags) sint
+
+-- a state of these partitions alone, by id, parent, life state and mask
+abbrev pub family : List (ℕ × Option ℕ × Life × ℕ) → Flat
+family rows = record {
+  part = from_entries (map (λ (id, parent, life, mask). (id, record (root_row (of mask)) { parent = parent; life = life })) rows);
+  page = empty;
+  vp = empty;
+  port = empty;
+  conn = empty;
+  mail = [];
+  next = FIRST_CHILD_ID;
+  served = 0;
+}
+
+-- the masks of these partitions, in their order, once one of them was given a mask
+unfoldable pub masks_line : List (ℕ × Option ℕ × Life × ℕ) → ℕ → ℕ → List ℕ
+masks_line rows target mask =
+    map (λ row. bits_of (mask_of (get (property_set (family rows) target (Some PrivilegeFlags) mask) row.0))) rows

@@ -89,7 +89,7 @@ pub fn each_call_has_its_needs()
         ≡ (2 ^ 32, kin.CallerOrChild, Created ∷ Active ∷ Finalized ∷ []) }
     ensures set_partition_property_privilege_flags { (partition value : ℕ)
         → need_line (call.SetPartitionProperty partition 0x00010000 value)
-        ≡ (2 ^ 32, kin.Child, Created ∷ []) }
+        ≡ (2 ^ 32, kin.Child, Created ∷ Active ∷ []) }
     ensures set_partition_property_cpu_reserve { (partition value : ℕ)
         → need_line (call.SetPartitionProperty partition 0x00020001 value)
         ≡ (2 ^ 32, kin.Child, Created ∷ Active ∷ []) }

@@ -44,7 +44,8 @@ pub use messages::{
 };
 pub use privileges::each_privilege_has_its_bit;
 pub use properties::{
-    each_property_has_its_code, each_property_has_its_range, each_property_has_its_start,
+    each_mask_given_has_its_masks, each_property_has_its_code, each_property_has_its_range,
+    each_property_has_its_start,
 };
 pub use registers::{
     each_register_has_its_access, each_register_has_its_start, each_register_takes_its_values,

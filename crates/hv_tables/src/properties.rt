@@ -1,5 +1,5 @@
 // The properties of a partition.
-ghost use Rattle.std.specs.Prelude.{◌≡◌, ℕ, true, false, Some, None};
+ghost use Rattle.std.specs.Prelude.{◌≡◌, ℕ, [], ◌∷◌, true, false, Some, None};
 ghost use Rattle.hv_defs.specs.declared.life.Life.TheVariants.{Created, Active};
 ghost use Rattle.hv_privs.specs.Privileges.{of, restrict};
 ghost use Rattle.hv_privs.specs.declared.Privileges.{Privileges};
@@ -7,6 +7,7 @@ ghost use Rattle.hv_policy.specs.Boot.{root_row};
 ghost use Rattle.hv_policy.specs.Effect.{new_row};
 ghost use Rattle.hv_policy.specs.Property.{property_code, property_of, takes_value};
 ghost use Rattle.hv_policy.specs.declared.property.Property.TheVariants as property;
+ghost use Rattle.hv_tables.specs.Lines.{masks_line};
 
 /// The code of each property, and that the codes beside them are no property's.
 pub fn each_property_has_its_code()
@@ -54,4 +55,28 @@ pub fn each_property_has_its_start()
           cap = 65536;
           weight = 100;
         } }
+{}
+
+/// What a mask that is given makes of the masks of partitions, each with its id, parent, life state and
+/// mask: that of a partition which is Active narrows its whole subtree, and one that is Created gets it.
+pub fn each_mask_given_has_its_masks()
+    ensures to_a_running_tenant { masks_line ((1, None, Active, 0x000001F700000044)
+        ∷ (2, Some 1, Active, 0x000000F700000044) ∷ (3, Some 2, Created, 0x0000003000000044)
+        ∷ (4, Some 1, Active, 0x0000003000000044) ∷ []) 2 0x000000E700000004 ≡ 0x000001F700000044
+        ∷ 0x000000E700000004 ∷ 0x0000002000000004 ∷ 0x0000003000000044 ∷ [] }
+    ensures four_deep { masks_line ((1, None, Active, 0xFF) ∷ (2, Some 1, Active, 0x0F)
+        ∷ (3, Some 2, Active, 0x07) ∷ (5, Some 3, Active, 0x06) ∷ (8, Some 5, Created, 0x02)
+        ∷ []) 2 0x0D ≡ 0xFF ∷ 0x0D ∷ 0x05 ∷ 0x04 ∷ 0 ∷ [] }
+    ensures below_alone { masks_line ((1, None, Active, 0xFF) ∷ (2, Some 1, Active, 0x0F)
+        ∷ (3, Some 2, Active, 0x07) ∷ (5, Some 3, Active, 0x06) ∷ (8, Some 5, Created, 0x02)
+        ∷ []) 5 0x0D ≡ 0xFF ∷ 0x0F ∷ 0x07 ∷ 0x04 ∷ 0 ∷ [] }
+    ensures bits_that_it_lacks { masks_line ((1, None, Active, 0x000000F700000044)
+        ∷ (2, Some 1, Active, 0x0000003000000044) ∷ []) 2 0x0000003100000044 ≡ 0x000000F700000044
+        ∷ 0x0000003000000044 ∷ [] }
+    ensures one_bit_less { masks_line ((1, None, Active, 0x000000F700000044)
+        ∷ (2, Some 1, Active, 0x0000003000000044) ∷ []) 2 0x0000003000000040 ≡ 0x000000F700000044
+        ∷ 0x0000003000000040 ∷ [] }
+    ensures to_a_created_partition { masks_line ((1, None, Active, 0x000000F700000044)
+        ∷ (2, Some 1, Created, 0x0000003000000044) ∷ []) 2 0x000000F700000040 ≡ 0x000000F700000044
+        ∷ 0x000000F700000040 ∷ [] }
 {}

@@ -44,7 +44,7 @@ pub fn unmet_by_target<A: Allocator>(
     if !caller.mask().contains(need.privilege) {
         return Some(Rule::Privilege);
     }
-    let target = target(by, call);
+    let target = target(by.part, call);
     if tree.get(target).is_none() {
         return Some(Rule::TargetExists);
     }
@@ -65,15 +65,15 @@ fn is_kin<A: Allocator>(tree: &Partitions<A>, kin: Kin, caller: u64, id: u64) ->
     }
 }
 
-// The partition that a call is about.
-fn target(by: Caller, call: &Call<'_>) -> u64
-    ensures { result ≡ target_of call.now by.part }
+/// The partition that a call of this caller is about.
+pub fn target(caller: u64, call: &Call<'_>) -> u64
+    ensures { result ≡ target_of call.now caller }
 {
     match call {
         Call::CreatePartition { .. }
         | Call::GetPartitionId
         | Call::PostMessage { .. }
-        | Call::SignalEvent { .. } => by.part,
+        | Call::SignalEvent { .. } => caller,
         Call::InitializePartition { partition }
         | Call::FinalizePartition { partition }
         | Call::DeletePartition { partition }
@@ -90,6 +90,6 @@ fn target(by: Caller, call: &Call<'_>) -> u64
         | Call::DeletePort { partition, .. }
         | Call::DisconnectPort { partition, .. }
         | Call::CreatePort { partition, .. }
-        | Call::ConnectPort { partition, .. } => meant(by.part, *partition),
+        | Call::ConnectPort { partition, .. } => meant(caller, *partition),
     }
 }

@@ -1,10 +1,15 @@
-use Rattle.std.proofs.Common.{sym, rules}
-use Rattle.hv_properties.proofs.Outcomes.{property_set}
+use Rattle.std.proofs.Common.{sym, subst, rules}
+use Rattle.hv_calls.specs.declared.call.Call.TheVariants.{SetPartitionProperty}
+use Rattle.hv_policy.specs.Effect.{call_effect}
+use Rattle.hv_tie.specs.Tie.{IsTied}
 use Rattle.hv_properties.proofs.properties.set_partition_property.Goals as goal
+
+pub set_property-requires : goal.set_property-requires
+set_property-requires g c = c.requires.rows
 
 pub returns : goal.returns
 returns g c f flat = record {
   met = sym (c.in_default.ensures f flat);
   output = search rules;
-  rows = property_set c.args.tree.now f flat c.set_property.new.tree c.args.caller c.args.partition c.args.code c.args.value c.meant.result c.meant.ensures c.set_property.ensures;
+  rows = subst (λ target. IsTied c.set_property.new.tree (call_effect (SetPartitionProperty c.args.partition c.args.code c.args.value) f c.args.caller target)) c.meant.ensures (c.set_property.ensures f flat);
 }

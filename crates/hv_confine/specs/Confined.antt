@@ -1,0 +1,71 @@
+-- What an event may change.
+use Rattle.std.specs.Prelude.{◌≡◌, ℕ, false, if◌then◌else◌, Option}
+use Rattle.std.specs.Option.{option_map_or}
+use Rattle.hv_calls.specs.declared.call.Call.{Call}
+use Rattle.hv_calls.specs.declared.call.Call.TheVariants.{SetPartitionProperty, PostMessage, SignalEvent}
+use Rattle.hv_policy.specs.Aim.{Aim, aim_of}
+use Rattle.hv_policy.specs.Call.{called}
+use Rattle.hv_policy.specs.Effect.{narrows}
+use Rattle.hv_policy.specs.Flat.{Flat}
+use Rattle.hv_policy.specs.Mail.{Place}
+use Rattle.hv_policy.specs.Needs.{meant_id}
+use Rattle.hv_policy.specs.Property.{property_of}
+use Rattle.hv_policy.specs.Subtree.{is_in_subtree}
+use Rattle.hv_policy.specs.declared.event.Action.{Action}
+use Rattle.hv_policy.specs.declared.event.Action.TheVariants.{Hypercall}
+use Rattle.hv_policy.specs.declared.event.Event.{Event}
+use Rattle.hv_privs.specs.Privileges.{of}
+use Rattle.hv_privs.specs.declared.Privileges.{Privileges}
+use Rattle.hv_confine.specs.Same.{HasSame, HasSameBut, HasSameButMask, OnlyGains, is_relative}
+
+-- how far an event reaches: to the caller's relatives alone; to a place too, where it sends to; or to the
+-- masks of a partition's subtree too, which it restricts to a value
+pub data Reach : Type 0 where
+  Relatives : Reach
+  AndPlace : (at : Place) → Reach
+  AndMasks : (top : ℕ) (value : Privileges) → Reach
+
+-- the place at which the port aims to which a connection leads
+abbrev pub aimed_place : Aim → Place
+aimed_place aim = record { part = aim.conn.part; vp = aim.port.vp; sint = aim.port.sint }
+
+-- what is sent through a connection goes there
+abbrev pub reach_through : Option Aim → Reach
+reach_through aim = option_map_or (λ aim. AndPlace (aimed_place aim)) aim Relatives
+
+-- how far a call reaches: a post and a signal send through a connection of the caller, and a mask that is
+-- given to a partition which is Active narrows its subtree
+abbrev pub reach_of_call : Flat → ℕ → Call → Reach
+reach_of_call f caller (PostMessage connection message_type payload) =
+    reach_through (aim_of f (caller, connection))
+reach_of_call f caller (SignalEvent connection flag) = reach_through (aim_of f (caller, connection))
+reach_of_call f caller (SetPartitionProperty partition code value) =
+    if narrows (property_of code) f (meant_id caller partition)
+    then AndMasks (meant_id caller partition) (of value)
+    else Relatives
+reach_of_call f caller call = Relatives
+
+-- the same of an action; an access reaches no further
+abbrev pub reach_of : {A : Type 0} → Flat → ℕ → Action A → Reach
+reach_of f caller (Hypercall frame) = option_map_or (reach_of_call f caller) (called frame) Relatives
+reach_of f caller access = Relatives
+
+-- a partition that is no relative of the caller, before or after
+pub record IsNoRelative (caller id : ℕ) (f g : Flat) : Type 0 where
+  pub before : is_relative f caller id ≡ false
+  pub after : is_relative g caller id ≡ false
+
+-- Of a partition that is no relative of the caller nothing changes, but for what stands at a place, which
+-- only gains, or for its mask, where it is in the subtree.
+abbrev pub IsConfinedTo : Reach → ℕ → Flat → Flat → Type 0
+IsConfinedTo Relatives caller f g = (id : ℕ) → IsNoRelative caller id f g → HasSame id f g
+IsConfinedTo (AndPlace at) caller f g =
+    ((id : ℕ) → IsNoRelative caller id f g → HasSameBut at id f g) × OnlyGains at f g
+IsConfinedTo (AndMasks top value) caller f g =
+    ((id : ℕ) → IsNoRelative caller id f g → is_in_subtree f top id ≡ false → HasSame id f g)
+    × ((id : ℕ) → IsNoRelative caller id f g → HasSameButMask value id f g)
+
+-- an event that leads from `f` to `g` changes nothing of who is no relative of its caller, but as far as it
+-- reaches
+abbrev pub IsConfined : {A : Type 0} → Event A → Flat → Flat → Type 0
+IsConfined e f g = IsConfinedTo (reach_of f e.by.part e.what) e.by.part f g

@@ -1,0 +1,4 @@
+pub mod Agreed
+pub mod Confined
+pub mod Same
+pub mod Unrelated

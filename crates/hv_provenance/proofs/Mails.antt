@@ -1,0 +1,114 @@
+-- Messages, once a call was served.
+use Rattle.std.proofs.Common.{◌≡◌, ℕ, ◌==◌, ◌&&◌, not, Bool, true, false, List, [], ◌∷◌, ◌++◌, Option, Some, None, refl, sym, ap, subst, ◌∙◌, arith}
+use Rattle.std.proofs.lemmas.Bool.{and_from, eq-eqb, eqb-true, not-true}
+use Rattle.std.specs.FinMap.{get}
+use Rattle.std.specs.Option.{option_map_or}
+use Rattle.hv_calls.specs.declared.call.Call.{Call}
+use Rattle.hv_calls.specs.declared.call.Call.TheVariants.{FinalizePartition, DeleteVp, SetVpRegisters, PostMessage, SignalEvent}
+use Rattle.hv_defs.specs.declared.port_kind.PortKind.{PortKind}
+use Rattle.hv_defs.specs.declared.port_kind.PortKind.TheVariants as port_type
+use Rattle.hv_policy.specs.Aim.{Aim, aim_by, aim_of, aim_with, is_same_birth, on_aim}
+use Rattle.hv_policy.specs.Effect.{post_to}
+use Rattle.hv_policy.specs.Flat.{ConnRow, Flat, MailRow, PortRow}
+use Rattle.hv_policy.specs.Mail.{Place}
+use Rattle.hv_policy.specs.Met.{is_for_messages, is_kind}
+use Rattle.hv_policy.specs.Needs.{meant_id}
+use Rattle.hv_policy.specs.Rules.{IsAllowed}
+use Rattle.hv_provenance.specs.Deed.{Deed, DeletesVp, Finalizes, Posts}
+use Rattle.hv_provenance.specs.Justified.{WasPosted, WerePosted}
+use Rattle.hv_provenance.proofs.Deeds.{did_last, last, more, not_after}
+use Rattle.hv_provenance.proofs.Keeping.{register_keeps, signal_mail}
+use Rattle.hv_provenance.proofs.Ports.{AreConnected, AreMade, after_call, left_by, other}
+use Rattle.hv_provenance.proofs.Standing.{mail_left, mail_more, mail_shown, mail_still, way_of}
+
+-- a test of where a connection leads, which fails where it leads nowhere
+abbrev pub test_aim : (Aim → Bool) → Option Aim → Bool
+test_aim test aim = option_map_or test aim false
+
+-- a connection and the port of its birth, both there
+pub record Reaches (f : Flat) (key : ℕ × ℕ) : Type 0 where
+  pub conn : ConnRow
+  pub port : PortRow
+  pub conn_is : get f.conn key ≡ Some conn
+  pub port_is : get f.port (conn.part, conn.port) ≡ Some port
+  pub aim_is : aim_of f key ≡ Some (record { conn = conn; port = port })
+  pub same : port.born ≡ conn.born
+
+pub reached : (f : Flat) (key : ℕ × ℕ) → on_aim f key is_same_birth ≡ true → Reaches f key
+reached f key born = by_conn (get f.conn key) refl born
+  where
+    by_port : (conn : ConnRow) → get f.conn key ≡ Some conn → (port : Option PortRow) → get f.port (conn.part, conn.port) ≡ port → test_aim is_same_birth (aim_with conn port) ≡ true → Reaches f key
+    by_port conn is None there born = cc
+    by_port conn is (Some port) there born = record {
+      conn = conn;
+      port = port;
+      conn_is = is;
+      port_is = there;
+      aim_is = ap (aim_by f) is ∙ ap (aim_with conn) there;
+      same = eqb-true port.born conn.born born;
+    }
+
+    by_conn : (conn : Option ConnRow) → get f.conn key ≡ conn → test_aim is_same_birth (aim_by f conn) ≡ true → Reaches f key
+    by_conn None is born = cc
+    by_conn (Some conn) is born = by_port conn is (get f.port (conn.part, conn.port)) refl born
+
+-- a test of where it leads
+pub tested : (f : Flat) (key : ℕ × ℕ) (test : Aim → Bool) (r : Reaches f key) → on_aim f key test ≡ true → test (record { conn = r.conn; port = r.port }) ≡ true
+tested f key test r h = sym (ap (test_aim test) r.aim_is) ∙ h
+
+pub kind_is : (kind : PortKind) (asked : PortKind) → is_kind kind asked ≡ true → kind ≡ asked
+kind_is port_type.Message port_type.Message h = refl
+kind_is port_type.Message port_type.Event h = cc
+kind_is port_type.Event port_type.Message h = cc
+kind_is port_type.Event port_type.Event h = refl
+
+module _ (deeds : List Deed) (f : Flat) (made : AreMade deeds f.port) (connected : AreConnected deeds f.conn) (were : WerePosted deeds 0 f.mail) (caller : ℕ) where
+  post_mail : (connection type : ℕ) (payload : List ℕ) → on_aim f (caller, connection) is_same_birth ≡ true → on_aim f (caller, connection) is_for_messages ≡ true
+      → WerePosted (more deeds (Posts caller connection type payload)) 0 (post_to (aim_of f (caller, connection)) type payload f).mail
+  post_mail connection type payload born takes =
+      let key : ℕ × ℕ = (caller, connection) in
+      let e : Deed = Posts caller connection type payload in
+      let r = reached f key born in
+      let was = made (r.conn.part, r.conn.port) r.port r.port_is in
+      let new : MailRow = record {
+        part = r.conn.part;
+        vp = r.port.vp;
+        sint = r.port.sint;
+        port = r.conn.port;
+        born = r.conn.born;
+        type = type;
+        payload = payload;
+        shown = false;
+      } in
+      let place : Place = record { part = r.conn.part; vp = r.port.vp; sint = r.port.sint } in
+      let posted : WasPosted (more deeds e) new (last deeds e) = record {
+        base = was.base;
+        sender = caller;
+        connection = connection;
+        way = way_of deeds e key r.conn r.port was (connected key r.conn r.conn_is) r.conn.born r.same refl port_type.Message (kind_is r.port.kind port_type.Message (tested f key is_for_messages r takes));
+        posted = did_last deeds e (last deeds e) refl;
+        kept = not_after deeds e (last deeds e) (DeletesVp r.conn.part r.port.vp) refl;
+        alive = not_after deeds e (last deeds e) (Finalizes r.conn.part) refl;
+      } in
+      subst (λ aim. WerePosted (more deeds e) 0 (post_to aim type payload f).mail) (sym r.aim_is)
+      (mail_shown (more deeds e) place (f.mail ++ new ∷ []) 0 (mail_more deeds e (λ row h. cc) (λ row h. cc) new posted f.mail 0 (omega arith) were))
+
+  pub mail_call : (call : Call) → IsAllowed f caller call → WerePosted (after_call deeds caller call) 0 (left_by f caller call).mail
+  mail_call (PostMessage connection message_type payload) a = post_mail connection message_type payload a.further.1.0 a.further.1.1.1.0
+  mail_call (SignalEvent connection flag) a =
+      subst (WerePosted _ 0) (sym (signal_mail (aim_of f (caller, connection)) flag f)) (mail_still deeds _ (λ row h. cc) (λ row h. cc) f.mail 0 were)
+  mail_call (SetVpRegisters partition vp name value) a =
+      (register_keeps (meant_id caller partition) vp name value f).mail _ 0 (mail_still deeds _ (λ row h. cc) (λ row h. cc) f.mail 0 were)
+  mail_call (FinalizePartition partition) a =
+      let id : ℕ = meant_id caller partition in
+      mail_left deeds _ (λ row. not (row.part == id)) (λ row is h. cc) (λ row is h. (let same : row.part ≡ id = cc in other row.part id is same)) f.mail 0 0 (omega arith) were
+  mail_call (DeleteVp partition vp) a =
+      let id : ℕ = meant_id caller partition in
+      mail_left deeds _ (λ row. not (row.part == id && row.vp == vp)) (λ row is h. (
+      let first : row.part ≡ id = cc in
+      let second : row.vp ≡ vp = cc in
+      let yes = and_from _ _ (eq-eqb row.part id first) (eq-eqb row.vp vp second) in
+      let never = not-true (row.part == id && row.vp == vp) is in
+      cc
+      )) (λ row is h. cc) f.mail 0 0 (omega arith) were
+  mail_call call a = mail_still deeds _ (λ row h. cc) (λ row h. cc) f.mail 0 were

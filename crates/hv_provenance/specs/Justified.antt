@@ -1,0 +1,98 @@
+-- Where ports, connections, messages and event flags come from.
+use Rattle.std.specs.Prelude.{◌≡◌, ℕ, ◌+◌, ◌<◌, Bool, List, [], ◌∷◌}
+use Rattle.std.specs.FinSet as set
+use Rattle.hv_defs.specs.declared.port_kind.PortKind.{PortKind}
+use Rattle.hv_defs.specs.declared.port_kind.PortKind.TheVariants as port_type
+use Rattle.hv_policy.specs.Aim.{on_vp}
+use Rattle.hv_policy.specs.Effect.{flags_of}
+use Rattle.hv_policy.specs.Flat.{ConnRow, Flat, MailRow, PortRow, VpRow}
+use Rattle.hv_provenance.specs.Deed.{Deed, DidAt, MakesPort, DeletesPort, Connects, Disconnects, Posts, Signals, DeletesVp, Finalizes, ClearsFlag, served_to}
+
+-- no entry after that of number `from` and before that of number `to` did this
+abbrev pub HasNot : List Deed → ℕ → ℕ → Deed → Type 0
+HasNot deeds from to deed = (n : ℕ) → from < n → n < to → DidAt deeds n deed → ⊥
+
+-- and none after that of number `from`
+abbrev pub HasNotSince : List Deed → ℕ → Deed → Type 0
+HasNotSince deeds from deed = (n : ℕ) → from < n → DidAt deeds n deed → ⊥
+
+-- a port, by (partition, id), was made by an entry: with it the served events were as many as the port's
+-- birth. Nothing has ended the port since
+pub record WasMade (deeds : List Deed) (key : ℕ × ℕ) (port : PortRow) : Type 0 where
+  pub at : ℕ
+  pub base : ℕ
+  pub first : port.base ≡ flags_of port.kind base
+  pub made : DidAt deeds at (MakesPort key.0 key.1 port.kind port.sint port.vp base)
+  pub birth : served_to deeds at ≡ port.born
+  pub kept : HasNotSince deeds at (DeletesPort key.0 key.1)
+  pub alive : HasNotSince deeds at (Finalizes key.0)
+
+-- a connection, by (partition, id), was made by an entry after the birth that it keeps, and nothing has ended
+-- it since
+pub record WasConnected (deeds : List Deed) (key : ℕ × ℕ) (conn : ConnRow) : Type 0 where
+  pub at : ℕ
+  pub connected : DidAt deeds at (Connects key.0 key.1 conn.part conn.port)
+  pub after : conn.born < served_to deeds at
+  pub kept : HasNotSince deeds at (Disconnects key.0 key.1)
+  pub alive : HasNotSince deeds at (Finalizes key.0)
+
+-- a port of a partition, which an entry made that gave it its birth, and a connection of the sender to it,
+-- which was made later, both stood until the entry of number k: nothing ended either in between
+pub record HasWay (deeds : List Deed) (k id port born : ℕ) (kind : PortKind)
+    (sint vp base sender connection : ℕ) : Type 0 where
+  pub from : ℕ
+  pub made : DidAt deeds from (MakesPort id port kind sint vp base)
+  pub birth : served_to deeds from ≡ born
+  pub at : ℕ
+  pub connected : DidAt deeds at (Connects sender connection id port)
+  pub after : from < at
+  pub before : at < k
+  pub port_kept : HasNot deeds from k (DeletesPort id port)
+  pub port_alive : HasNot deeds from k (Finalizes id)
+  pub conn_kept : HasNot deeds at k (Disconnects sender connection)
+  pub conn_alive : HasNot deeds at k (Finalizes sender)
+
+-- a message was posted by the entry of number k, through a connection of the sender to the message port of
+-- its birth, which aims where the message stands; and since then neither its processor nor its partition has
+-- ended
+pub record WasPosted (deeds : List Deed) (row : MailRow) (k : ℕ) : Type 0 where
+  pub base : ℕ
+  pub sender : ℕ
+  pub connection : ℕ
+  pub way : HasWay deeds k row.part row.port row.born port_type.Message row.sint row.vp base sender connection
+  pub posted : DidAt deeds k (Posts sender connection row.type row.payload)
+  pub kept : HasNotSince deeds k (DeletesVp row.part row.vp)
+  pub alive : HasNotSince deeds k (Finalizes row.part)
+
+-- each message was posted, each later than the one before it, and the first later than a number: so no post
+-- stands twice, and none overtakes
+abbrev pub WerePosted : List Deed → ℕ → List MailRow → Type 0
+WerePosted deeds before [] = Unit {0}
+WerePosted deeds before (row ∷ mail) =
+    (k : ℕ) × (before < k) × WasPosted deeds row k × WerePosted deeds k mail
+
+-- a flag of a SINT of a processor was set by the entry of number k, through a connection of the sender to an
+-- event port that aims there; and since then neither the processor nor the partition has ended, and the
+-- processor hasn't cleared the flag
+pub record WasSignalled (deeds : List Deed) (id vp sint flag : ℕ) : Type 0 where
+  pub k : ℕ
+  pub port : ℕ
+  pub born : ℕ
+  pub base : ℕ
+  pub sender : ℕ
+  pub connection : ℕ
+  pub number : ℕ
+  pub way : HasWay deeds k id port born port_type.Event sint vp base sender connection
+  pub signalled : DidAt deeds k (Signals sender connection number)
+  pub is : flag ≡ base + number
+  pub kept : HasNotSince deeds k (DeletesVp id vp)
+  pub alive : HasNotSince deeds k (Finalizes id)
+  pub set : HasNotSince deeds k (ClearsFlag id vp sint flag)
+
+-- whether a flag of a SINT is set, of the processor with this row
+abbrev pub has_flag : ℕ → ℕ → VpRow → Bool
+has_flag sint flag row = set.contains row.flags (sint, flag)
+
+-- and of a processor
+abbrev pub is_flag_set : Flat → ℕ → ℕ → ℕ → ℕ → Bool
+is_flag_set f id vp sint flag = on_vp f (id, vp) (has_flag sint flag)

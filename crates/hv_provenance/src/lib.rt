@@ -1,0 +1,51 @@
+//! Where ports, connections, messages and event flags come from: what a history has of each that is there.
+//!
+//! The crate has no code. `WasMade`, `WasConnected`, `WasPosted` and `WasSignalled` in `specs/` say which
+//! entries of a history account for a row, and each function's contract here is a theorem about the runs of
+//! the model, from any configuration. A history is a list of events with their replies, refused ones too, and
+//! entries are numbered from 1, as the audit's lines are.
+#![tactic(auto)]
+
+ghost use Rattle.std.specs.Prelude.{◌≡◌, ℕ, List, Some, true, length};
+ghost use Rattle.std.specs.FinMap.{get};
+ghost use Rattle.hv_policy.specs.Flat.{ConnRow, PortRow};
+ghost use Rattle.hv_policy.specs.Mail.{Place, mail_at};
+ghost use Rattle.hv_policy.specs.Step.{run};
+ghost use Rattle.hv_policy.specs.declared.config.Config.{Config};
+ghost use Rattle.hv_policy.specs.declared.event.Event.{Event};
+ghost use Rattle.hv_provenance.specs.Deed.{deeds_of, served_to};
+ghost use Rattle.hv_provenance.specs.Justified.{WasConnected, WasMade, WasSignalled, WerePosted, is_flag_set};
+
+/// In every state of a run each port that is there was made by the entry with which the served events were as
+/// many as its birth says, and each connection by an entry after the birth that it keeps; nothing has ended
+/// either since.
+pub fn every_port_and_connection_has_its_making<A>()
+    ensures entries { (config : Config) (events : List (Event A))
+        → length (deeds_of events (run config events).1) ≡ length events }
+    ensures served { (config : Config) (events : List (Event A))
+        → (run config events).0.served ≡ served_to (deeds_of events (run config events).1) (length events) }
+    ensures ports { (config : Config) (events : List (Event A)) (key : ℕ × ℕ) (port : PortRow)
+        → get (run config events).0.port key ≡ Some port
+        → WasMade (deeds_of events (run config events).1) key port }
+    ensures conns { (config : Config) (events : List (Event A)) (key : ℕ × ℕ) (conn : ConnRow)
+        → get (run config events).0.conn key ≡ Some conn
+        → WasConnected (deeds_of events (run config events).1) key conn }
+{}
+
+/// In every state of a run each message was posted, through a connection to the port of its birth while both
+/// stood, and its processor has stood since. The messages of a place stand in the order in which they were
+/// posted, each of a post of its own; and so do all messages.
+pub fn every_message_was_posted<A>()
+    ensures all { (config : Config) (events : List (Event A))
+        → WerePosted (deeds_of events (run config events).1) 0 (run config events).0.mail }
+    ensures places { (config : Config) (events : List (Event A)) (place : Place)
+        → WerePosted (deeds_of events (run config events).1) 0 (mail_at place (run config events).0.mail) }
+{}
+
+/// In every state of a run each event flag that is set was signalled, through a connection to an event port
+/// while both stood, and since then its processor has stood and hasn't cleared it.
+pub fn every_flag_was_signalled<A>()
+    ensures flags { (config : Config) (events : List (Event A)) (id vp sint flag : ℕ)
+        → is_flag_set (run config events).0 id vp sint flag ≡ true
+        → WasSignalled (deeds_of events (run config events).1) id vp sint flag }
+{}
