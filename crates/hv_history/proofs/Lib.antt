@@ -1,4 +1,5 @@
 pub mod Elements
+pub mod Justified
 pub mod Outputs
 pub mod Rooms
 pub mod Rows

@@ -21,6 +21,7 @@ use Rattle.hv_defs.specs.declared.sizes.TheConstants.{REPS_END}
 use Rattle.hv_machine.specs.IsFlat.{IsFlat}
 use Rattle.hv_machine.specs.Sound.{IsSound}
 use Rattle.hv_machine.specs.State.{State}
+use Rattle.hv_history.proofs.Justified.{justified}
 use Rattle.hv_history.specs.Row.{events_of, next_in, replies_of}
 use Rattle.hv_history.specs.Kept.{HasStepped, HasTaken, Kept, IsRun}
 use Rattle.hv_history.specs.declared.entry.Entry.{Entry}
@@ -52,13 +53,17 @@ longer {A} k event reply m is room told made pages sound =
     let events : events_of (k.history ++ entry ∷ []) ≡ events_of k.history ++ event ∷ [] = map-append (λ entry. entry.event) k.history (entry ∷ []) in
     let replies : replies_of (k.history ++ entry ∷ []) ≡ replies_of k.history ++ reply ∷ [] = map-append (λ entry. entry.reply) k.history (entry ∷ []) in
     let pushed = run-push (boot k.config) (events_of k.history) event in
+    let flat : IsFlat m (run k.config (events_of (k.history ++ entry ∷ []))).0 = rw (events, pushed.0) (made _ is.machine) in
+    let same : replies_of (k.history ++ entry ∷ []) ≡ (run k.config (events_of (k.history ++ entry ∷ []))).1 =
+    rw (replies, events, pushed.1, is.replies) (ap (λ r. (run k.config (events_of k.history)).1 ++ r ∷ []) (told _ is.machine)) in
     record {
-      machine = rw (events, pushed.0) (made _ is.machine);
-      replies = rw (replies, events, pushed.1, is.replies) (ap (λ r. (run k.config (events_of k.history)).1 ++ r ∷ []) (told _ is.machine));
+      machine = flat;
+      replies = same;
       within = omega (arith, length-append k.history (entry ∷ []));
       boots = is.boots;
       pages = pages ∙ is.pages;
       sound = sound;
+      justified = justified k.config (k.history ++ entry ∷ []) m flat same;
     }
 
 pub room : {A : Type 0} {k old : Kept A} → k ≡ old → IsRun k → (length old.history ≡ old.limit → IsTrue false) → length k.history < k.limit
@@ -70,7 +75,15 @@ room {A} {k} {old} same is not_full =
 -- nothing happened yet
 pub started : {A : Type 0} (config : Config) (limit : ℕ) (m : State) → IsFlat m (boot config) → boot_fault config ≡ None → m.pages ≡ config.pages → IsSound m
     → IsRun {A = A} (record { config = config; limit = limit; history = []; machine = m })
-started config limit m flat boots pages sound = record { machine = flat; replies = refl; within = omega arith; boots = boots; pages = pages; sound = sound }
+started {A = A} config limit m flat boots pages sound = record {
+  machine = flat;
+  replies = refl;
+  within = omega arith;
+  boots = boots;
+  pages = pages;
+  sound = sound;
+  justified = justified {A = A} config [] m flat refl;
+}
 
 -- a call goes on with an element that has an index
 pub has_index : {A : Type 0} (what : Action A) (reply : Reply) → GoesOn what reply → next_in reply < REPS_END

@@ -1,4 +1,5 @@
 pub mod History
+pub mod Justified
 pub mod Kept
 pub mod Output
 pub mod Row

@@ -4,12 +4,14 @@ ghost use Rattle.std.specs.Prelude.{OnOk, OnErr};
 ghost use Rattle.std.specs.Prelude.{IsErrOf};
 ghost use Rattle.hv_abi.specs.declared.frame.Frame.{Frame};
 ghost use Rattle.hv_defs.specs.declared.sizes.TheConstants.{MAX_SERVED};
+ghost use Rattle.hv_machine.specs.Masks.{AreMasksWithin};
 ghost use Rattle.hv_policy.specs.BootFault.{boot_fault, IsBootRefusal};
 ghost use Rattle.hv_policy.specs.Next.{GoesOn};
 ghost use Rattle.hv_policy.specs.Result.{HasResult};
 ghost use Rattle.hv_policy.specs.Step.{NamesAsked};
 ghost use Rattle.hv_policy.specs.declared.event.Action.TheVariants.{Hypercall};
 ghost use Rattle.hv_history.specs.History.{HasRoomFor, entries, room_of};
+ghost use Rattle.hv_history.specs.Justified.{IsJustified, deeds_in};
 ghost use Rattle.hv_history.specs.Kept.{HasGained, HasStepped, HasTaken, IsRun, Stands};
 ghost use Rattle.hv_history.specs.Row.{most_output};
 ghost use Rattle.hv_history.specs.declared.entry.Entry.{Entry};
@@ -210,10 +212,13 @@ impl<A: Allocator> Kept<A> {
     }
 
     /// The machine that the history made. Each page has one owner, what is in use is within its pool, and
-    /// each mask within the parent's.
+    /// each mask within the parent's. Each message that stands in it was posted by an entry of the history,
+    /// each event flag that is set was signalled by one, and each port and connection was made by one.
     pub fn machine(&self) -> &Machine<A>
         ensures machine { result.now ≡ self.now.machine }
         ensures run { IsRun self.now }
+        ensures masks { AreMasksWithin self.now.machine.rows }
+        ensures justified { IsJustified (deeds_in self.now.history) self.now.machine.rows }
     {
         &self.machine
     }

@@ -2,6 +2,7 @@
 ghost use Rattle.std.specs.Prelude.{◌≡◌, ◌<◌, None, IsTrue, IfOk, IfErr, OnOk, OnErr};
 ghost use Rattle.hv_defs.specs.declared.sizes.TheConstants.{MAX_SERVED};
 ghost use Rattle.hv_abi.specs.declared.frame.Frame.{Frame as CallFrame};
+ghost use Rattle.hv_confine.specs.Confined.{IsConfined};
 ghost use Rattle.hv_laws.specs.Bounded.{IsBounded};
 ghost use Rattle.hv_policy.specs.Call.{call_event, may_take_memory};
 ghost use Rattle.hv_policy.specs.Flat.{Flat};
@@ -82,6 +83,10 @@ impl<A: Allocator + Clone> Machine<A> {
         ensures cause { IfErr result (λ why. why ≡ HostRefused.Memory) }
         ensures kept { OnErr result (self.new ≡ self.old) }
 
+        // Nothing changes of a partition that is neither the caller nor a child of it, before or after,
+        // but for what a post or a signal adds where its connection's port aims.
+        ensures confined { (f g : Flat) → IsFlat self.old f → IsFlat self.new g → IsConfined event.now f g }
+
         // A refusal names a rule that is asked, and a reply to a hypercall has a result value.
         ensures asked { IfOk result (NamesAsked event.now) }
         ensures result { (frame : CallFrame A) → event.now.what ≡ Hypercall frame → IfOk result HasResult }
@@ -115,6 +120,8 @@ impl<A: Allocator + Clone> Machine<A> {
         ensures memory { OnErr result (IsTrue (may_take_memory (call_event by frame.now))) }
         ensures cause { IfErr result (λ why. why ≡ HostRefused.Memory) }
         ensures kept { OnErr result (self.new ≡ self.old) }
+        ensures confined { (f g : Flat) → IsFlat self.old f → IsFlat self.new g
+            → IsConfined (call_event by frame.now) f g }
         ensures asked { IfOk result (NamesAsked (call_event by frame.now)) }
         ensures result { IfOk result HasResult }
         ensures lasting { IsLasting self.new }
@@ -186,9 +193,10 @@ impl<A: Allocator + Clone> Machine<A> {
 }
 
 impl<A: Allocator> Machine<A> {
-    /// How many events were served.
+    /// How many events were served. Every machine stands for a lawful flat state.
     pub fn served(&self) -> u64
-        ensures { result ≡ self.now.served }
+        ensures count { result ≡ self.now.served }
+        ensures lasting { IsLasting self.now }
     {
         self.served
     }

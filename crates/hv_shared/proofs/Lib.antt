@@ -1,3 +1,7 @@
+pub mod Heaps
+pub mod Moved
+pub mod Dues
+pub mod Looking
 pub mod Merging
 pub mod Merged
 pub mod Packed

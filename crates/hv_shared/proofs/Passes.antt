@@ -18,12 +18,6 @@ next_there n [] i h = cc
 next_there n (x ∷ xs) zero h = omega arith
 next_there n (x ∷ xs) (suc i) h = let r = next_there n xs i h in omega arith
 
-pub next_at : (n : ℕ) (ps : List PassValue) (i : ℕ) (p : PassValue) (b : Bool) → i < length ps → p ≡ get_or ps i p → b ≡ next_is n (rest_of p) → next_is n (get_or (rests_of ps) i []) ≡ b
-next_at n ps i p b h e is = ap (next_is n) (rest_at ps i p h e) ∙ sym is
-
-pub not_next : (n : ℕ) (ps : List PassValue) (i : ℕ) (p : PassValue) (b : Bool) → i < length ps → p ≡ get_or ps i p → b ≡ next_is n (rest_of p) → b ≡ false → IsNext n (rests_of ps) i → ⊥
-not_next n ps i p b h e is isnt next = let s = next_at n ps i p b h e is in cc
-
 -- one pass more stands at its beginning
 pub begun : (ps : List PassValue) (i : ℕ) (q : PassValue) → i < length ps → q.settled ≡ 0 → rests_of (take i ps) ≡ receipts_of (take i ps)
     → rests_of (take (i + 1) (set ps i q)) ≡ receipts_of (take (i + 1) (set ps i q))
@@ -32,7 +26,7 @@ begun ps i q h zero_settled so_far =
     (ap (λ (r : List Receipt). receipts_of (take i ps) ++ r ∷ []) (ap (λ (n : ℕ). drop n q.receipts) zero_settled))
 
 -- the rests after one of the passes lost its first receipt
-pub rests_after : (ps : List PassValue) (i : ℕ) (p q : PassValue) → i < length ps → p ≡ get_or ps i p → q ≡ record (get_or ps i p) { settled = (get_or ps i p).settled + 1 }
+pub rests_after : (ps : List PassValue) (i : ℕ) (p q : PassValue) → i < length ps → p ≡ get_or ps i p → q ≡ record (get_or ps i p) { settled = (get_or ps i p).settled + 1; due = q.due }
     → rests_of (set ps i q) ≡ without (rests_of ps) i
 rests_after ps i p q h at is =
     map-set rest_of ps i q ∙ ap (set (rests_of ps) i) (ap rest_of is ∙ sym (drop-drop 1 (get_or ps i p).settled (get_or ps i p).receipts) ∙ ap (drop 1) (ap rest_of (sym at) ∙ sym (rest_at ps i p h at)))

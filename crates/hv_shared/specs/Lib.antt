@@ -1,6 +1,7 @@
 pub mod ByCaller
 pub mod Counted
 pub mod Drive
+pub mod Due
 pub mod Held
 pub mod HeldValue
 pub mod Hold

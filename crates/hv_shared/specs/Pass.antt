@@ -28,6 +28,7 @@ pub record IsAsBefore (old new : PassValue) : Type 0 where
   pub share : new.share ≡ old.share
   pub caller : new.caller ≡ old.caller
   pub settled : new.settled ≡ old.settled
+  pub due : new.due ≡ old.due
 
 -- one receipt more, of what the pass's caller did
 abbrev pub HasCalled : Action Global → Reply → PassValue → PassValue → Type 0

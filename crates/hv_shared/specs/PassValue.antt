@@ -4,13 +4,14 @@ use Rattle.hv_policy.specs.declared.event.Caller.{Caller}
 use Rattle.hv_shared.specs.Room.{Room}
 use Rattle.hv_shared.specs.declared.receipts.Receipt.{Receipt}
 
--- a caller, the receipts of its events, its share of the count, how many receipts the settlement has come past, and how many
--- more there is room for
+-- a caller, the receipts of its events, its share of the count, how many receipts the settlement has come past, at which number
+-- it finds the next one, and how many more there is room for
 pub record PassValue : Type 0 where
   pub caller : Caller
   pub receipts : List Receipt
   pub share : ℕ
   pub settled : ℕ
+  pub due : ℕ
   pub room : Room
 
 -- a pass has one part of the count, in which its receipts are counted, and each of them is of an event by its caller

@@ -1,8 +1,7 @@
 // What the lock holds, what each thread holds, and the one step that changes both. The fields of `Held`
 // and `Pass` are private to this file.
 ghost use Rattle.std.specs.Prelude.{◌≡◌, ◌<◌, ◌≤◌, ◌+◌, ◌++◌, [], ◌∷◌, ℕ, List, IsTrue, ◌↔◌, IfOk, OnOk};
-ghost use Rattle.std.specs.Prelude.{OnErr, IsErrOf, IfErr, IfSome, IfNone, Some, length, slice_get, vec_len};
-ghost use Rattle.std.specs.Prelude.{sum};
+ghost use Rattle.std.specs.Prelude.{OnErr, IsErrOf, IfErr, Some, length, slice_get, vec_len};
 ghost use Rattle.hv_abi.specs.declared.frame.Frame.{Frame};
 ghost use Rattle.hv_policy.specs.Next.{GoesOn};
 ghost use Rattle.hv_policy.specs.Result.{HasResult};
@@ -11,24 +10,24 @@ ghost use Rattle.hv_policy.specs.declared.event.Action.TheVariants.{Hypercall};
 ghost use Rattle.hv_history.specs.History.{entries};
 ghost use Rattle.hv_history.specs.Kept.{HasGained, IsRun};
 ghost use Rattle.hv_history.specs.declared.entry.Entry.{Entry};
+ghost use Rattle.hv_shared.specs.Due.{IsDueAfter};
 ghost use Rattle.hv_shared.specs.Held.{IsHeld};
-ghost use Rattle.hv_shared.specs.Merge.{next_is, rest_of, IsOf, IsNext, IsOnlyNext, FailsAt, AreDone};
-ghost use Rattle.hv_shared.specs.Merge.{MergesFrom, FailsFrom, rests_of, receipts_of, shares_of};
+ghost use Rattle.hv_shared.specs.Merge.{rest_of, IsOf};
 ghost use Rattle.hv_shared.specs.Pass.{HasReceipt, IsAsBefore};
 ghost use Rattle.hv_shared.specs.Receipts.{list_of};
 ghost use Rattle.hv_shared.specs.Room.{HasRoom};
-ghost use Rattle.hv_shared.specs.Settle.{IsFault, IsMadeOf, kept_of};
 ghost use Rattle.hv_shared.specs.Shared.{AreOpened};
 ghost use Rattle.hv_shared.specs.declared.receipts.Receipt.{Receipt};
 
-use crate::fault::{SettleFault, SettleRefused};
 use crate::receipts::Receipts;
-use crate::shared::Shared;
 use hv_history::{Answer, History, HostRefused, Kept};
-use hv_policy::{Caller, Config, Event, Reply};
+use hv_policy::{Caller, Event, Reply};
 use std::alloc::{AllocError, Global};
 use std::marker::Model;
 use std::sync::ledger::{Blank, Book, Ledger, Share};
+
+// No number of an event.
+pub(crate) const NEVER: u64 = u64::MAX;
 
 /// What one thread holds: its caller, the receipts of its events, and its share of the count of all events.
 #[derive(Drop)]
@@ -38,6 +37,8 @@ pub struct Pass<L: Ledger> {
     share: Share<L>,
     // How many receipts the settlement has come past.
     settled: usize,
+    // The number at which it finds the next one, or `NEVER`.
+    due: u64,
 }
 
 impl<L: Ledger> Model for Pass<L> {
@@ -51,6 +52,7 @@ impl<L: Ledger> Model for Pass<L> {
       receipts = list_of p.receipts;
       share = p.share.amount;
       settled = p.settled;
+      due = p.due;
       room = room_in p.receipts;
     } };
 
@@ -125,22 +127,20 @@ impl<L: Ledger> Pass<L> {
             receipts: Receipts::new(alloc),
             share,
             settled: 0,
+            due: NEVER,
         }
     }
 
-    // Whether the next receipt that the settlement has to find has this number.
-    fn is_next(&self, number: u64) -> bool
-        ensures { result ≡ next_is number (rest_of self.now) }
+    // The number at which the settlement finds the next receipt, or `NEVER`.
+    #[inline(always)]
+    pub(crate) fn due(&self) -> u64
+        ensures { result ≡ self.now.due }
     {
-        if self.settled < self.receipts.len() {
-            self.receipts.number(self.settled) == number
-        } else {
-            false
-        }
+        self.due
     }
 
     // Whether the next receipt has the event and the reply at this place of a history.
-    fn agrees(&self, history: &History<Global>, at: usize) -> bool
+    pub(crate) fn agrees(&self, history: &History<Global>, at: usize) -> bool
         requires { at < length (entries history.now) }
         ensures { (entry : Entry Global) → slice_get (entries history.now) at ≡ Some entry
             → (IsTrue result ↔ IsOf entry (rest_of self.now)) }
@@ -153,25 +153,46 @@ impl<L: Ledger> Pass<L> {
     }
 
     // Whether the settlement has come past all receipts.
-    fn is_settled(&self) -> bool
+    pub(crate) fn is_settled(&self) -> bool
         ensures { IsTrue result ↔ (rest_of self.now ≡ []) }
     {
         self.receipts.len() <= self.settled
     }
 
-    fn advance(&mut self)
-        requires { self.old.settled < length self.old.receipts }
-        ensures { self.new ≡ record self.old { settled = self.old.settled + 1 } }
+    // Comes past the next receipt, which is that of the event with this number.
+    pub(crate) fn advance(&mut self, number: u64)
+        requires there { self.old.settled < length self.old.receipts }
+        requires never { number < NEVER }
+        ensures past { self.new ≡ record self.old { settled = self.old.settled + 1; due = self.new.due } }
+        ensures due { IsDueAfter number self.new }
     {
         // The proof reads here that how many receipts there are fits a usize.
         let _count = self.receipts.len();
         self.settled += 1;
+        self.due = self.next_after(number);
     }
 
-    fn begin(&mut self)
-        ensures { self.new ≡ record self.old { settled = 0 } }
+    // Comes back to the first receipt.
+    pub(crate) fn begin(&mut self)
+        ensures back { self.new ≡ record self.old { settled = 0; due = self.new.due } }
+        ensures due { IsDueAfter 0 self.new }
     {
         self.settled = 0;
+        self.due = self.next_after(0);
+    }
+
+    // The number of the next receipt, if it comes after this one: the settlement doesn't come to an
+    // earlier one again.
+    fn next_after(&self, number: u64) -> u64
+        requires { number < NEVER }
+        ensures { IsDueAfter number (record self.now { due = result }) }
+    {
+        if self.settled < self.receipts.len() {
+            let next = self.receipts.number(self.settled);
+            if number < next { next } else { NEVER }
+        } else {
+            NEVER
+        }
     }
 
     // The reply of the last receipt.
@@ -185,7 +206,7 @@ impl<L: Ledger> Pass<L> {
         Reply::of(last.entry.answer, output.as_slice())
     }
 
-    fn into_share(self) -> Share<L>
+    pub(crate) fn into_share(self) -> Share<L>
         ensures { (result.parts ≡ 1) × (result.amount ≡ self.share) }
     {
         self.share
@@ -193,8 +214,12 @@ impl<L: Ledger> Pass<L> {
 }
 
 impl<L: Ledger> Held<L> {
-    /// Lets an event happen and keeps its receipt, without a lock.
-    pub fn hold(&mut self, pass: &mut Pass<L>, event: &Event<Global>) -> Result<Reply, HostRefused>
+    // Lets an event happen and keeps its receipt, without a lock.
+    pub(crate) fn hold(
+        &mut self,
+        pass: &mut Pass<L>,
+        event: &Event<Global>,
+    ) -> Result<Reply, HostRefused>
         requires by { event.now.by ≡ pass.old.caller }
         requires room { HasRoom 1 pass.old.room event.now }
 
@@ -254,7 +279,7 @@ impl<L: Ledger> Held<L> {
         }
     }
 
-    fn into_parts(self) -> (Kept<Global>, Book<L>)
+    pub(crate) fn into_parts(self) -> (Kept<Global>, Book<L>)
         ensures kept { result.0 ≡ self.kept }
         ensures count { result.1.total ≡ length self.kept.history }
     {
@@ -284,168 +309,4 @@ pub(crate) fn open<L: Ledger>(
         passes.push_reserved(Pass::open(*callers.allocator(), callers[i], share));
     }
     Ok((Held { kept, count }, passes))
-}
-
-// The first pass from `from` on whose next receipt has this number.
-fn find_next<L: Ledger>(passes: &[Pass<L>], from: usize, number: u64) -> Option<usize>
-    ensures some { IfSome result (λ i. (from ≤ i) × (i < length passes.now)
-        × IsNext number (rests_of passes.now) i) }
-    ensures first { IfSome result (λ i. (j : ℕ) → from ≤ j → j < i → IsNext number (rests_of passes.now) j
-        → ⊥) }
-    ensures none { IfNone result ((j : ℕ) → from ≤ j → IsNext number (rests_of passes.now) j → ⊥) }
-{
-    for i in from..passes.len() {
-        if passes[i].is_next(number) {
-            return Some(i);
-        }
-    }
-    None
-}
-
-// Whether nothing is left to find.
-fn are_settled<L: Ledger>(passes: &[Pass<L>]) -> bool
-    ensures { IsTrue result ↔ AreDone (rests_of passes.now) }
-{
-    for pass in passes {
-        if !pass.is_settled() {
-            return false;
-        }
-    }
-    true
-}
-
-// Nothing is found yet.
-fn begin_all<L: Ledger>(passes: &mut [Pass<L>])
-    ensures rests { rests_of passes.new ≡ receipts_of passes.old }
-    ensures receipts { receipts_of passes.new ≡ receipts_of passes.old }
-    ensures shares { shares_of passes.new ≡ shares_of passes.old }
-{
-    for i in 0..passes.len() {
-        let pass = &mut passes[i];
-        pass.begin();
-    }
-}
-
-// The one pass that goes on with the event and the reply at this place of a history, under this number.
-fn find_owner<L: Ledger>(
-    passes: &[Pass<L>],
-    number: u64,
-    history: &History<Global>,
-    at: usize,
-) -> Result<usize, SettleFault>
-    requires { at < length (entries history.now) }
-    ensures ok { (entry : Entry Global) → slice_get (entries history.now) at ≡ Some entry
-        → IfOk result (λ i. IsOnlyNext number entry (rests_of passes.now) i) }
-    ensures there { IfOk result (λ i. i < length passes.now) }
-    ensures next { IfOk result (IsNext number (rests_of passes.now)) }
-    ensures err { (entry : Entry Global) → slice_get (entries history.now) at ≡ Some entry
-        → IfErr result (λ f. FailsAt number entry (rests_of passes.now) f) }
-{
-    let Some(i) = find_next(passes, 0, number) else {
-        return Err(SettleFault::Missing);
-    };
-    if find_next(passes, i + 1, number).is_some() {
-        return Err(SettleFault::Differs);
-    }
-    let pass = &passes[i];
-    if pass.agrees(history, at) {
-        Ok(i)
-    } else {
-        Err(SettleFault::Differs)
-    }
-}
-
-// What fails first, if anything does, when the receipts are gone through with the history.
-fn first_fault<L: Ledger>(history: &History<Global>, passes: &mut [Pass<L>]) -> Option<SettleFault>
-    ensures none { IfNone result (MergesFrom 1 (entries history.now) (receipts_of passes.old)) }
-    ensures some { IfSome result (λ f. FailsFrom 1 (entries history.now) (receipts_of passes.old) f) }
-    ensures receipts { receipts_of passes.new ≡ receipts_of passes.old }
-    ensures shares { shares_of passes.new ≡ shares_of passes.old }
-{
-    begin_all(passes);
-    for k in 0..history.len() {
-        match find_owner(passes, k as u64 + 1, history, k) {
-            Ok(i) => {
-                let pass = &mut passes[i];
-                pass.advance();
-            }
-            Err(fault) => return Some(fault),
-        }
-    }
-    if are_settled(passes) {
-        None
-    } else {
-        Some(SettleFault::Differs)
-    }
-}
-
-// The shares of all passes in one.
-fn gather<L: Ledger>(passes: Vec<Pass<L>>) -> Option<Share<L>>
-    ensures some { IfSome result (λ s. (s.parts ≡ vec_len passes)
-        × (s.amount ≡ sum (shares_of passes.items))) }
-    ensures none { IfNone result (vec_len passes ≡ 0) }
-{
-    let mut passes = passes;
-    let mut all = passes.pop()?.into_share();
-    while let Some(pass) = passes.pop() {
-        all.merge(pass.into_share());
-    }
-    Some(all)
-}
-
-// Where every pass is there, the book's total is the sum of their shares.
-fn audit<L: Ledger>(book: Book<L>, passes: Vec<Pass<L>>)
-    requires { 0 < L.parts }
-    ensures { vec_len passes ≡ L.parts → book.total ≡ sum (shares_of passes.items) }
-{
-    let mut book = book;
-    if let Some(mut all) = gather(passes) {
-        book.audit(&mut all);
-    }
-}
-
-// What is wrong first with a history and the receipts of these passes, if anything is.
-#[tactic(auto, using(crate::proofs::Merged::made, crate::proofs::Merged::fault_not_made))]
-fn fault_of<L: Ledger>(
-    kept: &Kept<Global>,
-    config: Config,
-    limit: u32,
-    passes: &mut [Pass<L>],
-) -> Option<SettleFault>
-    ensures none { IfNone result (IsMadeOf config limit kept.now (receipts_of passes.old)) }
-    ensures only { IfSome result (λ _. IsMadeOf config limit kept.now (receipts_of passes.old) → ⊥) }
-    ensures some { IfSome result (λ f. IsFault config limit kept.now (receipts_of passes.old) f) }
-    ensures shares { shares_of passes.new ≡ shares_of passes.old }
-{
-    if kept.config() != config || kept.limit() != limit {
-        return Some(SettleFault::Differs);
-    }
-    first_fault(kept.history(), passes)
-}
-
-/// Whether the history is a merge of the passes' receipts, and was begun as `shared` says. The machine
-/// with its history is handed back either way. It takes no memory.
-pub fn settle<L: Ledger>(
-    shared: Shared<L>,
-    passes: Vec<Pass<L>>,
-) -> Result<Kept<Global>, SettleRefused>
-    ensures ok { IfOk result (λ k. IsMadeOf shared.config shared.limit k (receipts_of passes.items)) }
-    ensures only { IfErr result (λ e. IsMadeOf shared.config shared.limit e.kept (receipts_of passes.items)
-        → ⊥) }
-    ensures fault { IfErr result (λ e. IsFault shared.config shared.limit e.kept (receipts_of passes.items)
-        e.fault) }
-    ensures count { vec_len passes ≡ shared.passes → length (kept_of result).history
-        ≡ sum (shares_of passes.items) }
-    ensures run { IsRun (kept_of result) }
-{
-    let mut passes = passes;
-    let (held, _, config, limit) = shared.into_parts();
-    let (kept, book) = held.into_parts();
-    let _history = kept.history();
-    let fault = fault_of(&kept, config, limit, passes.as_mut_slice());
-    audit(book, passes);
-    match fault {
-        None => Ok(kept),
-        Some(fault) => Err(SettleRefused { fault, kept }),
-    }
 }

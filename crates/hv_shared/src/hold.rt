@@ -71,9 +71,14 @@ impl<L: Ledger> Held<L> {
         }
     }
 
-    /// Lets the elements of a call by the pass's caller happen as `Kept::apply_run` does, and keeps their
-    /// receipts, without a lock.
-    pub fn hold_run(&mut self, pass: &mut Pass<L>, frame: Frame<Global>, most: u32) -> RunDone
+    // Lets the elements of a call by the pass's caller happen as `Kept::apply_run` does, and keeps their
+    // receipts, without a lock.
+    pub(crate) fn hold_run(
+        &mut self,
+        pass: &mut Pass<L>,
+        frame: Frame<Global>,
+        most: u32,
+    ) -> RunDone
         requires some { 0 < most }
         requires room { HasRoom most pass.old.room (element pass.old.caller frame) }
         ensures held { IfOk result.last (λ reply. HasHeldRun frame reply result.events most self.old

@@ -15,13 +15,15 @@ mod held;
 mod hold;
 mod laws;
 mod receipts;
+mod settlement;
 mod shared;
 
 pub use action::perform;
 pub use drive::DriveRefused;
 pub use fault::{SettleFault, SettleRefused};
 pub use gate::{Gate, Open};
-pub use held::{Held, Pass, settle};
+pub use held::{Held, Pass};
 pub use laws::{a_merge_counts_each_number_once, each_caller_did_what_its_pass_has};
 pub use receipts::{Receipt, ReceiptRef, Receipts};
+pub use settlement::settle;
 pub use shared::Shared;

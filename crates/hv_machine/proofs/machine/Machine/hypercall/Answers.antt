@@ -6,8 +6,9 @@ use Rattle.hv_policy.specs.Needs.{takes_memory}
 use Rattle.hv_policy.specs.Result.{HasResult}
 use Rattle.hv_policy.specs.Step.{NamesAsked, refusal}
 use Rattle.hv_policy.specs.declared.event.Action.TheVariants.{Hypercall}
+use Rattle.hv_machine.proofs.Confined.{nothing_is_confined, step_is_confined}
 use Rattle.hv_machine.proofs.Sound.{sound}
-use Rattle.hv_machine.proofs.Steps.{refused_step}
+use Rattle.hv_machine.proofs.Steps.{refused_step, served_step}
 use Rattle.hv_policy.specs.Call.{call_event}
 use Rattle.hv_machine.specs.IsFlat.{IsFlat}
 use Rattle.hv_machine.specs.Served.{IsResult}
@@ -87,3 +88,22 @@ returns-in-Err-Unmet-clause-sound g c = sound c.serve.new.self c.serve.ensures.l
 
 pub returns-in-Err-Memory-clause-sound : goal.returns-in-Err-Memory-clause-sound
 returns-in-Err-Memory-clause-sound g c = sound c.serve.new.self c.serve.ensures.lasting
+
+pub returns-in-Err-clause-confined : goal.returns-in-Err-clause-confined
+returns-in-Err-clause-confined g c f h flat after =
+    nothing_is_confined c.args.self.now (call_event c.args.by c.args.frame.now) f h flat after
+
+pub returns-in-Ok-serve-clause-confined : goal.returns-in-Ok-serve-clause-confined
+returns-in-Ok-serve-clause-confined g c f h flat after =
+    let done = c.in-Ok-serve.ensures.outcome f flat in
+    let served = served_step f c.args.by c.args.frame.now c.in-Ok.admitted.1 c.in-Ok.ensures.call.called (c.in-Ok.ensures.further f flat ∙ done.met) in
+    step_is_confined c.serve.new.self (call_event c.args.by c.args.frame.now) f h (subst (IsFlat c.serve.new.self) (sym served) done.flat) after
+
+pub returns-in-Err-Unmet-clause-confined : goal.returns-in-Err-Unmet-clause-confined
+returns-in-Err-Unmet-clause-confined g c f h flat after =
+    step_is_confined c.serve.new.self (call_event c.args.by c.args.frame.now) f h (returns-in-Err-Unmet-clause-state g c f flat) after
+
+pub returns-in-Err-Memory-clause-confined : goal.returns-in-Err-Memory-clause-confined
+returns-in-Err-Memory-clause-confined g c f h flat after =
+    let out = subst (λ why. IsResult f c.args.by.part c.in-Ok.admitted.1 c.args.self.now (Err why) c.serve.new.self) c.in-Err-Memory.field-0-is (c.in-Err-Memory.ensures.outcome f flat) in
+    nothing_is_confined c.serve.new.self (call_event c.args.by c.args.frame.now) f h (subst (λ m. IsFlat m f) (sym out.2) flat) after

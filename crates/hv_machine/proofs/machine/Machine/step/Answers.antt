@@ -3,6 +3,8 @@ use Rattle.hv_policy.specs.Call.{call_event}
 use Rattle.hv_policy.specs.Step.{NamesAsked, step}
 use Rattle.hv_machine.proofs.Accessing.{access_event_is}
 use Rattle.hv_machine.proofs.Calls.{call_event_is}
+use Rattle.hv_confine.specs.Confined.{IsConfined}
+use Rattle.hv_machine.proofs.Confined.{step_is_confined}
 use Rattle.hv_machine.proofs.Sound.{sound}
 use Rattle.hv_machine.specs.IsFlat.{IsFlat}
 use Rattle.hv_machine.proofs.machine.Machine.step.Goals as goal
@@ -36,3 +38,11 @@ pub returns-in-Ok-hypercall-clause-asked : goal.returns-in-Ok-hypercall-clause-a
 returns-in-Ok-hypercall-clause-asked g c =
     subst (λ e. NamesAsked e c.to_reply.result) (call_event_is c.args.event.now c.in-Err.frame.now (sym c.in-Err.ensures.call))
     (subst (NamesAsked (call_event c.args.event.now.by c.in-Err.frame.now)) (sym c.to_reply.ensures) c.in-Ok-hypercall.ensures.asked)
+
+pub returns-in-Ok-clause-confined : goal.returns-in-Ok-clause-confined
+returns-in-Ok-clause-confined g c f h flat after =
+    step_is_confined c.access.new.self c.args.event.now f h (returns-in-Ok-clause-state g c f flat) after
+
+pub returns-in-Ok-hypercall-clause-confined : goal.returns-in-Ok-hypercall-clause-confined
+returns-in-Ok-hypercall-clause-confined g c f h flat after =
+    subst (λ e. IsConfined e f h) (call_event_is c.args.event.now c.in-Err.frame.now (sym c.in-Err.ensures.call)) (c.hypercall.ensures.confined f h flat after)

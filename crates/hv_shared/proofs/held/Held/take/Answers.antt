@@ -42,8 +42,8 @@ returns-in-Ok-clause-held g c =
     let new : Kept Global = c.take.new.self in
     let taken = c.in-Ok.ensures.taken in
     let told : Reply = reply_of entry.answer (shown entry.output) in
-    let before : PassValue = record { caller = c.pass.inside.caller; receipts = list_of c.pass.inside.receipts; share = c.pass.inside.share.amount; settled = c.pass.inside.settled; room = room_in c.pass.inside.receipts } in
-    let after : PassValue = record { caller = c.pass.inside.caller; receipts = list_of c.push.new.self; share = c.add.new.share.amount; settled = c.pass.inside.settled; room = room_in c.push.new.self } in
+    let before : PassValue = record { caller = c.pass.inside.caller; receipts = list_of c.pass.inside.receipts; share = c.pass.inside.share.amount; settled = c.pass.inside.settled; due = c.pass.inside.due; room = room_in c.pass.inside.receipts } in
+    let after : PassValue = record { caller = c.pass.inside.caller; receipts = list_of c.push.new.self; share = c.add.new.share.amount; settled = c.pass.inside.settled; due = c.pass.inside.due; room = room_in c.push.new.self } in
     let all = entries c.history-history.result.now in
     let at : c.len.result - 1 ≡ length all - 1 = ap (λ (n : ℕ). n - 1) c.len.ensures in
     let found : slice_get all (length all - 1) ≡ Some (entry_by entry) = subst (λ (n : ℕ). slice_get all n ≡ Some (entry_by entry)) at c.entry-entry.ensures.entry in

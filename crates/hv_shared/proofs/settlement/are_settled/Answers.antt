@@ -3,7 +3,7 @@ use Rattle.std.specs.Prelude.{slice_index_or}
 use borrow.Author.Count.{below_more}
 use Rattle.hv_shared.specs.Merge.{rests_of}
 use Rattle.hv_shared.proofs.Passes.{rest_at}
-use Rattle.hv_shared.proofs.held.are_settled.Goals as goal
+use Rattle.hv_shared.proofs.settlement.are_settled.Goals as goal
 
 pub returns-then-not-is_settled : goal.returns-then-not-is_settled
 returns-then-not-is_settled g c =

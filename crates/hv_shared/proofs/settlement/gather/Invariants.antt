@@ -1,7 +1,7 @@
 use Rattle.std.proofs.Common.{◌≡◌, ◌+◌, vec_len}
 use Rattle.std.specs.Prelude.{sum}
 use Rattle.hv_shared.specs.Merge.{shares_of}
-use Rattle.hv_shared.proofs.held.gather.Given as goal
+use Rattle.hv_shared.proofs.settlement.gather.Given as goal
 
 abbrev pub invariant-loop-pass : goal.invariant-loop-pass
 invariant-loop-pass g l = record {
