@@ -102,7 +102,7 @@ fn push_end(line: &mut Text, count: u64)
 }
 
 // The line of an event with its number, without its line feed.
-fn push_entry<A: Allocator>(line: &mut Text, number: &Numeral, entry: &EntryRef<'_>)
+pub(crate) fn push_entry<A: Allocator>(line: &mut Text, number: &Numeral, entry: &EntryRef<'_>)
     requires index { next_in (reply_of entry.now.answer []) < REPS_END }
     requires room { length line.old + LINE ≤ ROOM }
     ensures text { line.new ≡ line.old ++ entry_text number.now (entry_by {A = A} entry.now) }

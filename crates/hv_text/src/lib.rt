@@ -2,12 +2,14 @@
 //!
 //! [`audit`] writes a line for each event of a history, and [`table`] a line for each partition that its
 //! machine has. Both write exactly the bytes that `specs/` define, and after a write that failed tell how
-//! many of the first bytes went out. The texts' forms are this project's own.
+//! many of the first bytes went out. [`audit_line`] puts the line of one event into a buffer, for whoever
+//! keeps no history. The texts' forms are this project's own.
 #![tactic(auto)]
 
 mod audit_text;
 mod digits;
 mod fault;
+mod line;
 mod numeral;
 mod put;
 mod table_text;
@@ -15,4 +17,6 @@ mod text;
 
 pub use audit_text::audit;
 pub use fault::PrintFault;
+pub use line::audit_line;
 pub use table_text::table;
+pub use text::LINE;

@@ -38,6 +38,18 @@ impl Numeral {
         }
     }
 
+    // This number.
+    pub(crate) fn of(number: u64) -> Numeral
+        ensures { result ≡ number }
+    {
+        let (digits, len) = digits_in(number);
+        Numeral {
+            number,
+            digits,
+            len,
+        }
+    }
+
     // Goes on to the next number.
     #[inline]
     pub(crate) fn advance(&mut self)

@@ -1,0 +1,79 @@
+-- What C hands over and is answered, beside the policy's events and replies.
+use Rattle.std.specs.Prelude.{◌≡◌, ◌≤◌, ◌++◌, ℕ, List, length, take, codes, Option, None, Some}
+use Rattle.std.specs.Global.{Global}
+use Rattle.hv_abi.specs.declared.frame.Frame.{Frame}
+use Rattle.hv_privs.specs.Privileges.{of}
+use Rattle.hv_policy.specs.Result.{result_of}
+use Rattle.hv_policy.specs.Rule.{rule_number}
+use Rattle.hv_policy.specs.declared.config.BootRefused.{BootRefused}
+use Rattle.hv_policy.specs.declared.config.BootRefused.TheVariants as boot
+use Rattle.hv_policy.specs.declared.config.Config.{Config}
+use Rattle.hv_policy.specs.declared.event.Action.{Action}
+use Rattle.hv_policy.specs.declared.event.Action.TheVariants.{Hypercall, ReadMsr, WriteMsr, ReadSlot, ClearSlot, ReadFlags, ClearFlag, TakeInterrupt}
+use Rattle.hv_policy.specs.declared.event.Caller.{Caller}
+use Rattle.hv_policy.specs.declared.event.Event.{Event}
+use Rattle.hv_policy.specs.declared.reply.Reply.{Reply}
+use Rattle.hv_policy.specs.declared.reply.Reply.TheVariants.{Served, More, Denied, Fault}
+use Rattle.hv_text.specs.Audit.{entry_text}
+use Rattle.hv_embed.specs.declared.layout.HvCaller.{HvCaller}
+use Rattle.hv_embed.specs.declared.layout.HvConfig.{HvConfig}
+use Rattle.hv_embed.specs.declared.layout.HvRegisters.{HvRegisters}
+use Rattle.hv_embed.specs.declared.layout.HvReply.{HvReply}
+use Rattle.hv_embed.specs.declared.layout.TheConstants.{SERVED, MORE, DENIED, FAULT}
+use Rattle.hv_embed.specs.declared.status.TheConstants as status
+
+-- the configuration that C asks for
+abbrev pub config_of : HvConfig → Config
+config_of c = record { pages = c.pages; pool = c.pool; vps = c.vps; mask = of c.mask }
+
+-- the processor that C names
+abbrev pub caller_of : HvCaller → Caller
+caller_of by = record { part = by.part; vp = by.vp }
+
+-- the frame of a call with this input list
+abbrev pub frame_of : HvRegisters → List ℕ → Frame Global
+frame_of registers input = record { rcx = registers.rcx; rdx = registers.rdx; r8 = registers.r8; input = input }
+
+-- an event of that processor
+abbrev pub event_of : HvCaller → Action Global → Event Global
+event_of by what = record { by = caller_of by; what = what }
+
+-- the result value of a call; an access has none
+abbrev pub result_in : Action Global → Reply → ℕ
+result_in (Hypercall frame) reply = result_of frame reply
+result_in (ReadMsr msr) reply = 0
+result_in (WriteMsr msr value) reply = 0
+result_in (ReadSlot sint) reply = 0
+result_in (ClearSlot sint) reply = 0
+result_in (ReadFlags sint) reply = 0
+result_in (ClearFlag sint flag) reply = 0
+result_in TakeInterrupt reply = 0
+
+-- the output bytes of an answer are these
+pub record HasOutput (a : HvReply) (output : List ℕ) : Type 0 where
+  pub len : a.output_len ≡ length output
+  pub bytes : take a.output_len a.output ≡ output
+
+-- an answer says of a reply how it ended, which rule refused, or 0, with which element the call goes on, or 0,
+-- and what was put out
+abbrev pub Says : HvReply → Reply → Type 0
+Says a (Served output) = (a.kind ≡ SERVED) × (a.rule ≡ 0) × (a.next ≡ 0) × HasOutput a output
+Says a (More next output) = (a.kind ≡ MORE) × (a.rule ≡ 0) × (a.next ≡ next) × HasOutput a output
+Says a (Denied rule status reps) = (a.kind ≡ DENIED) × (a.rule ≡ rule_number rule) × (a.next ≡ 0) × (a.output_len ≡ 0)
+Says a (Fault rule) = (a.kind ≡ FAULT) × (a.rule ≡ rule_number rule) × (a.next ≡ 0) × (a.output_len ≡ 0)
+
+-- an answer is that of a reply to an event
+pub record IsAnswer (a : HvReply) (what : Action Global) (reply : Reply) : Type 0 where
+  pub says : Says a reply
+  pub result : a.result ≡ result_in what reply
+
+-- the audit's line of an event with its reply, with its line feed
+abbrev pub line_text : ℕ → Event Global → Reply → List ℕ
+line_text number event reply = entry_text number (record { event = event; reply = reply }) ++ codes "\n"
+
+-- the status of a boot that is refused
+abbrev pub refusal_status : BootRefused → ℕ
+refusal_status boot.Pages = status.PAGES
+refusal_status boot.Pool = status.POOL
+refusal_status boot.Vps = status.VPS
+refusal_status boot.Memory = status.MEMORY

@@ -1,0 +1,83 @@
+-- What a call does to a handle.
+use Rattle.std.specs.Prelude.{◌≡◌, ◌+◌, ◌<◌, ◌&&◌, ◌||◌, ℕ, List, Bool, true, not, nat_le, nat_lt, length, take, None, if◌then◌else◌}
+use Rattle.std.specs.Global.{Global}
+use Rattle.hv_defs.specs.declared.sizes.TheConstants.{MAX_SERVED}
+use Rattle.hv_machine.specs.IsFlat.{IsFlat}
+use Rattle.hv_machine.specs.Lasting.{IsLasting}
+use Rattle.hv_machine.specs.Sound.{IsSound}
+use Rattle.hv_machine.specs.State.{State}
+use Rattle.hv_policy.specs.Boot.{boot}
+use Rattle.hv_policy.specs.BootFault.{boot_fault, IsBootRefusal}
+use Rattle.hv_policy.specs.Flat.{Flat}
+use Rattle.hv_policy.specs.Step.{step}
+use Rattle.hv_policy.specs.declared.config.BootRefused.{BootRefused}
+use Rattle.hv_policy.specs.declared.config.Config.{Config}
+use Rattle.hv_policy.specs.declared.event.Event.{Event}
+use Rattle.hv_text.specs.declared.text.TheConstants.{LINE}
+use Rattle.hv_embed.specs.Answer.{IsAnswer, line_text, refusal_status}
+use Rattle.hv_embed.specs.declared.handle.HvMachine.{HvMachine}
+use Rattle.hv_embed.specs.declared.layout.HvReply.{HvReply}
+use Rattle.hv_embed.specs.declared.status.TheConstants.{DONE, EMPTY, SHORT, USED_UP, MAX_EVENTS}
+
+-- a machine that booted with this configuration, to which nothing happened yet
+pub record IsStarted (config : Config) (m : State) : Type 0 where
+  pub accepted : boot_fault config ≡ None
+  pub state : IsFlat m (boot config)
+  pub pages : m.pages ≡ config.pages
+  pub lasting : IsLasting m
+  pub sound : IsSound m
+
+-- a handle that has such a machine
+pub record IsBooted (config : Config) (new : HvMachine) : Type 0 where
+  pub live : new.live ≡ true
+  pub events : new.events ≡ 0
+  pub machine : IsStarted config new.held.machine
+
+-- a boot with this configuration is refused with the status of its first fault, or, where it has none, for want
+-- of memory
+pub record IsRefused (config : Config) (told : ℕ) : Type 0 where
+  pub why : BootRefused
+  pub first : IsBootRefusal config why
+  pub status : told ≡ refusal_status why
+
+-- so many bytes of a line's buffer are this line; a buffer without bytes takes none
+pub record HasLine (buffer : List ℕ) (count : ℕ) (line : List ℕ) : Type 0 where
+  pub none : length buffer ≡ 0 → count ≡ 0
+  pub some : 0 < length buffer → take count buffer ≡ line
+  pub len : 0 < length buffer → count ≡ length line
+
+-- The event was taken. Of each flat state that the machine stood for, the answer and the line are those of
+-- the flat step's reply, and the machine now stands for that step's state. It stands for a lawful one, is
+-- sound, and has as many pages; one event more is counted, whose number the line has.
+pub record IsTaken (event : Event Global) (old new : HvMachine) (answer : HvReply) (buffer : List ℕ) : Type 0 where
+  pub reply : (f : Flat) → IsFlat old.held.machine f → IsAnswer answer event.what (step f event).1
+  pub line : (f : Flat) → IsFlat old.held.machine f
+      → HasLine buffer answer.line_len (line_text new.events event (step f event).1)
+  pub state : (f : Flat) → IsFlat old.held.machine f → IsFlat new.held.machine (step f event).0
+  pub pages : new.held.machine.pages ≡ old.held.machine.pages
+  pub lasting : IsLasting new.held.machine
+  pub sound : IsSound new.held.machine
+  pub events : new.events ≡ old.events + 1
+  pub live : new.live ≡ true
+
+-- nothing changed
+pub record IsAsBefore (old new : HvMachine) : Type 0 where
+  pub live : new.live ≡ old.live
+  pub events : new.events ≡ old.events
+  pub machine : old.live ≡ true → new.held.machine ≡ old.held.machine
+
+-- a line's buffer has bytes, but not for every line
+abbrev pub is_short : ℕ → Bool
+is_short len = nat_lt 0 len && nat_lt len LINE
+
+-- as many events were served, or taken, as are counted
+abbrev pub is_used_up : ℕ → ℕ → Bool
+is_used_up served events = nat_le MAX_SERVED served || nat_le MAX_EVENTS events
+
+-- whether a handle takes an event with a line's buffer of this length, or else why not
+abbrev pub readiness : HvMachine → ℕ → ℕ
+readiness m len =
+    if not m.live then EMPTY
+    else if is_short len then SHORT
+    else if is_used_up m.held.machine.served m.events then USED_UP
+    else DONE

@@ -1,0 +1,98 @@
+// The answer to an event, as C reads it.
+ghost use Rattle.std.specs.Prelude.{◌≡◌, ◌<◌, ◌≤◌, ◌++◌, length, take, false};
+ghost use Rattle.hv_abi.specs.declared.frame.Frame.{Frame as CallFrame};
+ghost use Rattle.hv_defs.specs.declared.sizes.TheConstants.{REPS_END};
+ghost use Rattle.hv_history.specs.Row.{next_in};
+ghost use Rattle.hv_policy.specs.Result.{HasResult};
+ghost use Rattle.hv_policy.specs.declared.event.Action.TheVariants.{Hypercall};
+ghost use Rattle.hv_embed.specs.Answer.{HasOutput, IsAnswer, Says, line_text};
+ghost use Rattle.hv_embed.specs.Answer.{result_in as result_value_in};
+ghost use Rattle.hv_embed.specs.Taken.{HasLine, is_short as is_short_len};
+
+use crate::layout::{DENIED, FAULT, HvReply, MORE, SERVED};
+use hv_machine::{Action, Answer, Event, Reply, result_of};
+use hv_text::{LINE, audit_line};
+use std::alloc::Global;
+
+// Answers an event with its reply, and puts the audit's line into a buffer that has bytes.
+pub(crate) fn answer(
+    event: &Event<Global>,
+    number: u64,
+    told: &Reply,
+    reply: &mut HvReply,
+    line: &mut [u8],
+)
+    requires room { is_short_len (length line.old) ≡ false }
+    requires index { next_in told.now < REPS_END }
+    requires result { (frame : CallFrame _) → event.now.what ≡ Hypercall frame → HasResult told.now }
+    ensures answer { IsAnswer reply.new event.now.what told.now }
+    ensures line { HasLine line.new reply.new.line_len (line_text number event.now told.now) }
+{
+    say(told, reply);
+    reply.result = result_in(&event.what, told);
+    reply.line_len = put_line(line, event, number, told);
+}
+
+// Puts the audit's line into a buffer that has bytes, and answers its length.
+fn put_line(line: &mut [u8], event: &Event<Global>, number: u64, told: &Reply) -> u32
+    requires room { is_short_len (length line.old) ≡ false }
+    requires index { next_in told.now < REPS_END }
+    ensures { HasLine line.new result (line_text number event.now told.now) }
+{
+    if line.is_empty() {
+        return 0;
+    }
+    audit_line(line, number, event, told) as u32
+}
+
+// The result value of a call. An access has none.
+fn result_in(what: &Action<Global>, told: &Reply) -> u64
+    requires { (frame : CallFrame _) → what.now ≡ Hypercall frame → HasResult told.now }
+    ensures { result ≡ result_value_in what.now told.now }
+{
+    match what {
+        Action::Hypercall(frame) => result_of(frame, told).bits(),
+        Action::ReadMsr(_)
+        | Action::WriteMsr(_, _)
+        | Action::ReadSlot(_)
+        | Action::ClearSlot(_)
+        | Action::ReadFlags(_)
+        | Action::ClearFlag(_, _)
+        | Action::TakeInterrupt => 0,
+    }
+}
+
+// Says how an event ended, and what it put out.
+fn say(told: &Reply, reply: &mut HvReply)
+    ensures { Says reply.new told.now }
+{
+    let (answer, output) = told.parts();
+    match answer {
+        Answer::Served => put(reply, SERVED, 0, 0, output),
+        Answer::More { next } => put(reply, MORE, 0, u32::from(next), output),
+        Answer::Denied { rule, .. } => put(reply, DENIED, u32::from(rule.number()), 0, &[]),
+        Answer::Fault { rule } => put(reply, FAULT, u32::from(rule.number()), 0, &[]),
+    }
+}
+
+// Puts these into a reply. The bytes of its output past those that are put out stay.
+fn put(reply: &mut HvReply, kind: u32, rule: u32, next: u32, output: &[u8])
+    requires { length output.now ≤ 256 }
+    ensures kind { reply.new.kind ≡ kind }
+    ensures rule { reply.new.rule ≡ rule }
+    ensures next { reply.new.next ≡ next }
+    ensures output { HasOutput reply.new output.now }
+{
+    reply.kind = kind;
+    reply.rule = rule;
+    reply.next = next;
+    reply.output[..output.len()].copy_from_slice(output);
+    reply.output_len = output.len() as u32;
+}
+
+// Whether a buffer has bytes, but not for every line.
+pub(crate) fn is_short(line: &[u8]) -> bool
+    ensures { result ≡ is_short_len (length line.now) }
+{
+    !line.is_empty() && line.len() < LINE
+}

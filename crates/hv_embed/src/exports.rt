@@ -1,0 +1,274 @@
+// What C calls.
+ghost use Rattle.std.specs.Prelude.{◌≡◌, ◌≢◌, length, false, true, IfOk, IfErr};
+ghost use Rattle.hv_policy.specs.BootFault.{IsBootRefusal};
+ghost use Rattle.hv_policy.specs.declared.event.Action.TheVariants.{
+  ClearFlag,
+  ClearSlot,
+  Hypercall,
+  ReadFlags,
+  ReadMsr,
+  ReadSlot,
+  TakeInterrupt,
+  WriteMsr,
+};
+ghost use Rattle.hv_embed.specs.Answer.{config_of, event_of as event_by, frame_of};
+ghost use Rattle.hv_embed.specs.Taken.{IsAsBefore, IsBooted, IsRefused, IsStarted, IsTaken, is_short as is_short_len, readiness};
+ghost use Rattle.hv_embed.specs.declared.status.TheConstants.{DONE, MEMORY, OCCUPIED};
+
+use crate::answer::is_short;
+use crate::handle::HvMachine;
+use crate::layout::{HvCaller, HvConfig, HvRegisters, HvReply};
+use crate::status::{DONE, EMPTY, MEMORY, OCCUPIED, SHORT, status_of};
+use crate::take::take;
+use hv_abi::{Bytes, Frame};
+use hv_machine::{Action, BootRefused, Caller, Config, Event, Machine};
+use hv_privs::Privileges;
+use std::alloc::Global;
+use std::mem::replace;
+
+/// Boots a machine into an empty handle. Else the handle stays as it is: it isn't empty, the configuration
+/// is refused, or the host has no memory.
+#[unsafe(no_mangle)]
+pub extern "C" fn hv_embed_boot(alloc: Global, machine: &mut HvMachine, config: &HvConfig) -> u32
+    ensures booted { result ≡ DONE → IsBooted (config_of config.now) machine.new }
+    ensures kept { result ≢ DONE → machine.new ≡ machine.old }
+    ensures occupied { machine.old.live ≡ true → result ≡ OCCUPIED }
+    ensures refused { machine.old.live ≡ false → result ≢ DONE → IsRefused (config_of config.now) result }
+{
+    if machine.live {
+        return OCCUPIED;
+    }
+    match boot(alloc, config) {
+        Ok(boxed) => {
+            replace(machine, HvMachine::full(boxed, 0)).let_go();
+            DONE
+        }
+        Err(why) => status_of(why),
+    }
+}
+
+// A machine in a block of its own.
+fn boot(alloc: Global, config: &HvConfig) -> Result<Box<Machine<Global>>, BootRefused>
+    ensures booted { IfOk result (λ boxed. IsStarted (config_of config.now) boxed.value) }
+    ensures refused { IfErr result (IsBootRefusal (config_of config.now)) }
+{
+    let wanted = Config {
+        pages: config.pages,
+        pool: config.pool,
+        vps: config.vps,
+        mask: Privileges::of(config.mask),
+    };
+    let machine = Machine::boot(alloc, wanted)?;
+    match Box::new(alloc, machine) {
+        Ok(boxed) => Ok(boxed),
+        Err(_) => Err(BootRefused::Memory),
+    }
+}
+
+/// Takes a hypercall of a processor with the bytes of its input list. Of a rep call that is the element at
+/// the start index in RCX.
+#[unsafe(no_mangle)]
+pub extern "C" fn hv_embed_hypercall(
+    alloc: Global,
+    machine: &mut HvMachine,
+    by: HvCaller,
+    registers: &HvRegisters,
+    input: &[u8],
+    reply: &mut HvReply,
+    line: &mut [u8],
+) -> u32
+    ensures taken { result ≡ DONE
+        → IsTaken (event_by by (Hypercall (frame_of registers.now input.now))) machine.old machine.new
+        reply.new line.new }
+    ensures kept { result ≢ DONE → IsAsBefore machine.old machine.new }
+    ensures unwritten { result ≢ DONE → (reply.new ≡ reply.old) × (line.new ≡ line.old) }
+    ensures status { result ≢ MEMORY → result ≡ readiness machine.old (length line.old) }
+    ensures memory { result ≡ MEMORY
+        → (machine.old.live ≡ true) × (is_short_len (length line.old) ≡ false) }
+{
+    if !machine.live {
+        return EMPTY;
+    }
+    if is_short(line) {
+        return SHORT;
+    }
+    let Ok(bytes) = Vec::from_slice(alloc, input) else {
+        return MEMORY;
+    };
+    let frame = Frame {
+        rcx: registers.rcx,
+        rdx: registers.rdx,
+        r8: registers.r8,
+        input: Bytes::from_vec(bytes),
+    };
+    let event = event_of(by, Action::Hypercall(frame));
+    take(alloc, machine, &event, reply, line)
+}
+
+/// Reads an MSR of a processor, of 8 bytes.
+#[unsafe(no_mangle)]
+pub extern "C" fn hv_embed_read_msr(
+    alloc: Global,
+    machine: &mut HvMachine,
+    by: HvCaller,
+    msr: u32,
+    reply: &mut HvReply,
+    line: &mut [u8],
+) -> u32
+    ensures taken { result ≡ DONE
+        → IsTaken (event_by by (ReadMsr msr)) machine.old machine.new reply.new line.new }
+    ensures kept { result ≢ DONE → IsAsBefore machine.old machine.new }
+    ensures unwritten { result ≢ DONE → (reply.new ≡ reply.old) × (line.new ≡ line.old) }
+    ensures status { result ≡ readiness machine.old (length line.old) }
+{
+    let event = event_of(by, Action::ReadMsr(msr));
+    take(alloc, machine, &event, reply, line)
+}
+
+/// Writes a value to an MSR of a processor.
+#[unsafe(no_mangle)]
+pub extern "C" fn hv_embed_write_msr(
+    alloc: Global,
+    machine: &mut HvMachine,
+    by: HvCaller,
+    msr: u32,
+    value: u64,
+    reply: &mut HvReply,
+    line: &mut [u8],
+) -> u32
+    ensures taken { result ≡ DONE
+        → IsTaken (event_by by (WriteMsr msr value)) machine.old machine.new reply.new line.new }
+    ensures kept { result ≢ DONE → IsAsBefore machine.old machine.new }
+    ensures unwritten { result ≢ DONE → (reply.new ≡ reply.old) × (line.new ≡ line.old) }
+    ensures status { result ≡ readiness machine.old (length line.old) }
+{
+    let event = event_of(by, Action::WriteMsr(msr, value));
+    take(alloc, machine, &event, reply, line)
+}
+
+/// Reads the message slot of a SINT of a processor, of 256 bytes.
+#[unsafe(no_mangle)]
+pub extern "C" fn hv_embed_read_slot(
+    alloc: Global,
+    machine: &mut HvMachine,
+    by: HvCaller,
+    sint: u8,
+    reply: &mut HvReply,
+    line: &mut [u8],
+) -> u32
+    ensures taken { result ≡ DONE
+        → IsTaken (event_by by (ReadSlot sint)) machine.old machine.new reply.new line.new }
+    ensures kept { result ≢ DONE → IsAsBefore machine.old machine.new }
+    ensures unwritten { result ≢ DONE → (reply.new ≡ reply.old) × (line.new ≡ line.old) }
+    ensures status { result ≡ readiness machine.old (length line.old) }
+{
+    let event = event_of(by, Action::ReadSlot(sint));
+    take(alloc, machine, &event, reply, line)
+}
+
+/// Removes the message that a SINT of a processor shows.
+#[unsafe(no_mangle)]
+pub extern "C" fn hv_embed_clear_slot(
+    alloc: Global,
+    machine: &mut HvMachine,
+    by: HvCaller,
+    sint: u8,
+    reply: &mut HvReply,
+    line: &mut [u8],
+) -> u32
+    ensures taken { result ≡ DONE
+        → IsTaken (event_by by (ClearSlot sint)) machine.old machine.new reply.new line.new }
+    ensures kept { result ≢ DONE → IsAsBefore machine.old machine.new }
+    ensures unwritten { result ≢ DONE → (reply.new ≡ reply.old) × (line.new ≡ line.old) }
+    ensures status { result ≡ readiness machine.old (length line.old) }
+{
+    let event = event_of(by, Action::ClearSlot(sint));
+    take(alloc, machine, &event, reply, line)
+}
+
+/// Reads the event flags of a SINT of a processor, of 256 bytes.
+#[unsafe(no_mangle)]
+pub extern "C" fn hv_embed_read_flags(
+    alloc: Global,
+    machine: &mut HvMachine,
+    by: HvCaller,
+    sint: u8,
+    reply: &mut HvReply,
+    line: &mut [u8],
+) -> u32
+    ensures taken { result ≡ DONE
+        → IsTaken (event_by by (ReadFlags sint)) machine.old machine.new reply.new line.new }
+    ensures kept { result ≢ DONE → IsAsBefore machine.old machine.new }
+    ensures unwritten { result ≢ DONE → (reply.new ≡ reply.old) × (line.new ≡ line.old) }
+    ensures status { result ≡ readiness machine.old (length line.old) }
+{
+    let event = event_of(by, Action::ReadFlags(sint));
+    take(alloc, machine, &event, reply, line)
+}
+
+/// Clears an event flag of a SINT of a processor.
+#[unsafe(no_mangle)]
+pub extern "C" fn hv_embed_clear_flag(
+    alloc: Global,
+    machine: &mut HvMachine,
+    by: HvCaller,
+    sint: u8,
+    flag: u16,
+    reply: &mut HvReply,
+    line: &mut [u8],
+) -> u32
+    ensures taken { result ≡ DONE
+        → IsTaken (event_by by (ClearFlag sint flag)) machine.old machine.new reply.new line.new }
+    ensures kept { result ≢ DONE → IsAsBefore machine.old machine.new }
+    ensures unwritten { result ≢ DONE → (reply.new ≡ reply.old) × (line.new ≡ line.old) }
+    ensures status { result ≡ readiness machine.old (length line.old) }
+{
+    let event = event_of(by, Action::ClearFlag(sint, flag));
+    take(alloc, machine, &event, reply, line)
+}
+
+/// Takes the highest of the interrupt vectors that are pending at a processor, one byte, or 0.
+#[unsafe(no_mangle)]
+pub extern "C" fn hv_embed_take_interrupt(
+    alloc: Global,
+    machine: &mut HvMachine,
+    by: HvCaller,
+    reply: &mut HvReply,
+    line: &mut [u8],
+) -> u32
+    ensures taken { result ≡ DONE
+        → IsTaken (event_by by TakeInterrupt) machine.old machine.new reply.new line.new }
+    ensures kept { result ≢ DONE → IsAsBefore machine.old machine.new }
+    ensures unwritten { result ≢ DONE → (reply.new ≡ reply.old) × (line.new ≡ line.old) }
+    ensures status { result ≡ readiness machine.old (length line.old) }
+{
+    let event = event_of(by, Action::TakeInterrupt);
+    take(alloc, machine, &event, reply, line)
+}
+
+/// Ends the machine of a handle, if there is one, and leaves the handle empty.
+#[unsafe(no_mangle)]
+pub extern "C" fn hv_embed_destroy(alloc: Global, machine: &mut HvMachine)
+    ensures live { machine.new.live ≡ false }
+    ensures events { machine.new.events ≡ 0 }
+{
+    let old = replace(machine, HvMachine::none(alloc));
+    if old.live {
+        drop(old.open());
+    } else {
+        old.let_go();
+    }
+}
+
+// An event of the processor that C names.
+fn event_of(by: HvCaller, what: Action<Global>) -> Event<Global>
+    ensures { result ≡ event_by by what }
+{
+    Event {
+        by: Caller {
+            part: by.part,
+            vp: by.vp,
+        },
+        what,
+    }
+}
