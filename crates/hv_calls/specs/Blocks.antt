@@ -5,8 +5,11 @@ use Rattle.std.specs.Prelude.{ℕ, ◌+◌, ◌==◌, if◌then◌else◌, List}
 use Rattle.hv_abi.specs.declared.call_kind.CallKind.{CallKind}
 use Rattle.hv_abi.specs.declared.call_kind.CallKind.TheVariants as kind
 use Rattle.hv_defs.specs.Field.{field}
+use Rattle.hv_defs.specs.declared.aim.Aim.{Aim}
+use Rattle.hv_defs.specs.declared.aim.Aim.TheVariants.{One, Any}
 use Rattle.hv_defs.specs.declared.port_kind.PortKind.{PortKind}
 use Rattle.hv_defs.specs.declared.port_kind.PortKind.TheVariants.{Message, Event}
+use Rattle.hv_defs.specs.declared.sizes.TheConstants.{ANY_VP}
 use Rattle.hv_calls.specs.Bytes.{bytes_at}
 use Rattle.hv_calls.specs.declared.call.Call.{Call}
 use Rattle.hv_calls.specs.declared.call.Call.TheVariants.{CreatePartition, InitializePartition, FinalizePartition, DeletePartition, GetPartitionProperty, SetPartitionProperty, GetPartitionId, GetNextChildPartition, DepositMemory, WithdrawMemory, GetMemoryBalance, CreateVp, DeleteVp, GetVpRegisters, SetVpRegisters, DeletePort, DisconnectPort, PostMessage, SignalEvent, CreatePort, ConnectPort}
@@ -14,6 +17,10 @@ use Rattle.hv_calls.specs.declared.call.Call.TheVariants.{CreatePartition, Initi
 -- what a port of this PortType takes: 1 is messages, 2 event flags, and every other number is malformed
 abbrev pub port_kind : ℕ → PortKind
 port_kind type = if type == 2 then Event else Message
+
+-- where a port with this TargetVp aims: all ones is any processor, every other number the index of one
+abbrev pub port_aim : ℕ → Aim
+port_aim target = if target == ANY_VP then Any else One target
 
 -- the call with the parameters that stand in a block
 abbrev pub call_in : CallKind → List ℕ → ℕ → Call
@@ -53,7 +60,7 @@ call_in kind.SignalEvent block element = SignalEvent (field block 0 4) (field bl
 -- PortPartition, PortId, ConnectionPartition, PortType, TargetSint, TargetVp, BaseFlagNumber, FlagCount
 call_in kind.CreatePort block element =
     CreatePort (field block 0 8) (field block 8 4) (field block 16 8) (port_kind (field block 24 4)) (field block 32 4)
-    (field block 36 4) (field block 40 2) (field block 42 2)
+    (port_aim (field block 36 4)) (field block 40 2) (field block 42 2)
 -- ConnectionPartition, ConnectionId, PortPartition, PortId, PortType
 call_in kind.ConnectPort block element =
     ConnectPort (field block 0 8) (field block 8 4) (field block 16 8) (field block 24 4) (port_kind (field block 32 4))

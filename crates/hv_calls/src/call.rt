@@ -3,7 +3,7 @@ ghost use Rattle.std.specs.Prelude.{◌≡◌};
 
 use crate::payload::Payload;
 use hv_abi::CallKind;
-use hv_defs::PortKind;
+use hv_defs::{Aim, PortKind};
 
 /// A hypercall with its parameters, under the TLFS's name without its prefix `Hv`. Of a rep call it holds the
 /// header and the element at the frame's rep start index.
@@ -100,7 +100,8 @@ pub enum Call<'f> {
         peer: u64,
         kind: PortKind,
         sint: u32,
-        vp: u32,
+        /// The processor at which it aims.
+        vp: Aim,
         /// The first of an event port's flags, and their count. A message port has none, whatever
         /// stands here.
         base: u16,

@@ -1,7 +1,7 @@
 // From a frame to its call.
 ghost use Rattle.std.specs.Prelude.{◌≡◌, ◌^◌, ◌<◌, Ok, false, true, IfOk, IfErr, Some, None, if◌then◌else◌};
 ghost use Rattle.hv_abi.specs.Check.{IsShape, input_of};
-ghost use Rattle.hv_calls.specs.Blocks.{call_in, port_kind as kind_of_port};
+ghost use Rattle.hv_calls.specs.Blocks.{call_in, port_aim as aim_of_port, port_kind as kind_of_port};
 ghost use Rattle.hv_calls.specs.Call.{kind_of_call};
 ghost use Rattle.hv_calls.specs.Params.{Params, are_parameters_valid, decoded};
 ghost use Rattle.hv_calls.specs.Params.{element_at as place_of_element};
@@ -13,7 +13,9 @@ use crate::call::Call;
 use crate::fields::{u16_at, u32_at, u64_at};
 use crate::payload::Payload;
 use hv_abi::{CallKind, Frame, Shape};
-use hv_defs::{ANY_VP, EVENT_FLAGS, MAX_MESSAGE_TYPE, MAX_PAYLOAD, MAX_PORT_ID, PortKind, SINTS};
+use hv_defs::{
+    ANY_VP, Aim, EVENT_FLAGS, MAX_MESSAGE_TYPE, MAX_PAYLOAD, MAX_PORT_ID, PortKind, SINTS,
+};
 use std::alloc::Allocator;
 
 /// Rule P7: a parameter is malformed by itself.
@@ -236,13 +238,12 @@ fn create_port<A: Allocator>(frame: &Frame<A>, shape: &Shape) -> Result<Call<'st
     let port = u32_at(frame, shape, 8);
     let port_type = u32_at(frame, shape, 24);
     let sint = u32_at(frame, shape, 32);
-    let vp = u32_at(frame, shape, 36);
     let base = u16_at(frame, shape, 40);
     let count = u16_at(frame, shape, 42);
     let Some(kind) = port_kind(port_type) else {
         return Err(Malformed);
     };
-    if !is_id(port) || sint >= SINTS || vp == ANY_VP || !are_flags(port_type, base, count) {
+    if !is_id(port) || sint >= SINTS || !are_flags(port_type, base, count) {
         return Err(Malformed);
     }
     Ok(Call::CreatePort {
@@ -251,7 +252,7 @@ fn create_port<A: Allocator>(frame: &Frame<A>, shape: &Shape) -> Result<Call<'st
         peer: u64_at(frame, shape, 16),
         kind,
         sint,
-        vp,
+        vp: port_aim(u32_at(frame, shape, 36)),
         base,
         count,
     })
@@ -301,6 +302,17 @@ fn port_kind(number: u32) -> Option<PortKind>
         Some(PortKind::Event)
     } else {
         None
+    }
+}
+
+// Where a port with this TargetVp aims.
+fn port_aim(target: u32) -> Aim
+    ensures { result ≡ aim_of_port target }
+{
+    if target == ANY_VP {
+        Aim::Any
+    } else {
+        Aim::One(target)
     }
 }
 

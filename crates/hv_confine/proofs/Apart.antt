@@ -7,14 +7,13 @@ use Rattle.std.specs.Option.{option_map}
 use Rattle.std.specs.Ordering.{nat_cmp, eq_by_cmp}
 use Rattle.hv_defs.proofs.Maps.{found_row, get-mapped, get_at-insert, get_at-remove}
 use Rattle.hv_defs.specs.Flags.{pair_cmp}
-use Rattle.hv_defs.specs.Registers.{takes_messages}
 use Rattle.hv_defs.specs.declared.registers.TheConstants.{EOM}
 use Rattle.hv_defs.specs.declared.sizes.TheConstants.{SINTS}
 use Rattle.hv_policy.proofs.Filters.{filter_kept}
 use Rattle.hv_policy.proofs.Pairs.{pair_cmp_total, tied_pairs}
 use Rattle.hv_policy.proofs.Places.{next_apart}
 use Rattle.hv_policy.proofs.Rows.{get-rows_but, get-with_row, get-with_vp}
-use Rattle.hv_policy.specs.Aim.{on_vp}
+use Rattle.hv_policy.specs.Aim.{is_ready_for_messages, on_vp}
 use Rattle.hv_policy.specs.Count.{lowest_pooled, number_of}
 use Rattle.hv_policy.specs.Effect.{counted, end_if, inherited, rows_but, row_raised, show, show_each, with_row, with_vp, write_msr, write_register, written}
 use Rattle.hv_policy.specs.Flat.{Flat, MailRow, PageRow, PartRow, VpRow}
@@ -116,7 +115,7 @@ module _ (id target : ℕ) (off : id == target ≡ false) where
 
   ended_apart : (is : Bool) (vp : ℕ) (f : Flat) → HasSame id f (end_if is target vp f)
   ended_apart false vp f = nothing id f
-  ended_apart true vp f = by (on_vp f (target, vp) (λ row. takes_messages row.registers))
+  ended_apart true vp f = by (on_vp f (target, vp) is_ready_for_messages)
     where
       by : (b : Bool) → HasSame id f (cond b (show_each target vp SINTS f) f)
       by true = each_apart vp SINTS f

@@ -7,9 +7,9 @@ use Rattle.hv_calls.specs.declared.call.Call.{Call}
 use Rattle.hv_calls.specs.declared.call.Call.TheVariants.{CreatePartition, InitializePartition, FinalizePartition, DeletePartition, GetPartitionProperty, SetPartitionProperty, GetPartitionId, GetNextChildPartition, DepositMemory, WithdrawMemory, GetMemoryBalance, CreateVp, DeleteVp, GetVpRegisters, SetVpRegisters, DeletePort, DisconnectPort, PostMessage, SignalEvent, CreatePort, ConnectPort}
 use Rattle.hv_defs.proofs.Maps.{get_at-insert}
 use Rattle.hv_policy.proofs.Rows.{get-narrowed}
-use Rattle.hv_policy.specs.Aim.{Aim, aim_of}
+use Rattle.hv_policy.specs.Aim.{Aimed, aim_of, flag_taker, message_taker}
 use Rattle.hv_policy.specs.Count.{is_parent, lowest_pooled}
-use Rattle.hv_policy.specs.Effect.{call_effect, counted, given, mask_of, narrowed, narrowed_row, narrows, new_row, post_to, signal_to, with_row, withdrawn}
+use Rattle.hv_policy.specs.Effect.{call_effect, counted, given, mask_of, narrowed, narrowed_row, narrows, new_row, post_at, post_to, signal_at, signal_to, with_row, withdrawn}
 use Rattle.hv_policy.specs.Flat.{Flat, PartRow}
 use Rattle.hv_policy.specs.Mail.{mail_at}
 use Rattle.hv_policy.specs.Met.{is_child, is_loose, test_row}
@@ -24,7 +24,7 @@ use Rattle.hv_confine.proofs.Apart.{heir_apart, insert_apart, loose_row, lowest_
 use Rattle.hv_confine.proofs.Relatives.{far_apart, kin_relative}
 use Rattle.hv_confine.proofs.Reading.{caller_relative}
 use Rattle.hv_confine.proofs.Sent.{posted_confined, signalled_confined}
-use Rattle.hv_confine.specs.Confined.{IsConfinedTo, Relatives, AndMasks, reach_of_call, reach_through}
+use Rattle.hv_confine.specs.Confined.{IsConfinedTo, Relatives, AndMasks, reach_of_call, reach_through, reach_to}
 use Rattle.hv_confine.specs.Same.{HasSame, HasSameButMask, held_by, is_relative, place}
 
 module _ (f : Flat) (caller : ℕ) where
@@ -80,13 +80,21 @@ module _ (f : Flat) (caller : ℕ) where
     }
 
     -- a post and a signal that lead nowhere
-    unposted : (aim : Option Aim) (type : ℕ) (payload : List ℕ) → reach_through aim ≡ Relatives → HasSame id f (post_to aim type payload f)
+    unposted : (aim : Option Aimed) (type : ℕ) (payload : List ℕ) → reach_through (message_taker f) aim ≡ Relatives → HasSame id f (post_to aim type payload f)
     unposted None type payload none = nothing id f
-    unposted (Some aim) type payload none = cc
+    unposted (Some aim) type payload none = by (message_taker f aim) none
+      where
+        by : (vp : Option ℕ) → reach_to aim vp ≡ Relatives → HasSame id f (post_at aim vp type payload f)
+        by None none = nothing id f
+        by (Some vp) none = cc
 
-    unsignalled : (aim : Option Aim) (flag : ℕ) → reach_through aim ≡ Relatives → HasSame id f (signal_to aim flag f)
+    unsignalled : (aim : Option Aimed) (flag : ℕ) → reach_through (flag_taker f) aim ≡ Relatives → HasSame id f (signal_to aim flag f)
     unsignalled None flag none = nothing id f
-    unsignalled (Some aim) flag none = cc
+    unsignalled (Some aim) flag none = by (flag_taker f aim) none
+      where
+        by : (vp : Option ℕ) → reach_to aim vp ≡ Relatives → HasSame id f (signal_at aim vp flag f)
+        by None none = nothing id f
+        by (Some vp) none = cc
 
     -- a property that narrows nothing
     unnarrowed : (property : Option Property) (value target : ℕ) → id == target ≡ false → (b : Bool) → (cond b (AndMasks target (of value)) Relatives ≡ Relatives)

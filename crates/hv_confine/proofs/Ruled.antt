@@ -5,9 +5,10 @@ use Rattle.std.specs.Option.{option_map_or}
 use Rattle.hv_calls.specs.declared.call.Call.{Call}
 use Rattle.hv_calls.specs.declared.call.Call.TheVariants.{CreatePartition, InitializePartition, FinalizePartition, DeletePartition, GetPartitionProperty, SetPartitionProperty, GetPartitionId, GetNextChildPartition, DepositMemory, WithdrawMemory, GetMemoryBalance, CreateVp, DeleteVp, GetVpRegisters, SetVpRegisters, DeletePort, DisconnectPort, PostMessage, SignalEvent, CreatePort, ConnectPort}
 use Rattle.hv_defs.specs.Registers as register
+use Rattle.hv_defs.specs.declared.aim.Aim.{Aim}
 use Rattle.hv_defs.specs.declared.sizes.TheConstants.{MAX_DEPTH, MAX_VPS}
 use Rattle.hv_privs.specs.Privileges.{contains}
-use Rattle.hv_policy.specs.Aim.{is_same_birth}
+use Rattle.hv_policy.specs.Aim.{has_target, is_ready_for_flags, is_ready_for_messages, is_same_birth}
 use Rattle.hv_policy.specs.Flat.{Flat}
 use Rattle.hv_policy.specs.Met.{has_available, has_flag, is_childless, is_depth_left, is_for_messages, is_in, is_in_range, is_kind, is_vp_free, test_row}
 use Rattle.hv_policy.specs.Needs.{charge_of, is_among, meant_id, needs_of, target_of}
@@ -16,7 +17,7 @@ use Rattle.hv_policy.specs.Rules.{call_asks, further_asks, target_asks}
 use Rattle.hv_policy.specs.declared.need.States.{States}
 use Rattle.hv_policy.specs.declared.rule.Rule.TheVariants.{Privilege, TargetExists, Kinship, PropertyKnown, TargetState, NoChildren, Depth, OtherExists, Connection, Port, Right, VpExists, PropertyRange, Subject, VpReady, PortRoom, Pages}
 use Rattle.hv_confine.proofs.Reading.{access_alike, available_alike, child_alike, children_alike, depth_alike, give_alike, kin_alike, loose_alike, own, there_alike}
-use Rattle.hv_confine.proofs.Through.{on_aim_alike, on_room_alike, on_vp_alike}
+use Rattle.hv_confine.proofs.Through.{on_aim_alike, on_room_alike, on_taker_alike, on_target_alike, target_alike}
 use Rattle.hv_confine.specs.Agreed.{Agrees, AgreesOnNamed}
 use Rattle.hv_confine.specs.Same.{HasSame}
 
@@ -47,6 +48,9 @@ module _ (caller : ℕ) (f g : Flat) (a : Agrees caller f g) where
 
     there : (vp : ℕ) → contains_key f.vp (target, vp) ≡ contains_key g.vp (target, vp)
     there vp = ap is_some (t.vps vp)
+
+    aimed : (aim : Aim) → has_target f target aim ≡ has_target g target aim
+    aimed aim = target_alike f g target aim (λ vp is. t.vps vp)
 
     free : (vp : ℕ) → is_vp_free f target vp ≡ is_vp_free g target vp
     free vp = ap (λ row. nat_lt vp MAX_VPS && not (is_some row)) (t.vps vp)
@@ -84,19 +88,19 @@ module _ (caller : ℕ) (f g : Flat) (a : Agrees caller f g) where
     call_alike (PostMessage connection message_type payload) is n =
         rw is (λ i. (Connection, ap is_some (own_conn connection) i)
         ∷ (Port, on_aim_alike f g (caller, connection) (own_conn connection) n is_same_birth i)
-        ∷ (VpExists, on_vp_alike f g (caller, connection) (own_conn connection) n (λ aim row. is_some row) i)
+        ∷ (VpExists, on_target_alike f g (caller, connection) (own_conn connection) n i)
         ∷ (Subject, on_aim_alike f g (caller, connection) (own_conn connection) n is_for_messages i)
-        ∷ (VpReady, on_vp_alike f g (caller, connection) (own_conn connection) n (λ aim row. option_map_or (λ row. register.takes_messages row.registers) row false) i)
+        ∷ (VpReady, on_taker_alike f g (caller, connection) (own_conn connection) n is_ready_for_messages i)
         ∷ (PortRoom, on_room_alike f g (caller, connection) (own_conn connection) n i) ∷ [])
     call_alike (SignalEvent connection flag) is n =
         rw is (λ i. (Connection, ap is_some (own_conn connection) i)
         ∷ (Port, on_aim_alike f g (caller, connection) (own_conn connection) n is_same_birth i)
-        ∷ (VpExists, on_vp_alike f g (caller, connection) (own_conn connection) n (λ aim row. is_some row) i)
+        ∷ (VpExists, on_target_alike f g (caller, connection) (own_conn connection) n i)
         ∷ (Subject, on_aim_alike f g (caller, connection) (own_conn connection) n (has_flag flag) i)
-        ∷ (VpReady, on_vp_alike f g (caller, connection) (own_conn connection) n (λ aim row. option_map_or (λ row. register.takes_flags row.registers) row false) i) ∷ [])
+        ∷ (VpReady, on_taker_alike f g (caller, connection) (own_conn connection) n is_ready_for_flags i) ∷ [])
     call_alike (CreatePort partition port peer port_kind sint vp base count) is n = λ i.
         (TargetState, state_alike i) ∷ (OtherExists, there_alike caller f g a (meant_id caller peer) i) ∷ (Port, not (port_there port i))
-        ∷ (VpExists, there vp i) ∷ (Pages, pages_alike i) ∷ []
+        ∷ (VpExists, aimed vp i) ∷ (Pages, pages_alike i) ∷ []
     call_alike (ConnectPort partition connection port_partition port port_kind) is n = λ i.
         (TargetState, state_alike i) ∷ (OtherExists, there_alike caller f g a (meant_id caller port_partition) i)
         ∷ (Connection, not (connected connection i)) ∷ (Port, ap is_some n i)

@@ -10,13 +10,13 @@ use Rattle.hv_defs.specs.Flags.{pair_cmp}
 use Rattle.hv_policy.proofs.Pairs.{pair_cmp_total, tied_pairs}
 use Rattle.hv_policy.proofs.Places.{posted_apart}
 use Rattle.hv_policy.proofs.Rows.{get-with_vp}
-use Rattle.hv_policy.specs.Aim.{Aim}
-use Rattle.hv_policy.specs.Effect.{counted, post_to, row_raised, row_signalled, signal_to, with_vp}
+use Rattle.hv_policy.specs.Aim.{Aimed, flag_taker, message_taker}
+use Rattle.hv_policy.specs.Effect.{counted, post_at, post_to, row_raised, row_signalled, signal_at, signal_to, with_vp}
 use Rattle.hv_policy.specs.Flat.{Flat, MailRow, VpRow}
 use Rattle.hv_policy.specs.Mail.{Place, as_shown, has_next, mail_at, shown_next}
 use Rattle.hv_confine.proofs.Apart.{nothing, once_counted}
 use Rattle.hv_confine.proofs.Gains.{flag_kept, none_more, posted_last, raised_vector, signalled_flag, signalled_vector, vector_kept}
-use Rattle.hv_confine.specs.Confined.{IsConfinedTo, Relatives, aimed_place, reach_through}
+use Rattle.hv_confine.specs.Confined.{IsConfinedTo, Relatives, AndPlace, aimed_place, reach_through, reach_to}
 use Rattle.hv_confine.specs.Same.{HasSameBut, OnlyGains, has_flag, is_at, is_place, place}
 
 -- a change of the processor at a place, which leaves its registers and the flags of other SINTs
@@ -82,18 +82,17 @@ but_counted at id f g s = record {
   mail = s.mail;
 }
 
--- a message through a connection
-pub posted_confined : (aim : Option Aim) (type : ℕ) (payload : List ℕ) (f : Flat) (caller : ℕ) → IsConfinedTo (reach_through aim) caller f (counted (post_to aim type payload f))
-posted_confined None type payload f caller = nothing_sent f caller
-posted_confined (Some aim) type payload f caller = (λ id apart. but_counted at id f (post_to (Some aim) type payload f) (others id), gains)
+-- a message through a connection, at the processor that takes it
+message_confined : (aim : Aimed) (vp type : ℕ) (payload : List ℕ) (f : Flat) (caller : ℕ) → IsConfinedTo (AndPlace (aimed_place aim vp)) caller f (counted (post_at aim (Some vp) type payload f))
+message_confined aim vp type payload f caller = (λ id apart. but_counted at id f (post_at aim (Some vp) type payload f) (others id), gains)
   where
     at : Place
-    at = aimed_place aim
+    at = aimed_place aim vp
 
     row : MailRow
     row = record {
       part = aim.conn.part;
-      vp = aim.port.vp;
+      vp = vp;
       sint = aim.port.sint;
       port = aim.conn.port;
       born = aim.conn.born;
@@ -105,10 +104,10 @@ posted_confined (Some aim) type payload f caller = (λ id apart. but_counted at 
     did : Bool
     did = has_next at (f.mail ++ row ∷ [])
 
-    others : (id : ℕ) → HasSameBut at id f (post_to (Some aim) type payload f)
+    others : (id : ℕ) → HasSameBut at id f (post_at aim (Some vp) type payload f)
     others id = same_but at (row_raised did at.sint) (λ _. refl) (λ _ _ _ _. refl) f (shown_next at (f.mail ++ row ∷ [])) id (λ vp sint off. sym (posted_apart (place id vp sint) row off f.mail))
 
-    gains : OnlyGains at f (counted (post_to (Some aim) type payload f))
+    gains : OnlyGains at f (counted (post_at aim (Some vp) type payload f))
     gains = record {
       more = as_shown row ∷ [];
       one = omega arith;
@@ -117,10 +116,17 @@ posted_confined (Some aim) type payload f caller = (λ id apart. but_counted at 
       vectors = λ vector. vector_kept f (at.part, at.vp) (row_raised did at.sint) vector (raised_vector did at.sint vector);
     }
 
--- a flag through a connection
-pub signalled_confined : (aim : Option Aim) (flag : ℕ) (f : Flat) (caller : ℕ) → IsConfinedTo (reach_through aim) caller f (counted (signal_to aim flag f))
-signalled_confined None flag f caller = nothing_sent f caller
-signalled_confined (Some aim) flag f caller = (λ id apart. but_counted (aimed_place aim) id f (signal_to (Some aim) flag f) (others id), gains)
+pub posted_confined : (aim : Option Aimed) (type : ℕ) (payload : List ℕ) (f : Flat) (caller : ℕ) → IsConfinedTo (reach_through (message_taker f) aim) caller f (counted (post_to aim type payload f))
+posted_confined None type payload f caller = nothing_sent f caller
+posted_confined (Some aim) type payload f caller = by (message_taker f aim)
+  where
+    by : (vp : Option ℕ) → IsConfinedTo (reach_to aim vp) caller f (counted (post_at aim vp type payload f))
+    by None = nothing_sent f caller
+    by (Some vp) = message_confined aim vp type payload f caller
+
+-- a flag through a connection, at the processor that takes it
+flag_confined : (aim : Aimed) (vp flag : ℕ) (f : Flat) (caller : ℕ) → IsConfinedTo (AndPlace (aimed_place aim vp)) caller f (counted (signal_at aim (Some vp) flag f))
+flag_confined aim vp flag f caller = (λ id apart. but_counted (aimed_place aim vp) id f (signal_at aim (Some vp) flag f) (others id), gains)
   where
     signalled : ℕ
     signalled = aim.port.base + flag
@@ -130,14 +136,22 @@ signalled_confined (Some aim) flag f caller = (λ id apart. but_counted (aimed_p
         sym (set.contains-insert pair_cmp_total row.flags (aim.port.sint, signalled) (sint, n)
         ∙ ap (λ b. b || set.contains row.flags (sint, n)) (tied_pairs sint n aim.port.sint signalled ∙ ap (λ b. b && eq_by_cmp nat_cmp n signalled) off))
 
-    others : (id : ℕ) → HasSameBut (aimed_place aim) id f (signal_to (Some aim) flag f)
-    others id = same_but (aimed_place aim) (row_signalled aim.port.sint signalled) (λ _. refl) elsewhere f f.mail id (λ _ _ _. refl)
+    others : (id : ℕ) → HasSameBut (aimed_place aim vp) id f (signal_at aim (Some vp) flag f)
+    others id = same_but (aimed_place aim vp) (row_signalled aim.port.sint signalled) (λ _. refl) elsewhere f f.mail id (λ _ _ _. refl)
 
-    gains : OnlyGains (aimed_place aim) f (counted (signal_to (Some aim) flag f))
+    gains : OnlyGains (aimed_place aim vp) f (counted (signal_at aim (Some vp) flag f))
     gains = record {
       more = [];
       one = omega arith;
-      mail = none_more (mail_at (aimed_place aim) f.mail);
-      flags = λ n. flag_kept f (aim.conn.part, aim.port.vp) (row_signalled aim.port.sint signalled) aim.port.sint n (signalled_flag aim.port.sint signalled n);
-      vectors = λ vector. vector_kept f (aim.conn.part, aim.port.vp) (row_signalled aim.port.sint signalled) vector (signalled_vector aim.port.sint signalled vector);
+      mail = none_more (mail_at (aimed_place aim vp) f.mail);
+      flags = λ n. flag_kept f (aim.conn.part, vp) (row_signalled aim.port.sint signalled) aim.port.sint n (signalled_flag aim.port.sint signalled n);
+      vectors = λ vector. vector_kept f (aim.conn.part, vp) (row_signalled aim.port.sint signalled) vector (signalled_vector aim.port.sint signalled vector);
     }
+
+pub signalled_confined : (aim : Option Aimed) (flag : ℕ) (f : Flat) (caller : ℕ) → IsConfinedTo (reach_through (flag_taker f) aim) caller f (counted (signal_to aim flag f))
+signalled_confined None flag f caller = nothing_sent f caller
+signalled_confined (Some aim) flag f caller = by (flag_taker f aim)
+  where
+    by : (vp : Option ℕ) → IsConfinedTo (reach_to aim vp) caller f (counted (signal_at aim vp flag f))
+    by None = nothing_sent f caller
+    by (Some vp) = flag_confined aim vp flag f caller

@@ -4,6 +4,7 @@ use Rattle.std.specs.FinMap.{get}
 use Rattle.std.specs.Option.{option_map}
 use Rattle.hv_calls.specs.declared.call.Call.{Call}
 use Rattle.hv_calls.specs.declared.call.Call.TheVariants.{PostMessage, SignalEvent, ConnectPort}
+use Rattle.hv_policy.specs.Aim.{aims_at}
 use Rattle.hv_policy.specs.Call.{called}
 use Rattle.hv_policy.specs.Flat.{ConnRow, Flat, PartRow, PortRow}
 use Rattle.hv_policy.specs.Mail.{kept_of}
@@ -24,12 +25,12 @@ pub record Agrees (caller : ℕ) (f g : Flat) : Type 0 where
   pub parents : (id : ℕ) → lineage (get f.part id) ≡ lineage (get g.part id)
   pub relatives : (id : ℕ) → is_relative f caller id ≡ true → HasSame id f g
 
--- they agree on a connection's port: on its row, on the processor at which it aims, and on how many of its
--- messages are kept
+-- they agree on a connection's port: on its row, on the processor at which it aims, or on all of its
+-- partition where it aims at any, and on how many of its messages are kept
 pub record AgreesOnPort (conn : ConnRow) (f g : Flat) : Type 0 where
   pub port : get f.port (conn.part, conn.port) ≡ get g.port (conn.part, conn.port)
   pub aimed : (port : PortRow) → get f.port (conn.part, conn.port) ≡ Some port
-      → get f.vp (conn.part, port.vp) ≡ get g.vp (conn.part, port.vp)
+      → (vp : ℕ) → aims_at port.vp vp ≡ true → get f.vp (conn.part, vp) ≡ get g.vp (conn.part, vp)
   pub kept : kept_of conn.part conn.port conn.born f.mail ≡ kept_of conn.part conn.port conn.born g.mail
 
 abbrev pub AgreesThrough : Option ConnRow → Flat → Flat → Type 0

@@ -3,7 +3,7 @@ use Rattle.std.specs.Prelude.{◌≡◌, ℕ, false, if◌then◌else◌, Option
 use Rattle.std.specs.Option.{option_map_or}
 use Rattle.hv_calls.specs.declared.call.Call.{Call}
 use Rattle.hv_calls.specs.declared.call.Call.TheVariants.{SetPartitionProperty, PostMessage, SignalEvent}
-use Rattle.hv_policy.specs.Aim.{Aim, aim_of}
+use Rattle.hv_policy.specs.Aim.{Aimed, aim_of, flag_taker, message_taker}
 use Rattle.hv_policy.specs.Call.{called}
 use Rattle.hv_policy.specs.Effect.{narrows}
 use Rattle.hv_policy.specs.Flat.{Flat}
@@ -25,20 +25,24 @@ pub data Reach : Type 0 where
   AndPlace : (at : Place) → Reach
   AndMasks : (top : ℕ) (value : Privileges) → Reach
 
--- the place at which the port aims to which a connection leads
-abbrev pub aimed_place : Aim → Place
-aimed_place aim = record { part = aim.conn.part; vp = aim.port.vp; sint = aim.port.sint }
+-- the place at a processor of what comes through a connection: the SINT at which the connection's port aims
+abbrev pub aimed_place : Aimed → ℕ → Place
+aimed_place aim vp = record { part = aim.conn.part; vp = vp; sint = aim.port.sint }
 
--- what is sent through a connection goes there
-abbrev pub reach_through : Option Aim → Reach
-reach_through aim = option_map_or (λ aim. AndPlace (aimed_place aim)) aim Relatives
+-- what is sent through a connection goes to the processor that takes it, and nowhere if there is none
+abbrev pub reach_to : Aimed → Option ℕ → Reach
+reach_to aim vp = option_map_or (λ vp. AndPlace (aimed_place aim vp)) vp Relatives
 
--- how far a call reaches: a post and a signal send through a connection of the caller, and a mask that is
--- given to a partition which is Active narrows its subtree
+abbrev pub reach_through : (Aimed → Option ℕ) → Option Aimed → Reach
+reach_through taker aim = option_map_or (λ aim. reach_to aim (taker aim)) aim Relatives
+
+-- how far a call reaches: a post and a signal send through a connection of the caller, to the processor that
+-- takes it in this state, and a mask that is given to a partition which is Active narrows its subtree
 abbrev pub reach_of_call : Flat → ℕ → Call → Reach
 reach_of_call f caller (PostMessage connection message_type payload) =
-    reach_through (aim_of f (caller, connection))
-reach_of_call f caller (SignalEvent connection flag) = reach_through (aim_of f (caller, connection))
+    reach_through (message_taker f) (aim_of f (caller, connection))
+reach_of_call f caller (SignalEvent connection flag) =
+    reach_through (flag_taker f) (aim_of f (caller, connection))
 reach_of_call f caller (SetPartitionProperty partition code value) =
     if narrows (property_of code) f (meant_id caller partition)
     then AndMasks (meant_id caller partition) (of value)

@@ -14,15 +14,16 @@ ghost use Rattle.hv_confine.specs.Confined.{IsConfined};
 ghost use Rattle.hv_confine.specs.Unrelated.{AreUnrelated};
 
 /// An event changes nothing of a partition that is neither its caller nor a child of it, before or after: but
-/// for a post or a signal, which may add to what stands at the SINT at which its connection's port aims, and
-/// takes nothing away there; and for a mask given to a child that is Active, to which the masks of all that
-/// stand below that child are restricted too.
+/// for a post or a signal, which may add to what stands at the SINT at which its connection's port aims, of
+/// the processor that takes it, and takes nothing away there; and for a mask given to a child that is Active,
+/// to which the masks of all that stand below that child are restricted too.
 pub fn each_event_is_confined<A>()
     ensures { (f : Flat) (e : Event A) → IsConfined e f (step f e).0 }
 {}
 
 /// The reply to an event depends on nothing but the next id, which partitions there are and their parents,
-/// what the caller and its children have, and for three calls the port that they name.
+/// what the caller and its children have, and for three calls the port that they name. Of a post and a signal
+/// it depends on the processor at which the port aims too, and on all of its partition where it aims at any.
 pub fn each_reply_is_of_what_relatives_have<A>()
     ensures { (f g : Flat) (e : Event A) → AgreesFor e f g → (step f e).1 ≡ (step g e).1 }
 {}

@@ -1,5 +1,5 @@
-//! The words that several crates of the partition manager name alike: life states, kinds of ports,
-//! the sizes and charges of the profile, and the registers of a virtual processor.
+//! The words that several crates of the partition manager name alike: life states, kinds of ports and
+//! where they aim, the sizes and charges of the profile, and the registers of a virtual processor.
 //!
 //! The definitions of `specs/` that more than one crate cites stand here too: a little-endian field of
 //! a block of bytes, bits of a register value, the registers with which a processor starts, and what
@@ -8,11 +8,13 @@
 //! pending. The crate has no logic.
 #![tactic(auto)]
 
+mod aim;
 mod life;
 mod port_kind;
 mod registers;
 mod sizes;
 
+pub use aim::Aim;
 pub use life::Life;
 pub use port_kind::PortKind;
 pub use registers::{

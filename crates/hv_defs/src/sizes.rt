@@ -79,8 +79,8 @@ pub const REPS_END: u16 = 4096;
 /// is a number of 32 bits.
 pub const MAX_SERVED: u64 = 4_294_967_295;
 
-/// The VP index that names any processor of a partition (HV_ANY_VP). This profile has no port that aims
-/// so: P7 refuses it as a port's target, and everywhere else it is an index without a processor.
+/// The VP index that names any processor of a partition (HV_ANY_VP), as a port's target. Everywhere else it
+/// is an index without a processor.
 pub const ANY_VP: u32 = u32::MAX;
 
 // What a partition starts with is in range.

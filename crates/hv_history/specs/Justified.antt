@@ -3,9 +3,10 @@ use Rattle.std.specs.Prelude.{◌≡◌, ℕ, true, false, List, Some}
 use Rattle.std.specs.FinMap.{get}
 use Rattle.std.specs.Option.{option_map_or}
 use Rattle.hv_partition.specs.Partition.{PartitionState}
-use Rattle.hv_policy.specs.Flat.{ConnRow, PortRow}
+use Rattle.hv_policy.specs.Flat.{ConnRow, Flat, PortRow}
+use Rattle.hv_policy.specs.declared.config.Config.{Config}
 use Rattle.hv_provenance.specs.Deed.{Deed, deeds_of}
-use Rattle.hv_provenance.specs.Justified.{WasConnected, WasMade, WasSignalled, WerePosted, has_flag}
+use Rattle.hv_provenance.specs.Justified.{WasConnected, WasMade, WasSignalled, WerePosted, has_flag, state_before}
 use Rattle.hv_tie.specs.Tie.{conn_row, here, mail_there, port_row, rows_of, vp_row}
 use Rattle.hv_tree.specs.Rows.{Rows}
 use Rattle.hv_history.specs.Row.{events_of, replies_of}
@@ -15,16 +16,21 @@ use Rattle.hv_history.specs.declared.entry.Entry.{Entry}
 abbrev pub deeds_in : {A : Type 0} → List (Entry A) → List Deed
 deeds_in history = deeds_of (events_of history) (replies_of history)
 
+-- the state in which the event of the entry of a number came
+abbrev pub states_in : {A : Type 0} → Config → List (Entry A) → ℕ → Flat
+states_in config history = state_before config (events_of history)
+
 -- Each port and each connection has the entry that made it and none since that ended it. Each message at a
 -- SINT, the slot's and those that wait, has the entry that posted it, a later one than the message before it;
--- and each event flag that is set has the entry that set it, and none since that cleared it.
-pub record IsJustified (deeds : List Deed) (rows : Rows PartitionState) : Type 0 where
+-- and each event flag that is set has the entry that set it, and none since that cleared it. Either stands at
+-- the processor that took it in the state in which that entry's event came.
+pub record IsJustified (states : ℕ → Flat) (deeds : List Deed) (rows : Rows PartitionState) : Type 0 where
   pub ports : (id number : ℕ) (port : PortRow) → port_row number (get rows id) ≡ Some port
       → WasMade deeds (id, number) port
   pub conns : (id number : ℕ) (conn : ConnRow) → conn_row number (get rows id) ≡ Some conn
       → WasConnected deeds (id, number) conn
   pub mail : (id vp sint : ℕ)
-      → WerePosted deeds 0 (rows_of (here id vp sint) (mail_there vp sint (get rows id)))
+      → WerePosted states deeds 0 (rows_of (here id vp sint) (mail_there vp sint (get rows id)))
   pub flags : (id vp sint flag : ℕ)
       → option_map_or (has_flag sint flag) (vp_row vp (get rows id)) false ≡ true
-      → WasSignalled deeds id vp sint flag
+      → WasSignalled states deeds id vp sint flag

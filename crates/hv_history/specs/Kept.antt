@@ -13,7 +13,7 @@ use Rattle.hv_policy.specs.declared.reply.Reply.{Reply}
 use Rattle.hv_machine.specs.IsFlat.{IsFlat}
 use Rattle.hv_machine.specs.Sound.{IsSound}
 use Rattle.hv_machine.specs.State.{State}
-use Rattle.hv_history.specs.Justified.{IsJustified, deeds_in}
+use Rattle.hv_history.specs.Justified.{IsJustified, deeds_in, states_in}
 use Rattle.hv_history.specs.Row.{events_of, replies_of}
 use Rattle.hv_history.specs.declared.entry.Entry.{Entry}
 
@@ -35,7 +35,7 @@ pub record IsRun {A : Type 0} (k : Kept A) : Type 0 where
   pub boots : boot_fault k.config ≡ None
   pub pages : k.machine.pages ≡ k.config.pages
   pub sound : IsSound k.machine
-  pub justified : IsJustified (deeds_in k.history) k.machine.rows
+  pub justified : IsJustified (states_in k.config k.history) (deeds_in k.history) k.machine.rows
 
 -- an event more at the end, with its reply; what boot was given and the limit are the same
 pub record HasGained {A : Type 0} (event : Event A) (reply : Reply) (old new : Kept A) : Type 0 where

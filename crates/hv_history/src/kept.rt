@@ -11,7 +11,7 @@ ghost use Rattle.hv_policy.specs.Result.{HasResult};
 ghost use Rattle.hv_policy.specs.Step.{NamesAsked};
 ghost use Rattle.hv_policy.specs.declared.event.Action.TheVariants.{Hypercall};
 ghost use Rattle.hv_history.specs.History.{HasRoomFor, entries, room_of};
-ghost use Rattle.hv_history.specs.Justified.{IsJustified, deeds_in};
+ghost use Rattle.hv_history.specs.Justified.{IsJustified, deeds_in, states_in};
 ghost use Rattle.hv_history.specs.Kept.{HasGained, HasStepped, HasTaken, IsRun, Stands};
 ghost use Rattle.hv_history.specs.Row.{most_output};
 ghost use Rattle.hv_history.specs.declared.entry.Entry.{Entry};
@@ -213,12 +213,14 @@ impl<A: Allocator> Kept<A> {
 
     /// The machine that the history made. Each page has one owner, what is in use is within its pool, and
     /// each mask within the parent's. Each message that stands in it was posted by an entry of the history,
-    /// each event flag that is set was signalled by one, and each port and connection was made by one.
+    /// each event flag that is set was signalled by one, and each port and connection was made by one. The
+    /// message or the flag stands at the processor that took it then.
     pub fn machine(&self) -> &Machine<A>
         ensures machine { result.now ≡ self.now.machine }
         ensures run { IsRun self.now }
         ensures masks { AreMasksWithin self.now.machine.rows }
-        ensures justified { IsJustified (deeds_in self.now.history) self.now.machine.rows }
+        ensures justified { IsJustified (states_in self.now.config self.now.history) (deeds_in self.now.history)
+            self.now.machine.rows }
     {
         &self.machine
     }

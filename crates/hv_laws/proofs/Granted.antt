@@ -14,7 +14,7 @@ use Rattle.hv_calls.specs.declared.call.Call.{Call}
 use Rattle.hv_defs.specs.Bits.{bits}
 use Rattle.hv_defs.specs.Field.{field}
 use Rattle.hv_defs.specs.declared.port_kind.PortKind.TheVariants as kind_of_port
-use Rattle.hv_defs.specs.declared.sizes.TheConstants.{ANY_VP, EVENT_FLAGS, SINTS}
+use Rattle.hv_defs.specs.declared.sizes.TheConstants.{EVENT_FLAGS, SINTS}
 use Rattle.hv_policy.specs.Call.{call_event, called}
 use Rattle.hv_policy.specs.Count.{available, is_parent}
 use Rattle.hv_policy.specs.Effect.{flags_of}
@@ -35,10 +35,10 @@ pub record IsServed {A : Type 0} (f : Flat) (by : Caller) (frame : Frame A) : Ty
   pub bounded : IsBounded call
   pub granted : IsAllowed f by.part call
 
-bounded_port : (type sint base count : ℕ) (a b c : Bool) → (a && b && nat_lt sint SINTS && c && are_flags type base count) ≡ true → (sint < SINTS) × (flags_of (port_kind type) base + flags_of (port_kind type) count ≤ EVENT_FLAGS)
-bounded_port type sint base count a b c h =
-    let last = and_parts (a && b && nat_lt sint SINTS && c) (are_flags type base count) h in
-    let third = and_parts (a && b) (nat_lt sint SINTS) (and_parts (a && b && nat_lt sint SINTS) c last.0).0 in
+bounded_port : (type sint base count : ℕ) (a b : Bool) → (a && b && nat_lt sint SINTS && are_flags type base count) ≡ true → (sint < SINTS) × (flags_of (port_kind type) base + flags_of (port_kind type) count ≤ EVENT_FLAGS)
+bounded_port type sint base count a b h =
+    let last = and_parts (a && b && nat_lt sint SINTS) (are_flags type base count) h in
+    let third = and_parts (a && b) (nat_lt sint SINTS) last.0 in
     (ltb-true sint SINTS third.1, flags (type == 2) last.1)
   where
     flags : (e : Bool) → (not e || (nat_le 1 count && nat_le (base + count) EVENT_FLAGS)) ≡ true → flags_of (cond e kind_of_port.Event kind_of_port.Message) base + flags_of (cond e kind_of_port.Event kind_of_port.Message) count ≤ EVENT_FLAGS
@@ -47,7 +47,7 @@ bounded_port type sint base count a b c h =
 
 -- a call whose parameters are well formed
 pub bounded_call : (k : CallKind) (block : List ℕ) (element : ℕ) → are_well_formed k block element ≡ true → IsBounded (call_in k block element)
-bounded_call kind.CreatePort block element h = bounded_port (field block 24 4) (field block 32 4) (field block 40 2) (field block 42 2) (is_id (field block 8 4)) (is_port_type (field block 24 4)) (not (field block 36 4 == ANY_VP)) h
+bounded_call kind.CreatePort block element h = bounded_port (field block 24 4) (field block 32 4) (field block 40 2) (field block 42 2) (is_id (field block 8 4)) (is_port_type (field block 24 4)) h
 bounded_call k block element h = tt
 
 -- so is that of a frame for which P4 to P7 are met

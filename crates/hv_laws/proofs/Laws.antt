@@ -5,6 +5,7 @@ use Rattle.std.specs.FinMap.{contains_key, get}
 use Rattle.hv_calls.specs.declared.call.Call.{Call}
 use Rattle.hv_calls.specs.declared.call.Call.TheVariants as call
 use Rattle.hv_calls.specs.declared.call.Call.TheVariants.{CreatePartition, InitializePartition, FinalizePartition, DeletePartition, SetPartitionProperty, DepositMemory, WithdrawMemory, CreateVp, DeleteVp, SetVpRegisters, DeletePort, DisconnectPort, PostMessage, SignalEvent, CreatePort, ConnectPort}
+use Rattle.hv_defs.specs.declared.aim.Aim.{Aim}
 use Rattle.hv_defs.specs.Registers.{name_of_msr}
 use Rattle.hv_defs.specs.declared.life.Life.{Life}
 use Rattle.hv_defs.specs.declared.port_kind.PortKind.{PortKind}
@@ -112,7 +113,7 @@ module _ (pages : ℕ) (f : Flat) (l : IsLawful pages f) (caller : ℕ) where
       let (below, free) = and_parts (nat_lt vp 64) (not (contains_key f.vp (target, vp))) a.further.1.0 in
       vp_added pages f l target vp (runs (CreateVp partition vp) refl a a.further.0) (start_vp vp) (unless (contains_key f.vp (target, vp)) free) (leb-true 4 (available f target) a.further.1.1.0)
 
-  port_lawful : (partition port peer : ℕ) (kind : PortKind) (sint vp base count : ℕ) → IsAllowed f caller (CreatePort partition port peer kind sint vp base count) → IsBounded (CreatePort partition port peer kind sint vp base count) → IsLawful pages (counted (call_effect (CreatePort partition port peer kind sint vp base count) f caller (target_of (CreatePort partition port peer kind sint vp base count) caller)))
+  port_lawful : (partition port peer : ℕ) (kind : PortKind) (sint : ℕ) (vp : Aim) (base count : ℕ) → IsAllowed f caller (CreatePort partition port peer kind sint vp base count) → IsBounded (CreatePort partition port peer kind sint vp base count) → IsLawful pages (counted (call_effect (CreatePort partition port peer kind sint vp base count) f caller (target_of (CreatePort partition port peer kind sint vp base count) caller)))
   port_lawful partition port peer kind sint vp base count a bounded =
       let target = target_of (CreatePort partition port peer kind sint vp base count) caller in
       port_added pages f l target port (runs (CreatePort partition port peer kind sint vp base count) refl a a.further.0) _ refl

@@ -7,11 +7,12 @@ use Rattle.std.specs.Ordering.{eq_by_cmp}
 use Rattle.hv_defs.specs.Flags.{pair_cmp}
 use Rattle.hv_policy.proofs.Pairs.{pair_cmp_total}
 use Rattle.hv_policy.proofs.Rows.{get-rows_but}
-use Rattle.hv_policy.proofs.SameMail.{kept_at_place}
+use Rattle.hv_policy.proofs.SameMail.{kept_among}
+use Rattle.hv_policy.specs.Aim.{aims_at}
 use Rattle.hv_policy.specs.Effect.{rows_but}
 use Rattle.hv_policy.specs.Flat.{Flat, MailRow, PortRow}
 use Rattle.hv_policy.specs.Mail.{Place, as_shown, came_through, is_shown, kept_of, mail_at, shown_next, stands_at, with_first_shown}
-use Rattle.hv_laws.specs.Lawful.{IsLawful, IsPort, is_aimed}
+use Rattle.hv_laws.specs.Lawful.{IsLawful, IsPort, is_aimed, mail_where, stands_where}
 
 -- whether a message's birth is past, and it stands where its port aims
 abbrev pub is_placed_by : ℕ → FinMap pair_cmp PortRow → MailRow → Bool
@@ -121,7 +122,7 @@ module _ (served : ℕ) (ports : FinMap pair_cmp PortRow) where
       one q other false is = (mail_counted mail are).ports q other is
 
       aimed : (row : MailRow) (b : Bool) → port.born == row.born ≡ false → is_aimed row (get ports (row.part, row.port)) ≡ true → is_aimed row (cond b (Some port) (get ports (row.part, row.port))) ≡ true
-      aimed row true apart h = ap (λ b. not b || ((row.vp == port.vp) && (row.sint == port.sint))) apart
+      aimed row true apart h = ap (λ b. not b || (aims_at port.vp row.vp && (row.sint == port.sint))) apart
       aimed row false apart h = h
 
       still : (row : MailRow) → is_placed_by served ports row ≡ true → is_placed_by (served + 1) (insert ports key port) row ≡ true
@@ -133,23 +134,20 @@ module _ (served : ℕ) (ports : FinMap pair_cmp PortRow) where
           (ap (is_aimed row) (get-insert pair_cmp_total ports key port (row.part, row.port)) ∙ aimed row (eq_by_cmp pair_cmp (row.part, row.port) key) apart parts.1)
 
 -- the messages of a port that is there are counted where it aims
-pub kept_where_aimed : (pages : ℕ) (f : Flat) → IsLawful pages f → (part port born : ℕ) (row : PortRow) → get f.port (part, port) ≡ Some row → row.born ≡ born → kept_of part port born f.mail ≡ kept_of part port born (mail_at (record { part = part; vp = row.vp; sint = row.sint }) f.mail)
+pub kept_where_aimed : (pages : ℕ) (f : Flat) → IsLawful pages f → (part port born : ℕ) (row : PortRow) → get f.port (part, port) ≡ Some row → row.born ≡ born → kept_of part port born f.mail ≡ kept_of part port born (mail_where part row.vp row.sint f.mail)
 kept_where_aimed pages f l part port born row there same =
-    kept_at_place part port born place f.mail
-    (all_also (λ m. is_placed_by f.served f.port m ≡ true) (λ m. came_through part port born m ≡ true → stands_at place m ≡ true) stands f.mail l.placed)
+    kept_among part port born (stands_where part row.vp row.sint) f.mail
+    (all_also (λ m. is_placed_by f.served f.port m ≡ true) (λ m. came_through part port born m ≡ true → stands_where part row.vp row.sint m ≡ true) stands f.mail l.placed)
   where
-    place : Place
-    place = record { part = part; vp = row.vp; sint = row.sint }
-
     unless : (b : Bool) (rest : Bool) → b ≡ true → (not b || rest) ≡ true → rest ≡ true
     unless true rest is h = h
     unless false rest is h = cc
 
-    stands : (m : MailRow) → is_placed_by f.served f.port m ≡ true → came_through part port born m ≡ true → stands_at place m ≡ true
+    stands : (m : MailRow) → is_placed_by f.served f.port m ≡ true → came_through part port born m ≡ true → stands_where part row.vp row.sint m ≡ true
     stands m is came =
         let first = and_parts (m.part == part) ((m.port == port) && (m.born == born)) came in
         let second = and_parts (m.port == port) (m.born == born) first.1 in
         let found : get f.port (m.part, m.port) ≡ Some row = (λ i. get f.port (eqb-true m.part part first.0 i, eqb-true m.port port second.0 i)) ∙ there in
         let aimed : is_aimed m (Some row) ≡ true = sym (ap (is_aimed m) found) ∙ (and_parts (nat_le m.born f.served) (is_aimed m (get f.port (m.part, m.port))) is).1 in
         let its : row.born == m.born ≡ true = eq-eqb row.born m.born (same ∙ sym (eqb-true m.born born second.1)) in
-        and_from _ _ first.0 (unless (row.born == m.born) ((m.vp == row.vp) && (m.sint == row.sint)) its aimed)
+        and_from _ _ first.0 (unless (row.born == m.born) (aims_at row.vp m.vp && (m.sint == row.sint)) its aimed)

@@ -10,14 +10,14 @@ use Rattle.hv_calls.specs.declared.call.Call.{Call}
 use Rattle.hv_calls.specs.declared.call.Call.TheVariants.{CreatePartition, InitializePartition, FinalizePartition, DeletePartition, GetPartitionProperty, SetPartitionProperty, GetPartitionId, GetNextChildPartition, DepositMemory, WithdrawMemory, GetMemoryBalance, CreateVp, DeleteVp, GetVpRegisters, SetVpRegisters, DeletePort, DisconnectPort, PostMessage, SignalEvent, CreatePort, ConnectPort}
 use Rattle.hv_defs.proofs.Counts.{passes}
 use Rattle.hv_defs.proofs.Tallies.{count-fewer}
-use Rattle.hv_defs.specs.Registers.{name_of_msr, takes_messages}
+use Rattle.hv_defs.specs.Registers.{name_of_msr}
 use Rattle.hv_defs.specs.declared.life.Life.TheVariants.{Active, Finalized}
 use Rattle.hv_defs.specs.declared.registers.TheConstants.{EOM}
 use Rattle.hv_defs.specs.declared.sizes.TheConstants.{ROOT_ID, SINTS}
-use Rattle.hv_policy.specs.Aim.{Aim, aim_of, on_vp}
+use Rattle.hv_policy.specs.Aim.{Aimed, aim_of, flag_taker, is_ready_for_messages, message_taker, on_vp}
 use Rattle.hv_policy.specs.Boot.{boot, root_row}
 use Rattle.hv_policy.specs.Call.{called}
-use Rattle.hv_policy.specs.Effect.{action_effect, call_effect, changed_at, end_if, given, mask_of, narrowed, narrowed_row, narrows, new_row, post_to, served_effect, show_each, signal_to, with_row, with_vp, write_msr, write_register, written}
+use Rattle.hv_policy.specs.Effect.{action_effect, call_effect, changed_at, end_if, given, mask_of, narrowed, narrowed_row, narrows, new_row, post_at, post_to, served_effect, show_each, signal_at, signal_to, with_row, with_vp, write_msr, write_register, written}
 use Rattle.hv_policy.specs.Flat.{Flat, PartRow}
 use Rattle.hv_policy.specs.Needs.{target_of}
 use Rattle.hv_policy.specs.Property.{property_of}
@@ -64,9 +64,9 @@ shown_part part vp (suc n) f = shown_part part vp n f
 
 ended_part : (is : Bool) (part vp : ℕ) (f : Flat) → (end_if is part vp f).part ≡ f.part
 ended_part false part vp f = refl
-ended_part true part vp f = by (on_vp f (part, vp) (λ row. takes_messages row.registers)) refl
+ended_part true part vp f = by (on_vp f (part, vp) is_ready_for_messages) refl
   where
-    by : (b : Bool) → on_vp f (part, vp) (λ row. takes_messages row.registers) ≡ b → (end_if true part vp f).part ≡ f.part
+    by : (b : Bool) → on_vp f (part, vp) is_ready_for_messages ≡ b → (end_if true part vp f).part ≡ f.part
     by true is = rw is (shown_part part vp SINTS f)
     by false is = rw is refl
 
@@ -77,13 +77,21 @@ pub msr_part : (part vp : ℕ) (name : Option ℕ) (value : ℕ) (f : Flat) → 
 msr_part part vp None value f = refl
 msr_part part vp (Some name) value f = register_part part vp name value f
 
-pub posted_part : (aim : Option Aim) (type : ℕ) (payload : List ℕ) (f : Flat) → (post_to aim type payload f).part ≡ f.part
+pub posted_part : (aim : Option Aimed) (type : ℕ) (payload : List ℕ) (f : Flat) → (post_to aim type payload f).part ≡ f.part
 posted_part None type payload f = refl
-posted_part (Some aim) type payload f = refl
+posted_part (Some aim) type payload f = by (message_taker f aim)
+  where
+    by : (vp : Option ℕ) → (post_at aim vp type payload f).part ≡ f.part
+    by None = refl
+    by (Some vp) = refl
 
-pub signalled_part : (aim : Option Aim) (flag : ℕ) (f : Flat) → (signal_to aim flag f).part ≡ f.part
+pub signalled_part : (aim : Option Aimed) (flag : ℕ) (f : Flat) → (signal_to aim flag f).part ≡ f.part
 signalled_part None flag f = refl
-signalled_part (Some aim) flag f = refl
+signalled_part (Some aim) flag f = by (flag_taker f aim)
+  where
+    by : (vp : Option ℕ) → (signal_at aim vp flag f).part ≡ f.part
+    by None = refl
+    by (Some vp) = refl
 
 -- the same partitions are none more
 as_many : (f g : Flat) → g.part ≡ f.part → len g.part ≤ len f.part + 1

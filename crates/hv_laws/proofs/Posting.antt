@@ -3,22 +3,32 @@ use Rattle.std.proofs.Common.{◌≡◌, ℕ, zero, suc, ◌+◌, ◌==◌, ◌&
 use Rattle.std.proofs.lemmas.Bool.{and_from, eq-eqb, eqb-true, le-leb, or_right}
 use Rattle.std.specs.FinMap.{get}
 use Rattle.std.specs.Option.{option_map_or}
-use Rattle.hv_defs.specs.Registers.{takes_messages}
+use Rattle.hv_defs.specs.declared.aim.Aim.{Aim}
+use Rattle.hv_defs.specs.declared.aim.Aim.TheVariants.{One, Any}
 use Rattle.hv_defs.specs.declared.registers.TheConstants.{EOM}
 use Rattle.hv_defs.specs.declared.sizes.TheConstants.{SINTS}
-use Rattle.hv_policy.specs.Aim.{Aim, aim_by, aim_of, aim_with, is_same_birth, on_aim, on_vp, vp_key}
-use Rattle.hv_policy.specs.Effect.{end_if, post, post_to, row_raised, row_signalled, show, show_each, signal_to, write_msr, write_register, written}
-use Rattle.hv_policy.specs.Flat.{ConnRow, Flat, MailRow, PortRow}
+use Rattle.hv_policy.specs.Aim.{Aimed, aim_by, aim_of, aim_with, aims_at, flag_taker, is_same_birth, is_ready_for_messages, message_taker, on_aim, on_vp, taker}
+use Rattle.hv_policy.specs.Effect.{end_if, post, post_at, post_to, row_raised, row_signalled, show, show_each, signal_at, signal_to, write_msr, write_register, written}
+use Rattle.hv_policy.specs.Flat.{ConnRow, Flat, MailRow, PortRow, VpRow}
 use Rattle.hv_policy.specs.Mail.{Place, cleared, has_next, place_of, shown_next, stands_at}
 use Rattle.hv_laws.proofs.Mailing.{is_placed_by, mail_last, mail_left, mail_shown, mailed_of}
 use Rattle.hv_laws.proofs.Staffing.{mail_changed, mailed_changed, vp_changed}
 use Rattle.hv_laws.specs.Lawful.{IsLawful, is_aimed}
 
--- the message that comes through a connection to a port
-abbrev row_through : ConnRow → PortRow → ℕ → List ℕ → MailRow
-row_through conn port type payload = record {
+-- the processor that takes what comes to a port is one at which the port aims
+taker_aimed : (is_ready : VpRow → Bool) (f : Flat) (id : ℕ) (aim : Aim) (vp : ℕ) → taker is_ready f id aim ≡ Some vp → aims_at aim vp ≡ true
+taker_aimed is_ready f id (One index) vp is = by (on_vp f (id, index) is_ready) is
+  where
+    by : (b : Bool) → cond b (Some index) None ≡ Some vp → vp == index ≡ true
+    by true is = (let same : vp ≡ index = cc in eq-eqb vp index same)
+    by false is = cc
+taker_aimed is_ready f id Any vp is = refl
+
+-- the message that comes through a connection to a port, at the processor that takes it
+abbrev row_through : ConnRow → PortRow → ℕ → ℕ → List ℕ → MailRow
+row_through conn port vp type payload = record {
   part = conn.part;
-  vp = port.vp;
+  vp = vp;
   sint = port.sint;
   port = conn.port;
   born = conn.born;
@@ -42,7 +52,7 @@ module _ (pages : ℕ) where
   -- a message ends, by a write of EOM
   ended_lawful : (is : Bool) (part vp : ℕ) (f : Flat) → IsLawful pages f → IsLawful pages (end_if is part vp f)
   ended_lawful false part vp f l = l
-  ended_lawful true part vp f l = by (on_vp f (part, vp) (λ row. takes_messages row.registers))
+  ended_lawful true part vp f l = by (on_vp f (part, vp) is_ready_for_messages)
     where
       by : (b : Bool) → IsLawful pages (cond b (show_each part vp SINTS f) f)
       by true = each_shown part vp SINTS f l
@@ -71,20 +81,31 @@ module _ (pages : ℕ) where
     where
       by_port : (conn : ConnRow) (port : Option PortRow) → get f.port (conn.part, conn.port) ≡ port → option_map_or is_same_birth (aim_with conn port) false ≡ true → IsLawful pages (post_to (aim_with conn port) type payload f)
       by_port conn None is born = l
-      by_port conn (Some port) is born = posted_lawful (row_through conn port type payload) f placed l
+      by_port conn (Some port) is born = by_vp (message_taker f aim) refl
         where
-          placed : is_placed_by f.served f.port (row_through conn port type payload) ≡ true
-          placed =
+          aim : Aimed
+          aim = record { conn = conn; port = port }
+
+          placed : (vp : ℕ) → message_taker f aim ≡ Some vp → is_placed_by f.served f.port (row_through conn port vp type payload) ≡ true
+          placed vp takes =
               let past = (l.ports (conn.part, conn.port) port is).born in
               let same = eqb-true port.born conn.born born in
               and_from _ _ (le-leb conn.born f.served (omega arith))
-              (ap (is_aimed (row_through conn port type payload)) is ∙ or_right _ _ (and_from _ _ (eq-eqb port.vp port.vp refl) (eq-eqb port.sint port.sint refl)))
+              (ap (is_aimed (row_through conn port vp type payload)) is ∙ or_right _ _ (and_from _ _ (taker_aimed is_ready_for_messages f conn.part port.vp vp takes) (eq-eqb port.sint port.sint refl)))
+
+          by_vp : (o : Option ℕ) → message_taker f aim ≡ o → IsLawful pages (post_at aim o type payload f)
+          by_vp None takes = l
+          by_vp (Some vp) takes = posted_lawful (row_through conn port vp type payload) f (placed vp takes) l
 
       by_conn : (conn : Option ConnRow) → option_map_or is_same_birth (aim_by f conn) false ≡ true → IsLawful pages (post_to (aim_by f conn) type payload f)
       by_conn None born = l
       by_conn (Some conn) born = by_port conn (get f.port (conn.part, conn.port)) refl born
 
   -- a flag through a connection
-  pub signal_lawful : (aim : Option Aim) (flag : ℕ) (f : Flat) → IsLawful pages f → IsLawful pages (signal_to aim flag f)
+  pub signal_lawful : (aim : Option Aimed) (flag : ℕ) (f : Flat) → IsLawful pages f → IsLawful pages (signal_to aim flag f)
   signal_lawful None flag f l = l
-  signal_lawful (Some aim) flag f l = vp_changed pages f l (vp_key aim) (row_signalled aim.port.sint (aim.port.base + flag))
+  signal_lawful (Some aim) flag f l = by (flag_taker f aim)
+    where
+      by : (o : Option ℕ) → IsLawful pages (signal_at aim o flag f)
+      by None = l
+      by (Some vp) = vp_changed pages f l (aim.conn.part, vp) (row_signalled aim.port.sint (aim.port.base + flag))

@@ -11,19 +11,19 @@ use Rattle.hv_calls.specs.Params.{parameters}
 use Rattle.hv_calls.specs.declared.call.Call.{Call}
 use Rattle.hv_calls.specs.declared.call.Call.TheVariants.{CreatePartition, FinalizePartition, SetPartitionProperty, DeleteVp, GetVpRegisters, SetVpRegisters, PostMessage, SignalEvent}
 use Rattle.hv_defs.specs.Flags.{pair_cmp}
-use Rattle.hv_defs.specs.Registers.{kept, name_of_msr, row_of, takes_messages}
+use Rattle.hv_defs.specs.Registers.{kept, name_of_msr, row_of}
 use Rattle.hv_defs.specs.declared.registers.RegisterRow.{RegisterRow}
 use Rattle.hv_defs.specs.declared.registers.TheConstants.{EOM}
 use Rattle.hv_defs.specs.declared.sizes.TheConstants.{MAX_DEPTH, MAX_MESSAGES, SINTS}
 use Rattle.hv_policy.proofs.SameMail.{all_same, kept_same, left_same, next_same, slot_same}
-use Rattle.hv_policy.specs.Aim.{Aim, aim_by, aim_of, is_same_birth, on_aim, on_vp}
+use Rattle.hv_policy.specs.Aim.{Aimed, aim_by, aim_of, flag_taker, is_ready_for_messages, is_same_birth, message_taker, on_aim, on_vp}
 use Rattle.hv_policy.specs.Answer.{answer, output, output_of, reply_with}
 use Rattle.hv_policy.specs.Call.{called}
 use Rattle.hv_policy.specs.Count.{depth_within, one_more, parent_of}
-use Rattle.hv_policy.specs.Effect.{action_effect, call_effect, counted, effect, end_if, post, post_to, row_raised, served_effect, show, show_each, signal_to, with_vp, write_msr, write_register, written}
+use Rattle.hv_policy.specs.Effect.{action_effect, call_effect, counted, effect, end_if, post, post_at, post_to, row_raised, served_effect, show, show_each, signal_at, signal_to, with_vp, write_msr, write_register, written}
 use Rattle.hv_policy.specs.Flat.{ConnRow, Flat, MailRow, VpRow}
 use Rattle.hv_policy.specs.Mail.{Place, has_next, is_shown, is_some_row, place_at, place_of, stands_at}
-use Rattle.hv_policy.specs.Met.{has_available, has_flag, has_message_room, has_privilege, is_aimed_at_vp, is_for_messages, is_in, is_in_range, is_kin, is_ready_for_flags, is_ready_for_messages, may_access, may_access_msr, may_give, on_part, takes_msr}
+use Rattle.hv_policy.specs.Met.{has_available, has_flag, has_flag_taker, has_message_room, has_message_taker, has_privilege, is_aimed_at_vp, is_for_messages, is_in, is_in_range, is_kin, may_access, may_access_msr, may_give, on_part, takes_msr}
 use Rattle.hv_policy.specs.Needs.{charge_of, needs_of, target_of}
 use Rattle.hv_policy.specs.Property.{property_of}
 use Rattle.hv_policy.specs.Same.{IsSame, IsSameMail}
@@ -81,8 +81,8 @@ each_same part vp (suc sint) f g s = shown_same (record { part = part; vp = vp; 
 ended_same : (is : Bool) (part vp : ℕ) (f g : Flat) → IsSame f g → IsSame (end_if is part vp f) (end_if is part vp g)
 ended_same false part vp f g s = s
 ended_same true part vp f g s =
-    subst (λ b. IsSame (end_if true part vp f) (cond b (show_each part vp SINTS g) g)) (ap (λ (vps : FinMap pair_cmp VpRow). option_map_or (λ row. takes_messages row.registers) (get vps (part, vp)) false) s.vp)
-    (by (on_vp f (part, vp) (λ row. takes_messages row.registers)))
+    subst (λ b. IsSame (end_if true part vp f) (cond b (show_each part vp SINTS g) g)) (ap (λ (vps : FinMap pair_cmp VpRow). option_map_or is_ready_for_messages (get vps (part, vp)) false) s.vp)
+    (by (on_vp f (part, vp) is_ready_for_messages))
   where
     by : (b : Bool) → IsSame (cond b (show_each part vp SINTS f) f) (cond b (show_each part vp SINTS g) g)
     by true = each_same part vp SINTS f g s
@@ -140,10 +140,10 @@ module _ (f : Flat) (mail : List MailRow) (same : IsSameMail f.mail mail) where
   aims key = aim_same (get f.conn key)
 
   -- a test of where a connection leads, which looks at the state alike
-  led : (key : ℕ × ℕ) (test other : Aim → Bool) → ((aim : Aim) → test aim ≡ other aim) → on_aim f key test ≡ on_aim g key other
+  led : (key : ℕ × ℕ) (test other : Aimed → Bool) → ((aim : Aimed) → test aim ≡ other aim) → on_aim f key test ≡ on_aim g key other
   led key test other same = λ i. option_map_or (λ aim. same aim i) (aims key i) false
 
-  room_same : (aim : Aim) → has_message_room f aim ≡ has_message_room g aim
+  room_same : (aim : Aimed) → has_message_room f aim ≡ has_message_room g aim
   room_same aim = ap (λ n. nat_lt n MAX_MESSAGES) (kept_same aim.conn.part aim.conn.port aim.conn.born f.mail mail same)
 
   module _ (caller target : ℕ) (states : States) (charge : ℕ) where
@@ -162,13 +162,13 @@ module _ (f : Flat) (mail : List MailRow) (same : IsSameMail f.mail mail) where
         (Connection, contains_key f.conn (target, connection)) ∷ (Port, led (target, connection) is_same_birth is_same_birth (λ _. refl) i)
         ∷ (VpExists, led (target, connection) (is_aimed_at_vp f) (is_aimed_at_vp g) (λ _. refl) i)
         ∷ (Subject, led (target, connection) is_for_messages is_for_messages (λ _. refl) i)
-        ∷ (VpReady, led (target, connection) (is_ready_for_messages f) (is_ready_for_messages g) (λ _. refl) i)
+        ∷ (VpReady, led (target, connection) (has_message_taker f) (has_message_taker g) (λ _. refl) i)
         ∷ (PortRoom, led (target, connection) (has_message_room f) (has_message_room g) room_same i) ∷ []
     call_same (SignalEvent connection flag) = λ i.
         (Connection, contains_key f.conn (target, connection)) ∷ (Port, led (target, connection) is_same_birth is_same_birth (λ _. refl) i)
         ∷ (VpExists, led (target, connection) (is_aimed_at_vp f) (is_aimed_at_vp g) (λ _. refl) i)
         ∷ (Subject, led (target, connection) (has_flag flag) (has_flag flag) (λ _. refl) i)
-        ∷ (VpReady, led (target, connection) (is_ready_for_flags f) (is_ready_for_flags g) (λ _. refl) i) ∷ []
+        ∷ (VpReady, led (target, connection) (has_flag_taker f) (has_flag_taker g) (λ _. refl) i) ∷ []
     call_same call = refl
 
   targets_same : (caller : ℕ) (call : Call) → target_asks f caller call ≡ target_asks g caller call
@@ -220,13 +220,21 @@ module _ (f : Flat) (mail : List MailRow) (same : IsSameMail f.mail mail) where
   posted_alike : (row : MailRow) → IsSame (post row f) (post row g)
   posted_alike row = shown_same (place_of row) _ _ (alike f (f.mail ++ row ∷ []) (mail ++ row ∷ []) (last_same row f.mail mail same))
 
-  through_same : (aim : Option Aim) (type : ℕ) (payload : List ℕ) → IsSame (post_to aim type payload f) (post_to aim type payload g)
+  through_same : (aim : Option Aimed) (type : ℕ) (payload : List ℕ) → IsSame (post_to aim type payload f) (post_to aim type payload g)
   through_same None type payload = alike f f.mail mail same
-  through_same (Some aim) type payload = posted_alike _
+  through_same (Some aim) type payload = by (message_taker f aim)
+    where
+      by : (o : Option ℕ) → IsSame (post_at aim o type payload f) (post_at aim o type payload g)
+      by None = alike f f.mail mail same
+      by (Some vp) = posted_alike _
 
-  signal_same : (aim : Option Aim) (flag : ℕ) → IsSame (signal_to aim flag f) (signal_to aim flag g)
+  signal_same : (aim : Option Aimed) (flag : ℕ) → IsSame (signal_to aim flag f) (signal_to aim flag g)
   signal_same None flag = alike f f.mail mail same
-  signal_same (Some aim) flag = alike (signal_to (Some aim) flag f) f.mail mail same
+  signal_same (Some aim) flag = by (flag_taker f aim)
+    where
+      by : (o : Option ℕ) → IsSame (signal_at aim o flag f) (signal_at aim o flag g)
+      by None = alike f f.mail mail same
+      by (Some vp) = alike (signal_at aim (Some vp) flag f) f.mail mail same
 
   call_effect_same : (call : Call) (caller target : ℕ) → IsSame (call_effect call f caller target) (call_effect call g caller target)
   call_effect_same (FinalizePartition partition) caller target =

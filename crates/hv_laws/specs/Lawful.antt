@@ -1,8 +1,10 @@
 -- What holds of every state of the flat model.
-use Rattle.std.specs.Prelude.{◌≡◌, ℕ, ◌+◌, ◌≤◌, ◌<◌, ◌==◌, ◌&&◌, ◌||◌, not, Bool, true, false, nat_le, nat_lt, Option, None, Some}
-use Rattle.std.specs.List.{AllByRecursion}
+use Rattle.std.specs.Prelude.{◌≡◌, ℕ, ◌+◌, ◌≤◌, ◌<◌, ◌==◌, ◌&&◌, ◌||◌, not, Bool, true, false, nat_le, nat_lt, List, Option, None, Some}
+use Rattle.std.specs.List.{AllByRecursion, filter}
 use Rattle.std.specs.FinMap.{get, contains_key}
+use Rattle.hv_defs.specs.declared.aim.Aim.{Aim}
 use Rattle.hv_defs.specs.declared.sizes.TheConstants.{EVENT_FLAGS, SINTS}
+use Rattle.hv_policy.specs.Aim.{aims_at}
 use Rattle.hv_policy.specs.Count.{in_use, pooled_count}
 use Rattle.hv_policy.specs.Flat.{Flat, MailRow, PartRow, PageRow, PortRow}
 use Rattle.hv_policy.specs.Met.{is_running}
@@ -16,9 +18,17 @@ pub record IsPort (served : ℕ) (port : PortRow) : Type 0 where
   -- its birth is past
   pub born : port.born ≤ served
 
+-- a message stands where a port of a partition aims: at that SINT of the one processor, or of any processor there
+abbrev pub stands_where : ℕ → Aim → ℕ → MailRow → Bool
+stands_where part aim sint row = (row.part == part) && (aims_at aim row.vp && (row.sint == sint))
+
+-- the messages that do
+abbrev pub mail_where : ℕ → Aim → ℕ → List MailRow → List MailRow
+mail_where part aim sint mail = filter (stands_where part aim sint) mail
+
 abbrev pub is_aimed : MailRow → Option PortRow → Bool
 is_aimed row None = true
-is_aimed row (Some port) = not (port.born == row.born) || ((row.vp == port.vp) && (row.sint == port.sint))
+is_aimed row (Some port) = not (port.born == row.born) || (aims_at port.vp row.vp && (row.sint == port.sint))
 
 -- a message came through a port whose birth is past, and as long as that port is there it stands where the port aims
 abbrev pub is_placed : Flat → MailRow → Bool

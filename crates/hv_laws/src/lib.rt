@@ -10,7 +10,7 @@ ghost use Rattle.hv_policy.specs.Boot.{boot};
 ghost use Rattle.hv_policy.specs.Effect.{effect};
 ghost use Rattle.hv_policy.specs.Flat.{Flat, PartRow, VpRow, PortRow, ConnRow};
 ghost use Rattle.hv_abi.specs.declared.frame.Frame.{Frame};
-ghost use Rattle.hv_policy.specs.Mail.{kept_of, mail_at};
+ghost use Rattle.hv_policy.specs.Mail.{kept_of};
 ghost use Rattle.hv_policy.specs.Same.{IsSame};
 ghost use Rattle.hv_policy.specs.Next.{GoesOn};
 ghost use Rattle.hv_policy.specs.Result.{HasResult};
@@ -24,7 +24,7 @@ ghost use Rattle.hv_policy.specs.declared.event.Event.{Event};
 ghost use Rattle.hv_policy.specs.Met.{is_active, is_running};
 ghost use Rattle.hv_policy.specs.BootFault.{boot_fault};
 ghost use Rattle.hv_privs.specs.Privileges.{IsSubset};
-ghost use Rattle.hv_laws.specs.Lawful.{IsLawful};
+ghost use Rattle.hv_laws.specs.Lawful.{IsLawful, mail_where};
 
 /// The state that boot gives is lawful, one event leaves a lawful state lawful, and so is each state that
 /// events lead to.
@@ -51,11 +51,12 @@ pub fn each_row_is_of_a_running_partition()
 {}
 
 /// In a lawful state all messages of a port that is there stand where it aims, so that those that stand
-/// there are all that it has.
+/// there are all that it has: at its SINT of the processor at which it aims, and of all processors of its
+/// partition where it aims at any.
 pub fn each_message_is_counted_where_its_port_aims()
     ensures kept { (pages : ℕ) (f : Flat) → IsLawful pages f → (part port born : ℕ) (row : PortRow)
         → get f.port (part, port) ≡ Some row → row.born ≡ born → kept_of part port born f.mail
-        ≡ kept_of part port born (mail_at (record { part = part; vp = row.vp; sint = row.sint }) f.mail) }
+        ≡ kept_of part port born (mail_where part row.vp row.sint f.mail) }
 {}
 
 /// A partition that is Active gets no privilege that it hasn't got: what was taken from it stays taken.

@@ -3,6 +3,7 @@ use Rattle.std.proofs.Common.{◌≡◌, ℕ, ◌+◌, not, Bool, true, false, i
 use Rattle.std.specs.FinMap.{contains_key, get, insert, remove}
 use Rattle.std.specs.Option.{option_map}
 use Rattle.hv_calls.specs.declared.call.Call.TheVariants.{CreatePort, ConnectPort, DeletePort, DisconnectPort}
+use Rattle.hv_defs.specs.declared.aim.Aim.{Aim}
 use Rattle.hv_defs.specs.declared.port_kind.PortKind.{PortKind}
 use Rattle.hv_partition.specs.Partition.{PartitionState}
 use Rattle.hv_policy.specs.Needs.{meant_id, target_of}
@@ -25,7 +26,7 @@ mapped : {X Y : Type 0} (h : X → Y) (o : Option X) → is_some (option_map h o
 mapped h None = refl
 mapped h (Some x) = refl
 
-module _ (rows : Rows PartitionState) (caller partition port peer : ℕ) (kind : PortKind) (sint vp base count : ℕ) where
+module _ (rows : Rows PartitionState) (caller partition port peer : ℕ) (kind : PortKind) (sint : ℕ) (vp : Aim) (base count : ℕ) where
   pub may_add_port : (a : IsAdmitted rows caller (CreatePort partition port peer kind sint vp base count)) → unmet_further a.rows.flat caller (CreatePort partition port peer kind sint vp base count) ≡ None → MayAddPort rows (target_of (CreatePort partition port peer kind sint vp base count) caller) port
   may_add_port a met =
       let target = target_of (CreatePort partition port peer kind sint vp base count) caller in

@@ -9,10 +9,10 @@ ghost use Rattle.hv_tie.specs.Tie.{IsTied};
 
 use crate::rows::{add_conn, add_port, remove_conn, remove_port};
 use crate::rules::{born_of, has_conn, has_port, is_kind, is_peer, is_there};
-use hv_defs::{CONNECTION_CHARGE, PORT_CHARGE, PortKind};
+use hv_defs::{Aim, CONNECTION_CHARGE, PORT_CHARGE, PortKind};
 use hv_policy::{CallOutput, Rule, States};
 use hv_ports::{Conn, Port};
-use hv_tie::{Partitions, Refused, has_available, has_vp, is_state_allowed, meant};
+use hv_tie::{Partitions, Refused, has_available, has_target, is_state_allowed, meant};
 use std::alloc::{AllocError, Allocator};
 
 /// A port to be made, as HvCreatePort has it.
@@ -24,9 +24,9 @@ pub struct NewPort {
     pub peer: u64,
     /// What it takes.
     pub kind: PortKind,
-    /// The SINT and the processor that it aims at.
+    /// The SINT that it aims at, and at which processor.
     pub sint: u32,
-    pub vp: u32,
+    pub vp: Aim,
     /// The first of an event port's flags, and their count. A message port has none, whatever stands here.
     pub base: u16,
     pub count: u16,
@@ -88,7 +88,7 @@ fn unmet_create<A: Allocator>(
     if has_port(tree, target, new.port) {
         return Some(Rule::Port);
     }
-    if !has_vp(tree, target, new.vp) {
+    if !has_target(tree, target, new.vp) {
         return Some(Rule::VpExists);
     }
     if !has_available(tree, target, PORT_CHARGE) {

@@ -1,42 +1,39 @@
 -- The calls and accesses of this chapter, carried over to the flat state.
-use Rattle.std.proofs.Common.{◌≡◌, ℕ, ◌+◌, ◌<◌, ◌≤◌, true, false, List, Option, Some, None, is_some, refl, sym, ap, subst, ◌∙◌}
+use Rattle.std.proofs.Common.{◌≡◌, ℕ, ◌+◌, ◌<◌, ◌≤◌, false, Bool, cond, List, Option, Some, None, refl, sym, ap, subst, ◌∙◌}
 use Rattle.std.proofs.lemmas.Bool.{eqb-true}
-use Rattle.std.specs.FinMap.{contains_key, get}
+use Rattle.std.specs.FinMap.{get}
 use Rattle.std.specs.FinSet as set
-use Rattle.std.specs.Option.{option_map}
+use Rattle.std.specs.Option.{option_map, option_map_or}
 use Rattle.hv_calls.specs.declared.call.Call.TheVariants.{PostMessage, SignalEvent}
+use Rattle.hv_defs.specs.declared.aim.Aim.{Aim}
+use Rattle.hv_defs.specs.declared.aim.Aim.TheVariants.{One, Any}
+use Rattle.hv_defs.specs.declared.port_kind.PortKind.{PortKind}
+use Rattle.hv_defs.specs.declared.port_kind.PortKind.TheVariants as port_type
 use Rattle.hv_defs.specs.Vectors.{highest, without}
 use Rattle.hv_defs.specs.declared.sizes.TheConstants.{EVENT_FLAGS, SINTS}
 use Rattle.hv_mail.specs.Mail.{count_of}
 use Rattle.hv_mail.specs.declared.message.Message.{Message}
 use Rattle.hv_partition.specs.Partition.{PartitionState}
-use Rattle.hv_policy.specs.Effect.{call_effect, post, post_to, signal_to, with_vp}
-use Rattle.hv_policy.specs.Flat.{Flat, MailRow}
+use Rattle.hv_policy.specs.Aim.{Aimed, flag_taker, is_ready_for_flags, is_ready_for_messages, message_taker, taker}
+use Rattle.hv_policy.specs.Effect.{call_effect, post, post_at, post_to, signal_at, signal_to, with_vp}
+use Rattle.hv_policy.specs.Flat.{Flat, MailRow, VpRow}
 use Rattle.hv_policy.proofs.SameMail.{kept_same}
 use Rattle.hv_policy.specs.Mail.{cleared, kept_of, place_at}
 use Rattle.hv_policy.specs.declared.event.Caller.{Caller}
-use Rattle.hv_tie.proofs.Kept.{kept_counted}
+use Rattle.hv_ports.specs.declared.ports.Conn.{Conn}
+use Rattle.hv_ports.specs.declared.ports.Port.{Port}
+use Rattle.hv_tie.proofs.Kept.{kept_by_any, kept_by_one}
 use Rattle.hv_tie.proofs.Mailed.{flag_cleared_tied, interrupted_tied, posted_tied, signalled_tied, slot_cleared_tied}
-use Rattle.hv_tie.proofs.Staff.{vp_in, vp_there}
+use Rattle.hv_tie.proofs.Staff.{vp_in}
+use Rattle.hv_tie.proofs.Takers.{lowest_gone, lowest_there, one_there, taker_there}
 use Rattle.hv_tie.specs.Served.{AreLawful}
 use Rattle.hv_tie.specs.Tie.{IsTied, here, mail_row, port_row_of, vp_row_of}
 use Rattle.hv_tie.specs.Vp.{with_state_of}
 use Rattle.hv_tree.specs.Rows.{Row, Rows, change, content}
+use Rattle.hv_vp.specs.Vps.{is_ready, kept_by_all, lowest}
 use Rattle.hv_vp.specs.Vp.{VpState, flag_cleared, interrupted, posted, signalled, slot_cleared}
-use Rattle.hv_messages.specs.Aimed.{IsReached, aim_row}
+use Rattle.hv_messages.specs.Aimed.{IsReached, aim_row, taker_of}
 use Rattle.hv_messages.specs.declared.aims.Target.{Target}
-
-module _ (rows : Rows PartitionState) (f : Flat) (flat : IsTied rows f) (id index : ℕ) where
-  abbrev changed : (VpState → VpState) → Rows PartitionState
-  changed g = change rows id (with_state_of index g)
-
-  -- a processor that the flat state has is there
-  pub vp_found : contains_key f.vp (id, index) ≡ true → (v : VpState) × (vp_in index (get rows id) ≡ Some v)
-  vp_found h = by (vp_in index (get rows id)) refl (sym (ap is_some (vp_there rows f flat id index)) ∙ h)
-    where
-      by : (o : Option VpState) → vp_in index (get rows id) ≡ o → is_some (option_map vp_row_of o) ≡ true → (v : VpState) × (vp_in index (get rows id) ≡ Some v)
-      by None is h = cc
-      by (Some v) is h = (v, is)
 
 module _ (rows new : Rows PartitionState) (f : Flat) (flat : IsTied rows f) (by : Caller) where
   pub slot_gone : (sint : ℕ) → new ≡ change rows by.part (with_state_of by.vp (slot_cleared sint)) → IsTied new (record f { mail = cleared (place_at by sint) f.mail })
@@ -48,42 +45,92 @@ module _ (rows new : Rows PartitionState) (f : Flat) (flat : IsTied rows f) (by 
   pub vector_gone : new ≡ change rows by.part (with_state_of by.vp interrupted) → IsTied new (record f { vp = with_vp f.vp (by.part, by.vp) (λ row. record row { pending = without row.pending (highest row.pending) }) })
   vector_gone is = subst (λ r. IsTied r (record f { vp = with_vp f.vp (by.part, by.vp) (λ row. record row { pending = without row.pending (highest row.pending) }) })) (sym is) (interrupted_tied rows f flat by.part by.vp)
 
-module _ (rows new : Rows PartitionState) (f : Flat) (flat : IsTied rows f) (caller connection : ℕ) (target : Target) (reached : IsReached f (caller, connection) target) where
-  pub flag_set : (sint flag at : ℕ) → sint ≡ target.port.sint → at ≡ target.port.base + flag → new ≡ change rows target.conn.part (with_state_of target.port.vp (signalled sint at)) → IsTied new (call_effect (SignalEvent connection flag) f caller caller)
-  flag_set sint flag at same sum is =
-      subst (λ aim. IsTied new (signal_to aim flag f)) (sym reached.aim)
-      (subst (λ r. IsTied r (signal_to (Some (aim_row target)) flag f)) (sym (is ∙ ap (λ s. change rows target.conn.part (with_state_of target.port.vp (signalled s at))) same ∙ ap (λ n. change rows target.conn.part (with_state_of target.port.vp (signalled target.port.sint n))) sum))
-      (signalled_tied rows f flat target.conn.part target.port.vp target.port.sint (target.port.base + flag)))
+module _ (rows new : Rows PartitionState) (f : Flat) (flat : IsTied rows f) (caller connection : ℕ) (target : Target) (reached : IsReached f (caller, connection) target.conn target.port) where
+  abbrev aim : Aimed
+  aim = aim_row target.conn target.port
 
-  pub message_posted : (sint type : ℕ) (payload : List ℕ) (message : Message) → sint ≡ target.port.sint → message.port ≡ target.conn.port → message.born ≡ target.conn.born → message.kind ≡ type → message.payload.items ≡ payload → new ≡ change rows target.conn.part (with_state_of target.port.vp (posted sint message)) → IsTied new (call_effect (PostMessage connection type payload) f caller caller)
-  message_posted sint type payload message at port born kind bytes is =
-      let (v, there) = vp_found rows f flat target.conn.part target.port.vp reached.vp in
-      let row : MailRow = mail_row (here target.conn.part target.port.vp sint) false message in
-      let same : row ≡ record { part = target.conn.part; vp = target.port.vp; sint = target.port.sint; port = target.conn.port; born = target.conn.born; type = type; payload = payload; shown = false } =
-      (λ i. record { part = target.conn.part; vp = target.port.vp; sint = at i; port = port i; born = born i; type = kind i; payload = bytes i; shown = false }) in
+  pub flag_set : (sint flag at : ℕ) → flag_taker f aim ≡ Some target.vp → sint ≡ target.port.sint → at ≡ target.port.base + flag → new ≡ change rows target.conn.part (with_state_of target.vp (signalled sint at)) → IsTied new (call_effect (SignalEvent connection flag) f caller caller)
+  flag_set sint flag at taken same sum is =
+      subst (λ aim. IsTied new (signal_to aim flag f)) (sym reached.aim)
+      (subst (λ vp. IsTied new (signal_at aim vp flag f)) (sym taken)
+      (subst (λ r. IsTied r (signal_at aim (Some target.vp) flag f)) (sym (is ∙ ap (λ s. change rows target.conn.part (with_state_of target.vp (signalled s at))) same ∙ ap (λ n. change rows target.conn.part (with_state_of target.vp (signalled target.port.sint n))) sum))
+      (signalled_tied rows f flat target.conn.part target.vp target.port.sint (target.port.base + flag))))
+
+  pub message_posted : (sint type : ℕ) (payload : List ℕ) (message : Message) → message_taker f aim ≡ Some target.vp → sint ≡ target.port.sint → message.port ≡ target.conn.port → message.born ≡ target.conn.born → message.kind ≡ type → message.payload.items ≡ payload → new ≡ change rows target.conn.part (with_state_of target.vp (posted sint message)) → IsTied new (call_effect (PostMessage connection type payload) f caller caller)
+  message_posted sint type payload message taken at port born kind bytes is =
+      let (v, there) = taker_there rows f flat target.conn.part is_ready_for_messages target.port.vp target.vp taken in
+      let row : MailRow = mail_row (here target.conn.part target.vp sint) false message in
+      let same : row ≡ record { part = target.conn.part; vp = target.vp; sint = target.port.sint; port = target.conn.port; born = target.conn.born; type = type; payload = payload; shown = false } =
+      (λ i. record { part = target.conn.part; vp = target.vp; sint = at i; port = port i; born = born i; type = kind i; payload = bytes i; shown = false }) in
       subst (λ aim. IsTied new (post_to aim type payload f)) (sym reached.aim)
+      (subst (λ vp. IsTied new (post_at aim vp type payload f)) (sym taken)
       (subst (λ row. IsTied new (post row f)) same
-      (subst (λ r. IsTied r (post row f)) (sym is) (posted_tied rows f flat target.conn.part target.port.vp sint v there message)))
+      (subst (λ r. IsTied r (post row f)) (sym is) (posted_tied rows f flat target.conn.part target.vp sint v there message))))
+
+-- the processor that takes what comes to a port, as the tree has it
+module _ (rows : Rows PartitionState) (f : Flat) (flat : IsTied rows f) (conn : Conn) (port : Port) where
+  -- of a partition that isn't there none
+  pub taker_gone : (kind : PortKind) → content rows conn.part ≡ None → taker_of kind f (aim_row conn port) ≡ None
+  taker_gone kind gone = by_kind kind
+    where
+      none : (o : Option (Row PartitionState)) → option_map (λ r. r.1) o ≡ None → o ≡ None
+      none None is = refl
+      none (Some r) is = cc
+
+      by_aim : (test : VpRow → Bool) (aim : Aim) → taker test f conn.part aim ≡ None
+      by_aim test (One index) = ap (λ b. cond b (Some index) None) (one_there rows f flat conn.part test index ∙ ap (λ r. option_map_or (λ v. test (vp_row_of v)) (vp_in index r) false) (none (get rows conn.part) gone))
+      by_aim test Any = lowest_gone rows f flat conn.part test (none (get rows conn.part) gone)
+
+      by_kind : (kind : PortKind) → taker_of kind f (aim_row conn port) ≡ None
+      by_kind port_type.Message = by_aim is_ready_for_messages port.vp
+      by_kind port_type.Event = by_aim is_ready_for_flags port.vp
+
+  module _ (p : PartitionState) (is : content rows conn.part ≡ Some p) where
+    -- for any the lowest that is ready
+    pub taker_any : (kind : PortKind) → port.vp ≡ Any → lowest (is_ready kind) p.vps.vps ≡ taker_of kind f (aim_row conn port)
+    taker_any kind any = by (get rows conn.part) refl is
+      where
+        by : (o : Option (Row PartitionState)) → get rows conn.part ≡ o → option_map (λ r. r.1) o ≡ Some p → lowest (is_ready kind) p.vps.vps ≡ taker_of kind f (aim_row conn port)
+        by None there is = cc
+        by (Some r) there is = by_kind kind
+          where
+            vps : p.vps.vps ≡ r.1.vps.vps
+            vps = let same : p ≡ r.1 = cc in ap (λ (p : PartitionState). p.vps.vps) same
+
+            by_aim : (test : VpRow → Bool) → lowest (λ v. test (vp_row_of v)) p.vps.vps ≡ taker test f conn.part port.vp
+            by_aim test = ap (lowest (λ v. test (vp_row_of v))) vps ∙ sym (ap (taker test f conn.part) any ∙ lowest_there rows f flat conn.part test r there)
+
+            by_kind : (kind : PortKind) → lowest (is_ready kind) p.vps.vps ≡ taker_of kind f (aim_row conn port)
+            by_kind port_type.Message = by_aim is_ready_for_messages
+            by_kind port_type.Event = by_aim is_ready_for_flags
 
 -- where a connection leads, the law says what its port may keep
-module _ (rows : Rows PartitionState) (a : AreLawful rows) (key : ℕ × ℕ) (target : Target) (reached : (f : Flat) → IsTied rows f → IsReached f key target) where
-  pub sint_bound : target.port.sint < SINTS
-  sint_bound = (a.lawful.ports (target.conn.part, target.conn.port) _ (reached a.flat a.tied).port).sint
+module _ (rows : Rows PartitionState) (a : AreLawful rows) (key : ℕ × ℕ) (conn : Conn) (port : Port) (reached : (f : Flat) → IsTied rows f → IsReached f key conn port) where
+  pub sint_bound : port.sint < SINTS
+  sint_bound = (a.lawful.ports (conn.part, conn.port) _ (reached a.flat a.tied).row).sint
 
-  pub flags_bound : target.port.base + target.port.count ≤ EVENT_FLAGS
-  flags_bound = (a.lawful.ports (target.conn.part, target.conn.port) _ (reached a.flat a.tied).port).flags
+  pub flags_bound : port.base + port.count ≤ EVENT_FLAGS
+  flags_bound = (a.lawful.ports (conn.part, conn.port) _ (reached a.flat a.tied).row).flags
 
-  -- and the messages that came through it are those of its processor's mailbox
-  pub kept_there : (f : Flat) → IsTied rows f → (p : PartitionState) → content rows target.conn.part ≡ Some p → (v : VpState) → get p.vps.vps target.port.vp ≡ Some v → kept_of target.conn.part target.conn.port target.conn.born f.mail ≡ count_of target.conn.port target.conn.born v.mail
-  kept_there f flat p is v aimed = by (get rows target.conn.part) refl is
-    where
-      by : (o : Option (Row PartitionState)) → get rows target.conn.part ≡ o → option_map (λ r. r.1) o ≡ Some p → kept_of target.conn.part target.conn.port target.conn.born f.mail ≡ count_of target.conn.port target.conn.born v.mail
-      by None there is = cc
-      by (Some r) there is =
-          let at = reached a.flat a.tied in
-          let same : r.1 ≡ p = cc in
-          let born : target.port.born ≡ target.conn.born = eqb-true target.port.born target.conn.born at.born in
-          kept_same target.conn.part target.conn.port target.conn.born f.mail a.flat.mail (λ place. (flat.rows place.part).mail place.vp place.sint ∙ sym ((a.tied.rows place.part).mail place.vp place.sint))
-          ∙ ap (λ b. kept_of target.conn.part target.conn.port b a.flat.mail) (sym born)
-          ∙ kept_counted rows a.flat a.tied a.pages a.lawful target.conn.part target.conn.port (port_row_of target.port) at.port r there v (ap {A = PartitionState} (λ p. get p.vps.vps target.port.vp) same ∙ aimed)
-          ∙ ap (λ b. count_of target.conn.port b v.mail) born
+  -- and that the messages that came through it are those of its processor's mailbox, or of all its partition's
+  module _ (f : Flat) (flat : IsTied rows f) (p : PartitionState) (is : content rows conn.part ≡ Some p) where
+    kept_is : (n : ℕ → ℕ) → ((r : Row PartitionState) → get rows conn.part ≡ Some r → r.1 ≡ p → kept_of conn.part conn.port port.born a.flat.mail ≡ n port.born) → kept_of conn.part conn.port conn.born f.mail ≡ n conn.born
+    kept_is n counted = by (get rows conn.part) refl is
+      where
+        by : (o : Option (Row PartitionState)) → get rows conn.part ≡ o → option_map (λ r. r.1) o ≡ Some p → kept_of conn.part conn.port conn.born f.mail ≡ n conn.born
+        by None there is = cc
+        by (Some r) there is =
+            let same : r.1 ≡ p = cc in
+            let born : port.born ≡ conn.born = eqb-true port.born conn.born (reached a.flat a.tied).born in
+            kept_same conn.part conn.port conn.born f.mail a.flat.mail (λ place. (flat.rows place.part).mail place.vp place.sint ∙ sym ((a.tied.rows place.part).mail place.vp place.sint))
+            ∙ ap (λ b. kept_of conn.part conn.port b a.flat.mail) (sym born) ∙ counted r there same ∙ ap n born
+
+    pub kept_at_one : (vp : ℕ) (v : VpState) → port.vp ≡ One vp → get p.vps.vps vp ≡ Some v → kept_of conn.part conn.port conn.born f.mail ≡ count_of conn.port conn.born v.mail
+    kept_at_one vp v aim found =
+        kept_is (λ b. count_of conn.port b v.mail)
+        (λ r there same. kept_by_one rows a.flat a.tied a.pages a.lawful conn.part conn.port (port_row_of port) (reached a.flat a.tied).row r there vp v (ap {A = PartitionState} (λ p. get p.vps.vps vp) same ∙ found) aim)
+
+    pub kept_at_any : kept_of conn.part conn.port conn.born f.mail ≡ kept_by_all conn.port conn.born p.vps.vps
+    kept_at_any =
+        kept_is (λ b. kept_by_all conn.port b p.vps.vps)
+        (λ r there same. kept_by_any rows a.flat a.tied a.pages a.lawful conn.part conn.port (port_row_of port) (reached a.flat a.tied).row r there ∙ ap {A = PartitionState} (λ p. kept_by_all conn.port port.born p.vps.vps) same)

@@ -2,25 +2,31 @@
 ghost use Rattle.std.specs.Prelude.{◌≡◌, option_map, IfOk, IfErr, Some};
 ghost use Rattle.std.specs.FinMap.{get};
 ghost use Rattle.hv_policy.specs.Flat.{Flat};
-ghost use Rattle.hv_policy.specs.Met.{has_message_room as has_message_room_of, is_ready_for_flags};
-ghost use Rattle.hv_policy.specs.Met.{is_ready_for_messages};
+ghost use Rattle.hv_policy.specs.Met.{has_message_room as has_message_room_of};
 ghost use Rattle.hv_policy.specs.Rules.{first_unmet};
 ghost use Rattle.hv_tie.specs.Served.{AreLawful};
 ghost use Rattle.hv_tie.specs.Tie.{IsTied, conn_row_of, port_row_of};
-ghost use Rattle.hv_messages.specs.Aimed.{IsReached, aim_row, reach_asks};
+ghost use Rattle.hv_messages.specs.Aimed.{IsReached, aim_row, reach_asks, taker_of};
 
-use hv_defs::MAX_MESSAGES;
+use hv_defs::{Aim, MAX_MESSAGES, PortKind};
 use hv_policy::Rule;
 use hv_ports::{Conn, Port};
-use hv_tie::{Partitions, has_vp};
-use hv_vp::Vp;
+use hv_tie::{Partitions, has_target};
 use std::alloc::Allocator;
 
-// A connection, and the port with the id that it keeps.
+// What a connection is aimed at: the connection, and the port with the id that it keeps.
+#[derive(Clone, Copy)]
+pub struct Aimed {
+    pub conn: Conn,
+    pub port: Port,
+}
+
+// The same with the processor that takes what comes that way, of those of the port's partition.
 #[derive(Clone, Copy)]
 pub struct Target {
     pub conn: Conn,
     pub port: Port,
+    pub vp: u32,
 }
 
 // P16, P17 and P19 of a post or a signal: where the caller's connection leads, or the first of them that
@@ -29,9 +35,9 @@ pub fn reach<A: Allocator>(
     tree: &Partitions<A>,
     caller: u64,
     connection: u32,
-) -> Result<Target, Rule>
-    ensures reached { IfOk result (λ target. (f : Flat) → IsTied tree.now f
-        → IsReached f (caller, connection) target) }
+) -> Result<Aimed, Rule>
+    ensures reached { IfOk result (λ aimed. (f : Flat) → IsTied tree.now f
+        → IsReached f (caller, connection) aimed.conn aimed.port) }
     ensures first { IfErr result (λ rule. (f : Flat) → IsTied tree.now f
         → first_unmet (reach_asks f (caller, connection)) ≡ Some rule) }
 {
@@ -44,10 +50,10 @@ pub fn reach<A: Allocator>(
     if port.born != conn.born {
         return Err(Rule::Port);
     }
-    if !has_vp(tree, conn.part, port.vp) {
+    if !has_target(tree, conn.part, port.vp) {
         return Err(Rule::VpExists);
     }
-    Ok(Target { conn, port })
+    Ok(Aimed { conn, port })
 }
 
 // A partition's connection with this id, if it has one.
@@ -70,49 +76,48 @@ fn port_of<A: Allocator>(tree: &Partitions<A>, id: u64, port: u32) -> Option<Por
     }
 }
 
-// P22 of a message: whether the port's processor takes messages.
-pub fn takes_messages<A: Allocator>(tree: &Partitions<A>, target: Target) -> bool
-    ensures { (f : Flat) → IsTied tree.now f → result ≡ is_ready_for_messages f (aim_row target) }
+// P22: the processor of the port's partition that takes what a port of this kind takes, if there is one: the
+// one at which the port aims, if it is ready, and for any the lowest of those that are.
+pub fn taker<A: Allocator>(tree: &Partitions<A>, aimed: Aimed, kind: PortKind) -> Option<u32>
+    ensures { (f : Flat) → IsTied tree.now f → result ≡ taker_of kind f (aim_row aimed.conn aimed.port) }
 {
-    let Some(partition) = tree.get(target.conn.part) else {
-        return false;
+    let Some(partition) = tree.get(aimed.conn.part) else {
+        return None;
     };
-    match partition.vp(target.port.vp) {
-        None => false,
-        Some(vp) => vp.ready_for_messages(),
+    match aimed.port.vp {
+        Aim::One(index) => {
+            let Some(vp) = partition.vp(index) else {
+                return None;
+            };
+            if vp.is_ready(kind) { Some(index) } else { None }
+        }
+        Aim::Any => partition.lowest_ready(kind),
     }
 }
 
-// P22 of a signal: whether the port's processor takes event flags.
-pub fn takes_flags<A: Allocator>(tree: &Partitions<A>, target: Target) -> bool
-    ensures { (f : Flat) → IsTied tree.now f → result ≡ is_ready_for_flags f (aim_row target) }
-{
-    let Some(partition) = tree.get(target.conn.part) else {
-        return false;
-    };
-    match partition.vp(target.port.vp) {
-        None => false,
-        Some(vp) => vp.ready_for_flags(),
-    }
-}
-
-// P23: whether fewer than the most messages of the port and its birth are kept. They stand at the port's
-// processor, if anywhere.
+// P23: whether fewer than the most messages of the port and its birth are kept. They stand at the processor
+// at which the port aims, and for any at processors of its partition.
 pub fn has_message_room<A: Allocator>(
     tree: &Partitions<A>,
     caller: u64,
     connection: u32,
-    target: Target,
+    aimed: Aimed,
 ) -> bool
     requires lawful { AreLawful tree.now }
-    requires reached { (f : Flat) → IsTied tree.now f → IsReached f (caller, connection) target }
-    ensures { (f : Flat) → IsTied tree.now f → result ≡ has_message_room_of f (aim_row target) }
+    requires reached { (f : Flat) → IsTied tree.now f
+        → IsReached f (caller, connection) aimed.conn aimed.port }
+    ensures { (f : Flat) → IsTied tree.now f
+        → result ≡ has_message_room_of f (aim_row aimed.conn aimed.port) }
 {
-    let Some(partition) = tree.get(target.conn.part) else {
+    let Some(partition) = tree.get(aimed.conn.part) else {
         return false;
     };
-    match partition.vp(target.port.vp) {
-        None => false,
-        Some(vp) => vp.of_port(target.conn.port, target.conn.born) < MAX_MESSAGES as usize,
+    let most = MAX_MESSAGES as usize;
+    match aimed.port.vp {
+        Aim::One(index) => match partition.vp(index) {
+            None => false,
+            Some(vp) => vp.of_port(aimed.conn.port, aimed.conn.born) < most,
+        },
+        Aim::Any => partition.keep_fewer(aimed.conn.port, aimed.conn.born, most),
     }
 }

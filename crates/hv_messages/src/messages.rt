@@ -6,9 +6,9 @@ ghost use Rattle.hv_policy.specs.Flat.{Flat};
 ghost use Rattle.hv_policy.specs.Met.{is_kind};
 ghost use Rattle.hv_tie.specs.Served.{AreLawful, IsAdmitted, IsOutcome, unmet_further};
 ghost use Rattle.hv_tie.specs.Tie.{IsTied};
-ghost use Rattle.hv_messages.specs.Aimed.{IsReached};
+ghost use Rattle.hv_messages.specs.Aimed.{IsReached, aim_row, taker_of};
 
-use crate::aims::{Target, has_message_room, reach, takes_flags, takes_messages};
+use crate::aims::{Target, has_message_room, reach, taker};
 use crate::rows::{post, signal};
 use hv_calls::Payload;
 use hv_defs::PortKind;
@@ -18,8 +18,9 @@ use hv_ports::Port;
 use hv_tie::{Partitions, Refused};
 use std::alloc::{AllocError, Allocator};
 
-/// HvPostMessage: a message goes last among those at the SINT at which the connection's port aims. Where
-/// none is shown there, the oldest is, and the SINT raises its vector.
+/// HvPostMessage: a message goes last among those at the SINT at which the connection's port aims, of the
+/// processor at which it aims, or of the lowest that is ready for messages where it aims at any. Where none is
+/// shown there, the oldest is, and the SINT raises its vector.
 pub fn post_message<A: Allocator + Clone>(
     tree: &mut Partitions<A>,
     caller: u64,
@@ -42,13 +43,14 @@ pub fn post_message<A: Allocator + Clone>(
         payload: payload.to_array(),
     };
     let sint = target.port.sint as u8;
-    match post(tree, target.conn.part, target.port.vp, sint, message) {
+    match post(tree, target.conn.part, target.vp, sint, message) {
         Ok(()) => Ok(CallOutput::new()),
         Err(AllocError) => Err(Refused::Memory),
     }
 }
 
-// P16, P17, P19, P21, P22 and P23: where the connection leads, or the first of them that isn't met.
+// P16, P17, P19, P21, P22 and P23: where the connection leads and the processor that takes the message, or the
+// first of them that isn't met.
 fn ask_post<A: Allocator>(
     tree: &Partitions<A>,
     caller: u64,
@@ -56,26 +58,32 @@ fn ask_post<A: Allocator>(
 ) -> Result<Target, Rule>
     requires { AreLawful tree.now }
     ensures reached { IfOk result (λ target. (f : Flat) → IsTied tree.now f
-        → IsReached f (caller, connection) target) }
+        → IsReached f (caller, connection) target.conn target.port) }
+    ensures taker { IfOk result (λ target. (f : Flat) → IsTied tree.now f
+        → taker_of port_type.Message f (aim_row target.conn target.port) ≡ Some target.vp) }
     ensures met { IfOk result (λ _. (f : Flat) (type : ℕ) (payload : List ℕ) → IsTied tree.now f
         → unmet_further f caller (call.PostMessage connection type payload) ≡ None) }
     ensures first { IfErr result (λ rule. (f : Flat) (type : ℕ) (payload : List ℕ) → IsTied tree.now f
         → unmet_further f caller (call.PostMessage connection type payload) ≡ Some rule) }
 {
-    let target = match reach(tree, caller, connection) {
-        Ok(target) => target,
+    let aimed = match reach(tree, caller, connection) {
+        Ok(aimed) => aimed,
         Err(rule) => return Err(rule),
     };
-    if !is_for_messages(target.port) {
+    if !is_for_messages(aimed.port) {
         return Err(Rule::Subject);
     }
-    if !takes_messages(tree, target) {
+    let Some(vp) = taker(tree, aimed, PortKind::Message) else {
         return Err(Rule::VpReady);
-    }
-    if !has_message_room(tree, caller, connection, target) {
+    };
+    if !has_message_room(tree, caller, connection, aimed) {
         return Err(Rule::PortRoom);
     }
-    Ok(target)
+    Ok(Target {
+        conn: aimed.conn,
+        port: aimed.port,
+        vp,
+    })
 }
 
 // P21 of a post: whether the port takes messages.
@@ -89,7 +97,8 @@ fn is_for_messages(port: Port) -> bool
 }
 
 /// HvSignalEvent: an event flag of the SINT at which the connection's port aims is set, counted from the
-/// port's first flag. Where it was clear, the SINT raises its vector.
+/// port's first flag, at the processor at which it aims, or at the lowest that is ready for event flags where it
+/// aims at any. Where it was clear, the SINT raises its vector.
 pub fn signal_event<A: Allocator>(
     tree: &mut Partitions<A>,
     caller: u64,
@@ -108,14 +117,15 @@ pub fn signal_event<A: Allocator>(
     signal(
         tree,
         target.conn.part,
-        target.port.vp,
+        target.vp,
         sint,
         target.port.base + flag,
     );
     Ok(CallOutput::new())
 }
 
-// P16, P17, P19, P21 and P22: where the connection leads, or the first of them that isn't met.
+// P16, P17, P19, P21 and P22: where the connection leads and the processor that takes the event flag, or the
+// first of them that isn't met.
 fn ask_signal<A: Allocator>(
     tree: &Partitions<A>,
     caller: u64,
@@ -123,24 +133,30 @@ fn ask_signal<A: Allocator>(
     flag: u16,
 ) -> Result<Target, Rule>
     ensures reached { IfOk result (λ target. (f : Flat) → IsTied tree.now f
-        → IsReached f (caller, connection) target) }
+        → IsReached f (caller, connection) target.conn target.port) }
+    ensures taker { IfOk result (λ target. (f : Flat) → IsTied tree.now f
+        → taker_of port_type.Event f (aim_row target.conn target.port) ≡ Some target.vp) }
     ensures flag { IfOk result (λ target. flag < target.port.count) }
     ensures met { IfOk result (λ _. (f : Flat) → IsTied tree.now f
         → unmet_further f caller (call.SignalEvent connection flag) ≡ None) }
     ensures first { IfErr result (λ rule. (f : Flat) → IsTied tree.now f
         → unmet_further f caller (call.SignalEvent connection flag) ≡ Some rule) }
 {
-    let target = match reach(tree, caller, connection) {
-        Ok(target) => target,
+    let aimed = match reach(tree, caller, connection) {
+        Ok(aimed) => aimed,
         Err(rule) => return Err(rule),
     };
-    if !has_flag(target.port, flag) {
+    if !has_flag(aimed.port, flag) {
         return Err(Rule::Subject);
     }
-    if !takes_flags(tree, target) {
+    let Some(vp) = taker(tree, aimed, PortKind::Event) else {
         return Err(Rule::VpReady);
-    }
-    Ok(target)
+    };
+    Ok(Target {
+        conn: aimed.conn,
+        port: aimed.port,
+        vp,
+    })
 }
 
 // P21 of a signal: whether the port takes event flags and has one of this number.

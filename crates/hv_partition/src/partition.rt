@@ -9,12 +9,13 @@ ghost use Rattle.hv_pages.specs.PageSet.{IsDisjoint, IsLowest};
 ghost use Rattle.hv_partition.specs.Partition.{new_partition, in_use, available, finalized};
 ghost use Rattle.hv_partition.specs.Partition.{pages_in, with_pages, with_vp_of};
 ghost use Rattle.hv_partition.specs.contracts.partition.Partition.{the_row};
+ghost use Rattle.hv_vp.specs.Vps.{is_ready, kept_by_all, lowest};
 ghost use Rattle.hv_vp.specs.contracts.vp.Vp.{the_row as vp_row};
 
 use crate::PageKind;
 use hv_defs::{
     CONNECTION_CHARGE, CPU_CAP_START, CPU_RESERVE_START, CPU_WEIGHT_START, Life, PARTITION_CHARGE,
-    PORT_CHARGE, VP_CHARGE,
+    PORT_CHARGE, PortKind, VP_CHARGE,
 };
 use hv_pages::PageSet;
 use hv_ports::{ConnTable, PortTable};
@@ -214,6 +215,21 @@ impl<A: Allocator> Partition<A> {
         ensures value { option_copied_mut result ≡ map.get self.old.vps.vps index }
     {
         self.vps.get_mut(index)
+    }
+
+    /// The lowest index of a processor that is ready for what a port of this kind takes, if one is.
+    pub fn lowest_ready(&self, kind: PortKind) -> Option<u32>
+        ensures { result ≡ lowest (is_ready kind) self.now.vps.vps }
+    {
+        self.vps.lowest_ready(kind)
+    }
+
+    /// Whether all its processors together have fewer messages than so many, shown or waiting, that came through
+    /// this port of this birth.
+    pub fn keep_fewer(&self, port: u32, born: u64, most: usize) -> bool
+        ensures { result ≡ nat_lt (kept_by_all port born self.now.vps.vps) most }
+    {
+        self.vps.keep_fewer(port, born, most)
     }
 
     /// How many processors the partition has.

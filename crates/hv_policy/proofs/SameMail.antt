@@ -59,15 +59,15 @@ count_same test (suc n) (row ∷ mail) others few same =
 pub kept_same : (part port born : ℕ) (mail others : List MailRow) → IsSameMail mail others → kept_of part port born mail ≡ kept_of part port born others
 kept_same part port born mail others same = count_same (came_through part port born) (length mail) mail others (omega arith) same
 
--- where all messages of a port stand at one place, they are counted there alone
-pub kept_at_place : (part port born : ℕ) (place : Place) (mail : List MailRow) → AllByRecursion (λ row. came_through part port born row ≡ true → stands_at place row ≡ true) mail → kept_of part port born mail ≡ kept_of part port born (mail_at place mail)
-kept_at_place part port born place [] h = refl
-kept_at_place part port born place (row ∷ mail) h = sum_by-cons (λ r. cond (came_through part port born r) 1 0) row mail ∙ by (came_through part port born row) (stands_at place row) refl refl (kept_at_place part port born place mail h.1)
+-- where all messages of a port pass a test, those that pass it are counted alone
+pub kept_among : (part port born : ℕ) (here : MailRow → Bool) (mail : List MailRow) → AllByRecursion (λ row. came_through part port born row ≡ true → here row ≡ true) mail → kept_of part port born mail ≡ kept_of part port born (filter here mail)
+kept_among part port born here [] h = refl
+kept_among part port born here (row ∷ mail) h = sum_by-cons (λ r. cond (came_through part port born r) 1 0) row mail ∙ by (came_through part port born row) (here row) refl refl (kept_among part port born here mail h.1)
   where
-    by : (a b : Bool) → came_through part port born row ≡ a → stands_at place row ≡ b → kept_of part port born mail ≡ kept_of part port born (mail_at place mail) → cond a 1 0 + kept_of part port born mail ≡ kept_of part port born (cond b (row ∷ mail_at place mail) (mail_at place mail))
-    by true true s t rest = ap (λ n. 1 + n) rest ∙ sym (sum_by-cons (λ r. cond (came_through part port born r) 1 0) row (mail_at place mail) ∙ ap (λ b. cond b 1 0 + kept_of part port born (mail_at place mail)) s)
+    by : (a b : Bool) → came_through part port born row ≡ a → here row ≡ b → kept_of part port born mail ≡ kept_of part port born (filter here mail) → cond a 1 0 + kept_of part port born mail ≡ kept_of part port born (cond b (row ∷ filter here mail) (filter here mail))
+    by true true s t rest = ap (λ n. 1 + n) rest ∙ sym (sum_by-cons (λ r. cond (came_through part port born r) 1 0) row (filter here mail) ∙ ap (λ b. cond b 1 0 + kept_of part port born (filter here mail)) s)
     by true false s t rest = let is = h.0 s in cc
-    by false true s t rest = ap (λ n. 0 + n) rest ∙ sym (sum_by-cons (λ r. cond (came_through part port born r) 1 0) row (mail_at place mail) ∙ ap (λ b. cond b 1 0 + kept_of part port born (mail_at place mail)) s)
+    by false true s t rest = ap (λ n. 0 + n) rest ∙ sym (sum_by-cons (λ r. cond (came_through part port born r) 1 0) row (filter here mail) ∙ ap (λ b. cond b 1 0 + kept_of part port born (filter here mail)) s)
     by false false s t rest = zero-add _ ∙ rest
 
 -- what all of one list have all of the other have

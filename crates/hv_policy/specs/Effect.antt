@@ -21,7 +21,7 @@ use Rattle.hv_policy.specs.declared.event.Action.{Action}
 use Rattle.hv_policy.specs.declared.event.Action.TheVariants.{Hypercall, ReadMsr, WriteMsr, ReadSlot, ClearSlot, ReadFlags, ClearFlag, TakeInterrupt}
 use Rattle.hv_policy.specs.declared.event.Caller.{Caller}
 use Rattle.hv_policy.specs.declared.event.Event.{Event}
-use Rattle.hv_policy.specs.Aim.{Aim, aim_of, on_vp, vp_key}
+use Rattle.hv_policy.specs.Aim.{Aimed, aim_of, flag_taker, is_ready_for_messages, message_taker, on_vp}
 use Rattle.hv_policy.specs.Boot.{start_vp}
 use Rattle.hv_policy.specs.Call.{called}
 use Rattle.hv_policy.specs.Count.{lowest_pooled}
@@ -138,7 +138,7 @@ show_each part vp (suc sint) f = show (record { part = part; vp = vp; sint = sin
 
 -- a message ends: where the processor takes messages, Show at each of its SINTs
 abbrev pub end_message : ℕ → ℕ → Flat → Flat
-end_message part vp f = cond (on_vp f (part, vp) (λ row. register.takes_messages row.registers)) (show_each part vp SINTS f) f
+end_message part vp f = cond (on_vp f (part, vp) is_ready_for_messages) (show_each part vp SINTS f) f
 
 abbrev pub end_if : Bool → ℕ → ℕ → Flat → Flat
 end_if is part vp f = cond is (end_message part vp f) f
@@ -156,13 +156,13 @@ write_msr part vp (Some name) value f = write_register part vp name value f
 abbrev pub post : MailRow → Flat → Flat
 post row f = show (mail.place_of row) (record f { mail = f.mail ++ row ∷ [] })
 
--- through a connection, to the SINT at which its port aims
-abbrev pub post_to : Option Aim → ℕ → List ℕ → Flat → Flat
-post_to None type payload f = f
-post_to (Some aim) type payload f =
+-- through a connection, to the port's SINT of the processor that takes it
+abbrev pub post_at : Aimed → Option ℕ → ℕ → List ℕ → Flat → Flat
+post_at aim None type payload f = f
+post_at aim (Some vp) type payload f =
     post (record {
       part = aim.conn.part;
-      vp = aim.port.vp;
+      vp = vp;
       sint = aim.port.sint;
       port = aim.conn.port;
       born = aim.conn.born;
@@ -171,16 +171,24 @@ post_to (Some aim) type payload f =
       shown = false;
     }) f
 
+abbrev pub post_to : Option Aimed → ℕ → List ℕ → Flat → Flat
+post_to None type payload f = f
+post_to (Some aim) type payload f = post_at aim (message_taker f aim) type payload f
+
 -- a processor's row once a flag of a SINT was set, which raises the SINT's vector where it was clear
 abbrev pub row_signalled : ℕ → ℕ → VpRow → VpRow
 row_signalled sint flag row =
     row_raised (not (set.contains row.flags (sint, flag))) sint (record row { flags = set.insert row.flags (sint, flag) })
 
--- a flag is set through a connection, counted from the first of its port
-abbrev pub signal_to : Option Aim → ℕ → Flat → Flat
+-- a flag is set through a connection, counted from the first of its port, at the processor that takes it
+abbrev pub signal_at : Aimed → Option ℕ → ℕ → Flat → Flat
+signal_at aim None flag f = f
+signal_at aim (Some vp) flag f =
+    record f { vp = with_vp f.vp (aim.conn.part, vp) (row_signalled aim.port.sint (aim.port.base + flag)) }
+
+abbrev pub signal_to : Option Aimed → ℕ → Flat → Flat
 signal_to None flag f = f
-signal_to (Some aim) flag f =
-    record f { vp = with_vp f.vp (vp_key aim) (row_signalled aim.port.sint (aim.port.base + flag)) }
+signal_to (Some aim) flag f = signal_at aim (flag_taker f aim) flag f
 
 -- what a call changes, about its target, beside the count of served events
 abbrev pub call_effect : Call → Flat → ℕ → ℕ → Flat

@@ -4,6 +4,7 @@ use Rattle.std.specs.Ordering.{nat_cmp}
 use Rattle.std.specs.FinMap.{FinMap}
 use Rattle.hv_defs.specs.Flags.{FlagSet, pair_cmp}
 use Rattle.hv_defs.specs.Vectors.{VectorSet}
+use Rattle.hv_defs.specs.declared.aim.Aim.{Aim}
 use Rattle.hv_defs.specs.declared.life.Life.{Life}
 use Rattle.hv_defs.specs.declared.port_kind.PortKind.{PortKind}
 use Rattle.hv_privs.specs.declared.Privileges.{Privileges}
@@ -29,13 +30,13 @@ pub record VpRow : Type 0 where
   pub flags : FlagSet
   pub pending : VectorSet
 
--- a port: what it takes, the partition that may connect, the SINT and the processor it aims at, the first
+-- a port: what it takes, the partition that may connect, the SINT it aims at and at which processor, the first
 -- of its event flags and their count, and the count of served events that its making gave
 pub record PortRow : Type 0 where
   pub kind : PortKind
   pub peer : ℕ
   pub sint : ℕ
-  pub vp : ℕ
+  pub vp : Aim
   pub base : ℕ
   pub count : ℕ
   pub born : ℕ

@@ -1,5 +1,5 @@
 -- The tests that rules ask. Each fails where what it is about isn't there.
-use Rattle.std.specs.Prelude.{ℕ, ◌+◌, ◌==◌, ◌&&◌, ◌||◌, not, nat_le, nat_lt, Bool, true, false, is_ok, Option, None, Some}
+use Rattle.std.specs.Prelude.{ℕ, ◌+◌, ◌==◌, ◌&&◌, ◌||◌, not, nat_le, nat_lt, Bool, true, false, is_ok, is_some, Option, None, Some}
 use Rattle.std.specs.FinMap.{get, contains_key}
 use Rattle.std.specs.Option.{option_map_or}
 use Rattle.hv_defs.specs.Registers as register
@@ -11,7 +11,7 @@ use Rattle.hv_defs.specs.declared.registers.RegisterRow.{RegisterRow}
 use Rattle.hv_defs.specs.declared.sizes.TheConstants.{MAX_DEPTH, MAX_MESSAGES, MAX_VPS}
 use Rattle.hv_privs.specs.Privileges.{contains, of}
 use Rattle.hv_privs.specs.declared.Privileges.{Privileges}
-use Rattle.hv_policy.specs.Aim.{Aim, on_vp, vp_key}
+use Rattle.hv_policy.specs.Aim.{Aimed, flag_taker, has_target, message_taker}
 use Rattle.hv_policy.specs.Count.{available, child_count, depth, is_parent}
 use Rattle.hv_policy.specs.Flat.{Flat, PartRow, PageRow, PortRow}
 use Rattle.hv_policy.specs.Mail.{kept_of}
@@ -112,22 +112,24 @@ is_kind Event Event = true
 is_kind kind other = false
 
 -- where a connection leads: the port takes messages, or it has an event flag of this number
-abbrev pub is_for_messages : Aim → Bool
+abbrev pub is_for_messages : Aimed → Bool
 is_for_messages aim = is_kind aim.port.kind Message
 
-abbrev pub has_flag : ℕ → Aim → Bool
+abbrev pub has_flag : ℕ → Aimed → Bool
 has_flag flag aim = is_kind aim.port.kind Event && nat_lt flag aim.port.count
 
--- the processor at which the port aims is there, and takes messages, or event flags
-abbrev pub is_aimed_at_vp : Flat → Aim → Bool
-is_aimed_at_vp f aim = contains_key f.vp (vp_key aim)
+-- the processor at which the port aims is there, if it aims at one
+abbrev pub is_aimed_at_vp : Flat → Aimed → Bool
+is_aimed_at_vp f aim = has_target f aim.conn.part aim.port.vp
 
-abbrev pub is_ready_for_messages : Flat → Aim → Bool
-is_ready_for_messages f aim = on_vp f (vp_key aim) (λ row. register.takes_messages row.registers)
+-- a processor takes a message, or an event flag, that comes that way: the one at which the port aims is ready, and for
+-- any some processor of its partition
+abbrev pub has_message_taker : Flat → Aimed → Bool
+has_message_taker f aim = is_some (message_taker f aim)
 
-abbrev pub is_ready_for_flags : Flat → Aim → Bool
-is_ready_for_flags f aim = on_vp f (vp_key aim) (λ row. register.takes_flags row.registers)
+abbrev pub has_flag_taker : Flat → Aimed → Bool
+has_flag_taker f aim = is_some (flag_taker f aim)
 
--- fewer than the most messages of the port and its birth are kept, of all that are
-abbrev pub has_message_room : Flat → Aim → Bool
+-- fewer than the most messages of the port and its birth are kept, of all that are, at whichever processor they stand
+abbrev pub has_message_room : Flat → Aimed → Bool
 has_message_room f aim = nat_lt (kept_of aim.conn.part aim.conn.port aim.conn.born f.mail) MAX_MESSAGES

@@ -12,8 +12,8 @@ use Rattle.hv_calls.specs.declared.call.Call.TheVariants.{CreatePartition, Initi
 use Rattle.hv_defs.specs.Registers as register
 use Rattle.hv_defs.specs.declared.sizes.TheConstants.{EVENT_FLAGS, SINTS}
 use Rattle.hv_policy.specs.Flat.{Flat}
-use Rattle.hv_policy.specs.Aim.{is_same_birth, on_aim}
-use Rattle.hv_policy.specs.Met.{has_available, has_flag, has_message_room, has_privilege, is_aimed_at_vp, is_child, is_childless, is_depth_left, is_for_messages, is_in, is_in_range, is_kin, is_kind, is_loose, is_ready_for_flags, is_ready_for_messages, is_running, is_vp_free, may_access, may_access_msr, may_give, on_port, takes_msr}
+use Rattle.hv_policy.specs.Aim.{has_target, is_same_birth, on_aim}
+use Rattle.hv_policy.specs.Met.{has_available, has_flag, has_flag_taker, has_message_room, has_message_taker, has_privilege, is_aimed_at_vp, is_child, is_childless, is_depth_left, is_for_messages, is_in, is_in_range, is_kin, is_kind, is_loose, is_running, is_vp_free, may_access, may_access_msr, may_give, on_port, takes_msr}
 use Rattle.hv_policy.specs.Needs.{charge_of, meant_id, needs_of, target_of}
 use Rattle.hv_policy.specs.Property.{property_of}
 use Rattle.hv_policy.specs.declared.event.Action.{Action}
@@ -81,14 +81,14 @@ module _ (f : Flat) (caller target : ℕ) (states : States) (charge : ℕ) where
   call_asks (PostMessage connection message_type payload) =
       (Connection, contains_key f.conn (target, connection)) ∷ (Port, on_aim f (target, connection) is_same_birth)
       ∷ (VpExists, on_aim f (target, connection) (is_aimed_at_vp f)) ∷ (Subject, on_aim f (target, connection) is_for_messages)
-      ∷ (VpReady, on_aim f (target, connection) (is_ready_for_messages f)) ∷ (PortRoom, on_aim f (target, connection) (has_message_room f)) ∷ []
+      ∷ (VpReady, on_aim f (target, connection) (has_message_taker f)) ∷ (PortRoom, on_aim f (target, connection) (has_message_room f)) ∷ []
   call_asks (SignalEvent connection flag) =
       (Connection, contains_key f.conn (target, connection)) ∷ (Port, on_aim f (target, connection) is_same_birth)
       ∷ (VpExists, on_aim f (target, connection) (is_aimed_at_vp f)) ∷ (Subject, on_aim f (target, connection) (has_flag flag))
-      ∷ (VpReady, on_aim f (target, connection) (is_ready_for_flags f)) ∷ []
+      ∷ (VpReady, on_aim f (target, connection) (has_flag_taker f)) ∷ []
   call_asks (CreatePort partition port peer port_kind sint vp base count) =
       (TargetState, is_in f target states) ∷ (OtherExists, contains_key f.part (meant_id caller peer))
-      ∷ (Port, not (contains_key f.port (target, port))) ∷ (VpExists, contains_key f.vp (target, vp))
+      ∷ (Port, not (contains_key f.port (target, port))) ∷ (VpExists, has_target f target vp)
       ∷ (Pages, has_available f target charge) ∷ []
   call_asks (ConnectPort partition connection port_partition port port_kind) =
       (TargetState, is_in f target states) ∷ (OtherExists, contains_key f.part (meant_id caller port_partition))

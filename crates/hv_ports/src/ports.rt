@@ -1,6 +1,6 @@
 // Ports and connections, and their tables.
 use crate::table::Table;
-use hv_defs::PortKind;
+use hv_defs::{Aim, PortKind};
 
 /// A port (TLFS 4.0, "Inter-Partition Communication"): where the messages or the event flags of another
 /// partition arrive.
@@ -12,8 +12,8 @@ pub struct Port {
     pub peer: u64,
     /// The SINT that it aims at, below 16.
     pub sint: u32,
-    /// The index of the processor that it aims at.
-    pub vp: u32,
+    /// The processor that it aims at, or any.
+    pub vp: Aim,
     /// The first of an event port's flags, and 0 for a message port.
     pub base: u16,
     /// How many flags an event port has, and 0 for a message port.

@@ -6,13 +6,12 @@ use Rattle.std.specs.FinSet as set
 use Rattle.std.specs.Option.{option_map, option_map_or}
 use Rattle.std.specs.Ordering.{eq_by_cmp}
 use Rattle.hv_defs.specs.Flags.{pair_cmp}
-use Rattle.hv_defs.specs.Registers.{takes_messages}
 use Rattle.hv_defs.specs.declared.registers.TheConstants.{EOM}
 use Rattle.hv_defs.specs.declared.sizes.TheConstants.{SINTS}
 use Rattle.hv_policy.proofs.Pairs.{pair_cmp_exact}
 use Rattle.hv_policy.proofs.Rows.{get-with_vp}
-use Rattle.hv_policy.specs.Aim.{Aim, on_vp}
-use Rattle.hv_policy.specs.Effect.{end_if, post_to, row_raised, show_each, signal_to, with_vp, write_msr, write_register, written}
+use Rattle.hv_policy.specs.Aim.{Aimed, flag_taker, is_ready_for_messages, message_taker, on_vp}
+use Rattle.hv_policy.specs.Effect.{end_if, post_at, post_to, row_raised, show_each, signal_at, signal_to, with_vp, write_msr, write_register, written}
 use Rattle.hv_policy.specs.Flat.{Flat, VpRow}
 use Rattle.hv_policy.specs.Mail.{has_next}
 use Rattle.hv_provenance.specs.Deed.{Deed}
@@ -49,10 +48,10 @@ pub record Keeps (f g : Flat) : Type 0 where
   pub port : g.port ≡ f.port
   pub conn : g.conn ≡ f.conn
   pub flags : (id vp sint flag : ℕ) → set_in g.vp id vp sint flag ≡ set_in f.vp id vp sint flag
-  pub mail : (deeds : List Deed) (n : ℕ) → WerePosted deeds n f.mail → WerePosted deeds n g.mail
+  pub mail : (states : ℕ → Flat) (deeds : List Deed) (n : ℕ) → WerePosted states deeds n f.mail → WerePosted states deeds n g.mail
 
 keeps_all : (f : Flat) → Keeps f f
-keeps_all f = record { port = refl; conn = refl; flags = λ id vp sint flag. refl; mail = λ deeds n were. were }
+keeps_all f = record { port = refl; conn = refl; flags = λ id vp sint flag. refl; mail = λ states deeds n were. were }
 
 shown_keeps : (part vp n : ℕ) (f : Flat) → Keeps f (show_each part vp n f)
 unfolding show_each
@@ -64,12 +63,12 @@ shown_keeps part vp (suc n) f =
       port = rest.port;
       conn = rest.conn;
       flags = λ id index sint flag. (set_kept g.vp (part, vp) (row_raised (has_next (record { part = part; vp = vp; sint = n }) g.mail) n) (λ row. refl) id index sint flag ∙ rest.flags id index sint flag);
-      mail = λ deeds from were. mail_shown deeds (record { part = part; vp = vp; sint = n }) g.mail from (rest.mail deeds from were);
+      mail = λ states deeds from were. mail_shown states deeds (record { part = part; vp = vp; sint = n }) g.mail from (rest.mail states deeds from were);
     }
 
 ended_keeps : (is : Bool) (part vp : ℕ) (f : Flat) → Keeps f (end_if is part vp f)
 ended_keeps false part vp f = keeps_all f
-ended_keeps true part vp f = by (on_vp f (part, vp) (λ row. takes_messages row.registers))
+ended_keeps true part vp f = by (on_vp f (part, vp) is_ready_for_messages)
   where
     by : (b : Bool) → Keeps f (cond b (show_each part vp SINTS f) f)
     by true = shown_keeps part vp SINTS f
@@ -90,26 +89,50 @@ msr_keeps part vp None value f = keeps_all f
 msr_keeps part vp (Some name) value f = register_keeps part vp name value f
 
 -- a post and a signal leave the ports and connections
-pub post_port : (aim : Option Aim) (type : ℕ) (payload : List ℕ) (f : Flat) → (post_to aim type payload f).port ≡ f.port
+pub post_port : (aim : Option Aimed) (type : ℕ) (payload : List ℕ) (f : Flat) → (post_to aim type payload f).port ≡ f.port
 post_port None type payload f = refl
-post_port (Some aim) type payload f = refl
+post_port (Some aim) type payload f = by (message_taker f aim)
+  where
+    by : (vp : Option ℕ) → (post_at aim vp type payload f).port ≡ f.port
+    by None = refl
+    by (Some vp) = refl
 
-pub post_conn : (aim : Option Aim) (type : ℕ) (payload : List ℕ) (f : Flat) → (post_to aim type payload f).conn ≡ f.conn
+pub post_conn : (aim : Option Aimed) (type : ℕ) (payload : List ℕ) (f : Flat) → (post_to aim type payload f).conn ≡ f.conn
 post_conn None type payload f = refl
-post_conn (Some aim) type payload f = refl
+post_conn (Some aim) type payload f = by (message_taker f aim)
+  where
+    by : (vp : Option ℕ) → (post_at aim vp type payload f).conn ≡ f.conn
+    by None = refl
+    by (Some vp) = refl
 
-pub post_flags : (aim : Option Aim) (type : ℕ) (payload : List ℕ) (f : Flat) (id vp sint flag : ℕ) → set_in (post_to aim type payload f).vp id vp sint flag ≡ set_in f.vp id vp sint flag
+pub post_flags : (aim : Option Aimed) (type : ℕ) (payload : List ℕ) (f : Flat) (id vp sint flag : ℕ) → set_in (post_to aim type payload f).vp id vp sint flag ≡ set_in f.vp id vp sint flag
 post_flags None type payload f id vp sint flag = refl
-post_flags (Some aim) type payload f id vp sint flag = set_kept f.vp _ (row_raised _ _) (λ row. refl) id vp sint flag
+post_flags (Some aim) type payload f id vp sint flag = by (message_taker f aim)
+  where
+    by : (at : Option ℕ) → set_in (post_at aim at type payload f).vp id vp sint flag ≡ set_in f.vp id vp sint flag
+    by None = refl
+    by (Some at) = set_kept f.vp _ (row_raised _ _) (λ row. refl) id vp sint flag
 
-pub signal_port : (aim : Option Aim) (flag : ℕ) (f : Flat) → (signal_to aim flag f).port ≡ f.port
+pub signal_port : (aim : Option Aimed) (flag : ℕ) (f : Flat) → (signal_to aim flag f).port ≡ f.port
 signal_port None flag f = refl
-signal_port (Some aim) flag f = refl
+signal_port (Some aim) flag f = by (flag_taker f aim)
+  where
+    by : (vp : Option ℕ) → (signal_at aim vp flag f).port ≡ f.port
+    by None = refl
+    by (Some vp) = refl
 
-pub signal_conn : (aim : Option Aim) (flag : ℕ) (f : Flat) → (signal_to aim flag f).conn ≡ f.conn
+pub signal_conn : (aim : Option Aimed) (flag : ℕ) (f : Flat) → (signal_to aim flag f).conn ≡ f.conn
 signal_conn None flag f = refl
-signal_conn (Some aim) flag f = refl
+signal_conn (Some aim) flag f = by (flag_taker f aim)
+  where
+    by : (vp : Option ℕ) → (signal_at aim vp flag f).conn ≡ f.conn
+    by None = refl
+    by (Some vp) = refl
 
-pub signal_mail : (aim : Option Aim) (flag : ℕ) (f : Flat) → (signal_to aim flag f).mail ≡ f.mail
+pub signal_mail : (aim : Option Aimed) (flag : ℕ) (f : Flat) → (signal_to aim flag f).mail ≡ f.mail
 signal_mail None flag f = refl
-signal_mail (Some aim) flag f = refl
+signal_mail (Some aim) flag f = by (flag_taker f aim)
+  where
+    by : (vp : Option ℕ) → (signal_at aim vp flag f).mail ≡ f.mail
+    by None = refl
+    by (Some vp) = refl

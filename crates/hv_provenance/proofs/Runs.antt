@@ -1,5 +1,5 @@
 -- Where everything comes from in each state of a run.
-use Rattle.std.proofs.Common.{◌≡◌, ℕ, ◌==◌, ◌&&◌, not, nat_lt, Bool, true, false, cond, List, [], ◌∷◌, ◌++◌, suc, length, Option, Some, None, refl, sym, ap, subst, ◌∙◌, arith, append_assoc, append-nil}
+use Rattle.std.proofs.Common.{◌≡◌, ℕ, ◌+◌, ◌==◌, ◌&&◌, not, nat_lt, Bool, true, false, cond, List, [], ◌∷◌, ◌++◌, suc, length, take, Option, Some, None, refl, sym, ap, subst, ◌∙◌, arith, add-one, add-zero, zero-add, append_assoc, append-nil, length-append}
 use Rattle.std.specs.FinMap.{get-empty}
 use Rattle.std.specs.FinSet.{contains, contains-empty}
 use Rattle.hv_abi.specs.Check.{call_of}
@@ -28,7 +28,7 @@ use Rattle.hv_policy.specs.Rule.{rule_status}
 use Rattle.hv_abi.specs.declared.status.Status.{Status}
 use Rattle.hv_policy.specs.declared.rule.Rule.{Rule}
 use Rattle.hv_provenance.specs.Deed.{Deed, IsRefused, action_deed, call_deed, called_deed, deed_of, deeds_of, served_deed, served_to, was_served}
-use Rattle.hv_provenance.specs.Justified.{WerePosted}
+use Rattle.hv_provenance.specs.Justified.{WerePosted, state_before}
 use Rattle.hv_provenance.proofs.Deeds.{all_served, counted_one, counts, more, served_all}
 use Rattle.hv_provenance.proofs.Flags.{AreSignalled, flags_call, flags_cleared, flags_still}
 use Rattle.hv_provenance.proofs.Keeping.{msr_keeps, set_kept, test_vp}
@@ -37,19 +37,19 @@ use Rattle.hv_provenance.proofs.Ports.{AreConnected, AreMade, conns_call, conns_
 use Rattle.hv_provenance.proofs.Standing.{mail_left, mail_still}
 
 -- where everything of a state comes from, once that was done
-pub record IsKnown (deeds : List Deed) (f : Flat) : Type 0 where
+pub record IsKnown (states : ℕ → Flat) (deeds : List Deed) (f : Flat) : Type 0 where
   pub served : f.served ≡ all_served deeds
   pub ports : AreMade deeds f.port
   pub conns : AreConnected deeds f.conn
-  pub mail : WerePosted deeds 0 f.mail
-  pub flags : AreSignalled deeds f.vp
+  pub mail : WerePosted states deeds 0 f.mail
+  pub flags : AreSignalled states deeds f.vp
 
 -- but for the count
-record IsTold (deeds : List Deed) (f : Flat) : Type 0 where
+record IsTold (states : ℕ → Flat) (deeds : List Deed) (f : Flat) : Type 0 where
   ports : AreMade deeds f.port
   conns : AreConnected deeds f.conn
-  mail : WerePosted deeds 0 f.mail
-  flags : AreSignalled deeds f.vp
+  mail : WerePosted states deeds 0 f.mail
+  flags : AreSignalled states deeds f.vp
 
 -- an event that is served counts as one, is answered so, and one that is refused isn't
 call_counts : (call : Call) (caller : ℕ) → was_served (call_deed call caller) ≡ true
@@ -81,61 +81,62 @@ refused by (Hypercall frame) rule = denied (rule_status rule (call_of frame))
 refused by what rule = refl
 
 -- an event that is refused leaves all as it was
-known_refused : (deeds : List Deed) (f : Flat) → IsKnown deeds f → IsKnown (more deeds IsRefused) f
-known_refused deeds f k = record {
+known_refused : (states : ℕ → Flat) (deeds : List Deed) (f : Flat) → IsKnown states deeds f → IsKnown states (more deeds IsRefused) f
+known_refused states deeds f k = record {
   served = (let before = k.served in let more_served = counted_one deeds IsRefused in omega (arith, before, more_served));
   ports = ports_still deeds _ f.port _ refl (λ key h. cc) (λ key h. cc) k.ports;
   conns = conns_still deeds _ f.conn _ refl (λ key h. cc) (λ key h. cc) k.conns;
-  mail = mail_still deeds _ (λ row h. cc) (λ row h. cc) f.mail 0 k.mail;
-  flags = flags_still deeds _ f.vp k.flags f.vp (λ id vp sint flag. refl) (λ id vp h. cc) (λ id h. cc) (λ id vp sint flag h. cc);
+  mail = mail_still deeds _ states (λ row h. cc) (λ row h. cc) f.mail 0 k.mail;
+  flags = flags_still states deeds _ f.vp k.flags f.vp (λ id vp sint flag. refl) (λ id vp h. cc) (λ id h. cc) (λ id vp sint flag h. cc);
 }
 
-module _ {A : Type 0} (deeds : List Deed) (f : Flat) (k : IsKnown deeds f) where
-  by_action : (by : Caller) (what : Action A) → unmet f (record { by = by; what = what }) ≡ None → IsTold (more deeds (action_deed by what)) (action_effect f by what)
+-- where the event of the next entry comes in this state
+module _ {A : Type 0} (states : ℕ → Flat) (deeds : List Deed) (f : Flat) (now : states (length deeds + 1) ≡ f) (k : IsKnown states deeds f) where
+  by_action : (by : Caller) (what : Action A) → unmet f (record { by = by; what = what }) ≡ None → IsTold states (more deeds (action_deed by what)) (action_effect f by what)
   by_action by (Hypercall frame) h =
       let served = granted_of f by frame h in
-      subst (λ call. IsTold (more deeds (called_deed call by.part)) (served_effect f by.part call)) (sym served.called)
+      subst (λ call. IsTold states (more deeds (called_deed call by.part)) (served_effect f by.part call)) (sym served.called)
       (record {
         ports = ports_call deeds f by.part k.served k.ports served.call;
         conns = conns_call deeds f by.part k.served k.ports k.conns served.call;
-        mail = mail_call deeds f k.ports k.conns k.mail by.part served.call served.granted;
-        flags = flags_call deeds f k.ports k.conns k.flags by.part served.call served.granted;
+        mail = mail_call states deeds f now k.ports k.conns k.mail by.part served.call served.granted;
+        flags = flags_call states deeds f now k.ports k.conns k.flags by.part served.call served.granted;
       })
   by_action by (WriteMsr msr value) h =
       let keeps = msr_keeps by.part by.vp (name_of_msr msr) value f in
       record {
         ports = ports_still deeds _ f.port _ keeps.port (λ key h. cc) (λ key h. cc) k.ports;
         conns = conns_still deeds _ f.conn _ keeps.conn (λ key h. cc) (λ key h. cc) k.conns;
-        mail = keeps.mail _ 0 (mail_still deeds _ (λ row h. cc) (λ row h. cc) f.mail 0 k.mail);
-        flags = flags_still deeds _ f.vp k.flags _ keeps.flags (λ id vp h. cc) (λ id h. cc) (λ id vp sint flag h. cc);
+        mail = keeps.mail states _ 0 (mail_still deeds _ states (λ row h. cc) (λ row h. cc) f.mail 0 k.mail);
+        flags = flags_still states deeds _ f.vp k.flags _ keeps.flags (λ id vp h. cc) (λ id h. cc) (λ id vp sint flag h. cc);
       }
   by_action by (ClearSlot sint) h = record {
     ports = ports_still deeds _ f.port _ refl (λ key h. cc) (λ key h. cc) k.ports;
     conns = conns_still deeds _ f.conn _ refl (λ key h. cc) (λ key h. cc) k.conns;
-    mail = mail_left deeds _ (λ row. not (stands_at (place_at by sint) row && row.shown)) (λ row is h. cc) (λ row is h. cc) f.mail 0 0 (omega arith) k.mail;
-    flags = flags_still deeds _ f.vp k.flags f.vp (λ id vp sint flag. refl) (λ id vp h. cc) (λ id h. cc) (λ id vp sint flag h. cc);
+    mail = mail_left deeds _ states (λ row. not (stands_at (place_at by sint) row && row.shown)) (λ row is h. cc) (λ row is h. cc) f.mail 0 0 (omega arith) k.mail;
+    flags = flags_still states deeds _ f.vp k.flags f.vp (λ id vp sint flag. refl) (λ id vp h. cc) (λ id h. cc) (λ id vp sint flag h. cc);
   }
   by_action by (ClearFlag sint flag) h = record {
     ports = ports_still deeds _ f.port _ refl (λ key h. cc) (λ key h. cc) k.ports;
     conns = conns_still deeds _ f.conn _ refl (λ key h. cc) (λ key h. cc) k.conns;
-    mail = mail_still deeds _ (λ row h. cc) (λ row h. cc) f.mail 0 k.mail;
-    flags = flags_cleared deeds _ f.vp k.flags by.part by.vp sint flag refl;
+    mail = mail_still deeds _ states (λ row h. cc) (λ row h. cc) f.mail 0 k.mail;
+    flags = flags_cleared states deeds _ f.vp k.flags by.part by.vp sint flag refl;
   }
   by_action by TakeInterrupt h = record {
     ports = ports_still deeds _ f.port _ refl (λ key h. cc) (λ key h. cc) k.ports;
     conns = conns_still deeds _ f.conn _ refl (λ key h. cc) (λ key h. cc) k.conns;
-    mail = mail_still deeds _ (λ row h. cc) (λ row h. cc) f.mail 0 k.mail;
-    flags = flags_still deeds _ f.vp k.flags _ (set_kept f.vp (by.part, by.vp) _ (λ row. refl)) (λ id vp h. cc) (λ id h. cc) (λ id vp sint flag h. cc);
+    mail = mail_still deeds _ states (λ row h. cc) (λ row h. cc) f.mail 0 k.mail;
+    flags = flags_still states deeds _ f.vp k.flags _ (set_kept f.vp (by.part, by.vp) _ (λ row. refl)) (λ id vp h. cc) (λ id h. cc) (λ id vp sint flag h. cc);
   }
   by_action by what h = record {
     ports = ports_still deeds _ f.port _ refl (λ key h. cc) (λ key h. cc) k.ports;
     conns = conns_still deeds _ f.conn _ refl (λ key h. cc) (λ key h. cc) k.conns;
-    mail = mail_still deeds _ (λ row h. cc) (λ row h. cc) f.mail 0 k.mail;
-    flags = flags_still deeds _ f.vp k.flags f.vp (λ id vp sint flag. refl) (λ id vp h. cc) (λ id h. cc) (λ id vp sint flag h. cc);
+    mail = mail_still deeds _ states (λ row h. cc) (λ row h. cc) f.mail 0 k.mail;
+    flags = flags_still states deeds _ f.vp k.flags f.vp (λ id vp sint flag. refl) (λ id vp h. cc) (λ id h. cc) (λ id vp sint flag h. cc);
   }
 
   -- a served event
-  known_effect : (e : Event A) → unmet f e ≡ None → IsKnown (more deeds (served_deed e)) (effect f e)
+  known_effect : (e : Event A) → unmet f e ≡ None → IsKnown states (more deeds (served_deed e)) (effect f e)
   known_effect e h =
       let told = by_action e.by e.what h in
       record {
@@ -152,21 +153,24 @@ module _ {A : Type 0} (deeds : List Deed) (f : Flat) (k : IsKnown deeds f) where
       }
 
   -- one event, with its reply
-  known_step : (e : Event A) → IsKnown (more deeds (deed_of e (step f e).1)) (step f e).0
+  known_step : (e : Event A) → IsKnown states (more deeds (deed_of e (step f e).1)) (step f e).0
   known_step e = at (unmet f e) refl
     where
-      at : (rule : Option Rule) → unmet f e ≡ rule → IsKnown (more deeds (deed_of e (step_by f e rule).1)) (step_by f e rule).0
-      at None met = subst (λ deed. IsKnown (more deeds deed) (effect f e)) (sym (answered f e.by e.what)) (known_effect e met)
-      at (Some rule) unmet = subst (λ deed. IsKnown (more deeds deed) f) (sym (refused e.by e.what rule)) (known_refused deeds f k)
+      at : (rule : Option Rule) → unmet f e ≡ rule → IsKnown states (more deeds (deed_of e (step_by f e rule).1)) (step_by f e rule).0
+      at None met = subst (λ deed. IsKnown states (more deeds deed) (effect f e)) (sym (answered f e.by e.what)) (known_effect e met)
+      at (Some rule) unmet = subst (λ deed. IsKnown states (more deeds deed) f) (sym (refused e.by e.what rule)) (known_refused states deeds f k)
 
 module _ {A : Type 0} where
-  -- any events
-  pub known_run : (before : List Deed) (f : Flat) (events : List (Event A)) → IsKnown before f → IsKnown (before ++ deeds_of events (run_from f events).1) (run_from f events).0
-  known_run before f [] k = subst (λ deeds. IsKnown deeds f) (sym (append-nil before)) k
-  known_run before f (e ∷ events) k =
-      subst (λ deeds. IsKnown deeds (run_from (step f e).0 events).0)
-      (append_assoc before (deed_of e (step f e).1 ∷ []) (deeds_of events (run_from (step f e).0 events).1))
-      (known_run (more before (deed_of e (step f e).1)) (step f e).0 events (known_step before f k e))
+  -- any events, where the states in which they come are those of their run
+  pub known_run : (states : ℕ → Flat) (before : List Deed) (f : Flat) (events : List (Event A)) → ((n : ℕ) → states (suc (length before + n)) ≡ (run_from f (take n events)).0) → IsKnown states before f
+      → IsKnown states (before ++ deeds_of events (run_from f events).1) (run_from f events).0
+  known_run states before f [] came k = subst (λ deeds. IsKnown states deeds f) (sym (append-nil before)) k
+  known_run states before f (e ∷ events) came k =
+      let deed : Deed = deed_of e (step f e).1 in
+      let now : states (length before + 1) ≡ f = ap states (add-one (length before) ∙ ap suc (sym (add-zero (length before)))) ∙ came 0 in
+      let later : (n : ℕ) → suc (length (more before deed) + n) ≡ suc (length before + suc n) = λ n. omega (arith, length-append before (deed ∷ [])) in
+      subst (λ deeds. IsKnown states deeds (run_from (step f e).0 events).0) (append_assoc before (deed ∷ []) (deeds_of events (run_from (step f e).0 events).1))
+      (known_run states (more before deed) (step f e).0 events (λ n. ap states (later n) ∙ came (suc n)) (known_step states before f now k e))
 
   -- an entry has one deed
   pub one_deed : (f : Flat) (events : List (Event A)) → length (deeds_of events (run_from f events).1) ≡ length events
@@ -174,8 +178,8 @@ module _ {A : Type 0} where
   one_deed f (e ∷ events) = ap suc (one_deed (step f e).0 events)
 
 -- at boot there is nothing
-known_boot : (config : Config) → IsKnown [] (boot config)
-known_boot config = record {
+known_boot : (states : ℕ → Flat) (config : Config) → IsKnown states [] (boot config)
+known_boot states config = record {
   served = refl;
   ports = λ key port is. (let none = get-empty {X = PortRow} pair_cmp key in cc);
   conns = λ key conn is. (let none = get-empty {X = ConnRow} pair_cmp key in cc);
@@ -188,8 +192,10 @@ known_boot config = record {
     by sint flag true false vp is = absurd (cc)
     by sint flag false c vp is = absurd (cc)
 
-pub known : {A : Type 0} (config : Config) (events : List (Event A)) → IsKnown (deeds_of events (run config events).1) (run config events).0
-known config events = known_run [] (boot config) events (known_boot config)
+pub known : {A : Type 0} (config : Config) (events : List (Event A)) → IsKnown (state_before config events) (deeds_of events (run config events).1) (run config events).0
+known config events =
+    let states : ℕ → Flat = state_before config events in
+    known_run states [] (boot config) events (λ n. ap (λ n. states (suc n)) (zero-add n)) (known_boot states config)
 
 -- the count of served events is that of the deeds
 pub run_served : {A : Type 0} (config : Config) (events : List (Event A)) → (run config events).0.served ≡ served_to (deeds_of events (run config events).1) (length events)

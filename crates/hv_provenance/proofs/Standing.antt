@@ -1,8 +1,9 @@
 -- Ports, connections, messages and flags that stand, once a history has one entry more.
 use Rattle.std.proofs.Common.{◌≡◌, ℕ, ◌<◌, ◌≤◌, Bool, true, false, cond, List, [], ◌∷◌, ◌++◌, length, refl, sym, subst, ◌∙◌, arith}
 use Rattle.std.specs.List.{filter}
+use Rattle.hv_defs.specs.declared.aim.Aim.{Aim}
 use Rattle.hv_defs.specs.declared.port_kind.PortKind.{PortKind}
-use Rattle.hv_policy.specs.Flat.{ConnRow, MailRow, PortRow}
+use Rattle.hv_policy.specs.Flat.{ConnRow, Flat, MailRow, PortRow}
 use Rattle.hv_policy.specs.Mail.{Place, as_shown, is_shown, mail_at, shown_next, stands_at, with_first_shown}
 use Rattle.hv_provenance.specs.Deed.{Deed, DidAt, MakesPort, DeletesPort, Disconnects, DeletesVp, Finalizes, ClearsFlag}
 use Rattle.hv_provenance.specs.Justified.{HasWay, WasConnected, WasMade, WasPosted, WasSignalled, WerePosted}
@@ -30,8 +31,8 @@ module _ (deeds : List Deed) (e : Deed) where
     alive = not_since deeds e _ _ alive was.alive;
   }
 
-  way_still : (k id port born : ℕ) (kind : PortKind) (sint vp base sender connection : ℕ) → k ≤ length deeds → HasWay deeds k id port born kind sint vp base sender connection → HasWay (more deeds e) k id port born kind sint vp base sender connection
-  way_still k id port born kind sint vp base sender connection within way = record {
+  way_still : (k id port born : ℕ) (kind : PortKind) (sint : ℕ) (aim : Aim) (base sender connection : ℕ) → k ≤ length deeds → HasWay deeds k id port born kind sint aim base sender connection → HasWay (more deeds e) k id port born kind sint aim base sender connection
+  way_still k id port born kind sint aim base sender connection within way = record {
     from = way.from;
     made = did_still deeds e _ _ way.made;
     birth = served_still deeds e way.from (did_within deeds _ _ way.made) ∙ way.birth;
@@ -65,91 +66,98 @@ module _ (deeds : List Deed) (e : Deed) where
     conn_alive = not_to_last deeds e _ _ connected.alive;
   }
 
-  pub posted_still : (row : MailRow) (k : ℕ) → (DeletesVp row.part row.vp ≡ e → ⊥) → (Finalizes row.part ≡ e → ⊥) → WasPosted deeds row k → WasPosted (more deeds e) row k
-  posted_still row k kept alive was = record {
-    base = was.base;
-    sender = was.sender;
-    connection = was.connection;
-    way = way_still _ _ _ _ _ _ _ _ _ _ (did_within deeds _ _ was.posted) was.way;
-    posted = did_still deeds e _ _ was.posted;
-    kept = not_since deeds e _ _ kept was.kept;
-    alive = not_since deeds e _ _ alive was.alive;
-  }
+  module _ (states : ℕ → Flat) where
+    pub posted_still : (row : MailRow) (k : ℕ) → (DeletesVp row.part row.vp ≡ e → ⊥) → (Finalizes row.part ≡ e → ⊥) → WasPosted states deeds row k → WasPosted states (more deeds e) row k
+    posted_still row k kept alive was = record {
+      aim = was.aim;
+      base = was.base;
+      sender = was.sender;
+      connection = was.connection;
+      way = way_still _ _ _ _ _ _ _ _ _ _ (did_within deeds _ _ was.posted) was.way;
+      taken = was.taken;
+      posted = did_still deeds e _ _ was.posted;
+      kept = not_since deeds e _ _ kept was.kept;
+      alive = not_since deeds e _ _ alive was.alive;
+    }
 
-  pub signalled_still : (id vp sint flag : ℕ) → (DeletesVp id vp ≡ e → ⊥) → (Finalizes id ≡ e → ⊥) → (ClearsFlag id vp sint flag ≡ e → ⊥) → WasSignalled deeds id vp sint flag → WasSignalled (more deeds e) id vp sint flag
-  signalled_still id vp sint flag kept alive set was = record {
-    k = was.k;
-    port = was.port;
-    born = was.born;
-    base = was.base;
-    sender = was.sender;
-    connection = was.connection;
-    number = was.number;
-    way = way_still _ _ _ _ _ _ _ _ _ _ (did_within deeds _ _ was.signalled) was.way;
-    signalled = did_still deeds e _ _ was.signalled;
-    is = was.is;
-    kept = not_since deeds e _ _ kept was.kept;
-    alive = not_since deeds e _ _ alive was.alive;
-    set = not_since deeds e _ _ set was.set;
-  }
+    pub signalled_still : (id vp sint flag : ℕ) → (DeletesVp id vp ≡ e → ⊥) → (Finalizes id ≡ e → ⊥) → (ClearsFlag id vp sint flag ≡ e → ⊥) → WasSignalled states deeds id vp sint flag → WasSignalled states (more deeds e) id vp sint flag
+    signalled_still id vp sint flag kept alive set was = record {
+      k = was.k;
+      port = was.port;
+      born = was.born;
+      aim = was.aim;
+      base = was.base;
+      sender = was.sender;
+      connection = was.connection;
+      number = was.number;
+      way = way_still _ _ _ _ _ _ _ _ _ _ (did_within deeds _ _ was.signalled) was.way;
+      taken = was.taken;
+      signalled = did_still deeds e _ _ was.signalled;
+      is = was.is;
+      kept = not_since deeds e _ _ kept was.kept;
+      alive = not_since deeds e _ _ alive was.alive;
+      set = not_since deeds e _ _ set was.set;
+    }
 
-  -- the messages that are left, where the event ends none of them
-  pub mail_left : (keep : MailRow → Bool) → ((row : MailRow) → keep row ≡ true → DeletesVp row.part row.vp ≡ e → ⊥) → ((row : MailRow) → keep row ≡ true → Finalizes row.part ≡ e → ⊥)
-      → (mail : List MailRow) (n m : ℕ) → m ≤ n → WerePosted deeds n mail → WerePosted (more deeds e) m (filter keep mail)
-  mail_left keep kept alive [] n m less were = tt
-  mail_left keep kept alive (row ∷ mail) n m less were =
-      let after = were.1 in
-      elim (keep row) as (λ b. keep row ≡ b → WerePosted (more deeds e) m (cond b (row ∷ filter keep mail) (filter keep mail))) [
-        | true ↦ λ is. (were.0, omega arith, posted_still row were.0 (kept row is) (alive row is) were.2, mail_left keep kept alive mail were.0 were.0 (omega arith) were.3)
-        | false ↦ λ is. mail_left keep kept alive mail were.0 m (omega arith) were.3
-      ] refl
+    -- the messages that are left, where the event ends none of them
+    pub mail_left : (keep : MailRow → Bool) → ((row : MailRow) → keep row ≡ true → DeletesVp row.part row.vp ≡ e → ⊥) → ((row : MailRow) → keep row ≡ true → Finalizes row.part ≡ e → ⊥)
+        → (mail : List MailRow) (n m : ℕ) → m ≤ n → WerePosted states deeds n mail → WerePosted states (more deeds e) m (filter keep mail)
+    mail_left keep kept alive [] n m less were = tt
+    mail_left keep kept alive (row ∷ mail) n m less were =
+        let after = were.1 in
+        elim (keep row) as (λ b. keep row ≡ b → WerePosted states (more deeds e) m (cond b (row ∷ filter keep mail) (filter keep mail))) [
+          | true ↦ λ is. (were.0, omega arith, posted_still row were.0 (kept row is) (alive row is) were.2, mail_left keep kept alive mail were.0 were.0 (omega arith) were.3)
+          | false ↦ λ is. mail_left keep kept alive mail were.0 m (omega arith) were.3
+        ] refl
 
-  pub mail_still : ((row : MailRow) → DeletesVp row.part row.vp ≡ e → ⊥) → ((row : MailRow) → Finalizes row.part ≡ e → ⊥)
-      → (mail : List MailRow) (n : ℕ) → WerePosted deeds n mail → WerePosted (more deeds e) n mail
-  mail_still kept alive [] n were = tt
-  mail_still kept alive (row ∷ mail) n were = (were.0, were.1, posted_still row were.0 (kept row) (alive row) were.2, mail_still kept alive mail were.0 were.3)
+    pub mail_still : ((row : MailRow) → DeletesVp row.part row.vp ≡ e → ⊥) → ((row : MailRow) → Finalizes row.part ≡ e → ⊥)
+        → (mail : List MailRow) (n : ℕ) → WerePosted states deeds n mail → WerePosted states (more deeds e) n mail
+    mail_still kept alive [] n were = tt
+    mail_still kept alive (row ∷ mail) n were = (were.0, were.1, posted_still row were.0 (kept row) (alive row) were.2, mail_still kept alive mail were.0 were.3)
 
-  -- and one more, which the event posts
-  pub mail_more : ((row : MailRow) → DeletesVp row.part row.vp ≡ e → ⊥) → ((row : MailRow) → Finalizes row.part ≡ e → ⊥) → (new : MailRow) → WasPosted (more deeds e) new (last deeds e)
-      → (mail : List MailRow) (n : ℕ) → n ≤ length deeds → WerePosted deeds n mail → WerePosted (more deeds e) n (mail ++ new ∷ [])
-  mail_more kept alive new posted [] n within were = (last deeds e, omega arith, posted, tt)
-  mail_more kept alive new posted (row ∷ mail) n within were =
-      (were.0, were.1, posted_still row were.0 (kept row) (alive row) were.2, mail_more kept alive new posted mail were.0 (did_within deeds _ _ were.2.posted) were.3)
+    -- and one more, which the event posts
+    pub mail_more : ((row : MailRow) → DeletesVp row.part row.vp ≡ e → ⊥) → ((row : MailRow) → Finalizes row.part ≡ e → ⊥) → (new : MailRow) → WasPosted states (more deeds e) new (last deeds e)
+        → (mail : List MailRow) (n : ℕ) → n ≤ length deeds → WerePosted states deeds n mail → WerePosted states (more deeds e) n (mail ++ new ∷ [])
+    mail_more kept alive new posted [] n within were = (last deeds e, omega arith, posted, tt)
+    mail_more kept alive new posted (row ∷ mail) n within were =
+        (were.0, were.1, posted_still row were.0 (kept row) (alive row) were.2, mail_more kept alive new posted mail were.0 (did_within deeds _ _ were.2.posted) were.3)
 
-module _ (deeds : List Deed) where
+module _ (states : ℕ → Flat) (deeds : List Deed) where
   -- Show moves none
-  posted_shown : (row : MailRow) (k : ℕ) → WasPosted deeds row k → WasPosted deeds (as_shown row) k
+  posted_shown : (row : MailRow) (k : ℕ) → WasPosted states deeds row k → WasPosted states deeds (as_shown row) k
   posted_shown row k was = record {
+    aim = was.aim;
     base = was.base;
     sender = was.sender;
     connection = was.connection;
     way = was.way;
+    taken = was.taken;
     posted = was.posted;
     kept = was.kept;
     alive = was.alive;
   }
 
-  first_shown : (place : Place) (mail : List MailRow) (n : ℕ) → WerePosted deeds n mail → WerePosted deeds n (with_first_shown place mail)
+  first_shown : (place : Place) (mail : List MailRow) (n : ℕ) → WerePosted states deeds n mail → WerePosted states deeds n (with_first_shown place mail)
   first_shown place [] n were = tt
   first_shown place (row ∷ mail) n were =
-      elim (stands_at place row) as (λ b. WerePosted deeds n (cond b (as_shown row ∷ mail) (row ∷ with_first_shown place mail))) [
+      elim (stands_at place row) as (λ b. WerePosted states deeds n (cond b (as_shown row ∷ mail) (row ∷ with_first_shown place mail))) [
         | true ↦ (were.0, were.1, posted_shown row were.0 were.2, were.3)
         | false ↦ (were.0, were.1, were.2, first_shown place mail were.0 were.3)
       ]
 
-  pub mail_shown : (place : Place) (mail : List MailRow) (n : ℕ) → WerePosted deeds n mail → WerePosted deeds n (shown_next place mail)
+  pub mail_shown : (place : Place) (mail : List MailRow) (n : ℕ) → WerePosted states deeds n mail → WerePosted states deeds n (shown_next place mail)
   mail_shown place mail n were = by (list_any is_shown (mail_at place mail))
     where
-      by : (b : Bool) → WerePosted deeds n (cond b mail (with_first_shown place mail))
+      by : (b : Bool) → WerePosted states deeds n (cond b mail (with_first_shown place mail))
       by true = were
       by false = first_shown place mail n were
 
   -- the messages that pass a test
-  pub mail_of : (keep : MailRow → Bool) (mail : List MailRow) (n m : ℕ) → m ≤ n → WerePosted deeds n mail → WerePosted deeds m (filter keep mail)
+  pub mail_of : (keep : MailRow → Bool) (mail : List MailRow) (n m : ℕ) → m ≤ n → WerePosted states deeds n mail → WerePosted states deeds m (filter keep mail)
   mail_of keep [] n m less were = tt
   mail_of keep (row ∷ mail) n m less were =
       let after = were.1 in
-      elim (keep row) as (λ b. WerePosted deeds m (cond b (row ∷ filter keep mail) (filter keep mail))) [
+      elim (keep row) as (λ b. WerePosted states deeds m (cond b (row ∷ filter keep mail) (filter keep mail))) [
         | true ↦ (were.0, omega arith, were.2, mail_of keep mail were.0 were.0 (omega arith) were.3)
         | false ↦ mail_of keep mail were.0 m (omega arith) were.3
       ]

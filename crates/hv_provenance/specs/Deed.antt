@@ -4,6 +4,7 @@ use Rattle.std.specs.List.{slice_get}
 use Rattle.std.specs.Option.{option_map_or}
 use Rattle.hv_calls.specs.declared.call.Call.{Call}
 use Rattle.hv_calls.specs.declared.call.Call.TheVariants.{CreatePort, DeletePort, ConnectPort, DisconnectPort, PostMessage, SignalEvent, DeleteVp, FinalizePartition}
+use Rattle.hv_defs.specs.declared.aim.Aim.{Aim}
 use Rattle.hv_defs.specs.declared.port_kind.PortKind.{PortKind}
 use Rattle.hv_policy.specs.Call.{called}
 use Rattle.hv_policy.specs.Needs.{meant_id}
@@ -15,13 +16,14 @@ use Rattle.hv_policy.specs.declared.reply.Reply.{Reply}
 use Rattle.hv_policy.specs.declared.reply.Reply.TheVariants.{Served, More, Denied, Fault}
 
 -- What an entry did, with each partition by its id: HvCreatePort makes a port of a partition, for what it
--- takes, with its SINT, its processor and the first of its flags; HvDeletePort deletes it; HvConnectPort
--- makes a connection of a partition to a port, HvDisconnectPort deletes it; HvPostMessage posts a message
--- through a connection of a partition, HvSignalEvent sets the flag with a number through one; HvDeleteVp
--- deletes a processor of a partition, HvFinalizePartition ends a partition; a processor clears a flag of its
--- own. An event that is served may do none of these, and one that is refused does nothing.
+-- takes, with its SINT, the processor at which it aims, or any, and the first of its flags; HvDeletePort
+-- deletes it; HvConnectPort makes a connection of a partition to a port, HvDisconnectPort deletes it;
+-- HvPostMessage posts a message through a connection of a partition, HvSignalEvent sets the flag with a
+-- number through one; HvDeleteVp deletes a processor of a partition, HvFinalizePartition ends a partition; a
+-- processor clears a flag of its own. An event that is served may do none of these, and one that is refused
+-- does nothing.
 pub data Deed : Type 0 where
-  MakesPort : (id port : ℕ) (kind : PortKind) (sint vp base : ℕ) → Deed
+  MakesPort : (id port : ℕ) (kind : PortKind) (sint : ℕ) (aim : Aim) (base : ℕ) → Deed
   DeletesPort : (id port : ℕ) → Deed
   Connects : (id connection port_id port : ℕ) → Deed
   Disconnects : (id connection : ℕ) → Deed

@@ -1,11 +1,16 @@
 -- Where ports, connections, messages and event flags come from.
-use Rattle.std.specs.Prelude.{◌≡◌, ℕ, ◌+◌, ◌<◌, Bool, List, [], ◌∷◌}
+use Rattle.std.specs.Prelude.{◌≡◌, ℕ, zero, suc, ◌+◌, ◌<◌, Bool, take, List, [], ◌∷◌, Some}
 use Rattle.std.specs.FinSet as set
+use Rattle.hv_defs.specs.declared.aim.Aim.{Aim}
 use Rattle.hv_defs.specs.declared.port_kind.PortKind.{PortKind}
 use Rattle.hv_defs.specs.declared.port_kind.PortKind.TheVariants as port_type
-use Rattle.hv_policy.specs.Aim.{on_vp}
+use Rattle.hv_policy.specs.Aim.{is_ready_for_flags, is_ready_for_messages, on_vp, taker}
+use Rattle.hv_policy.specs.Boot.{boot}
 use Rattle.hv_policy.specs.Effect.{flags_of}
 use Rattle.hv_policy.specs.Flat.{ConnRow, Flat, MailRow, PortRow, VpRow}
+use Rattle.hv_policy.specs.Step.{run}
+use Rattle.hv_policy.specs.declared.config.Config.{Config}
+use Rattle.hv_policy.specs.declared.event.Event.{Event}
 use Rattle.hv_provenance.specs.Deed.{Deed, DidAt, MakesPort, DeletesPort, Connects, Disconnects, Posts, Signals, DeletesVp, Finalizes, ClearsFlag, served_to}
 
 -- no entry after that of number `from` and before that of number `to` did this
@@ -15,6 +20,11 @@ HasNot deeds from to deed = (n : ℕ) → from < n → n < to → DidAt deeds n 
 -- and none after that of number `from`
 abbrev pub HasNotSince : List Deed → ℕ → Deed → Type 0
 HasNotSince deeds from deed = (n : ℕ) → from < n → DidAt deeds n deed → ⊥
+
+-- the state in which the event of the entry of a number came, which those before it left
+abbrev pub state_before : {A : Type 0} → Config → List (Event A) → ℕ → Flat
+state_before config events zero = boot config
+state_before config events (suc before) = (run config (take before events)).0
 
 -- a port, by (partition, id), was made by an entry: with it the served events were as many as the port's
 -- birth. Nothing has ended the port since
@@ -38,10 +48,10 @@ pub record WasConnected (deeds : List Deed) (key : ℕ × ℕ) (conn : ConnRow) 
 
 -- a port of a partition, which an entry made that gave it its birth, and a connection of the sender to it,
 -- which was made later, both stood until the entry of number k: nothing ended either in between
-pub record HasWay (deeds : List Deed) (k id port born : ℕ) (kind : PortKind)
-    (sint vp base sender connection : ℕ) : Type 0 where
+pub record HasWay (deeds : List Deed) (k id port born : ℕ) (kind : PortKind) (sint : ℕ) (aim : Aim)
+    (base sender connection : ℕ) : Type 0 where
   pub from : ℕ
-  pub made : DidAt deeds from (MakesPort id port kind sint vp base)
+  pub made : DidAt deeds from (MakesPort id port kind sint aim base)
   pub birth : served_to deeds from ≡ born
   pub at : ℕ
   pub connected : DidAt deeds at (Connects sender connection id port)
@@ -53,36 +63,42 @@ pub record HasWay (deeds : List Deed) (k id port born : ℕ) (kind : PortKind)
   pub conn_alive : HasNot deeds at k (Finalizes sender)
 
 -- a message was posted by the entry of number k, through a connection of the sender to the message port of
--- its birth, which aims where the message stands; and since then neither its processor nor its partition has
--- ended
-pub record WasPosted (deeds : List Deed) (row : MailRow) (k : ℕ) : Type 0 where
+-- its birth, which aims at the SINT where the message stands. The processor where it stands is the one that
+-- took it, in the state in which the event came: the one at which the port aims, which was ready for
+-- messages, or for any the lowest that was. And since then neither this processor nor its partition has ended
+pub record WasPosted (states : ℕ → Flat) (deeds : List Deed) (row : MailRow) (k : ℕ) : Type 0 where
+  pub aim : Aim
   pub base : ℕ
   pub sender : ℕ
   pub connection : ℕ
-  pub way : HasWay deeds k row.part row.port row.born port_type.Message row.sint row.vp base sender connection
+  pub way : HasWay deeds k row.part row.port row.born port_type.Message row.sint aim base sender connection
+  pub taken : taker is_ready_for_messages (states k) row.part aim ≡ Some row.vp
   pub posted : DidAt deeds k (Posts sender connection row.type row.payload)
   pub kept : HasNotSince deeds k (DeletesVp row.part row.vp)
   pub alive : HasNotSince deeds k (Finalizes row.part)
 
 -- each message was posted, each later than the one before it, and the first later than a number: so no post
 -- stands twice, and none overtakes
-abbrev pub WerePosted : List Deed → ℕ → List MailRow → Type 0
-WerePosted deeds before [] = Unit {0}
-WerePosted deeds before (row ∷ mail) =
-    (k : ℕ) × (before < k) × WasPosted deeds row k × WerePosted deeds k mail
+abbrev pub WerePosted : (ℕ → Flat) → List Deed → ℕ → List MailRow → Type 0
+WerePosted states deeds before [] = Unit {0}
+WerePosted states deeds before (row ∷ mail) =
+    (k : ℕ) × (before < k) × WasPosted states deeds row k × WerePosted states deeds k mail
 
 -- a flag of a SINT of a processor was set by the entry of number k, through a connection of the sender to an
--- event port that aims there; and since then neither the processor nor the partition has ended, and the
--- processor hasn't cleared the flag
-pub record WasSignalled (deeds : List Deed) (id vp sint flag : ℕ) : Type 0 where
+-- event port that aims at the SINT. The processor is the one that took it, in the state in which the event
+-- came: the one at which the port aims, which was ready for event flags, or for any the lowest that was. And
+-- since then neither the processor nor the partition has ended, and the processor hasn't cleared the flag
+pub record WasSignalled (states : ℕ → Flat) (deeds : List Deed) (id vp sint flag : ℕ) : Type 0 where
   pub k : ℕ
   pub port : ℕ
   pub born : ℕ
+  pub aim : Aim
   pub base : ℕ
   pub sender : ℕ
   pub connection : ℕ
   pub number : ℕ
-  pub way : HasWay deeds k id port born port_type.Event sint vp base sender connection
+  pub way : HasWay deeds k id port born port_type.Event sint aim base sender connection
+  pub taken : taker is_ready_for_flags (states k) id aim ≡ Some vp
   pub signalled : DidAt deeds k (Signals sender connection number)
   pub is : flag ≡ base + number
   pub kept : HasNotSince deeds k (DeletesVp id vp)

@@ -15,6 +15,7 @@ ghost use Rattle.hv_policy.specs.declared.config.Config.{Config};
 ghost use Rattle.hv_policy.specs.declared.event.Event.{Event};
 ghost use Rattle.hv_provenance.specs.Deed.{deeds_of, served_to};
 ghost use Rattle.hv_provenance.specs.Justified.{WasConnected, WasMade, WasSignalled, WerePosted, is_flag_set};
+ghost use Rattle.hv_provenance.specs.Justified.{state_before};
 
 /// In every state of a run each port that is there was made by the entry with which the served events were as
 /// many as its birth says, and each connection by an entry after the birth that it keeps; nothing has ended
@@ -33,19 +34,23 @@ pub fn every_port_and_connection_has_its_making<A>()
 {}
 
 /// In every state of a run each message was posted, through a connection to the port of its birth while both
-/// stood, and its processor has stood since. The messages of a place stand in the order in which they were
-/// posted, each of a post of its own; and so do all messages.
+/// stood, to the processor that took it then: the one at which the port aims, or the lowest that was ready
+/// for messages where it aims at any. That processor has stood since. The messages of a place stand in the
+/// order in which they were posted, each of a post of its own; and so do all messages.
 pub fn every_message_was_posted<A>()
     ensures all { (config : Config) (events : List (Event A))
-        → WerePosted (deeds_of events (run config events).1) 0 (run config events).0.mail }
+        → WerePosted (state_before config events) (deeds_of events (run config events).1) 0
+        (run config events).0.mail }
     ensures places { (config : Config) (events : List (Event A)) (place : Place)
-        → WerePosted (deeds_of events (run config events).1) 0 (mail_at place (run config events).0.mail) }
+        → WerePosted (state_before config events) (deeds_of events (run config events).1) 0
+        (mail_at place (run config events).0.mail) }
 {}
 
 /// In every state of a run each event flag that is set was signalled, through a connection to an event port
-/// while both stood, and since then its processor has stood and hasn't cleared it.
+/// while both stood, to the processor that took it then; and since then that one has stood and hasn't cleared
+/// it.
 pub fn every_flag_was_signalled<A>()
     ensures flags { (config : Config) (events : List (Event A)) (id vp sint flag : ℕ)
         → is_flag_set (run config events).0 id vp sint flag ≡ true
-        → WasSignalled (deeds_of events (run config events).1) id vp sint flag }
+        → WasSignalled (state_before config events) (deeds_of events (run config events).1) id vp sint flag }
 {}

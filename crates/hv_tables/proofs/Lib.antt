@@ -1,3 +1,4 @@
 pub mod Families
 pub mod FlagLines
 pub mod Starts
+pub mod Takers

@@ -1,6 +1,7 @@
 -- The lines of the tables, made of the definitions and constants that contracts cite.
 use Rattle.std.specs.Prelude.{ℕ, ◌==◌, Bool, List, [], ◌∷◌, find, is_none, map, Option, Some}
 use Rattle.std.specs.FinMap.{empty, from_entries, get}
+use Rattle.std.specs.FinSet as set
 use Rattle.std.specs.FinSet.{from_list}
 use Rattle.std.specs.List.{filter}
 use Rattle.std.specs.Option.{option_map}
@@ -14,15 +15,17 @@ use Rattle.hv_abi.specs.declared.status.Status.{Status}
 use Rattle.hv_calls.specs.Call.{kind_of_call}
 use Rattle.hv_calls.specs.declared.call.Call.{Call}
 use Rattle.hv_defs.specs.Flags.{flag_bytes}
+use Rattle.hv_defs.specs.declared.aim.Aim.{Aim}
 use Rattle.hv_defs.specs.declared.life.Life.{Life}
 use Rattle.hv_defs.specs.declared.life.Life.TheVariants.{Created, Active, Finalized}
 use Rattle.hv_defs.specs.declared.registers.Takes.{Takes}
-use Rattle.hv_defs.specs.declared.registers.TheConstants.{REGISTERS}
+use Rattle.hv_defs.specs.declared.registers.TheConstants.{REGISTERS, SCONTROL, SIEFP, SIMP}
 use Rattle.hv_defs.specs.declared.sizes.TheConstants.{FIRST_CHILD_ID}
 use Rattle.hv_privs.specs.Privileges.{bits_of, of}
+use Rattle.hv_policy.specs.Aim.{has_target, is_ready_for_flags, is_ready_for_messages, taker}
 use Rattle.hv_policy.specs.Boot.{root_row}
 use Rattle.hv_policy.specs.Effect.{mask_of, property_set}
-use Rattle.hv_policy.specs.Flat.{Flat}
+use Rattle.hv_policy.specs.Flat.{Flat, VpRow}
 use Rattle.hv_policy.specs.Needs.{needs_of, is_among, charge_of, takes_memory}
 use Rattle.hv_policy.specs.Rule.{rule_number, rule_name, rule_status}
 use Rattle.hv_policy.specs.Rules.{action_asks, first_unmet, further_asks, rules_of}
@@ -106,3 +109,29 @@ family rows = record {
 unfoldable pub masks_line : List (ℕ × Option ℕ × Life × ℕ) → ℕ → ℕ → List ℕ
 masks_line rows target mask =
     map (λ row. bits_of (mask_of (get (property_set (family rows) target (Some PrivilegeFlags) mask) row.0))) rows
+
+-- processors by partition, index, SCONTROL, SIEFP and SIMP: of partition 2 the first takes neither messages nor event
+-- flags, then one event flags, one messages, and two both; of partition 3 there is one, whose SCONTROL has bit 0 clear
+abbrev pub staff : List (ℕ × ℕ × ℕ × ℕ × ℕ)
+staff =
+    (1, 0, 1, 1, 1) ∷ (2, 0, 0, 1, 1) ∷ (2, 1, 1, 1, 0) ∷ (2, 4, 1, 0x3000, 0x3001) ∷ (2, 5, 1, 1, 1) ∷ (2, 6, 1, 1, 1)
+    ∷ (3, 0, 0xFE, 1, 1) ∷ []
+
+abbrev pub vp_with : ℕ → ℕ → ℕ → VpRow
+vp_with scontrol siefp simp =
+    record { registers = from_entries ((SCONTROL, scontrol) ∷ (SIEFP, siefp) ∷ (SIMP, simp) ∷ []); flags = set.empty; pending = set.empty }
+
+abbrev pub vps_of : List (ℕ × ℕ × ℕ × ℕ × ℕ) → List ((ℕ × ℕ) × VpRow)
+vps_of rows = map (λ (part, vp, scontrol, siefp, simp). ((part, vp), vp_with scontrol siefp simp)) rows
+
+-- a state of these processors alone
+abbrev pub staffed : List (ℕ × ℕ × ℕ × ℕ × ℕ) → Flat
+staffed rows = record (family []) { vp = from_entries (vps_of rows) }
+
+-- the processors that take a message and an event flag which come to a port of a partition with this aim
+unfoldable pub takers_line : List (ℕ × ℕ × ℕ × ℕ × ℕ) → ℕ → Aim → Option ℕ × Option ℕ
+takers_line rows id aim = (taker is_ready_for_messages (staffed rows) id aim, taker is_ready_for_flags (staffed rows) id aim)
+
+-- and whether P19 is met for that aim
+unfoldable pub is_target_line : List (ℕ × ℕ × ℕ × ℕ × ℕ) → ℕ → Aim → Bool
+is_target_line rows id aim = has_target (staffed rows) id aim

@@ -1,7 +1,7 @@
 // The blocks: where the parameters of each call stand in its input, and when rule P7 refuses one.
-ghost use Rattle.std.specs.Prelude.{◌≡◌, ℕ, ◌+◌, ◌*◌, ◌==◌, ◌&&◌, not, nat_le, true, false, List, [], ◌∷◌};
+ghost use Rattle.std.specs.Prelude.{◌≡◌, ℕ, ◌+◌, ◌*◌, ◌==◌, ◌&&◌, nat_le, true, false, List, [], ◌∷◌};
 ghost use Rattle.hv_abi.specs.declared.call_kind.CallKind.TheVariants as kind;
-ghost use Rattle.hv_calls.specs.Blocks.{call_in, port_kind};
+ghost use Rattle.hv_calls.specs.Blocks.{call_in, port_aim, port_kind};
 ghost use Rattle.hv_calls.specs.Bytes.{bytes_at};
 ghost use Rattle.hv_calls.specs.Params.{element_at};
 ghost use Rattle.hv_calls.specs.WellFormed.{are_flags, are_well_formed, is_id, is_message_type, is_port_type};
@@ -55,7 +55,7 @@ pub fn each_block_has_its_fields()
         ≡ call.SignalEvent (field block 0 4) (field block 4 2) }
     ensures create_port { (block : List ℕ) (element : ℕ) → call_in kind.CreatePort block element
         ≡ call.CreatePort (field block 0 8) (field block 8 4) (field block 16 8)
-        (port_kind (field block 24 4)) (field block 32 4) (field block 36 4) (field block 40 2)
+        (port_kind (field block 24 4)) (field block 32 4) (port_aim (field block 36 4)) (field block 40 2)
         (field block 42 2) }
     ensures connect_port { (block : List ℕ) (element : ℕ) → call_in kind.ConnectPort block element
         ≡ call.ConnectPort (field block 0 8) (field block 8 4) (field block 16 8) (field block 24 4)
@@ -113,9 +113,8 @@ pub fn each_call_has_its_checks()
     ensures signal_event { (block : List ℕ) (element : ℕ) → are_well_formed kind.SignalEvent block element
         ≡ is_id (field block 0 4) }
     ensures create_port { (block : List ℕ) (element : ℕ) → are_well_formed kind.CreatePort block element
-        ≡ (is_id (field block 8 4) && is_port_type (field block 24 4) && nat_le (field block 32 4) 15 && not
-        (field block 36 4 == 0xFFFFFFFF) && are_flags (field block 24 4) (field block 40 2)
-        (field block 42 2)) }
+        ≡ (is_id (field block 8 4) && is_port_type (field block 24 4) && nat_le (field block 32 4) 15
+        && are_flags (field block 24 4) (field block 40 2) (field block 42 2)) }
     ensures connect_port { (block : List ℕ) (element : ℕ) → are_well_formed kind.ConnectPort block element
         ≡ (is_id (field block 8 4) && is_id (field block 24 4) && is_port_type (field block 32 4)) }
 {}

@@ -5,6 +5,7 @@ ghost use Rattle.hv_abi.specs.CallRow.{kind_of};
 ghost use Rattle.hv_abi.specs.declared.call_kind.CallKind.TheVariants as kind;
 ghost use Rattle.hv_abi.specs.declared.call_kind.TheConstants.{ALL_CALLS};
 ghost use Rattle.hv_calls.specs.declared.call.Call.TheVariants as call;
+ghost use Rattle.hv_defs.specs.declared.aim.Aim.{Aim};
 ghost use Rattle.hv_defs.specs.declared.life.Life.TheVariants.{Created, Active, Finalized};
 ghost use Rattle.hv_defs.specs.declared.port_kind.PortKind.{PortKind};
 ghost use Rattle.hv_policy.specs.Needs.{target_of, meant_id};
@@ -129,8 +130,8 @@ pub fn each_call_has_its_needs()
         ≡ (2 ^ 36, kin.Caller, Created ∷ Active ∷ Finalized ∷ []) }
     ensures signal_event { (connection flag : ℕ) → need_line (call.SignalEvent connection flag)
         ≡ (2 ^ 37, kin.Caller, Created ∷ Active ∷ Finalized ∷ []) }
-    ensures create_port { (partition port peer : ℕ) (port_kind : PortKind) (sint vp base count : ℕ)
-        → need_line (call.CreatePort partition port peer port_kind sint vp base count)
+    ensures create_port { (partition port peer : ℕ) (port_kind : PortKind) (sint : ℕ) (vp : Aim)
+        (base count : ℕ) → need_line (call.CreatePort partition port peer port_kind sint vp base count)
         ≡ (2 ^ 38, kin.CallerOrChild, Active ∷ []) }
     ensures connect_port { (partition connection port_partition port : ℕ)
         (port_kind : PortKind)
@@ -191,7 +192,7 @@ pub fn each_call_has_its_rules()
     ensures signal_event { (f : Flat) (caller connection flag : ℕ)
         → rules_line f caller (call.SignalEvent connection flag) ≡ (16 ∷ 17 ∷ 19 ∷ 21 ∷ 22 ∷ [], 0, false) }
     ensures create_port { (f : Flat) (caller partition port peer : ℕ) (port_kind : PortKind)
-        (sint vp base count : ℕ)
+        (sint : ℕ) (vp : Aim) (base count : ℕ)
         → rules_line f caller (call.CreatePort partition port peer port_kind sint vp base count)
         ≡ (12 ∷ 15 ∷ 17 ∷ 19 ∷ 24 ∷ [], 1, true) }
     ensures connect_port { (f : Flat) (caller partition connection port_partition port : ℕ)
@@ -241,8 +242,8 @@ pub fn each_call_has_its_target()
         → target_of (call.PostMessage connection message_type payload) caller ≡ caller }
     ensures signal_event { (caller connection flag : ℕ)
         → target_of (call.SignalEvent connection flag) caller ≡ caller }
-    ensures create_port { (caller partition port peer : ℕ) (port_kind : PortKind) (sint vp base count : ℕ)
-        → target_of (call.CreatePort partition port peer port_kind sint vp base count) caller
+    ensures create_port { (caller partition port peer : ℕ) (port_kind : PortKind) (sint : ℕ) (vp : Aim)
+        (base count : ℕ) → target_of (call.CreatePort partition port peer port_kind sint vp base count) caller
         ≡ meant_id caller partition }
     ensures connect_port { (caller partition connection port_partition port : ℕ)
         (port_kind : PortKind)

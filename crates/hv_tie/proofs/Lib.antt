@@ -13,3 +13,4 @@ pub mod Processors
 pub mod Room
 pub mod Staff
 pub mod Twice
+pub mod Takers

@@ -17,6 +17,6 @@ pub use access::{target, unmet_by_caller, unmet_by_target};
 pub use partitions::Partitions;
 pub use refused::Refused;
 pub use rules::{
-    Balance, has_available, has_vp, is_child, is_state_allowed, meant, memory_balance,
+    Balance, has_available, has_target, has_vp, is_child, is_state_allowed, meant, memory_balance,
     number_output,
 };

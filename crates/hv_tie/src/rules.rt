@@ -2,6 +2,7 @@
 ghost use Rattle.std.specs.Prelude.{◌≡◌, ◌==◌, if◌then◌else◌};
 ghost use Rattle.std.specs.FinMap.{contains_key};
 ghost use Rattle.std.specs.Int.{w64, to_le_bytes};
+ghost use Rattle.hv_policy.specs.Aim.{has_target as has_target_of};
 ghost use Rattle.hv_policy.specs.Count.{available as available_of, in_use as in_use_of};
 ghost use Rattle.hv_policy.specs.Flat.{Flat};
 ghost use Rattle.hv_policy.specs.Met.{has_available as has_available_of, is_child as is_child_of, is_in};
@@ -10,7 +11,7 @@ ghost use Rattle.hv_tie.specs.Served.{AreLawful};
 ghost use Rattle.hv_tie.specs.Tie.{IsTied};
 
 use crate::partitions::Partitions;
-use hv_defs::SELF_ID;
+use hv_defs::{Aim, SELF_ID};
 use hv_policy::{CallOutput, States};
 use std::alloc::Allocator;
 
@@ -56,6 +57,16 @@ pub fn has_vp<A: Allocator>(tree: &Partitions<A>, id: u64, index: u32) -> bool
         return false;
     };
     partition.vp(index).is_some()
+}
+
+/// P19 of a port: whether the one processor of a partition at which it aims is there. For any it is met.
+pub fn has_target<A: Allocator>(tree: &Partitions<A>, id: u64, aim: Aim) -> bool
+    ensures { (f : Flat) → IsTied tree.now f → result ≡ has_target_of f id aim }
+{
+    match aim {
+        Aim::One(index) => has_vp(tree, id, index),
+        Aim::Any => true,
+    }
 }
 
 /// P24: whether a partition has so many available pages.

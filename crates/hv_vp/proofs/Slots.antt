@@ -46,7 +46,7 @@ module _ {S X : Type 0} (key : S → ℕ) (val : S → X) where
         | inr apart ↦ rw (tied_apart q (key s) apart) (no_slot q ss (i + 1) (rw (ne_eqb (key s) q apart) at e))
       ]
 
-  absent : (q : ℕ) (slots : List S) → AllByRecursion (λ y. nat_eq q y ≡ false) (keys slots) → find nat_cmp q (entries slots) ≡ None
+  pub absent : (q : ℕ) (slots : List S) → AllByRecursion (λ y. nat_eq q y ≡ false) (keys slots) → find nat_cmp q (entries slots) ≡ None
   absent q [] apart = refl
   absent q (s ∷ ss) apart =
       elim (cases_eq (key s) q) [

@@ -1,9 +1,14 @@
 -- The processors of a partition as contracts see them.
-use Rattle.std.specs.Prelude.{ℕ, ◌+◌, ◌-◌, ◌≤◌, List, length, map as list_map, min, nat_eq, refl}
+use Rattle.std.specs.Prelude.{ℕ, ◌+◌, ◌-◌, ◌≤◌, Bool, find, List, length, map as list_map, min, nat_eq, Option, refl}
 use Rattle.std.specs.Coded.{Coded, code_by, coded×, coded_ℕ}
 use Rattle.std.specs.FinMap as map
-use Rattle.std.specs.List.{IsDistinct}
+use Rattle.std.specs.List.{IsDistinct, sum_by}
+use Rattle.std.specs.Option.{option_map}
 use Rattle.std.specs.Ordering.{nat_cmp}
+use Rattle.hv_defs.specs.Registers.{takes_flags, takes_messages}
+use Rattle.hv_defs.specs.declared.port_kind.PortKind.{PortKind}
+use Rattle.hv_defs.specs.declared.port_kind.PortKind.TheVariants.{Message, Event}
+use Rattle.hv_mail.specs.Mail.{count_of}
 use Rattle.hv_vp.specs.Vp.{VpState, vp_code}
 use Rattle.hv_vp.specs.declared.vps.Slot.{Slot}
 use Rattle.hv_vp.specs.declared.vps.TheConstants.{MOST}
@@ -42,6 +47,19 @@ pub record AreSlots {A : Type 0} (slots : List (Slot A)) : Type 0 where
 -- the processors with another state of one of them
 abbrev pub with_vp : VpsState → ℕ → VpState → VpsState
 with_vp v index vp = record v { vps = map.insert v.vps index vp }
+
+-- a processor is ready for what a port of this kind takes
+abbrev pub is_ready : PortKind → VpState → Bool
+is_ready Message v = takes_messages v.registers
+is_ready Event v = takes_flags v.registers
+
+-- the lowest index of a processor that meets a test
+abbrev pub lowest : (VpState → Bool) → map.FinMap nat_cmp VpState → Option ℕ
+lowest test vps = option_map (λ e. e.0) (find (λ e. test e.1) (map.entries vps))
+
+-- how many messages of a port and birth all of them have
+abbrev pub kept_by_all : ℕ → ℕ → map.FinMap nat_cmp VpState → ℕ
+kept_by_all port born vps = sum_by (λ e. count_of port born e.1.mail) (map.entries vps)
 
 -- no processors, and no memory for any
 abbrev pub no_vps : VpsState

@@ -3,10 +3,11 @@ ghost use Rattle.std.specs.Prelude.{◌≡◌, IfOk};
 ghost use Rattle.hv_defs.specs.Registers.{is_on, kept, name_of_msr, row_of, takes_flags, takes_messages};
 ghost use Rattle.hv_vp.specs.Registers.{answer, kept_msr, read_of, read_of_msr};
 ghost use Rattle.hv_vp.specs.Vp.{new_vp, written, written_msr};
+ghost use Rattle.hv_vp.specs.Vps.{is_ready};
 
 use crate::registers::Registers;
 use crate::table::name_of_msr;
-use hv_defs::{EOM, RegFault, SCONTROL, SIEFP, SIMP};
+use hv_defs::{EOM, PortKind, RegFault, SCONTROL, SIEFP, SIMP};
 use hv_mail::{Flags, Mailbox, Pending};
 use std::alloc::{AllocError, Allocator};
 use std::marker::Model;
@@ -120,6 +121,16 @@ impl<A: Allocator> Vp<A> {
         ensures { result ≡ takes_flags self.now.registers }
     {
         self.is_on(SCONTROL) && self.is_on(SIEFP)
+    }
+
+    /// Whether it is ready for what a port of this kind takes.
+    pub fn is_ready(&self, kind: PortKind) -> bool
+        ensures { result ≡ is_ready kind self.now }
+    {
+        match kind {
+            PortKind::Message => self.ready_for_messages(),
+            PortKind::Event => self.ready_for_flags(),
+        }
     }
 
     // Whether bit 0 of a register is set.

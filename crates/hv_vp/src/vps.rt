@@ -1,15 +1,18 @@
 // The processors of a partition.
-ghost use Rattle.std.specs.Prelude.{◌≡◌, ◌+◌, ◌≤◌, ◌<◌, ◌==◌, IsOk, OnOk, OnErr, IfSome, false, length};
+ghost use Rattle.std.specs.Prelude.{◌≡◌, ◌+◌, ◌≤◌, ◌<◌, ◌==◌, IsOk, OnOk, OnErr, IfSome, false, length, map as list_map};
+ghost use Rattle.std.specs.Prelude.{min, nat_lt};
 ghost use Rattle.std.specs.Prelude.{option_copied};
 ghost use Rattle.std.specs.Borrow.{LendsIf, sem};
 ghost use Rattle.std.specs.FinMap as map;
-ghost use Rattle.std.specs.List.{position_from};
+ghost use Rattle.std.specs.List.{filter, position_from, reduce, sum_by};
 ghost use Rattle.std.specs.Option.{option_copied_mut};
-ghost use Rattle.hv_vp.specs.Vps.{cleared, no_vps, with_vp};
+ghost use Rattle.hv_mail.specs.Mail.{count_of};
+ghost use Rattle.hv_vp.specs.Vps.{cleared, is_ready, kept_by_all, lowest, no_vps, with_vp};
 ghost use Rattle.hv_vp.specs.contracts.vp.Vp.{the_row as vp_row};
 ghost use Rattle.hv_vp.specs.contracts.vps.Vps.{the_row};
 
 use crate::vp::Vp;
+use hv_defs::PortKind;
 use std::alloc::{AllocError, Allocator};
 use std::marker::Model;
 
@@ -82,6 +85,21 @@ impl<A: Allocator> Vps<A> {
         self.slots.len() as u32
     }
 
+    /// The lowest index of a processor that is ready for what a port of this kind takes, if one is.
+    pub fn lowest_ready(&self, kind: PortKind) -> Option<u32>
+        ensures { result ≡ lowest (is_ready kind) self.now.vps }
+    {
+        lowest_of(self.slots.as_slice(), kind)
+    }
+
+    /// Whether all processors together have fewer messages than so many, shown or waiting, that came through
+    /// this port of this birth.
+    pub fn keep_fewer(&self, port: u32, born: u64, most: usize) -> bool
+        ensures { result ≡ nat_lt (kept_by_all port born self.now.vps) most }
+    {
+        keep_fewer(self.slots.as_slice(), port, born, most)
+    }
+
     /// Makes room for one processor more. Room that is there already always suffices.
     ///
     /// `Err` where there is no memory for it, or where there are 2^32 - 1 processors already, and then
@@ -136,4 +154,30 @@ fn place_of<A: Allocator>(slots: &[Slot<A>], index: u32) -> Option<usize>
     ensures within { IfSome result (λ place. place < length slots.now) }
 {
     slots.iter().position(|slot| slot.index == index)
+}
+
+// The lowest index of the processors that are ready.
+fn lowest_of<A: Allocator>(slots: &[Slot<A>], kind: PortKind) -> Option<u32>
+    ensures { result ≡ reduce min (list_map (λ slot. slot.index) (filter (λ slot. is_ready kind slot.vp) slots.now)) }
+{
+    slots
+        .iter()
+        .filter(|slot| slot.vp.is_ready(kind))
+        .map(|slot| slot.index)
+        .min()
+}
+
+// Whether the processors have fewer messages of a port and birth than so many, counted no further than that.
+fn keep_fewer<A: Allocator>(slots: &[Slot<A>], port: u32, born: u64, most: usize) -> bool
+    ensures { result ≡ nat_lt (sum_by (λ slot. count_of port born slot.vp.mail) slots.now) most }
+{
+    let mut left = most;
+    for slot in slots {
+        let kept = slot.vp.of_port(port, born);
+        if kept >= left {
+            return false;
+        }
+        left -= kept;
+    }
+    left > 0
 }

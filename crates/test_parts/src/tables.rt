@@ -1,6 +1,6 @@
 // The tables of ports and connections, and their room for one row more.
 
-use hv_defs::PortKind;
+use hv_defs::{Aim, PortKind};
 use hv_ports::{Conn, ConnTable, Port, PortTable};
 use std::alloc::Global;
 use std::process::Abort;
@@ -10,7 +10,7 @@ const PORT: Port = Port {
     kind: PortKind::Event,
     peer: 0xFEDC_BA98_7654_3210,
     sint: 15,
-    vp: 63,
+    vp: Aim::One(63),
     base: 2040,
     count: 8,
     born: 0x0123_4567_89AB_CDEF,
