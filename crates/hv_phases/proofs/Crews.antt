@@ -1,12 +1,12 @@
 -- The tasks of a script's processors, as lines are handed out and run.
-use Rattle.std.proofs.Common.{◌≡◌, ℕ, ◌<◌, ◌≤◌, List, [], ◌∷◌, ◌++◌, length, get_or, refl, sym, ap, ◌∙◌, subst, arith, Bool, true, false, ◌==◌, append-nil, nat_lt}
+use Rattle.std.proofs.Common.{◌≡◌, ℕ, ◌<◌, ◌≤◌, List, [], ◌∷◌, ◌++◌, length, get_or, take, inl, inr, refl, sym, ap, ◌∙◌, subst, arith, Bool, true, false, ◌==◌, append-nil, nat_lt}
 use Rattle.std.specs.Prelude.{All, ◌≢◌}
 use Rattle.std.specs.List.{AllPairs}
 use Rattle.std.specs.List.Sorted.{IsPermutation}
 use Rattle.std.proofs.Math.ListN.{set}
 use Rattle.std.proofs.Math.Seq.{map-set_same}
-use Rattle.std.proofs.lemmas.Bool.{eqb-true, eqb-false, false≢true, ltb-true, ltb-false}
-use Rattle.std.proofs.lemmas.List.{same_lists, length-map, length-set, get_or-map, get_or-set_same, get_or-set_other}
+use Rattle.std.proofs.lemmas.Bool.{cases_lt, eqb-true, eqb-false, false≢true, ltb-true, ltb-false}
+use Rattle.std.proofs.lemmas.List.{same_lists, length-map, length-set, length-take-le, get_or-map, get_or-take, get_or-set_same, get_or-set_other}
 use Rattle.std.proofs.lemmas.List.Elements.{All-set}
 use Rattle.std.proofs.lemmas.List.Sorted.{All-permutation, Contains-permutation, IsPermutation-map}
 use Rattle.std.proofs.lemmas.Map.Keys.{IsDistinct-IsPermutation}
@@ -14,7 +14,7 @@ use Rattle.std.proofs.lemmas.Map.Made.{AllPairs-from_IsDistinct, IsDistinct-from
 use Rattle.std.specs.declared.alloc.Global.{Global}
 use Rattle.hv_policy.specs.declared.event.Action.{Action}
 use Rattle.hv_policy.specs.declared.event.Caller.{Caller}
-use Rattle.hv_phases.specs.Crew.{AreCallersOf, AreIdleFrom, HasGiven, HasRun, IsAfter, IsGiven, IsGoing, callers_in}
+use Rattle.hv_phases.specs.Crew.{AreCallersOf, AreGoingFrom, AreIdleFrom, HasGiven, HasRun, IsAfter, IsGiven, IsGoing, callers_in}
 use Rattle.hv_phases.specs.Lines.{asked_by}
 use Rattle.hv_phases.proofs.Asked.{asked_by-append, asked_by_other, asked_by_own, whole-append}
 use Rattle.hv_script.specs.declared.line.Line.{Line}
@@ -152,6 +152,14 @@ did_all {L} old new ran taken did going whole given =
     (whole-append by (asked_by by ran) (asked_by by taken) old.work.pass.receipts did.done.more whole
     (subst (λ (acts : List (Action Global)). AreWhole by acts did.done.more) actions (subst (λ (rs : List Receipt). AreWhole by a.did rs) more a.are_whole)))))
 
+-- those at the front were looked at, and behind them none was stopped
+pub going_all : {L : Type 0} (tasks : List (Task L)) (members : ℕ) → members ≤ length tasks → All IsGoing (take members tasks) → AreGoingFrom members tasks → All IsGoing tasks
+going_all {L} tasks members within front back i d there =
+    elim (cases_lt i members) [
+      | inl less ↦ subst (λ (t : Task L). IsGoing t) (get_or-take members tasks i d less) (front i d (let m = length-take-le members tasks within in omega arith))
+      | inr most ↦ back i d most there
+    ]
+
 -- a phase was run in which the host stopped nobody
 module _ {L : Type 0} (old new : List (Task L)) (members : ℕ) (long : length new ≡ length old)
     (done : (i : ℕ) (d : Task L) → i < members → IsDoneAt (get_or old i d) (get_or new i d)) (rest : (i : ℕ) (d : Task L) → members ≤ i → i < length old → get_or new i d ≡ get_or old i d) where
@@ -205,7 +213,13 @@ module _ {L : Type 0} (old new : List (Task L)) (members : ℕ) (long : length n
       (λ j e m k. ap (λ (x : Task L). x.work.actions.items) (rest j e m k) ∙ idle j e m k)
       i d h
 
--- a task that was looked at is another processor's
-pub not_here : {L : Type 0} (tasks : List (Task L)) (i : ℕ) (x : Task L) (by c : Caller) (b : Bool) → i < length tasks → c ≡ (get_or tasks i x).work.pass.caller → b ≡ is_caller by c → b ≡ false
-    → get_or (callers_in tasks) i by ≡ by → ⊥
-not_here {L} tasks i x by c b h is eq wrong same = false≢true (sym wrong ∙ eq ∙ is_itself by c (is ∙ sym (get_or-map (λ (t : Task L). t.work.pass.caller) tasks i x by h) ∙ same))
+  -- none was stopped that had something to do, so none at all
+  pub going_after : members ≤ length old → All IsGoing old → All IsGoing (take members new) → All IsGoing new
+  going_after within going front =
+      going_all new members (omega arith) front (λ i d most there. subst (λ (x : Task L). IsGoing x) (sym (rest i d most (omega arith))) (going i d (omega arith)))
+
+-- the task at a place before these did something
+pub going_set : {L : Type 0} (tasks : List (Task L)) (p members : ℕ) (t : Task L) → p < members → ((i : ℕ) (d : Task L) → members ≤ i → i < length tasks → IsGoing (get_or tasks i d))
+    → AreGoingFrom members (set tasks p t)
+going_set {L} tasks p members t before going i d most there =
+    subst (λ (x : Task L). IsGoing x) (sym (get_or-set_other tasks p i t d (λ is. omega arith))) (going i d most (let s = length-set tasks p t in omega arith))

@@ -103,10 +103,6 @@ in_order_ends lines left tasks at none going =
     have_run lines tasks at.callers
     (λ i d h. subst (λ (ls : List (Line Global)). HasRun ls (get_or tasks i d).work.pass) (all_ran lines at.ran left at.order none) ((at.after i d h).run (going i d h)))
 
-pub between_first : {L : Type 0} (lines left : List (Line Global)) (tasks : List (Task L)) → reverse left ≡ lines → AreReady lines tasks → IsBetween lines left tasks
-between_first lines left tasks is ready =
-    record { ran = []; order = is; callers = ready.callers; going = ready.going; run = ready.run; idle = ready.idle }
-
 pub between_ends : {L : Type 0} (lines left : List (Line Global)) (tasks : List (Task L)) → IsBetween lines left tasks → left ≡ [] → HaveRun lines (passes_in tasks)
 between_ends lines left tasks at none =
     have_run lines tasks at.callers (λ i d h. subst (λ (ls : List (Line Global)). HasRun ls (get_or tasks i d).work.pass) (all_ran lines at.ran left at.order none) (at.run i d h))

@@ -4,3 +4,4 @@ pub mod Handing
 pub mod Named
 pub mod Settled
 pub mod Stops
+pub mod Telling

@@ -1,34 +1,15 @@
 -- The first of the processors that the host stopped.
-use Rattle.std.proofs.Common.{◌≡◌, ℕ, ◌+◌, ◌<◌, ◌≤◌, ◌⊎◌, inl, inr, List, [], ◌∷◌, length, drop, get_or, Option, Some, None, Bool, nat_lt, refl, sym, ap, ◌∙◌, subst, arith, true, false}
+use Rattle.std.proofs.Common.{◌≡◌, ℕ, ◌+◌, ◌<◌, ◌≤◌, ◌⊎◌, inl, inr, List, length, get_or, Option, Some, None, Bool, nat_lt, refl, sym, ap, ◌∙◌, subst, arith, true, false}
 use Rattle.std.specs.Prelude.{IfNone, IfSome, if◌then◌else◌}
 use Rattle.std.proofs.lemmas.Bool.{cases_lt, ltb-false, ltb-true}
-use Rattle.std.proofs.lemmas.List.{at_drop_more, drop_all}
 use Rattle.std.proofs.lemmas.Option.{get_or_from_slice_get, slice_get-get_or}
 use borrow.Author.Count.{below_more}
 use Rattle.hv_machine.specs.declared.machine.HostRefused.{HostRefused}
 use Rattle.hv_policy.specs.declared.event.Caller.{Caller}
 use Rattle.hv_phases.specs.Crew.{IsGoing, caller_of}
 use Rattle.hv_phases.specs.Stop.{AreBehind, IsEarlier, IsFirstStop, place_among}
-use Rattle.hv_shared.proofs.Callers.{is_another, is_itself}
-use Rattle.hv_shared.specs.ByCaller.{is_caller}
 use Rattle.hv_threads.specs.declared.phase.End.TheVariants.{Host}
 use Rattle.hv_threads.specs.declared.phase.Task.{Task}
-
--- the caller at this place isn't the one
-pub place_more : (by d : Caller) (callers : List Caller) (i : ℕ) → i < length callers → (get_or callers i d ≡ by → ⊥) → place_among by (drop i callers) ≡ place_among by (drop (i + 1) callers) + 1
-place_more by d callers i less other =
-    at_drop_more (place_among by) callers i d less
-    ∙ ap (λ b. if b then 0 else place_among by (drop (i + 1) callers) + 1) (is_another by (get_or callers i d) other)
-
--- it is
-pub place_here : (by d : Caller) (callers : List Caller) (i : ℕ) → i < length callers → get_or callers i d ≡ by → place_among by (drop i callers) ≡ 0
-place_here by d callers i less same =
-    at_drop_more (place_among by) callers i d less
-    ∙ ap (λ b. if b then 0 else place_among by (drop (i + 1) callers) + 1) (is_itself by (get_or callers i d) same)
-
--- none is
-pub place_end : (by : Caller) (callers : List Caller) (i : ℕ) → length callers ≤ i → place_among by (drop i callers) ≡ 0
-place_end by callers i all = ap (place_among by) (drop_all i callers all)
 
 -- what is known once so many tasks were looked at
 pub record IsFound {L : Type 0} (callers : List Caller) (count : ℕ) (tasks : List (Task L)) (first : Option (ℕ × HostRefused)) : Type 0 where

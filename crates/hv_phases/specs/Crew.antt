@@ -53,6 +53,10 @@ IsGoing task = task.end ≡ Finished
 abbrev pub AreIdleFrom : {L : Type 0} → ℕ → List (Task L) → Type 0
 AreIdleFrom {L} members tasks = (i : ℕ) (d : Task L) → members ≤ i → i < length tasks → (slice_index_or tasks i d).work.actions.items ≡ []
 
+-- the host stopped none from this place on
+abbrev pub AreGoingFrom : {L : Type 0} → ℕ → List (Task L) → Type 0
+AreGoingFrom {L} members tasks = (i : ℕ) (d : Task L) → members ≤ i → i < length tasks → IsGoing (slice_index_or tasks i d)
+
 -- the tasks of these lines' processors, before any line is run
 pub record AreReady {L : Type 0} (lines : List (Line Global)) (tasks : List (Task L)) : Type 0 where
   pub callers : AreCallersOf lines (callers_in tasks)

@@ -1,3 +1,4 @@
 pub mod Crew
 pub mod Lines
+pub mod Places
 pub mod Stop

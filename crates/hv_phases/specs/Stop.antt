@@ -1,5 +1,5 @@
 -- Which of the processors that the host stopped is told.
-use Rattle.std.specs.Prelude.{ℕ, ◌≡◌, ◌≤◌, ◌<◌, ◌+◌, if◌then◌else◌, Option, None, Some, nat_lt, List, [], ◌∷◌, length, slice_index_or}
+use Rattle.std.specs.Prelude.{ℕ, ◌≡◌, ◌≤◌, ◌<◌, ◌+◌, if◌then◌else◌, Option, None, Some, nat_lt, List, [], ◌∷◌, slice_index_or}
 use Rattle.hv_machine.specs.declared.machine.HostRefused.{HostRefused}
 use Rattle.hv_phases.specs.Crew.{IsGoing, caller_of}
 use Rattle.hv_policy.specs.declared.event.Caller.{Caller}

@@ -1,9 +1,9 @@
 // The processors of a script.
 ghost use Rattle.std.specs.Prelude.{◌≡◌, IfOk, OnOk};
-ghost use Rattle.std.specs.List.{list_any};
 ghost use Rattle.hv_phases.specs.Crew.{AreCallersOf, HasCaller};
-ghost use Rattle.hv_shared.specs.ByCaller.{is_caller};
+ghost use Rattle.hv_phases.specs.Places.{IsIndexOf};
 
+use crate::places::{Places, note, place_in};
 use hv_policy::Caller;
 use hv_script::Line;
 use std::alloc::{AllocError, Global};
@@ -13,26 +13,23 @@ pub fn callers_of(alloc: Global, lines: &[Line<Global>]) -> Result<Vec<Caller>, 
     ensures { IfOk result (λ callers. AreCallersOf lines.now callers.items) }
 {
     let mut callers = Vec::new(alloc);
+    let mut places = Places::new(alloc);
     for i in 0..lines.len() {
-        add(&mut callers, lines[i].by)?;
+        add(&mut callers, &mut places, lines[i].by)?;
     }
     Ok(callers)
 }
 
 // Adds a processor, unless it is there.
-fn add(callers: &mut Vec<Caller>, by: Caller) -> Result<(), AllocError>
-    ensures { OnOk result (HasCaller by callers.old.items callers.new.items) }
+fn add(callers: &mut Vec<Caller>, places: &mut Places, by: Caller) -> Result<(), AllocError>
+    requires { IsIndexOf places.old callers.old.items }
+    ensures added { OnOk result (HasCaller by callers.old.items callers.new.items) }
+    ensures index { OnOk result (IsIndexOf places.new callers.new.items) }
 {
-    if is_among(callers, by) {
+    if place_in(places, by).is_some() {
         return Ok(());
     }
+    note(places, by, callers.len())?;
     callers.push(by)?;
     Ok(())
-}
-
-// Whether this processor is one of them.
-fn is_among(callers: &Vec<Caller>, by: Caller) -> bool
-    ensures { result ≡ list_any (is_caller by) callers.now.items }
-{
-    callers.iter().any(|caller| *caller == by)
 }

@@ -1,14 +1,16 @@
 // The lines of a script in its order, with no thread.
-ghost use Rattle.std.specs.Prelude.{◌≡◌, ◌≢◌, ◌≤◌, ◌<◌, ◌++◌, ◌∷◌, [], ℕ, List, All, IfNone, length};
+ghost use Rattle.std.specs.Prelude.{◌≡◌, ◌≢◌, ◌≤◌, ◌<◌, ◌++◌, ◌∷◌, [], ℕ, List, All, IfNone, IfOk, length};
 ghost use Rattle.std.specs.List.{Contains};
 ghost use Rattle.std.specs.List.Sorted.{IsPermutation};
 ghost use Rattle.std.specs.declared.alloc.Global.{Global};
-ghost use Rattle.hv_phases.specs.Crew.{AreReady, HaveRun, IsAfter, callers_in, passes_in};
+ghost use Rattle.hv_phases.specs.Crew.{AreGoingFrom, AreReady, HaveRun, IsAfter, callers_in, passes_in};
+ghost use Rattle.hv_phases.specs.Places.{Tells};
 ghost use Rattle.hv_script.specs.declared.line.Line.{Line};
 ghost use Rattle.hv_shared.specs.ByCaller.{AreDifferent};
 ghost use Rattle.hv_shared.specs.Perform.{HasPerformed};
 ghost use Rattle.hv_threads.specs.declared.phase.End.TheVariants.{Finished};
 
+use crate::places::Places;
 use crate::tasks::{enlist, first_stop};
 use hv_history::HostRefused;
 use hv_policy::{Action, Caller};
@@ -26,9 +28,11 @@ pub fn run_in_order<L: Ledger, R: Wait, G: Gate>(
     shared: &Shared<L>,
     callers: &[Caller],
     tasks: &mut [Task<L>],
+    places: &mut Places,
     lines: Vec<Line<Global>>,
 ) -> Option<HostRefused>
-    requires { AreReady lines.items tasks.old }
+    requires ready { AreReady lines.items tasks.old }
+    requires index { Tells places.old (callers_in tasks.old) }
     ensures { IfNone result (HaveRun lines.items (passes_in tasks.new)) }
 {
     let mut left = lines;
@@ -36,17 +40,36 @@ pub fn run_in_order<L: Ledger, R: Wait, G: Gate>(
     let mut phase = 0;
     let mut members = 0;
     while let Some(line) = left.pop() {
-        if line.phase != phase {
-            if let Some(why) = first_stop(tasks, callers) {
-                return Some(why);
-            }
-            phase = line.phase;
-            members = 0;
+        let is_same = line.phase == phase;
+        phase = line.phase;
+        match members_of(tasks, callers, members, is_same) {
+            Ok(so_far) => members = run_line(rt, gate, shared, tasks, places, so_far, line),
+            Err(why) => return Some(why),
         }
-        members = run_line(rt, gate, shared, tasks, members, line);
         shrink(&mut left);
     }
-    first_stop(tasks, callers)
+    first_stop(&tasks[..members], callers)
+}
+
+// How many of the first tasks had a line in the next line's phase so far: as many as before, or none in a phase that is to begin,
+// which it does where none of those before was stopped.
+fn members_of<L: Ledger>(
+    tasks: &[Task<L>],
+    callers: &[Caller],
+    members: usize,
+    is_same: bool,
+) -> Result<usize, HostRefused>
+    requires within { members ≤ length tasks.now }
+    requires going { AreGoingFrom members tasks.now }
+    ensures { IfOk result (λ so_far. (so_far ≤ length tasks.now) × AreGoingFrom so_far tasks.now) }
+{
+    if is_same {
+        return Ok(members);
+    }
+    match first_stop(&tasks[..members], callers) {
+        Some(why) => Err(why),
+        None => Ok(0),
+    }
 }
 
 // Runs a line, and tells how many of the first tasks had one in its phase.
@@ -55,16 +78,23 @@ fn run_line<L: Ledger, R: Wait, G: Gate>(
     gate: &G,
     shared: &Shared<L>,
     tasks: &mut [Task<L>],
+    places: &mut Places,
     members: usize,
     line: Line<Global>,
 ) -> usize
     requires different { AreDifferent (callers_in tasks.old) }
     requires named { Contains (callers_in tasks.old) line.by }
+    requires index { Tells places.old (callers_in tasks.old) }
+    requires within { members ≤ length tasks.old }
+    requires going { AreGoingFrom members tasks.old }
+    ensures within { result ≤ length tasks.new }
+    ensures going { AreGoingFrom result tasks.new }
+    ensures index { Tells places.new (callers_in tasks.new) }
     ensures callers { IsPermutation (callers_in tasks.old) (callers_in tasks.new) }
     ensures run { (ran : List (Line Global)) → All (IsAfter ran) tasks.old → All (IsAfter (ran ++ line ∷ [])) tasks.new }
 {
     let Line { by, action, .. } = line;
-    let place = enlist(tasks, members, by);
+    let place = enlist(tasks, places, members, by);
     do_next(rt, gate, shared, &mut tasks[place], action);
     if place < members { members } else { place + 1 }
 }

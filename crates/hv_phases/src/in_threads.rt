@@ -2,10 +2,12 @@
 ghost use Rattle.std.specs.Prelude.{◌≡◌, ◌≤◌, ◌<◌, ◌++◌, ◌∷◌, [], ℕ, All, IfNone, IfOk, IsTrue, OnOk, length, slice_index_or};
 ghost use Rattle.std.specs.List.{Contains};
 ghost use Rattle.hv_phases.specs.Crew.{AreCallersOf, AreIdleFrom, AreReady, HasGiven, HasHandedOut, HaveRun, callers_in, passes_in};
+ghost use Rattle.hv_phases.specs.Places.{Tells};
 ghost use Rattle.hv_shared.specs.ByCaller.{AreDifferent};
 ghost use Rattle.hv_threads.specs.Phase.{IsDoneAt};
 ghost use Rattle.hv_threads.specs.declared.phase.Task.{Task};
 
+use crate::places::Places;
 use crate::tasks::{enlist, first_stop};
 use hv_history::HostRefused;
 use hv_policy::{Action, Caller};
@@ -24,19 +26,21 @@ pub fn run_in_threads<L: Ledger + Send + Sync, R: Threads + Wait + Sync, G: Gate
     shared: &Shared<L>,
     callers: &[Caller],
     tasks: &mut [Task<L>],
+    places: &mut Places,
     lines: Vec<Line<Global>>,
 ) -> Option<HostRefused>
-    requires { AreReady lines.items tasks.old }
+    requires ready { AreReady lines.items tasks.old }
+    requires index { Tells places.old (callers_in tasks.old) }
     ensures { IfNone result (HaveRun lines.items (passes_in tasks.new)) }
 {
     let mut left = lines;
     left.reverse();
     while let Some(first) = left.pop() {
-        let Ok(members) = hand_out(tasks, &mut left, first) else {
+        let Ok(members) = hand_out(tasks, places, &mut left, first) else {
             return Some(HostRefused::Memory);
         };
         run_members(rt, gate, shared, tasks, members);
-        if let Some(why) = first_stop(tasks, callers) {
+        if let Some(why) = first_stop(&tasks[..members], callers) {
             return Some(why);
         }
     }
@@ -47,6 +51,7 @@ pub fn run_in_threads<L: Ledger + Send + Sync, R: Threads + Wait + Sync, G: Gate
 // tasks have something to do.
 fn hand_out<L: Ledger>(
     tasks: &mut [Task<L>],
+    places: &mut Places,
     left: &mut Vec<Line<Global>>,
     first: Line<Global>,
 ) -> Result<usize, AllocError>
@@ -54,16 +59,18 @@ fn hand_out<L: Ledger>(
     requires first { Contains (callers_in tasks.old) first.by }
     requires named { All (λ line. Contains (callers_in tasks.old) line.by) left.old.items }
     requires idle { AreIdleFrom 0 tasks.old }
+    requires index { Tells places.old (callers_in tasks.old) }
+    ensures index { OnOk result (Tells places.new (callers_in tasks.new)) }
     ensures handed_out { OnOk result (HasHandedOut first left.old.items left.new.items tasks.old tasks.new) }
     ensures idle { IfOk result (λ members. (members ≤ length tasks.new) × AreIdleFrom members tasks.new) }
 {
     let phase = first.phase;
-    let mut members = give(tasks, 0, first)?;
+    let mut members = give(tasks, places, 0, first)?;
     while is_next_of(left, phase) {
         let Some(line) = left.pop() else {
             unreachable!()
         };
-        members = give(tasks, members, line)?;
+        members = give(tasks, places, members, line)?;
     }
     Ok(members)
 }
@@ -81,6 +88,7 @@ fn is_next_of(left: &Vec<Line<Global>>, phase: u32) -> bool
 // Hands a line to the task of its processor, and tells how many of the first tasks have something to do.
 fn give<L: Ledger>(
     tasks: &mut [Task<L>],
+    places: &mut Places,
     members: usize,
     line: Line<Global>,
 ) -> Result<usize, AllocError>
@@ -88,11 +96,13 @@ fn give<L: Ledger>(
     requires named { Contains (callers_in tasks.old) line.by }
     requires within { members ≤ length tasks.old }
     requires idle { AreIdleFrom members tasks.old }
+    requires index { Tells places.old (callers_in tasks.old) }
+    ensures index { OnOk result (Tells places.new (callers_in tasks.new)) }
     ensures given { OnOk result (HasGiven line tasks.old tasks.new) }
     ensures idle { IfOk result (λ members. (members ≤ length tasks.new) × AreIdleFrom members tasks.new) }
 {
     let Line { by, action, .. } = line;
-    let place = enlist(tasks, members, by);
+    let place = enlist(tasks, places, members, by);
     push_action(&mut tasks[place], action)?;
     if place < members {
         Ok(members)

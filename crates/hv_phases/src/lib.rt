@@ -10,6 +10,7 @@
 mod callers;
 mod in_order;
 mod in_threads;
+mod places;
 mod run;
 mod tasks;
 

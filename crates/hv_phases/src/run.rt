@@ -8,7 +8,7 @@ ghost use Rattle.hv_shared.specs.Merge.{IsMerge, receipts_of};
 use crate::callers::callers_of;
 use crate::in_order::run_in_order;
 use crate::in_threads::run_in_threads;
-use crate::tasks::{give_back, tasks_of};
+use crate::tasks::{give_back, places_of, tasks_of};
 use hv_history::{HostRefused, Kept};
 use hv_policy::Caller;
 use hv_script::Line;
@@ -156,9 +156,12 @@ fn run_either<L: Ledger + Send + Sync, R: Threads + Wait + Sync, G: Gate>(
     requires { AreReady lines.items tasks.old }
     ensures { IfNone result (HaveRun lines.items (passes_in tasks.new)) }
 {
+    let Ok(mut places) = places_of(*lines.allocator(), tasks) else {
+        return Some(HostRefused::Memory);
+    };
     if serial {
-        run_in_order(rt, gate, shared, callers, tasks, lines)
+        run_in_order(rt, gate, shared, callers, tasks, &mut places, lines)
     } else {
-        run_in_threads(rt, gate, shared, callers, tasks, lines)
+        run_in_threads(rt, gate, shared, callers, tasks, &mut places, lines)
     }
 }

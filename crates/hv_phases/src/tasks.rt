@@ -1,16 +1,20 @@
 // The tasks of a script's processors.
-ghost use Rattle.std.specs.Prelude.{◌≡◌, ◌≤◌, ◌<◌, [], ℕ, All, IfOk, IfNone, IfSome, length, map, reverse, slice_index_or, vec_capacity, vec_len};
-ghost use Rattle.std.specs.List.{Contains};
+ghost use Rattle.std.specs.Prelude.{◌≡◌, ◌≢◌, ◌≤◌, ◌<◌, [], ℕ, All, IfOk, IfNone, IfSome, IsSome, Some, length, map, reverse, slice_index_or, vec_capacity, vec_len};
+ghost use Rattle.std.specs.List.{Contains, SwappedAt};
 ghost use Rattle.std.specs.List.Sorted.{IsPermutation};
-ghost use Rattle.hv_phases.specs.Crew.{AreIdleFrom, IsGoing, caller_of, callers_in, passes_in};
+ghost use Rattle.hv_phases.specs.Crew.{AreGoingFrom, AreIdleFrom, IsGoing, caller_of, callers_in, passes_in};
+ghost use Rattle.hv_phases.specs.Places.{Tells, place_by};
 ghost use Rattle.hv_phases.specs.Stop.{IsEarlier, IsFirstStop, place_among};
+ghost use Rattle.hv_policy.specs.declared.event.Caller.{Caller};
+ghost use Rattle.hv_shared.specs.ByCaller.{AreDifferent};
 ghost use Rattle.hv_threads.specs.declared.phase.End.TheVariants.{Host};
 ghost use Rattle.hv_threads.specs.declared.phase.Task.{Task};
 
+use crate::places::{Places, note, place_in};
 use hv_history::HostRefused;
 use hv_policy::Caller;
 use hv_threads::{End, Pass, Task, Work};
-use std::alloc::AllocError;
+use std::alloc::{AllocError, Global};
 use std::sync::ledger::Ledger;
 
 /// A task for each pass, with nothing to do, the last pass's first. For want of memory the passes stay.
@@ -35,6 +39,18 @@ pub fn tasks_of<L: Ledger>(passes: &mut Vec<Pass<L>>) -> Result<Vec<Task<L>>, Al
         });
     }
     Ok(tasks)
+}
+
+/// Where the task of each processor stands.
+pub fn places_of<L: Ledger>(alloc: Global, tasks: &[Task<L>]) -> Result<Places, AllocError>
+    requires { AreDifferent (callers_in tasks.now) }
+    ensures { IfOk result (λ places. Tells places (callers_in tasks.now)) }
+{
+    let mut places = Places::new(alloc);
+    for i in 0..tasks.len() {
+        note(&mut places, tasks[i].work.pass.caller(), i)?;
+    }
+    Ok(places)
 }
 
 /// Gives the passes of tasks back, the last task's first.
@@ -110,32 +126,64 @@ fn place_among(callers: &[Caller], by: Caller) -> usize
 }
 
 // Where the task of a processor stands.
-fn place_of<L: Ledger>(tasks: &[Task<L>], by: Caller) -> usize
-    requires { Contains (callers_in tasks.now) by }
+fn place_of<L: Ledger>(tasks: &[Task<L>], places: &Places, by: Caller) -> usize
+    requires there { Contains (callers_in tasks.now) by }
+    requires index { Tells places.now (callers_in tasks.now) }
     ensures there { result < length tasks.now }
     ensures by { (d : Task L) → (slice_index_or tasks.now result d).work.pass.caller ≡ by }
 {
-    for i in 0..tasks.len() {
-        if tasks[i].work.pass.caller() == by {
-            return i;
-        }
+    match place_in(places, by) {
+        Some(place) => place,
+        None => unreachable!(),
     }
-    unreachable!()
+}
+
+// Lets two tasks change places.
+fn exchange<L: Ledger>(tasks: &mut [Task<L>], places: &mut Places, one: usize, other: usize)
+    requires one { one < length tasks.old }
+    requires other { other < length tasks.old }
+    requires index { Tells places.old (callers_in tasks.old) }
+    ensures same { IsPermutation tasks.old tasks.new }
+    ensures swapped { SwappedAt tasks.old tasks.new one other }
+    ensures index { Tells places.new (callers_in tasks.new) }
+{
+    move_to(places, tasks[one].work.pass.caller(), other);
+    move_to(places, tasks[other].work.pass.caller(), one);
+    tasks.swap(one, other);
+}
+
+// Notes another place of a processor that is there.
+fn move_to(places: &mut Places, by: Caller, place: usize)
+    requires { IsSome (place_by by places.old) }
+    ensures here { place_by by places.new ≡ Some place }
+    ensures others { (c : Caller) → c ≢ by → place_by c places.new ≡ place_by c places.old }
+{
+    if note(places, by, place).is_err() {
+        unreachable!();
+    }
 }
 
 /// Brings the task of a processor to the place `members`, unless it stands before that, and tells where it stands: before
 /// that place stand the processors of the phase that had a line, in the order of their first lines.
-pub fn enlist<L: Ledger>(tasks: &mut [Task<L>], members: usize, by: Caller) -> usize
-    requires { Contains (callers_in tasks.old) by }
+pub fn enlist<L: Ledger>(
+    tasks: &mut [Task<L>],
+    places: &mut Places,
+    members: usize,
+    by: Caller,
+) -> usize
+    requires there { Contains (callers_in tasks.old) by }
+    requires index { Tells places.old (callers_in tasks.old) }
+    ensures index { Tells places.new (callers_in tasks.new) }
     ensures same { IsPermutation tasks.old tasks.new }
     ensures there { (result ≤ members) × (result < length tasks.new) }
     ensures by { (d : Task L) → (slice_index_or tasks.new result d).work.pass.caller ≡ by }
     ensures idle { AreIdleFrom members tasks.old → (i : ℕ) (d : Task L) → members ≤ i → result < i → i < length tasks.new → (slice_index_or tasks.new i d).work.actions.items ≡ [] }
+    ensures going { AreGoingFrom members tasks.old → (i : ℕ) (d : Task L) → members ≤ i → result < i → i < length tasks.new → IsGoing (slice_index_or tasks.new i d) }
 {
-    let place = place_of(tasks, by);
+    let place = place_of(tasks, places, by);
     if place < members {
         return place;
     }
-    tasks.swap(members, place);
+    exchange(tasks, places, members, place);
     members
 }

@@ -1,9 +1,16 @@
-use Rattle.std.proofs.Common.{length}
+use Rattle.std.proofs.Common.{◌≤◌, length}
+use Rattle.hv_phases.specs.Crew.{AreGoingFrom, callers_in}
+use Rattle.hv_phases.specs.Places.{Tells}
 use Rattle.hv_phases.proofs.Handing.{IsInOrder}
 use Rattle.hv_phases.proofs.in_order.run_in_order.Given as goal
 
 abbrev pub invariant-loop-line : goal.invariant-loop-line
-invariant-loop-line g l = IsInOrder l.fn.lines.items l.left.items l.tasks
+invariant-loop-line g l = record {
+  order : IsInOrder l.fn.lines.items l.left.items l.tasks;
+  within : l.members ≤ length l.tasks;
+  going : AreGoingFrom l.members l.tasks;
+  index : Tells l.places (callers_in l.tasks);
+}
 
 abbrev pub decreases-loop-line : goal.decreases-loop-line
 decreases-loop-line g l = length l.left.items

@@ -14,6 +14,7 @@ loop-left-init g c =
       named = named_after _ _ _ given.callers c.requires.named;
       within = idle.0;
       idle = idle.1;
+      index = c.in_ok-members.ensures.index;
     }
 
 pub give-requires-in-loop-left-clause-named : goal.give-requires-in-loop-left-clause-named
@@ -30,4 +31,5 @@ loop-left-preserved g c =
       named = named_after _ _ _ given.callers (before_last (λ line. Contains (callers_in c.loop-left.tasks) line.by) _ _ _ c.in-Some.ensures.items i.named);
       within = idle.0;
       idle = idle.1;
+      index = c.in_ok-members-2.ensures.index;
     }

@@ -2,6 +2,7 @@ use Rattle.std.proofs.Common.{◌≤◌, length}
 use Rattle.std.specs.Prelude.{All}
 use Rattle.std.specs.List.{Contains}
 use Rattle.hv_phases.specs.Crew.{AreIdleFrom, HasHandedOut, callers_in}
+use Rattle.hv_phases.specs.Places.{Tells}
 use Rattle.hv_shared.specs.ByCaller.{AreDifferent}
 use Rattle.hv_phases.proofs.in_threads.hand_out.Given as goal
 
@@ -12,6 +13,7 @@ invariant-loop-left g l = record {
   named : All (λ line. Contains (callers_in l.tasks) line.by) l.left.items;
   within : l.members ≤ length l.tasks;
   idle : AreIdleFrom l.members l.tasks;
+  index : Tells l.places (callers_in l.tasks);
 }
 
 abbrev pub decreases-loop-left : goal.decreases-loop-left
