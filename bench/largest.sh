@@ -1,9 +1,10 @@
 #!/usr/bin/env bash
-# What `hvpm` takes for scripts of the largest size, 1,048,576 bytes, of four kinds: calls for the caller's own id; rep calls of
-# 255 elements; messages that are posted, read and cleared; partitions that are made and deleted. Beside time and memory it
-# prints the instructions of an event, as valgrind counts them, which are the same on every machine: those of the whole script
-# less those of its first line. Peak memory should stay within that of one line, twice the script's bytes, and 64 bytes for each
-# event and its output. No event should be refused.
+# What `hvpm` takes for scripts of the largest size, 1,048,576 bytes, of five kinds: calls for the caller's own id; rep calls of
+# 255 elements; messages that are posted, read and cleared; partitions that are made and deleted; and lines of which each names
+# another processor, 64 in a phase. Beside time and memory it prints the instructions of an event, as valgrind counts them, which
+# are the same on every machine: those of the whole script less those of its first line. Of the first four kinds peak memory
+# should stay within that of one line, twice the script's bytes, and 64 bytes for each event and its output, and no event should
+# be refused. Of the last each is, since the processors aren't there.
 set -eu
 
 root=$(cd -- "$(dirname -- "${BASH_SOURCE[0]}")/.." && pwd)
@@ -51,6 +52,10 @@ make() {
                     call("0x40", 0, "-")
                     call("0x10043", id, "-")
                 }
+                if (kind == "processors") {
+                    if (id > 2 && (id - 2) % 64 == 0) line("phase")
+                    line("1." (id - 2) " interrupt")
+                }
             }
             while (size < most - 1) { printf "#"; size++ }
             print ""
@@ -66,7 +71,7 @@ instructions() {
         sed -n 's/.*Collected : //p'
 }
 
-for kind in id reps messages partitions; do
+for kind in id reps messages partitions processors; do
     make "$kind"
     echo "== $kind, $(stat -c %s "$folder/$kind.hv") bytes"
     measure "$root/bin/hvpm" "$folder/$kind.hv"
