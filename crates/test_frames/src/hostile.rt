@@ -115,17 +115,21 @@ fn is_asked(rcx: u64, number: u8) -> bool {
     number <= 4
 }
 
-// Makes the call on a machine of its own, in which the root has the child 2.
-fn answer(rt: &impl Abort, alloc: Global, rcx: u64, rdx: u64, input: &[u8]) -> Result<(), Fail> {
+pub(crate) fn boot(alloc: Global) -> Result<Machine<Global>, Fail> {
     let config = Config {
         pages: 32,
         pool: 12,
         vps: 1,
         mask: Privileges::of(0x0000_00f7_0000_0044),
     };
+    Ok(Machine::boot(alloc, config)?)
+}
+
+// Makes the call on a machine of its own, in which the root has the child 2.
+fn answer(rt: &impl Abort, alloc: Global, rcx: u64, rdx: u64, input: &[u8]) -> Result<(), Fail> {
     let first = event(alloc, 0x40, 0, &[0; 8])?;
     let second = event(alloc, rcx, rdx, input)?;
-    let mut machine = Machine::boot(alloc, config)?;
+    let mut machine = boot(alloc)?;
     make_both(rt, &mut machine, &first, &second, rcx)
 }
 
@@ -199,13 +203,23 @@ fn status_of(reply: &Reply) -> u64 {
     }
 }
 
-fn event(alloc: Global, rcx: u64, rdx: u64, input: &[u8]) -> Result<Event<Global>, Fail> {
+pub(crate) fn event(
+    alloc: Global,
+    rcx: u64,
+    rdx: u64,
+    input: &[u8],
+) -> Result<Event<Global>, Fail> {
     let by = Caller { part: 1, vp: 0 };
     let what = Action::Hypercall(frame(alloc, rcx, rdx, input)?);
     Ok(Event { by, what })
 }
 
-fn frame(alloc: Global, rcx: u64, rdx: u64, input: &[u8]) -> Result<Frame<Global>, Fail> {
+pub(crate) fn frame(
+    alloc: Global,
+    rcx: u64,
+    rdx: u64,
+    input: &[u8],
+) -> Result<Frame<Global>, Fail> {
     let input = Bytes::from_vec(input.to_vec(alloc)?);
     let r8 = 0;
     Ok(Frame {

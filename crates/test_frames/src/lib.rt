@@ -1,8 +1,12 @@
-//! Hostile frames, made by the whole machine and decoded one by one, and calls stepped element by
-//! element. Tests only.
+//! Hostile frames, made by the whole machine and decoded one by one, ids of all kinds in each field that has
+//! one, and calls stepped element by element. Tests only.
 #![tactic(auto)]
 
 #[cfg(test)]
+mod flips;
+#[cfg(test)]
 mod hostile;
+#[cfg(test)]
+mod ids;
 #[cfg(test)]
 mod stepped;

@@ -1,0 +1,138 @@
+// Ids that are none, the caller's own, a child's, the one that stands for the caller, and the last below it,
+// in each field of a block that has an id.
+
+use crate::hostile::{boot, event};
+use hv_machine::{Event, Machine, Reply};
+use std::alloc::Global;
+use std::process::Abort;
+use std::test::Fail;
+
+const IDS: [u64; 5] = [0, 1, 2, 0xFFFF_FFFF_FFFF_FFFF, 0xFFFF_FFFF_FFFF_FFFE];
+
+// A call of the root, which has the child 2 that isn't initialized: what stands in its block before an id and
+// behind it. Then by the id the number of the rule that refuses, or 0 where the call is served.
+const CALLS: [(u64, &[u8], &[u8], [u8; 5]); 20] = [
+    (0x41, &[], &[], [9, 10, 0, 10, 9]),
+    (0x42, &[], &[], [9, 10, 0, 10, 9]),
+    (0x43, &[], &[], [9, 10, 0, 10, 9]),
+    // The privileges.
+    (0x44, &[], &[0, 0, 1], [9, 0, 0, 0, 9]),
+    (
+        0x45,
+        &[],
+        &[0, 0, 1, 0, 0, 0, 0, 0, 0x44],
+        [9, 10, 0, 10, 9],
+    ),
+    (0x47, &[], &[], [9, 0, 0, 0, 9]),
+    // The child before: 0 is none, and the id that stands for the caller is a child's like any other.
+    (0x47, &[1, 0, 0, 0, 0, 0, 0, 0], &[], [0, 15, 0, 15, 15]),
+    // Page 12, and then a page of whoever it is, which the child hasn't.
+    (0x1_0000_0048, &[], &[12], [9, 0, 0, 0, 9]),
+    (0x1_0000_0049, &[], &[], [9, 0, 24, 0, 9]),
+    (0x4A, &[], &[], [9, 0, 0, 0, 9]),
+    // Processor 1 is made, and processor 0 is deleted, read, and written: RAX.
+    (0x4E, &[], &[1], [9, 0, 12, 0, 9]),
+    (0x4F, &[], &[], [9, 0, 12, 0, 9]),
+    (
+        0x1_0000_0050,
+        &[],
+        &[0, 0, 0, 0, 0, 0, 0, 0, 0, 0, 2],
+        [9, 0, 12, 0, 9],
+    ),
+    (
+        0x1_0000_0051,
+        &[],
+        &[0, 0, 0, 0, 0, 0, 0, 0, 0, 0, 2],
+        [9, 0, 12, 0, 9],
+    ),
+    // Port 5 and connection 7 are nowhere.
+    (0x58, &[], &[5], [9, 17, 12, 17, 9]),
+    (0x5B, &[], &[7], [9, 16, 12, 16, 9]),
+    // A message port 5 at SINT 2 of processor 0, for the root.
+    (
+        0x95,
+        &[],
+        &[
+            5, 0, 0, 0, 0, 0, 0, 0, 1, 0, 0, 0, 0, 0, 0, 0, 1, 0, 0, 0, 0, 0, 0, 0, 2,
+        ],
+        [9, 0, 12, 0, 9],
+    ),
+    // The same of the root, for whoever it is.
+    (
+        0x95,
+        &[1, 0, 0, 0, 0, 0, 0, 0, 5, 0, 0, 0, 0, 0, 0, 0],
+        &[1, 0, 0, 0, 0, 0, 0, 0, 2],
+        [15, 0, 0, 0, 15],
+    ),
+    // Connection 7, to port 5 of the root.
+    (
+        0x96,
+        &[],
+        &[
+            7, 0, 0, 0, 0, 0, 0, 0, 1, 0, 0, 0, 0, 0, 0, 0, 5, 0, 0, 0, 0, 0, 0, 0, 1,
+        ],
+        [9, 17, 12, 17, 9],
+    ),
+    // Connection 7 of the root, to port 5 of whoever it is.
+    (
+        0x96,
+        &[1, 0, 0, 0, 0, 0, 0, 0, 7, 0, 0, 0, 0, 0, 0, 0],
+        &[5, 0, 0, 0, 0, 0, 0, 0, 1],
+        [15, 17, 17, 17, 15],
+    ),
+];
+
+// The number of the rule that refuses, or 0 where the call is served. Of an access there is none.
+fn refused_by(reply: &Reply) -> Option<u8> {
+    match reply {
+        Reply::Served(_) => Some(0),
+        Reply::Denied { rule, .. } => Some(rule.number()),
+        Reply::More { .. } | Reply::Fault { .. } => None,
+    }
+}
+
+fn step(
+    rt: &impl Abort,
+    machine: &mut Machine<Global>,
+    event: &Event<Global>,
+) -> Result<Option<u8>, Fail> {
+    assert!(rt; machine.served() < 2);
+    let reply = machine.step(event)?;
+    Ok(refused_by(&reply))
+}
+
+// Makes the child and then the call, on a machine of their own.
+fn answer(rt: &impl Abort, alloc: Global, rcx: u64, block: &[u8]) -> Result<Option<u8>, Fail> {
+    let create = event(alloc, 0x40, 0, &[])?;
+    let call = event(alloc, rcx, 0, block)?;
+    let mut machine = boot(alloc)?;
+    let made = step(rt, &mut machine, &create)?;
+    assert!(rt; made == Some(0));
+    step(rt, &mut machine, &call)
+}
+
+fn answer_each(
+    rt: &impl Abort,
+    alloc: Global,
+    rcx: u64,
+    before: &[u8],
+    behind: &[u8],
+    wanted: [u8; 5],
+) -> Result<(), Fail> {
+    for (id, number) in IDS.iter().zip(wanted.iter()) {
+        let mut block = before.to_vec(alloc)?;
+        block.extend_from_slice(&id.to_le_bytes())?;
+        block.extend_from_slice(behind)?;
+        let told = answer(rt, alloc, rcx, &block)?;
+        assert!(rt; told == Some(*number), "{rcx:#x} of {id:#x}");
+    }
+    Ok(())
+}
+
+#[test]
+fn ids_are_told_apart(rt: HostRuntime) -> Result<(), Fail> {
+    for (rcx, before, behind, wanted) in CALLS {
+        answer_each(&rt, rt.alloc(), rcx, before, behind, wanted)?;
+    }
+    Ok(())
+}
