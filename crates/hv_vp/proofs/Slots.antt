@@ -59,6 +59,17 @@ module _ {S X : Type 0} (key : S → ℕ) (val : S → X) where
   apart_at q (s ∷ ss) zero d apart below is = differ q (key s) apart.0 is
   apart_at q (s ∷ ss) (suc k) d apart below is = apart_at q ss k d apart.1 (omega (arith, below)) is
 
+  -- where no two slots have the same key, a scan finds a slot by its key
+  pub scan_at : (slots : List S) (k i : ℕ) (d : S) → IsDistinct nat_eq (keys slots) → k < length slots
+      → position_from (here (key (get_or slots k d))) i slots ≡ Some (i + k)
+  unfolding IsDistinct
+  scan_at [] k i d distinct below = absurd (omega (arith, below))
+  scan_at (s ∷ ss) zero i d distinct below = rw (eq-eqb (key s) (key s) refl) (ap Some (omega arith))
+  scan_at (s ∷ ss) (suc k) i d distinct below =
+      let q = key (get_or ss k d) in
+      let apart : key s ≡ q → ⊥ = λ is. apart_at (key s) ss k d distinct.0 (omega (arith, below)) (sym is) in
+      rw (ne_eqb (key s) q apart) (scan_at ss k (i + 1) d distinct.1 (omega (arith, below)) ∙ ap Some (omega arith))
+
   -- without one slot the others are found
   pub removed : (q : ℕ) (slots : List S) (k : ℕ) (d : S) → IsDistinct nat_eq (keys slots) → k < length slots
       → find nat_cmp q (entries (remove slots k)) ≡ cond (eq_by_cmp nat_cmp q (key (get_or slots k d))) None (find nat_cmp q (entries slots))

@@ -33,8 +33,8 @@ pub fn takes_at(place: usize) -> Takes
     requires { place < 40 }
     ensures { result ≡ takes_at place }
 {
-    let row = REGISTERS[place];
-    row.takes
+    let rows = &REGISTERS;
+    rows[place].takes
 }
 
 /// The bits of a partition's privilege mask that an access to the register with this name needs, if
@@ -44,8 +44,8 @@ pub fn privilege_of(name: u32) -> Option<u64>
 {
     match place_of(name) {
         Some(place) => {
-            let row = REGISTERS[place];
-            Some(row.privilege)
+            let rows = &REGISTERS;
+            Some(rows[place].privilege)
         }
         None => None,
     }
@@ -87,8 +87,8 @@ pub fn name_of_msr(msr: u32) -> Option<u32>
 {
     match msr_place(msr) {
         Some(place) => {
-            let row = REGISTERS[place];
-            Some(row.name)
+            let rows = &REGISTERS;
+            Some(rows[place].name)
         }
         None => None,
     }

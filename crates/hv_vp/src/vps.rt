@@ -7,7 +7,7 @@ ghost use Rattle.std.specs.FinMap as map;
 ghost use Rattle.std.specs.List.{filter, position_from, reduce, sum_by};
 ghost use Rattle.std.specs.Option.{option_copied_mut};
 ghost use Rattle.hv_mail.specs.Mail.{count_of};
-ghost use Rattle.hv_vp.specs.Vps.{cleared, is_ready, kept_by_all, lowest, no_vps, with_vp};
+ghost use Rattle.hv_vp.specs.Vps.{AreDistinct, cleared, is_ready, kept_by_all, lowest, no_vps, with_vp};
 ghost use Rattle.hv_vp.specs.contracts.vp.Vp.{the_row as vp_row};
 ghost use Rattle.hv_vp.specs.contracts.vps.Vps.{the_row};
 
@@ -148,11 +148,17 @@ impl<A: Allocator> Vps<A> {
     }
 }
 
-// The place of a processor.
+// The place of a processor. That with an index is looked for there first, where it is if all were made in the
+// order of their indexes and none was removed.
 fn place_of<A: Allocator>(slots: &[Slot<A>], index: u32) -> Option<usize>
+    requires { AreDistinct slots.now }
     ensures place { result ≡ position_from (λ slot. slot.index == index) 0 slots.now }
     ensures within { IfSome result (λ place. place < length slots.now) }
 {
+    let guess = index as usize;
+    if guess < slots.len() && slots[guess].index == index {
+        return Some(guess);
+    }
     slots.iter().position(|slot| slot.index == index)
 }
 
