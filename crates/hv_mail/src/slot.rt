@@ -43,9 +43,7 @@ fn pad(bytes: &mut ArrayVec<u8, 256>, count: usize)
     requires { length bytes.old.items + count ≤ 256 }
     ensures { bytes.new.items ≡ bytes.old.items ++ zeros count }
 {
-    for _ in 0..count {
-        bytes.push(0);
-    }
+    add(bytes, &[0; 256][..count]);
 }
 
 // Bit 0: another message waits.
