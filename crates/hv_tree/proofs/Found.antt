@@ -1,11 +1,27 @@
 -- A node that is found below a child is found below the child's parent, and so is a content that is swapped there.
-use Rattle.std.proofs.Common.{◌≡◌, ℕ, ◌<◌, ◌∙◌, true, false, Bool, cond, refl, sym, ap, Option, None, List, ◌∷◌, Box, length, get_or, take, set}
+use Rattle.std.proofs.Common.{◌≡◌, ℕ, ◌<◌, ◌∙◌, true, false, Bool, cond, refl, sym, ap, Option, None, List, ◌∷◌, Box, length, get_or, take, set, [], Some}
 use Rattle.std.specs.Box.{with_value}
-use Rattle.hv_tree.specs.Nest.{Line, AreDistinct, IsFound, has_row, put_at, taken}
+use Rattle.std.specs.Option.{option_map}
+use Rattle.std.proofs.lemmas.Bool.{eq-eqb}
+use Rattle.hv_tree.specs.Nest.{Line, AreDistinct, HasTop, IsFound, IsNest, first_content, has_row, look, put_at, taken, top}
 use Rattle.hv_tree.specs.Below.{below, AreNests}
 use Rattle.hv_tree.proofs.Child.{held-row, off_own, off_before, put-child, taken-child, IsPart-child}
+use Rattle.hv_tree.proofs.Gone.{has-nest}
 use Rattle.hv_tree.proofs.Lists.{set-same}
 use Rattle.hv_tree.proofs.Toward.{has-in, or_right}
+
+first_row : {T : Type 0} (es : List (Line T)) → HasTop es → Some (first_content es) ≡ option_map (λ r. r.1) (look (top es) es)
+first_row [] t = absurd t
+first_row (e ∷ es) t = rw (eq-eqb e.0 e.0 refl) refl
+
+-- a node is found by its own id
+pub IsFound-self : {T : Type 0} (es : List (Line T)) → IsNest es → AreDistinct es → IsFound (top es) es es
+IsFound-self es nest d = record {
+  there = has-nest es nest;
+  here = refl;
+  content = first_row es nest.topped;
+  part = record { distinct = d; same = refl };
+}
 
 module _ {T A : Type 0} (own : ℕ) (ks : List (Box (List (Line T)) A)) (i : ℕ) (k : Box (List (Line T)) A) (lt : i < length ks) (is : k ≡ get_or ks i k) (content : Option T) (distinct : AreDistinct ((own, (None, content)) ∷ below own ks)) (q : ℕ) where
   before : has_row q k.value ≡ true → has_row q (below own (take i ks)) ≡ false

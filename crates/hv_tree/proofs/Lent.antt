@@ -5,7 +5,7 @@ use Rattle.std.specs.FinMap.{get, from_entries}
 use Rattle.std.proofs.lemmas.Bool.{cases_Bool, eqb-true, eq-eqb, ne_eqb, eqb-false}
 use Rattle.hv_tree.specs.Rows.{Rows, change, content, children_in, is_parent}
 use Rattle.hv_tree.specs.Nest.{Line, look, uses, AreDistinct, IsNest, put_at, taken}
-use Rattle.hv_tree.specs.Full.{full, IsFilled, IsWhole, IsLent, settled}
+use Rattle.hv_tree.specs.Full.{full, loan, IsFilled, IsWhole, IsLent, settled}
 use Rattle.hv_tree.proofs.Laws.{same_rows, get-change}
 use Rattle.hv_tree.proofs.Lines.{has-look, put-absent}
 use Rattle.hv_tree.proofs.Seen.{IsShown, get-listed, look-full, filled}
@@ -61,7 +61,7 @@ filled_put : {T : Type 0} (e : ℕ × T) (x : ℕ) (o : Option (Option ℕ × Op
 filled_put e x None = tt
 filled_put e x (Some r) = refl
 
-settled-distinct : {T : Type 0} (l : Option (ℕ × T)) (es : List (Line T)) → AreDistinct es → AreDistinct (settled l es)
+pub settled-distinct : {T : Type 0} (l : Option (ℕ × T)) (es : List (Line T)) → AreDistinct es → AreDistinct (settled l es)
 settled-distinct None es d = d
 settled-distinct (Some e) es d = λ x. rw (uses-put x e.0 (Some e.1) es) (d x)
 
@@ -166,27 +166,82 @@ settled-shown {l = l} {es = es} {m = m} s all is nest = record {
   seen = rw is (settled-seen l es m s.sound.distinct s.sound.whole s.sound.slot s.seen);
 }
 
--- no node has the id
-pub absent-shown : {T : Type 0} {es : List (Line T)} {n : ℕ} {m : Rows T} → IsShown None es n m → (q : ℕ) (new : List (Line T)) → new ≡ put_at q None es → taken q None es ≡ None → IsShown None new n m × (get m q ≡ None)
-absent-shown {es = es} {m = m} s q new is none = let a = absent es m s.sound.distinct s.sound.whole s.seen q none in (rw (is, a.0) s, a.1)
+-- what was lent went back, and no node has the id
+pub absent-shown : {T : Type 0} {l : Option (ℕ × T)} {es : List (Line T)} {n : ℕ} {m : Rows T} → IsShown l es n m → (q : ℕ) (new : List (Line T)) → new ≡ put_at q None (settled l es) → IsNest new → taken q None (settled l es) ≡ None → IsShown None new n m × (get m q ≡ None)
+absent-shown {l = l} {es = es} {m = m} s q new is nest none =
+    let a = absent (settled l es) m (settled-distinct l es s.sound.distinct) (settled-whole l es s.sound.whole) (settled-seen l es m s.sound.distinct s.sound.whole s.sound.slot s.seen) q none in
+    (settled-shown s new (is ∙ a.0) nest, a.1)
 
--- the content c of a node was taken out, and v stands in its place
-pub out-shown : {T : Type 0} {es : List (Line T)} {n : ℕ} {m : Rows T} → IsShown None es n m → (q : ℕ) (new : List (Line T)) → new ≡ put_at q None es → IsNest new → (c : T) → taken q None es ≡ Some c → (v : T) → IsShown (Some (q, v)) new n (change m q (λ _. v))
-out-shown {es = es} {m = m} s q new is nest c some v = record {
-  sound = record {
-    distinct = rw is (out-distinct es m s.sound.distinct s.sound.whole s.seen q c some);
-    nest = nest;
-    whole = rw is (out-whole es m s.sound.distinct s.sound.whole s.seen q c some v);
-    slot = rw is (out-lent es m s.sound.distinct s.sound.whole s.seen q c some v);
-    counted = rw (is, length-put_at q None es) s.sound.counted;
-    fits = rw (is, length-put_at q None es) s.sound.fits;
-    few = λ x. rw (is, kids-put_at x q None es) (s.sound.few x);
-  };
-  seen = rw is (out-seen es m s.sound.distinct s.sound.whole s.seen q c some v);
-}
+-- what was lent went back, the content c of a node was taken out, and v stands in its place
+pub out-shown : {T : Type 0} {l : Option (ℕ × T)} {es : List (Line T)} {n : ℕ} {m : Rows T} → IsShown l es n m → (q : ℕ) (new : List (Line T)) → new ≡ put_at q None (settled l es) → IsNest new → (c : T) → taken q None (settled l es) ≡ Some c → (v : T) → IsShown (Some (q, v)) new n (change m q (λ _. v))
+out-shown {l = l} {es = es} {m = m} s q new is nest c some v =
+    let d = settled-distinct l es s.sound.distinct in
+    let w = settled-whole l es s.sound.whole in
+    let seen = settled-seen l es m s.sound.distinct s.sound.whole s.sound.slot s.seen in
+    record {
+      sound = record {
+        distinct = rw is (out-distinct (settled l es) m d w seen q c some);
+        nest = nest;
+        whole = rw is (out-whole (settled l es) m d w seen q c some v);
+        slot = rw is (out-lent (settled l es) m d w seen q c some v);
+        counted = rw (is, length-put_at q None (settled l es), settled-length l es) s.sound.counted;
+        fits = rw (is, length-put_at q None (settled l es), settled-length l es) s.sound.fits;
+        few = λ x. rw (is, kids-put_at x q None (settled l es), settled-kids x l es) (s.sound.few x);
+      };
+      seen = rw is (out-seen (settled l es) m d w seen q c some v);
+    }
 
-pub out-value : {T : Type 0} {es : List (Line T)} {n : ℕ} {m : Rows T} → IsShown None es n m → (q : ℕ) (c : T) → taken q None es ≡ Some c → Some c ≡ content m q
-out-value {es = es} {m = m} s q c some = out-content es m s.sound.distinct s.sound.whole s.seen q c some
+pub out-value : {T : Type 0} {l : Option (ℕ × T)} {es : List (Line T)} {n : ℕ} {m : Rows T} → IsShown l es n m → (q : ℕ) (c : T) → taken q None (settled l es) ≡ Some c → Some c ≡ content m q
+out-value {l = l} {es = es} {m = m} s q c some = out-content (settled l es) m (settled-distinct l es s.sound.distinct) (settled-whole l es s.sound.whole) (settled-seen l es m s.sound.distinct s.sound.whole s.sound.slot s.seen) q c some
+
+again-rows : {T : Type 0} (q : ℕ) (c : T) (es : List (Line T)) → option_map (λ r. r.1) (look q es) ≡ Some None → es ≡ put_at q None (put_at q (Some c) es)
+again-rows q c [] h = refl
+again-rows q c (e ∷ es) h = elim (cases_Bool (q == e.0)) [
+  | inl s ↦ (let f : Some e.1.1 ≡ Some None = (rw s at h) in let g : e.1.1 ≡ None = cc in rw (s, s) (ap (λ o. (e.0, (e.1.0, o)) ∷ es) g))
+  | inr s ↦ rw (s, s) (ap (λ l. e ∷ l) (again-rows q c es (rw s at h)))
+]
+
+again-taken : {T : Type 0} (q : ℕ) (c : T) (es : List (Line T)) → option_map (λ r. r.1) (look q es) ≡ Some None → Some c ≡ taken q None (put_at q (Some c) es)
+again-taken q c [] h = cc
+again-taken q c (e ∷ es) h = elim (cases_Bool (q == e.0)) [
+  | inl s ↦ rw (s, s) refl
+  | inr s ↦ rw (s, s) (again-taken q c es (rw s at h))
+]
+
+-- the content that is out goes back, and is taken out again
+pub again-root : {T : Type 0} (q : ℕ) (o : Option T) (es : List (Line T)) → is_some o ≡ true → IsLent (loan q o) es → es ≡ put_at q None (settled (loan q o) es)
+again-root q None es h i = cc
+again-root q (Some c) es h i = again-rows q c es i
+
+pub again-lent : {T : Type 0} (q : ℕ) (o : Option T) (es : List (Line T)) → is_some o ≡ true → IsLent (loan q o) es → o ≡ taken q None (settled (loan q o) es)
+again-lent q None es h i = cc
+again-lent q (Some c) es h i = again-taken q c es i
+
+out-kept : {T : Type 0} (h : Option T) (o : Option (Option ℕ × Option T)) → option_map (λ r. r.1) o ≡ Some None → kept h o ≡ None
+out-kept h None e = cc
+out-kept h (Some r) e = cc
+
+-- the content that is out is swapped with what its node has, which is none
+pub back-root : {T : Type 0} (q : ℕ) (o : Option T) (es : List (Line T)) → is_some o ≡ true → put_at q o es ≡ settled (loan q o) es
+back-root q None es h = cc
+back-root q (Some c) es h = refl
+
+pub back-lent : {T : Type 0} (q : ℕ) (o : Option T) (es : List (Line T)) → is_some o ≡ true → IsLent (loan q o) es → taken q o es ≡ None
+back-lent q None es h i = cc
+back-lent q (Some c) es h i = taken-look q (Some c) es ∙ out-kept (Some c) (look q es) i
+
+-- no content is out
+pub in-root : {T : Type 0} (q : ℕ) (o : Option T) (es : List (Line T)) → is_some o ≡ false → es ≡ settled (loan q o) es
+in-root q None es h = refl
+in-root q (Some c) es h = cc
+
+pub in-lent : {T : Type 0} (o : Option T) → is_some o ≡ false → o ≡ None
+in-lent None h = refl
+in-lent (Some c) h = cc
+
+pub loan_some : {T : Type 0} (q : ℕ) (o : Option T) (e : ℕ × T) → loan q o ≡ Some e → o ≡ Some e.1
+loan_some q None e i = cc
+loan_some q (Some c) e i = cc
 
 pub same_name : {N X Y : Type 0} {n : N} {f h : X → Y} → ((w : X) → f w ≡ h w) → ◌≡◌ {A = N × (X → Y)} (n, f) (n, h)
 same_name {n = n} p = λ i. (n, λ w. p w i)

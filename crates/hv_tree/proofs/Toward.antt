@@ -1,7 +1,7 @@
 -- The way from an id up to the child that it is below.
 use Rattle.std.proofs.lemmas.Bool.{cases_Bool, eqb-true, eqb-false, eq-eqb}
-use Rattle.std.proofs.Common.{◌≡◌, ◌≢◌, ℕ, zero, suc, ◌+◌, ◌<◌, ◌≤◌, true, false, ◌==◌, ◌||◌, ◌⊎◌, inl, inr, Option, None, Some, Result, Ok, Err, OnOk, OnErr, IfSome, IfNone, List, [], ◌∷◌, Box, refl, sym, ap, ◌∙◌, is_some, arith, length, get_or}
-use Rattle.std.specs.Option.{option_or, option_map, option_and_then}
+use Rattle.std.proofs.Common.{◌≡◌, ◌≢◌, ℕ, zero, suc, ◌<◌, ◌≤◌, true, false, ◌==◌, ◌||◌, ◌⊎◌, inl, inr, Option, None, Some, Result, Ok, Err, OnOk, OnErr, IfSome, IfNone, List, [], ◌∷◌, Box, refl, sym, ap, ◌∙◌, is_some, arith, length, get_or}
+use Rattle.std.specs.Option.{option_map, option_and_then}
 use Rattle.hv_tree.specs.Nest.{Line, has_row, look, uses, top, place, hang, AreDistinct, IsNest}
 use Rattle.hv_tree.specs.Below.{below, AreNests}
 use Rattle.hv_tree.specs.Index.{IsIndexOf, Agrees, IsWay, IsPath}

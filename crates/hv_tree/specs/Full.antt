@@ -4,6 +4,11 @@ use Rattle.std.specs.Option.{option_map}
 use Rattle.hv_tree.specs.Nest.{Line, AreDistinct, IsNest, look, put_at}
 use Rattle.hv_tree.specs.Rows.{Row, children_in}
 
+-- the content that was lent last, if it is still out, with the id of its node
+abbrev pub loan : {T : Type 0} → ℕ → Option T → Option (ℕ × T)
+loan q None = None
+loan q (Some c) = Some (q, c)
+
 -- the content of the node q: its own, or else that which was lent from it
 abbrev pub pick : {T : Type 0} → Option (ℕ × T) → ℕ → Option T → Option T
 pick l q (Some c) = Some c

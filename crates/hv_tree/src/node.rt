@@ -142,15 +142,23 @@ impl<T, A: Allocator> Node<T, A> {
         self.children[at].follow(further, id)
     }
 
-    /// The way with the steps from this node down through these ids, each of which is that of a child of the
-    /// one before and the first that of a child of this node, as far as there are such.
-    pub(crate) fn trace(&self, ids: &[u64], way: Way) -> Way {
+    /// Adds the steps from this node down through these ids, each of which is that of a child of the one
+    /// before and the first that of a child of this node, as far as there are such.
+    pub(crate) fn trace(&self, ids: &[u64], way: &mut Way) {
         let Some((id, further)) = ids.split_first() else {
-            return way;
+            return;
         };
-        match search_child(&self.children, *id) {
-            Err(_) => way,
-            Ok(at) => self.children[at].trace(further, way.and(at)),
+        if let Ok(at) = search_child(&self.children, *id) {
+            way.push(at);
+            self.children[at].trace(further, way);
+        }
+    }
+
+    /// Where the child with the id stands among the children.
+    pub(crate) fn place_of(&self, id: u64) -> Option<usize> {
+        match search_child(&self.children, id) {
+            Ok(at) => Some(at),
+            Err(_) => None,
         }
     }
 

@@ -1,13 +1,13 @@
 //! The tree, seen as its rows.
 ghost use Rattle.std.specs.Prelude.{◌≡◌, ◌<◌, ◌↔◌, [], ◌∷◌, None, Some, true, false, length, is_some, IsSome};
-ghost use Rattle.std.specs.Prelude.{ℕ, IfSome, IfNone, OnSome, IfOk, IfErr, OnOk, OnErr};
+ghost use Rattle.std.specs.Prelude.{ℕ, cond, IsTrue, IfSome, IfNone, OnSome, IfOk, IfErr, OnOk, OnErr};
 ghost use Rattle.std.specs.Option.{option_copied, option_copied_mut, option_map};
 ghost use Rattle.std.specs.Borrow.{LendsIf, sem};
 ghost use Rattle.std.specs.FinMap as map;
 ghost use Rattle.hv_tree.specs.contracts.tree.IdTree.{the_row};
 ghost use Rattle.hv_tree.specs.Rows.{change, content, parent, children, is_leaf, HasDepth, IsLeastAbove};
 ghost use Rattle.hv_tree.specs.Rows.{IsTree};
-ghost use Rattle.hv_tree.specs.Full.{settled};
+ghost use Rattle.hv_tree.specs.Full.{loan, settled, IsLent};
 ghost use Rattle.hv_tree.specs.Index.{parents, IsIndexOf, IsWay};
 ghost use Rattle.hv_tree.specs.Nest.{first_content, has_row, put_at, taken, AreDistinct, IsFound, IsNest};
 ghost use Rattle.hv_tree.specs.Refused.{Refuses};
@@ -34,8 +34,9 @@ pub struct IdTree<T, A: Allocator> {
     index: Index<A>,
     // How many nodes there are.
     count: u64,
-    // The content that was lent last, with its node's id. It goes back at the next loan: nodes never move.
-    lent: Option<(u64, T)>,
+    // The id of the node whose content was lent last, and that content. It goes back when another is lent.
+    lender: u64,
+    lent: Option<T>,
     ways: Ways,
     alloc: A,
 }
@@ -49,12 +50,12 @@ impl<T, A: Allocator> Model for IdTree<T, A> {
 
     ghost coded = { map.code coded_ℕ (coded× (coded_option coded_ℕ) T.code) };
 
-    ghost use Rattle.hv_tree.specs.Full.{full};
+    ghost use Rattle.hv_tree.specs.Full.{full, loan};
     ghost use Rattle.hv_tree.specs.Index.{parents, IsKept};
 
-    ghost view = { λ a. map.from_entries (full a.lent a.root) };
+    ghost view = { λ a. map.from_entries (full (loan a.lender a.lent) a.root) };
 
-    ghost invariant = { λ a. IsKept a.lent a.root a.count (parents a.index) };
+    ghost invariant = { λ a. IsKept (loan a.lender a.lent) a.root a.count (parents a.index) };
 }
 
 impl<T, A: Allocator> IdTree<T, A> {
@@ -62,14 +63,14 @@ impl<T, A: Allocator> IdTree<T, A> {
     pub fn get(&self, id: u64) -> Option<&T>
         ensures { option_copied result ≡ content self.now id }
     {
-        let Some(node) = seek(&self.root, &self.index, self.ways.to(id), id) else {
+        let Some(node) = seek(&self.root, &self.index, &self.ways, id) else {
             return None;
         };
         match node.content() {
             Some(content) => Some(content),
             None => match &self.lent {
                 None => None,
-                Some((_, content)) => Some(content),
+                Some(content) => Some(content),
             },
         }
     }
@@ -101,7 +102,7 @@ impl<T, A: Allocator> IdTree<T, A> {
         ensures none { IfNone result (children self.now id ≡ []) }
         ensures tree { IsTree self.now }
     {
-        let Some(node) = seek(&self.root, &self.index, self.ways.to(id), id) else {
+        let Some(node) = seek(&self.root, &self.index, &self.ways, id) else {
             return None;
         };
         Some(node.child_count() as u32)
@@ -113,7 +114,7 @@ impl<T, A: Allocator> IdTree<T, A> {
         ensures value { IsLeastAbove previous (children self.now parent) result }
         ensures tree { IsTree self.now }
     {
-        let Some(node) = seek(&self.root, &self.index, self.ways.to(parent), parent) else {
+        let Some(node) = seek(&self.root, &self.index, &self.ways, parent) else {
             return None;
         };
         node.child_after(previous)
@@ -124,23 +125,24 @@ impl<T, A: Allocator> IdTree<T, A> {
     pub fn note(&mut self, id: u64)
         ensures { self.new ≡ self.old }
     {
-        if self.root.follow(self.ways.to(id), id).is_some() {
-            return;
+        if seek_noted(&self.root, &self.ways, id).is_none() {
+            let way = way_to(&self.root, &self.index, id);
+            self.ways.note_often(way);
         }
-        let way = way_to(&self.root, &self.index, id);
-        self.ways.note_often(way);
     }
 
     /// Notes the way to a child of a node that was noted, until the next child is noted. It changes no answer.
     pub fn note_child(&mut self, parent: u64, id: u64)
         ensures { self.new ≡ self.old }
     {
-        if let Some(node) = self.root.follow(self.ways.to(parent), parent) {
-            let mut way = Way::new(id);
-            for step in self.ways.to(parent) {
-                way = way.and(*step as usize);
-            }
-            self.ways.note_last(node.trace(&[id], way));
+        if seek_noted(&self.root, &self.ways, id).is_some() {
+            return;
+        }
+        let Some(node) = seek_noted(&self.root, &self.ways, parent) else {
+            return;
+        };
+        if let Some(at) = node.place_of(id) {
+            self.ways.note_last(parent, id, at);
         }
     }
 
@@ -188,19 +190,17 @@ impl<T: Drop, A: Allocator> IdTree<T, A> {
             (λ w. change self.old id (λ _. w)) self.old) }
         ensures value { option_copied_mut result ≡ content self.old id }
     {
-        if !self.contains(id) {
-            return None;
-        }
-        settle(&mut self.root, &self.index, &self.ways, &mut self.lent);
-        let mut slot = None;
-        exchange(&mut self.root, &self.index, self.ways.to(id), id, &mut slot);
-        let Some(content) = slot else {
-            return None;
-        };
-        self.lent = Some((id, content));
+        lend(
+            &mut self.root,
+            &self.index,
+            &self.ways,
+            &mut self.lender,
+            &mut self.lent,
+            id,
+        );
         match &mut self.lent {
             None => None,
-            Some(pair) => Some(&mut pair.1),
+            Some(content) => Some(content),
         }
     }
 
@@ -219,7 +219,13 @@ impl<T: Drop, A: Allocator> IdTree<T, A> {
         if !self.contains(id) {
             return false;
         }
-        settle(&mut self.root, &self.index, &self.ways, &mut self.lent);
+        settle(
+            &mut self.root,
+            &self.index,
+            &self.ways,
+            self.lender,
+            &mut self.lent,
+        );
         self.root.edit_below(&self.index, id, edit);
         true
     }
@@ -240,7 +246,7 @@ impl<T: Drop, A: Allocator> IdTree<T, A> {
         self.count -= 1;
         match content {
             Some(content) => Some(content),
-            None => take_lent(&mut self.lent),
+            None => self.lent.take(),
         }
     }
 }
@@ -255,6 +261,7 @@ impl<T: Drop, A: Allocator + Copy> IdTree<T, A> {
             root: Node::leaf(alloc, id, content),
             index: IndexMap::new(alloc),
             count: 1,
+            lender: id,
             lent: None,
             ways: Ways::new(),
             alloc,
@@ -294,11 +301,12 @@ impl<T: Drop, A: Allocator + Clone> IdTree<T, A> {
     }
 }
 
-// The node with the id, which is looked for where the way leads, and else from the root down.
+// The node with the id: the root, or the node to which a noted way leads, or else that to which a way leads
+// that is looked for.
 fn seek<'t, T, A: Allocator>(
     root: &'t Node<T, A>,
     index: &Index<A>,
-    way: &[u32],
+    ways: &Ways,
     id: u64,
 ) -> Option<&'t Node<T, A>>
     requires distinct { AreDistinct root.now }
@@ -307,13 +315,47 @@ fn seek<'t, T, A: Allocator>(
     ensures found { IfSome result (λ n. IsFound id root.now n.now) }
     ensures none { IfNone result (has_row id root.now ≡ false) }
 {
-    if let Some(node) = root.follow(way, id) {
-        return Some(node);
+    match seek_noted(root, ways, id) {
+        Some(node) => Some(node),
+        None => seek_far(root, index, id),
     }
+}
+
+// The node with the id, if that is the root or a noted way leads there.
+fn seek_noted<'t, T, A: Allocator>(
+    root: &'t Node<T, A>,
+    ways: &Ways,
+    id: u64,
+) -> Option<&'t Node<T, A>>
+    requires { AreDistinct root.now }
+    ensures { IfSome result (λ n. IsFound id root.now n.now) }
+{
+    if id == root.id() {
+        return Some(root);
+    }
+    root.follow(ways.to(id), id)
+}
+
+// The node with the id, to which no noted way leads.
+fn seek_far<'t, T, A: Allocator>(
+    root: &'t Node<T, A>,
+    index: &Index<A>,
+    id: u64,
+) -> Option<&'t Node<T, A>>
+    requires distinct { AreDistinct root.now }
+    requires nest { IsNest root.now }
+    requires indexed { IsIndexOf root.now (parents index.now) }
+    ensures found { IfSome result (λ n. IsFound id root.now n.now) }
+    ensures none { IfNone result (has_row id root.now ≡ false) }
+{
     if !is_there(root, index, id) {
         return None;
     }
-    Some(root.find(index, id))
+    let way = way_to(root, index, id);
+    match root.follow(way.steps(), id) {
+        Some(node) => Some(node),
+        None => Some(root.find(index, id)),
+    }
 }
 
 // The way to a node: the ids on it are found by a climb from its own, and then the steps among them.
@@ -329,10 +371,11 @@ fn way_to<T, A: Allocator>(root: &Node<T, A>, index: &Index<A>, id: u64) -> Way 
         first = place;
         at = parent;
     }
-    match ids.get(first..) {
-        None => Way::new(id),
-        Some(ids) => root.trace(ids, Way::new(id)),
+    let mut way = Way::new(id);
+    if let Some(ids) = ids.get(first..) {
+        root.trace(ids, &mut way);
     }
+    way
 }
 
 // Whether a node has the id.
@@ -382,49 +425,118 @@ fn unmake<T: Drop, A: Allocator>(node: Box<Node<T, A>, A>) -> T
     }
 }
 
-// Puts the content that was lent back into its node.
-fn settle<T: Drop, A: Allocator>(
+// Lends the content of the node with the id, if there is one. What was lent before goes back to its node.
+fn lend<T, A: Allocator>(
     root: &mut Node<T, A>,
     index: &Index<A>,
     ways: &Ways,
-    lent: &mut Option<(u64, T)>,
+    lender: &mut u64,
+    lent: &mut Option<T>,
+    id: u64,
 )
-    requires { IfSome lent.old (λ e. IsWay (parents index.now) e.0 root.old) }
-    ensures root { root.new ≡ settled lent.old root.old }
-    ensures lent { lent.new ≡ None }
-    ensures nest { IsNest root.old → IsNest root.new }
+    requires distinct { AreDistinct root.old }
+    requires nest { IsNest root.old }
+    requires indexed { IsIndexOf root.old (parents index.now) }
+    requires slot { IsLent (loan lender.old lent.old) root.old }
+    ensures root { root.new ≡ put_at id None (settled (loan lender.old lent.old) root.old) }
+    ensures lender { lender.new ≡ id }
+    ensures lent { lent.new ≡ taken id None (settled (loan lender.old lent.old) root.old) }
+    ensures nest { IsNest root.new }
 {
-    if let Some((id, content)) = lent.take() {
-        let mut slot = Some(content);
-        exchange(root, index, ways.to(id), id, &mut slot);
+    if is_lent(*lender, lent, id) {
+        return;
+    }
+    settle(root, index, ways, *lender, lent);
+    exchange(root, index, ways, id, lent);
+    *lender = id;
+}
+
+// Whether the content of the node with the id is the one that is lent.
+fn is_lent<T>(lender: u64, lent: &Option<T>, id: u64) -> bool
+    ensures { IsTrue result → (lender ≡ id) × (is_some lent.now ≡ true) }
+{
+    id == lender && lent.is_some()
+}
+
+// Puts the content that was lent back into its node.
+fn settle<T, A: Allocator>(
+    root: &mut Node<T, A>,
+    index: &Index<A>,
+    ways: &Ways,
+    lender: u64,
+    lent: &mut Option<T>,
+)
+    requires distinct { AreDistinct root.old }
+    requires nest { IsNest root.old }
+    requires indexed { IsIndexOf root.old (parents index.now) }
+    requires slot { IsLent (loan lender lent.old) root.old }
+    ensures root { root.new ≡ settled (loan lender lent.old) root.old }
+    ensures lent { lent.new ≡ None }
+    ensures nest { IsNest root.new }
+{
+    if lent.is_some() {
+        exchange(root, index, ways, lender, lent);
     }
 }
 
-// Swaps the content of the node with the id, to which the way may lead, with the slot's.
+// Swaps the content of the node with the id, if there is one, with the slot's.
 fn exchange<T, A: Allocator>(
     root: &mut Node<T, A>,
     index: &Index<A>,
-    way: &[u32],
+    ways: &Ways,
     id: u64,
     slot: &mut Option<T>,
 )
-    requires { IsWay (parents index.now) id root.old }
+    requires distinct { AreDistinct root.old }
+    requires nest { IsNest root.old }
+    requires indexed { IsIndexOf root.old (parents index.now) }
     ensures rows { root.new ≡ put_at id slot.old root.old }
     ensures slot { slot.new ≡ taken id slot.old root.old }
     ensures nest { IsNest root.new }
 {
-    if !root.exchange_along(way, id, slot) {
-        root.exchange(index, id, slot);
+    if !exchange_noted(root, ways, id, slot) {
+        exchange_far(root, index, id, slot);
     }
 }
 
-// The content that was lent, whose node is gone.
-fn take_lent<T>(lent: &mut Option<(u64, T)>) -> Option<T>
-    ensures content { result ≡ option_map (λ e. e.1) lent.old }
-    ensures lent { lent.new ≡ None }
+// Swaps the content of the node with the id with the slot's, if that is the root or a noted way leads there.
+fn exchange_noted<T, A: Allocator>(
+    root: &mut Node<T, A>,
+    ways: &Ways,
+    id: u64,
+    slot: &mut Option<T>,
+) -> bool
+    requires { AreDistinct root.old }
+    ensures rows { root.new ≡ cond result (put_at id slot.old root.old) root.old }
+    ensures slot { slot.new ≡ cond result (taken id slot.old root.old) slot.old }
+    ensures nest { IsNest root.new }
 {
-    match lent.take() {
-        None => None,
-        Some((_, content)) => Some(content),
+    if id == root.id() {
+        root.exchange_along(&[], id, slot)
+    } else {
+        root.exchange_along(ways.to(id), id, slot)
+    }
+}
+
+// Swaps the content of the node with the id, if there is one, with the slot's. No noted way leads there.
+fn exchange_far<T, A: Allocator>(
+    root: &mut Node<T, A>,
+    index: &Index<A>,
+    id: u64,
+    slot: &mut Option<T>,
+)
+    requires distinct { AreDistinct root.old }
+    requires nest { IsNest root.old }
+    requires indexed { IsIndexOf root.old (parents index.now) }
+    ensures rows { root.new ≡ put_at id slot.old root.old }
+    ensures slot { slot.new ≡ taken id slot.old root.old }
+    ensures nest { IsNest root.new }
+{
+    if !is_there(root, index, id) {
+        return;
+    }
+    let way = way_to(root, index, id);
+    if !root.exchange_along(way.steps(), id, slot) {
+        root.exchange(index, id, slot);
     }
 }

@@ -37,21 +37,35 @@ impl Ways {
 
     /// The way that is noted for an id, and one without steps where none is.
     pub(crate) fn to(&self, id: u64) -> &[u32] {
+        match self.noted(id) {
+            Some(way) => way.steps(),
+            None => &[],
+        }
+    }
+
+    fn noted(&self, id: u64) -> Option<&Way> {
         let often = &self.often[place_of(id)];
         if often.id == id {
-            return often.steps();
+            return Some(often);
         }
         if self.last.id == id {
-            return self.last.steps();
+            return Some(&self.last);
         }
-        &[]
+        None
     }
 
     pub(crate) fn note_often(&mut self, way: Way) {
         self.often[place_of(way.id)] = way;
     }
 
-    pub(crate) fn note_last(&mut self, way: Way) {
+    /// Notes the way to a child: that to its parent, if there is one, and a step more.
+    pub(crate) fn note_last(&mut self, parent: u64, id: u64, at: usize) {
+        let mut way = match self.noted(parent) {
+            Some(way) => *way,
+            None => Way::new(parent),
+        };
+        way.id = id;
+        way.push(at);
         self.last = way;
     }
 }
@@ -66,20 +80,15 @@ impl Way {
         }
     }
 
-    /// The way with one step more, if there is room for it.
-    pub(crate) fn and(self, at: usize) -> Way {
+    /// Adds a step, if there is room for it.
+    pub(crate) fn push(&mut self, at: usize) {
         let count = self.count;
-        match u32::try_from(at) {
-            Ok(at) if count < MOST => {
-                let mut steps = self.steps;
-                steps[count] = at;
-                Way {
-                    id: self.id,
-                    steps,
-                    count: count + 1,
-                }
-            }
-            _ => self,
+        if count >= MOST {
+            return;
+        }
+        if let Ok(at) = u32::try_from(at) {
+            self.steps[count] = at;
+            self.count = count + 1;
         }
     }
 

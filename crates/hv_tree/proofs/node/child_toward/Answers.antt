@@ -1,7 +1,7 @@
 use Rattle.std.proofs.Common.{◌∙◌, Some, ap, sym}
 use Rattle.hv_tree.specs.Nest.{top}
 use Rattle.hv_tree.specs.Index.{parents}
-use Rattle.hv_tree.proofs.Toward.{IsIn, start, not_lost, arrived, climbs, falls, reached}
+use Rattle.hv_tree.proofs.Toward.{start, not_lost, arrived, climbs, falls, reached}
 use Rattle.hv_tree.proofs.node.child_toward.Goals as goal
 
 pub up-init : goal.up-init

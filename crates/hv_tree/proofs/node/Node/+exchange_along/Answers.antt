@@ -1,7 +1,6 @@
-use Rattle.std.proofs.Common.{◌≡◌, ◌<◌, ◌∷◌, ◌∙◌, None, true, false, sym, ap, subst, length, get_or, set, arith}
-use Rattle.std.proofs.lemmas.Bool.{cases_Bool}
+use Rattle.std.proofs.Common.{◌≡◌, ◌<◌, ◌∷◌, ◌∙◌, None, true, sym, ap, subst, length, get_or, set, arith}
 use Rattle.std.specs.Box.{with_value}
-use Rattle.hv_tree.specs.Nest.{AreDistinct, IsNest, has_row, put_at, taken, top}
+use Rattle.hv_tree.specs.Nest.{AreDistinct, IsNest, has_row, top}
 use Rattle.hv_tree.specs.Below.{below}
 use Rattle.hv_tree.proofs.Child.{length-child, AreDistinct-child}
 use Rattle.hv_tree.proofs.Found.{there-child, put-found, taken-found}

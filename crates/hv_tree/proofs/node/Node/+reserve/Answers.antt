@@ -1,18 +1,12 @@
-use Rattle.std.proofs.Common.{rules, ◌≡◌, ◌<◌, ◌≤◌, ◌≢◌, ◌∙◌, ◌∷◌, [], None, Some, true, false, refl, sym, ap, subst, length, get_or, take, set, arith}
+use Rattle.std.proofs.Common.{◌≡◌, ◌<◌, ◌∙◌, ◌∷◌, None, true, sym, ap, subst, length, get_or, set, arith}
 use Rattle.std.proofs.lemmas.Bool.{ne_eqb}
 use Rattle.std.specs.Box.{with_value}
-use Rattle.std.specs.List.{insert, remove}
-use Rattle.std.proofs.lemmas.List.Sorted.{IsNonDecreasingBy-insert}
-use Rattle.hv_tree.specs.Rows.{children_in}
-use Rattle.hv_tree.specs.Nest.{top, has_row, first_content, IsNest, IsGrownBy, IsWithout, IsPart}
+use Rattle.hv_tree.specs.Nest.{has_row}
 use Rattle.hv_tree.specs.Below.{below}
 use Rattle.hv_tree.specs.Index.{parents, IsWay}
-use Rattle.hv_tree.proofs.Lists.{get_or_any, set-same, rising-set, rising-remove}
-use Rattle.hv_tree.proofs.Lines.{top-put}
-use Rattle.hv_tree.proofs.Kids.{IsNest-view, AreNests-set, AreNests-insert, AreNests-remove}
-use Rattle.hv_tree.proofs.Child.{held-row, length-child, put-child, taken-child, off_before, kids-child, AreDistinct-child, IsPart-child, grown-here, grown-child}
-use Rattle.hv_tree.proofs.Gone.{IsWithout-here, IsWithout-child}
-use Rattle.hv_tree.proofs.Toward.{path, way-child, on_ok, on_err, if_some, if_none}
+use Rattle.hv_tree.proofs.Lists.{set-same}
+use Rattle.hv_tree.proofs.Child.{length-child}
+use Rattle.hv_tree.proofs.Toward.{path, way-child}
 use Rattle.hv_tree.proofs.node.Node.+reserve.Goals as goal
 
 pub child_toward-at-requires-clause-path : goal.child_toward-at-requires-clause-path

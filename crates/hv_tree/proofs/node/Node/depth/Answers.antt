@@ -1,5 +1,5 @@
-use Rattle.std.proofs.Common.{◌≡◌, ◌<◌, ◌+◌, ◌∙◌, ℕ, suc, Some, None, sym, subst, arith}
-use Rattle.hv_tree.specs.Nest.{place, HasDepthIn}
+use Rattle.std.proofs.Common.{◌≡◌, ◌+◌, ◌∙◌, suc, Some, sym, subst, arith}
+use Rattle.hv_tree.specs.Nest.{HasDepthIn}
 use Rattle.hv_tree.specs.Index.{parents}
 use Rattle.hv_tree.proofs.Order.{place-has}
 use Rattle.hv_tree.proofs.Toward.{at_top, over, has-over, lower}

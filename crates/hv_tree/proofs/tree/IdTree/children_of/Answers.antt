@@ -1,26 +1,21 @@
-use Rattle.std.proofs.Common.{rules, ◌≡◌, ◌<◌, ◌≤◌, ◌≢◌, ◌∙◌, ◌∷◌, ◌==◌, [], None, Some, true, false, refl, sym, ap, subst, length, arith, inl, inr, is_some}
-use Rattle.std.proofs.lemmas.Bool.{ne_eqb, eq-eqb}
-use Rattle.hv_tree.specs.Rows.{children, children_in, IsLeastAbove}
-use Rattle.hv_tree.specs.Nest.{top, has_row, IsFound, IsNest}
-use Rattle.hv_tree.specs.Index.{parents, IsWay}
+use Rattle.std.proofs.Common.{◌≡◌, ◌∙◌, Some, false, sym, ap, length, arith}
+use Rattle.hv_tree.specs.Rows.{children}
+use Rattle.hv_tree.specs.Nest.{has_row, IsFound}
 use Rattle.hv_tree.proofs.Lists.{no_items}
-use Rattle.hv_tree.proofs.Child.{found_has}
-use Rattle.hv_tree.proofs.Gone.{has-nest}
-use Rattle.hv_tree.proofs.Got.{got_none, got_here, got_lent}
-use Rattle.hv_tree.proofs.Kin.{kids-seen, count-seen, IsLeastAbove-permutation, IsLeastAbove-none}
-use Rattle.hv_tree.proofs.Seen.{IsShown, IsTree-seen, has-seen, get-seen, get_none, get_some, kids-found, HasDepth-seen}
-use Rattle.hv_tree.proofs.Toward.{way-there, has-indexed}
+use Rattle.hv_tree.proofs.Kin.{count-seen}
+use Rattle.hv_tree.proofs.Seen.{IsShown, IsTree-seen, get_none, get_some, kids-found}
+use Rattle.hv_tree.specs.Full.{loan}
 use Rattle.hv_tree.proofs.tree.IdTree.children_of.Goals as goal
 
 pub returns-in_default-clause-value : goal.returns-in_default-clause-value
 returns-in_default-clause-value g c =
-    let s : IsShown c.self.inside.lent c.self.inside.root c.self.inside.count c.args.self.now = record { sound = c.self.invariant.sound; seen = c.self.view_is } in
+    let s : IsShown (loan c.self.inside.lender c.self.inside.lent) c.self.inside.root c.self.inside.count c.args.self.now = record { sound = c.self.invariant.sound; seen = c.self.view_is } in
     let off : has_row c.args.id c.self.inside.root ≡ false = rw c.in_default.is at c.seek.ensures.none in
     sym (get_none s c.args.id _ off)
 
 pub returns-in_default-clause-none : goal.returns-in_default-clause-none
 returns-in_default-clause-none g c =
-    let s : IsShown c.self.inside.lent c.self.inside.root c.self.inside.count c.args.self.now = record { sound = c.self.invariant.sound; seen = c.self.view_is } in
+    let s : IsShown (loan c.self.inside.lender c.self.inside.lent) c.self.inside.root c.self.inside.count c.args.self.now = record { sound = c.self.invariant.sound; seen = c.self.view_is } in
     let off : has_row c.args.id c.self.inside.root ≡ false = rw c.in_default.is at c.seek.ensures.none in
     no_items (children c.args.self.now c.args.id) (count-seen s c.args.id ∙ ap length (c.self.invariant.sound.nest.closed c.args.id off))
 
@@ -31,15 +26,15 @@ overflow_cast-result g c =
 
 pub returns-clause-value : goal.returns-clause-value
 returns-clause-value g c =
-    let s : IsShown c.self.inside.lent c.self.inside.root c.self.inside.count c.args.self.now = record { sound = c.self.invariant.sound; seen = c.self.view_is } in
+    let s : IsShown (loan c.self.inside.lender c.self.inside.lent) c.self.inside.root c.self.inside.count c.args.self.now = record { sound = c.self.invariant.sound; seen = c.self.view_is } in
     let found : IsFound c.args.id c.self.inside.root c.in-Some.node.now = rw c.in-Some.is at c.seek.ensures.found in
     let count : c.child_count.result ≡ length (children c.args.self.now c.args.id) = c.child_count.ensures found.part.distinct ∙ ap length (kids-found c.args.id c.self.inside.root c.in-Some.node.now found.part found.here) ∙ sym (count-seen s c.args.id) in
     ap Some count ∙ sym (get_some s c.args.id _ found.there)
 
 pub returns-in_default-clause-tree : goal.returns-in_default-clause-tree
 returns-in_default-clause-tree g c =
-    IsTree-seen {l = c.self.inside.lent} {es = c.self.inside.root} {n = c.self.inside.count} (record { sound = c.self.invariant.sound; seen = c.self.view_is })
+    IsTree-seen {l = (loan c.self.inside.lender c.self.inside.lent)} {es = c.self.inside.root} {n = c.self.inside.count} (record { sound = c.self.invariant.sound; seen = c.self.view_is })
 
 pub returns-clause-tree : goal.returns-clause-tree
 returns-clause-tree g c =
-    IsTree-seen {l = c.self.inside.lent} {es = c.self.inside.root} {n = c.self.inside.count} (record { sound = c.self.invariant.sound; seen = c.self.view_is })
+    IsTree-seen {l = (loan c.self.inside.lender c.self.inside.lent)} {es = c.self.inside.root} {n = c.self.inside.count} (record { sound = c.self.invariant.sound; seen = c.self.view_is })

@@ -1,28 +1,20 @@
-use Rattle.std.proofs.Common.{rules, ◌≡◌, ◌<◌, ◌≤◌, ◌≢◌, ◌∙◌, ◌∷◌, ◌==◌, [], None, Some, true, false, refl, sym, ap, subst, length, arith, inl, inr, is_some}
-use Rattle.std.proofs.lemmas.Bool.{ne_eqb, eq-eqb}
-use Rattle.hv_tree.specs.Rows.{children, children_in, IsLeastAbove}
-use Rattle.hv_tree.specs.Nest.{top, has_row, IsNest}
-use Rattle.hv_tree.specs.Index.{parents, IsWay}
-use Rattle.hv_tree.proofs.Lists.{no_items}
-use Rattle.hv_tree.proofs.Child.{found_has}
-use Rattle.hv_tree.proofs.Gone.{has-nest}
-use Rattle.hv_tree.proofs.Got.{got_none, got_here, got_lent}
-use Rattle.hv_tree.proofs.Kin.{kids-seen, count-seen, IsLeastAbove-permutation, IsLeastAbove-none}
-use Rattle.hv_tree.proofs.Seen.{IsShown, IsTree-seen, has-seen, get-seen, get_none, get_some, kids-found, HasDepth-seen}
-use Rattle.hv_tree.proofs.Toward.{way-there, has-indexed}
+use Rattle.std.proofs.Common.{◌≡◌, ◌∙◌, true, sym}
+use Rattle.hv_tree.specs.Nest.{has_row}
+use Rattle.hv_tree.proofs.Seen.{IsShown, IsTree-seen, has-seen, HasDepth-seen}
+use Rattle.hv_tree.specs.Full.{loan}
 use Rattle.hv_tree.proofs.tree.IdTree.depth_of.Goals as goal
 
 pub depth-requires-clause-has : goal.depth-requires-clause-has
 depth-requires-clause-has g c =
-    let s : IsShown c.self.inside.lent c.self.inside.root c.self.inside.count c.args.self.now = record { sound = c.self.invariant.sound; seen = c.self.view_is } in
+    let s : IsShown (loan c.self.inside.lender c.self.inside.lent) c.self.inside.root c.self.inside.count c.args.self.now = record { sound = c.self.invariant.sound; seen = c.self.view_is } in
     let has : has_row c.args.id c.self.inside.root ≡ true = sym (has-seen s c.args.id) ∙ sym c.contains.ensures.value ∙ c.if-not-contains.false in
     has
 
 pub returns-clause-depth : goal.returns-clause-depth
 returns-clause-depth g c =
-    let s : IsShown c.self.inside.lent c.self.inside.root c.self.inside.count c.args.self.now = record { sound = c.self.invariant.sound; seen = c.self.view_is } in
+    let s : IsShown (loan c.self.inside.lender c.self.inside.lent) c.self.inside.root c.self.inside.count c.args.self.now = record { sound = c.self.invariant.sound; seen = c.self.view_is } in
     HasDepth-seen s c.depth.result c.args.id c.depth.ensures
 
 pub returns-clause-tree : goal.returns-clause-tree
 returns-clause-tree g c =
-    IsTree-seen {l = c.self.inside.lent} {es = c.self.inside.root} {n = c.self.inside.count} (record { sound = c.self.invariant.sound; seen = c.self.view_is })
+    IsTree-seen {l = (loan c.self.inside.lender c.self.inside.lent)} {es = c.self.inside.root} {n = c.self.inside.count} (record { sound = c.self.invariant.sound; seen = c.self.view_is })

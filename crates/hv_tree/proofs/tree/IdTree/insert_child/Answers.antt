@@ -1,15 +1,16 @@
-use Rattle.std.proofs.Common.{◌≡◌, ◌∙◌, ◌∷◌, [], None, Some, true, false, sym, ap}
-use Rattle.hv_tree.specs.Nest.{has_row, first_content, IsGrownBy}
+use Rattle.std.proofs.Common.{◌≡◌, ◌∙◌, ◌∷◌, [], None, Some, sym, ap}
+use Rattle.hv_tree.specs.Nest.{first_content, IsGrownBy}
 use Rattle.hv_tree.specs.Index.{parents}
 use Rattle.hv_tree.proofs.Seen.{IsShown, has-seen}
 use Rattle.hv_tree.proofs.Grown.{grown-shown}
 use Rattle.hv_tree.proofs.Toward.{way-there}
 use Rattle.hv_tree.proofs.Indexed.{index-grown}
+use Rattle.hv_tree.specs.Full.{loan}
 use Rattle.hv_tree.proofs.tree.IdTree.insert_child.Goals as goal
 
 pub graft-requires : goal.graft-requires
 graft-requires g c =
-    let s : IsShown c.self.inside.lent c.self.inside.root c.self.inside.count c.args.self.now = record { sound = c.self.invariant.sound; seen = c.self.view_is } in
+    let s : IsShown (loan c.self.inside.lender c.self.inside.lent) c.self.inside.root c.self.inside.count c.args.self.now = record { sound = c.self.invariant.sound; seen = c.self.view_is } in
     way-there c.args.parent c.self.inside.root (parents c.self.inside.index) c.self.invariant.sound.distinct c.self.invariant.indexed (sym (has-seen s c.args.parent) ∙ sym c.contains.ensures.value ∙ c.if-not-contains.false)
 
 pub invariant_of-self : goal.invariant_of-self
@@ -24,7 +25,7 @@ returns-in-Err-graft-clause-refused g c = (
 
 pub invariant_of-self-2 : goal.invariant_of-self-2
 invariant_of-self-2 g c =
-    let s : IsShown c.self.inside.lent c.self.inside.root c.self.inside.count c.args.self.now = record { sound = c.self.invariant.sound; seen = c.self.view_is } in
+    let s : IsShown (loan c.self.inside.lender c.self.inside.lent) c.self.inside.root c.self.inside.count c.args.self.now = record { sound = c.self.invariant.sound; seen = c.self.view_is } in
     let free = sym c.contains-2.ensures.value ∙ c.if-contains.false in
     let grown : IsGrownBy c.args.parent ((c.args.id, (None, Some c.args.content)) ∷ []) c.self.inside.root c.graft.new.self = rw c.in-Ok.ensures.ok at c.in_default-graft.ensures.ok in
     let n = grown-shown s c.graft.new.self c.args.parent c.args.id c.args.content grown c.in_default-graft.ensures.nest free c.requires c.in-Some.ensures.0 in
@@ -36,7 +37,7 @@ invariant_of-self-2 g c =
 
 pub returns-clause-ok : goal.returns-clause-ok
 returns-clause-ok g c =
-    let s : IsShown c.self.inside.lent c.self.inside.root c.self.inside.count c.args.self.now = record { sound = c.self.invariant.sound; seen = c.self.view_is } in
+    let s : IsShown (loan c.self.inside.lender c.self.inside.lent) c.self.inside.root c.self.inside.count c.args.self.now = record { sound = c.self.invariant.sound; seen = c.self.view_is } in
     let free = sym c.contains-2.ensures.value ∙ c.if-contains.false in
     let grown : IsGrownBy c.args.parent ((c.args.id, (None, Some c.args.content)) ∷ []) c.self.inside.root c.graft.new.self = rw c.in-Ok.ensures.ok at c.in_default-graft.ensures.ok in
     let n = grown-shown s c.graft.new.self c.args.parent c.args.id c.args.content grown c.in_default-graft.ensures.nest free c.requires c.in-Some.ensures.0 in
