@@ -19,7 +19,7 @@ found_at test text at is there =
     let passes : nat_lt at (length text) ≡ true = grind (arith, nat_tests) in
     rw (← is, passes) refl
 
-place : (test : ℕ → Bool) (text : List ℕ) (r : Option ℕ) (at : ℕ) → r ≡ found_in test text → r ≡ Some at
+pub place : (test : ℕ → Bool) (text : List ℕ) (r : Option ℕ) (at : ℕ) → r ≡ found_in test text → r ≡ Some at
     → (nat_lt (position_or_len test text) (length text) ≡ true) × (position_or_len test text ≡ at)
 place test text r at found some = cond_some (nat_lt (position_or_len test text) (length text)) (position_or_len test text) at (sym found ∙ some)
 
@@ -65,7 +65,7 @@ whole test (x ∷ xs) none = one_part (test x) x xs (slice_split test xs) (posit
 pub split_uncut : (test : ℕ → Bool) (text : List ℕ) (r : Option ℕ) → r ≡ found_in test text → r ≡ None → slice_split test text ≡ text ∷ []
 split_uncut test text r found none = whole test text (uncut test text r found none)
 
-not_bad : (t : Bool) → not t ≡ false → t ≡ true
+pub not_bad : (t : Bool) → not t ≡ false → t ≡ true
 not_bad true e = refl
 not_bad false e = absurd (false≢true (sym e))
 

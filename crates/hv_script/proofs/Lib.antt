@@ -1,6 +1,7 @@
 pub mod CallerLemmas
 mod BitLemmas
 mod CutLemmas
+mod FrontLemmas
 mod LaneLemmas
 mod NumberLemmas
 mod SpaceLemmas

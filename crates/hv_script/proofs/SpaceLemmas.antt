@@ -27,7 +27,7 @@ pub skip_spaces : (xs : List ℕ) → words_of xs ≡ words_of (drop (position_o
 skip_spaces [] = refl
 skip_spaces (x ∷ xs) = skip_by (x == 32) x xs (position_or_len is_in_word xs) refl (skip_spaces xs)
 
-full_word : (word : List ℕ) (words : List (List ℕ)) → 0 < length word
+pub full_word : (word : List ℕ) (words : List (List ℕ)) → 0 < length word
     → filter (λ word. not (length word == 0)) (word ∷ words) ≡ word ∷ filter (λ word. not (length word == 0)) words
 full_word [] words some = absurd (omega (arith, some))
 full_word (x ∷ word) words some = let full : (length (x ∷ word) == 0) ≡ false = grind (arith, nat_tests) in rw full refl

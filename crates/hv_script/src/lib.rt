@@ -12,6 +12,7 @@ mod boot;
 mod cut;
 mod fault;
 mod fields;
+mod front;
 mod line;
 mod number;
 mod reading;

@@ -3,8 +3,9 @@ ghost use Rattle.std.specs.Prelude.{◌≡◌, ◌≤◌, All};
 ghost use Rattle.hv_script.specs.Callers.{callers_of};
 
 use crate::boot::{Boot, read_boot};
-use crate::cut::CutLine;
+use crate::cut::{CutLine, next_line};
 use crate::fault::FaultKind;
+use crate::front::call_line;
 use crate::line::{Line, action, processor};
 use hv_policy::{Action, Caller};
 use std::alloc::Allocator;
@@ -26,13 +27,40 @@ pub struct Reading<A: Allocator> {
 }
 
 impl<A: Allocator + Clone> Reading<A> {
-    ghost use Rattle.std.specs.Prelude.{◌≡◌, ◌+◌, ◌<◌, ◌≤◌, ◌^◌, IfOk, OnOk, Ok, not};
+    ghost use Rattle.std.specs.Prelude.{◌≡◌, ◌≢◌, ◌+◌, ◌<◌, ◌≤◌, ◌^◌, IfErr, IfOk, OnOk, Ok, length, not};
+    ghost use Rattle.std.specs.Option.{option_copied};
     ghost use Rattle.hv_script.specs.Callers.{is_among};
     ghost use Rattle.hv_script.specs.Fault.{IsRead};
+    ghost use Rattle.hv_script.specs.Front.{FailsBy, ReadsTo, taken};
     ghost use Rattle.hv_script.specs.Reading.{phase_by, read_by, so_far};
     ghost use Rattle.hv_script.specs.Script.{first_line, later_line, phase_line, processor_line, read_line};
     ghost use Rattle.hv_script.specs.Script.{with_line};
-    ghost use Rattle.hv_script.specs.Words.{words_of};
+    ghost use Rattle.hv_script.specs.Words.{lines_left, lines_of, most_left, words_of};
+
+    /// Reads the first line of a text, and gives what stands after its line feed, if it has one.
+    pub fn read_next<'a>(
+        alloc: &A,
+        reading: &mut Option<Reading<A>>,
+        text: &'a [u8],
+    ) -> Result<Option<&'a [u8]>, FaultKind>
+        requires phases { phase_by reading.old + 1 < 2 ^ 32 }
+        ensures read { IfOk result (λ rest. ReadsTo (lines_of text.now) (read_by reading.old)
+            (lines_left (option_copied rest)) (read_by reading.new)) }
+        ensures fault { IfErr result (λ kind. kind ≢ FaultKind.Memory → FailsBy (lines_of text.now)
+            (read_by reading.old) kind) }
+        ensures shorter { IfOk result (λ rest. most_left (option_copied rest) ≤ length text.now) }
+        ensures phase { OnOk result (phase_by reading.new ≤ phase_by reading.old + 1) }
+    {
+        if let Some(reading) = reading {
+            if let Some((by, action, rest)) = call_line(alloc, text)? {
+                reading.take_line(by, action)?;
+                return Ok(Some(rest));
+            }
+        }
+        let (line, rest) = next_line(text);
+        Reading::read_line(alloc, reading, &line)?;
+        Ok(rest)
+    }
 
     /// Reads a line after what was read before it.
     #[tactic(auto, unfolding(crate::specs::Script::read_line))]
@@ -119,6 +147,15 @@ impl<A: Allocator + Clone> Reading<A> {
     {
         let by = processor(line.word(0))?;
         let action = action(alloc, line)?;
+        self.take_line(by, action)
+    }
+
+    // Takes a line of a processor, if the phase has room for it.
+    #[inline(always)]
+    fn take_line(&mut self, by: Caller, action: Action<A>) -> Result<(), FaultKind>
+        ensures read { IsRead result (λ _. so_far self.new) (taken (so_far self.old) by action) }
+        ensures phase { self.new.phase ≡ self.old.phase }
+    {
         let is_new = !self.names(by);
         if is_new && self.callers.len() >= MOST_PROCESSORS {
             return Err(FaultKind::TooMany);

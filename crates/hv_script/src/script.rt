@@ -5,7 +5,6 @@ ghost use Rattle.hv_script.specs.Script.{read_lines, script_of};
 ghost use Rattle.hv_script.specs.Words.{lines_of};
 ghost use Rattle.hv_script.specs.declared.script.TheConstants.{MOST_BYTES as MOST};
 
-use crate::cut::next_line;
 use crate::fault::{FaultKind, ScriptFault};
 use crate::line::Line;
 use crate::reading::Reading;
@@ -69,10 +68,8 @@ fn read_lines<A: Allocator + Clone>(
     let mut number = 0usize;
     let mut left = Some(text);
     'lines: while let Some(here) = left {
-        let (line, rest) = next_line(here);
-        left = rest;
         number += 1;
-        Reading::read_line(alloc, &mut reading, &line).map_err(|kind| ScriptFault {
+        left = Reading::read_next(alloc, &mut reading, here).map_err(|kind| ScriptFault {
             line: number,
             kind,
         })?;

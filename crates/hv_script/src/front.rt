@@ -1,0 +1,209 @@
+// A line that is read at one pass from the front of a text, if it is a call of a processor.
+ghost use Rattle.std.specs.Prelude.{ℕ, ◌≡◌, ◌≤◌, IfErr, IfOk, IfSome, List, Ok, Some, codes, length, take};
+ghost use Rattle.std.specs.Str.Parse.{AllDigits, digits_value};
+ghost use Rattle.hv_script.specs.Front.{Begins, BeginsAsking, BeginsCall, BeginsDecimal, Names};
+ghost use Rattle.hv_script.specs.Number.{bytes_in, number_in};
+ghost use Rattle.hv_script.specs.declared.fault.FaultKind.TheVariants.{Memory};
+
+use crate::fault::FaultKind;
+use crate::number;
+use hv_abi::{Bytes, Frame};
+use hv_policy::{Action, Caller};
+use std::alloc::Allocator;
+
+// So many decimal digits always fit 64 bits.
+const FEW_DIGITS: usize = 18;
+
+// The number in decimal digits that a text begins with, and how many these are, of few.
+#[inline(always)]
+fn leading_digits(text: &[u8]) -> (u64, usize)
+    ensures inside { result.1 ≤ length text.now }
+    ensures digits { AllDigits 10 (take result.1 text.now) }
+    ensures value { digits_value 10 (take result.1 text.now) ≡ result.0 }
+{
+    let mut value = 0u64;
+    for at in 0..FEW_DIGITS {
+        if at == text.len() || !text[at].is_ascii_digit() {
+            return (value, at);
+        }
+        value = value * 10 + u64::from(text[at] - b'0');
+    }
+    (0, 0)
+}
+
+// The number in decimal digits that a text begins with and that this byte ends, and what stands after
+// it. Not inlined, so that the short numbers are.
+#[inline(never)]
+fn longer_before(text: &[u8], stop: u8) -> Option<(u64, &[u8])>
+    ensures { IfSome result (λ cut. BeginsDecimal text.now cut.0 stop cut.1.now) }
+{
+    let (value, end) = leading_digits(text);
+    if end == 0 || end == text.len() || text[end] != stop {
+        return None;
+    }
+    Some((value, &text[end + 1..]))
+}
+
+// The number in two decimal digits that a text begins with and that this byte ends, and what stands
+// after it.
+#[inline(always)]
+fn two_digits_before(text: &[u8], stop: u8) -> Option<(u64, &[u8])>
+    ensures { IfSome result (λ cut. BeginsDecimal text.now cut.0 stop cut.1.now) }
+{
+    if text.len() < 3 || !text[0].is_ascii_digit() || !text[1].is_ascii_digit() || text[2] != stop {
+        return None;
+    }
+    let tens = u64::from(text[0] - b'0');
+    let ones = u64::from(text[1] - b'0');
+    Some((tens * 10 + ones, &text[3..]))
+}
+
+// The number in one decimal digit that a text begins with and that this byte ends, and what stands
+// after it.
+#[inline(always)]
+fn digit_before(text: &[u8], stop: u8) -> Option<(u64, &[u8])>
+    ensures { IfSome result (λ cut. BeginsDecimal text.now cut.0 stop cut.1.now) }
+{
+    if text.len() < 2 || !text[0].is_ascii_digit() || text[1] != stop {
+        return None;
+    }
+    Some((u64::from(text[0] - b'0'), &text[2..]))
+}
+
+// The number in decimal digits that a text begins with and that this byte ends, and what stands after
+// it. Most numbers have one digit.
+#[inline(always)]
+fn decimal_before(text: &[u8], stop: u8) -> Option<(u64, &[u8])>
+    ensures { IfSome result (λ cut. BeginsDecimal text.now cut.0 stop cut.1.now) }
+{
+    match digit_before(text, stop) {
+        Some(cut) => Some(cut),
+        None => longer_before(text, stop),
+    }
+}
+
+// The processor that a text begins with, and what stands after the space behind it.
+#[inline(always)]
+fn leading_processor(text: &[u8]) -> Option<(Caller, &[u8])>
+    ensures { IfSome result (λ cut. (word : List ℕ) × Begins text.now word 32 cut.1.now
+        × Names word cut.0) }
+{
+    let (part, text) = decimal_before(text, b'.')?;
+    let (vp, text) = decimal_before(text, b' ')?;
+    let vp = u32::try_from(vp).ok()?;
+    Some((Caller { part, vp }, text))
+}
+
+// The number that a text begins with, and what stands after the space behind it.
+#[inline(always)]
+fn leading_number(text: &[u8]) -> Option<(u64, &[u8])>
+    ensures { IfSome result (λ cut. (word : List ℕ) × Begins text.now word 32 cut.1.now
+        × (number_in 64 word ≡ Some cut.0)) }
+{
+    let (value, rest) = decimal_before(text, b' ')?;
+    Some((value, rest))
+}
+
+// What stands after `call ` at the front of a text.
+#[inline(always)]
+fn after_call(text: &[u8]) -> Option<&[u8]>
+    ensures { IfSome result (λ rest. Begins text.now (codes "call") 32 rest.now) }
+{
+    match text {
+        [b'c', b'a', b'l', b'l', b' ', rest @ ..] => Some(rest),
+        _ => None,
+    }
+}
+
+// The same. Most calls' codes have two digits.
+#[inline(always)]
+fn code_before(text: &[u8], stop: u8) -> Option<(u64, &[u8])>
+    ensures { IfSome result (λ cut. BeginsDecimal text.now cut.0 stop cut.1.now) }
+{
+    match two_digits_before(text, stop) {
+        Some(cut) => Some(cut),
+        None => decimal_before(text, stop),
+    }
+}
+
+// The number with which a call begins, and what stands after the space behind it.
+#[inline(always)]
+fn leading_code(text: &[u8]) -> Option<(u64, &[u8])>
+    ensures { IfSome result (λ cut. (word : List ℕ) × Begins text.now word 32 cut.1.now
+        × (number_in 64 word ≡ Some cut.0)) }
+{
+    let (value, rest) = code_before(text, b' ')?;
+    Some((value, rest))
+}
+
+// The processor and the registers of a call that a text begins with, and what stands after them.
+#[inline(always)]
+fn leading_call(text: &[u8]) -> Option<(Caller, u64, u64, u64, &[u8])>
+    ensures { IfSome result (λ cut. BeginsCall text.now cut.0 cut.1 cut.2 cut.3 cut.4.now) }
+{
+    let (by, text) = leading_processor(text)?;
+    let text = after_call(text)?;
+    let (rcx, text) = leading_code(text)?;
+    let (rdx, text) = leading_number(text)?;
+    let (r8, text) = leading_number(text)?;
+    Some((by, rcx, rdx, r8, text))
+}
+
+// The last word of a line that a text begins with, and what stands after the line feed behind it.
+#[inline(always)]
+fn last_word(text: &[u8]) -> Option<(&[u8], &[u8])>
+    ensures { IfSome result (λ cut. Begins text.now cut.0.now 10 cut.1.now) }
+{
+    let end = text.iter().position(|byte| !matches!(*byte, 0x21..=0x7E))?;
+    if end == 0 || text[end] != b'\n' {
+        return None;
+    }
+    Some((&text[..end], &text[end + 1..]))
+}
+
+// The bytes of a call's input list, or nothing where the word is none.
+#[inline(always)]
+fn input<A: Allocator + Clone>(alloc: &A, word: &[u8]) -> Result<Option<Bytes<A>>, FaultKind>
+    ensures input { IfOk result (λ input. IfSome input (λ input. bytes_in word.now ≡ Ok input)) }
+    ensures memory { IfErr result (λ kind. kind ≡ Memory) }
+{
+    let alloc = alloc.clone().map_err(|_| FaultKind::Memory)?;
+    // Most calls have none.
+    if word == b"-".as_slice() {
+        return Ok(Some(Bytes::from_vec(Vec::new(alloc))));
+    }
+    match number::bytes(alloc, word) {
+        Ok(input) => Ok(Some(Bytes::from_vec(input))),
+        Err(FaultKind::Memory) => Err(FaultKind::Memory),
+        Err(_) => Ok(None),
+    }
+}
+
+/// The call that a text begins with, its processor, and what stands after its line: if its words stand
+/// right behind one another, its numbers are in few decimal digits, and it has no fault. A line
+/// of which nothing is told may be anything.
+pub fn call_line<'a, A: Allocator + Clone>(
+    alloc: &A,
+    text: &'a [u8],
+) -> Result<Option<(Caller, Action<A>, &'a [u8])>, FaultKind>
+    ensures asked { IfOk result (λ asked. IfSome asked (λ asked. BeginsAsking text.now asked.0 asked.1
+        asked.2.now)) }
+    ensures memory { IfErr result (λ kind. kind ≡ Memory) }
+{
+    let Some((by, rcx, rdx, r8, text)) = leading_call(text) else {
+        return Ok(None);
+    };
+    let Some((word, rest)) = last_word(text) else {
+        return Ok(None);
+    };
+    let Some(input) = input(alloc, word)? else {
+        return Ok(None);
+    };
+    let frame = Frame {
+        rcx,
+        rdx,
+        r8,
+        input,
+    };
+    Ok(Some((by, Action::Hypercall(frame), rest)))
+}
