@@ -1,5 +1,5 @@
 -- A call that goes on by one element.
-use Rattle.std.proofs.Common.{◌≡◌, ℕ, ◌+◌, ◌<◌, ◌≢◌, List, [], ◌∷◌, ◌++◌, refl, sym, subst, ap, ◌∙◌, arith, append_assoc, append-nil, length-append}
+use Rattle.std.proofs.Common.{◌≡◌, ℕ, ◌+◌, ◌<◌, ◌≢◌, List, [], ◌∷◌, ◌++◌, length, refl, sym, subst, ap, ◌∙◌, arith, append_assoc, append-nil, length-append}
 use Rattle.hv_abi.specs.declared.frame.Frame.{Frame}
 use Rattle.hv_defs.specs.declared.sizes.TheConstants.{REPS_END}
 use Rattle.hv_policy.specs.Next.{GoesOn}
@@ -10,7 +10,9 @@ use Rattle.hv_policy.specs.declared.event.Caller.{Caller}
 use Rattle.hv_policy.specs.declared.event.Event.{Event}
 use Rattle.hv_policy.specs.declared.reply.Reply.{Reply}
 use Rattle.hv_policy.specs.declared.reply.Reply.TheVariants.{More}
+use Rattle.hv_history.specs.History.{IsOfLastCall}
 use Rattle.hv_history.specs.Kept.{HasGained, Kept}
+use Rattle.hv_history.specs.Row.{IsCall, common_of}
 use Rattle.hv_history.specs.Run.{AreElements, GoesOnAt, HasRun, HasStopped, IsMore, element, restart, start_of}
 use Rattle.hv_history.specs.declared.entry.Entry.{Entry}
 
@@ -22,6 +24,26 @@ module _ {A : Type 0} where
       (ap (element by) is, subst (λ (f : Frame A). GoesOnAt (start_of f + 1) reply) is goes, ap (λ (f : Frame A). restart f (start_of f + 1)) is)
   elements-push by frame (e ∷ es) now reply is goes =
       (is.0, is.1, elements-push by (restart frame (start_of frame + 1)) es now reply is.2 goes)
+
+  -- the elements of a call are by the same caller, with the same R8 and input
+  pub same_common : (by : Caller) (frame : Frame A) (es : List (Entry A)) (now : Frame A) → AreElements by frame es now → common_of (element by now) ≡ common_of (element by frame)
+  same_common by frame [] now is = ap (λ (f : Frame A). common_of (element by f)) is
+  same_common by frame (e ∷ es) now is = same_common by (restart frame (start_of frame + 1)) es now is.2
+
+  -- so that each goes on with the call of the one before it
+  pub of_last : (by : Caller) (frame : Frame A) (es : List (Entry A)) (now : Frame A) → AreElements by frame es now → 0 < length es → (old : List (Entry A)) → IsOfLastCall (element by now) (old ++ es)
+  of_last by frame [] now is some old = absurd (omega arith)
+  of_last by frame (e ∷ []) now is some old =
+      record {
+        before = old;
+        last = e;
+        is = refl;
+        call = subst (λ (x : Event A). IsCall x.what) (sym is.0) tt;
+        common = ap (λ (x : Event A). common_of x) is.0 ∙ sym (same_common by frame (e ∷ []) now is);
+      }
+  of_last by frame (e ∷ d ∷ es) now is some old =
+      subst (IsOfLastCall (element by now)) (append_assoc old (e ∷ []) (d ∷ es))
+      (of_last by (restart frame (start_of frame + 1)) (d ∷ es) now is.2 (omega arith) (old ++ e ∷ []))
 
   -- a call goes on with the element after the one that was served
   pub goes_after : (now : Frame A) (next : ℕ) (output : List ℕ) (reply : Reply) → reply ≡ More next output → GoesOn (Hypercall now) reply → (GoesOnAt (start_of now + 1) reply) × (next ≡ start_of now + 1) × (next < REPS_END)
@@ -45,6 +67,13 @@ module _ {A : Type 0} where
     -- the host refused it
     pub stopped : (new : Kept A) → new ≡ now → HasStopped by frame events most old new
     stopped new same = subst (HasStopped by frame events most old) (sym same) is.so_far
+
+    -- it goes on with the call of the last event
+    pub next_of_call : 0 < events → IsOfLastCall event now.history
+    next_of_call some =
+        let count = is.so_far.count in
+        subst (λ (e : Event A). IsOfLastCall e now.history) (sym is.event_is)
+        (subst (IsOfLastCall (element by is.so_far.now)) (sym is.so_far.history) (of_last by frame is.so_far.before is.so_far.now is.so_far.elements (omega arith) old.history))
 
     module _ (reply : Reply) (new : Kept A) (gained : HasGained event reply now new) where
       abbrev entry : Entry A

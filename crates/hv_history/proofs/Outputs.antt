@@ -1,6 +1,6 @@
 -- Bytes with zeros after them.
 use Rattle.std.proofs.Common.{◌≡◌, ℕ, suc, ◌+◌, ◌-◌, ◌<◌, ◌≤◌, List, [], ◌∷◌, ◌++◌, length, take, drop, slice_index, refl, sym, ap, ◌∙◌, arith}
-use Rattle.std.proofs.lemmas.List.{append_cancel_right, drop_all, drop_more, replicate-append-replicate, take-append-drop}
+use Rattle.std.proofs.lemmas.List.{append_cancel_right, drop-drop, drop-take, drop_all, drop_more, replicate-append-replicate, take-append-drop}
 use Rattle.hv_defs.specs.Slot.{zeros}
 
 -- nothing is left after all of them
@@ -15,6 +15,17 @@ one_less bytes len some within rest is =
     let next : len - 1 + 1 ≡ len = omega arith in
     let count : length bytes - (len - 1) ≡ suc (length bytes - len) = omega arith in
     drop_more bytes (len - 1) 0 (omega arith) ∙ rw (is, next, rest, count) refl
+
+-- so many zeros less are kept
+pub many_less : (bytes : List ℕ) (len many : ℕ) → many ≤ len → len ≤ length bytes → drop len bytes ≡ zeros (length bytes - len)
+    → drop (len - many) (take len bytes) ≡ zeros many → drop (len - many) bytes ≡ zeros (length bytes - (len - many))
+many_less bytes len many enough within rest last =
+    let from = drop (len - many) bytes in
+    let whole : len - many + many ≡ len = omega arith in
+    let count : many + (length bytes - len) ≡ length bytes - (len - many) = omega arith in
+    let front : take many from ≡ zeros many = sym (rw whole at (drop-take (len - many) many bytes)) ∙ last in
+    let back : drop many from ≡ zeros (length bytes - len) = drop-drop many (len - many) bytes ∙ rw whole rest in
+    sym (take-append-drop many from) ∙ rw (front, back) (replicate-append-replicate many (length bytes - len) 0) ∙ ap zeros count
 
 pub parted : (bytes : List ℕ) (len : ℕ) → drop len bytes ≡ zeros (length bytes - len) → take len bytes ++ zeros (length bytes - len) ≡ bytes
 parted bytes len rest = ap (λ zs. take len bytes ++ zs) (sym rest) ∙ take-append-drop len bytes

@@ -3,7 +3,7 @@ use Rattle.std.proofs.Common.{◌≡◌, ℕ, suc, ◌+◌, ◌-◌, ◌*◌, �
 use Rattle.hv_policy.specs.declared.event.Action.{Action}
 use Rattle.hv_policy.specs.declared.event.Caller.{Caller}
 use Rattle.hv_policy.specs.declared.event.Event.{Event}
-use Rattle.hv_history.specs.History.{HasRoomFor, HasRoomForHead, IsRoomForHead, room_of}
+use Rattle.hv_history.specs.History.{HasHeadFor, HasRoomForHead, IsRoomForHead, room_of}
 use Rattle.hv_history.specs.Row.{Common, IsLast, action_of, asked_in, bytes_at, common_at, head_at, input_in, last_common, most_of, most_output, r8_in}
 use Rattle.hv_history.specs.declared.row.Head.{Head}
 use Rattle.hv_history.specs.declared.row.History.{History}
@@ -79,10 +79,10 @@ module _ {A : Type 0} where
       let inputs = h.inputs.ok in
       record { few = omega arith; head = omega arith; input = omega (arith, inputs.1) }
 
-  -- room for an event is room for its head, unless that is there
-  pub for_head : (h : History A) (event : Event A) → HasRoomFor 1 (room_of h) event → IsLast h.heads.items h.inputs.items event.by (r8_in event.what) (input_in event.what) ⊎ IsRoomForHead h (length (input_in event.what))
+  -- there is room for an event's head, unless that is there
+  pub for_head : (h : History A) (event : Event A) → HasHeadFor (room_of h) event → IsLast h.heads.items h.inputs.items event.by (r8_in event.what) (input_in event.what) ⊎ IsRoomForHead h (length (input_in event.what))
   for_head h event room =
-      elim (room.head (omega arith)) [
+      elim room [
         | inl last ↦ inl (last_is h.heads.items h.inputs.items _ last)
         | inr head ↦ inr (new_head h _ head)
       ]

@@ -1,6 +1,6 @@
 -- Rows of a history, once one comes.
 use Rattle.std.proofs.Common.{◌≡◌, ℕ, ◌+◌, ◌-◌, ◌<◌, ◌≤◌, List, [], ◌∷◌, ◌++◌, Some, inl, inr, get_or, length, take, drop, refl, sym, ap, subst, ◌∙◌, arith}
-use Rattle.std.proofs.lemmas.List.{length-map, take-append-drop, take-append-le, drop-append-le, length-drop, length-take, map-append, get_or_append_left}
+use Rattle.std.proofs.lemmas.List.{length-map, take-append-drop, take-append-le, drop-append-le, length-append, length-drop, length-take, map-append, get_or_append_left}
 use Rattle.std.proofs.lemmas.Bool.{le-leb, lt-leb, cases_lt}
 use Rattle.std.proofs.lemmas.List.Elements.{All-head, All-push, All-tail, All-weaker}
 use Rattle.std.proofs.lemmas.Option.{slice_get-get_or, slice_get-map}
@@ -10,9 +10,11 @@ use Rattle.std.specs.Prelude.{option_map}
 use Rattle.hv_defs.specs.Slot.{zeros}
 use Rattle.hv_policy.specs.Parts.{reply_of}
 use Rattle.hv_policy.specs.declared.event.Action.{Action}
+use Rattle.hv_policy.specs.declared.event.Caller.{Caller}
 use Rattle.hv_policy.specs.declared.event.Event.{Event}
 use Rattle.hv_policy.specs.declared.reply.Reply.{Reply}
-use Rattle.hv_history.specs.Row.{ArePlaced, AreWithin, IsPlaced, IsThere, action_of, asked_in, bytes_at, entries_of, entry_from, entry_of, head_at, input_in, output_at, r8_in}
+use Rattle.hv_history.specs.History.{IsOfLastCall}
+use Rattle.hv_history.specs.Row.{AreAlike, ArePlaced, AreWithin, IsCall, IsPlaced, IsThere, action_of, asked_in, bytes_at, common_at, common_of, entries_of, entry_from, entry_of, head_at, input_in, output_at, r8_in}
 use Rattle.hv_history.specs.declared.entry.Entry.{Entry}
 use Rattle.hv_history.specs.declared.row.Head.{Head}
 use Rattle.hv_history.specs.declared.row.Kind.{Kind}
@@ -147,18 +149,21 @@ module _ {A : Type 0} where
       ap (λ (w : Action A). action_of {A = A} (asked_in k first second (r8_in w)) (input_in w)) (sym is) ∙ own k first second r8 input ∙ is
 
   -- rows with the same numbers, under heads with the same, stand for the same
-  pub alike : (heads other_heads : List Head) (inputs other_inputs outputs other_outputs : List ℕ) (row that : Row)
-      → row.kind ≡ that.kind → row.first ≡ that.first → row.second ≡ that.second → row.answer ≡ that.answer → row.output_zeros ≡ that.output_zeros
-      → (head_at heads row.head).by ≡ (head_at other_heads that.head).by → (head_at heads row.head).r8 ≡ (head_at other_heads that.head).r8
-      → bytes_at inputs (head_at heads row.head).input_start (head_at heads row.head).input_len
-      ≡ bytes_at other_inputs (head_at other_heads that.head).input_start (head_at other_heads that.head).input_len
+  pub alike : (heads other_heads : List Head) (inputs other_inputs outputs other_outputs : List ℕ) (row that : Row) → AreAlike row that
+      → common_at inputs (head_at heads row.head) ≡ common_at other_inputs (head_at other_heads that.head)
       → output_at outputs row.output row.output_len ≡ output_at other_outputs that.output that.output_len
       → entry_of {A = A} heads inputs outputs row ≡ entry_of other_heads other_inputs other_outputs that
-  alike heads other_heads inputs other_inputs outputs other_outputs row that kind first second answer zs by r8 input output =
+  alike heads other_heads inputs other_inputs outputs other_outputs row that same common output =
       λ i. record {
-        event = record { by = by i; what = action_of (asked_in (kind i) (first i) (second i) (r8 i)) (input i) };
-        reply = reply_of (answer i) (output i ++ zeros (zs i));
+        event = record { by = (common i).by; what = action_of (asked_in (same.kind i) (same.first i) (same.second i) (common i).r8) (common i).input };
+        reply = reply_of (same.answer i) (output i ++ zeros (same.output_zeros i));
       }
+
+  -- what a row stands for is the entry at its place
+  pub entry_at : (heads : List Head) (inputs outputs : List ℕ) (rows : List Row) (at : ℕ) (row : Row) → at < length (entries_of {A = A} heads inputs outputs rows) → row ≡ get_or rows at row
+      → slice_get (entries_of heads inputs outputs rows) at ≡ Some (entry_of {A = A} heads inputs outputs row)
+  entry_at heads inputs outputs rows at row less is =
+      slice_get-map _ rows at ∙ ap (option_map _) (stands rows at row (omega (arith, length-map rows (entry_of {A = A} heads inputs outputs))) is)
 
   -- the last row stands for the last entry, so that its event is known where that entry's is
   pub last_is : (heads : List Head) (inputs outputs : List ℕ) (rows : List Row) (place : ℕ) (row : Row) (event : Event A) → place + 1 ≡ length rows → row ≡ get_or rows place row

@@ -1,8 +1,8 @@
 -- What a history stands for.
-use Rattle.std.specs.Prelude.{ℕ, ◌≡◌, ◌+◌, ◌-◌, ◌*◌, ◌^◌, ◌≤◌, ◌<◌, ◌⊎◌, Option, Some, List, length, vec_len, vec_capacity}
+use Rattle.std.specs.Prelude.{ℕ, ◌≡◌, ◌+◌, ◌-◌, ◌*◌, ◌^◌, ◌≤◌, ◌<◌, ◌⊎◌, Option, Some, List, [], ◌∷◌, ◌++◌, length, vec_len, vec_capacity}
 use Rattle.hv_policy.specs.declared.event.Event.{Event}
 use Rattle.hv_history.specs.Output.{shown}
-use Rattle.hv_history.specs.Row.{Common, common_of, entries_of, entry_from, input_in, last_common, most_output}
+use Rattle.hv_history.specs.Row.{Common, IsCall, common_of, entries_of, entry_from, input_in, last_common, most_output}
 use Rattle.hv_history.specs.declared.entry.Entry.{Entry}
 use Rattle.hv_history.specs.declared.entry.EntryRef.{EntryRef}
 use Rattle.hv_history.specs.declared.row.History.{History}
@@ -47,9 +47,21 @@ pub record HasRoomForHead (room : Room) (bytes : ℕ) : Type 0 where
   pub places : 0 < room.places
   pub inputs : bytes ≤ room.inputs
 
+-- the last event has the same in common with those that would share its head as this one, or there is room for a head
+abbrev pub HasHeadFor : {A : Type 0} → Room → Event A → Type 0
+HasHeadFor room event = (room.last ≡ Some (common_of event)) ⊎ HasRoomForHead room (length (input_in event.what))
+
 -- There is room for so many events of one call, this one and those that ask for other elements, whatever their replies: they
 -- share one head.
 pub record HasRoomFor {A : Type 0} (count : ℕ) (room : Room) (event : Event A) : Type 0 where
   pub rows : count ≤ room.rows
   pub outputs : count * most_output event.what ≤ room.outputs
-  pub head : 0 < count → (room.last ≡ Some (common_of event)) ⊎ HasRoomForHead room (length (input_in event.what))
+  pub head : 0 < count → HasHeadFor room event
+
+-- the last entry is of a call, and this event is by the same caller with the same R8 and input, as another element of it is
+pub record IsOfLastCall {A : Type 0} (event : Event A) (history : List (Entry A)) : Type 0 where
+  pub before : List (Entry A)
+  pub last : Entry A
+  pub is : history ≡ before ++ last ∷ []
+  pub call : IsCall last.event.what
+  pub common : common_of last.event ≡ common_of event

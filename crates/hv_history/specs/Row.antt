@@ -32,6 +32,16 @@ input_in (action.ReadFlags sint) = []
 input_in (action.ClearFlag sint flag) = []
 input_in action.TakeInterrupt = []
 
+abbrev pub IsCall : {A : Type 0} → Action A → Type 0
+IsCall (action.Hypercall frame) = Unit {0}
+IsCall (action.ReadMsr msr) = ⊥
+IsCall (action.WriteMsr msr value) = ⊥
+IsCall (action.ReadSlot sint) = ⊥
+IsCall (action.ClearSlot sint) = ⊥
+IsCall (action.ReadFlags sint) = ⊥
+IsCall (action.ClearFlag sint flag) = ⊥
+IsCall action.TakeInterrupt = ⊥
+
 -- R8 of a call; an access has none
 abbrev pub r8_in : {A : Type 0} → Action A → ℕ
 r8_in (action.Hypercall frame) = frame.r8
@@ -149,6 +159,14 @@ events_of entries = map (λ entry. entry.event) entries
 
 abbrev pub replies_of : {A : Type 0} → List (Entry A) → List Reply
 replies_of entries = map (λ entry. entry.reply) entries
+
+-- rows with the same numbers and answer, and with equally many zeros put out
+pub record AreAlike (row that : Row) : Type 0 where
+  pub first : row.first ≡ that.first
+  pub second : row.second ≡ that.second
+  pub kind : row.kind ≡ that.kind
+  pub output_zeros : row.output_zeros ≡ that.output_zeros
+  pub answer : row.answer ≡ that.answer
 
 -- the head's input stands within so many bytes
 pub record IsWithin (inputs : ℕ) (head : Head) : Type 0 where

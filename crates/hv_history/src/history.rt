@@ -2,9 +2,11 @@
 ghost use Rattle.std.specs.Prelude.{◌≡◌, ◌+◌, ◌^◌, ◌-◌, ◌<◌, ◌≤◌, ◌↔◌, ◌⊎◌, ◌++◌, [], ◌∷◌, ℕ, IsTrue, length};
 ghost use Rattle.std.specs.Prelude.{take, drop, OnOk, Some, slice_get, vec_len, vec_capacity};
 ghost use Rattle.hv_defs.specs.declared.sizes.TheConstants.{REPS_END};
-ghost use Rattle.hv_history.specs.History.{HasRoomFor, IsRoomForHead, entries, entry_by, room_of};
+ghost use Rattle.hv_history.specs.History.{HasHeadFor, HasRoomFor, IsOfLastCall, IsRoomForHead};
+ghost use Rattle.hv_history.specs.History.{entries, entry_by, room_of};
 ghost use Rattle.hv_history.specs.Output.{shown};
-ghost use Rattle.hv_history.specs.Row.{IsLast, IsThere, bytes_at, head_at, most_output, next_in, output_at};
+ghost use Rattle.hv_history.specs.Row.{AreAlike, IsCall, IsLast, IsThere, bytes_at, common_at, common_of};
+ghost use Rattle.hv_history.specs.Row.{head_at, input_in, most_output, next_in, output_at, r8_in};
 ghost use Rattle.hv_history.specs.declared.row.TheConstants.{IN_ROW};
 ghost use Rattle.hv_history.specs.declared.entry.Entry.{Entry};
 ghost use Rattle.hv_policy.specs.Parts.{reply_of};
@@ -12,7 +14,8 @@ ghost use Rattle.hv_policy.specs.Parts.{reply_of};
 use crate::entry::EntryRef;
 use crate::output::OutputRef;
 use crate::row::{
-    Head, History, IN_ROW, Row, asked_of, input_in, most_outputs, numbers_of, outputs_in, r8_in,
+    Head, History, IN_ROW, Kind, Row, asked_of, input_in, most_outputs, numbers_of, outputs_in,
+    r8_in,
 };
 use hv_machine::{Answer, Caller, Event};
 use std::alloc::{AllocError, Allocator};
@@ -72,6 +75,17 @@ impl<A: Allocator> History<A> {
         self.is_kept_alike(at, other, other_at) || self.reads_the_same(at, other, other_at)
     }
 
+    /// Whether both are the same, where the events before them are, with the same replies: then the inputs
+    /// of two that go on with the calls of those needn't be compared.
+    pub fn is_same_after(&self, at: usize, other: &History<A>, other_at: usize) -> bool
+        requires here { (0 < at) × (at < length (entries self.now)) }
+        requires there { (0 < other_at) × (other_at < length (entries other.now)) }
+        requires before { slice_get (entries self.now) (at - 1) ≡ slice_get (entries other.now) (other_at - 1) }
+        ensures { IsTrue result ↔ (slice_get (entries self.now) at ≡ slice_get (entries other.now) other_at) }
+    {
+        self.goes_on_alike(at, other, other_at) || self.is_same(at, other, other_at)
+    }
+
     // The same, by reading both. Not inlined, so that the usual way makes no room for them.
     #[inline(never)]
     fn reads_the_same(&self, at: usize, other: &History<A>, other_at: usize) -> bool
@@ -107,10 +121,7 @@ impl<A: Allocator> History<A> {
     {
         let row = &self.rows[at];
         let that = &other.rows[other_at];
-        if row.first != that.first || row.second != that.second {
-            return false;
-        }
-        if row.kind != that.kind || row.output_zeros != that.output_zeros {
+        if !are_alike(row, that) {
             return false;
         }
         let head = &self.heads[row.head as usize];
@@ -119,10 +130,35 @@ impl<A: Allocator> History<A> {
             return false;
         }
         let input = &self.inputs[head.input_start..head.input_start + head.input_len];
-        if !other.has_input(that_head, input) {
+        other.has_input(that_head, input) && self.puts_out_alike(row, other, that)
+    }
+
+    // Whether both go on with the calls of the events before them, which are the same, and are kept alike.
+    #[inline(always)]
+    fn goes_on_alike(&self, at: usize, other: &History<A>, other_at: usize) -> bool
+        requires here { (0 < at) × (at < length (entries self.now)) }
+        requires there { (0 < other_at) × (other_at < length (entries other.now)) }
+        requires before { slice_get (entries self.now) (at - 1) ≡ slice_get (entries other.now) (other_at - 1) }
+        ensures { IsTrue result → (slice_get (entries self.now) at ≡ slice_get (entries other.now) other_at) }
+    {
+        let row = &self.rows[at];
+        let that = &other.rows[other_at];
+        if !self.is_of_call(row, at - 1) || !other.is_of_call(that, other_at - 1) {
             return false;
         }
-        are_served_alike(row.answer, that.answer) && self.puts_out_alike(row, other, that)
+        are_alike(row, that) && self.puts_out_alike(row, other, that)
+    }
+
+    // Whether a row has the head of the event at a place, which is a call.
+    #[inline(always)]
+    fn is_of_call(&self, row: &Row, at: usize) -> bool
+        requires { at < length (entries self.now) }
+        ensures { (entry : Entry A) → slice_get (entries self.now) at ≡ Some entry → IsTrue result
+            → IsCall entry.event.what × (common_at self.now.inputs.items (head_at self.now.heads.items
+            row.now.head) ≡ common_of entry.event) }
+    {
+        let call = &self.rows[at];
+        call.kind == Kind::Hypercall && call.head == row.head
     }
 
     // Whether an output is kept as one of another history is, but for the zeros at its end.
@@ -182,17 +218,24 @@ impl<A: Allocator> History<A> {
     }
 
     // Adds an event with its reply, for which there is room. The reply comes as its answer and what it
-    // puts out.
+    // puts out. An event that is known to go on with the last event's call is compared with nothing.
     #[inline(always)]
-    pub(crate) fn push(&mut self, event: &Event<A>, answer: Answer, output: OutputRef<'_>)
+    pub(crate) fn push(
+        &mut self,
+        event: &Event<A>,
+        answer: Answer,
+        output: OutputRef<'_>,
+        goes_on: bool,
+    )
         requires room { HasRoomFor 1 (room_of self.old) event.now }
+        requires call { IsTrue goes_on → IsOfLastCall event.now (entries self.old) }
         requires most { length (shown output) ≤ most_output event.now.what }
         requires index { next_in (reply_of answer []) < REPS_END }
         ensures { entries self.new ≡ entries self.old
             ++ record { event = event.now; reply = reply_of answer (shown output.entry) } ∷ [] }
     {
         let asked = numbers_of(&event.what);
-        let head = self.place_head(event.by, asked.r8, input_in(&event.what));
+        let head = self.head_for(event, goes_on);
         let kept = self.place_output(output.bytes);
         self.rows.push_reserved(Row {
             first: asked.first,
@@ -220,14 +263,56 @@ impl<A: Allocator> History<A> {
         ensures room { (more : ℕ) → HasRoomFor (more + 1) (room_of self.old) event.now
             → HasRoomFor more (room_of self.new) event.now }
     {
+        self.push_last_element(event, other, false);
+    }
+
+    /// Adds the last event of another history with its reply, as [`History::push_last`] does. Where it is
+    /// known to go on with this history's last call, it is compared with nothing.
+    #[inline(always)]
+    pub fn push_last_element(&mut self, event: &Event<A>, other: &History<A>, goes_on: bool)
+        requires some { 0 < length (entries other.now) }
+        requires last { (entry : Entry A) → slice_get (entries other.now) (length (entries other.now) - 1)
+            ≡ Some entry → entry.event ≡ event.now }
+        requires room { HasRoomFor 1 (room_of self.old) event.now }
+        requires call { IsTrue goes_on → IsOfLastCall event.now (entries self.old) }
+        ensures pushed { (entry : Entry A) → slice_get (entries other.now) (length (entries other.now) - 1)
+            ≡ Some entry → entries self.new ≡ entries self.old ++ entry ∷ [] }
+        ensures room { (more : ℕ) → HasRoomFor (more + 1) (room_of self.old) event.now
+            → HasRoomFor more (room_of self.new) event.now }
+    {
         let row = &other.rows[other.rows.len() - 1];
-        let head = self.place_head(event.by, r8_in(&event.what), input_in(&event.what));
+        let head = self.head_for(event, goes_on);
         let output = self.place_output(other.output_of(row));
         self.rows.push_reserved(Row {
             output,
             head,
             ..*row
         });
+    }
+
+    // The place of a head for an event: that of the last row, where the event is known to go on with its
+    // call, and else one that is looked for.
+    #[inline(always)]
+    fn head_for(&mut self, event: &Event<A>, goes_on: bool) -> u32
+        requires head { HasHeadFor (room_of self.old) event.now }
+        requires call { IsTrue goes_on → IsOfLastCall event.now (entries self.old) }
+        ensures rows { self.new.rows ≡ self.old.rows }
+        ensures outputs { self.new.outputs ≡ self.old.outputs }
+        ensures heads { take (vec_len self.old.heads) self.new.heads.items ≡ self.old.heads.items }
+        ensures inputs { take (vec_len self.old.inputs) self.new.inputs.items ≡ self.old.inputs.items }
+        ensures there { result < vec_len self.new.heads }
+        ensures by { (head_at self.new.heads.items result).by ≡ event.now.by }
+        ensures r8 { (head_at self.new.heads.items result).r8 ≡ r8_in event.now.what }
+        ensures input { let head = head_at self.new.heads.items result in bytes_at self.new.inputs.items
+            head.input_start head.input_len ≡ input_in event.now.what }
+
+        // There is a head for a further event of the same call.
+        ensures more { HasHeadFor (room_of self.new) event.now }
+    {
+        if goes_on {
+            return self.rows[self.rows.len() - 1].head;
+        }
+        self.place_head(event.by, r8_in(&event.what), input_in(&event.what))
     }
 
     // The place of a head with this caller, R8 and input, which is then the last one: it is, or a new one
@@ -364,6 +449,18 @@ impl<A: Allocator> History<A> {
         let len = head.input_len;
         len == input.len() && (len == 0 || &self.inputs[start..start + len] == input)
     }
+}
+
+// Whether both have the same numbers, and say that what was asked was served and go on alike.
+#[inline(always)]
+fn are_alike(row: &Row, that: &Row) -> bool
+    ensures { IsTrue result → AreAlike row.now that.now }
+{
+    row.first == that.first
+        && row.second == that.second
+        && row.kind == that.kind
+        && row.output_zeros == that.output_zeros
+        && are_served_alike(row.answer, that.answer)
 }
 
 // Whether both say that what was asked was served, and go on alike.

@@ -10,7 +10,7 @@ ghost use Rattle.hv_policy.specs.Next.{GoesOn};
 ghost use Rattle.hv_policy.specs.Result.{HasResult};
 ghost use Rattle.hv_policy.specs.Step.{NamesAsked};
 ghost use Rattle.hv_policy.specs.declared.event.Action.TheVariants.{Hypercall};
-ghost use Rattle.hv_history.specs.History.{HasRoomFor, entries, room_of};
+ghost use Rattle.hv_history.specs.History.{HasRoomFor, IsOfLastCall, entries, room_of};
 ghost use Rattle.hv_history.specs.Justified.{IsJustified, deeds_in, states_in};
 ghost use Rattle.hv_history.specs.Kept.{HasGained, HasStepped, HasTaken, IsRun, Stands};
 ghost use Rattle.hv_history.specs.Row.{most_output};
@@ -99,7 +99,27 @@ impl<A: Allocator + Clone> Kept<A> {
             → IfOk result (λ r. HasResult r.1) }
         ensures next { IfOk result (λ r. GoesOn event.now.what r.1) }
     {
-        match self.take(event) {
+        self.apply_element(event, false)
+    }
+
+    // The same, for an event that may be known to go on with the last event's call.
+    pub(crate) fn apply_element(
+        &mut self,
+        event: &Event<A>,
+        goes_on: bool,
+    ) -> Result<(u64, Reply), HostRefused>
+        requires { IsTrue goes_on → IsOfLastCall event.now self.old.history }
+        ensures applied { IfOk result (λ r. HasGained event.now r.1 self.old self.new) }
+        ensures number { IfOk result (λ r. r.0 ≡ length self.new.history) }
+        ensures run { IsRun self.new }
+        ensures full { IsErrOf result HostRefused.HistoryFull ↔ (length self.old.history ≡ self.old.limit) }
+        ensures refused { OnErr result (self.new ≡ self.old) }
+        ensures asked { IfOk result (λ r. NamesAsked event.now r.1) }
+        ensures result { (frame : Frame A) → event.now.what ≡ Hypercall frame
+            → IfOk result (λ r. HasResult r.1) }
+        ensures next { IfOk result (λ r. GoesOn event.now.what r.1) }
+    {
+        match self.take_element(event, goes_on) {
             Ok(number) => Ok((number, self.last_reply())),
             Err(why) => Err(why),
         }
@@ -126,31 +146,47 @@ impl<A: Allocator + Clone> Kept<A> {
         ensures full { IsErrOf result HostRefused.HistoryFull ↔ (length self.old.history ≡ self.old.limit) }
         ensures refused { OnErr result (self.new ≡ self.old) }
     {
+        self.take_element(event, false)
+    }
+
+    /// Lets an event happen as [`Kept::take`] does. Where it is known to go on with the last event's call,
+    /// as each element of a rep call does after the first, its input is compared with nothing.
+    #[inline(always)]
+    pub fn take_element(&mut self, event: &Event<A>, goes_on: bool) -> Result<u64, HostRefused>
+        requires { IsTrue goes_on → IsOfLastCall event.now self.old.history }
+        ensures taken { OnOk result (HasTaken event.now self.old self.new) }
+        ensures number { IfOk result (λ number. number ≡ length self.new.history) }
+        ensures run { IsRun self.new }
+        ensures full { IsErrOf result HostRefused.HistoryFull ↔ (length self.old.history ≡ self.old.limit) }
+        ensures refused { OnErr result (self.new ≡ self.old) }
+    {
         if self.is_full() {
             return Err(HostRefused::HistoryFull);
         }
         if self.history.reserve(event, 1).is_err() {
             return Err(HostRefused::Memory);
         }
-        let Ok(()) = step_into(&mut self.machine, &mut self.history, event) else {
+        let Ok(()) = step_into(&mut self.machine, &mut self.history, event, goes_on) else {
             return Err(HostRefused::Memory);
         };
         Ok(self.history.len() as u64)
     }
 }
 
-// Lets an event happen to a machine, and adds it with its reply to a history that has room for it. Not
-// inlined, nor is what it does for an access, so that a call makes no room on the stack for the output of
-// one.
+// Lets an event happen to a machine, and adds it with its reply to a history that has room for it. A call
+// that is known to go on with the history's last one is compared with nothing. Not inlined, nor is what it
+// does for an access, so that a call makes no room on the stack for the output of one.
 #[inline(never)]
 fn step_into<A: Allocator + Clone>(
     machine: &mut Machine<A>,
     history: &mut History<A>,
     event: &Event<A>,
+    goes_on: bool,
 ) -> Result<(), AllocError>
     requires stands { Stands machine.old }
     requires count { machine.old.served < MAX_SERVED }
     requires room { HasRoomFor 1 (room_of history.old) event.now }
+    requires call { IsTrue goes_on → IsOfLastCall event.now (entries history.old) }
     ensures stepped { OnOk result (HasStepped event.now machine.old (entries history.old) machine.new
         (entries history.new)) }
     ensures machine { OnErr result (machine.new ≡ machine.old) }
@@ -160,7 +196,7 @@ fn step_into<A: Allocator + Clone>(
         Action::Hypercall(frame) => match machine.hypercall(event.by, frame) {
             Ok(reply) => {
                 let (answer, bytes, len) = reply.parts();
-                history.push(event, answer, OutputRef::of(&bytes[..len]));
+                history.push(event, answer, OutputRef::of(&bytes[..len]), goes_on);
                 Ok(())
             }
             Err(_) => Err(AllocError),
@@ -194,7 +230,7 @@ fn access_into<A: Allocator + Clone>(
     match machine.step(event) {
         Ok(reply) => {
             let (answer, output) = reply.parts();
-            history.push(event, answer, OutputRef::of(output));
+            history.push(event, answer, OutputRef::of(output), false);
             Ok(())
         }
         Err(_) => Err(AllocError),

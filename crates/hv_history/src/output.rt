@@ -1,5 +1,7 @@
 // What an event put out, borrowed.
-ghost use Rattle.std.specs.Prelude.{◌≡◌, ◌+◌, ◌≤◌, ◌↔◌, IsTrue, length};
+ghost use Rattle.std.specs.Prelude.{◌≡◌, ◌+◌, ◌-◌, ◌≤◌, ◌↔◌, IsTrue, length, drop};
+ghost use Rattle.hv_defs.specs.Slot.{zeros};
+ghost use Rattle.hv_history.specs.declared.output.TheConstants.{MANY};
 
 use crate::row::IN_ROW;
 use hv_machine::Output;
@@ -15,6 +17,9 @@ pub struct OutputRef<'h> {
     ghost most: { length bytes.now + zeros ≤ 256 },
 }
 
+// How many zeros are cut off at once.
+const MANY: usize = 8;
+
 impl<'h> OutputRef<'h> {
     ghost use Rattle.hv_history.specs.Output.{shown};
 
@@ -27,6 +32,9 @@ impl<'h> OutputRef<'h> {
             return OutputRef { bytes, zeros: 0 };
         }
         let mut len = bytes.len();
+        while ends_in_zeros(&bytes[..len]) {
+            len -= MANY;
+        }
         while len > 0 && bytes[len - 1] == 0 {
             len -= 1;
         }
@@ -65,5 +73,17 @@ impl<'h> OutputRef<'h> {
         let output = self.to_output();
         let other_output = other.to_output();
         output.as_slice() == other_output.as_slice()
+    }
+}
+
+// Whether there are so many bytes, and the last are zeros.
+#[inline(always)]
+fn ends_in_zeros(bytes: &[u8]) -> bool
+    ensures enough { IsTrue result → MANY ≤ length bytes.now }
+    ensures zeros { IsTrue result → drop (length bytes.now - MANY) bytes.now ≡ zeros MANY }
+{
+    match bytes.last_chunk::<MANY>() {
+        Some(last) => u64::from_le_bytes(*last) == 0,
+        None => false,
     }
 }

@@ -43,7 +43,7 @@ impl<A: Allocator + Clone> Kept<A> {
         };
         let mut events = 0;
         loop {
-            let reply = match self.apply(&event) {
+            let reply = match self.apply_element(&event, 0 < events) {
                 Ok((_, reply)) => reply,
                 Err(why) => {
                     return RunDone {

@@ -1,22 +1,22 @@
-use Rattle.std.proofs.Common.{◌≡◌, ℕ, vec_capacity, ap, refl, ◌∙◌, arith, length-append}
+use Rattle.std.proofs.Common.{◌≡◌, ℕ, vec_capacity, ap, refl, sym, ◌∙◌, arith, length-append}
 use Rattle.std.proofs.Math.Nat.{suc-mul}
 use Rattle.std.proofs.lemmas.List.{length-replicate}
 use Rattle.std.specs.Vec.{vec_len}
 use Rattle.hv_defs.specs.Slot.{zeros}
-use Rattle.hv_history.proofs.Rooms.{for_head, same_most}
+use Rattle.hv_history.proofs.Rooms.{same_most}
 use Rattle.hv_history.proofs.Rows.{grown, placed_more, pushed}
 use Rattle.hv_history.specs.Output.{shown}
 use Rattle.hv_history.specs.Row.{action_of, asked_in, head_at, input_in, most_output}
 use Rattle.hv_policy.specs.Parts.{reply_of}
 use Rattle.hv_history.proofs.row.History.push.Goals as goal
 
-pub place_head-head-requires : goal.place_head-head-requires
-place_head-head-requires g c = rw (c.numbers_of-asked.ensures.r8, c.input_in.ensures) (for_head c.args.self.now c.args.event.now c.requires.room)
+pub head_for-head-requires-clause-head : goal.head_for-head-requires-clause-head
+head_for-head-requires-clause-head g c = c.requires.room.head (omega arith)
 
 pub place_output-kept-requires : goal.place_output-kept-requires
 place_output-kept-requires g c =
     let h = c.args.self.now in
-    let head = c.place_head-head.ensures in
+    let head = c.head_for-head.ensures in
     let outputs = ap vec_len head.outputs in
     let outputs_room = ap vec_capacity head.outputs in
     let room = c.requires.room.outputs in
@@ -29,13 +29,13 @@ pub invariant_of-self-clause-placed : goal.invariant_of-self-clause-placed
 invariant_of-self-clause-placed g c =
     let h = c.args.self.now in
     let event = c.args.event.now in
-    let head = c.place_head-head.ensures in
+    let head = c.head_for-head.ensures in
     let output = c.place_output-kept.ensures in
     let outputs = rw head.outputs at output.outputs in
-    let len : vec_len c.place_output-kept.new.self.heads ≡ vec_len c.place_head-head.new.self.heads = ap vec_len output.heads in
-    let heads_more = grown _ _ h.heads.items c.place_head-head.new.self.heads.items h.heads.ok.0 c.place_head-head.new.self.heads.ok.0 head.heads in
+    let len : vec_len c.place_output-kept.new.self.heads ≡ vec_len c.head_for-head.new.self.heads = ap vec_len output.heads in
+    let heads_more = grown _ _ h.heads.items c.head_for-head.new.self.heads.items h.heads.ok.0 c.head_for-head.new.self.heads.ok.0 head.heads in
     let outputs_more = grown _ _ h.outputs.items c.place_output-kept.new.self.outputs.items h.outputs.ok.0 c.place_output-kept.new.self.outputs.ok.0 outputs in
-    let last = head.last in
+    let there = head.there in
     rw (c.push_reserved.ensures.items, output.rows, head.rows)
     (placed_more _ _ _ _ h.rows.items _ (omega arith) outputs_more h.placed (record {
       head = omega arith;
@@ -49,12 +49,12 @@ returns g c =
     let h = c.args.self.now in
     let event = c.args.event.now in
     let asked = c.numbers_of-asked.result in
-    let head = c.place_head-head.ensures in
+    let head = c.head_for-head.ensures in
     let output = c.place_output-kept.ensures in
     let outputs = rw head.outputs at output.outputs in
-    let input = head.input ∙ c.input_in.ensures in
-    let what : action_of (asked_in asked.kind asked.first asked.second (head_at c.place_head-head.new.self.heads.items c.place_head-head.result).r8) (input_in event.what) ≡ event.what =
-    ap (λ r8. action_of (asked_in asked.kind asked.first asked.second r8) (input_in event.what)) head.r8 ∙ c.numbers_of-asked.ensures.what in
+    let input = head.input in
+    let what : action_of (asked_in asked.kind asked.first asked.second (head_at c.head_for-head.new.self.heads.items c.head_for-head.result).r8) (input_in event.what) ≡ event.what =
+    ap (λ r8. action_of (asked_in asked.kind asked.first asked.second r8) (input_in event.what)) (head.r8 ∙ sym c.numbers_of-asked.ensures.r8) ∙ c.numbers_of-asked.ensures.what in
     rw (c.push_reserved.ensures.items, output.rows, output.heads, output.inputs, head.rows)
     (pushed _ _ _ h.heads.items _ h.inputs.items _ h.outputs.items _ _ _ event (reply_of c.args.answer (shown c.args.output)) _ _ h.heads.ok.0 h.inputs.ok.0 h.outputs.ok.0
     head.heads head.inputs outputs h.within h.placed head.by input what output.placed refl)

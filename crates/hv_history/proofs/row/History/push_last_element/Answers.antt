@@ -1,19 +1,19 @@
-use Rattle.std.proofs.Common.{◌≡◌, ◌<◌, ◌+◌, ◌-◌, ◌++◌, [], ◌∷◌, ℕ, List, Some, inl, length, vec_capacity, ap, refl, subst, sym, ◌∙◌, arith}
+use Rattle.std.proofs.Common.{◌≡◌, ◌<◌, ◌+◌, ◌-◌, ◌++◌, [], ◌∷◌, ℕ, List, Some, inl, inr, length, vec_capacity, ap, refl, subst, sym, ◌∙◌, arith}
 use Rattle.std.proofs.lemmas.List.{length-map}
 use Rattle.std.proofs.Math.Nat.{suc-mul}
 use Rattle.std.specs.Vec.{vec_len}
 use Rattle.hv_defs.specs.Slot.{zeros}
 use Rattle.hv_policy.specs.Parts.{reply_of}
 use Rattle.hv_policy.specs.declared.event.Event.{Event}
-use Rattle.hv_history.proofs.Rooms.{for_head, has_last, same_most}
+use Rattle.hv_history.proofs.Rooms.{same_most}
 use Rattle.hv_history.proofs.Rows.{asks, grown, last_is, placed_more, pushed}
 use Rattle.hv_history.specs.History.{entries}
 use Rattle.hv_history.specs.Row.{IsPlaced, IsThere, action_of, asked_in, bytes_at, entry_of, head_at, input_in, most_of, most_output, output_at, r8_in}
 use Rattle.hv_history.specs.declared.entry.Entry.{Entry}
-use Rattle.hv_history.proofs.row.History.push_last.Goals as goal
+use Rattle.hv_history.proofs.row.History.push_last_element.Goals as goal
 
-pub place_head-head-requires : goal.place_head-head-requires
-place_head-head-requires g c = rw (c.r8_in.ensures, c.input_in.ensures) (for_head c.args.self.now c.args.event.now c.requires.room)
+pub head_for-head-requires-clause-head : goal.head_for-head-requires-clause-head
+head_for-head-requires-clause-head g c = c.requires.room.head (omega arith)
 
 pub place_output-output-requires : goal.place_output-output-requires
 place_output-output-requires g c =
@@ -21,7 +21,7 @@ place_output-output-requires g c =
     let o = c.args.other.now in
     let event = c.args.event.now in
     let row = c.index-row.result.now in
-    let head = c.place_head-head.ensures in
+    let head = c.head_for-head.ensures in
     let outputs = ap vec_len head.outputs in
     let outputs_room = ap vec_capacity head.outputs in
     let room = c.requires.room.outputs in
@@ -42,13 +42,13 @@ invariant_of-self-clause-placed g c =
     let h = c.args.self.now in
     let o = c.args.other.now in
     let row = c.index-row.result.now in
-    let head = c.place_head-head.ensures in
+    let head = c.head_for-head.ensures in
     let output = c.place_output-output.ensures in
     let outputs = rw head.outputs at output.outputs in
-    let len : vec_len c.place_output-output.new.self.heads ≡ vec_len c.place_head-head.new.self.heads = ap vec_len output.heads in
-    let heads_more = grown _ _ h.heads.items c.place_head-head.new.self.heads.items h.heads.ok.0 c.place_head-head.new.self.heads.ok.0 head.heads in
+    let len : vec_len c.place_output-output.new.self.heads ≡ vec_len c.head_for-head.new.self.heads = ap vec_len output.heads in
+    let heads_more = grown _ _ h.heads.items c.head_for-head.new.self.heads.items h.heads.ok.0 c.head_for-head.new.self.heads.ok.0 head.heads in
     let outputs_more = grown _ _ h.outputs.items c.place_output-output.new.self.outputs.items h.outputs.ok.0 c.place_output-output.new.self.outputs.ok.0 outputs in
-    let last = head.last in
+    let there = head.there in
     let some = c.requires.some in
     let less : c.len.result - 1 < length o.rows.items = omega (arith, length-map o.rows.items (entry_of {A = g.row.A.Denot} o.heads.items o.inputs.items o.outputs.items)) in
     let is = subst (IsPlaced (vec_len o.heads) (vec_len o.outputs)) (sym c.index-row.ensures) (o.placed (c.len.result - 1) row less) in
@@ -66,7 +66,7 @@ returns-clause-pushed g c = λ entry is.
     let o = c.args.other.now in
     let event = c.args.event.now in
     let row = c.index-row.result.now in
-    let head = c.place_head-head.ensures in
+    let head = c.head_for-head.ensures in
     let output = c.place_output-output.ensures in
     let outputs = rw head.outputs at output.outputs in
     let some = c.requires.some in
@@ -76,9 +76,9 @@ returns-clause-pushed g c = λ entry is.
     let entry_is : entry ≡ entry_of o.heads.items o.inputs.items o.outputs.items row = cc in
     let event_is = c.requires.last entry is in
     let what = ap (λ (e : Event g.row.A.Denot). e.what) last.1 in
-    let asked : action_of (asked_in row.kind row.first row.second (head_at c.place_head-head.new.self.heads.items c.place_head-head.result).r8) (input_in event.what) ≡ event.what =
-    ap (λ r8. action_of (asked_in row.kind row.first row.second r8) (input_in event.what)) (head.r8 ∙ c.r8_in.ensures) ∙ asks _ _ _ _ _ event.what what in
-    let input = head.input ∙ c.input_in.ensures in
+    let asked : action_of (asked_in row.kind row.first row.second (head_at c.head_for-head.new.self.heads.items c.head_for-head.result).r8) (input_in event.what) ≡ event.what =
+    ap (λ r8. action_of (asked_in row.kind row.first row.second r8) (input_in event.what)) head.r8 ∙ asks _ _ _ _ _ event.what what in
+    let input = head.input in
     let out : List ℕ = output_at o.outputs.items row.output row.output_len in
     let puts : output_at c.place_output-output.new.self.outputs.items c.place_output-output.result row.output_len ≡ out =
     ap (output_at c.place_output-output.new.self.outputs.items c.place_output-output.result) (sym c.output_of.ensures.len) ∙ output.placed ∙ c.output_of.ensures.bytes in
@@ -95,7 +95,7 @@ returns-clause-room g c = λ more room.
     let o = c.args.other.now in
     let event = c.args.event.now in
     let row = c.index-row.result.now in
-    let head = c.place_head-head.ensures in
+    let head = c.head_for-head.ensures in
     let output = c.place_output-output.ensures in
     let rows = ap vec_len output.rows ∙ ap vec_len head.rows in
     let rows_room = ap vec_capacity output.rows ∙ ap vec_capacity head.rows in
@@ -120,7 +120,8 @@ returns-clause-room g c = λ more room.
     record {
       rows = omega arith;
       outputs = omega arith;
-      head = λ _. inl (rw (output.heads, output.inputs)
-          (has_last c.place_head-head.new.self.heads.items c.place_head-head.new.self.inputs.items c.place_head-head.result event.by (r8_in event.what) (input_in event.what)
-          (head.last ∙ c.place_head-head.new.self.heads.ok.0) head.by (head.r8 ∙ c.r8_in.ensures) (head.input ∙ c.input_in.ensures)));
+      head = λ _. rw (output.heads, output.inputs) (elim head.more [
+        | inl last ↦ inl last
+        | inr free ↦ inr (record { heads = free.heads; places = free.places; inputs = free.inputs })
+      ]);
     }

@@ -1,8 +1,8 @@
-use Rattle.std.proofs.Common.{subst, arith}
-use Rattle.hv_history.specs.History.{entries}
+use Rattle.std.proofs.Common.{ap, arith, subst, sym, ◌∙◌}
+use Rattle.hv_history.specs.History.{IsOfLastCall, entries}
 use Rattle.hv_history.specs.Kept.{HasStepped, HasTaken, Kept}
 use Rattle.hv_history.proofs.Runs.{few, has_taken, is_run, new_of, room}
-use Rattle.hv_history.proofs.kept.Kept.take.Goals as goal
+use Rattle.hv_history.proofs.kept.Kept.take_element.Goals as goal
 
 pub step_into-requires-clause-count : goal.step_into-requires-clause-count
 step_into-requires-clause-count g c =
@@ -29,3 +29,6 @@ returns-clause-taken g c =
     subst (λ es. HasStepped c.args.event.now k.machine es c.step_into.new.machine (entries c.step_into.new.history)) c.reserve.ensures.same c.in-Ok.ensures.stepped in
     subst (λ old. HasTaken c.args.event.now old (new_of k c.args.event.now c.step_into.new.machine (entries c.step_into.new.history) took)) c.self.view_is
     (has_taken k c.args.event.now _ _ took c.self.invariant)
+
+pub step_into-requires-clause-call : goal.step_into-requires-clause-call
+step_into-requires-clause-call g c = λ on. subst (IsOfLastCall c.args.event.now) (sym (ap (λ (k : Kept g.row.A.Denot). k.history) c.self.view_is) ∙ sym c.reserve.ensures.same) (c.requires on)
