@@ -6,9 +6,10 @@ use Rattle.std.proofs.lemmas.List.{length-append, length-map, map-append}
 use Rattle.std.specs.declared.alloc.Global.{Global}
 use Rattle.hv_abi.specs.declared.frame.Frame.{Frame}
 use Rattle.hv_defs.specs.declared.sizes.TheConstants.{REPS_END}
-use Rattle.hv_history.proofs.Elements.{elements-push, goes_after}
+use Rattle.hv_history.proofs.Elements.{elements-push, goes_after, of_last}
+use Rattle.hv_history.specs.History.{IsOfLastCall}
 use Rattle.hv_history.specs.Kept.{HasGained, Kept}
-use Rattle.hv_history.specs.Row.{most_output}
+use Rattle.hv_history.specs.Row.{IsCall, most_output}
 use Rattle.hv_history.specs.Run.{AreElements as AreAsked, IsMore, element, restart, start_of}
 use Rattle.hv_history.specs.declared.entry.Entry.{Entry}
 use Rattle.hv_policy.specs.Next.{GoesOn}
@@ -25,7 +26,7 @@ use Rattle.hv_policy.specs.declared.reply.Reply.TheVariants.{More}
 use Rattle.hv_shared.specs.Drive.{AreElements, entry_in}
 use Rattle.hv_shared.specs.Held.{IsHeld}
 use Rattle.hv_shared.specs.HeldValue.{HeldValue}
-use Rattle.hv_shared.specs.Hold.{AreNumbered, HasHeld, HasHeldFor, HasHeldPart, HasHeldRun, HasHeldTo, HasHeldUpTo, IsCall}
+use Rattle.hv_shared.specs.Hold.{AreNumbered, HasHeld, HasHeldFor, HasHeldPart, HasHeldRun, HasHeldTo, HasHeldUpTo}
 use Rattle.hv_shared.specs.Pass.{HasReceipt, HasReceipts, receipt}
 use Rattle.hv_shared.specs.PassValue.{PassValue}
 use Rattle.hv_shared.specs.Room.{HasRoom, HasUsedOne, Room}
@@ -104,6 +105,24 @@ module _ (frame : Frame Global) (event : Event Global) (left most : ℕ) (old no
 
   pub room_here : HasRoom 1 told.room event
   room_here = room_one left told.room event some_left is.room
+
+  -- it goes on with the call of the last event
+  pub last_event : left < most → IsOfLastCall event now.kept.history
+  last_event fewer =
+      let rest = is.rest in
+      subst (λ (e : Event Global). IsOfLastCall e now.kept.history) (sym is.event_is)
+      (subst (IsOfLastCall (element pass.caller is.at)) (sym is.so_far.held.history)
+      (of_last pass.caller frame (map entry_in is.so_far.before) is.at is.so_far.elements (omega (arith, length-map is.so_far.before entry_in)) old.kept.history))
+
+  -- and of the last receipt
+  pub last_receipt : left < most → IsOfLastCall event (map entry_in told.receipts)
+  last_receipt fewer =
+      let rest = is.rest in
+      let receipts : map entry_in told.receipts ≡ map entry_in pass.receipts ++ map entry_in is.so_far.before =
+      ap (map entry_in) is.so_far.held.gained.receipts ∙ map-append entry_in pass.receipts is.so_far.before in
+      subst (λ (e : Event Global). IsOfLastCall e (map entry_in told.receipts)) (sym is.event_is)
+      (subst (IsOfLastCall (element pass.caller is.at)) (sym receipts)
+      (of_last pass.caller frame (map entry_in is.so_far.before) is.at is.so_far.elements (omega (arith, length-map is.so_far.before entry_in)) (map entry_in pass.receipts)))
 
   -- the host refused it
   pub refused : (last : Frame Global) → last ≡ is.at → (new : HeldValue) (after : PassValue) → new ≡ now → after ≡ told → HasHeldUpTo frame last most old new pass after

@@ -1,16 +1,17 @@
 -- What stands in packed receipts.
-use Rattle.std.proofs.Common.{◌≡◌, ℕ, suc, zero, Some, ◌<◌, ◌≤◌, ◌==◌, List, [], ◌∷◌, ◌++◌, length, drop, get_or, false, refl, sym, ap, subst, ◌∙◌, ◌+◌, arith}
+use Rattle.std.proofs.Common.{◌≡◌, ℕ, suc, zero, Some, ◌<◌, ◌≤◌, ◌==◌, List, [], ◌∷◌, ◌++◌, length, drop, get_or, false, refl, sym, ap, subst, ◌∙◌, ◌+◌, ◌-◌, arith}
 use Rattle.std.proofs.lemmas.List.{drop_all, length-append}
 use Rattle.std.proofs.lemmas.List.Elements.{All-push}
 use Rattle.std.proofs.lemmas.Option.{slice_get-get_or}
 use Rattle.std.specs.List.{slice_get}
-use Rattle.std.specs.Prelude.{option_map}
+use Rattle.std.specs.Prelude.{map, option_map}
 use Rattle.std.specs.declared.alloc.Global.{Global}
 use Rattle.hv_history.specs.declared.entry.Entry.{Entry}
 use Rattle.hv_policy.specs.declared.event.Caller.{Caller}
 use Rattle.hv_policy.specs.declared.event.Event.{Event}
 use Rattle.hv_policy.specs.declared.reply.Reply.{Reply}
-use Rattle.hv_shared.specs.Merge.{IsOf, next_is}
+use Rattle.hv_shared.specs.Drive.{entry_in}
+use Rattle.hv_shared.specs.Merge.{AreAlikeBefore, IsOf, next_is}
 use Rattle.hv_shared.specs.Pass.{receipt}
 use Rattle.hv_shared.specs.PassValue.{IsPass}
 use Rattle.hv_shared.specs.Receipts.{receipt_of, receipts_from}
@@ -40,6 +41,13 @@ more [] [] n e same = refl
 more [] (d ∷ es) n e same = cc
 more (m ∷ ns) [] n e same = cc
 more (m ∷ ns) (d ∷ es) n e same = ap (λ (rs : List Receipt). receipt_of m d ∷ rs) (more ns es n e (omega (arith, same)))
+
+-- the entries of receipts are those that they are packed as
+pub entries_in : (ns : List ℕ) (es : List (Entry Global)) → length ns ≡ length es → map entry_in (receipts_from ns es) ≡ es
+entries_in [] [] same = refl
+entries_in [] (e ∷ es) same = cc
+entries_in (n ∷ ns) [] same = cc
+entries_in (n ∷ ns) (e ∷ es) same = ap (λ (xs : List (Entry Global)). e ∷ xs) (entries_in ns es (omega (arith, same)))
 
 pub past_all : (rs : List Receipt) (k : ℕ) → length rs ≤ k → drop k rs ≡ []
 past_all rs k past = drop_all k rs past
@@ -78,6 +86,14 @@ pub there_is : (es : List (Entry Global)) (k : ℕ) → k < length es → (e : E
 there_is [] k less = absurd (omega arith)
 there_is (e ∷ es) zero less = (e, refl)
 there_is (e ∷ es) (suc k) less = there_is es k (omega arith)
+
+-- the packed entry before a place is that of the history before another, where the receipt is of it
+pub before_is : (ns : List ℕ) (es history : List (Entry Global)) (k n : ℕ) → length ns ≡ length es → k < length es → n < length history → AreAlikeBefore history n (receipts_from ns es) k → slice_get es (k - 1) ≡ slice_get history (n - 1)
+before_is ns es history k n same less there alike =
+    let some = alike.receipt in
+    let first = alike.entry in
+    let e = there_is history (n - 1) (omega arith) in
+    (next_is_of ns es (k - 1) e.0 same (omega arith)).1 (alike.same e.0 e.1) ∙ sym e.1
 
 pub none_next : (rs : List Receipt) (k : ℕ) (e : Entry Global) → length rs ≤ k → IsOf e (drop k rs) → ⊥
 none_next rs k e past is = subst (IsOf e) (past_all rs k past) is

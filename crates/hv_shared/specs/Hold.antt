@@ -8,8 +8,7 @@ use Rattle.hv_policy.specs.Parts.{reply_of}
 use Rattle.hv_policy.specs.Result.{HasResult}
 use Rattle.hv_policy.specs.Step.{NamesAsked}
 use Rattle.hv_policy.specs.declared.answer.Answer.{Answer}
-use Rattle.hv_policy.specs.declared.event.Action.{Action}
-use Rattle.hv_policy.specs.declared.event.Action.TheVariants.{Hypercall, ReadMsr, WriteMsr, ReadSlot, ClearSlot, ReadFlags, ClearFlag, TakeInterrupt}
+use Rattle.hv_policy.specs.declared.event.Action.TheVariants.{Hypercall}
 use Rattle.hv_policy.specs.declared.reply.Reply.{Reply}
 use Rattle.hv_shared.specs.Drive.{AreElements, entry_in}
 use Rattle.hv_shared.specs.HeldValue.{HeldValue}
@@ -21,16 +20,6 @@ use Rattle.hv_shared.specs.declared.receipts.Receipt.{Receipt}
 abbrev pub AreNumbered : ℕ → List Receipt → Type 0
 AreNumbered n [] = Unit {0}
 AreNumbered n (r ∷ rs) = (r.number ≡ n) × AreNumbered (n + 1) rs
-
-abbrev pub IsCall : Action Global → Type 0
-IsCall (Hypercall frame) = Unit {0}
-IsCall (ReadMsr msr) = ⊥
-IsCall (WriteMsr msr value) = ⊥
-IsCall (ReadSlot sint) = ⊥
-IsCall (ClearSlot sint) = ⊥
-IsCall (ReadFlags sint) = ⊥
-IsCall (ClearFlag sint flag) = ⊥
-IsCall TakeInterrupt = ⊥
 
 -- the pass has these receipts more, and the history just their entries, under their numbers; all are counted
 pub record HasHeld (more : List Receipt) (old new : HeldValue) (pass told : PassValue) : Type 0 where

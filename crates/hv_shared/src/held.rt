@@ -1,18 +1,19 @@
 // What the lock holds, what each thread holds, and the one step that changes both. The fields of `Held`
 // and `Pass` are private to this file.
 ghost use Rattle.std.specs.Prelude.{◌≡◌, ◌<◌, ◌≤◌, ◌+◌, ◌++◌, [], ◌∷◌, ℕ, List, IsTrue, ◌↔◌, IfOk, OnOk};
-ghost use Rattle.std.specs.Prelude.{OnErr, IsErrOf, IfErr, Some, length, slice_get, vec_len};
+ghost use Rattle.std.specs.Prelude.{OnErr, IsErrOf, IfErr, Some, length, map, slice_get, vec_len};
 ghost use Rattle.hv_abi.specs.declared.frame.Frame.{Frame};
 ghost use Rattle.hv_policy.specs.Next.{GoesOn};
 ghost use Rattle.hv_policy.specs.Result.{HasResult};
 ghost use Rattle.hv_policy.specs.Step.{NamesAsked};
 ghost use Rattle.hv_policy.specs.declared.event.Action.TheVariants.{Hypercall};
-ghost use Rattle.hv_history.specs.History.{entries};
+ghost use Rattle.hv_history.specs.History.{IsOfLastCall, entries};
 ghost use Rattle.hv_history.specs.Kept.{HasGained, IsRun};
 ghost use Rattle.hv_history.specs.declared.entry.Entry.{Entry};
+ghost use Rattle.hv_shared.specs.Drive.{entry_in};
 ghost use Rattle.hv_shared.specs.Due.{IsDueAfter};
 ghost use Rattle.hv_shared.specs.Held.{IsHeld};
-ghost use Rattle.hv_shared.specs.Merge.{rest_of, IsOf};
+ghost use Rattle.hv_shared.specs.Merge.{AreAlikeBefore, IsOf, rest_of};
 ghost use Rattle.hv_shared.specs.Pass.{HasReceipt, IsAsBefore};
 ghost use Rattle.hv_shared.specs.Receipts.{list_of};
 ghost use Rattle.hv_shared.specs.Room.{HasRoom};
@@ -59,7 +60,8 @@ impl<L: Ledger> Model for Pass<L> {
     ghost invariant = { λ p. IsPass p.caller (list_of p.receipts) p.share.parts p.share.amount };
 }
 
-/// What the lock holds: the machine with its history, and the count of the history's events.
+/// What the lock of a [`Shared`](crate::Shared) holds: the machine with its history, and the count of the
+/// history's events. Who has one thread, or one lock of his own, uses it without a `Shared`.
 #[derive(Drop)]
 pub struct Held<L: Ledger> {
     kept: Kept<Global>,
@@ -139,14 +141,17 @@ impl<L: Ledger> Pass<L> {
         self.due
     }
 
-    // Whether the next receipt has the event and the reply at this place of a history.
-    pub(crate) fn agrees(&self, history: &History<Global>, at: usize) -> bool
-        requires { at < length (entries history.now) }
+    // Whether the next receipt has the event and the reply at this place of a history. `is_after` says that
+    // the receipt before it is known to have those at the place before.
+    pub(crate) fn agrees(&self, history: &History<Global>, at: usize, is_after: bool) -> bool
+        requires place { at < length (entries history.now) }
+        requires after { IsTrue is_after → AreAlikeBefore (entries history.now) at self.now.receipts
+            self.now.settled }
         ensures { (entry : Entry Global) → slice_get (entries history.now) at ≡ Some entry
             → (IsTrue result ↔ IsOf entry (rest_of self.now)) }
     {
         if self.settled < self.receipts.len() {
-            self.receipts.is_of(self.settled, history, at)
+            self.receipts.is_of(self.settled, history, at, is_after)
         } else {
             false
         }
@@ -214,12 +219,33 @@ impl<L: Ledger> Pass<L> {
 }
 
 impl<L: Ledger> Held<L> {
-    // Lets an event happen and keeps its receipt, without a lock.
-    pub(crate) fn hold(
-        &mut self,
-        pass: &mut Pass<L>,
-        event: &Event<Global>,
-    ) -> Result<Reply, HostRefused>
+    /// A machine to which nothing happened yet, and a pass for each caller, in order. The blank has as many
+    /// parts as there are callers. For want of memory the machine comes back.
+    pub fn open(
+        kept: Kept<Global>,
+        blank: Blank,
+        callers: Vec<Caller>,
+    ) -> Result<(Held<L>, Vec<Pass<L>>), Kept<Global>>
+        requires empty { kept.history ≡ [] }
+        requires ledger { (blank.name ≡ L.name) × (blank.parts ≡ L.parts) × (blank.parts ≡ vec_len callers) }
+        ensures held { IfOk result (λ r. (r.0.kept ≡ kept) × (r.0.count ≡ 0)) }
+        ensures passes { IfOk result (λ r. AreOpened callers.items r.1.items) }
+        ensures back { IfErr result (λ k. k ≡ kept) }
+    {
+        let mut passes = Vec::new(*callers.allocator());
+        if passes.reserve(callers.len()).is_err() {
+            return Err(kept);
+        }
+        let (count, mut rest) = blank.open::<L>();
+        for i in 0..callers.len() {
+            let share = rest.split_off(1, 0);
+            passes.push_reserved(Pass::open(*callers.allocator(), callers[i], share));
+        }
+        Ok((Held { kept, count }, passes))
+    }
+
+    /// Lets an event by the pass's caller happen and keeps its receipt, for which there is room.
+    pub fn hold(&mut self, pass: &mut Pass<L>, event: &Event<Global>) -> Result<Reply, HostRefused>
         requires by { event.now.by ≡ pass.old.caller }
         requires room { HasRoom 1 pass.old.room event.now }
 
@@ -242,22 +268,26 @@ impl<L: Ledger> Held<L> {
         ensures result { (frame : Frame Global) → event.now.what ≡ Hypercall frame → IfOk result HasResult }
         ensures next { IfOk result (λ r. GoesOn event.now.what r) }
     {
-        match self.take(pass, event) {
+        match self.take(pass, event, false) {
             Ok(_) => Ok(pass.last_reply()),
             Err(why) => Err(why),
         }
     }
 
     // Lets an event happen as `hold` does, and answers its reply without the output, which stands in the
-    // pass's receipt.
+    // pass's receipt. `goes_on` says that it is known to go on with the call of the last event, which is
+    // also that of the pass's last receipt.
     #[inline(always)]
     pub(crate) fn take(
         &mut self,
         pass: &mut Pass<L>,
         event: &Event<Global>,
+        goes_on: bool,
     ) -> Result<Answer, HostRefused>
         requires by { event.now.by ≡ pass.old.caller }
         requires room { HasRoom 1 pass.old.room event.now }
+        requires call { IsTrue goes_on → IsOfLastCall event.now self.old.kept.history }
+        requires told { IsTrue goes_on → IsOfLastCall event.now (map entry_in pass.old.receipts) }
         ensures held { IfOk result (λ answer. IsHeld event.now answer self.old.kept self.new.kept pass.old
             pass.new) }
         ensures count { OnOk result (self.new.count ≡ self.old.count + 1) }
@@ -267,16 +297,23 @@ impl<L: Ledger> Held<L> {
         ensures refused { OnErr result (self.new ≡ self.old) }
         ensures pass { OnErr result (pass.new ≡ pass.old) }
     {
-        match self.kept.take(event) {
+        match self.kept.take_element(event, goes_on) {
             Ok(number) => {
                 self.count.add(&mut pass.share, 1);
                 let history = self.kept.history();
                 let entry = history.entry(history.len() - 1);
-                pass.receipts.push(number, event, history);
+                pass.receipts.push(number, event, history, goes_on);
                 Ok(entry.answer)
             }
             Err(why) => Err(why),
         }
+    }
+
+    /// The machine with its history.
+    pub fn into_kept(self) -> Kept<Global>
+        ensures { result ≡ self.kept }
+    {
+        self.kept
     }
 
     pub(crate) fn into_parts(self) -> (Kept<Global>, Book<L>)
@@ -285,28 +322,4 @@ impl<L: Ledger> Held<L> {
     {
         (self.kept, self.count)
     }
-}
-
-// What the lock holds at first, and a pass for each caller. For want of memory the history comes back.
-pub(crate) fn open<L: Ledger>(
-    kept: Kept<Global>,
-    blank: Blank,
-    callers: Vec<Caller>,
-) -> Result<(Held<L>, Vec<Pass<L>>), Kept<Global>>
-    requires empty { kept.history ≡ [] }
-    requires ledger { (blank.name ≡ L.name) × (blank.parts ≡ L.parts) × (blank.parts ≡ vec_len callers) }
-    ensures held { IfOk result (λ r. (r.0.kept ≡ kept) × (r.0.count ≡ 0)) }
-    ensures passes { IfOk result (λ r. AreOpened callers.items r.1.items) }
-    ensures back { IfErr result (λ k. k ≡ kept) }
-{
-    let mut passes = Vec::new(*callers.allocator());
-    if passes.reserve(callers.len()).is_err() {
-        return Err(kept);
-    }
-    let (count, mut rest) = blank.open::<L>();
-    for i in 0..callers.len() {
-        let share = rest.split_off(1, 0);
-        passes.push_reserved(Pass::open(*callers.allocator(), callers[i], share));
-    }
-    Ok((Held { kept, count }, passes))
 }

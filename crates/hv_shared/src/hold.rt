@@ -2,9 +2,10 @@
 ghost use Rattle.std.specs.Prelude.{◌≡◌, ◌<◌, ◌↔◌, IfOk, OnErr, IfErr, length};
 ghost use Rattle.hv_abi.specs.declared.frame.Frame.{Frame};
 ghost use Rattle.hv_history.specs.Kept.{IsRun};
+ghost use Rattle.hv_history.specs.Row.{IsCall};
 ghost use Rattle.hv_history.specs.Run.{element};
 ghost use Rattle.hv_policy.specs.declared.event.Action.TheVariants.{Hypercall};
-ghost use Rattle.hv_shared.specs.Hold.{HasHeldFor, HasHeldPart, HasHeldRun, HasHeldUpTo, IsCall};
+ghost use Rattle.hv_shared.specs.Hold.{HasHeldFor, HasHeldPart, HasHeldRun, HasHeldUpTo};
 ghost use Rattle.hv_shared.specs.Room.{HasRoom};
 
 use crate::drive::next_of;
@@ -56,7 +57,7 @@ impl<L: Ledger> Held<L> {
         };
         let mut left = most;
         loop {
-            let answer = match self.take(pass, &event) {
+            let answer = match self.take(pass, &event, left < most) {
                 Ok(answer) => answer,
                 Err(why) => return (frame_of(event), Err(why)),
             };
@@ -71,14 +72,9 @@ impl<L: Ledger> Held<L> {
         }
     }
 
-    // Lets the elements of a call by the pass's caller happen as `Kept::apply_run` does, and keeps their
-    // receipts, without a lock.
-    pub(crate) fn hold_run(
-        &mut self,
-        pass: &mut Pass<L>,
-        frame: Frame<Global>,
-        most: u32,
-    ) -> RunDone
+    /// Lets the elements of a call by the pass's caller happen as [`Kept::apply_run`](hv_history::Kept) does,
+    /// and keeps their receipts, for which there is room.
+    pub fn hold_run(&mut self, pass: &mut Pass<L>, frame: Frame<Global>, most: u32) -> RunDone
         requires some { 0 < most }
         requires room { HasRoom most pass.old.room (element pass.old.caller frame) }
         ensures held { IfOk result.last (λ reply. HasHeldRun frame reply result.events most self.old

@@ -2,9 +2,9 @@
 //!
 //! A [`Shared`] is a lock round a machine with its history ([`Held`]). Each thread has a [`Pass`]: its
 //! caller, a receipt of each event that it made happen, and its share of the count of all events. Only a
-//! step of [`Held`] adds an event, a receipt and to the count. [`settle`] compares the history with all
-//! receipts, and is Ok exactly where the history is a merge of them (`IsMerge` in `specs/`). Passes and
-//! gates are this project's own.
+//! step of [`Held`] adds an event, a receipt and to the count; who has one thread, or a lock of his own,
+//! uses a [`Held`] alone. [`settle`] compares the history with all receipts, and is Ok exactly where the
+//! history is a merge of them (`IsMerge` in `specs/`). Passes and gates are this project's own.
 #![tactic(auto)]
 
 mod action;

@@ -1,7 +1,7 @@
 // What a thread was told of its events, packed as a history is, with a number beside each entry.
 ghost use Rattle.std.specs.Prelude.{◌≡◌, ◌<◌, ◌≤◌, ◌-◌, ◌++◌, ◌↔◌, [], ◌∷◌, ℕ, IsTrue, OnOk, Some, drop};
-ghost use Rattle.std.specs.Prelude.{length, option_map, slice_get, vec_len};
-ghost use Rattle.hv_history.specs.History.{entries};
+ghost use Rattle.std.specs.Prelude.{length, map, option_map, slice_get, vec_len};
+ghost use Rattle.hv_history.specs.History.{IsOfLastCall, entries};
 ghost use Rattle.hv_history.specs.Output.{shown};
 ghost use Rattle.hv_history.specs.declared.entry.Entry.{Entry};
 
@@ -33,7 +33,8 @@ pub struct Receipts {
 }
 
 impl Receipts {
-    ghost use Rattle.hv_shared.specs.Merge.{IsOf};
+    ghost use Rattle.hv_shared.specs.Drive.{entry_in};
+    ghost use Rattle.hv_shared.specs.Merge.{AreAlikeBefore, IsOf};
     ghost use Rattle.hv_shared.specs.Receipts.{list_of, receipt_by, receipt_of, room_in};
     ghost use Rattle.hv_shared.specs.Room.{HasRoom, HasUsedOne};
 
@@ -74,14 +75,27 @@ impl Receipts {
         }
     }
 
-    // Whether the one at a place is of the event at a place of a history, with the same reply.
-    pub(crate) fn is_of(&self, at: usize, history: &History<Global>, place: usize) -> bool
+    // Whether the one at a place is of the event at a place of a history, with the same reply. Where the
+    // one before it is known to be of the event before that, less is compared.
+    #[inline(always)]
+    pub(crate) fn is_of(
+        &self,
+        at: usize,
+        history: &History<Global>,
+        place: usize,
+        is_after: bool,
+    ) -> bool
         requires here { at < length (list_of self.now) }
         requires there { place < length (entries history.now) }
+        requires after { IsTrue is_after → AreAlikeBefore (entries history.now) place (list_of self.now) at }
         ensures { (entry : Entry Global) → slice_get (entries history.now) place ≡ Some entry
             → (IsTrue result ↔ IsOf entry (drop at (list_of self.now))) }
     {
-        self.packed.is_same(at, history, place)
+        if is_after {
+            self.packed.is_same_after(at, history, place)
+        } else {
+            self.packed.is_same(at, history, place)
+        }
     }
 
     // Makes room for so many receipts of this event, or of others that ask for other elements of its call.
@@ -104,20 +118,28 @@ impl Receipts {
         if numbers < entries { numbers } else { entries }
     }
 
-    // Adds a receipt of the last event of a history, for which there is room.
+    // Adds a receipt of the last event of a history, for which there is room. `goes_on` says that the event
+    // is known to go on with the call of the last receipt.
     #[inline(always)]
-    pub(crate) fn push(&mut self, number: u64, event: &Event<Global>, history: &History<Global>)
+    pub(crate) fn push(
+        &mut self,
+        number: u64,
+        event: &Event<Global>,
+        history: &History<Global>,
+        goes_on: bool,
+    )
         requires some { 0 < length (entries history.now) }
         requires last { (entry : Entry Global)
             → slice_get (entries history.now) (length (entries history.now) - 1) ≡ Some entry → entry.event
             ≡ event.now }
         requires room { HasRoom 1 (room_in self.old) event.now }
+        requires call { IsTrue goes_on → IsOfLastCall event.now (map entry_in (list_of self.old)) }
         ensures room { HasUsedOne event.now (room_in self.old) (room_in self.new) }
         ensures pushed { (entry : Entry Global)
             → slice_get (entries history.now) (length (entries history.now) - 1) ≡ Some entry
             → list_of self.new ≡ list_of self.old ++ receipt_of number entry ∷ [] }
     {
         self.numbers.push_reserved(number);
-        self.packed.push_last(event, history);
+        self.packed.push_last_element(event, history, goes_on);
     }
 }

@@ -6,7 +6,7 @@ ghost use Rattle.hv_history.specs.History.{entries};
 ghost use Rattle.hv_history.specs.Kept.{IsRun};
 ghost use Rattle.hv_history.specs.declared.entry.Entry.{Entry};
 ghost use Rattle.hv_shared.specs.Due.{IsDueAfter, IsHeap, IsHeapBut, IsLowestBelow, above, dues_of};
-ghost use Rattle.hv_shared.specs.Merge.{IsOnlyNext, FailsAt, AreDone};
+ghost use Rattle.hv_shared.specs.Merge.{IsFirstAlike, IsOnlyNext, FailsAt, AreDone};
 ghost use Rattle.hv_shared.specs.Merge.{MergesFrom, FailsFrom, rests_of, receipts_of, shares_of};
 ghost use Rattle.hv_shared.specs.Settle.{IsFault, IsMadeOf, kept_of};
 
@@ -84,18 +84,20 @@ fn first_below<L: Ledger>(passes: &[Pass<L>], at: usize) -> Option<usize>
     }
 }
 
-// Lets the first pass sink below those that are due before it.
-fn sink<L: Ledger>(passes: &mut [Pass<L>])
+// Lets the first pass sink below those that are due before it, and answers whether there were none.
+fn sink<L: Ledger>(passes: &mut [Pass<L>]) -> bool
     requires some { 0 < length passes.old }
     requires rest { IsHeapBut 0 (dues_of passes.old) }
     ensures same { IsPermutation passes.old passes.new }
     ensures heap { IsHeap (dues_of passes.new) }
+    ensures stays { IsTrue result → passes.new ≡ passes.old }
 {
     let mut at = 0;
     while let Some(child) = first_below(passes, at) {
         passes.swap(at, child);
         at = child;
     }
+    at == 0
 }
 
 // Whether there is a pass at a place and it is due at this number.
@@ -107,15 +109,18 @@ fn is_due<L: Ledger>(passes: &[Pass<L>], at: usize, number: u64) -> bool
 
 // Whether the first pass alone goes on with the event and the reply at this place of a history, under
 // their number, and else why not. Another pass that goes on with that number would stand right below it.
+// `is_after` says that the first pass's last receipt is known to be of the event before.
 fn look_at_first<L: Ledger>(
     passes: &[Pass<L>],
     history: &History<Global>,
     at: usize,
+    is_after: bool,
 ) -> Result<(), SettleFault>
     requires place { at < length (entries history.now) }
     requires never { at + 1 < NEVER }
     requires heap { IsHeap (dues_of passes.now) }
     requires due { All (IsDueAfter at) passes.now }
+    requires after { IsTrue is_after → IsFirstAlike (entries history.now) at passes.now }
     ensures there { IfOk result (λ _. 0 < length passes.now) }
     ensures ok { (entry : Entry Global) → slice_get (entries history.now) at ≡ Some entry
         → IfOk result (λ _. IsOnlyNext (at + 1) entry (rests_of passes.now) 0) }
@@ -129,7 +134,7 @@ fn look_at_first<L: Ledger>(
     if is_due(passes, 1, number) || is_due(passes, 2, number) {
         return Err(SettleFault::Differs);
     }
-    if passes[0].agrees(history, at) {
+    if passes[0].agrees(history, at, is_after) {
         Ok(())
     } else {
         Err(SettleFault::Differs)
@@ -145,13 +150,14 @@ fn first_fault<L: Ledger>(history: &History<Global>, passes: &mut [Pass<L>]) -> 
 {
     begin_all(passes);
     put_in_order(passes);
+    let mut stays = false;
     for k in 0..history.len() {
-        if let Err(fault) = look_at_first(passes, history, k) {
+        if let Err(fault) = look_at_first(passes, history, k, stays) {
             return Some(fault);
         }
         let first = &mut passes[0];
         first.advance(k as u64 + 1);
-        sink(passes);
+        stays = sink(passes);
     }
     if are_settled(passes) {
         None

@@ -13,7 +13,7 @@ ghost use Rattle.hv_shared.specs.Told.{IsAsked, IsTold};
 
 use crate::drive::{DriveRefused, elements_in_a_hold};
 use crate::gate::Gate;
-use crate::held::{Held, Pass, open};
+use crate::held::{Held, Pass};
 use crate::hold::frame_of;
 use hv_abi::{Frame, InputValue};
 use hv_history::{Answer, HostRefused, Kept};
@@ -64,7 +64,7 @@ impl<L: Ledger> Shared<L> {
         let passes = callers.len();
         let config = kept.config();
         let limit = kept.limit();
-        let (held, opened) = open(kept, blank, callers)?;
+        let (held, opened) = Held::open(kept, blank, callers)?;
         let shared = Shared {
             held: Mutex::new(held),
             passes,
@@ -116,7 +116,7 @@ impl<L: Ledger> Shared<L> {
         }
         let turn = pass.receipts().len() as u64;
         gate.enter(rt, event.by, turn);
-        let answer = self.held.lock(rt).take(pass, event);
+        let answer = self.held.lock(rt).take(pass, event, false);
         gate.leave(rt, event.by, turn);
         answer
     }

@@ -7,7 +7,7 @@ use Rattle.std.proofs.lemmas.List.{map-set}
 use Rattle.std.proofs.lemmas.List.Sorted.{All-permutation, IsPermutation-map, IsPermutation-sym}
 use Rattle.hv_history.specs.History.{entries}
 use Rattle.hv_shared.specs.Due.{IsDueAfter, IsHeapBut, dues_of}
-use Rattle.hv_shared.specs.Merge.{MergesFrom, FailsFrom, rest_of, rests_of, shares_of}
+use Rattle.hv_shared.specs.Merge.{IsFirstAlike, MergesFrom, FailsFrom, rest_of, rests_of, shares_of}
 use Rattle.hv_shared.specs.PassValue.{PassValue}
 use Rattle.hv_shared.specs.declared.held.TheConstants.{NEVER}
 use Rattle.hv_shared.specs.declared.receipts.Receipt.{Receipt}
@@ -16,7 +16,7 @@ use Rattle.hv_shared.proofs.Looking.{due_behind, first_left, shares_permuted}
 use Rattle.hv_shared.proofs.Merging.{found, merges_on, fails_on, fails_here}
 use Rattle.hv_shared.proofs.Moved.{fails_permuted, merges_permuted}
 use Rattle.hv_shared.proofs.Packed.{there_is}
-use Rattle.hv_shared.proofs.Passes.{rests_after}
+use Rattle.hv_shared.proofs.Passes.{first_alike, rests_after}
 use Rattle.hv_shared.proofs.settlement.first_fault.Goals as goal
 
 -- the rests of passes in another order
@@ -36,6 +36,7 @@ loop-k-init g c =
       shares = shares_permuted ps qs moved ∙ ap sum begun.shares;
       heap = c.put_in_order.ensures.heap;
       due = All-permutation (IsDueAfter 0) ps qs moved begun.due;
+      after = λ stays. absurd cc;
     }
 
 pub returns-in-Err-clause-some : goal.returns-in-Err-clause-some
@@ -54,8 +55,8 @@ advance-requires-clause-there g c =
     let only = c.in_default.ensures.ok e.0 e.1 in
     first_left (k + 1) c.loop-k.passes _ c.in_default.ensures.there only.next
 
-pub sink-requires-clause-rest : goal.sink-requires-clause-rest
-sink-requires-clause-rest g c =
+pub sink-stays-requires-clause-rest : goal.sink-stays-requires-clause-rest
+sink-stays-requires-clause-rest g c =
     let ps = c.loop-k.passes in
     let q = c.advance.new.self in
     subst (IsHeapBut 0) (sym (map-set (λ (p : PassValue). p.due) ps 0 q)) (first_changed (dues_of ps) q.due c.loop-k.invariant.heap)
@@ -69,14 +70,14 @@ loop-k-preserved g c =
     let p = c.index-passes-0.result in
     let q = c.advance.new.self in
     let mid = set ps 0 q in
-    let qs = c.sink.new.passes in
+    let qs = c.sink-stays.new.passes in
     let there : k < length es = let t = c.loop-k-test.true in let n = c.len-k-end.ensures in omega arith in
     let few : k + 1 < NEVER = let r = c.requires in omega arith in
     let e = there_is es k there in
     let here = found es k e.0 e.1 in
     let only = c.in_default.ensures.ok e.0 e.1 in
     let is = c.advance.ensures.past in
-    let moved = c.sink.ensures.same in
+    let moved = c.sink-stays.ensures.same in
     let rests = rests_after ps 0 p q c.in_default.ensures.there c.index-passes-0.is is in
     record {
       merges = λ m.
@@ -87,6 +88,9 @@ loop-k-preserved g c =
           (subst (λ (ls : List (List Receipt)). FailsFrom (k + 1 + 1) (drop (k + 1) es) ls f) rests
           (fails_permuted (k + 1 + 1) (drop (k + 1) es) (rests_of qs) (rests_of mid) f (turned_back mid qs moved) m)));
       shares = shares_permuted mid qs moved ∙ ap sum (map-set_same (λ (x : PassValue). x.share) ps 0 q p (ap (λ (x : PassValue). x.share) is)) ∙ l.invariant.shares;
-      heap = c.sink.ensures.heap;
+      heap = c.sink-stays.ensures.heap;
       due = All-permutation (IsDueAfter (k + 1)) mid qs moved (due_behind k ps l.invariant.heap l.invariant.due few q c.advance.ensures.due only.alone);
+      after = λ stays.
+          subst (IsFirstAlike es (k + 1)) (sym (c.sink-stays.ensures.stays stays))
+          (first_alike es k e.0 ps p q c.in_default.ensures.there c.index-passes-0.is is e.1 only.same);
     }

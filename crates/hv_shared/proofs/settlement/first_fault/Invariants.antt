@@ -1,8 +1,8 @@
-use Rattle.std.proofs.Common.{◌≡◌, ◌+◌, drop}
+use Rattle.std.proofs.Common.{◌≡◌, ◌+◌, IsTrue, drop}
 use Rattle.std.specs.Prelude.{All, sum}
 use Rattle.hv_history.specs.History.{entries}
 use Rattle.hv_shared.specs.Due.{IsDueAfter, IsHeap, dues_of}
-use Rattle.hv_shared.specs.Merge.{rests_of, receipts_of, shares_of, MergesFrom, FailsFrom}
+use Rattle.hv_shared.specs.Merge.{IsFirstAlike, rests_of, receipts_of, shares_of, MergesFrom, FailsFrom}
 use Rattle.hv_shared.specs.declared.fault.SettleFault.{SettleFault}
 use Rattle.hv_shared.proofs.settlement.first_fault.Given as goal
 
@@ -14,4 +14,5 @@ invariant-loop-k g l = record {
   shares : sum (shares_of l.passes) ≡ sum (shares_of l.fn.passes);
   heap : IsHeap (dues_of l.passes);
   due : All (IsDueAfter l.k) l.passes;
+  after : IsTrue l.stays → IsFirstAlike (entries l.history) l.k l.passes;
 }

@@ -1,6 +1,7 @@
-use Rattle.std.proofs.Common.{refl, sym, subst, inl, inr, arith}
+use Rattle.std.proofs.Common.{length, refl, sym, subst, inl, inr, arith}
 use Rattle.std.proofs.lemmas.Bool.{false≢true}
 use Rattle.std.proofs.lemmas.List.{length-map}
+use Rattle.std.proofs.lemmas.Option.{slice_get_read}
 use Rattle.hv_shared.specs.Merge.{IsOf, rest_of}
 use Rattle.hv_shared.proofs.Looking.{alone, missing, next_due}
 use Rattle.hv_shared.proofs.Passes.{rest_at}
@@ -49,3 +50,9 @@ returns-else-agrees-clause-err g c = λ entry is.
         λ of. false≢true ((c.if-agrees.ensures entry is).1 (subst (IsOf entry) (rest_at ps 0 _ first.0 c.index-passes-0.is) of)),
       ),
     )
+
+pub agrees-requires-clause-after : goal.agrees-requires-clause-after
+agrees-requires-clause-after g c = λ on.
+    let ps = c.args.passes.now in
+    let first = c.if-not-is_due.ensures.0 refl in
+    c.requires.after on _ (slice_get_read ps (length ps) 0 _ refl first.0 c.index-passes-0.is)

@@ -1,4 +1,4 @@
-use Rattle.std.proofs.Common.{◌≡◌, ◌<◌, arith, length}
+use Rattle.std.proofs.Common.{◌≡◌, ◌<◌, arith, length, refl}
 use Rattle.std.proofs.lemmas.List.{length-map}
 use Rattle.std.proofs.lemmas.List.Sorted.{IsPermutation-refl, IsPermutation-trans}
 use Rattle.hv_shared.specs.Due.{dues_of}
@@ -7,7 +7,7 @@ use Rattle.hv_shared.proofs.Heaps.{sinks, sinks_first, sunk, swapped_by}
 use Rattle.hv_shared.proofs.settlement.sink.Goals as goal
 
 pub loop-child-init : goal.loop-child-init
-loop-child-init g c = record { same = IsPermutation-refl _; within = c.requires.some; sinking = sinks_first _ c.requires.rest }
+loop-child-init g c = record { same = IsPermutation-refl _; within = c.requires.some; sinking = sinks_first _ c.requires.rest; stays = λ _. refl }
 
 pub loop-child-preserved : goal.loop-child-preserved
 loop-child-preserved g c =
@@ -22,6 +22,7 @@ loop-child-preserved g c =
       same = IsPermutation-trans _ _ _ l.invariant.same c.swap.ensures.permutation;
       within = omega arith;
       sinking = sinks l.at c.in-Some.child _ _ l.invariant.sinking low (omega arith) (swapped_by due l.passes c.swap.new.self l.at c.in-Some.child l.invariant.within there c.swap.ensures.after);
+      stays = λ none. (let some = low.some in absurd (omega arith));
     }
 
 pub returns-clause-heap : goal.returns-clause-heap

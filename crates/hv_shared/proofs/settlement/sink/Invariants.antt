@@ -1,4 +1,4 @@
-use Rattle.std.proofs.Common.{◌-◌, ◌<◌, length}
+use Rattle.std.proofs.Common.{◌≡◌, ◌-◌, ◌<◌, length}
 use Rattle.std.specs.List.Sorted.{IsPermutation}
 use Rattle.hv_shared.specs.Due.{dues_of}
 use Rattle.hv_shared.proofs.Heaps.{IsSinking}
@@ -9,6 +9,7 @@ invariant-loop-child g l = record {
   same : IsPermutation l.fn.passes l.passes;
   within : l.at < length l.passes;
   sinking : IsSinking l.at (dues_of l.passes);
+  stays : l.at ≡ 0 → l.passes ≡ l.fn.passes;
 }
 
 abbrev pub decreases-loop-child : goal.decreases-loop-child

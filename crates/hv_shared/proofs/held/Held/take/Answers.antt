@@ -1,13 +1,15 @@
 use Rattle.std.proofs.Common.{◌≡◌, ℕ, List, [], ◌∷◌, ◌++◌, ◌-◌, Some, length, refl, ap, sym, subst, ◌∙◌}
 use Rattle.std.specs.declared.alloc.Global.{Global}
 use Rattle.std.specs.List.{slice_get}
-use Rattle.hv_history.specs.History.{entries, entry_by}
+use Rattle.std.specs.Prelude.{map}
+use Rattle.hv_history.specs.History.{IsOfLastCall, entries, entry_by}
 use Rattle.hv_history.specs.Kept.{Kept}
 use Rattle.hv_history.specs.Output.{shown}
 use Rattle.hv_policy.specs.Parts.{reply_of}
 use Rattle.hv_history.specs.declared.entry.Entry.{Entry}
 use Rattle.hv_policy.specs.declared.event.Event.{Event}
 use Rattle.hv_policy.specs.declared.reply.Reply.{Reply}
+use Rattle.hv_shared.specs.Drive.{entry_in}
 use Rattle.hv_shared.specs.Held.{IsHeld}
 use Rattle.hv_shared.specs.HeldValue.{HeldValue}
 use Rattle.hv_shared.specs.Pass.{HasReceipt, receipt}
@@ -39,7 +41,7 @@ pub returns-in-Ok-clause-held : goal.returns-in-Ok-clause-held
 returns-in-Ok-clause-held g c =
     let event = c.args.event.now in
     let entry = c.entry-entry.result in
-    let new : Kept Global = c.take.new.self in
+    let new : Kept Global = c.take_element.new.self in
     let taken = c.in-Ok.ensures.taken in
     let told : Reply = reply_of entry.answer (shown entry.output) in
     let before : PassValue = record { caller = c.pass.inside.caller; receipts = list_of c.pass.inside.receipts; share = c.pass.inside.share.amount; settled = c.pass.inside.settled; due = c.pass.inside.due; room = room_in c.pass.inside.receipts } in
@@ -60,3 +62,9 @@ returns-in-Ok-clause-held g c =
     subst (λ (p : PassValue). IsHeld event entry.answer c.args.self.now.kept new p after) c.pass.view_is
     (subst (λ (h : HeldValue). IsHeld event entry.answer h.kept new before after) c.self.view_is
     (held event entry.answer (shown entry.output) _ new before after taken same kept_receipt c.push.ensures.room))
+
+pub take_element-requires : goal.take_element-requires
+take_element-requires g c = λ on. subst (λ (h : HeldValue). IsOfLastCall c.args.event.now h.kept.history) (sym c.self.view_is) (c.requires.call on)
+
+pub push-requires-clause-call : goal.push-requires-clause-call
+push-requires-clause-call g c = λ on. subst (λ (p : PassValue). IsOfLastCall c.args.event.now (map entry_in p.receipts)) (sym c.pass.view_is) (c.requires.told on)

@@ -1,5 +1,5 @@
-use Rattle.std.proofs.Common.{rules, ◌≡◌, ◌≢◌, ◌-◌}
-use Rattle.hv_shared.proofs.Elements.{begins, ended, goes_on, what_is}
+use Rattle.std.proofs.Common.{rules, ◌≡◌, ◌≢◌, ◌-◌, ◌<◌}
+use Rattle.hv_shared.proofs.Elements.{begins, ended, goes_on, last_event, last_receipt, what_is}
 use Rattle.hv_shared.proofs.held.Held.take_run.Goals as goal
 
 pub loop-answer-init : goal.loop-answer-init
@@ -28,3 +28,15 @@ loop-answer-preserved g c =
     let fewer : l.left - 1 ≢ 0 = search rules in
     goes_on c.args.frame l.event l.left c.args.most c.args.self.now l.self c.args.pass.now l.pass l.invariant c.in-Ok.answer c.take.new.self c.take.new.pass c.in-Ok.ensures.held c.in-Ok.ensures.count
     c.in-Some.next c.at_element-event.result fewer c.in-Some.ensures.some c.at_element-event.ensures
+
+pub take-requires-clause-call : goal.take-requires-clause-call
+take-requires-clause-call g c = λ more.
+    let l = c.loop-answer in
+    let fewer : l.left < c.args.most = search rules in
+    last_event c.args.frame l.event l.left c.args.most c.args.self.now l.self c.args.pass.now l.pass l.invariant fewer
+
+pub take-requires-clause-told : goal.take-requires-clause-told
+take-requires-clause-told g c = λ more.
+    let l = c.loop-answer in
+    let fewer : l.left < c.args.most = search rules in
+    last_receipt c.args.frame l.event l.left c.args.most c.args.self.now l.self c.args.pass.now l.pass l.invariant fewer

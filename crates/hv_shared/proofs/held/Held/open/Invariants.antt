@@ -1,6 +1,6 @@
 use Rattle.std.proofs.Common.{◌≡◌, ◌≤◌, ◌+◌, take, vec_len, vec_capacity}
 use Rattle.hv_shared.specs.Shared.{AreOpened}
-use Rattle.hv_shared.proofs.held.open.Given as goal
+use Rattle.hv_shared.proofs.held.Held.open.Given as goal
 
 abbrev pub invariant-loop-i : goal.invariant-loop-i
 invariant-loop-i g l = record {
