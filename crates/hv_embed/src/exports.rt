@@ -12,7 +12,8 @@ ghost use Rattle.hv_policy.specs.declared.event.Action.TheVariants.{
   WriteMsr,
 };
 ghost use Rattle.hv_embed.specs.Answer.{config_of, event_of as event_by, frame_of};
-ghost use Rattle.hv_embed.specs.Taken.{IsAsBefore, IsBooted, IsRefused, IsStarted, IsTaken, is_short as is_short_len, readiness};
+ghost use Rattle.hv_embed.specs.Taken.{IsAsBefore, IsBooted, IsRefused, IsStarted, IsTaken};
+ghost use Rattle.hv_embed.specs.Taken.{is_short as is_short_len, readiness};
 ghost use Rattle.hv_embed.specs.declared.status.TheConstants.{DONE, MEMORY, OCCUPIED};
 
 use crate::answer::is_short;

@@ -20,8 +20,9 @@ use std::alloc::Global;
 use std::sync::Wait;
 use std::sync::ledger::Ledger;
 
-/// Runs the lines one after the other, and tells why the host stopped a processor, of all that it stopped the first among these
-/// callers. A processor that was stopped does no line more, and no phase begins after one in which a processor was stopped.
+/// Runs the lines one after the other, and tells why the host stopped a processor, of all that it stopped the
+/// first among these callers. A processor that was stopped does no line more, and no phase begins after one
+/// in which a processor was stopped.
 pub fn run_in_order<L: Ledger, R: Wait, G: Gate>(
     rt: &R,
     gate: &G,
@@ -51,8 +52,8 @@ pub fn run_in_order<L: Ledger, R: Wait, G: Gate>(
     first_stop(&tasks[..members], callers)
 }
 
-// How many of the first tasks had a line in the next line's phase so far: as many as before, or none in a phase that is to begin,
-// which it does where none of those before was stopped.
+// How many of the first tasks had a line in the next line's phase so far: as many as before, or none in a
+// phase that is to begin, which it does where none of those before was stopped.
 fn members_of<L: Ledger>(
     tasks: &[Task<L>],
     callers: &[Caller],
@@ -91,7 +92,8 @@ fn run_line<L: Ledger, R: Wait, G: Gate>(
     ensures going { AreGoingFrom result tasks.new }
     ensures index { Tells places.new (callers_in tasks.new) }
     ensures callers { IsPermutation (callers_in tasks.old) (callers_in tasks.new) }
-    ensures run { (ran : List (Line Global)) → All (IsAfter ran) tasks.old → All (IsAfter (ran ++ line ∷ [])) tasks.new }
+    ensures run { (ran : List (Line Global)) → All (IsAfter ran) tasks.old
+        → All (IsAfter (ran ++ line ∷ [])) tasks.new }
 {
     let Line { by, action, .. } = line;
     let place = enlist(tasks, places, members, by);
@@ -99,7 +101,8 @@ fn run_line<L: Ledger, R: Wait, G: Gate>(
     if place < members { members } else { place + 1 }
 }
 
-// Lets a task's processor do one thing, unless it was stopped. Where the host refuses an event of it, it is stopped.
+// Lets a task's processor do one thing, unless it was stopped. Where the host refuses an event of it, it is
+// stopped.
 fn do_next<L: Ledger, R: Wait, G: Gate>(
     rt: &R,
     gate: &G,
@@ -107,7 +110,8 @@ fn do_next<L: Ledger, R: Wait, G: Gate>(
     task: &mut Task<L>,
     action: Action<Global>,
 )
-    ensures done { task.new.end ≡ Finished → (task.old.end ≡ Finished) × HasPerformed action task.old.work.pass task.new.work.pass }
+    ensures done { task.new.end ≡ Finished → (task.old.end ≡ Finished)
+        × HasPerformed action task.old.work.pass task.new.work.pass }
     ensures caller { task.new.work.pass.caller ≡ task.old.work.pass.caller }
     ensures actions { task.new.work.actions.items ≡ task.old.work.actions.items }
     ensures stopped { task.old.end ≢ Finished → task.new ≡ task.old }

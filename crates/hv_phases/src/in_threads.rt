@@ -1,7 +1,9 @@
 // The phases of a script, each processor of a phase in a thread of its own.
-ghost use Rattle.std.specs.Prelude.{◌≡◌, ◌≤◌, ◌<◌, ◌++◌, ◌∷◌, [], ℕ, All, IfNone, IfOk, IsTrue, OnOk, length, slice_index_or};
+ghost use Rattle.std.specs.Prelude.{◌≡◌, ◌≤◌, ◌<◌, ◌++◌, ◌∷◌, [], ℕ, All, IfNone, IfOk, IsTrue, OnOk};
+ghost use Rattle.std.specs.Prelude.{length, slice_index_or};
 ghost use Rattle.std.specs.List.{Contains};
-ghost use Rattle.hv_phases.specs.Crew.{AreCallersOf, AreIdleFrom, AreReady, HasGiven, HasHandedOut, HaveRun, callers_in, passes_in};
+ghost use Rattle.hv_phases.specs.Crew.{AreCallersOf, AreIdleFrom, AreReady, HasGiven, HasHandedOut, HaveRun};
+ghost use Rattle.hv_phases.specs.Crew.{callers_in, passes_in};
 ghost use Rattle.hv_phases.specs.Places.{Tells};
 ghost use Rattle.hv_shared.specs.ByCaller.{AreDifferent};
 ghost use Rattle.hv_threads.specs.Phase.{IsDoneAt};
@@ -18,8 +20,9 @@ use std::sync::Wait;
 use std::sync::ledger::Ledger;
 use std::thread::Threads;
 
-/// Runs the lines phase by phase, and tells why the host stopped a processor, of all that it stopped the first among these
-/// callers. No phase begins after one in which a processor was stopped, and none that there is no memory for.
+/// Runs the lines phase by phase, and tells why the host stopped a processor, of all that it stopped the
+/// first among these callers. No phase begins after one in which a processor was stopped, and none that there
+/// is no memory for.
 pub fn run_in_threads<L: Ledger + Send + Sync, R: Threads + Wait + Sync, G: Gate>(
     rt: &R,
     gate: &G,
@@ -47,8 +50,8 @@ pub fn run_in_threads<L: Ledger + Send + Sync, R: Threads + Wait + Sync, G: Gate
     None
 }
 
-// Hands the lines of a phase, of which this is the first, to the tasks of their processors, and tells how many of the first
-// tasks have something to do.
+// Hands the lines of a phase, of which this is the first, to the tasks of their processors, and tells how
+// many of the first tasks have something to do.
 fn hand_out<L: Ledger>(
     tasks: &mut [Task<L>],
     places: &mut Places,
@@ -130,8 +133,10 @@ fn run_members<L: Ledger + Send + Sync, R: Threads + Wait + Sync, G: Gate>(
     members: usize,
 )
     requires { members ≤ length tasks.old }
-    ensures done { (i : ℕ) (d : Task L) → i < members → IsDoneAt (slice_index_or tasks.old i d) (slice_index_or tasks.new i d) }
-    ensures rest { (i : ℕ) (d : Task L) → members ≤ i → i < length tasks.old → slice_index_or tasks.new i d ≡ slice_index_or tasks.old i d }
+    ensures done { (i : ℕ) (d : Task L) → i < members
+        → IsDoneAt (slice_index_or tasks.old i d) (slice_index_or tasks.new i d) }
+    ensures rest { (i : ℕ) (d : Task L) → members ≤ i → i < length tasks.old
+        → slice_index_or tasks.new i d ≡ slice_index_or tasks.old i d }
 {
     let (front, _) = tasks.split_at_mut(members);
     run_tasks(rt, shared, gate, front);

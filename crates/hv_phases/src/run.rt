@@ -112,8 +112,8 @@ fn finish<L: Ledger>(
     }
 }
 
-// Runs the lines on fresh passes, and tells why they didn't all run, if they didn't: of several processors that the host stopped
-// it tells of the first among these callers.
+// Runs the lines on fresh passes, and tells why they didn't all run, if they didn't: of several processors
+// that the host stopped it tells of the first among these callers.
 fn run_on<L: Ledger + Send + Sync, R: Threads + Wait + Sync, G: Gate>(
     rt: &R,
     gate: &G,

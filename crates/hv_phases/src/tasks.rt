@@ -1,5 +1,6 @@
 // The tasks of a script's processors.
-ghost use Rattle.std.specs.Prelude.{◌≡◌, ◌≢◌, ◌≤◌, ◌<◌, [], ℕ, All, IfOk, IfNone, IfSome, IsSome, Some, length, map, reverse, slice_index_or, vec_capacity, vec_len};
+ghost use Rattle.std.specs.Prelude.{◌≡◌, ◌≢◌, ◌≤◌, ◌<◌, [], ℕ, All, IfOk, IfNone, IfSome, IsSome, Some};
+ghost use Rattle.std.specs.Prelude.{length, map, reverse, slice_index_or, vec_capacity, vec_len};
 ghost use Rattle.std.specs.List.{Contains, SwappedAt};
 ghost use Rattle.std.specs.List.Sorted.{IsPermutation};
 ghost use Rattle.hv_phases.specs.Crew.{AreGoingFrom, AreIdleFrom, IsGoing, caller_of, callers_in, passes_in};
@@ -22,7 +23,8 @@ pub fn tasks_of<L: Ledger>(passes: &mut Vec<Pass<L>>) -> Result<Vec<Task<L>>, Al
     ensures tasks { IfOk result (λ tasks. passes_in tasks.items ≡ reverse passes.old.items) }
     ensures going { IfOk result (λ tasks. All IsGoing tasks.items) }
     ensures idle { IfOk result (λ tasks. AreIdleFrom 0 tasks.items) }
-    ensures room { IfOk result (λ tasks. (passes.new.items ≡ []) × (vec_len tasks ≤ vec_capacity passes.new)) }
+    ensures room { IfOk result
+        (λ tasks. (passes.new.items ≡ []) × (vec_len tasks ≤ vec_capacity passes.new)) }
 {
     let alloc = *passes.allocator();
     let mut tasks = Vec::new(alloc);
@@ -70,7 +72,8 @@ pub fn give_back<L: Ledger>(tasks: Vec<Task<L>>, passes: &mut Vec<Pass<L>>)
 /// Why the host stopped a task, of all that it stopped the one whose caller stands first among these.
 pub fn first_stop<L: Ledger>(tasks: &[Task<L>], callers: &[Caller]) -> Option<HostRefused>
     ensures none { IfNone result (All IsGoing tasks.now) }
-    ensures some { IfSome result (λ why. (place : ℕ) × IsFirstStop callers.now place (length tasks.now) tasks.now why) }
+    ensures some { IfSome result
+        (λ why. (place : ℕ) × IsFirstStop callers.now place (length tasks.now) tasks.now why) }
 {
     let mut first = None;
     for i in 0..tasks.len() {
@@ -85,7 +88,8 @@ pub fn first_stop<L: Ledger>(tasks: &[Task<L>], callers: &[Caller]) -> Option<Ho
 // Where among the callers a task's stands and why it was stopped, if it was.
 fn stop_of<L: Ledger>(task: &Task<L>, callers: &[Caller]) -> Option<(usize, HostRefused)>
     ensures none { IfNone result (IsGoing task.now) }
-    ensures some { IfSome result (λ stop. (task.now.end ≡ Host stop.1) × (stop.0 ≡ place_among (caller_of task.now) callers.now)) }
+    ensures some { IfSome result (λ stop. (task.now.end ≡ Host stop.1)
+        × (stop.0 ≡ place_among (caller_of task.now) callers.now)) }
 {
     match task.end {
         End::Finished => None,
@@ -163,8 +167,9 @@ fn move_to(places: &mut Places, by: Caller, place: usize)
     }
 }
 
-/// Brings the task of a processor to the place `members`, unless it stands before that, and tells where it stands: before
-/// that place stand the processors of the phase that had a line, in the order of their first lines.
+/// Brings the task of a processor to the place `members`, unless it stands before that, and tells where it
+/// stands: before that place stand the processors of the phase that had a line, in the order of their first
+/// lines.
 pub fn enlist<L: Ledger>(
     tasks: &mut [Task<L>],
     places: &mut Places,
@@ -177,8 +182,10 @@ pub fn enlist<L: Ledger>(
     ensures same { IsPermutation tasks.old tasks.new }
     ensures there { (result ≤ members) × (result < length tasks.new) }
     ensures by { (d : Task L) → (slice_index_or tasks.new result d).work.pass.caller ≡ by }
-    ensures idle { AreIdleFrom members tasks.old → (i : ℕ) (d : Task L) → members ≤ i → result < i → i < length tasks.new → (slice_index_or tasks.new i d).work.actions.items ≡ [] }
-    ensures going { AreGoingFrom members tasks.old → (i : ℕ) (d : Task L) → members ≤ i → result < i → i < length tasks.new → IsGoing (slice_index_or tasks.new i d) }
+    ensures idle { AreIdleFrom members tasks.old → (i : ℕ) (d : Task L) → members ≤ i → result < i
+        → i < length tasks.new → (slice_index_or tasks.new i d).work.actions.items ≡ [] }
+    ensures going { AreGoingFrom members tasks.old → (i : ℕ) (d : Task L) → members ≤ i → result < i
+        → i < length tasks.new → IsGoing (slice_index_or tasks.new i d) }
 {
     let place = place_of(tasks, places, by);
     if place < members {

@@ -12,7 +12,7 @@ use itoa::Buffer;
 use std::marker::Model;
 
 // The most bytes that there is room for.
-pub const ROOM: usize = 8192;
+pub const ROOM: usize = 2048;
 
 // More bytes than a line has.
 pub const LINE: usize = 768;
