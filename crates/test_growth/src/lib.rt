@@ -12,8 +12,6 @@ mod denials;
 #[cfg(test)]
 mod growths;
 #[cfg(test)]
-mod host;
-#[cfg(test)]
 mod mail;
 #[cfg(test)]
 mod pages;

@@ -1,0 +1,64 @@
+// What the processors ask for, and what they must have.
+
+use crate::ended::{Fault, must};
+use hv_abi::{Bytes, Frame};
+use hv_policy::{Action, Event};
+use hv_threads::Pass;
+use std::alloc::Global;
+use std::sync::ledger::Ledger;
+
+// A call whose input list has these bytes.
+fn call(rcx: u64, input: Vec<u8>) -> Frame<Global> {
+    Frame {
+        rcx,
+        rdx: 0,
+        r8: 0,
+        input: Bytes::from_vec(input),
+    }
+}
+
+// Two actions: asks for the caller's own id, and reads a register.
+pub(crate) fn two_actions(alloc: Global) -> Result<Vec<Action<Global>>, Fault> {
+    let own_id = Action::Hypercall(call(0x46, Vec::new(alloc)));
+    let actions = vec![in alloc; own_id, Action::ReadMsr(0x4000_0084)]?;
+    Ok(actions)
+}
+
+// Makes a partition.
+pub(crate) fn create(alloc: Global) -> Result<Action<Global>, Fault> {
+    let input = vec![in alloc; 0u8; 8]?;
+    Ok(Action::Hypercall(call(0x40, input)))
+}
+
+// How many elements `forty_reads` asks for.
+pub(crate) const FORTY: u16 = 40;
+
+// Reads RAX of processor 1 of the root forty times.
+pub(crate) fn forty_reads(alloc: Global) -> Result<Frame<Global>, Fault> {
+    let mut input = Vec::with_capacity(alloc, 16 + 4 * usize::from(FORTY))?;
+    input.extend_from_slice(&1u64.to_le_bytes())?;
+    input.extend_from_slice(&1u64.to_le_bytes())?;
+    for _ in 0..FORTY {
+        input.extend_from_slice(&0x2_0000u32.to_le_bytes())?;
+    }
+    Ok(call(0x28_0000_0050, input))
+}
+
+// The pass has so many receipts, and these more.
+pub(crate) fn must_have<L: Ledger>(
+    pass: &Pass<L>,
+    receipts: usize,
+    more: u16,
+) -> Result<(), Fault> {
+    let gained = pass.receipts().len().checked_sub(receipts);
+    must(gained == Some(usize::from(more)), Fault::Receipts)
+}
+
+// There is room for a receipt of this action.
+pub(crate) fn must_have_room<L: Ledger>(pass: &Pass<L>, what: Action<Global>) -> Result<(), Fault> {
+    let event = Event {
+        by: pass.caller(),
+        what,
+    };
+    must(pass.room(&event) > 0, Fault::Room)
+}

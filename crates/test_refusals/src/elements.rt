@@ -1,0 +1,139 @@
+// A call of forty elements, for 16 of which the lock is taken once.
+
+use crate::actions::{FORTY, forty_reads, must_have, must_have_room};
+use crate::ended::{Fault, Refusal, Side, must};
+use crate::gate::Count;
+use hv_abi::{Frame, ResultValue};
+use hv_history::HostRefused;
+use hv_policy::{Action, Reply};
+use hv_threads::{DriveRefused, Open, Pass, Shared, perform};
+use std::alloc::Global;
+use std::sync::Wait;
+use std::sync::ledger::Ledger;
+
+// How many holds forty elements take, and how many elements one of them has.
+const HOLDS: u64 = 3;
+
+const IN_A_HOLD: u16 = 16;
+
+// All forty elements were served.
+fn is_whole(told: &Result<(ResultValue, Reply), DriveRefused>) -> bool {
+    match told {
+        Ok((value, Reply::Served(_))) => value.bits() == 0x28_0000_0000,
+        _ => false,
+    }
+}
+
+// On which side of the gate an element was refused. The room for a hold is made before the gate, so that an
+// element in the middle of one is refused behind it.
+fn refused_at<L: Ledger>(
+    alloc: Global,
+    gate: &Count,
+    pass: &Pass<L>,
+    element: u16,
+) -> Result<Side, Fault> {
+    let side = gate.side_after(u64::from(element / IN_A_HOLD))?;
+    match side {
+        Side::Before => must(element % IN_A_HOLD == 0, Fault::Element)?,
+        Side::Behind => must_have_room(pass, Action::Hypercall(rest_from(alloc, element)?))?,
+    }
+    Ok(side)
+}
+
+// The elements of the call from this one on.
+fn rest_from(alloc: Global, element: u16) -> Result<Frame<Global>, Fault> {
+    if element >= FORTY {
+        return Err(Fault::Element);
+    }
+    Ok(forty_reads(alloc)?.with_start(element))
+}
+
+// Drives the call to its end. If an element is refused, the ones before it have their receipts, and it goes
+// on with that one.
+pub(crate) fn try_drive<L: Ledger, R: Wait>(
+    rt: &R,
+    alloc: Global,
+    shared: &Shared<L>,
+    pass: &mut Pass<L>,
+) -> Result<Option<Refusal>, Fault> {
+    let gate = Count::new();
+    let before = pass.receipts().len();
+    let told = shared.drive(rt, pass, &gate, forty_reads(alloc)?);
+    let refusal = match &told {
+        Ok(_) => {
+            must(is_whole(&told), Fault::Reply)?;
+            gate.must_have(HOLDS)?;
+            None
+        }
+        Err(refused) => {
+            must(refused.why == HostRefused::Memory, Fault::Reason)?;
+            let element = refused.next;
+            must_have(pass, before, element)?;
+            let side = refused_at(alloc, &gate, pass, element)?;
+            drive_on(rt, alloc, shared, pass, element)?;
+            Some(Refusal::Drive { element, side })
+        }
+    };
+    must_have(pass, before, FORTY)?;
+    Ok(refusal)
+}
+
+fn drive_on<L: Ledger, R: Wait>(
+    rt: &R,
+    alloc: Global,
+    shared: &Shared<L>,
+    pass: &mut Pass<L>,
+    element: u16,
+) -> Result<(), Fault> {
+    let told = shared.drive(rt, pass, &Open, rest_from(alloc, element)?);
+    must(is_whole(&told), Fault::Again)
+}
+
+// Lets the call come to its end. What is refused shows in the receipts alone.
+pub(crate) fn try_perform<L: Ledger, R: Wait>(
+    rt: &R,
+    alloc: Global,
+    shared: &Shared<L>,
+    pass: &mut Pass<L>,
+) -> Result<Option<Refusal>, Fault> {
+    let gate = Count::new();
+    let before = pass.receipts().len();
+    let action = Action::Hypercall(forty_reads(alloc)?);
+    let refusal = match perform(rt, shared, &gate, pass, action) {
+        Ok(()) => {
+            gate.must_have(HOLDS)?;
+            None
+        }
+        Err(why) => {
+            must(why == HostRefused::Memory, Fault::Reason)?;
+            let element = gained(pass, before)?;
+            let side = refused_at(alloc, &gate, pass, element)?;
+            perform_on(rt, alloc, shared, pass, element)?;
+            Some(Refusal::Perform { element, side })
+        }
+    };
+    must_have(pass, before, FORTY)?;
+    Ok(refusal)
+}
+
+// How many receipts a pass has more than so many.
+fn gained<L: Ledger>(pass: &Pass<L>, before: usize) -> Result<u16, Fault> {
+    let gained = pass.receipts().len().saturating_sub(before);
+    if gained < usize::from(FORTY) {
+        Ok(gained as u16)
+    } else {
+        Err(Fault::Element)
+    }
+}
+
+fn perform_on<L: Ledger, R: Wait>(
+    rt: &R,
+    alloc: Global,
+    shared: &Shared<L>,
+    pass: &mut Pass<L>,
+    element: u16,
+) -> Result<(), Fault> {
+    let rest = Action::Hypercall(rest_from(alloc, element)?);
+    let told = perform(rt, shared, &Open, pass, rest);
+    must(told.is_ok(), Fault::Again)
+}

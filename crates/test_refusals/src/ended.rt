@@ -1,0 +1,111 @@
+// What the trials end with: which of them was refused, or what wasn't as it must be.
+
+use hv_history::Kept;
+use hv_machine::BootRefused;
+use std::alloc::{AllocError, AllocFailed, Global};
+use thiserror::Error;
+
+// Where a hold was refused: the gate was told of it or not.
+#[derive(Clone, Copy, PartialEq, Eq, Debug, Error)]
+pub(crate) enum Side {
+    #[error("before the gate")]
+    Before,
+    #[error("behind the gate")]
+    Behind,
+}
+
+// What was refused, and was then made again with memory.
+#[derive(Clone, Copy, PartialEq, Eq, Debug, Error)]
+pub(crate) enum Refusal {
+    #[error("new: the machine came back")]
+    New,
+    #[error("phase: all work came back")]
+    Phase,
+    #[error("phase: a work was stopped")]
+    Work,
+    #[error("call: {0}")]
+    Call(Side),
+    #[error("denied call: {0}")]
+    Denial(Side),
+    #[error("drive: element {element}, {side}")]
+    Drive { element: u16, side: Side },
+    #[error("perform: element {element}, {side}")]
+    Perform { element: u16, side: Side },
+}
+
+// What isn't as it must be.
+#[derive(Clone, Copy, PartialEq, Eq, Debug, Error)]
+pub(crate) enum Fault {
+    #[error("memory")]
+    Memory,
+    #[error("write")]
+    Write,
+    #[error("the machine doesn't boot")]
+    Boot,
+    #[error("another reason than want of memory")]
+    Reason,
+    #[error("refused again, with memory")]
+    Again,
+    #[error("the machine came back changed")]
+    Machine,
+    #[error("not a pass for each processor")]
+    Passes,
+    #[error("a receipt too few or too many")]
+    Receipts,
+    #[error("the gate was told of a hold too few or too many")]
+    Holds,
+    #[error("no room was made before the gate")]
+    Room,
+    #[error("the works came back changed")]
+    Works,
+    #[error("a work stopped at another action")]
+    Stops,
+    #[error("a call was answered otherwise")]
+    Reply,
+    #[error("a call that is denied wanted memory")]
+    Denial,
+    #[error("a call stopped at another element")]
+    Element,
+    #[error("the history is no merge of the receipts")]
+    Merge,
+}
+
+impl Fault {
+    // The exit status: 3 for a want of memory where there is no trial, and else 1.
+    pub(crate) fn status(self) -> u8 {
+        if self == Fault::Memory { 3 } else { 1 }
+    }
+}
+
+impl From<AllocError> for Fault {
+    fn from(_: AllocError) -> Fault {
+        Fault::Memory
+    }
+}
+
+impl<T: Drop> From<AllocFailed<T>> for Fault {
+    fn from(_: AllocFailed<T>) -> Fault {
+        Fault::Memory
+    }
+}
+
+impl From<BootRefused> for Fault {
+    fn from(refused: BootRefused) -> Fault {
+        match refused {
+            BootRefused::Memory => Fault::Memory,
+            BootRefused::Pages | BootRefused::Pool | BootRefused::Vps => Fault::Boot,
+        }
+    }
+}
+
+// The machine with its history after all trials, and which of them was refused.
+#[derive(Drop)]
+pub(crate) struct Ended {
+    pub(crate) kept: Kept<Global>,
+    pub(crate) refusal: Option<Refusal>,
+}
+
+// This fault, if something doesn't hold.
+pub(crate) fn must(holds: bool, fault: Fault) -> Result<(), Fault> {
+    if holds { Ok(()) } else { Err(fault) }
+}
