@@ -1,8 +1,10 @@
-// Several elements of a call without a lock, and room for receipts.
+// A call and several elements of a call without a lock, and room for receipts.
 ghost use Rattle.std.specs.Prelude.{◌≡◌};
 
-use crate::calls::{boot, forty_reads, open, root};
+use crate::calls::{OWN_ID, boot, call, forty_reads, open, root};
 use hv_policy::{Action, Event, Reply};
+use hv_shared::Held;
+use hv_threads::Pass;
 use std::alloc::Global;
 use std::marker::Brand;
 use std::process::Abort;
@@ -43,4 +45,70 @@ fn reserves_as<L: Ledger>(rt: &impl Abort, alloc: Global, blank: Blank) -> Resul
 #[test]
 fn reserves(rt: HostRuntime) -> Result<(), Fail> {
     reserves_as::<Brand>(&rt, rt.alloc(), Blank::new(2))
+}
+
+// The call for the caller's own id is served, and has its receipt.
+fn hold_one<L: Ledger>(
+    rt: &impl Abort,
+    alloc: Global,
+    held: &mut Held<L>,
+    pass: &mut Pass<L>,
+) -> Result<(), Fail> {
+    let event = Event {
+        by: pass.caller(),
+        what: Action::Hypercall(call(OWN_ID, Vec::new(alloc))),
+    };
+    pass.reserve(&event, 1)?;
+    match held.hold(pass, &event) {
+        Ok(Reply::Served(id)) => assert_eq!(rt; id.as_slice(), 1u64.to_le_bytes().as_slice()),
+        _ => panic!(rt; "a call for one's own id is served"),
+    }
+    assert_eq!(rt; pass.receipts().len(), 1);
+    Ok(())
+}
+
+// The first sixteen elements of a call happen, and have their receipts.
+fn hold_sixteen<L: Ledger>(
+    rt: &impl Abort,
+    alloc: Global,
+    held: &mut Held<L>,
+    pass: &mut Pass<L>,
+) -> Result<(), Fail> {
+    let event = Event {
+        by: pass.caller(),
+        what: Action::Hypercall(forty_reads(alloc, 1)?),
+    };
+    pass.reserve(&event, 16)?;
+    let Action::Hypercall(frame) = event.what else {
+        panic!(rt; "a call")
+    };
+    let done = held.hold_run(pass, frame, 16);
+    assert_eq!(rt; done.events, 16);
+    assert!(rt; matches!(done.last, Ok(Reply::More { next: 16, .. })));
+    Ok(())
+}
+
+fn holds_as<L: Ledger>(rt: &impl Abort, alloc: Global, blank: Blank) -> Result<(), Fail>
+    requires { (blank.name ≡ L.name) × (blank.parts ≡ L.parts) × (blank.parts ≡ 1) }
+{
+    let callers = vec![in alloc; root(1)]?;
+    let Ok((mut held, mut passes)) = Held::<L>::open(boot(alloc, 100)?, blank, callers) else {
+        panic!(rt; "no memory")
+    };
+    let Some(mut pass) = passes.pop() else {
+        panic!(rt; "a pass for the processor")
+    };
+    hold_one(rt, alloc, &mut held, &mut pass)?;
+    hold_sixteen(rt, alloc, &mut held, &mut pass)?;
+    let receipts = pass.receipts();
+    assert_eq!(rt; receipts.len(), 17);
+    assert_eq!(rt; receipts.number(16), 17);
+    assert_eq!(rt; held.into_kept().history().len(), 17);
+    Ok(())
+}
+
+// Who has no lock holds a call, and then sixteen elements of another.
+#[test]
+fn holds(rt: HostRuntime) -> Result<(), Fail> {
+    holds_as::<Brand>(&rt, rt.alloc(), Blank::new(1))
 }
