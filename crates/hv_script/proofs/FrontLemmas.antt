@@ -262,16 +262,16 @@ asked_lines so_far text by asked rest number line =
     rw (here.1, asked_line so_far here.0 line.0 line.1 by asked here.2 here.3 line.3 line.4) refl
 
 -- a word that was found by the first byte that is of none
-pub last_found : (text : List ℕ) (r : Option ℕ) (at : ℕ) → r ≡ found_in (λ byte. not (is_of_word byte)) text → r ≡ Some at → get_or text at 0 ≡ 10 → 0 < at
-    → Begins text (take at text) 10 (take (length text - (at + 1)) (drop (at + 1) text))
-last_found text r at found some feed after =
+pub word_found : (text : List ℕ) (r : Option ℕ) (at stop : ℕ) → r ≡ found_in (λ byte. not (is_of_word byte)) text → r ≡ Some at → get_or text at 0 ≡ stop → 0 < at
+    → Begins text (take at text) stop (take (length text - (at + 1)) (drop (at + 1) text))
+word_found text r at stop found some ends after =
     let there = place (λ byte. not (is_of_word byte)) text r at found some in
     let inside : at < length text = let passes = there.0 in let is = there.1 in grind (arith, nat_tests) in
     let long = length-take-le at text (omega (arith, inside)) in
     let all : list_all is_of_word (take at text) ≡ true = list_all-from_AllPass is_of_word (take at text) (λ k d lt.
     let before : k < at = omega (arith, long, lt) in
     rw (get_or-take at text k d before) (not_bad _ (fails_before_first (λ byte. not (is_of_word byte)) text k d (rw there.1 before)))) in (
-      cut_at text at inside ∙ ap (λ (byte : ℕ). take at text ++ byte ∷ take (length text - (at + 1)) (drop (at + 1) text)) feed,
+      cut_at text at inside ∙ ap (λ (byte : ℕ). take at text ++ byte ∷ take (length text - (at + 1)) (drop (at + 1) text)) ends,
       some_is_word (take at text) (omega (arith, long, after)) all,
     )
 

@@ -94,14 +94,40 @@ fn leading_processor(text: &[u8]) -> Option<(Caller, &[u8])>
     Some((Caller { part, vp }, text))
 }
 
+// The word that a text begins with and that this byte ends, and what stands after it.
+#[inline(always)]
+fn word_before(text: &[u8], stop: u8) -> Option<(&[u8], &[u8])>
+    ensures { IfSome result (λ cut. Begins text.now cut.0.now stop cut.1.now) }
+{
+    let end = text.iter().position(|byte| !matches!(*byte, 0x21..=0x7E))?;
+    if end == 0 || text[end] != stop {
+        return None;
+    }
+    Some((&text[..end], &text[end + 1..]))
+}
+
+// The number that a text begins with, as it may be written in hexadecimal digits, and what stands after
+// the space behind it.
+#[inline(never)]
+fn number_by_word(text: &[u8]) -> Option<(u64, &[u8])>
+    ensures { IfSome result (λ cut. (word : List ℕ) × Begins text.now word 32 cut.1.now
+        × (number_in 64 word ≡ Some cut.0)) }
+{
+    let (word, rest) = word_before(text, b' ')?;
+    let value = number::number(word)?;
+    Some((value, rest))
+}
+
 // The number that a text begins with, and what stands after the space behind it.
 #[inline(always)]
 fn leading_number(text: &[u8]) -> Option<(u64, &[u8])>
     ensures { IfSome result (λ cut. (word : List ℕ) × Begins text.now word 32 cut.1.now
         × (number_in 64 word ≡ Some cut.0)) }
 {
-    let (value, rest) = decimal_before(text, b' ')?;
-    Some((value, rest))
+    match decimal_before(text, b' ') {
+        Some((value, rest)) => Some((value, rest)),
+        None => number_by_word(text),
+    }
 }
 
 // What stands after `call ` at the front of a text.
@@ -115,25 +141,16 @@ fn after_call(text: &[u8]) -> Option<&[u8]>
     }
 }
 
-// The same. Most calls' codes have two digits.
-#[inline(always)]
-fn code_before(text: &[u8], stop: u8) -> Option<(u64, &[u8])>
-    ensures { IfSome result (λ cut. BeginsDecimal text.now cut.0 stop cut.1.now) }
-{
-    match two_digits_before(text, stop) {
-        Some(cut) => Some(cut),
-        None => decimal_before(text, stop),
-    }
-}
-
-// The number with which a call begins, and what stands after the space behind it.
+// The same. Most calls' codes have two decimal digits.
 #[inline(always)]
 fn leading_code(text: &[u8]) -> Option<(u64, &[u8])>
     ensures { IfSome result (λ cut. (word : List ℕ) × Begins text.now word 32 cut.1.now
         × (number_in 64 word ≡ Some cut.0)) }
 {
-    let (value, rest) = code_before(text, b' ')?;
-    Some((value, rest))
+    match two_digits_before(text, b' ') {
+        Some((value, rest)) => Some((value, rest)),
+        None => leading_number(text),
+    }
 }
 
 // The processor and the registers of a call that a text begins with, and what stands after them.
@@ -147,18 +164,6 @@ fn leading_call(text: &[u8]) -> Option<(Caller, u64, u64, u64, &[u8])>
     let (rdx, text) = leading_number(text)?;
     let (r8, text) = leading_number(text)?;
     Some((by, rcx, rdx, r8, text))
-}
-
-// The last word of a line that a text begins with, and what stands after the line feed behind it.
-#[inline(always)]
-fn last_word(text: &[u8]) -> Option<(&[u8], &[u8])>
-    ensures { IfSome result (λ cut. Begins text.now cut.0.now 10 cut.1.now) }
-{
-    let end = text.iter().position(|byte| !matches!(*byte, 0x21..=0x7E))?;
-    if end == 0 || text[end] != b'\n' {
-        return None;
-    }
-    Some((&text[..end], &text[end + 1..]))
 }
 
 // The bytes of a call's input list, or nothing where the word is none.
@@ -180,8 +185,8 @@ fn input<A: Allocator + Clone>(alloc: &A, word: &[u8]) -> Result<Option<Bytes<A>
 }
 
 /// The call that a text begins with, its processor, and what stands after its line: if its words stand
-/// right behind one another, its numbers are in few decimal digits, and it has no fault. A line
-/// of which nothing is told may be anything.
+/// right behind one another, that of the processor in few decimal digits, and it has no fault. A line of
+/// which nothing is told may be anything.
 pub fn call_line<'a, A: Allocator + Clone>(
     alloc: &A,
     text: &'a [u8],
@@ -193,7 +198,7 @@ pub fn call_line<'a, A: Allocator + Clone>(
     let Some((by, rcx, rdx, r8, text)) = leading_call(text) else {
         return Ok(None);
     };
-    let Some((word, rest)) = last_word(text) else {
+    let Some((word, rest)) = word_before(text, b'\n') else {
         return Ok(None);
     };
     let Some(input) = input(alloc, word)? else {

@@ -1,7 +1,7 @@
 use Rattle.hv_script.proofs.FrontLemmas.{digits_are_word, number_is}
 use Rattle.hv_script.proofs.front.leading_number.Goals as goal
 
-pub returns : goal.returns
-returns c =
-    let read = c.in_ok-value.ensures in
-    (read.0, (read.1, digits_are_word read.0 read.2 read.3), number_is read.0 c.in_ok-value.value read.2 read.3 read.4 read.5)
+pub returns-in-Some : goal.returns-in-Some
+returns-in-Some c =
+    let read = c.in-Some.ensures in
+    (read.0, (read.1, digits_are_word read.0 read.2 read.3), number_is read.0 c.in-Some.value read.2 read.3 read.4 read.5)
