@@ -1,6 +1,6 @@
 -- When the settlement finds the passes' next receipts.
-use Rattle.std.proofs.Common.{◌≡◌, ℕ, Some, ◌+◌, ◌<◌, ◌≤◌, ◌==◌, List, [], ◌∷◌, length, get_or, true, sym, ap, ◌∙◌, subst, arith}
-use Rattle.std.specs.Prelude.{option_map, All}
+use Rattle.std.proofs.Common.{◌≡◌, ℕ, Some, ◌<◌, ◌≤◌, ◌==◌, List, [], ◌∷◌, length, get_or, true, sym, ap, ◌∙◌, subst, arith}
+use Rattle.std.specs.Prelude.{option_map}
 use Rattle.std.specs.List.{slice_get}
 use Rattle.std.specs.List.Sorted.{IsNonDecreasingBy}
 use Rattle.std.proofs.lemmas.Bool.{eqb-true, eq-eqb, false≢true}

@@ -1,20 +1,17 @@
 -- Several elements in one hold.
-use Rattle.std.proofs.Common.{◌≡◌, ℕ, suc, zero, ◌+◌, ◌-◌, ◌≤◌, ◌<◌, ◌≢◌, List, [], ◌∷◌, ◌++◌, length, refl, sym, ap, ◌∙◌, subst, arith, append_assoc, append-nil}
+use Rattle.std.proofs.Common.{◌≡◌, ℕ, suc, zero, ◌+◌, ◌-◌, ◌<◌, ◌≢◌, List, [], ◌∷◌, ◌++◌, length, refl, sym, ap, ◌∙◌, subst, arith, append_assoc, append-nil}
 use Rattle.std.specs.Prelude.{map}
 use Rattle.std.proofs.Math.Nat.{suc-mul}
 use Rattle.std.proofs.lemmas.List.{length-append, length-map, map-append}
 use Rattle.std.specs.declared.alloc.Global.{Global}
 use Rattle.hv_abi.specs.declared.frame.Frame.{Frame}
-use Rattle.hv_defs.specs.declared.sizes.TheConstants.{REPS_END}
 use Rattle.hv_history.proofs.Elements.{elements-push, goes_after, of_last}
 use Rattle.hv_history.specs.History.{IsOfLastCall}
-use Rattle.hv_history.specs.Kept.{HasGained, Kept}
 use Rattle.hv_history.specs.Row.{IsCall, most_output}
-use Rattle.hv_history.specs.Run.{AreElements as AreAsked, IsMore, element, restart, start_of}
+use Rattle.hv_history.specs.Run.{IsMore, element, restart}
 use Rattle.hv_history.specs.declared.entry.Entry.{Entry}
 use Rattle.hv_policy.specs.Next.{GoesOn}
 use Rattle.hv_policy.specs.Parts.{reply_of}
-use Rattle.hv_policy.specs.Result.{HasResult}
 use Rattle.hv_policy.specs.Step.{NamesAsked}
 use Rattle.hv_policy.specs.declared.answer.Answer.{Answer}
 use Rattle.hv_policy.specs.declared.event.Action.{Action}
@@ -26,10 +23,10 @@ use Rattle.hv_policy.specs.declared.reply.Reply.TheVariants.{More}
 use Rattle.hv_shared.specs.Drive.{AreElements, entry_in}
 use Rattle.hv_shared.specs.Held.{IsHeld}
 use Rattle.hv_shared.specs.HeldValue.{HeldValue}
-use Rattle.hv_shared.specs.Hold.{AreNumbered, HasHeld, HasHeldFor, HasHeldPart, HasHeldRun, HasHeldTo, HasHeldUpTo}
-use Rattle.hv_shared.specs.Pass.{HasReceipt, HasReceipts, receipt}
+use Rattle.hv_shared.specs.Hold.{AreNumbered, HasHeld, HasHeldFor, HasHeldPart, HasHeldRun, HasHeldUpTo}
+use Rattle.hv_shared.specs.Pass.{receipt}
 use Rattle.hv_shared.specs.PassValue.{PassValue}
-use Rattle.hv_shared.specs.Room.{HasRoom, HasUsedOne, Room}
+use Rattle.hv_shared.specs.Room.{HasRoom, Room}
 use Rattle.hv_shared.specs.declared.receipts.Receipt.{Receipt}
 
 numbered-push : (n : ℕ) (rs : List Receipt) (r : Receipt) → AreNumbered n rs → r.number ≡ n + length rs → AreNumbered n (rs ++ r ∷ [])

@@ -3,7 +3,7 @@ use Rattle.std.specs.Prelude.{ℕ, ◌≡◌, List, [], ◌∷◌, ◌++◌, map
 use Rattle.std.specs.declared.alloc.Global.{Global}
 use Rattle.hv_abi.specs.InputValue.{input_value}
 use Rattle.hv_abi.specs.declared.frame.Frame.{Frame}
-use Rattle.hv_history.specs.Run.{AreElements as AreAsked, IsMore, element, restart}
+use Rattle.hv_history.specs.Run.{AreElements as AreAsked, IsMore, element}
 use Rattle.hv_history.specs.declared.entry.Entry.{Entry}
 use Rattle.hv_policy.specs.Result.{HasResult, result_of}
 use Rattle.hv_policy.specs.declared.event.Caller.{Caller}

@@ -1,5 +1,5 @@
 -- In which order a settlement finds the passes' receipts.
-use Rattle.std.specs.Prelude.{ℕ, ◌≡◌, ◌≢◌, ◌+◌, ◌-◌, ◌/◌, ◌<◌, ◌≤◌, true, List, length, map, slice_index}
+use Rattle.std.specs.Prelude.{ℕ, ◌≡◌, ◌≢◌, ◌-◌, ◌/◌, ◌<◌, ◌≤◌, true, List, length, map, slice_index}
 use Rattle.hv_shared.specs.Merge.{next_is, rest_of}
 use Rattle.hv_shared.specs.PassValue.{PassValue}
 use Rattle.hv_shared.specs.declared.held.TheConstants.{NEVER}

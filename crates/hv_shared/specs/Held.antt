@@ -1,5 +1,5 @@
 -- What the lock does for one event.
-use Rattle.std.specs.Prelude.{ℕ, ◌≤◌, ◌≡◌, List, length}
+use Rattle.std.specs.Prelude.{ℕ, ◌≡◌, List, length}
 use Rattle.std.specs.declared.alloc.Global.{Global}
 use Rattle.hv_abi.specs.declared.frame.Frame.{Frame}
 use Rattle.hv_history.specs.Kept.{HasGained, Kept}

@@ -34,7 +34,8 @@ pub(crate) const NEVER: u64 = u64::MAX;
 #[derive(Drop)]
 pub struct Pass<L: Ledger> {
     caller: Caller,
-    receipts: Receipts,
+    // In a block of their own, so that the settlement, which changes the order of passes, moves little.
+    receipts: Box<Receipts>,
     share: Share<L>,
     // How many receipts the settlement has come past.
     settled: usize,
@@ -50,14 +51,14 @@ impl<L: Ledger> Model for Pass<L> {
 
     ghost view = { λ p. record {
       caller = p.caller;
-      receipts = list_of p.receipts;
+      receipts = list_of p.receipts.value;
       share = p.share.amount;
       settled = p.settled;
       due = p.due;
-      room = room_in p.receipts;
+      room = room_in p.receipts.value;
     } };
 
-    ghost invariant = { λ p. IsPass p.caller (list_of p.receipts) p.share.parts p.share.amount };
+    ghost invariant = { λ p. IsPass p.caller (list_of p.receipts.value) p.share.parts p.share.amount };
 }
 
 /// What the lock of a [`Shared`](crate::Shared) holds: the machine with its history, and the count of the
@@ -120,17 +121,18 @@ impl<L: Ledger> Pass<L> {
 
 impl<L: Ledger> Pass<L> {
     // A pass without receipts, with one part of the count.
-    fn open(alloc: Global, caller: Caller, share: Share<L>) -> Pass<L>
+    fn open(alloc: Global, caller: Caller, share: Share<L>) -> Result<Pass<L>, AllocError>
         requires { (share.parts ≡ 1) × (share.amount ≡ 0) }
-        ensures { (result.caller ≡ caller) × (result.receipts ≡ []) × (result.share ≡ 0) }
+        ensures { IfOk result (λ pass. (pass.caller ≡ caller) × (pass.receipts ≡ []) × (pass.share ≡ 0)) }
     {
-        Pass {
+        let receipts = Box::new(alloc, Receipts::new(alloc))?;
+        Ok(Pass {
             caller,
-            receipts: Receipts::new(alloc),
+            receipts,
             share,
             settled: 0,
             due: NEVER,
-        }
+        })
     }
 
     // The number at which the settlement finds the next receipt, or `NEVER`.
@@ -161,7 +163,7 @@ impl<L: Ledger> Pass<L> {
     pub(crate) fn is_settled(&self) -> bool
         ensures { IsTrue result ↔ (rest_of self.now ≡ []) }
     {
-        self.receipts.len() <= self.settled
+        self.receipts().len() <= self.settled
     }
 
     // Comes past the next receipt, which is that of the event with this number.
@@ -192,8 +194,9 @@ impl<L: Ledger> Pass<L> {
         requires { number < NEVER }
         ensures { IsDueAfter number (record self.now { due = result }) }
     {
-        if self.settled < self.receipts.len() {
-            let next = self.receipts.number(self.settled);
+        let receipts = self.receipts();
+        if self.settled < receipts.len() {
+            let next = receipts.number(self.settled);
             if number < next { next } else { NEVER }
         } else {
             NEVER
@@ -239,7 +242,10 @@ impl<L: Ledger> Held<L> {
         let (count, mut rest) = blank.open::<L>();
         for i in 0..callers.len() {
             let share = rest.split_off(1, 0);
-            passes.push_reserved(Pass::open(*callers.allocator(), callers[i], share));
+            let Ok(pass) = Pass::open(*callers.allocator(), callers[i], share) else {
+                return Err(kept);
+            };
+            passes.push_reserved(pass);
         }
         Ok((Held { kept, count }, passes))
     }

@@ -1,4 +1,4 @@
-use Rattle.std.proofs.Common.{◌≡◌, ◌+◌, ◌<◌, ap, sym, ◌∙◌, subst, List, drop, length, arith}
+use Rattle.std.proofs.Common.{◌+◌, ◌<◌, ap, sym, ◌∙◌, subst, List, drop, length, arith}
 use Rattle.std.specs.List.Sorted.{IsPermutation}
 use Rattle.std.specs.Prelude.{sum}
 use Rattle.std.proofs.Math.ListN.{set}
@@ -7,7 +7,7 @@ use Rattle.std.proofs.lemmas.List.{map-set}
 use Rattle.std.proofs.lemmas.List.Sorted.{All-permutation, IsPermutation-map, IsPermutation-sym}
 use Rattle.hv_history.specs.History.{entries}
 use Rattle.hv_shared.specs.Due.{IsDueAfter, IsHeapBut, dues_of}
-use Rattle.hv_shared.specs.Merge.{IsFirstAlike, MergesFrom, FailsFrom, rest_of, rests_of, shares_of}
+use Rattle.hv_shared.specs.Merge.{IsFirstAlike, MergesFrom, FailsFrom, rest_of, rests_of}
 use Rattle.hv_shared.specs.PassValue.{PassValue}
 use Rattle.hv_shared.specs.declared.held.TheConstants.{NEVER}
 use Rattle.hv_shared.specs.declared.receipts.Receipt.{Receipt}

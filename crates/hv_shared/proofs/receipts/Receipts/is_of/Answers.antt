@@ -1,5 +1,4 @@
-use Rattle.std.proofs.Common.{◌≡◌, ◌<◌, ◌↔◌, IsTrue, Bool, List, Some, length, drop, ap, arith, sym, ◌∙◌}
-use Rattle.std.specs.List.{slice_get}
+use Rattle.std.proofs.Common.{arith, sym, ◌∙◌}
 use Rattle.hv_history.specs.History.{entries}
 use Rattle.hv_shared.proofs.Packed.{before_is, count, next_is_of}
 use Rattle.hv_shared.proofs.receipts.Receipts.is_of.Goals as goal
