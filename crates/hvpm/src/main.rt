@@ -15,9 +15,8 @@ use std::rt::{Env, Files};
 use std::sync::Wait;
 use std::thread::Threads;
 
-// How many bytes of the output are gathered. The blocks in which an audit comes are larger, and go out
-// without a copy.
-const GATHERED: usize = 4096;
+// How many bytes of the output are gathered, 16 times a block in which an audit comes.
+const GATHERED: usize = 32_768;
 
 fn main(rt: HostRuntime) -> ExitCode {
     let mut err = rt.stderr();
