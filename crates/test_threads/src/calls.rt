@@ -1,8 +1,9 @@
 // What the tests begin with: calls of the root's processors 0 and 1, and passes for the two.
-ghost use Rattle.std.specs.Prelude.{◌≡◌, [], IfOk};
+ghost use Rattle.std.specs.Prelude.{◌≡◌, ◌<◌, [], IfOk, vec_len};
 
 use hv_abi::{Bytes, Frame};
 use hv_history::Kept;
+use hv_pages::PageSet;
 use hv_partition::PageKind;
 use hv_policy::{Action, Caller, Config};
 use hv_privs::Privileges;
@@ -86,14 +87,35 @@ pub(crate) fn open<L: Ledger>(
 ) -> Result<(Shared<L>, Pass<L>, Pass<L>), Fail>
     requires { (blank.name ≡ L.name) × (blank.parts ≡ L.parts) × (blank.parts ≡ 2) }
 {
-    let kept = boot(alloc, limit)?;
     let callers = vec![in alloc; root(0), root(1)]?;
-    let Ok((shared, mut passes)) = Shared::<L>::new(kept, blank, callers) else {
-        panic!(rt; "no memory")
-    };
-    match (passes.pop(), passes.pop()) {
-        (Some(second), Some(first)) => Ok((shared, first, second)),
-        _ => panic!(rt; "a pass for each processor"),
+    let kept = boot(alloc, limit)?;
+    let (shared, mut passes) = lock(rt, kept, blank, callers);
+    let second = last_of(rt, &mut passes);
+    let first = last_of(rt, &mut passes);
+    Ok((shared, first, second))
+}
+
+fn lock<L: Ledger>(
+    rt: &impl Abort,
+    kept: Kept<Global>,
+    blank: Blank,
+    callers: Vec<Caller>,
+) -> (Shared<L>, Vec<Pass<L>>)
+    requires empty { kept.history ≡ [] }
+    requires some { 0 < vec_len callers }
+    requires ledger { (blank.name ≡ L.name) × (blank.parts ≡ L.parts) × (blank.parts ≡ vec_len callers) }
+{
+    match Shared::<L>::new(kept, blank, callers) {
+        Ok(opened) => opened,
+        Err(_) => panic!(rt; "no memory"),
+    }
+}
+
+// Takes the last of the passes.
+pub(crate) fn last_of<L: Ledger>(rt: &impl Abort, passes: &mut Vec<Pass<L>>) -> Pass<L> {
+    match passes.pop() {
+        Some(pass) => pass,
+        None => panic!(rt; "a pass for each processor"),
     }
 }
 
@@ -109,10 +131,9 @@ pub(crate) fn both<L: Ledger>(
     first: (Pass<L>, Frame<Global>),
     second: (Pass<L>, Frame<Global>),
 ) -> Result<Vec<Work<L>>, Fail> {
-    let mut works = Vec::new(alloc);
-    works.push(work(alloc, first.0, first.1)?)?;
-    works.push(work(alloc, second.0, second.1)?)?;
-    Ok(works)
+    let first = work(alloc, first.0, first.1)?;
+    let second = work(alloc, second.0, second.1)?;
+    Ok(vec![in alloc; first, second]?)
 }
 
 // Does the works, each of which comes to its end, and gives the passes back.
@@ -129,6 +150,11 @@ pub(crate) fn phase<L: Ledger + Send + Sync, R: Abort + Threads + Wait + Sync, G
     }
 }
 
+fn assert_finished<L: Ledger>(rt: &impl Abort, done: &Done<L>) {
+    assert_eq!(rt; done.end, End::Finished);
+    assert_eq!(rt; done.done, 1);
+}
+
 // The passes after a phase in which each processor came to the end of its one action.
 fn passes_of<L: Ledger>(
     rt: &impl Abort,
@@ -137,8 +163,7 @@ fn passes_of<L: Ledger>(
 ) -> Result<Vec<Pass<L>>, Fail> {
     let mut passes = Vec::new(alloc);
     for done in dones {
-        assert_eq!(rt; done.end, End::Finished);
-        assert_eq!(rt; done.done, 1);
+        assert_finished(rt, &done);
         passes.push(done.pass)?;
     }
     Ok(passes)
@@ -156,12 +181,22 @@ pub(crate) fn settled<L: Ledger>(
     }
 }
 
+// The history has so many events.
+pub(crate) fn assert_events(rt: &impl Abort, kept: &Kept<Global>, events: usize) {
+    assert_eq!(rt; kept.history().len(), events);
+}
+
+// The pages that are pooled in a partition.
+fn pooled_in<'k>(rt: &impl Abort, kept: &'k Kept<Global>, part: u64) -> &'k PageSet<Global> {
+    match kept.machine().tree().get(part) {
+        Some(child) => child.pages(PageKind::Pooled),
+        None => panic!(rt; "a partition was made"),
+    }
+}
+
 // Just these pages are pooled in a partition.
 pub(crate) fn assert_pooled(rt: &impl Abort, kept: &Kept<Global>, part: u64, pages: Range<u32>) {
-    let Some(child) = kept.machine().tree().get(part) else {
-        panic!(rt; "a partition was made")
-    };
-    let pooled = child.pages(PageKind::Pooled);
+    let pooled = pooled_in(rt, kept, part);
     assert_eq!(rt; pooled.count(), pages.len() as u64);
     for page in pages {
         assert!(rt; pooled.holds(page));

@@ -1,12 +1,12 @@
 // A processor that another one deletes while it makes a rep call.
 ghost use Rattle.std.specs.Prelude.{◌≡◌};
 
-use crate::calls::{both, call, delete, forty_reads, open, phase, root, settled};
+use crate::calls::{assert_events, both, call, delete, forty_reads, open, phase, root, settled};
 use crate::gates::Halt;
 use hv_abi::Status;
 use hv_history::{Answer, Asked};
 use hv_policy::{Reply, Rule, result_of};
-use hv_threads::Receipts;
+use hv_threads::{Pass, Receipts};
 use std::alloc::Global;
 use std::marker::Brand;
 use std::process::Abort;
@@ -57,6 +57,14 @@ fn assert_result(rt: &impl Abort, alloc: Global) {
     assert_eq!(rt; value.bits(), 0x0000_0010_0000_000e);
 }
 
+// Processor 0 deleted processor 1, which was stopped.
+fn assert_passes<L: Ledger>(rt: &impl Abort, passes: &[Pass<L>]) {
+    assert_eq!(rt; passes.len(), 2);
+    assert_eq!(rt; passes[1].caller(), root(1));
+    assert_deleted(rt, passes[0].receipts());
+    assert_stopped(rt, passes[1].receipts());
+}
+
 fn deleted_as<L: Ledger + Send + Sync, R: Abort + Clock + Threads + Wait + Sync>(
     rt: &R,
     alloc: Global,
@@ -64,21 +72,15 @@ fn deleted_as<L: Ledger + Send + Sync, R: Abort + Clock + Threads + Wait + Sync>
 ) -> Result<(), Fail>
     requires { (blank.name ≡ L.name) × (blank.parts ≡ L.parts) × (blank.parts ≡ 2) }
 {
+    let reads = forty_reads(alloc, 1)?;
     let (shared, first, second) = open::<L>(rt, alloc, blank, 100)?;
-    let works = both(
-        alloc,
-        (first, delete(alloc)),
-        (second, forty_reads(alloc, 1)?),
-    )?;
+    let works = both(alloc, (first, delete(alloc)), (second, reads))?;
     let gate = Halt::new(rt);
     let passes = phase(rt, alloc, &shared, &gate, works)?;
-    assert!(rt; !gate.is_late());
-    assert_eq!(rt; passes.len(), 2);
-    assert_deleted(rt, passes[0].receipts());
-    assert_eq!(rt; passes[1].caller(), root(1));
-    assert_stopped(rt, passes[1].receipts());
+    gate.assert_in_time(rt);
+    assert_passes(rt, &passes);
     let kept = settled(rt, shared, passes);
-    assert_eq!(rt; kept.history().len(), 18);
+    assert_events(rt, &kept, 18);
     assert_result(rt, alloc);
     Ok(())
 }

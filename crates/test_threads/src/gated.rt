@@ -3,6 +3,7 @@
 use crate::gates::Meeting;
 use hv_options::Options;
 use hv_run::{Exit, run_gated};
+use std::process::Abort;
 use std::test::Fail;
 
 const SCRIPT: &[u8] =
@@ -19,6 +20,12 @@ const ONE_FIRST: &[u8] = b"1 1.1 call 0000000000000046 ok 0000000000000000 01000
 events 2
 ";
 
+fn assert_done(rt: &impl Abort, exit: Exit, out: &[u8], err: &[u8]) {
+    assert_eq!(rt; exit, Exit::Done);
+    assert_eq!(rt; err, b"".as_slice());
+    assert!(rt; out == ZERO_FIRST || out == ONE_FIRST);
+}
+
 #[test]
 fn scripts_overlap(rt: HostRuntime) -> Result<(), Fail> {
     let alloc = rt.alloc();
@@ -31,9 +38,7 @@ fn scripts_overlap(rt: HostRuntime) -> Result<(), Fail> {
     let mut out: Vec<u8> = Vec::new(alloc);
     let mut err: Vec<u8> = Vec::new(alloc);
     let exit = run_gated(&rt, alloc, SCRIPT, &options, &gate, &mut out, &mut err);
-    assert!(rt; !gate.is_late());
-    assert_eq!(rt; exit, Exit::Done);
-    assert_eq!(rt; err.as_slice(), b"".as_slice());
-    assert!(rt; out.as_slice() == ZERO_FIRST || out.as_slice() == ONE_FIRST);
+    gate.assert_in_time(&rt);
+    assert_done(&rt, exit, &out, &err);
     Ok(())
 }

@@ -3,6 +3,7 @@
 
 use hv_policy::Caller;
 use hv_threads::Gate;
+use std::process::Abort;
 use std::sync::Wait;
 use std::sync::atomic::{AtomicBool, AtomicU64, Ordering};
 use std::thread;
@@ -43,9 +44,9 @@ impl<'a, C: Clock + Sync> Meeting<'a, C> {
         }
     }
 
-    // Whether a processor didn't come in time.
-    pub(crate) fn is_late(&self) -> bool {
-        self.late.load(Ordering::SeqCst)
+    // Each processor came in time.
+    pub(crate) fn assert_in_time(&self, rt: &impl Abort) {
+        assert!(rt; !self.late.load(Ordering::SeqCst));
     }
 }
 
@@ -85,9 +86,9 @@ impl<'a, C: Clock + Sync> Halt<'a, C> {
         }
     }
 
-    // Whether a processor didn't come so far in time.
-    pub(crate) fn is_late(&self) -> bool {
-        self.late.load(Ordering::SeqCst)
+    // Each processor came so far in time.
+    pub(crate) fn assert_in_time(&self, rt: &impl Abort) {
+        assert!(rt; !self.late.load(Ordering::SeqCst));
     }
 }
 
@@ -126,9 +127,9 @@ impl<'a, C: Clock + Sync> Alternation<'a, C> {
         }
     }
 
-    // Whether a processor didn't come in time.
-    pub(crate) fn is_late(&self) -> bool {
-        self.late.load(Ordering::SeqCst)
+    // Each processor came in time.
+    pub(crate) fn assert_in_time(&self, rt: &impl Abort) {
+        assert!(rt; !self.late.load(Ordering::SeqCst));
     }
 }
 
@@ -163,12 +164,10 @@ impl Notes {
         }
     }
 
-    pub(crate) fn entered(&self) -> u64 {
-        self.entered.load(Ordering::SeqCst)
-    }
-
-    pub(crate) fn left(&self) -> u64 {
-        self.left.load(Ordering::SeqCst)
+    // It was told of these holds, of both ends of each.
+    pub(crate) fn assert_told(&self, rt: &impl Abort, turns: u64) {
+        assert_eq!(rt; self.entered.load(Ordering::SeqCst), turns);
+        assert_eq!(rt; self.left.load(Ordering::SeqCst), turns);
     }
 }
 

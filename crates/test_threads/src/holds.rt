@@ -1,11 +1,12 @@
 // Rep calls of one processor alone and of two, which go on by sixteen elements at a time.
 ghost use Rattle.std.specs.Prelude.{◌≡◌};
 
-use crate::calls::{both, forty_reads, open, phase, root, settled};
+use crate::calls::{assert_events, both, forty_reads, open, phase, root, settled};
 use crate::gates::{Alternation, Notes};
+use hv_abi::Frame;
 use hv_history::{Answer, History};
 use hv_policy::Reply;
-use hv_threads::Receipts;
+use hv_threads::{Pass, Receipts, Shared};
 use std::alloc::Global;
 use std::marker::Brand;
 use std::process::Abort;
@@ -34,6 +35,22 @@ fn assert_forty(rt: &impl Abort, receipts: &Receipts) {
     }
 }
 
+// Reads forty times, and all is served.
+fn read_forty<L: Ledger, R: Abort + Wait>(
+    rt: &R,
+    shared: &Shared<L>,
+    pass: &mut Pass<L>,
+    reads: Frame<Global>,
+) -> Result<(), Fail> {
+    let gate = Notes::new();
+    let (value, reply) = shared.drive(rt, pass, &gate, reads)?;
+    assert_eq!(rt; value.bits(), 0x0000_0028_0000_0000);
+    assert!(rt; matches!(reply, Reply::Served(_)));
+    gate.assert_told(rt, THREE_HOLDS);
+    assert_forty(rt, pass.receipts());
+    Ok(())
+}
+
 fn reads_alone_as<L: Ledger, R: Abort + Wait>(
     rt: &R,
     alloc: Global,
@@ -41,16 +58,11 @@ fn reads_alone_as<L: Ledger, R: Abort + Wait>(
 ) -> Result<(), Fail>
     requires { (blank.name ≡ L.name) × (blank.parts ≡ L.parts) × (blank.parts ≡ 2) }
 {
+    let reads = forty_reads(alloc, 1)?;
     let (shared, other, mut pass) = open::<L>(rt, alloc, blank, 100)?;
-    let gate = Notes::new();
-    let (value, reply) = shared.drive(rt, &mut pass, &gate, forty_reads(alloc, 1)?)?;
-    assert_eq!(rt; value.bits(), 0x0000_0028_0000_0000);
-    assert!(rt; matches!(reply, Reply::Served(_)));
-    assert_eq!(rt; gate.entered(), THREE_HOLDS);
-    assert_eq!(rt; gate.left(), THREE_HOLDS);
-    assert_forty(rt, pass.receipts());
+    read_forty(rt, &shared, &mut pass, reads)?;
     let kept = settled(rt, shared, vec![in alloc; other, pass]?);
-    assert_eq!(rt; kept.history().len(), 40);
+    assert_events(rt, &kept, 40);
     Ok(())
 }
 
@@ -85,15 +97,12 @@ fn takes_turns_as<L: Ledger + Send + Sync, R: Abort + Clock + Threads + Wait + S
 ) -> Result<(), Fail>
     requires { (blank.name ≡ L.name) × (blank.parts ≡ L.parts) × (blank.parts ≡ 2) }
 {
+    let reads = (forty_reads(alloc, 0)?, forty_reads(alloc, 1)?);
     let (shared, first, second) = open::<L>(rt, alloc, blank, 100)?;
-    let works = both(
-        alloc,
-        (first, forty_reads(alloc, 0)?),
-        (second, forty_reads(alloc, 1)?),
-    )?;
+    let works = both(alloc, (first, reads.0), (second, reads.1))?;
     let gate = Alternation::new(rt);
     let passes = phase(rt, alloc, &shared, &gate, works)?;
-    assert!(rt; !gate.is_late());
+    gate.assert_in_time(rt);
     let kept = settled(rt, shared, passes);
     assert_in_turns(rt, kept.history());
     Ok(())

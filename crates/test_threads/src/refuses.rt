@@ -1,12 +1,12 @@
 // What the host refuses, since the history is full.
 ghost use Rattle.std.specs.Prelude.{◌≡◌};
 
-use crate::calls::{OWN_ID, call, forty_reads, open, settled};
+use crate::calls::{OWN_ID, assert_events, call, forty_reads, open, settled};
 use crate::gates::Notes;
-use hv_abi::ResultValue;
+use hv_abi::{Frame, ResultValue};
 use hv_history::{Answer, HostRefused};
 use hv_policy::{Action, Reply};
-use hv_threads::{DriveRefused, Receipts};
+use hv_threads::{DriveRefused, Pass, Receipts, Shared};
 use std::alloc::Global;
 use std::marker::Brand;
 use std::process::Abort;
@@ -37,25 +37,43 @@ const TWO_HOLDS: u64 = 1_17;
 
 const TWO_HOLDS_AND_A_CALL: u64 = 1_17_21;
 
+// Reads forty times, of which the history has room for twenty.
+fn read_twenty<L: Ledger, R: Abort + Wait>(
+    rt: &R,
+    shared: &Shared<L>,
+    gate: &Notes,
+    pass: &mut Pass<L>,
+    reads: Frame<Global>,
+) {
+    assert_refused(rt, shared.drive(rt, pass, gate, reads));
+    gate.assert_told(rt, TWO_HOLDS);
+    assert_receipts(rt, pass.receipts());
+}
+
+// One more call, which the history has no room for.
+fn ask_once<L: Ledger, R: Abort + Wait>(
+    rt: &R,
+    shared: &Shared<L>,
+    gate: &Notes,
+    pass: &mut Pass<L>,
+    own_id: Frame<Global>,
+) {
+    let refused = shared.call(rt, pass, gate, Action::Hypercall(own_id));
+    assert!(rt; matches!(refused, Err(HostRefused::HistoryFull)));
+    gate.assert_told(rt, TWO_HOLDS_AND_A_CALL);
+    assert_eq!(rt; pass.receipts().len(), 20);
+}
+
 fn refuses_as<L: Ledger, R: Abort + Wait>(rt: &R, alloc: Global, blank: Blank) -> Result<(), Fail>
     requires { (blank.name ≡ L.name) × (blank.parts ≡ L.parts) × (blank.parts ≡ 2) }
 {
+    let reads = forty_reads(alloc, 1)?;
     let (shared, other, mut pass) = open::<L>(rt, alloc, blank, 20)?;
     let gate = Notes::new();
-    assert_refused(
-        rt,
-        shared.drive(rt, &mut pass, &gate, forty_reads(alloc, 1)?),
-    );
-    assert_eq!(rt; gate.entered(), TWO_HOLDS);
-    assert_eq!(rt; gate.left(), TWO_HOLDS);
-    assert_receipts(rt, pass.receipts());
-    let own_id = Action::Hypercall(call(OWN_ID, Vec::new(alloc)));
-    let refused = shared.call(rt, &mut pass, &gate, own_id);
-    assert!(rt; matches!(refused, Err(HostRefused::HistoryFull)));
-    assert_eq!(rt; gate.left(), TWO_HOLDS_AND_A_CALL);
-    assert_eq!(rt; pass.receipts().len(), 20);
+    read_twenty(rt, &shared, &gate, &mut pass, reads);
+    ask_once(rt, &shared, &gate, &mut pass, call(OWN_ID, Vec::new(alloc)));
     let kept = settled(rt, shared, vec![in alloc; other, pass]?);
-    assert_eq!(rt; kept.history().len(), 20);
+    assert_events(rt, &kept, 20);
     Ok(())
 }
 

@@ -2,12 +2,14 @@
 // and without one.
 ghost use Rattle.std.specs.Prelude.{◌≡◌};
 
-use crate::calls::{assert_pooled, both, call, numbers, open, phase, root, settled};
-use hv_history::{Answer, Asked, Kept};
+use crate::calls::{assert_pooled, both, call, last_of, numbers, open, phase, root, settled};
+use hv_abi::Frame;
+use hv_history::{Answer, Asked, EntryRef, Kept};
 use hv_policy::{Action, Reply};
-use hv_threads::{Open, Pass, SettleFault, Shared, perform, settle};
+use hv_threads::{Open, Pass, SettleFault, SettleRefused, Shared, Work, perform, settle};
 use std::alloc::Global;
 use std::marker::Brand;
+use std::ops::Range;
 use std::process::Abort;
 use std::sync::Wait;
 use std::sync::ledger::{Blank, Ledger};
@@ -20,6 +22,37 @@ const DEPOSIT: u64 = 0x48;
 
 const TEN_DEPOSITS: u64 = 0xa_0000_0048;
 
+// Makes partitions 2 and 3.
+fn make_two<L: Ledger, R: Abort + Wait>(
+    rt: &R,
+    alloc: Global,
+    shared: &Shared<L>,
+    pass: &mut Pass<L>,
+) -> Result<(), Fail> {
+    let create = Action::Hypercall(call(CREATE, Vec::new(alloc)));
+    let made = shared.call(rt, pass, &Open, create)?;
+    assert!(rt; matches!(made, Reply::Served(_)));
+    let create = Action::Hypercall(call(CREATE, Vec::new(alloc)));
+    perform(rt, shared, &Open, pass, create)?;
+    Ok(())
+}
+
+// Deposits pages into a partition.
+fn deposits(alloc: Global, part: u64, pages: Range<u64>) -> Result<Frame<Global>, Fail> {
+    Ok(call(TEN_DEPOSITS, numbers(alloc, part, pages)?))
+}
+
+// Each processor has ten pages to deposit, the first into partition 2, the second into 3.
+fn works_of<L: Ledger>(
+    alloc: Global,
+    first: Pass<L>,
+    second: Pass<L>,
+) -> Result<Vec<Work<L>>, Fail> {
+    let low = deposits(alloc, 2, 20..30)?;
+    let high = deposits(alloc, 3, 30..40)?;
+    both(alloc, (first, low), (second, high))
+}
+
 // Makes partitions 2 and 3, and lets each of the root's processors deposit ten pages into one of them.
 fn fill<L: Ledger + Send + Sync, R: Abort + Threads + Wait + Sync>(
     rt: &R,
@@ -29,18 +62,16 @@ fn fill<L: Ledger + Send + Sync, R: Abort + Threads + Wait + Sync>(
     requires { (blank.name ≡ L.name) × (blank.parts ≡ L.parts) × (blank.parts ≡ 2) }
 {
     let (shared, mut first, second) = open::<L>(rt, alloc, blank, 1000)?;
-    let create = Action::Hypercall(call(CREATE, Vec::new(alloc)));
-    let made = shared.call(rt, &mut first, &Open, create)?;
-    assert!(rt; matches!(made, Reply::Served(_)));
-    let create = Action::Hypercall(call(CREATE, Vec::new(alloc)));
-    perform(rt, &shared, &Open, &mut first, create)?;
-    let works = both(
-        alloc,
-        (first, call(TEN_DEPOSITS, numbers(alloc, 2, 20..30)?)),
-        (second, call(TEN_DEPOSITS, numbers(alloc, 3, 30..40)?)),
-    )?;
+    make_two(rt, alloc, &shared, &mut first)?;
+    let works = works_of(alloc, first, second)?;
     let passes = phase(rt, alloc, &shared, &Open, works)?;
     Ok((shared, passes))
+}
+
+// An event is a call with this code, and was served.
+fn assert_served(rt: &impl Abort, entry: EntryRef<'_>, code: u64) {
+    assert!(rt; matches!(entry.asked, Asked::Hypercall { rcx, .. } if rcx & 0xffff == code));
+    assert!(rt; matches!(entry.answer, Answer::Served | Answer::More { .. }));
 }
 
 // The history has two partitions made and then 20 deposits, and all were served.
@@ -48,16 +79,7 @@ fn assert_filled(rt: &impl Abort, kept: &Kept<Global>) {
     let history = kept.history();
     assert_eq!(rt; history.len(), 22);
     for at in 0..history.len() {
-        let entry = history.entry(at);
-        let code = if at < 2 { CREATE } else { DEPOSIT };
-        assert!(rt;
-            matches!(entry.asked, Asked::Hypercall { rcx, .. } if rcx & 0xffff == code),
-            "{at}"
-        );
-        assert!(rt;
-            matches!(entry.answer, Answer::Served | Answer::More { .. }),
-            "{at}"
-        );
+        assert_served(rt, history.entry(at), if at < 2 { CREATE } else { DEPOSIT });
     }
 }
 
@@ -69,7 +91,6 @@ fn settles_as<L: Ledger + Send + Sync, R: Abort + Threads + Wait + Sync>(
     requires { (blank.name ≡ L.name) × (blank.parts ≡ L.parts) × (blank.parts ≡ 2) }
 {
     let (shared, passes) = fill::<L, R>(rt, alloc, blank)?;
-    assert_eq!(rt; passes.len(), 2);
     let kept = settled(rt, shared, passes);
     assert_filled(rt, &kept);
     assert_pooled(rt, &kept, 2, 20..30);
@@ -83,6 +104,17 @@ fn settles(rt: HostRuntime) -> Result<(), Fail> {
     settles_as::<Brand, HostRuntime>(&rt, rt.alloc(), Blank::new(2))
 }
 
+// The settlement tells that events are no one's, and hands the history back.
+fn assert_missing(rt: &impl Abort, told: Result<Kept<Global>, SettleRefused>) {
+    match told {
+        Ok(_) => panic!(rt; "the events of a processor are no one's"),
+        Err(refused) => {
+            assert_eq!(rt; refused.fault, SettleFault::Missing);
+            assert_filled(rt, &refused.kept);
+        }
+    }
+}
+
 fn misses_as<L: Ledger + Send + Sync, R: Abort + Threads + Wait + Sync>(
     rt: &R,
     alloc: Global,
@@ -91,15 +123,9 @@ fn misses_as<L: Ledger + Send + Sync, R: Abort + Threads + Wait + Sync>(
     requires { (blank.name ≡ L.name) × (blank.parts ≡ L.parts) × (blank.parts ≡ 2) }
 {
     let (shared, mut passes) = fill::<L, R>(rt, alloc, blank)?;
-    let last = passes.pop();
-    assert!(rt; matches!(&last, Some(pass) if pass.caller() == root(1)));
-    match settle(shared, passes) {
-        Ok(_) => panic!(rt; "the events of a processor are no one's"),
-        Err(refused) => {
-            assert_eq!(rt; refused.fault, SettleFault::Missing);
-            assert_filled(rt, &refused.kept);
-        }
-    }
+    let last = last_of(rt, &mut passes);
+    assert_eq!(rt; last.caller(), root(1));
+    assert_missing(rt, settle(shared, passes));
     Ok(())
 }
 
