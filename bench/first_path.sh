@@ -8,7 +8,6 @@ folder=$(mktemp -d)
 trap 'rm -rf -- "$folder"' EXIT
 
 source "$root/bench/measure.sh"
-"$root/bin/hvpm" --prove
 
 boot='boot 32 12 1 0x000000f700000044 4294967295'
 call='1.0 call 0x46 0 0 -'
@@ -26,5 +25,5 @@ make_script() {
 for bytes in 1024 16384 131072 262144 524288 1048576; do
     make_script "$bytes" >"$folder/$bytes.hv"
     echo "== $bytes bytes"
-    measure "$root/bin/hvpm" "$folder/$bytes.hv"
+    measure "$program" "$folder/$bytes.hv"
 done

@@ -12,7 +12,6 @@ folder=$(mktemp -d)
 trap 'rm -rf -- "$folder"' EXIT
 
 source "$root/bench/measure.sh"
-"$root/bin/hvpm" --prove
 
 # Makes a script of a kind: a boot line, as many lines as fit, and a comment that fills it up.
 make() {
@@ -64,7 +63,6 @@ make() {
 }
 
 # The instructions of a run of the script $1.
-program=$root/crates/hvpm/out/hvpm
 instructions() {
     command -v valgrind >/dev/null || return 1
     valgrind --tool=callgrind --callgrind-out-file=/dev/null "$program" run "$1" --serial 2>&1 >/dev/null |
@@ -74,7 +72,7 @@ instructions() {
 for kind in id reps messages partitions processors; do
     make "$kind"
     echo "== $kind, $(stat -c %s "$folder/$kind.hv") bytes"
-    measure "$root/bin/hvpm" "$folder/$kind.hv"
+    measure "$program" "$folder/$kind.hv"
     events=$(sed -n 's/^events //p' "$folder/audit")
     echo "bytes of the outputs: $(awk '/ (ok|more) / && $NF != "-" { n += length($NF) / 2 } END { print n + 0 }' "$folder/audit")"
     if whole=$(instructions "$folder/$kind.hv"); then
@@ -82,4 +80,4 @@ for kind in id reps messages partitions processors; do
     fi
 done
 echo "== the boot line alone"
-measure "$root/bin/hvpm" "$folder/boot.hv"
+measure "$program" "$folder/boot.hv"

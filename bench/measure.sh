@@ -1,4 +1,8 @@
-# Sourced by the benchmarks: the bytes of a number, and one measured run of the program.
+# Sourced by the benchmarks: the program that they measure, the bytes of a number, and one measured run.
+
+# HVPM where it is set, and else the repository's own program, which is proved and built first where that isn't done.
+program=${HVPM:-$root/crates/hvpm/out/hvpm}
+[[ -n ${HVPM:-} ]] || "$root/bin/hvpm" --prove
 
 # The $2 bytes of the number $1, the lowest first.
 field() {

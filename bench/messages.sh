@@ -11,7 +11,6 @@ folder=$(mktemp -d)
 trap 'rm -rf -- "$folder"' EXIT
 
 source "$root/bench/measure.sh"
-"$root/bin/hvpm" --prove
 
 # Makes a script of 1,600 turns, by the kind of script and its numbers. Connections have the ids of their ports.
 make() {
@@ -91,7 +90,7 @@ make() {
 
 run() {
     echo "== $1, $(stat -c %s "$folder/messages.hv") bytes"
-    measure "$root/bin/hvpm" "$folder/messages.hv"
+    measure "$program" "$folder/messages.hv"
 }
 
 for processors in 1 10 64; do

@@ -9,7 +9,6 @@ folder=$(mktemp -d)
 trap 'rm -rf -- "$folder"' EXIT
 
 source "$root/bench/measure.sh"
-"$root/bin/hvpm" --prove
 
 # The 8 bytes of a number below 65,536.
 number() {
@@ -51,10 +50,10 @@ for pages in 4096 8192 16384 32768 65536; do
     moved=$((pages - 8 < 60000 ? pages - 8 : 60000))
     make_script "$pages" "$moved" >"$folder/pools.hv"
     echo "== $pages pages, $((2 * moved)) events, $(stat -c %s "$folder/pools.hv") bytes"
-    measure "$root/bin/hvpm" "$folder/pools.hv"
+    measure "$program" "$folder/pools.hv"
 done
 for pages in 4096 8192 16384 32768 65536; do
     make_scattered_script "$pages" >"$folder/scattered.hv"
     echo "== every second of $pages pages, $(((pages - 8 + 1) / 2)) events, $(stat -c %s "$folder/scattered.hv") bytes"
-    measure "$root/bin/hvpm" "$folder/scattered.hv"
+    measure "$program" "$folder/scattered.hv"
 done

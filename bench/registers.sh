@@ -10,7 +10,6 @@ folder=$(mktemp -d)
 trap 'rm -rf -- "$folder"' EXIT
 
 source "$root/bench/measure.sh"
-"$root/bin/hvpm" --prove
 
 turns=64
 
@@ -77,7 +76,7 @@ partitions_script() {
 
 run() {
     echo "== $1, $(stat -c %s "$folder/registers.hv") bytes"
-    measure "$root/bin/hvpm" "$folder/registers.hv"
+    measure "$program" "$folder/registers.hv"
 }
 
 for processors in 1 4 16 64; do

@@ -22,8 +22,6 @@ folder=$(mktemp -d)
 trap 'rm -rf -- "$folder"' EXIT
 
 source "$root/bench/measure.sh"
-program=${HVPM:-$root/crates/hvpm/out/hvpm}
-[[ -n ${HVPM:-} ]] || "$root/bin/hvpm" --prove
 
 processors=8
 turns=25
