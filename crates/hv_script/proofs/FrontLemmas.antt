@@ -12,15 +12,18 @@ use Rattle.std.proofs.lemmas.Str.{digit_value_digit}
 use Rattle.std.proofs.lemmas.Str.Parse.{digit_from_value}
 use Rattle.std.proofs.Math.Nat.{pow-le-pow_right}
 use Rattle.std.proofs.Math.Seq.{drop-append-add, take-append_seam}
-use Rattle.hv_script.specs.Front.{Begins, BeginsAsking, BeginsCall, BeginsDecimal, BeginsLine, BeginsWords, Names, is_of_word, is_word, taken}
+use Rattle.hv_script.specs.Front.{Asks, Begins, BeginsAsking, BeginsCall, BeginsDecimal, BeginsFields, BeginsLine, BeginsNumber, BeginsWords, Names, is_of_word, is_word, taken}
 use Rattle.hv_policy.specs.declared.event.Action.{Action}
 use Rattle.hv_policy.specs.declared.event.Action.TheVariants as action
 use Rattle.hv_policy.specs.declared.event.Caller.{Caller}
 use Rattle.hv_script.specs.Line.{◌>>=◌, action_of, processor_of}
 use Rattle.hv_script.specs.Number.{bytes_in, decimal_in, number_in}
 use Rattle.hv_script.specs.Script.{SoFar, at_line, later_line, processor_line, read_line, read_lines}
+use Rattle.hv_script.specs.Verb.{word_of}
 use Rattle.hv_script.specs.Words.{begins_with, has_good_bytes, is_skipped, lines_of, words_of}
 use Rattle.hv_script.specs.declared.fault.FaultKind.{FaultKind}
+use Rattle.hv_script.specs.declared.verb.Verb.{Verb}
+use Rattle.hv_script.specs.declared.verb.Verb.TheVariants as verb
 use Rattle.hv_script.proofs.CutLemmas.{found_in, not_bad, place}
 use Rattle.hv_script.proofs.NumberLemmas.{hex_test, plain_number, read_digits}
 use Rattle.hv_script.proofs.SpaceLemmas.{full_word}
@@ -221,16 +224,75 @@ unfolding action_of
 action_is first third fourth fifth sixth rcx rdx r8 input c d e b = rw (c, d, e, b) refl
 
 -- a call, by its words
-pub call_is : {A : Type 0} (text : List ℕ) (by : Caller) (rcx rdx r8 : ℕ) (left word rest input : List ℕ) → BeginsCall text by rcx rdx r8 left
+pub call_is : {A : Type 0} (text : List ℕ) (rcx rdx r8 : ℕ) (left word rest input : List ℕ) → BeginsCall text rcx rdx r8 left
     → Begins left word 10 rest → bytes_in word ≡ Ok input
-    → BeginsAsking {A = A} text by (action.Hypercall (record { rcx = rcx; rdx = rdx; r8 = r8; input = input })) rest
-call_is {A} text by rcx rdx r8 left word rest input call end bytes = (
-  call.0,
-  codes "call" ∷ call.1 ∷ call.2 ∷ call.3 ∷ word ∷ [],
-  all_words text (call.0 ∷ codes "call" ∷ call.1 ∷ call.2 ∷ call.3 ∷ []) left (word ∷ []) rest call.4 (last left word rest end),
-  call.5,
-  action_is {A = A} call.0 call.1 call.2 call.3 word rcx rdx r8 input call.6 call.7 call.8 bytes,
+    → Asks {A = A} text (action.Hypercall (record { rcx = rcx; rdx = rdx; r8 = r8; input = input })) rest
+call_is {A} text rcx rdx r8 left word rest input call end bytes = (
+  codes "call" ∷ call.0 ∷ call.1 ∷ call.2 ∷ word ∷ [],
+  all_words text (codes "call" ∷ call.0 ∷ call.1 ∷ call.2 ∷ []) left (word ∷ []) rest call.3 (last left word rest end),
+  λ first. action_is {A = A} first call.0 call.1 call.2 word rcx rdx r8 input call.4 call.5 call.6 bytes,
 )
+
+-- a line, by its processor and what it asks for
+pub asking_is : {A : Type 0} (text first left : List ℕ) (by : Caller) (asked : Action A) (rest : List ℕ) → Begins text first 32 left → Names first by
+    → Asks left asked rest → BeginsAsking text by asked rest
+asking_is text first left by asked rest begins names asks =
+    (first, asks.0, more text first left asks.0 rest begins asks.1, names, asks.2 first)
+
+-- an access, by its second word and those behind
+pub access_is : {A : Type 0} (verb : Verb) (text left : List ℕ) (asked : Action A) (rest : List ℕ) → Begins text (word_of verb) 32 left
+    → BeginsFields verb left asked rest → Asks text asked rest
+access_is verb text left asked rest begins fields =
+    (word_of verb ∷ fields.0, more text (word_of verb) left fields.0 rest begins fields.1, fields.2)
+
+-- the access without a number
+pub interrupt_is : {A : Type 0} (text rest : List ℕ) → Begins text (codes "interrupt") 10 rest → Asks {A = A} text action.TakeInterrupt rest
+unfolding action_of
+interrupt_is text rest begins = (codes "interrupt" ∷ [], last text (codes "interrupt") rest begins, λ first. refl)
+
+-- an access with one number
+one_number : {A : Type 0} (verb : Verb) (bits : ℕ) (text : List ℕ) (value : ℕ) (rest : List ℕ) (asked : Action A) → BeginsNumber bits text value 10 rest
+    → ((first word : List ℕ) → number_in bits word ≡ Some value → action_of (first ∷ word_of verb ∷ word ∷ []) ≡ Ok asked)
+    → BeginsFields verb text asked rest
+one_number verb bits text value rest asked read is = (read.0 ∷ [], last text read.0 rest read.1, λ first. is first read.0 read.2)
+
+-- an access with two numbers
+two_numbers : {A : Type 0} (verb : Verb) (bits more_bits : ℕ) (text : List ℕ) (value : ℕ) (left : List ℕ) (second : ℕ) (rest : List ℕ) (asked : Action A)
+    → BeginsNumber bits text value 32 left → BeginsNumber more_bits left second 10 rest
+    → ((first word back : List ℕ) → number_in bits word ≡ Some value → number_in more_bits back ≡ Some second
+    → action_of (first ∷ word_of verb ∷ word ∷ back ∷ []) ≡ Ok asked)
+    → BeginsFields verb text asked rest
+two_numbers verb bits more_bits text value left second rest asked read next is = (
+  read.0 ∷ next.0 ∷ [],
+  more text read.0 left (next.0 ∷ []) rest read.1 (last left next.0 rest next.1),
+  λ first. is first read.0 next.0 read.2 next.2,
+)
+
+pub read_msr_is : {A : Type 0} (text : List ℕ) (msr : ℕ) (rest : List ℕ) → BeginsNumber 32 text msr 10 rest → BeginsFields {A = A} verb.ReadMsr text (action.ReadMsr msr) rest
+unfolding action_of
+read_msr_is {A} text msr rest read = one_number {A = A} verb.ReadMsr 32 text msr rest (action.ReadMsr msr) read (λ first word e. rw e refl)
+
+pub read_slot_is : {A : Type 0} (text : List ℕ) (sint : ℕ) (rest : List ℕ) → BeginsNumber 8 text sint 10 rest → BeginsFields {A = A} verb.ReadSlot text (action.ReadSlot sint) rest
+unfolding action_of
+read_slot_is {A} text sint rest read = one_number {A = A} verb.ReadSlot 8 text sint rest (action.ReadSlot sint) read (λ first word e. rw e refl)
+
+pub clear_slot_is : {A : Type 0} (text : List ℕ) (sint : ℕ) (rest : List ℕ) → BeginsNumber 8 text sint 10 rest → BeginsFields {A = A} verb.ClearSlot text (action.ClearSlot sint) rest
+unfolding action_of
+clear_slot_is {A} text sint rest read = one_number {A = A} verb.ClearSlot 8 text sint rest (action.ClearSlot sint) read (λ first word e. rw e refl)
+
+pub read_flags_is : {A : Type 0} (text : List ℕ) (sint : ℕ) (rest : List ℕ) → BeginsNumber 8 text sint 10 rest → BeginsFields {A = A} verb.ReadFlags text (action.ReadFlags sint) rest
+unfolding action_of
+read_flags_is {A} text sint rest read = one_number {A = A} verb.ReadFlags 8 text sint rest (action.ReadFlags sint) read (λ first word e. rw e refl)
+
+pub write_msr_is : {A : Type 0} (text : List ℕ) (msr : ℕ) (left : List ℕ) (value : ℕ) (rest : List ℕ) → BeginsNumber 32 text msr 32 left
+    → BeginsNumber 64 left value 10 rest → BeginsFields {A = A} verb.WriteMsr text (action.WriteMsr msr value) rest
+unfolding action_of
+write_msr_is {A} text msr left value rest read next = two_numbers {A = A} verb.WriteMsr 32 64 text msr left value rest (action.WriteMsr msr value) read next (λ first word back e f. rw (e, f) refl)
+
+pub clear_flag_is : {A : Type 0} (text : List ℕ) (sint : ℕ) (left : List ℕ) (flag : ℕ) (rest : List ℕ) → BeginsNumber 8 text sint 32 left
+    → BeginsNumber 16 left flag 10 rest → BeginsFields {A = A} verb.ClearFlag text (action.ClearFlag sint flag) rest
+unfolding action_of
+clear_flag_is {A} text sint left flag rest read next = two_numbers {A = A} verb.ClearFlag 8 16 text sint left flag rest (action.ClearFlag sint flag) read next (λ first word back e f. rw (e, f) refl)
 
 range_tests : (x : ℕ) → digit_value x < 10 → (nat_eq 35 x ≡ false) × (nat_eq x 98 ≡ false) × (nat_eq x 112 ≡ false)
 range_tests x d =

@@ -9,9 +9,11 @@ use Rattle.hv_script.specs.Callers.{callers_of, have_room}
 use Rattle.hv_script.specs.Line.{action_of, processor_of}
 use Rattle.hv_script.specs.Number.{number_in}
 use Rattle.hv_script.specs.Script.{SoFar, read_lines, with_line}
+use Rattle.hv_script.specs.Verb.{word_of}
 use Rattle.hv_script.specs.Words.{has_good_bytes, lines_of, words_of}
 use Rattle.hv_script.specs.declared.fault.FaultKind.{FaultKind}
 use Rattle.hv_script.specs.declared.fault.FaultKind.TheVariants.{TooMany}
+use Rattle.hv_script.specs.declared.verb.Verb.{Verb}
 
 -- a byte of a word, 0x21 to 0x7E
 abbrev pub is_of_word : ℕ → Bool
@@ -39,10 +41,14 @@ abbrev pub BeginsWords : List ℕ → List (List ℕ) → List ℕ → Type 0
 BeginsWords text [] rest = text ≡ rest
 BeginsWords text (word ∷ words) rest = (left : List ℕ) × Begins text word 32 left × BeginsWords left words rest
 
--- a text begins with all but the last word of a call of this processor, and this stands after them
-abbrev pub BeginsCall : List ℕ → Caller → ℕ → ℕ → ℕ → List ℕ → Type 0
-BeginsCall text by rcx rdx r8 rest = (first : List ℕ) × (third : List ℕ) × (fourth : List ℕ) × (fifth : List ℕ)
-    × BeginsWords text (first ∷ codes "call" ∷ third ∷ fourth ∷ fifth ∷ []) rest × Names first by
+-- a text begins with a number of so many bits, which this byte ends, and this stands after it
+abbrev pub BeginsNumber : ℕ → List ℕ → ℕ → ℕ → List ℕ → Type 0
+BeginsNumber bits text value stop rest = (word : List ℕ) × Begins text word stop rest × (number_in bits word ≡ Some value)
+
+-- a text begins with all but the last word of a call behind its processor, and this stands after them
+abbrev pub BeginsCall : List ℕ → ℕ → ℕ → ℕ → List ℕ → Type 0
+BeginsCall text rcx rdx r8 rest = (third : List ℕ) × (fourth : List ℕ) × (fifth : List ℕ)
+    × BeginsWords text (codes "call" ∷ third ∷ fourth ∷ fifth ∷ []) rest
     × (number_in 64 third ≡ Some rcx) × (number_in 64 fourth ≡ Some rdx) × (number_in 64 fifth ≡ Some r8)
 
 -- a text begins with a line of good bytes with these words, and this stands after its line feed
@@ -50,7 +56,17 @@ abbrev pub BeginsLine : List ℕ → List (List ℕ) → List ℕ → Type 0
 BeginsLine text words rest = (line : List ℕ) × (lines_of text ≡ line ∷ lines_of rest)
     × (has_good_bytes line ≡ true) × (words_of line ≡ words) × (length rest < length text)
 
--- the same, and it is a line of this processor that asks for this
+-- a text begins with the words of a line behind its processor, which ask for this, and this stands after its line feed
+abbrev pub Asks : {A : Type 0} → List ℕ → Action A → List ℕ → Type 0
+Asks text action rest = (words : List (List ℕ)) × BeginsLine text words rest
+    × ((first : List ℕ) → action_of (first ∷ words) ≡ Ok action)
+
+-- the same of the words behind the second
+abbrev pub BeginsFields : {A : Type 0} → Verb → List ℕ → Action A → List ℕ → Type 0
+BeginsFields verb text action rest = (words : List (List ℕ)) × BeginsLine text words rest
+    × ((first : List ℕ) → action_of (first ∷ word_of verb ∷ words) ≡ Ok action)
+
+-- a text begins with a line of this processor that asks for this
 abbrev pub BeginsAsking : {A : Type 0} → List ℕ → Caller → Action A → List ℕ → Type 0
 BeginsAsking text by action rest = (first : List ℕ) × (words : List (List ℕ)) × BeginsLine text (first ∷ words) rest
     × Names first by × (action_of (first ∷ words) ≡ Ok action)

@@ -1,12 +1,15 @@
-// A line that is read at one pass from the front of a text, if it is a call of a processor.
+// A line that is read at one pass from the front of a text, if it is one of a processor.
 ghost use Rattle.std.specs.Prelude.{ℕ, ◌≡◌, ◌≤◌, IfErr, IfOk, IfSome, List, Ok, Some, codes, length, take};
 ghost use Rattle.std.specs.Str.Parse.{AllDigits, digits_value};
-ghost use Rattle.hv_script.specs.Front.{Begins, BeginsAsking, BeginsCall, BeginsDecimal, Names};
-ghost use Rattle.hv_script.specs.Number.{bytes_in, number_in};
+ghost use Rattle.hv_script.specs.Front.{Asks, Begins, BeginsAsking, BeginsCall, BeginsDecimal, BeginsFields};
+ghost use Rattle.hv_script.specs.Front.{BeginsNumber, Names};
+ghost use Rattle.hv_script.specs.Number.{bytes_in};
+ghost use Rattle.hv_script.specs.Verb.{word_of};
 ghost use Rattle.hv_script.specs.declared.fault.FaultKind.TheVariants.{Memory};
 
 use crate::fault::FaultKind;
 use crate::number;
+use crate::verb::Verb;
 use hv_abi::{Bytes, Frame};
 use hv_policy::{Action, Caller};
 use std::alloc::Allocator;
@@ -106,28 +109,56 @@ fn word_before(text: &[u8], stop: u8) -> Option<(&[u8], &[u8])>
     Some((&text[..end], &text[end + 1..]))
 }
 
-// The number that a text begins with, as it may be written in hexadecimal digits, and what stands after
-// the space behind it.
+// The number that a text begins with and that this byte ends, as it may be written in hexadecimal
+// digits, and what stands after it.
 #[inline(never)]
-fn number_by_word(text: &[u8]) -> Option<(u64, &[u8])>
-    ensures { IfSome result (λ cut. (word : List ℕ) × Begins text.now word 32 cut.1.now
-        × (number_in 64 word ≡ Some cut.0)) }
+fn number_by_word(text: &[u8], stop: u8) -> Option<(u64, &[u8])>
+    ensures { IfSome result (λ cut. BeginsNumber 64 text.now cut.0 stop cut.1.now) }
 {
-    let (word, rest) = word_before(text, b' ')?;
+    let (word, rest) = word_before(text, stop)?;
     let value = number::number(word)?;
     Some((value, rest))
 }
 
-// The number that a text begins with, and what stands after the space behind it.
+// The number that a text begins with and that this byte ends, and what stands after it.
 #[inline(always)]
-fn leading_number(text: &[u8]) -> Option<(u64, &[u8])>
-    ensures { IfSome result (λ cut. (word : List ℕ) × Begins text.now word 32 cut.1.now
-        × (number_in 64 word ≡ Some cut.0)) }
+fn leading_number(text: &[u8], stop: u8) -> Option<(u64, &[u8])>
+    ensures { IfSome result (λ cut. BeginsNumber 64 text.now cut.0 stop cut.1.now) }
 {
-    match decimal_before(text, b' ') {
+    match decimal_before(text, stop) {
         Some((value, rest)) => Some((value, rest)),
-        None => number_by_word(text),
+        None => number_by_word(text, stop),
     }
+}
+
+// The same, of 32 bits.
+#[inline(always)]
+fn leading_number_32(text: &[u8], stop: u8) -> Option<(u32, &[u8])>
+    ensures { IfSome result (λ cut. BeginsNumber 32 text.now cut.0 stop cut.1.now) }
+{
+    let (value, rest) = leading_number(text, stop)?;
+    let value = u32::try_from(value).ok()?;
+    Some((value, rest))
+}
+
+// The same, of 16 bits.
+#[inline(always)]
+fn leading_number_16(text: &[u8], stop: u8) -> Option<(u16, &[u8])>
+    ensures { IfSome result (λ cut. BeginsNumber 16 text.now cut.0 stop cut.1.now) }
+{
+    let (value, rest) = leading_number(text, stop)?;
+    let value = u16::try_from(value).ok()?;
+    Some((value, rest))
+}
+
+// The same, of 8 bits.
+#[inline(always)]
+fn leading_number_8(text: &[u8], stop: u8) -> Option<(u8, &[u8])>
+    ensures { IfSome result (λ cut. BeginsNumber 8 text.now cut.0 stop cut.1.now) }
+{
+    let (value, rest) = leading_number(text, stop)?;
+    let value = u8::try_from(value).ok()?;
+    Some((value, rest))
 }
 
 // What stands after `call ` at the front of a text.
@@ -141,29 +172,28 @@ fn after_call(text: &[u8]) -> Option<&[u8]>
     }
 }
 
-// The same. Most calls' codes have two decimal digits.
+// The number that a text begins with and that a space ends, and what stands after it. Most calls' codes
+// have two decimal digits.
 #[inline(always)]
 fn leading_code(text: &[u8]) -> Option<(u64, &[u8])>
-    ensures { IfSome result (λ cut. (word : List ℕ) × Begins text.now word 32 cut.1.now
-        × (number_in 64 word ≡ Some cut.0)) }
+    ensures { IfSome result (λ cut. BeginsNumber 64 text.now cut.0 32 cut.1.now) }
 {
     match two_digits_before(text, b' ') {
         Some((value, rest)) => Some((value, rest)),
-        None => leading_number(text),
+        None => leading_number(text, b' '),
     }
 }
 
-// The processor and the registers of a call that a text begins with, and what stands after them.
+// The registers of a call that a text begins with, behind its processor, and what stands after them.
 #[inline(always)]
-fn leading_call(text: &[u8]) -> Option<(Caller, u64, u64, u64, &[u8])>
-    ensures { IfSome result (λ cut. BeginsCall text.now cut.0 cut.1 cut.2 cut.3 cut.4.now) }
+fn leading_call(text: &[u8]) -> Option<(u64, u64, u64, &[u8])>
+    ensures { IfSome result (λ cut. BeginsCall text.now cut.0 cut.1 cut.2 cut.3.now) }
 {
-    let (by, text) = leading_processor(text)?;
     let text = after_call(text)?;
     let (rcx, text) = leading_code(text)?;
-    let (rdx, text) = leading_number(text)?;
-    let (r8, text) = leading_number(text)?;
-    Some((by, rcx, rdx, r8, text))
+    let (rdx, text) = leading_number(text, b' ')?;
+    let (r8, text) = leading_number(text, b' ')?;
+    Some((rcx, rdx, r8, text))
 }
 
 // The bytes of a call's input list, or nothing where the word is none.
@@ -184,19 +214,131 @@ fn input<A: Allocator + Clone>(alloc: &A, word: &[u8]) -> Result<Option<Bytes<A>
     }
 }
 
-/// The call that a text begins with, its processor, and what stands after its line: if its words stand
-/// right behind one another, that of the processor in few decimal digits, and it has no fault. A line of
-/// which nothing is told may be anything.
-pub fn call_line<'a, A: Allocator + Clone>(
+// What an access with numbers asks for, by the word that a text begins with, and what stands after the
+// space behind it.
+#[inline(always)]
+fn leading_verb(text: &[u8]) -> Option<(Verb, &[u8])>
+    ensures { IfSome result (λ cut. Begins text.now (word_of cut.0) 32 cut.1.now) }
+{
+    match text {
+        [b'r', b'd', b'm', b's', b'r', b' ', rest @ ..] => Some((Verb::ReadMsr, rest)),
+        [b'w', b'r', b'm', b's', b'r', b' ', rest @ ..] => Some((Verb::WriteMsr, rest)),
+        [b's', b'l', b'o', b't', b' ', rest @ ..] => Some((Verb::ReadSlot, rest)),
+        [b'f', b'l', b'a', b'g', b's', b' ', rest @ ..] => Some((Verb::ReadFlags, rest)),
+        [
+            b'c',
+            b'l',
+            b'e',
+            b'a',
+            b'r',
+            b's',
+            b'l',
+            b'o',
+            b't',
+            b' ',
+            rest @ ..,
+        ] => { Some((Verb::ClearSlot, rest)) }
+        [
+            b'c',
+            b'l',
+            b'e',
+            b'a',
+            b'r',
+            b'f',
+            b'l',
+            b'a',
+            b'g',
+            b' ',
+            rest @ ..,
+        ] => { Some((Verb::ClearFlag, rest)) }
+        _ => None,
+    }
+}
+
+// What stands after `interrupt` and a line feed at the front of a text.
+#[inline(always)]
+fn after_interrupt(text: &[u8]) -> Option<&[u8]>
+    ensures { IfSome result (λ rest. Begins text.now (codes "interrupt") 10 rest.now) }
+{
+    match text {
+        [
+            b'i',
+            b'n',
+            b't',
+            b'e',
+            b'r',
+            b'r',
+            b'u',
+            b'p',
+            b't',
+            b'\n',
+            rest @ ..,
+        ] => Some(rest),
+        _ => None,
+    }
+}
+
+// The access whose numbers a text begins with, the last before a line feed, and what stands after it.
+#[inline(always)]
+fn access<A: Allocator>(verb: Verb, text: &[u8]) -> Option<(Action<A>, &[u8])>
+    ensures { IfSome result (λ cut. BeginsFields verb text.now cut.0 cut.1.now) }
+{
+    match verb {
+        Verb::ReadMsr => {
+            let (msr, rest) = leading_number_32(text, b'\n')?;
+            Some((Action::ReadMsr(msr), rest))
+        }
+        Verb::WriteMsr => {
+            let (msr, text) = leading_number_32(text, b' ')?;
+            let (value, rest) = leading_number(text, b'\n')?;
+            Some((Action::WriteMsr(msr, value), rest))
+        }
+        Verb::ReadSlot => {
+            let (sint, rest) = leading_number_8(text, b'\n')?;
+            Some((Action::ReadSlot(sint), rest))
+        }
+        Verb::ClearSlot => {
+            let (sint, rest) = leading_number_8(text, b'\n')?;
+            Some((Action::ClearSlot(sint), rest))
+        }
+        Verb::ReadFlags => {
+            let (sint, rest) = leading_number_8(text, b'\n')?;
+            Some((Action::ReadFlags(sint), rest))
+        }
+        Verb::ClearFlag => {
+            let (sint, text) = leading_number_8(text, b' ')?;
+            let (flag, rest) = leading_number_16(text, b'\n')?;
+            Some((Action::ClearFlag(sint, flag), rest))
+        }
+        Verb::Call | Verb::TakeInterrupt => None,
+    }
+}
+
+// The access that a text begins with, behind its processor, and what stands after its line.
+#[inline(always)]
+fn leading_access<A: Allocator>(text: &[u8]) -> Option<(Action<A>, &[u8])>
+    ensures { IfSome result (λ cut. Asks text.now cut.0 cut.1.now) }
+{
+    let Some((verb, left)) = leading_verb(text) else {
+        let rest = after_interrupt(text)?;
+        return Some((Action::TakeInterrupt, rest));
+    };
+    let (action, rest) = access(verb, left)?;
+    Some((action, rest))
+}
+
+// What a text begins with asks for, behind its processor, and what stands after its line. Calls are
+// looked for first, as they are the most usual.
+#[inline(always)]
+fn asked<'a, A: Allocator + Clone>(
     alloc: &A,
     text: &'a [u8],
-) -> Result<Option<(Caller, Action<A>, &'a [u8])>, FaultKind>
-    ensures asked { IfOk result (λ asked. IfSome asked (λ asked. BeginsAsking text.now asked.0 asked.1
-        asked.2.now)) }
+) -> Result<Option<(Action<A>, &'a [u8])>, FaultKind>
+    ensures asked { IfOk result (λ asked. IfSome asked (λ asked. Asks text.now asked.0 asked.1.now)) }
     ensures memory { IfErr result (λ kind. kind ≡ Memory) }
 {
-    let Some((by, rcx, rdx, r8, text)) = leading_call(text) else {
-        return Ok(None);
+    let Some((rcx, rdx, r8, text)) = leading_call(text) else {
+        return Ok(leading_access(text));
     };
     let Some((word, rest)) = word_before(text, b'\n') else {
         return Ok(None);
@@ -210,5 +352,25 @@ pub fn call_line<'a, A: Allocator + Clone>(
         r8,
         input,
     };
-    Ok(Some((by, Action::Hypercall(frame), rest)))
+    Ok(Some((Action::Hypercall(frame), rest)))
+}
+
+/// What the line that a text begins with asks for, its processor, and what stands after the line: if its
+/// words stand right behind one another, that of the processor in few decimal digits, and it has no
+/// fault. A line of which nothing is told may be anything.
+pub fn asked_line<'a, A: Allocator + Clone>(
+    alloc: &A,
+    text: &'a [u8],
+) -> Result<Option<(Caller, Action<A>, &'a [u8])>, FaultKind>
+    ensures asked { IfOk result (λ asked. IfSome asked (λ asked. BeginsAsking text.now asked.0 asked.1
+        asked.2.now)) }
+    ensures memory { IfErr result (λ kind. kind ≡ Memory) }
+{
+    let Some((by, text)) = leading_processor(text) else {
+        return Ok(None);
+    };
+    let Some((action, rest)) = asked(alloc, text)? else {
+        return Ok(None);
+    };
+    Ok(Some((by, action, rest)))
 }

@@ -5,7 +5,7 @@ ghost use Rattle.hv_script.specs.Callers.{callers_of};
 use crate::boot::{Boot, read_boot};
 use crate::cut::{CutLine, next_line};
 use crate::fault::FaultKind;
-use crate::front::call_line;
+use crate::front::asked_line;
 use crate::line::{Line, action, processor};
 use hv_policy::{Action, Caller};
 use std::alloc::Allocator;
@@ -52,7 +52,7 @@ impl<A: Allocator + Clone> Reading<A> {
         ensures phase { OnOk result (phase_by reading.new ≤ phase_by reading.old + 1) }
     {
         if let Some(reading) = reading {
-            if let Some((by, action, rest)) = call_line(alloc, text)? {
+            if let Some((by, action, rest)) = asked_line(alloc, text)? {
                 reading.take_line(by, action)?;
                 return Ok(Some(rest));
             }

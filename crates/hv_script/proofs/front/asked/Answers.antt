@@ -1,7 +1,7 @@
 use Rattle.hv_script.proofs.FrontLemmas.{call_is}
-use Rattle.hv_script.proofs.front.call_line.Goals as goal
+use Rattle.hv_script.proofs.front.asked.Goals as goal
 
 pub returns-clause-asked : goal.returns-clause-asked
 returns-clause-asked g c =
-    call_is {A = g.row.A.Denot} c.args.text.now c.in-Some.by c.in-Some.rcx c.in-Some.rdx c.in-Some.r8 c.in-Some.text.now c.in-Some-word_before.word.now c.in-Some-word_before.rest.now
+    call_is {A = g.row.A.Denot} c.args.text.now c.in-Some.rcx c.in-Some.rdx c.in-Some.r8 c.in-Some.text.now c.in-Some-word_before.word.now c.in-Some-word_before.rest.now
     c.in-Some-2.input c.in-Some.ensures c.in-Some-word_before.ensures (rw c.in-Some-2.is at c.in_ok-input.ensures.input)
