@@ -13,7 +13,7 @@ use crate::machine::Machine;
 use hv_abi::{Frame, Shape};
 use hv_calls::Call;
 use hv_policy::{Caller, Rule, ask_frame};
-use hv_tie::{unmet_by_caller, unmet_by_target};
+use hv_tie::{caller_in, unmet_by_target};
 use std::alloc::Allocator;
 
 impl<A: Allocator> Machine<A> {
@@ -29,14 +29,15 @@ impl<A: Allocator> Machine<A> {
         ensures first { IfErr result (λ rule. (f : Flat) → IsFlat self.now f
             → unmet f (call_event by frame.now) ≡ Some rule) }
     {
-        if let Some(rule) = unmet_by_caller(&self.tree, by) {
-            return Err(rule);
-        }
+        let caller = match caller_in(&self.tree, by) {
+            Ok(caller) => caller,
+            Err(rule) => return Err(rule),
+        };
         let (shape, call) = match ask_frame(frame) {
             Ok(asked) => asked,
             Err(rule) => return Err(rule),
         };
-        if let Some(rule) = unmet_by_target(&self.tree, by, &call) {
+        if let Some(rule) = unmet_by_target(&self.tree, by, caller, &call) {
             return Err(rule);
         }
         Ok((shape, call))

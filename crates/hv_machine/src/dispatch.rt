@@ -70,45 +70,45 @@ fn hand_on<A: Allocator + Clone>(
     ensures { (f : Flat) → IsTied tree.old f → f.next ≡ next → f.served ≡ served
         → IsOutcome f caller call.now tree.old result tree.new }
 {
-    match call {
-        Call::CreatePartition { flags } => create_partition(tree, alloc, caller, next, *flags),
-        Call::InitializePartition { partition } => initialize_partition(tree, caller, *partition),
-        Call::FinalizePartition { partition } => finalize_partition(tree, caller, *partition),
-        Call::DeletePartition { partition } => delete_partition(tree, caller, *partition),
+    match *call {
+        Call::CreatePartition { flags } => create_partition(tree, alloc, caller, next, flags),
+        Call::InitializePartition { partition } => initialize_partition(tree, caller, partition),
+        Call::FinalizePartition { partition } => finalize_partition(tree, caller, partition),
+        Call::DeletePartition { partition } => delete_partition(tree, caller, partition),
         Call::GetPartitionProperty { partition, code } => get_partition_property(
-            tree, caller, *partition, *code,
+            tree, caller, partition, code,
         ),
         Call::SetPartitionProperty {
             partition,
             code,
             value,
-        } => set_partition_property(tree, caller, *partition, *code, *value),
+        } => set_partition_property(tree, caller, partition, code, value),
         Call::GetPartitionId => get_partition_id(tree, caller),
         Call::GetNextChildPartition {
             partition,
             previous,
-        } => get_next_child_partition(tree, caller, *partition, *previous),
-        Call::DepositMemory { partition, page } => deposit_memory(tree, caller, *partition, *page),
-        Call::WithdrawMemory { partition } => withdraw_memory(tree, caller, *partition),
-        Call::GetMemoryBalance { partition } => get_memory_balance(tree, caller, *partition),
-        Call::CreateVp { partition, vp } => create_vp(tree, alloc, caller, *partition, *vp),
-        Call::DeleteVp { partition, vp } => delete_vp(tree, caller, *partition, *vp),
+        } => get_next_child_partition(tree, caller, partition, previous),
+        Call::DepositMemory { partition, page } => deposit_memory(tree, caller, partition, page),
+        Call::WithdrawMemory { partition } => withdraw_memory(tree, caller, partition),
+        Call::GetMemoryBalance { partition } => get_memory_balance(tree, caller, partition),
+        Call::CreateVp { partition, vp } => create_vp(tree, alloc, caller, partition, vp),
+        Call::DeleteVp { partition, vp } => delete_vp(tree, caller, partition, vp),
         Call::GetVpRegisters {
             partition,
             vp,
             name,
-        } => get_vp_registers(tree, caller, *partition, *vp, *name),
+        } => get_vp_registers(tree, caller, partition, vp, name),
         Call::SetVpRegisters {
             partition,
             vp,
             name,
             value,
-        } => set_vp_registers(tree, caller, *partition, *vp, *name, *value),
-        Call::DeletePort { partition, port } => delete_port(tree, caller, *partition, *port),
+        } => set_vp_registers(tree, caller, partition, vp, name, value),
+        Call::DeletePort { partition, port } => delete_port(tree, caller, partition, port),
         Call::DisconnectPort {
             partition,
             connection,
-        } => disconnect_port(tree, caller, *partition, *connection),
+        } => disconnect_port(tree, caller, partition, connection),
         Call::CreatePort {
             partition,
             port,
@@ -120,15 +120,15 @@ fn hand_on<A: Allocator + Clone>(
             count,
         } => {
             let new = NewPort {
-                port: *port,
-                peer: *peer,
-                kind: *kind,
-                sint: *sint,
-                vp: *vp,
-                base: *base,
-                count: *count,
+                port,
+                peer,
+                kind,
+                sint,
+                vp,
+                base,
+                count,
             };
-            create_port(tree, caller, served, *partition, new)
+            create_port(tree, caller, served, partition, new)
         }
         Call::ConnectPort {
             partition,
@@ -139,18 +139,18 @@ fn hand_on<A: Allocator + Clone>(
         } => connect_port(
             tree,
             caller,
-            *partition,
-            *connection,
-            *port_partition,
-            *port,
-            *kind,
+            partition,
+            connection,
+            port_partition,
+            port,
+            kind,
         ),
         Call::PostMessage {
             connection,
             message_type,
-            payload,
-        } => post_message(tree, caller, *connection, *message_type, payload),
-        Call::SignalEvent { connection, flag } => signal_event(tree, caller, *connection, *flag),
+            ref payload,
+        } => post_message(tree, caller, connection, message_type, payload),
+        Call::SignalEvent { connection, flag } => signal_event(tree, caller, connection, flag),
     }
 }
 

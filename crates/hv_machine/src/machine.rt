@@ -21,7 +21,7 @@ use crate::dispatch::{dispatch, dispatch_access, next_after};
 use hv_abi::Frame;
 use hv_calls::Call;
 use hv_policy::{Access, CallOutput, CallReply, Caller, Event, Reply, refused_reply, served_reply};
-use hv_tie::{Partitions, Refused, unmet_by_caller};
+use hv_tie::{Partitions, Refused, caller_in};
 use std::alloc::Allocator;
 use std::marker::Model;
 
@@ -152,7 +152,7 @@ impl<A: Allocator + Clone> Machine<A> {
         ensures lasting { IsLasting self.new }
         ensures pages { self.new.pages ≡ self.old.pages }
     {
-        if let Some(rule) = unmet_by_caller(&self.tree, by) {
+        if let Err(rule) = caller_in(&self.tree, by) {
             return Reply::Fault { rule };
         }
         match dispatch_access(&mut self.tree, by, access) {

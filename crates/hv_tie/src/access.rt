@@ -1,51 +1,55 @@
 // The rules of the caller, and those that ask whether it may make the call.
-ghost use Rattle.std.specs.Prelude.{◌≡◌};
+ghost use Rattle.std.specs.Prelude.{◌≡◌, IfErr, IfOk, None, Some};
 ghost use Rattle.hv_policy.specs.Flat.{Flat};
 ghost use Rattle.hv_policy.specs.Met.{is_kin as is_kin_of};
 ghost use Rattle.hv_policy.specs.Needs.{target_of};
 ghost use Rattle.hv_policy.specs.Rules.{caller_asks, first_unmet, target_asks};
+ghost use Rattle.hv_tree.specs.Rows.{content};
 ghost use Rattle.hv_tie.specs.Tie.{IsTied};
 
 use crate::partitions::Partitions;
 use crate::rules::{is_child, meant};
 use hv_calls::Call;
 use hv_defs::Life;
+use hv_partition::Partition;
 use hv_policy::{Caller, Kin, Rule, needs};
 use std::alloc::Allocator;
 
-/// P1 to P3: the first of them that isn't met.
-pub fn unmet_by_caller<A: Allocator>(tree: &Partitions<A>, by: Caller) -> Option<Rule>
-    ensures { (f : Flat) → IsTied tree.now f → result ≡ first_unmet (caller_asks f by) }
+/// P1 to P3: the caller's partition where they are met, and else the first of them that isn't.
+pub fn caller_in<A: Allocator>(tree: &Partitions<A>, by: Caller) -> Result<&Partition<A>, Rule>
+    ensures met { IfOk result (λ _. (f : Flat) → IsTied tree.now f → first_unmet (caller_asks f by) ≡ None) }
+    ensures there { IfOk result (λ caller. content tree.now by.part ≡ Some caller.now) }
+    ensures unmet { IfErr result (λ rule. (f : Flat) → IsTied tree.now f
+        → first_unmet (caller_asks f by) ≡ Some rule) }
 {
     let Some(caller) = tree.get(by.part) else {
-        return Some(Rule::CallerExists);
+        return Err(Rule::CallerExists);
     };
     if caller.life() != Life::Active {
-        return Some(Rule::CallerActive);
+        return Err(Rule::CallerActive);
     }
     if caller.vp(by.vp).is_none() {
-        return Some(Rule::CallerVpExists);
+        return Err(Rule::CallerVpExists);
     }
-    None
+    Ok(caller)
 }
 
-/// P8 to P10: the first of them that isn't met.
+/// P8 to P10: the first of them that isn't met. The caller's partition is the one that was found.
 pub fn unmet_by_target<A: Allocator>(
     tree: &Partitions<A>,
     by: Caller,
+    caller: &Partition<A>,
     call: &Call<'_>,
 ) -> Option<Rule>
+    requires { content tree.now by.part ≡ Some caller.now }
     ensures { (f : Flat) → IsTied tree.now f → result ≡ first_unmet (target_asks f by.part call.now) }
 {
     let need = needs(call);
-    let Some(caller) = tree.get(by.part) else {
-        return Some(Rule::Privilege);
-    };
     if !caller.mask().contains(need.privilege) {
         return Some(Rule::Privilege);
     }
     let target = target(by.part, call);
-    if tree.get(target).is_none() {
+    if target != by.part && !tree.contains(target) {
         return Some(Rule::TargetExists);
     }
     if !is_kin(tree, need.kin, by.part, target) {

@@ -18,6 +18,8 @@
 
 mod edit;
 mod index;
+mod loan;
+mod look_up;
 mod node;
 mod refused;
 mod tree;

@@ -1,23 +1,23 @@
 //! The tree, seen as its rows.
 ghost use Rattle.std.specs.Prelude.{◌≡◌, ◌<◌, ◌↔◌, [], ◌∷◌, None, Some, true, false, length, is_some, IsSome};
-ghost use Rattle.std.specs.Prelude.{ℕ, cond, IsTrue, IfSome, IfNone, OnSome, IfOk, IfErr, OnOk, OnErr};
+ghost use Rattle.std.specs.Prelude.{ℕ, IfSome, IfNone, OnSome, IfOk, IfErr, OnOk, OnErr};
 ghost use Rattle.std.specs.Option.{option_copied, option_copied_mut, option_map};
 ghost use Rattle.std.specs.Borrow.{LendsIf, sem};
 ghost use Rattle.std.specs.FinMap as map;
 ghost use Rattle.hv_tree.specs.contracts.tree.IdTree.{the_row};
 ghost use Rattle.hv_tree.specs.Rows.{change, content, parent, children, is_leaf, HasDepth, IsLeastAbove};
 ghost use Rattle.hv_tree.specs.Rows.{IsTree};
-ghost use Rattle.hv_tree.specs.Full.{loan, settled, IsLent};
-ghost use Rattle.hv_tree.specs.Index.{parents, IsIndexOf, IsWay};
-ghost use Rattle.hv_tree.specs.Nest.{first_content, has_row, put_at, taken, AreDistinct, IsFound, IsNest};
+ghost use Rattle.hv_tree.specs.Nest.{first_content};
 ghost use Rattle.hv_tree.specs.Refused.{Refuses};
 ghost use Rattle.hv_tree.specs.Subtree.{IsInSubtree};
 
 use crate::edit::Edit;
 use crate::index::{Index, forget, parent_in};
+use crate::loan::{lend, settle};
+use crate::look_up::{is_there, seek, seek_noted, way_to};
 use crate::node::Node;
 use crate::refused::{InsertRefused, ReserveRefused};
-use crate::ways::{MOST, Way, Ways};
+use crate::ways::Ways;
 use indexmap::IndexMap;
 use std::alloc::{AllocError, AllocFailed, Allocator};
 use std::marker::Model;
@@ -59,6 +59,15 @@ impl<T, A: Allocator> Model for IdTree<T, A> {
 }
 
 impl<T, A: Allocator> IdTree<T, A> {
+    /// Whether a node has the id. It takes one look into the index.
+    pub fn contains(&self, id: u64) -> bool
+        ensures value { result ≡ map.contains_key self.now id }
+        ensures none { result ≡ false → children self.now id ≡ [] }
+        ensures tree { IsTree self.now }
+    {
+        is_there(&self.root, &self.index, id)
+    }
+
     /// The content of a node.
     pub fn get(&self, id: u64) -> Option<&T>
         ensures { option_copied result ≡ content self.now id }
@@ -160,14 +169,6 @@ impl<T, A: Allocator> IdTree<T, A> {
             Ok(()) => Ok(()),
             Err(_) => Err(ReserveRefused::Memory),
         }
-    }
-
-    fn contains(&self, id: u64) -> bool
-        ensures value { result ≡ map.contains_key self.now id }
-        ensures none { result ≡ false → children self.now id ≡ [] }
-        ensures tree { IsTree self.now }
-    {
-        is_there(&self.root, &self.index, id)
     }
 }
 
@@ -301,92 +302,6 @@ impl<T: Drop, A: Allocator + Clone> IdTree<T, A> {
     }
 }
 
-// The node with the id: the root, or the node to which a noted way leads, or else that to which a way leads
-// that is looked for.
-fn seek<'t, T, A: Allocator>(
-    root: &'t Node<T, A>,
-    index: &Index<A>,
-    ways: &Ways,
-    id: u64,
-) -> Option<&'t Node<T, A>>
-    requires distinct { AreDistinct root.now }
-    requires nest { IsNest root.now }
-    requires indexed { IsIndexOf root.now (parents index.now) }
-    ensures found { IfSome result (λ n. IsFound id root.now n.now) }
-    ensures none { IfNone result (has_row id root.now ≡ false) }
-{
-    match seek_noted(root, ways, id) {
-        Some(node) => Some(node),
-        None => seek_far(root, index, id),
-    }
-}
-
-// The node with the id, if that is the root or a noted way leads there.
-fn seek_noted<'t, T, A: Allocator>(
-    root: &'t Node<T, A>,
-    ways: &Ways,
-    id: u64,
-) -> Option<&'t Node<T, A>>
-    requires { AreDistinct root.now }
-    ensures { IfSome result (λ n. IsFound id root.now n.now) }
-{
-    if id == root.id() {
-        return Some(root);
-    }
-    root.follow(ways.to(id), id)
-}
-
-// The node with the id, to which no noted way leads.
-fn seek_far<'t, T, A: Allocator>(
-    root: &'t Node<T, A>,
-    index: &Index<A>,
-    id: u64,
-) -> Option<&'t Node<T, A>>
-    requires distinct { AreDistinct root.now }
-    requires nest { IsNest root.now }
-    requires indexed { IsIndexOf root.now (parents index.now) }
-    ensures found { IfSome result (λ n. IsFound id root.now n.now) }
-    ensures none { IfNone result (has_row id root.now ≡ false) }
-{
-    if !is_there(root, index, id) {
-        return None;
-    }
-    let way = way_to(root, index, id);
-    match root.follow(way.steps(), id) {
-        Some(node) => Some(node),
-        None => Some(root.find(index, id)),
-    }
-}
-
-// The way to a node: the ids on it are found by a climb from its own, and then the steps among them.
-fn way_to<T, A: Allocator>(root: &Node<T, A>, index: &Index<A>, id: u64) -> Way {
-    let mut ids = [0; MOST];
-    let mut first = MOST;
-    let mut at = id;
-    for place in (0..MOST).rev() {
-        let Some(parent) = parent_in(index, at) else {
-            break;
-        };
-        ids[place] = at;
-        first = place;
-        at = parent;
-    }
-    let mut way = Way::new(id);
-    if let Some(ids) = ids.get(first..) {
-        root.trace(ids, &mut way);
-    }
-    way
-}
-
-// Whether a node has the id.
-fn is_there<T, A: Allocator>(root: &Node<T, A>, index: &Index<A>, id: u64) -> bool
-    requires nest { IsNest root.now }
-    requires indexed { IsIndexOf root.now (parents index.now) }
-    ensures { result ≡ has_row id root.now }
-{
-    id == root.id() || parent_in(index, id).is_some()
-}
-
 // A node with nothing below it, or its content again.
 fn make<T: Drop, A: Allocator + Clone>(
     alloc: &A,
@@ -422,121 +337,5 @@ fn unmake<T: Drop, A: Allocator>(node: Box<Node<T, A>, A>) -> T
     match Box::into_inner(node).into_content() {
         Some(content) => content,
         None => unreachable!(),
-    }
-}
-
-// Lends the content of the node with the id, if there is one. What was lent before goes back to its node.
-fn lend<T, A: Allocator>(
-    root: &mut Node<T, A>,
-    index: &Index<A>,
-    ways: &Ways,
-    lender: &mut u64,
-    lent: &mut Option<T>,
-    id: u64,
-)
-    requires distinct { AreDistinct root.old }
-    requires nest { IsNest root.old }
-    requires indexed { IsIndexOf root.old (parents index.now) }
-    requires slot { IsLent (loan lender.old lent.old) root.old }
-    ensures root { root.new ≡ put_at id None (settled (loan lender.old lent.old) root.old) }
-    ensures lender { lender.new ≡ id }
-    ensures lent { lent.new ≡ taken id None (settled (loan lender.old lent.old) root.old) }
-    ensures nest { IsNest root.new }
-{
-    if is_lent(*lender, lent, id) {
-        return;
-    }
-    settle(root, index, ways, *lender, lent);
-    exchange(root, index, ways, id, lent);
-    *lender = id;
-}
-
-// Whether the content of the node with the id is the one that is lent.
-fn is_lent<T>(lender: u64, lent: &Option<T>, id: u64) -> bool
-    ensures { IsTrue result → (lender ≡ id) × (is_some lent.now ≡ true) }
-{
-    id == lender && lent.is_some()
-}
-
-// Puts the content that was lent back into its node.
-fn settle<T, A: Allocator>(
-    root: &mut Node<T, A>,
-    index: &Index<A>,
-    ways: &Ways,
-    lender: u64,
-    lent: &mut Option<T>,
-)
-    requires distinct { AreDistinct root.old }
-    requires nest { IsNest root.old }
-    requires indexed { IsIndexOf root.old (parents index.now) }
-    requires slot { IsLent (loan lender lent.old) root.old }
-    ensures root { root.new ≡ settled (loan lender lent.old) root.old }
-    ensures lent { lent.new ≡ None }
-    ensures nest { IsNest root.new }
-{
-    if lent.is_some() {
-        exchange(root, index, ways, lender, lent);
-    }
-}
-
-// Swaps the content of the node with the id, if there is one, with the slot's.
-fn exchange<T, A: Allocator>(
-    root: &mut Node<T, A>,
-    index: &Index<A>,
-    ways: &Ways,
-    id: u64,
-    slot: &mut Option<T>,
-)
-    requires distinct { AreDistinct root.old }
-    requires nest { IsNest root.old }
-    requires indexed { IsIndexOf root.old (parents index.now) }
-    ensures rows { root.new ≡ put_at id slot.old root.old }
-    ensures slot { slot.new ≡ taken id slot.old root.old }
-    ensures nest { IsNest root.new }
-{
-    if !exchange_noted(root, ways, id, slot) {
-        exchange_far(root, index, id, slot);
-    }
-}
-
-// Swaps the content of the node with the id with the slot's, if that is the root or a noted way leads there.
-fn exchange_noted<T, A: Allocator>(
-    root: &mut Node<T, A>,
-    ways: &Ways,
-    id: u64,
-    slot: &mut Option<T>,
-) -> bool
-    requires { AreDistinct root.old }
-    ensures rows { root.new ≡ cond result (put_at id slot.old root.old) root.old }
-    ensures slot { slot.new ≡ cond result (taken id slot.old root.old) slot.old }
-    ensures nest { IsNest root.new }
-{
-    if id == root.id() {
-        root.exchange_along(&[], id, slot)
-    } else {
-        root.exchange_along(ways.to(id), id, slot)
-    }
-}
-
-// Swaps the content of the node with the id, if there is one, with the slot's. No noted way leads there.
-fn exchange_far<T, A: Allocator>(
-    root: &mut Node<T, A>,
-    index: &Index<A>,
-    id: u64,
-    slot: &mut Option<T>,
-)
-    requires distinct { AreDistinct root.old }
-    requires nest { IsNest root.old }
-    requires indexed { IsIndexOf root.old (parents index.now) }
-    ensures rows { root.new ≡ put_at id slot.old root.old }
-    ensures slot { slot.new ≡ taken id slot.old root.old }
-    ensures nest { IsNest root.new }
-{
-    if !is_there(root, index, id) {
-        return;
-    }
-    let way = way_to(root, index, id);
-    if !root.exchange_along(way.steps(), id, slot) {
-        root.exchange(index, id, slot);
     }
 }

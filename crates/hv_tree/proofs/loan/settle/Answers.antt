@@ -1,6 +1,6 @@
 use Rattle.std.proofs.Common.{◌∙◌, sym}
 use Rattle.hv_tree.proofs.Lent.{back-root, back-lent, in-root, in-lent}
-use Rattle.hv_tree.proofs.tree.settle.Goals as goal
+use Rattle.hv_tree.proofs.loan.settle.Goals as goal
 
 pub returns-then-is_some-clause-root : goal.returns-then-is_some-clause-root
 returns-then-is_some-clause-root g c = c.exchange.ensures.rows ∙ back-root c.args.lender c.args.lent.now c.args.root.now (sym c.is_some.ensures ∙ c.if-is_some.true)

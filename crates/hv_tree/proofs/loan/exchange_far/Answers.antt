@@ -2,7 +2,7 @@ use Rattle.std.proofs.Common.{◌∙◌, sym}
 use Rattle.hv_tree.specs.Index.{parents}
 use Rattle.hv_tree.proofs.Lines.{put-absent, taken-absent}
 use Rattle.hv_tree.proofs.Toward.{way-there}
-use Rattle.hv_tree.proofs.tree.exchange_far.Goals as goal
+use Rattle.hv_tree.proofs.loan.exchange_far.Goals as goal
 
 pub returns-then-not-is_there-clause-rows : goal.returns-then-not-is_there-clause-rows
 returns-then-not-is_there-clause-rows g c = sym (put-absent c.args.id c.args.slot.now c.args.root.now (sym c.is_there.ensures ∙ c.if-not-is_there.true))

@@ -4,7 +4,7 @@ use Rattle.hv_tree.specs.Index.{parents}
 use Rattle.hv_tree.specs.Nest.{has_row, top}
 use Rattle.hv_tree.proofs.Gone.{has-nest}
 use Rattle.hv_tree.proofs.Toward.{has-indexed}
-use Rattle.hv_tree.proofs.tree.is_there.Goals as goal
+use Rattle.hv_tree.proofs.look_up.is_there.Goals as goal
 
 pub returns-then-id : goal.returns-then-id
 returns-then-id g c =

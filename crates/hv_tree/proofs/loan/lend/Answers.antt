@@ -3,7 +3,7 @@ use Rattle.hv_tree.specs.Full.{loan}
 use Rattle.hv_tree.specs.Index.{parents}
 use Rattle.hv_tree.proofs.Indexed.{index-settled}
 use Rattle.hv_tree.proofs.Lent.{again-root, again-lent, settled-distinct}
-use Rattle.hv_tree.proofs.tree.lend.Goals as goal
+use Rattle.hv_tree.proofs.loan.lend.Goals as goal
 
 pub returns-then-is_lent-clause-root : goal.returns-then-is_lent-clause-root
 returns-then-is_lent-clause-root g c =
