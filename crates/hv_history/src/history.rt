@@ -250,26 +250,9 @@ impl<A: Allocator> History<A> {
     }
 
     /// Adds the last event of another history with its reply. This is that event, and there is room for it.
+    /// Where it is known to go on with this history's last call, it is compared with nothing.
     #[inline(always)]
-    pub fn push_last(&mut self, event: &Event<A>, other: &History<A>)
-        requires some { 0 < length (entries other.now) }
-        requires last { (entry : Entry A) → slice_get (entries other.now) (length (entries other.now) - 1)
-            ≡ Some entry → entry.event ≡ event.now }
-        requires room { HasRoomFor 1 (room_of self.old) event.now }
-        ensures pushed { (entry : Entry A) → slice_get (entries other.now) (length (entries other.now) - 1)
-            ≡ Some entry → entries self.new ≡ entries self.old ++ entry ∷ [] }
-
-        // Where there was room for more events, there is for one less.
-        ensures room { (more : ℕ) → HasRoomFor (more + 1) (room_of self.old) event.now
-            → HasRoomFor more (room_of self.new) event.now }
-    {
-        self.push_last_element(event, other, false);
-    }
-
-    /// Adds the last event of another history with its reply, as [`History::push_last`] does. Where it is
-    /// known to go on with this history's last call, it is compared with nothing.
-    #[inline(always)]
-    pub fn push_last_element(&mut self, event: &Event<A>, other: &History<A>, goes_on: bool)
+    pub fn push_last(&mut self, event: &Event<A>, other: &History<A>, goes_on: bool)
         requires some { 0 < length (entries other.now) }
         requires last { (entry : Entry A) → slice_get (entries other.now) (length (entries other.now) - 1)
             ≡ Some entry → entry.event ≡ event.now }
@@ -277,6 +260,8 @@ impl<A: Allocator> History<A> {
         requires call { IsTrue goes_on → IsOfLastCall event.now (entries self.old) }
         ensures pushed { (entry : Entry A) → slice_get (entries other.now) (length (entries other.now) - 1)
             ≡ Some entry → entries self.new ≡ entries self.old ++ entry ∷ [] }
+
+        // Where there was room for more events, there is for one less.
         ensures room { (more : ℕ) → HasRoomFor (more + 1) (room_of self.old) event.now
             → HasRoomFor more (room_of self.new) event.now }
     {

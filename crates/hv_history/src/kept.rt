@@ -119,7 +119,7 @@ impl<A: Allocator + Clone> Kept<A> {
             → IfOk result (λ r. HasResult r.1) }
         ensures next { IfOk result (λ r. GoesOn event.now.what r.1) }
     {
-        match self.take_element(event, goes_on) {
+        match self.take(event, goes_on) {
             Ok(number) => Ok((number, self.last_reply())),
             Err(why) => Err(why),
         }
@@ -136,23 +136,11 @@ impl<A: Allocator + Clone> Kept<A> {
         Reply::of(entry.answer, output.as_slice())
     }
 
-    /// Lets an event happen as [`Kept::apply`] does, and answers its number alone: its reply stands in
-    /// the history.
+    /// Lets an event happen as [`Kept::apply`] does, and answers its number alone: its reply stands in the
+    /// history. Where it is known to go on with the last event's call, as each element of a rep call does
+    /// after the first, its input is compared with nothing.
     #[inline(always)]
-    pub fn take(&mut self, event: &Event<A>) -> Result<u64, HostRefused>
-        ensures taken { OnOk result (HasTaken event.now self.old self.new) }
-        ensures number { IfOk result (λ number. number ≡ length self.new.history) }
-        ensures run { IsRun self.new }
-        ensures full { IsErrOf result HostRefused.HistoryFull ↔ (length self.old.history ≡ self.old.limit) }
-        ensures refused { OnErr result (self.new ≡ self.old) }
-    {
-        self.take_element(event, false)
-    }
-
-    /// Lets an event happen as [`Kept::take`] does. Where it is known to go on with the last event's call,
-    /// as each element of a rep call does after the first, its input is compared with nothing.
-    #[inline(always)]
-    pub fn take_element(&mut self, event: &Event<A>, goes_on: bool) -> Result<u64, HostRefused>
+    pub fn take(&mut self, event: &Event<A>, goes_on: bool) -> Result<u64, HostRefused>
         requires { IsTrue goes_on → IsOfLastCall event.now self.old.history }
         ensures taken { OnOk result (HasTaken event.now self.old self.new) }
         ensures number { IfOk result (λ number. number ≡ length self.new.history) }

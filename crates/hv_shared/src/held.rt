@@ -303,7 +303,7 @@ impl<L: Ledger> Held<L> {
         ensures refused { OnErr result (self.new ≡ self.old) }
         ensures pass { OnErr result (pass.new ≡ pass.old) }
     {
-        match self.kept.take_element(event, goes_on) {
+        match self.kept.take(event, goes_on) {
             Ok(number) => {
                 self.count.add(&mut pass.share, 1);
                 let history = self.kept.history();

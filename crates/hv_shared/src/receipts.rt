@@ -140,6 +140,6 @@ impl Receipts {
             → list_of self.new ≡ list_of self.old ++ receipt_of number entry ∷ [] }
     {
         self.numbers.push_reserved(number);
-        self.packed.push_last_element(event, history, goes_on);
+        self.packed.push_last(event, history, goes_on);
     }
 }

@@ -42,7 +42,7 @@ pub returns-in-Ok-clause-held : goal.returns-in-Ok-clause-held
 returns-in-Ok-clause-held g c =
     let event = c.args.event.now in
     let entry = c.entry-entry.result in
-    let new : Kept Global = c.take_element.new.self in
+    let new : Kept Global = c.take.new.self in
     let taken = c.in-Ok.ensures.taken in
     let told : Reply = reply_of entry.answer (shown entry.output) in
     let before : PassValue = record { caller = c.pass.inside.caller; receipts = list_of c.pass.inside.receipts.value; share = c.pass.inside.share.amount; settled = c.pass.inside.settled; due = c.pass.inside.due; room = room_in c.pass.inside.receipts.value } in
@@ -66,8 +66,8 @@ returns-in-Ok-clause-held g c =
     (held event entry.answer (shown entry.output) _ new before after taken same kept_receipt
     (subst (λ (r : Receipts). HasUsedOne event (room_in r) (room_in c.push.new.self)) c.deref_mut.ensures.value c.push.ensures.room)))
 
-pub take_element-requires : goal.take_element-requires
-take_element-requires g c = λ on. subst (λ (h : HeldValue). IsOfLastCall c.args.event.now h.kept.history) (sym c.self.view_is) (c.requires.call on)
+pub take-requires : goal.take-requires
+take-requires g c = λ on. subst (λ (h : HeldValue). IsOfLastCall c.args.event.now h.kept.history) (sym c.self.view_is) (c.requires.call on)
 
 pub push-requires-clause-call : goal.push-requires-clause-call
 push-requires-clause-call g c = λ on.

@@ -9,7 +9,7 @@ invariant_of-self c =
     let history = entries c.args.history.now in
     let some = c.requires.some in
     let last = there_is history (length history - 1) (omega arith) in
-    let all = ap length (c.push_last_element.ensures.pushed last.0 last.1) in
+    let all = ap length (c.push_last.ensures.pushed last.0 last.1) in
     let each = r.each in
     let len = c.push_reserved.ensures.len in
     record { each = omega (arith, length-append (entries r.packed) (last.0 ∷ [])) }
@@ -17,7 +17,7 @@ invariant_of-self c =
 pub returns-clause-pushed : goal.returns-clause-pushed
 returns-clause-pushed c = λ entry is.
     let r = c.args.self.now in
-    rw (c.push_reserved.ensures.items, c.push_last_element.ensures.pushed entry is) (more r.numbers.items (entries r.packed) _ _ (sym r.numbers.ok.0 ∙ r.each))
+    rw (c.push_reserved.ensures.items, c.push_last.ensures.pushed entry is) (more r.numbers.items (entries r.packed) _ _ (sym r.numbers.ok.0 ∙ r.each))
 
 pub push_reserved-requires : goal.push_reserved-requires
 push_reserved-requires c =
@@ -29,9 +29,9 @@ returns-clause-room c = λ more room.
     let numbers = room.numbers in
     let len = c.push_reserved.ensures.len in
     let capacity = c.push_reserved.ensures.capacity in
-    record { numbers = omega arith; entries = c.push_last_element.ensures.room more room.entries }
+    record { numbers = omega arith; entries = c.push_last.ensures.room more room.entries }
 
-pub push_last_element-requires-clause-call : goal.push_last_element-requires-clause-call
-push_last_element-requires-clause-call c = λ on.
+pub push_last-requires-clause-call : goal.push_last-requires-clause-call
+push_last-requires-clause-call c = λ on.
     let r = c.args.self.now in
     subst (IsOfLastCall c.args.event.now) (entries_in r.numbers.items (entries r.packed) (sym r.numbers.ok.0 ∙ r.each)) (c.requires.call on)

@@ -2,7 +2,7 @@ use Rattle.std.proofs.Common.{ap, arith, subst, sym, ◌∙◌}
 use Rattle.hv_history.specs.History.{IsOfLastCall, entries}
 use Rattle.hv_history.specs.Kept.{HasStepped, HasTaken, Kept}
 use Rattle.hv_history.proofs.Runs.{few, has_taken, is_run, new_of, room}
-use Rattle.hv_history.proofs.kept.Kept.take_element.Goals as goal
+use Rattle.hv_history.proofs.kept.Kept.take.Goals as goal
 
 pub step_into-requires-clause-count : goal.step_into-requires-clause-count
 step_into-requires-clause-count g c =

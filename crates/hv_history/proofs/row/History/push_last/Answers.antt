@@ -10,7 +10,7 @@ use Rattle.hv_history.proofs.Rows.{asks, grown, last_is, placed_more, pushed}
 use Rattle.hv_history.specs.History.{entries}
 use Rattle.hv_history.specs.Row.{IsPlaced, IsThere, action_of, asked_in, bytes_at, entry_of, head_at, input_in, most_of, most_output, output_at, r8_in}
 use Rattle.hv_history.specs.declared.entry.Entry.{Entry}
-use Rattle.hv_history.proofs.row.History.push_last_element.Goals as goal
+use Rattle.hv_history.proofs.row.History.push_last.Goals as goal
 
 pub head_for-head-requires-clause-head : goal.head_for-head-requires-clause-head
 head_for-head-requires-clause-head g c = c.requires.room.head (omega arith)
