@@ -50,6 +50,7 @@ fn take_out(rt: &impl Abort, tree: &mut IdTree<char, Global>) -> Result<(), Fail
     let taken = [tree.remove_leaf(2), tree.remove_leaf(2)];
     let one = are_all(tree, &[1])?;
     assert!(rt; taken == [Some('b'), None] && one && tree.get(1).copied() == Some('a'));
+    assert!(rt; tree.contains(1) && !tree.contains(2));
     Ok(())
 }
 
