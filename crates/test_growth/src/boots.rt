@@ -42,40 +42,52 @@ fn is_own_id(reply: &Reply) -> bool {
 
 fn run_machine<'h>(
     rt: &impl Abort,
+    heap: &'h Heap,
     machine: &mut Machine<&'h Heap>,
-    event: &Event<&'h Heap>,
 ) -> Result<(), Fail> {
     assert!(rt; machine.served() == 0 && machine.next_id() == 2);
-    let reply = machine.step(event)?;
+    let reply = machine.step(&own_id(heap))?;
     assert!(rt; is_own_id(&reply));
     Ok(())
 }
 
+fn is_machine_refused(heap: &Heap) -> bool {
+    Machine::boot(heap, config()).err() == Some(BootRefused::Memory)
+}
+
+fn use_machine(rt: &impl Abort, heap: &Heap) -> Result<(), Fail> {
+    let mut machine = Machine::boot(heap, config())?;
+    run_machine(rt, heap, &mut machine)
+}
+
 pub(crate) fn boot_machine(rt: &impl Abort, heap: &Heap, blocks: u64) -> Result<bool, Fail> {
     heap.ration(blocks);
-    let refused = matches!(Machine::boot(heap, config()), Err(BootRefused::Memory));
+    let refused = is_machine_refused(heap);
     heap.lift();
-    let mut machine = Machine::boot(heap, config())?;
-    run_machine(rt, &mut machine, &own_id(heap))?;
+    use_machine(rt, heap)?;
     Ok(refused)
 }
 
-fn run_kept<'h>(
-    rt: &impl Abort,
-    kept: &mut Kept<&'h Heap>,
-    event: &Event<&'h Heap>,
-) -> Result<(), Fail> {
+fn run_kept<'h>(rt: &impl Abort, heap: &'h Heap, kept: &mut Kept<&'h Heap>) -> Result<(), Fail> {
     assert!(rt; kept.history().len() == 0 && kept.limit() == 1000 && kept.config() == config());
-    let (number, reply) = kept.apply(event)?;
+    let (number, reply) = kept.apply(&own_id(heap))?;
     assert!(rt; number == 1 && is_own_id(&reply));
     Ok(())
 }
 
+fn is_kept_refused(heap: &Heap) -> bool {
+    Kept::boot(heap, config(), 1000).err() == Some(BootRefused::Memory)
+}
+
+fn use_kept(rt: &impl Abort, heap: &Heap) -> Result<(), Fail> {
+    let mut kept = Kept::boot(heap, config(), 1000)?;
+    run_kept(rt, heap, &mut kept)
+}
+
 pub(crate) fn boot_kept(rt: &impl Abort, heap: &Heap, blocks: u64) -> Result<bool, Fail> {
     heap.ration(blocks);
-    let refused = matches!(Kept::boot(heap, config(), 1000), Err(BootRefused::Memory));
+    let refused = is_kept_refused(heap);
     heap.lift();
-    let mut kept = Kept::boot(heap, config(), 1000)?;
-    run_kept(rt, &mut kept, &own_id(heap))?;
+    use_kept(rt, heap)?;
     Ok(refused)
 }

@@ -4,6 +4,7 @@ use crate::rationed::Heap;
 use hv_abi::{Bytes, Frame};
 use hv_history::History;
 use hv_policy::{Action, Caller, Event};
+use std::alloc::AllocError;
 use std::process::Abort;
 use std::test::Fail;
 
@@ -23,11 +24,15 @@ fn frame(heap: &Heap) -> Result<Frame<&Heap>, Fail> {
     })
 }
 
+fn is_input(bytes: &Bytes<&Heap>) -> bool {
+    bytes.as_slice() == INPUT.as_slice()
+}
+
 fn is_whole(frame: &Frame<&Heap>) -> bool {
     frame.rcx == 0xFEDC_BA98_7654_3210
         && frame.rdx == 0x0123_4567_89AB_CDEF
         && frame.r8 == 0x1122_3344_5566_7788
-        && frame.input.as_slice() == INPUT.as_slice()
+        && is_input(&frame.input)
 }
 
 fn is_whole_call(action: &Action<&Heap>) -> bool {
@@ -43,34 +48,57 @@ fn is_whole_call(action: &Action<&Heap>) -> bool {
     }
 }
 
-pub(crate) fn copy_bytes(rt: &impl Abort, heap: &Heap, blocks: u64) -> Result<bool, Fail> {
-    let bytes = Bytes::from_vec(INPUT.to_vec(heap)?);
-    heap.ration(blocks);
-    let told = bytes.copy();
-    heap.lift();
-    let copied = bytes.copy()?;
-    assert!(rt; bytes.as_slice() == INPUT.as_slice() && copied.as_slice() == INPUT.as_slice());
-    Ok(told.is_err())
+fn is_whole_event(event: &Event<&Heap>) -> bool {
+    event.by == BY && is_whole_call(&event.what)
 }
 
-pub(crate) fn copy_frame(rt: &impl Abort, heap: &Heap, blocks: u64) -> Result<bool, Fail> {
-    let frame = frame(heap)?;
-    heap.ration(blocks);
-    let told = frame.copy();
-    heap.lift();
-    let copied = frame.copy()?;
-    assert!(rt; is_whole(&frame) && is_whole(&copied));
-    Ok(told.is_err())
+// What of an event is copied.
+#[derive(Clone, Copy)]
+pub(crate) enum Copied {
+    Bytes,
+    Frame,
+    Action,
+    Event,
 }
 
-pub(crate) fn copy_action(rt: &impl Abort, heap: &Heap, blocks: u64) -> Result<bool, Fail> {
-    let action = Action::Hypercall(frame(heap)?);
+fn is_refused(event: &Event<&Heap>, frame: &Frame<&Heap>, copied: Copied) -> bool {
+    match copied {
+        Copied::Bytes => frame.input.copy().is_err(),
+        Copied::Frame => frame.copy().is_err(),
+        Copied::Action => event.what.copy().is_err(),
+        Copied::Event => event.copy().is_err(),
+    }
+}
+
+// Whether the copy, for which there is memory, has all of it.
+fn is_copied(
+    event: &Event<&Heap>,
+    frame: &Frame<&Heap>,
+    copied: Copied,
+) -> Result<bool, AllocError> {
+    Ok(match copied {
+        Copied::Bytes => is_input(&frame.input.copy()?),
+        Copied::Frame => is_whole(&frame.copy()?),
+        Copied::Action => is_whole_call(&event.what.copy()?),
+        Copied::Event => is_whole_event(&event.copy()?),
+    })
+}
+
+fn copy_of(
+    rt: &impl Abort,
+    heap: &Heap,
+    event: &Event<&Heap>,
+    copied: Copied,
+    blocks: u64,
+) -> Result<bool, Fail> {
+    let Action::Hypercall(frame) = &event.what else {
+        panic!(rt; "a call")
+    };
     heap.ration(blocks);
-    let told = action.copy();
+    let refused = is_refused(event, frame, copied);
     heap.lift();
-    let copied = action.copy()?;
-    assert!(rt; is_whole_call(&action) && is_whole_call(&copied));
-    Ok(told.is_err())
+    assert!(rt; is_whole_event(event) && is_copied(event, frame, copied)?);
+    Ok(refused)
 }
 
 fn event(heap: &Heap) -> Result<Event<&Heap>, Fail> {
@@ -78,14 +106,14 @@ fn event(heap: &Heap) -> Result<Event<&Heap>, Fail> {
     Ok(Event { by: BY, what })
 }
 
-pub(crate) fn copy_event(rt: &impl Abort, heap: &Heap, blocks: u64) -> Result<bool, Fail> {
+pub(crate) fn copy(
+    rt: &impl Abort,
+    heap: &Heap,
+    copied: Copied,
+    blocks: u64,
+) -> Result<bool, Fail> {
     let event = event(heap)?;
-    heap.ration(blocks);
-    let told = event.copy();
-    heap.lift();
-    let copied = event.copy()?;
-    assert!(rt; is_whole_call(&event.what) && is_whole_call(&copied.what) && copied.by == BY);
-    Ok(told.is_err())
+    copy_of(rt, heap, &event, copied, blocks)
 }
 
 fn ask_for_entries<'h>(

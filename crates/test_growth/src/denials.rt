@@ -6,10 +6,9 @@ ghost use Rattle.hv_history.specs.Row.{next_in};
 
 use crate::rationed::{Heap, Rationed};
 use crate::rows::{ROWS, Row};
-use crate::texts::events_of;
+use crate::texts::read;
 use hv_machine::Machine;
-use hv_policy::{Event, Reply};
-use hv_script::parse;
+use hv_policy::{Config, Event, Reply};
 use hv_text::{LINE, audit_line};
 use std::process::Abort;
 use std::test::Fail;
@@ -89,11 +88,20 @@ fn step_all<'h>(
     Ok(())
 }
 
+fn step_booted<'h>(
+    rt: &impl Abort,
+    heap: &'h Heap,
+    config: Config,
+    events: &[Event<&'h Heap>],
+    row: &Row,
+) -> Result<(), Fail> {
+    let mut machine = Machine::boot(heap, config)?;
+    step_all(rt, heap, &mut machine, events, row)
+}
+
 fn assert_steps(rt: &impl Abort, heap: &Heap, row: &Row) -> Result<(), Fail> {
-    let script = parse(heap, row.script)?;
-    let mut machine = Machine::boot(heap, script.config)?;
-    let events = events_of(heap.inner(), script)?;
-    step_all(rt, heap, &mut machine, &events, row)
+    let (config, _, events) = read(heap, row.script)?;
+    step_booted(rt, heap, config, &events, row)
 }
 
 #[test]

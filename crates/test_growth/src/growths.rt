@@ -1,7 +1,11 @@
 // The calls that may take memory, and how many blocks each takes from where its trial begins.
 
+use crate::copies::Copied;
+use crate::partitions::Room;
 use crate::rationed::{Heap, Rationed};
+use crate::trees::Wanted;
 use crate::{boots, copies, mail, pages, partitions, tables, texts, trees};
+use hv_partition::PageKind;
 use std::process::Abort;
 use std::test::Fail;
 
@@ -10,7 +14,10 @@ use std::test::Fail;
 enum Growth {
     Part(Part),
     Held(Held),
-    Made(Made),
+    Room(Room),
+    // The root of the tree has so many children.
+    Tree(Wanted, u64),
+    Copied(Copied),
     Whole(Whole),
 }
 
@@ -26,29 +33,11 @@ enum Part {
     MoreConnections,
 }
 
-// Processors, and the room of a partition.
+// A processor, and its room for a message.
 #[derive(Clone, Copy)]
 enum Held {
     Processor,
     Message,
-    Processors,
-    LoosePages,
-    PooledPages,
-    Port,
-    Connection,
-}
-
-// Nodes of a tree, and copies.
-#[derive(Clone, Copy)]
-enum Made {
-    ChildRoom,
-    FirstChild,
-    MoreChildren,
-    Ids,
-    Bytes,
-    Frame,
-    Action,
-    Event,
 }
 
 // What is told and what is booted.
@@ -66,7 +55,9 @@ fn is_refused(rt: &impl Abort, heap: &Heap, growth: Growth, blocks: u64) -> Resu
     match growth {
         Growth::Part(part) => is_part_refused(rt, heap, part, blocks),
         Growth::Held(held) => is_held_refused(rt, heap, held, blocks),
-        Growth::Made(made) => is_made_refused(rt, heap, made, blocks),
+        Growth::Room(room) => partitions::reserve(rt, heap, room, blocks),
+        Growth::Tree(wanted, count) => trees::ask_new(rt, heap, wanted, count, blocks),
+        Growth::Copied(copied) => copies::copy(rt, heap, copied, blocks),
         Growth::Whole(whole) => is_whole_refused(rt, heap, whole, blocks),
     }
 }
@@ -87,24 +78,6 @@ fn is_held_refused(rt: &impl Abort, heap: &Heap, held: Held, blocks: u64) -> Res
     match held {
         Held::Processor => partitions::make_processor(rt, heap, blocks),
         Held::Message => partitions::reserve_message(rt, heap, blocks),
-        Held::Processors => partitions::reserve_processor(rt, heap, blocks),
-        Held::LoosePages => partitions::reserve_loose(rt, heap, blocks),
-        Held::PooledPages => partitions::reserve_pooled(rt, heap, blocks),
-        Held::Port => partitions::reserve_port(rt, heap, blocks),
-        Held::Connection => partitions::reserve_connection(rt, heap, blocks),
-    }
-}
-
-fn is_made_refused(rt: &impl Abort, heap: &Heap, made: Made, blocks: u64) -> Result<bool, Fail> {
-    match made {
-        Made::ChildRoom => trees::reserve_child(rt, heap, blocks),
-        Made::FirstChild => trees::insert_first(rt, heap, blocks),
-        Made::MoreChildren => trees::insert_more(rt, heap, blocks),
-        Made::Ids => trees::list_ids(rt, heap, blocks),
-        Made::Bytes => copies::copy_bytes(rt, heap, blocks),
-        Made::Frame => copies::copy_frame(rt, heap, blocks),
-        Made::Action => copies::copy_action(rt, heap, blocks),
-        Made::Event => copies::copy_event(rt, heap, blocks),
     }
 }
 
@@ -139,20 +112,21 @@ const GROWTHS: [(Growth, u64); 27] = [
     (Growth::Part(Part::MoreConnections), 1),
     (Growth::Held(Held::Processor), 1),
     (Growth::Held(Held::Message), 19),
-    (Growth::Held(Held::Processors), 1),
-    (Growth::Held(Held::LoosePages), 1),
-    (Growth::Held(Held::PooledPages), 1),
-    (Growth::Held(Held::Port), 1),
-    (Growth::Held(Held::Connection), 1),
-    (Growth::Made(Made::ChildRoom), 1),
+    (Growth::Room(Room::Processors), 1),
+    (Growth::Room(Room::Pages(PageKind::Loose)), 1),
+    (Growth::Room(Room::Pages(PageKind::Pooled)), 1),
+    (Growth::Room(Room::Ports), 1),
+    (Growth::Room(Room::Connections), 1),
+    (Growth::Tree(Wanted::Room, 1), 1),
     // The node, the list of children, and the tables of the index.
-    (Growth::Made(Made::FirstChild), 6),
-    (Growth::Made(Made::MoreChildren), 2),
-    (Growth::Made(Made::Ids), 1),
-    (Growth::Made(Made::Bytes), 1),
-    (Growth::Made(Made::Frame), 1),
-    (Growth::Made(Made::Action), 1),
-    (Growth::Made(Made::Event), 1),
+    (Growth::Tree(Wanted::Child, 0), 6),
+    // Four children fill the first block of their list.
+    (Growth::Tree(Wanted::Child, 4), 2),
+    (Growth::Tree(Wanted::Ids, 2), 1),
+    (Growth::Copied(Copied::Bytes), 1),
+    (Growth::Copied(Copied::Frame), 1),
+    (Growth::Copied(Copied::Action), 1),
+    (Growth::Copied(Copied::Event), 1),
     // Its rows, heads, inputs and outputs.
     (Growth::Whole(Whole::History), 4),
     // Runs of loose and of pooled pages, the flags of a processor, and the list of processors.

@@ -13,16 +13,22 @@ use std::test::Fail;
 // The register that has a processor's index.
 const VP_INDEX: u32 = 0x4000_0002;
 
+fn is_new(vp: &Vp<&Heap>) -> bool {
+    vp.read_msr(VP_INDEX) == Ok(7) && !vp.ready_for_messages()
+}
+
 pub(crate) fn make_processor(rt: &impl Abort, heap: &Heap, blocks: u64) -> Result<bool, Fail> {
     heap.ration(blocks);
-    let told = Vp::new(heap, 7);
+    let refused = Vp::new(heap, 7).is_err();
     heap.lift();
-    if told.is_ok() {
-        return Ok(false);
-    }
     let vp = Vp::new(heap, 7)?;
-    assert!(rt; vp.read_msr(VP_INDEX) == Ok(7) && !vp.ready_for_messages());
-    Ok(true)
+    assert!(rt; is_new(&vp));
+    Ok(refused)
+}
+
+// Whether the processor's slot 2 begins with these bytes.
+fn shows(vp: &Vp<&Heap>, bytes: [u8; 18]) -> bool {
+    &vp.slot(2)[..18] == bytes.as_slice()
 }
 
 fn ask_for_message(
@@ -32,13 +38,13 @@ fn ask_for_message(
     blocks: u64,
 ) -> Result<bool, Fail> {
     heap.ration(blocks);
-    let told = vp.reserve_message();
+    let refused = vp.reserve_message().is_err();
     heap.lift();
-    assert!(rt; vp.read_msr(VP_INDEX) == Ok(7) && &vp.slot(2)[..18] == [0; 18].as_slice());
+    assert!(rt; vp.read_msr(VP_INDEX) == Ok(7) && shows(vp, [0; 18]));
     vp.reserve_message()?;
     vp.post(2, message(rt));
-    assert!(rt; &vp.slot(2)[..18] == SHOWN.as_slice());
-    Ok(told.is_err())
+    assert!(rt; shows(vp, SHOWN));
+    Ok(refused)
 }
 
 pub(crate) fn reserve_message(rt: &impl Abort, heap: &Heap, blocks: u64) -> Result<bool, Fail> {
@@ -58,14 +64,7 @@ fn put(
     Ok(())
 }
 
-// A partition with loose page 3 and pooled page 5.
-fn partition<'h>(rt: &impl Abort, heap: &'h Heap) -> Result<Partition<&'h Heap>, Fail> {
-    let mut made = Partition::new(heap, Life::Active, Privileges::of(0xF7_0000_0044))?;
-    put(rt, &mut made, PageKind::Loose, 3)?;
-    put(rt, &mut made, PageKind::Pooled, 5)?;
-    Ok(made)
-}
-
+// Whether it has loose page 3 and pooled page 5, and nothing else.
 fn is_whole(made: &Partition<&Heap>) -> bool {
     made.life() == Life::Active
         && made.mask().bits() == 0xF7_0000_0044
@@ -88,100 +87,93 @@ fn a_partition_needs_no_block(rt: HostRuntime) -> Result<(), Fail> {
     Ok(())
 }
 
-fn ask_for_processor<'h>(
+fn add_processor<'h>(
     rt: &impl Abort,
-    heap: &Heap,
+    heap: &'h Heap,
     made: &mut Partition<&'h Heap>,
-    vp: Vp<&'h Heap>,
-    blocks: u64,
-) -> Result<bool, Fail> {
-    heap.ration(blocks);
-    let told = made.reserve_vp();
-    heap.lift();
-    assert!(rt; is_whole(made));
+) -> Result<(), Fail> {
     made.reserve_vp()?;
-    let None = made.vp(7) else {
-        panic!(rt; "no processor yet")
-    };
-    made.add_vp(7, vp);
+    assert!(rt; made.vp(7).is_none());
+    made.add_vp(7, Vp::new(heap, 7)?);
     assert!(rt; made.vp_count() == 1 && made.vp(7).is_some());
-    Ok(told.is_err())
+    Ok(())
 }
 
-pub(crate) fn reserve_processor(rt: &impl Abort, heap: &Heap, blocks: u64) -> Result<bool, Fail> {
-    let mut made = partition(rt, heap)?;
-    let vp = Vp::new(heap, 7)?;
-    ask_for_processor(rt, heap, &mut made, vp, blocks)
-}
-
-// Asks for more room than a new set of pages gets, and puts in a page.
-fn ask_for_pages(
-    rt: &impl Abort,
-    heap: &Heap,
-    made: &mut Partition<&Heap>,
-    kind: PageKind,
-    blocks: u64,
-) -> Result<bool, Fail> {
-    heap.ration(blocks);
-    let told = made.reserve(kind, 50);
-    heap.lift();
-    assert!(rt; is_whole(made));
+// Puts in a page, with more room than a new set of pages gets.
+fn add_page(rt: &impl Abort, made: &mut Partition<&Heap>, kind: PageKind) -> Result<(), Fail> {
     made.reserve(kind, 50)?;
     put(rt, made, kind, 9)?;
     assert!(rt; made.pages(kind).count() == 2 && made.pages(kind).holds(9));
-    Ok(told.is_err())
+    Ok(())
 }
 
-pub(crate) fn reserve_loose(rt: &impl Abort, heap: &Heap, blocks: u64) -> Result<bool, Fail> {
-    let mut made = partition(rt, heap)?;
-    ask_for_pages(rt, heap, &mut made, PageKind::Loose, blocks)
-}
-
-pub(crate) fn reserve_pooled(rt: &impl Abort, heap: &Heap, blocks: u64) -> Result<bool, Fail> {
-    let mut made = partition(rt, heap)?;
-    ask_for_pages(rt, heap, &mut made, PageKind::Pooled, blocks)
-}
-
-fn ask_for_port(
-    rt: &impl Abort,
-    heap: &Heap,
-    made: &mut Partition<&Heap>,
-    blocks: u64,
-) -> Result<bool, Fail> {
-    heap.ration(blocks);
-    let told = made.reserve_port();
-    heap.lift();
-    assert!(rt; is_whole(made));
+fn add_port(rt: &impl Abort, made: &mut Partition<&Heap>) -> Result<(), Fail> {
     made.reserve_port()?;
     assert!(rt; made.port(5) == None);
     made.add_port(5, PORT);
     assert!(rt; made.port_count() == 1 && made.port(5) == Some(PORT));
-    Ok(told.is_err())
+    Ok(())
 }
 
-pub(crate) fn reserve_port(rt: &impl Abort, heap: &Heap, blocks: u64) -> Result<bool, Fail> {
-    let mut made = partition(rt, heap)?;
-    ask_for_port(rt, heap, &mut made, blocks)
-}
-
-fn ask_for_connection(
-    rt: &impl Abort,
-    heap: &Heap,
-    made: &mut Partition<&Heap>,
-    blocks: u64,
-) -> Result<bool, Fail> {
-    heap.ration(blocks);
-    let told = made.reserve_conn();
-    heap.lift();
-    assert!(rt; is_whole(made));
+fn add_connection(rt: &impl Abort, made: &mut Partition<&Heap>) -> Result<(), Fail> {
     made.reserve_conn()?;
     assert!(rt; made.conn(7) == None);
     made.add_conn(7, CONN);
     assert!(rt; made.conn_count() == 1 && made.conn(7) == Some(CONN));
-    Ok(told.is_err())
+    Ok(())
 }
 
-pub(crate) fn reserve_connection(rt: &impl Abort, heap: &Heap, blocks: u64) -> Result<bool, Fail> {
-    let mut made = partition(rt, heap)?;
-    ask_for_connection(rt, heap, &mut made, blocks)
+// What a partition makes room for.
+#[derive(Clone, Copy)]
+pub(crate) enum Room {
+    Processors,
+    Pages(PageKind),
+    Ports,
+    Connections,
+}
+
+fn is_refused(made: &mut Partition<&Heap>, room: Room) -> bool {
+    match room {
+        Room::Processors => made.reserve_vp().is_err(),
+        Room::Pages(kind) => made.reserve(kind, 50).is_err(),
+        Room::Ports => made.reserve_port().is_err(),
+        Room::Connections => made.reserve_conn().is_err(),
+    }
+}
+
+fn use_room<'h>(
+    rt: &impl Abort,
+    heap: &'h Heap,
+    made: &mut Partition<&'h Heap>,
+    room: Room,
+) -> Result<(), Fail> {
+    match room {
+        Room::Processors => add_processor(rt, heap, made),
+        Room::Pages(kind) => add_page(rt, made, kind),
+        Room::Ports => add_port(rt, made),
+        Room::Connections => add_connection(rt, made),
+    }
+}
+
+// Asks a new partition for room with so many blocks, and uses it.
+fn ask<'h>(
+    rt: &impl Abort,
+    heap: &'h Heap,
+    made: &mut Partition<&'h Heap>,
+    room: Room,
+    blocks: u64,
+) -> Result<bool, Fail> {
+    put(rt, made, PageKind::Loose, 3)?;
+    put(rt, made, PageKind::Pooled, 5)?;
+    heap.ration(blocks);
+    let refused = is_refused(made, room);
+    heap.lift();
+    assert!(rt; is_whole(made));
+    use_room(rt, heap, made, room)?;
+    Ok(refused)
+}
+
+pub(crate) fn reserve(rt: &impl Abort, heap: &Heap, room: Room, blocks: u64) -> Result<bool, Fail> {
+    let mut made = Partition::new(heap, Life::Active, Privileges::of(0xF7_0000_0044))?;
+    ask(rt, heap, &mut made, room, blocks)
 }

@@ -1,10 +1,9 @@
 // Scripts in which each event is refused its first block, then its second, and so on until it happens.
 
 use crate::rationed::{Heap, Rationed};
-use crate::texts::{audit_of, events_of, table_of};
+use crate::texts::{has_audit, has_table, let_happen, read, table_of};
 use hv_history::{HostRefused, Kept};
-use hv_policy::Event;
-use hv_script::parse;
+use hv_policy::{Config, Event};
 use std::process::Abort;
 use std::test::Fail;
 
@@ -349,6 +348,24 @@ pages 32
     wants: &[0, 2, 8, 9, 10, 15],
 };
 
+// Whether the host refuses the event with so many blocks, which it does for want of memory alone.
+fn is_event_refused<'h>(
+    rt: &impl Abort,
+    heap: &Heap,
+    kept: &mut Kept<&'h Heap>,
+    event: &Event<&'h Heap>,
+    blocks: u64,
+) -> bool {
+    heap.ration(blocks);
+    let told = kept.apply(event);
+    heap.lift();
+    match told {
+        Ok(_) => false,
+        Err(HostRefused::Memory) => true,
+        Err(_) => panic!(rt; "refused otherwise"),
+    }
+}
+
 // Lets the event happen with so many blocks, and where it is refused again with all.
 fn apply<'h>(
     rt: &impl Abort,
@@ -359,19 +376,12 @@ fn apply<'h>(
 ) -> Result<bool, Fail> {
     let before = table_of(heap.inner(), kept)?;
     let count = kept.history().len();
-    heap.ration(blocks);
-    let told = kept.apply(event);
-    heap.lift();
-    match told {
-        Ok(_) => Ok(false),
-        Err(why) => {
-            let after = table_of(heap.inner(), kept)?;
-            assert!(rt; why == HostRefused::Memory && kept.history().len() == count);
-            assert!(rt; before.as_slice() == after.as_slice());
-            kept.apply(event)?;
-            Ok(true)
-        }
+    let refused = is_event_refused(rt, heap, kept, event, blocks);
+    if refused {
+        assert!(rt; kept.history().len() == count && has_table(heap.inner(), kept, &before)?);
+        let_happen(kept, event)?;
     }
+    Ok(refused)
 }
 
 // Lets all events happen, the one at a place with so many blocks.
@@ -388,22 +398,43 @@ fn apply_all<'h>(
         if at == place {
             refused = apply(rt, heap, kept, event, blocks)?;
         } else {
-            kept.apply(event)?;
+            let_happen(kept, event)?;
         }
     }
     Ok(refused)
 }
 
-fn assert_told(rt: &impl Abort, heap: &Heap, kept: &Kept<&Heap>, row: &Row) -> Result<(), Fail> {
-    let audit = audit_of(heap.inner(), kept)?;
-    assert!(rt; audit.as_slice() == row.audit.as_bytes());
-    let table = table_of(heap.inner(), kept)?;
-    assert!(rt; table.as_slice() == row.table.as_bytes());
-    Ok(())
+// Lets all events happen. All but the one at the place have all blocks, and either way the whole script is
+// told as it must be.
+fn run<'h>(
+    rt: &impl Abort,
+    heap: &Heap,
+    kept: &mut Kept<&'h Heap>,
+    events: &[Event<&'h Heap>],
+    row: &Row,
+    place: usize,
+    blocks: u64,
+) -> Result<bool, Fail> {
+    let refused = apply_all(rt, heap, kept, events, place, blocks)?;
+    assert!(rt; has_audit(heap.inner(), kept, row.audit.as_bytes())?);
+    assert!(rt; has_table(heap.inner(), kept, row.table.as_bytes())?);
+    Ok(refused)
 }
 
-// Whether the event at a place is refused with so many blocks. All others have all, and either way the whole
-// script is told as it must be.
+fn run_booted<'h>(
+    rt: &impl Abort,
+    heap: &'h Heap,
+    booted: (Config, u32),
+    events: &[Event<&'h Heap>],
+    row: &Row,
+    place: usize,
+    blocks: u64,
+) -> Result<bool, Fail> {
+    let mut kept = Kept::boot(heap, booted.0, booted.1)?;
+    run(rt, heap, &mut kept, events, row, place, blocks)
+}
+
+// Whether the event at a place is refused with so many blocks.
 fn is_refused(
     rt: &impl Abort,
     heap: &Heap,
@@ -411,13 +442,9 @@ fn is_refused(
     place: usize,
     blocks: u64,
 ) -> Result<bool, Fail> {
-    let script = parse(heap, row.script)?;
-    let mut kept = Kept::boot(heap, script.config, script.limit)?;
-    let events = events_of(heap.inner(), script)?;
+    let (config, limit, events) = read(heap, row.script)?;
     assert!(rt; events.len() == row.blocks.len());
-    let refused = apply_all(rt, heap, &mut kept, &events, place, blocks)?;
-    assert_told(rt, heap, &kept, row)?;
-    Ok(refused)
+    run_booted(rt, heap, (config, limit), &events, row, place, blocks)
 }
 
 // How many blocks the event at a place takes.

@@ -1,11 +1,10 @@
 // Elements of a rep call that happen one after another, until there is no memory for the next.
 
 use crate::rationed::{Heap, Rationed};
-use crate::texts::{audit_of, events_of, table_of};
+use crate::texts::{has_audit, has_table, let_happen, read, table_of};
 use hv_abi::Frame;
 use hv_history::{HostRefused, Kept, RunDone};
-use hv_policy::{Action, Caller, Event, Reply};
-use hv_script::parse;
+use hv_policy::{Action, Caller, Config, Event, Reply};
 use std::process::Abort;
 use std::test::Fail;
 
@@ -119,20 +118,28 @@ fn run_all<'h>(
     let [create, own_id, deposit] = events else {
         panic!(rt; "three lines")
     };
-    kept.apply(create)?;
-    kept.apply(own_id)?;
+    let_happen(kept, create)?;
+    let_happen(kept, own_id)?;
     let told = run(rt, heap, kept, deposit, blocks)?;
-    let audit = audit_of(heap.inner(), kept)?;
-    let table = table_of(heap.inner(), kept)?;
-    assert!(rt; audit.as_slice() == AUDIT.as_bytes() && table.as_slice() == TABLE.as_bytes());
+    assert!(rt; has_audit(heap.inner(), kept, AUDIT.as_bytes())?);
+    assert!(rt; has_table(heap.inner(), kept, TABLE.as_bytes())?);
     Ok(told)
 }
 
+fn run_booted<'h>(
+    rt: &impl Abort,
+    heap: &'h Heap,
+    booted: (Config, u32),
+    events: &[Event<&'h Heap>],
+    blocks: u64,
+) -> Result<Option<u32>, Fail> {
+    let mut kept = Kept::boot(heap, booted.0, booted.1)?;
+    run_all(rt, heap, &mut kept, events, blocks)
+}
+
 fn refused_after(rt: &impl Abort, heap: &Heap, blocks: u64) -> Result<Option<u32>, Fail> {
-    let script = parse(heap, SCRIPT)?;
-    let mut kept = Kept::boot(heap, script.config, script.limit)?;
-    let events = events_of(heap.inner(), script)?;
-    run_all(rt, heap, &mut kept, &events, blocks)
+    let (config, limit, events) = read(heap, SCRIPT)?;
+    run_booted(rt, heap, (config, limit), &events, blocks)
 }
 
 // Each element may take blocks of its own. Where the third is refused, it leaves the two entries before it.

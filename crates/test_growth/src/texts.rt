@@ -2,7 +2,7 @@
 
 use crate::rationed::Heap;
 use hv_history::Kept;
-use hv_policy::{Action, Caller, Event};
+use hv_policy::{Action, Caller, Config, Event};
 use hv_script::{FaultKind, Line, Script, ScriptFault, parse};
 use hv_text::{PrintFault, audit, table};
 use std::alloc::Global;
@@ -70,10 +70,7 @@ pub(crate) fn read_script(rt: &impl Abort, heap: &Heap, blocks: u64) -> Result<b
 }
 
 // The events that a script asks for, each line one.
-pub(crate) fn events_of<'h>(
-    alloc: Global,
-    script: Script<&'h Heap>,
-) -> Result<Vec<Event<&'h Heap>>, Fail> {
+fn events_of<'h>(alloc: Global, script: Script<&'h Heap>) -> Result<Vec<Event<&'h Heap>>, Fail> {
     let Script { lines, .. } = script;
     let mut events = Vec::new(alloc);
     for line in lines {
@@ -83,17 +80,42 @@ pub(crate) fn events_of<'h>(
     Ok(events)
 }
 
-// The audit, or the table, in memory of another allocator.
-pub(crate) fn audit_of(alloc: Global, kept: &Kept<&Heap>) -> Result<Vec<u8>, Fail> {
-    let mut out: Vec<u8> = Vec::new(alloc);
-    audit(&mut out, kept)?;
-    Ok(out)
+// What a script boots, the most events that are kept, and its events.
+pub(crate) fn read<'h>(
+    heap: &'h Heap,
+    text: &[u8],
+) -> Result<(Config, u32, Vec<Event<&'h Heap>>), Fail> {
+    let script = parse(heap, text)?;
+    let (config, limit) = (script.config, script.limit);
+    Ok((config, limit, events_of(heap.inner(), script)?))
 }
 
+// Lets an event happen.
+pub(crate) fn let_happen<'h>(
+    kept: &mut Kept<&'h Heap>,
+    event: &Event<&'h Heap>,
+) -> Result<(), Fail> {
+    kept.apply(event)?;
+    Ok(())
+}
+
+// The table, in memory of another allocator.
 pub(crate) fn table_of(alloc: Global, kept: &Kept<&Heap>) -> Result<Vec<u8>, Fail> {
     let mut out: Vec<u8> = Vec::new(alloc);
     table(&mut out, kept)?;
     Ok(out)
+}
+
+// Whether the audit, or the table, is this text.
+pub(crate) fn has_audit(alloc: Global, kept: &Kept<&Heap>, text: &[u8]) -> Result<bool, Fail> {
+    let mut out: Vec<u8> = Vec::new(alloc);
+    audit(&mut out, kept)?;
+    Ok(out.as_slice() == text)
+}
+
+pub(crate) fn has_table(alloc: Global, kept: &Kept<&Heap>, text: &[u8]) -> Result<bool, Fail> {
+    let table = table_of(alloc, kept)?;
+    Ok(table.as_slice() == text)
 }
 
 fn print(
@@ -114,9 +136,23 @@ fn print(
     Ok(told.is_err())
 }
 
+fn print_new(rt: &impl Abort, heap: &Heap, kept: &Kept<&Heap>, blocks: u64) -> Result<bool, Fail> {
+    let mut out: Vec<u8> = Vec::new(heap.inner());
+    print(rt, heap, kept, &mut out, blocks)
+}
+
+fn print_booted(
+    rt: &impl Abort,
+    heap: &Heap,
+    config: Config,
+    limit: u32,
+    blocks: u64,
+) -> Result<bool, Fail> {
+    let kept = Kept::boot(heap, config, limit)?;
+    print_new(rt, heap, &kept, blocks)
+}
+
 pub(crate) fn print_table(rt: &impl Abort, heap: &Heap, blocks: u64) -> Result<bool, Fail> {
     let script = parse(heap, SCRIPT)?;
-    let kept = Kept::boot(heap, script.config, script.limit)?;
-    let mut out: Vec<u8> = Vec::new(heap.inner());
-    print(rt, heap, &kept, &mut out, blocks)
+    print_booted(rt, heap, script.config, script.limit, blocks)
 }

@@ -50,14 +50,20 @@ fn has_grown(tree: &IdTree<char, &Heap>, count: u64) -> Result<bool, Fail> {
     )
 }
 
-fn handed_back(told: Result<(), InsertRefused<char>>) -> Option<char> {
+// Whether it was refused for want of memory, which hands its content back.
+fn is_for_memory(rt: &impl Abort, told: Result<(), InsertRefused<char>>) -> bool {
     match told {
-        Err(InsertRefused::Memory(content)) => Some(content),
-        Ok(()) | Err(InsertRefused::NoParent(_)) | Err(InsertRefused::IdTaken(_)) => None,
+        Ok(()) => false,
+        Err(InsertRefused::Memory('c')) => true,
+        Err(_) => panic!(rt; "refused otherwise"),
     }
 }
 
-// Inserts one child more. A refusal hands its content back.
+fn has_child(tree: &IdTree<char, &Heap>, id: u64) -> bool {
+    tree.get(id).copied() == Some('c') && tree.parent_of(id) == Some(1)
+}
+
+// Inserts one child more.
 fn ask_for_child(
     rt: &impl Abort,
     heap: &Heap,
@@ -67,52 +73,31 @@ fn ask_for_child(
 ) -> Result<bool, Fail> {
     let id = count.min(100) + 2;
     heap.ration(blocks);
-    let told = insert(rt, tree, id, 'c');
+    let refused = is_for_memory(rt, insert(rt, tree, id, 'c'));
     heap.lift();
-    if told.is_err() {
-        assert!(rt; handed_back(told) == Some('c') && has_grown(tree, count)?);
+    if refused {
+        assert!(rt; has_grown(tree, count)?);
         insert(rt, tree, id, 'c')?;
-        assert!(rt; tree.get(id).copied() == Some('c') && tree.parent_of(id) == Some(1));
-        return Ok(true);
     }
-    assert!(rt; tree.get(id).copied() == Some('c') && tree.parent_of(id) == Some(1));
-    Ok(false)
-}
-
-pub(crate) fn insert_first(rt: &impl Abort, heap: &Heap, blocks: u64) -> Result<bool, Fail> {
-    let mut tree = IdTree::new(heap, 1, 'a')?;
-    ask_for_child(rt, heap, &mut tree, 0, blocks)
-}
-
-// How many children fill the first block of their list.
-const MORE: u64 = 4;
-
-pub(crate) fn insert_more(rt: &impl Abort, heap: &Heap, blocks: u64) -> Result<bool, Fail> {
-    let mut tree = IdTree::new(heap, 1, 'a')?;
-    grow(rt, &mut tree, MORE)?;
-    ask_for_child(rt, heap, &mut tree, MORE, blocks)
+    assert!(rt; has_child(tree, id));
+    Ok(refused)
 }
 
 fn ask_for_room(
     rt: &impl Abort,
     heap: &Heap,
     tree: &mut IdTree<char, &Heap>,
+    count: u64,
     blocks: u64,
 ) -> Result<bool, Fail> {
     heap.ration(blocks);
     let told = tree.reserve_child(2);
     let absent = tree.reserve_child(9);
     heap.lift();
-    assert!(rt; absent == Err(ReserveRefused::NoParent) && has_grown(tree, 1)?);
+    assert!(rt; absent == Err(ReserveRefused::NoParent) && has_grown(tree, count)?);
     assert!(rt; told == Ok(()) || told == Err(ReserveRefused::Memory));
     assert!(rt; tree.reserve_child(2) == Ok(()));
     Ok(told.is_err())
-}
-
-pub(crate) fn reserve_child(rt: &impl Abort, heap: &Heap, blocks: u64) -> Result<bool, Fail> {
-    let mut tree = IdTree::new(heap, 1, 'a')?;
-    grow(rt, &mut tree, 1)?;
-    ask_for_room(rt, heap, &mut tree, blocks)
 }
 
 fn ask_for_ids(
@@ -122,15 +107,45 @@ fn ask_for_ids(
     blocks: u64,
 ) -> Result<bool, Fail> {
     heap.ration(blocks);
-    let told = tree.ids();
+    let refused = tree.ids().is_err();
     heap.lift();
     let ids = tree.ids()?;
     assert!(rt; ids.as_slice() == [1, 2, 3].as_slice());
-    Ok(told.is_err())
+    Ok(refused)
 }
 
-pub(crate) fn list_ids(rt: &impl Abort, heap: &Heap, blocks: u64) -> Result<bool, Fail> {
+// What a tree is asked for.
+#[derive(Clone, Copy)]
+pub(crate) enum Wanted {
+    Room,
+    Child,
+    Ids,
+}
+
+// Asks for it where the root has so many children.
+fn ask(
+    rt: &impl Abort,
+    heap: &Heap,
+    tree: &mut IdTree<char, &Heap>,
+    wanted: Wanted,
+    count: u64,
+    blocks: u64,
+) -> Result<bool, Fail> {
+    grow(rt, tree, count)?;
+    match wanted {
+        Wanted::Room => ask_for_room(rt, heap, tree, count, blocks),
+        Wanted::Child => ask_for_child(rt, heap, tree, count, blocks),
+        Wanted::Ids => ask_for_ids(rt, heap, tree, blocks),
+    }
+}
+
+pub(crate) fn ask_new(
+    rt: &impl Abort,
+    heap: &Heap,
+    wanted: Wanted,
+    count: u64,
+    blocks: u64,
+) -> Result<bool, Fail> {
     let mut tree = IdTree::new(heap, 1, 'a')?;
-    grow(rt, &mut tree, 2)?;
-    ask_for_ids(rt, heap, &tree, blocks)
+    ask(rt, heap, &mut tree, wanted, count, blocks)
 }
