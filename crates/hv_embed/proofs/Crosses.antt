@@ -25,7 +25,7 @@ vps-send : IsSend (Vps.the_row Heap.the_row ghosts)
 vps-send = search (sendable, crosses, vp-send) depth 40
 
 partition-send : IsSend (Partition.the_row Heap.the_row ghosts)
-partition-send = search (sendable, crosses, vps-send, pages-send) depth 40
+partition-send = search (sendable, crosses, vps-send, pages-send) depth 60 fits 20000
 
 tree-send : IsSend (IdTree.the_row (Partition.the_row Heap.the_row ghosts) Heap.the_row ghosts)
 tree-send = search (partition-send, crosses, knot.crosses, sendable) depth 60 fits 20000

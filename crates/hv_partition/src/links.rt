@@ -12,14 +12,14 @@ impl<A: Allocator> Partition<A> {
     pub fn port(&self, id: u32) -> Option<Port>
         ensures { result ≡ map.get self.now.ports.rows id }
     {
-        self.ports.find(id)
+        self.parts.ports.find(id)
     }
 
     /// How many ports the partition has.
     pub fn port_count(&self) -> u32
         ensures { result ≡ map.len self.now.ports.rows }
     {
-        self.ports.count()
+        self.parts.ports.count()
     }
 
     /// Makes room for one port more. Room that is there already always suffices.
@@ -36,7 +36,7 @@ impl<A: Allocator> Partition<A> {
         ensures room { self.old.ports.room ≤ self.new.ports.room }
         ensures rest { self.new ≡ record self.old { ports = self.new.ports } }
     {
-        self.ports.reserve_one()
+        self.parts.ports.reserve_one()
     }
 
     /// Adds a port with an id that is free. It must find room.
@@ -47,7 +47,7 @@ impl<A: Allocator> Partition<A> {
         ensures room { self.old.ports.room ≤ self.new.ports.room + 1 }
         ensures rest { self.new ≡ record self.old { ports = self.new.ports } }
     {
-        self.ports.insert(id, port);
+        self.parts.ports.insert(id, port);
     }
 
     /// Removes the port with this id, and returns it.
@@ -57,7 +57,7 @@ impl<A: Allocator> Partition<A> {
         ensures room { self.old.ports.room ≤ self.new.ports.room }
         ensures rest { self.new ≡ record self.old { ports = self.new.ports } }
     {
-        self.ports.remove(id)
+        self.parts.ports.remove(id)
     }
 }
 
@@ -68,14 +68,14 @@ impl<A: Allocator> Partition<A> {
     pub fn conn(&self, id: u32) -> Option<Conn>
         ensures { result ≡ map.get self.now.conns.rows id }
     {
-        self.conns.find(id)
+        self.parts.conns.find(id)
     }
 
     /// How many connections the partition has.
     pub fn conn_count(&self) -> u32
         ensures { result ≡ map.len self.now.conns.rows }
     {
-        self.conns.count()
+        self.parts.conns.count()
     }
 
     /// Makes room for one connection more. Room that is there already always suffices.
@@ -92,7 +92,7 @@ impl<A: Allocator> Partition<A> {
         ensures room { self.old.conns.room ≤ self.new.conns.room }
         ensures rest { self.new ≡ record self.old { conns = self.new.conns } }
     {
-        self.conns.reserve_one()
+        self.parts.conns.reserve_one()
     }
 
     /// Adds a connection with an id that is free. It must find room.
@@ -103,7 +103,7 @@ impl<A: Allocator> Partition<A> {
         ensures room { self.old.conns.room ≤ self.new.conns.room + 1 }
         ensures rest { self.new ≡ record self.old { conns = self.new.conns } }
     {
-        self.conns.insert(id, conn);
+        self.parts.conns.insert(id, conn);
     }
 
     /// Removes the connection with this id, and returns it.
@@ -113,6 +113,6 @@ impl<A: Allocator> Partition<A> {
         ensures room { self.old.conns.room ≤ self.new.conns.room }
         ensures rest { self.new ≡ record self.old { conns = self.new.conns } }
     {
-        self.conns.remove(id)
+        self.parts.conns.remove(id)
     }
 }

@@ -30,6 +30,13 @@ use std::marker::Model;
 /// of its ports and connections an id. A partition that is dropped gives its memory back.
 #[derive(Drop)]
 pub struct Partition<A: Allocator> {
+    // In a block of their own, so that whoever lends a partition moves little.
+    pub(crate) parts: Box<Parts<A>, A>,
+}
+
+// What a partition has.
+#[derive(Drop)]
+pub(crate) struct Parts<A: Allocator> {
     life: Life,
     mask: Privileges,
     reserve: u64,
@@ -50,16 +57,16 @@ impl<A: Allocator> Model for Partition<A> {
     ghost coded = { partition_code };
 
     ghost view = { λ p. record {
-      life = p.life;
-      mask = p.mask;
-      reserve = p.reserve;
-      cap = p.cap;
-      weight = p.weight;
-      loose = p.loose;
-      pooled = p.pooled;
-      vps = p.vps;
-      ports = p.ports;
-      conns = p.conns;
+      life = p.parts.value.life;
+      mask = p.parts.value.mask;
+      reserve = p.parts.value.reserve;
+      cap = p.parts.value.cap;
+      weight = p.parts.value.weight;
+      loose = p.parts.value.loose;
+      pooled = p.parts.value.pooled;
+      vps = p.parts.value.vps;
+      ports = p.parts.value.ports;
+      conns = p.parts.value.conns;
     } };
 }
 
@@ -67,11 +74,12 @@ impl<A: Allocator + Clone> Partition<A> {
     /// A partition with no pages, processors, ports and connections, and with the CPU properties of the
     /// start.
     ///
-    /// `Err` where the allocator can't be cloned.
+    /// `Err` where there is no memory for it, or the allocator can't be cloned.
     pub fn new(alloc: A, life: Life, mask: Privileges) -> Result<Partition<A>, AllocError>
         ensures { IfOk result (λ p. p ≡ new_partition life mask) }
     {
-        Ok(Partition {
+        let own = alloc.clone()?;
+        let parts = Parts {
             life,
             mask,
             reserve: CPU_RESERVE_START,
@@ -82,7 +90,11 @@ impl<A: Allocator + Clone> Partition<A> {
             vps: Vps::new(alloc.clone()?),
             ports: PortTable::new(alloc.clone()?),
             conns: ConnTable::new(alloc),
-        })
+        };
+        match Box::new(own, parts) {
+            Ok(parts) => Ok(Partition { parts }),
+            Err(_) => Err(AllocError),
+        }
     }
 }
 
@@ -91,35 +103,35 @@ impl<A: Allocator> Partition<A> {
     pub fn life(&self) -> Life
         ensures { result ≡ self.now.life }
     {
-        self.life
+        self.parts.life
     }
 
     /// The privilege mask.
     pub fn mask(&self) -> Privileges
         ensures { result ≡ self.now.mask }
     {
-        self.mask
+        self.parts.mask
     }
 
     /// The CPU reserve, of 65,536.
     pub fn cpu_reserve(&self) -> u64
         ensures { result ≡ self.now.reserve }
     {
-        self.reserve
+        self.parts.reserve
     }
 
     /// The CPU cap, of 65,536.
     pub fn cpu_cap(&self) -> u64
         ensures { result ≡ self.now.cap }
     {
-        self.cap
+        self.parts.cap
     }
 
     /// The CPU weight, of 1 to 10,000.
     pub fn cpu_weight(&self) -> u64
         ensures { result ≡ self.now.weight }
     {
-        self.weight
+        self.parts.weight
     }
 
     /// The pages of a kind.
@@ -127,8 +139,8 @@ impl<A: Allocator> Partition<A> {
         ensures { result.now ≡ pages_in kind self.now }
     {
         match kind {
-            PageKind::Loose => &self.loose,
-            PageKind::Pooled => &self.pooled,
+            PageKind::Loose => &self.parts.loose,
+            PageKind::Pooled => &self.parts.pooled,
         }
     }
 
@@ -136,45 +148,45 @@ impl<A: Allocator> Partition<A> {
     pub fn set_life(&mut self, life: Life)
         ensures { self.new ≡ record self.old { life = life } }
     {
-        self.life = life;
+        self.parts.life = life;
     }
 
     /// Writes the privilege mask.
     pub fn set_mask(&mut self, mask: Privileges)
         ensures { self.new ≡ record self.old { mask = mask } }
     {
-        self.mask = mask;
+        self.parts.mask = mask;
     }
 
     /// Writes the CPU reserve. Any number is taken.
     pub fn set_cpu_reserve(&mut self, reserve: u64)
         ensures { self.new ≡ record self.old { reserve = reserve } }
     {
-        self.reserve = reserve;
+        self.parts.reserve = reserve;
     }
 
     /// Writes the CPU cap. Any number is taken.
     pub fn set_cpu_cap(&mut self, cap: u64)
         ensures { self.new ≡ record self.old { cap = cap } }
     {
-        self.cap = cap;
+        self.parts.cap = cap;
     }
 
     /// Writes the CPU weight. Any number is taken.
     pub fn set_cpu_weight(&mut self, weight: u64)
         ensures { self.new ≡ record self.old { weight = weight } }
     {
-        self.weight = weight;
+        self.parts.weight = weight;
     }
 
     /// Finalizes the partition: its processors, ports and connections go, and its pages stay.
     pub fn finalize(&mut self)
         ensures { self.new ≡ finalized self.old }
     {
-        self.life = Life::Finalized;
-        self.vps.clear();
-        self.ports.clear();
-        self.conns.clear();
+        self.parts.life = Life::Finalized;
+        self.parts.vps.clear();
+        self.parts.ports.clear();
+        self.parts.conns.clear();
     }
 
     /// How many pooled pages so many children and its processors, ports and connections use. The charges are
@@ -194,7 +206,7 @@ impl<A: Allocator> Partition<A> {
         requires { in_use children self.now ≤ set.len self.now.pooled.pages }
         ensures { result ≡ available children self.now }
     {
-        self.pooled.count() - self.in_use(children)
+        self.parts.pooled.count() - self.in_use(children)
     }
 }
 
@@ -204,7 +216,7 @@ impl<A: Allocator> Partition<A> {
     pub fn vp(&self, index: u32) -> Option<&Vp<A>>
         ensures { option_copied result ≡ map.get self.now.vps.vps index }
     {
-        self.vps.get(index)
+        self.parts.vps.get(index)
     }
 
     /// The processor with this index, to be changed.
@@ -214,14 +226,14 @@ impl<A: Allocator> Partition<A> {
             (λ w. with_vp_of self.old index w) self.old) }
         ensures value { option_copied_mut result ≡ map.get self.old.vps.vps index }
     {
-        self.vps.get_mut(index)
+        self.parts.vps.get_mut(index)
     }
 
     /// The lowest index of a processor that is ready for what a port of this kind takes, if one is.
     pub fn lowest_ready(&self, kind: PortKind) -> Option<u32>
         ensures { result ≡ lowest (is_ready kind) self.now.vps.vps }
     {
-        self.vps.lowest_ready(kind)
+        self.parts.vps.lowest_ready(kind)
     }
 
     /// Whether all its processors together have fewer messages than so many, shown or waiting, that came through
@@ -229,14 +241,14 @@ impl<A: Allocator> Partition<A> {
     pub fn keep_fewer(&self, port: u32, born: u64, most: usize) -> bool
         ensures { result ≡ nat_lt (kept_by_all port born self.now.vps.vps) most }
     {
-        self.vps.keep_fewer(port, born, most)
+        self.parts.vps.keep_fewer(port, born, most)
     }
 
     /// How many processors the partition has.
     pub fn vp_count(&self) -> u32
         ensures { result ≡ map.len self.now.vps.vps }
     {
-        self.vps.count()
+        self.parts.vps.count()
     }
 
     /// Makes room for one processor more.
@@ -253,7 +265,7 @@ impl<A: Allocator> Partition<A> {
         ensures room { self.old.vps.room ≤ self.new.vps.room }
         ensures rest { self.new ≡ record self.old { vps = self.new.vps } }
     {
-        self.vps.reserve_one()
+        self.parts.vps.reserve_one()
     }
 
     /// Adds a processor with an index that is free. It must find room.
@@ -264,7 +276,7 @@ impl<A: Allocator> Partition<A> {
         ensures room { self.old.vps.room ≤ self.new.vps.room + 1 }
         ensures rest { self.new ≡ record self.old { vps = self.new.vps } }
     {
-        self.vps.put(index, vp);
+        self.parts.vps.put(index, vp);
     }
 
     /// Removes the processor with this index, and says whether there was one.
@@ -274,7 +286,7 @@ impl<A: Allocator> Partition<A> {
         ensures room { self.old.vps.room ≤ self.new.vps.room }
         ensures rest { self.new ≡ record self.old { vps = self.new.vps } }
     {
-        self.vps.remove(index)
+        self.parts.vps.remove(index)
     }
 }
 
@@ -295,8 +307,8 @@ impl<A: Allocator> Partition<A> {
         ensures rest { self.new ≡ with_pages kind (pages_in kind self.new) self.old }
     {
         match kind {
-            PageKind::Loose => self.loose.reserve(more),
-            PageKind::Pooled => self.pooled.reserve(more),
+            PageKind::Loose => self.parts.loose.reserve(more),
+            PageKind::Pooled => self.parts.pooled.reserve(more),
         }
     }
 
@@ -309,8 +321,8 @@ impl<A: Allocator> Partition<A> {
         ensures rest { self.new ≡ with_pages kind (pages_in kind self.new) self.old }
     {
         match kind {
-            PageKind::Loose => self.loose.put(page),
-            PageKind::Pooled => self.pooled.put(page),
+            PageKind::Loose => self.parts.loose.put(page),
+            PageKind::Pooled => self.parts.pooled.put(page),
         }
     }
 
@@ -332,8 +344,8 @@ impl<A: Allocator> Partition<A> {
         ensures rest { self.new ≡ with_pages kind (pages_in kind self.new) self.old }
     {
         match kind {
-            PageKind::Loose => self.loose.put_run(start, length),
-            PageKind::Pooled => self.pooled.put_run(start, length),
+            PageKind::Loose => self.parts.loose.put_run(start, length),
+            PageKind::Pooled => self.parts.pooled.put_run(start, length),
         }
     }
 
@@ -346,8 +358,8 @@ impl<A: Allocator> Partition<A> {
         ensures rest { self.new ≡ with_pages kind (pages_in kind self.new) self.old }
     {
         match kind {
-            PageKind::Loose => self.loose.take(page),
-            PageKind::Pooled => self.pooled.take(page),
+            PageKind::Loose => self.parts.loose.take(page),
+            PageKind::Pooled => self.parts.pooled.take(page),
         }
     }
 
@@ -362,8 +374,8 @@ impl<A: Allocator> Partition<A> {
         ensures rest { self.new ≡ with_pages kind (pages_in kind self.new) self.old }
     {
         match kind {
-            PageKind::Loose => self.loose.take_lowest(),
-            PageKind::Pooled => self.pooled.take_lowest(),
+            PageKind::Loose => self.parts.loose.take_lowest(),
+            PageKind::Pooled => self.parts.pooled.take_lowest(),
         }
     }
 
@@ -382,7 +394,20 @@ impl<A: Allocator> Partition<A> {
             ≤ self.new.loose.room + set.len gone.loose.pages + set.len gone.pooled.pages }
         ensures rest { self.new ≡ record self.old { loose = self.new.loose } }
     {
-        self.loose.absorb(gone.loose);
-        self.loose.absorb(gone.pooled);
+        let Parts { loose, pooled, .. } = Box::into_inner(gone.parts);
+        absorb_both(&mut self.parts.loose, loose, pooled);
     }
+}
+
+// Takes over the pages of two sets that share none with each other.
+fn absorb_both<A: Allocator>(all: &mut PageSet<A>, one: PageSet<A>, other: PageSet<A>)
+    requires room { set.len one.pages + set.len other.pages ≤ all.old.room }
+    requires one { IsDisjoint all.old.pages one.pages }
+    requires other { IsDisjoint all.old.pages other.pages }
+    requires apart { IsDisjoint one.pages other.pages }
+    ensures pages { all.new.pages ≡ set.union (set.union all.old.pages one.pages) other.pages }
+    ensures room { all.old.room ≤ all.new.room + set.len one.pages + set.len other.pages }
+{
+    all.absorb(one);
+    all.absorb(other);
 }

@@ -33,9 +33,10 @@ enum Part {
     MoreConnections,
 }
 
-// A processor, and its room for a message.
+// A partition, a processor, and its room for a message.
 #[derive(Clone, Copy)]
 enum Held {
+    Partition,
     Processor,
     Message,
 }
@@ -76,6 +77,7 @@ fn is_part_refused(rt: &impl Abort, heap: &Heap, part: Part, blocks: u64) -> Res
 
 fn is_held_refused(rt: &impl Abort, heap: &Heap, held: Held, blocks: u64) -> Result<bool, Fail> {
     match held {
+        Held::Partition => partitions::make_partition(rt, heap, blocks),
         Held::Processor => partitions::make_processor(rt, heap, blocks),
         Held::Message => partitions::reserve_message(rt, heap, blocks),
     }
@@ -101,7 +103,7 @@ fn blocks_of(rt: &impl Abort, heap: &Heap, growth: Growth) -> Result<u64, Fail> 
     Ok(100)
 }
 
-const GROWTHS: [(Growth, u64); 27] = [
+const GROWTHS: [(Growth, u64); 28] = [
     (Growth::Part(Part::Pages), 1),
     // The list of queues grows to 16, and each queue gets its room.
     (Growth::Part(Part::FirstMail), 19),
@@ -110,6 +112,7 @@ const GROWTHS: [(Growth, u64); 27] = [
     (Growth::Part(Part::MorePorts), 1),
     (Growth::Part(Part::FirstConnection), 1),
     (Growth::Part(Part::MoreConnections), 1),
+    (Growth::Held(Held::Partition), 1),
     (Growth::Held(Held::Processor), 1),
     (Growth::Held(Held::Message), 19),
     (Growth::Room(Room::Processors), 1),
@@ -129,9 +132,10 @@ const GROWTHS: [(Growth, u64); 27] = [
     (Growth::Copied(Copied::Event), 1),
     // Its rows, heads, inputs and outputs.
     (Growth::Whole(Whole::History), 4),
-    // Runs of loose and of pooled pages, the flags of a processor, and the list of processors.
-    (Growth::Whole(Whole::Machine), 4),
-    (Growth::Whole(Whole::Kept), 4),
+    // The root's own, its runs of loose and of pooled pages, the flags of a processor, and the list of
+    // processors.
+    (Growth::Whole(Whole::Machine), 5),
+    (Growth::Whole(Whole::Kept), 5),
     // The list of lines, which grows as long as there are more, and a call's bytes.
     (Growth::Whole(Whole::Script), 3),
     (Growth::Whole(Whole::Table), 1),

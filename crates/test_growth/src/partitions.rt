@@ -1,4 +1,4 @@
-// Processors, and what a partition makes room for.
+// Partitions, processors, and what a partition makes room for.
 
 use crate::mail::{SHOWN, message};
 use crate::rationed::{Heap, Rationed};
@@ -15,6 +15,15 @@ const VP_INDEX: u32 = 0x4000_0002;
 
 fn is_new(vp: &Vp<&Heap>) -> bool {
     vp.read_msr(VP_INDEX) == Ok(7) && !vp.ready_for_messages()
+}
+
+pub(crate) fn make_partition(rt: &impl Abort, heap: &Heap, blocks: u64) -> Result<bool, Fail> {
+    heap.ration(blocks);
+    let refused = Partition::new(heap, Life::Created, Privileges::of(0x44)).is_err();
+    heap.lift();
+    let made = Partition::new(heap, Life::Created, Privileges::of(0x44))?;
+    assert!(rt; made.life() == Life::Created && made.mask().bits() == 0x44);
+    Ok(refused)
 }
 
 pub(crate) fn make_processor(rt: &impl Abort, heap: &Heap, blocks: u64) -> Result<bool, Fail> {
@@ -75,16 +84,6 @@ fn is_whole(made: &Partition<&Heap>) -> bool {
         && made.vp_count() == 0
         && made.port_count() == 0
         && made.conn_count() == 0
-}
-
-// The handle is copied, so that a new partition takes no block.
-#[test]
-fn a_partition_needs_no_block(rt: HostRuntime) -> Result<(), Fail> {
-    let heap = Rationed::new(rt.alloc());
-    heap.ration(0);
-    let made = Partition::new(&heap, Life::Created, Privileges::of(0x44))?;
-    assert!(rt; made.life() == Life::Created && made.mask().bits() == 0x44);
-    Ok(())
 }
 
 fn add_processor<'h>(
