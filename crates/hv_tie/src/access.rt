@@ -48,14 +48,15 @@ pub fn unmet_by_target<A: Allocator>(
     if !caller.mask().contains(need.privilege) {
         return Some(Rule::Privilege);
     }
+    // One look tells of a child that it is there and whose it is.
     let target = target(by.part, call);
-    if target != by.part && !tree.contains(target) {
-        return Some(Rule::TargetExists);
+    if is_kin(tree, need.kin, by.part, target) {
+        return None;
     }
-    if !is_kin(tree, need.kin, by.part, target) {
+    if target == by.part || tree.contains(target) {
         return Some(Rule::Kinship);
     }
-    None
+    Some(Rule::TargetExists)
 }
 
 // Whether a call that allows this kin may name the partition.
