@@ -46,6 +46,7 @@ impl<A: Allocator> History<A> {
     }
 
     /// The event at a place, counted from 0, with its reply.
+    #[inline(always)]
     pub fn entry(&self, at: usize) -> EntryRef<'_>
         requires { at < length (entries self.now) }
         ensures entry { slice_get (entries self.now) at ≡ Some (entry_by result) }
@@ -173,7 +174,7 @@ impl<A: Allocator> History<A> {
             return false;
         }
         if row.output_len as usize <= IN_ROW {
-            return row.output == that.output;
+            return are_same(row.output, that.output);
         }
         self.output_of(row) == other.output_of(that)
     }
@@ -446,6 +447,14 @@ fn are_alike(row: &Row, that: &Row) -> bool
         && row.kind == that.kind
         && row.output_zeros == that.output_zeros
         && are_served_alike(row.answer, that.answer)
+}
+
+// Whether both have the same bytes. As numbers they are compared at once.
+#[inline(always)]
+fn are_same(one: [u8; IN_ROW], other: [u8; IN_ROW]) -> bool
+    ensures { IsTrue result → one ≡ other }
+{
+    u64::from_le_bytes(one) == u64::from_le_bytes(other)
 }
 
 // Whether both say that what was asked was served, and go on alike.

@@ -306,9 +306,11 @@ impl<L: Ledger> Held<L> {
         match self.kept.take(event, goes_on) {
             Ok(number) => {
                 self.count.add(&mut pass.share, 1);
+                // The proof reads here that a history's length fits 32 bits.
+                let _limit = self.kept.limit();
                 let history = self.kept.history();
                 let entry = history.entry(history.len() - 1);
-                pass.receipts.push(number, event, history, goes_on);
+                pass.receipts.push(number as u32, event, history, goes_on);
                 Ok(entry.answer)
             }
             Err(why) => Err(why),

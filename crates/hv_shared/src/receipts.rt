@@ -27,7 +27,8 @@ pub struct ReceiptRef<'p> {
 /// The receipts of one thread's events, in the order in which they happened.
 #[derive(Drop)]
 pub struct Receipts {
-    pub(crate) numbers: Vec<u64>,
+    // A history has at most as many events as its limit, which is a u32.
+    pub(crate) numbers: Vec<u32>,
     pub(crate) packed: History<Global>,
     ghost each: { vec_len numbers ≡ length (entries packed) },
 }
@@ -60,7 +61,7 @@ impl Receipts {
         requires { at < length (list_of self.now) }
         ensures { option_map (λ r. r.number) (slice_get (list_of self.now) at) ≡ Some result }
     {
-        self.numbers[at]
+        u64::from(self.numbers[at])
     }
 
     /// The one at a place, counted from 0.
@@ -70,7 +71,7 @@ impl Receipts {
         ensures most { length (shown result.entry.output) ≤ 256 }
     {
         ReceiptRef {
-            number: self.numbers[at],
+            number: u64::from(self.numbers[at]),
             entry: self.packed.entry(at),
         }
     }
@@ -123,7 +124,7 @@ impl Receipts {
     #[inline(always)]
     pub(crate) fn push(
         &mut self,
-        number: u64,
+        number: u32,
         event: &Event<Global>,
         history: &History<Global>,
         goes_on: bool,

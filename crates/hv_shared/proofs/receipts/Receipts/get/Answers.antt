@@ -27,4 +27,4 @@ returns-clause-receipt c =
     let all = count r.numbers.items (entries r.packed) (sym r.numbers.ok.0 ∙ r.each) in
     let within = c.requires in
     let number = slice_get_read r.numbers.items _ c.args.at _ r.numbers.ok.0 (let ok = r.numbers.ok.0 in omega (arith, all)) c.index.ensures in
-    place r.numbers.items (entries r.packed) c.args.at _ _ number c.entry.ensures.entry
+    rw c.from.ensures (place r.numbers.items (entries r.packed) c.args.at _ _ number c.entry.ensures.entry)

@@ -1,4 +1,4 @@
-use Rattle.std.proofs.Common.{arith, sym, ◌∙◌}
+use Rattle.std.proofs.Common.{Some, ap, arith, sym, ◌∙◌}
 use Rattle.std.proofs.lemmas.Option.{slice_get_read}
 use Rattle.hv_history.specs.History.{entries}
 use Rattle.hv_shared.proofs.Packed.{count, numbers}
@@ -19,3 +19,4 @@ returns c =
     let all = count r.numbers.items (entries r.packed) same in
     let within = c.requires in
     numbers r.numbers.items (entries r.packed) c.args.at same ∙ slice_get_read r.numbers.items _ c.args.at _ r.numbers.ok.0 (let ok = r.numbers.ok.0 in omega (arith, all)) c.index.ensures
+    ∙ ap Some (sym c.from.ensures)
