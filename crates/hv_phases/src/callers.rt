@@ -1,5 +1,6 @@
 // The processors of a script.
-ghost use Rattle.std.specs.Prelude.{◌≡◌, IfOk, OnOk};
+ghost use Rattle.std.specs.Prelude.{◌≡◌, IfOk, IsTrue, OnOk};
+ghost use Rattle.std.specs.List.{Contains};
 ghost use Rattle.hv_phases.specs.Crew.{AreCallersOf, HasCaller};
 ghost use Rattle.hv_phases.specs.Places.{IsIndexOf};
 
@@ -26,10 +27,27 @@ fn add(callers: &mut Vec<Caller>, places: &mut Places, by: Caller) -> Result<(),
     ensures added { OnOk result (HasCaller by callers.old.items callers.new.items) }
     ensures index { OnOk result (IsIndexOf places.new callers.new.items) }
 {
+    if is_in_front(callers, by) {
+        return Ok(());
+    }
     if place_in(places, by).is_some() {
         return Ok(());
     }
     note(places, by, callers.len())?;
     callers.push(by)?;
     Ok(())
+}
+
+// Whether a processor is the first of others or the second, as it is of most scripts.
+fn is_in_front(callers: &[Caller], by: Caller) -> bool
+    ensures { IsTrue result → Contains callers.now by }
+{
+    is_at(callers, 0, by) || is_at(callers, 1, by)
+}
+
+// Whether a processor stands at a place.
+fn is_at(callers: &[Caller], place: usize, by: Caller) -> bool
+    ensures { IsTrue result → Contains callers.now by }
+{
+    place < callers.len() && callers[place] == by
 }

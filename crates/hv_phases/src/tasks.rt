@@ -1,5 +1,6 @@
 // The tasks of a script's processors.
-ghost use Rattle.std.specs.Prelude.{◌≡◌, ◌≢◌, ◌≤◌, ◌<◌, [], ℕ, All, IfOk, IfNone, IfSome, IsSome, Some};
+ghost use Rattle.std.specs.Prelude.{◌≡◌, ◌≢◌, ◌≤◌, ◌<◌, [], ℕ, All, IfOk, IfNone, IfSome, IsSome, IsTrue};
+ghost use Rattle.std.specs.Prelude.{Some};
 ghost use Rattle.std.specs.Prelude.{length, map, reverse, slice_index_or, vec_capacity, vec_len};
 ghost use Rattle.std.specs.List.{Contains, SwappedAt};
 ghost use Rattle.std.specs.List.Sorted.{IsPermutation};
@@ -129,17 +130,32 @@ fn place_among(callers: &[Caller], by: Caller) -> usize
     callers.len()
 }
 
-// Where the task of a processor stands.
+// Where the task of a processor stands. Many scripts have one processor or two, whose tasks stand in front.
 fn place_of<L: Ledger>(tasks: &[Task<L>], places: &Places, by: Caller) -> usize
     requires there { Contains (callers_in tasks.now) by }
     requires index { Tells places.now (callers_in tasks.now) }
     ensures there { result < length tasks.now }
     ensures by { (d : Task L) → (slice_index_or tasks.now result d).work.pass.caller ≡ by }
 {
+    if is_at(tasks, 0, by) {
+        return 0;
+    }
+    if is_at(tasks, 1, by) {
+        return 1;
+    }
     match place_in(places, by) {
         Some(place) => place,
         None => unreachable!(),
     }
+}
+
+// Whether the task at a place, if there is one, is this processor's.
+fn is_at<L: Ledger>(tasks: &[Task<L>], place: usize, by: Caller) -> bool
+    ensures there { IsTrue result → place < length tasks.now }
+    ensures by { IsTrue result → (d : Task L)
+        → (slice_index_or tasks.now place d).work.pass.caller ≡ by }
+{
+    place < tasks.len() && tasks[place].work.pass.caller() == by
 }
 
 // Lets two tasks change places.

@@ -1,6 +1,6 @@
 // Reading a script line by line.
-ghost use Rattle.std.specs.Prelude.{◌≡◌, ◌≤◌, All};
-ghost use Rattle.hv_script.specs.Callers.{callers_of};
+ghost use Rattle.std.specs.Prelude.{◌≡◌, ◌≤◌, All, length, nat_lt};
+ghost use Rattle.hv_script.specs.Callers.{callers_of, is_among};
 
 use crate::boot::{Boot, read_boot};
 use crate::cut::{CutLine, next_line};
@@ -21,6 +21,8 @@ pub struct Reading<A: Allocator> {
     pub(crate) phase: u32,
     /// The processors of the phase.
     pub(crate) callers: Vec<Caller, A>,
+    // Where among them that of the last line stands, since processors mostly take turns.
+    last: usize,
     pub(crate) lines: Vec<Line<A>, A>,
     ghost named: { callers.items ≡ callers_of phase lines.items },
     ghost phases: { All (λ line. line.phase ≤ phase) lines.items },
@@ -101,6 +103,7 @@ impl<A: Allocator + Clone> Reading<A> {
             boot,
             phase: 0,
             callers: Vec::new(callers),
+            last: 0,
             lines: Vec::new(lines),
         })
     }
@@ -164,10 +167,13 @@ impl<A: Allocator + Clone> Reading<A> {
     }
 
     // Whether the phase has this processor.
-    fn names(&self, by: Caller) -> bool
-        ensures { result ≡ is_among self.now.callers.items by }
+    fn names(&mut self, by: Caller) -> bool
+        ensures named { result ≡ is_among self.old.callers.items by }
+        ensures callers { self.new.callers ≡ self.old.callers }
+        ensures so_far { so_far self.new ≡ so_far self.old }
     {
-        self.callers.iter().any(|caller| *caller == by)
+        self.last = place_after(&self.callers, self.last, by);
+        self.last < self.callers.len()
     }
 
     // Adds a line of a processor, which is new in the phase or not.
@@ -188,4 +194,23 @@ impl<A: Allocator + Clone> Reading<A> {
         });
         Ok(())
     }
+}
+
+// Where a processor stands among others, or how many they are where it is none of them. It is looked for
+// first behind this place, or at the front where that is the last.
+#[tactic(auto, using(std::proofs::lemmas::List::Folds::list_any_at))]
+fn place_after(callers: &[Caller], last: usize, by: Caller) -> usize
+    ensures { nat_lt result (length callers.now) ≡ is_among callers.now by }
+{
+    let next = last.wrapping_add(1);
+    let next = if next < callers.len() { next } else { 0 };
+    if next < callers.len() && callers[next] == by {
+        return next;
+    }
+    for at in 0..callers.len() {
+        if callers[at] == by {
+            return at;
+        }
+    }
+    callers.len()
 }

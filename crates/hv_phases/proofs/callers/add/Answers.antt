@@ -1,9 +1,15 @@
-use Rattle.std.proofs.Common.{◌≡◌, Some, length, ap, sym, ◌∙◌}
+use Rattle.std.proofs.Common.{◌≡◌, List, Some, length, ap, subst, sym, ◌∙◌}
 use Rattle.std.specs.Prelude.{is_some}
+use Rattle.hv_phases.specs.Crew.{HasCaller}
 use Rattle.hv_phases.specs.Places.{place_by}
+use Rattle.hv_policy.specs.declared.event.Caller.{Caller}
 use Rattle.hv_phases.proofs.Named.{found, pushed}
 use Rattle.hv_phases.proofs.Telling.{index_pushed, none_from, not_there}
 use Rattle.hv_phases.proofs.callers.add.Goals as goal
+
+pub returns-then-is_in_front-clause-added : goal.returns-then-is_in_front-clause-added
+returns-then-is_in_front-clause-added c =
+    subst (λ (xs : List Caller). HasCaller c.args.by xs xs) c.deref.ensures.value (found c.args.by _ (c.is_in_front.ensures c.if-is_in_front.true))
 
 pub returns-then-is_some-clause-added : goal.returns-then-is_some-clause-added
 returns-then-is_some-clause-added c =
