@@ -1,25 +1,29 @@
 // The machine with its history.
-ghost use Rattle.std.specs.Prelude.{◌≡◌, ◌<◌, ◌↔◌, ◌++◌, List, [], ◌∷◌, length, None, IsTrue, IfOk, IfErr};
+ghost use Rattle.std.specs.Prelude.{◌≡◌, ◌<◌, ◌↔◌, ◌++◌, ℕ, List, [], ◌∷◌, length, None, IsTrue, IfOk, IfErr};
 ghost use Rattle.std.specs.Prelude.{OnOk, OnErr};
 ghost use Rattle.std.specs.Prelude.{IsErrOf};
 ghost use Rattle.hv_abi.specs.declared.frame.Frame.{Frame};
-ghost use Rattle.hv_defs.specs.declared.sizes.TheConstants.{MAX_SERVED};
+ghost use Rattle.hv_defs.specs.declared.sizes.TheConstants.{MAX_SERVED, REPS_END};
+ghost use Rattle.hv_machine.specs.Access.{access_reply};
 ghost use Rattle.hv_machine.specs.Masks.{AreMasksWithin};
 ghost use Rattle.hv_policy.specs.BootFault.{boot_fault, IsBootRefusal};
+ghost use Rattle.hv_policy.specs.Call.{action_of};
 ghost use Rattle.hv_policy.specs.Next.{GoesOn};
+ghost use Rattle.hv_policy.specs.Parts.{reply_of};
 ghost use Rattle.hv_policy.specs.Result.{HasResult};
 ghost use Rattle.hv_policy.specs.Step.{NamesAsked};
 ghost use Rattle.hv_policy.specs.declared.event.Action.TheVariants.{Hypercall};
 ghost use Rattle.hv_history.specs.History.{HasRoomFor, IsOfLastCall, entries, room_of};
 ghost use Rattle.hv_history.specs.Justified.{IsJustified, deeds_in, states_in};
 ghost use Rattle.hv_history.specs.Kept.{HasGained, HasStepped, HasTaken, IsRun, Stands};
-ghost use Rattle.hv_history.specs.Row.{most_output};
+ghost use Rattle.hv_history.specs.Row.{next_in};
 ghost use Rattle.hv_history.specs.declared.entry.Entry.{Entry};
-ghost use Rattle.hv_history.specs.declared.row.TheConstants.{MOST_OUTPUT};
 
 use crate::output::OutputRef;
 use crate::row::History;
-use hv_machine::{Action, BootRefused, Config, Event, HostRefused, Machine, Reply};
+use hv_machine::{
+    Access, Answer, BootRefused, Config, Event, HostRefused, Machine, Output, Reply, Rule,
+};
 use std::alloc::{AllocError, Allocator};
 use std::marker::Model;
 
@@ -180,48 +184,50 @@ fn step_into<A: Allocator + Clone>(
     ensures machine { OnErr result (machine.new ≡ machine.old) }
     ensures history { OnErr result (entries history.new ≡ entries history.old) }
 {
-    match &event.what {
-        Action::Hypercall(frame) => match machine.hypercall(event.by, frame) {
-            Ok(reply) => {
-                let (answer, bytes, len) = reply.parts();
-                history.push(event, answer, OutputRef::of(&bytes[..len]), goes_on);
-                Ok(())
-            }
-            Err(_) => Err(AllocError),
-        },
-        Action::ReadMsr(_)
-        | Action::WriteMsr(_, _)
-        | Action::ReadSlot(_)
-        | Action::ClearSlot(_)
-        | Action::ReadFlags(_)
-        | Action::ClearFlag(_, _)
-        | Action::TakeInterrupt => access_into(machine, history, event),
+    let frame = match event.what.as_access() {
+        Ok(access) => {
+            access_into(machine, history, event, access);
+            return Ok(());
+        }
+        Err(frame) => frame,
+    };
+    match machine.hypercall(event.by, frame) {
+        Ok(reply) => {
+            let (answer, bytes, len) = reply.parts();
+            history.push(event, answer, OutputRef::of(&bytes[..len]), goes_on);
+            Ok(())
+        }
+        Err(_) => Err(AllocError),
     }
 }
 
-// The same, for the reply of an access.
+// The same, for an access.
 #[inline(never)]
 fn access_into<A: Allocator + Clone>(
     machine: &mut Machine<A>,
     history: &mut History<A>,
     event: &Event<A>,
-) -> Result<(), AllocError>
-    requires access { most_output event.now.what ≡ MOST_OUTPUT }
+    access: Access,
+)
+    requires what { action_of access ≡ event.now.what }
     requires stands { Stands machine.old }
     requires count { machine.old.served < MAX_SERVED }
     requires room { HasRoomFor 1 (room_of history.old) event.now }
-    ensures stepped { OnOk result (HasStepped event.now machine.old (entries history.old) machine.new
-        (entries history.new)) }
-    ensures machine { OnErr result (machine.new ≡ machine.old) }
-    ensures history { OnErr result (entries history.new ≡ entries history.old) }
+    ensures { HasStepped event.now machine.old (entries history.old) machine.new (entries history.new) }
 {
-    match machine.step(event) {
-        Ok(reply) => {
-            let (answer, output) = reply.parts();
-            history.push(event, answer, OutputRef::of(output), false);
-            Ok(())
-        }
-        Err(_) => Err(AllocError),
+    let mut output = Output::new();
+    let answer = answer_of(machine.access(event.by, access, &mut output));
+    history.push(event, answer, OutputRef::of(output.as_slice()), false);
+}
+
+// How an access is answered of which this became.
+fn answer_of(became: Result<(), Rule>) -> Answer
+    ensures reply { (output : List ℕ) → reply_of result output ≡ access_reply became output }
+    ensures index { next_in (reply_of result []) < REPS_END }
+{
+    match became {
+        Ok(()) => Answer::Served,
+        Err(rule) => Answer::Fault { rule },
     }
 }
 

@@ -1,5 +1,6 @@
 // The calls and accesses, each to its chapter.
-ghost use Rattle.std.specs.Prelude.{◌≡◌, ◌+◌, ◌-◌, ◌^◌, ◌<◌};
+ghost use Rattle.std.specs.Prelude.{◌≡◌, ◌+◌, ◌-◌, ◌^◌, ◌<◌, []};
+ghost use Rattle.std.specs.Result.{result_map_both};
 ghost use Rattle.hv_defs.specs.declared.sizes.TheConstants.{MAX_SERVED};
 ghost use Rattle.hv_policy.specs.Call.{action_of};
 ghost use Rattle.hv_policy.specs.Flat.{Flat};
@@ -154,17 +155,20 @@ fn hand_on<A: Allocator + Clone>(
     }
 }
 
-// Hands an access for which P1 to P3 are met to its chapter.
+// Hands an access for which P1 to P3 are met to its chapter. What it puts out is added to an output that is
+// empty before.
 pub fn dispatch_access<A: Allocator>(
     tree: &mut Partitions<A>,
     by: Caller,
     access: Access,
-) -> Result<Output, Rule>
-    ensures { (f : Flat) → IsTied tree.old f
-        → IsAccess {A = A} f by (action_of access) tree.old result tree.new }
+    output: &mut Output,
+) -> Result<(), Rule>
+    requires { output.old ≡ [] }
+    ensures { (f : Flat) → IsTied tree.old f → IsAccess {A = A} f by (action_of access) tree.old
+        (result_map_both (λ _. output.new) (λ rule. rule) result) tree.new }
 {
     tree.note(by.part);
-    hand_access_on(tree, by, access)
+    hand_access_on(tree, by, access, output)
 }
 
 // The chapter of each access.
@@ -172,18 +176,20 @@ fn hand_access_on<A: Allocator>(
     tree: &mut Partitions<A>,
     by: Caller,
     access: Access,
-) -> Result<Output, Rule>
-    ensures { (f : Flat) → IsTied tree.old f
-        → IsAccess {A = A} f by (action_of access) tree.old result tree.new }
+    output: &mut Output,
+) -> Result<(), Rule>
+    requires { output.old ≡ [] }
+    ensures { (f : Flat) → IsTied tree.old f → IsAccess {A = A} f by (action_of access) tree.old
+        (result_map_both (λ _. output.new) (λ rule. rule) result) tree.new }
 {
     match access {
-        Access::ReadMsr(msr) => read_msr(tree, by, msr),
+        Access::ReadMsr(msr) => read_msr(tree, by, msr, output),
         Access::WriteMsr(msr, value) => write_msr(tree, by, msr, value),
-        Access::ReadSlot(sint) => read_slot(tree, by, sint),
+        Access::ReadSlot(sint) => read_slot(tree, by, sint, output),
         Access::ClearSlot(sint) => clear_slot(tree, by, sint),
-        Access::ReadFlags(sint) => read_flags(tree, by, sint),
+        Access::ReadFlags(sint) => read_flags(tree, by, sint, output),
         Access::ClearFlag(sint, flag) => clear_flag(tree, by, sint, flag),
-        Access::TakeInterrupt => take_interrupt(tree, by),
+        Access::TakeInterrupt => take_interrupt(tree, by, output),
     }
 }
 

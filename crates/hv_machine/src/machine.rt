@@ -1,5 +1,5 @@
 // The machine and its one step.
-ghost use Rattle.std.specs.Prelude.{◌≡◌, ◌<◌, None, IsTrue, IfOk, IfErr, OnOk, OnErr};
+ghost use Rattle.std.specs.Prelude.{◌≡◌, ◌<◌, [], None, IsTrue, IfOk, IfErr, OnOk, OnErr};
 ghost use Rattle.hv_defs.specs.declared.sizes.TheConstants.{MAX_SERVED};
 ghost use Rattle.hv_abi.specs.declared.frame.Frame.{Frame as CallFrame};
 ghost use Rattle.hv_confine.specs.Confined.{IsConfined};
@@ -11,7 +11,7 @@ ghost use Rattle.hv_policy.specs.Step.{NamesAsked, step};
 ghost use Rattle.hv_policy.specs.Rules.{unmet};
 ghost use Rattle.hv_policy.specs.declared.event.Action.TheVariants.{Hypercall};
 ghost use Rattle.hv_tie.specs.Room.{roomless};
-ghost use Rattle.hv_machine.specs.Access.{HasAccess, access_event};
+ghost use Rattle.hv_machine.specs.Access.{HasAccess, access_event, access_reply};
 ghost use Rattle.hv_machine.specs.IsFlat.{IsFlat};
 ghost use Rattle.hv_machine.specs.Lasting.{IsLasting};
 ghost use Rattle.hv_machine.specs.Served.{IsResult};
@@ -20,7 +20,9 @@ ghost use Rattle.hv_machine.specs.Sound.{IsSound};
 use crate::dispatch::{dispatch, dispatch_access, next_after};
 use hv_abi::Frame;
 use hv_calls::Call;
-use hv_policy::{Access, CallOutput, CallReply, Caller, Event, Reply, refused_reply, served_reply};
+use hv_policy::{
+    Access, CallOutput, CallReply, Caller, Event, Output, Reply, Rule, refused_reply, served_reply,
+};
 use hv_tie::{Partitions, Refused, caller_in};
 use std::alloc::Allocator;
 use std::marker::Model;
@@ -99,7 +101,13 @@ impl<A: Allocator + Clone> Machine<A> {
         ensures sound { IsSound self.new }
     {
         match event.what.as_access() {
-            Ok(access) => Ok(self.access(event.by, access)),
+            Ok(access) => {
+                let mut output = Output::new();
+                match self.access(event.by, access, &mut output) {
+                    Ok(()) => Ok(Reply::Served(output)),
+                    Err(rule) => Ok(Reply::Fault { rule }),
+                }
+            }
             Err(frame) => match self.hypercall(event.by, frame) {
                 Ok(reply) => Ok(reply.to_reply()),
                 Err(why) => Err(why),
@@ -141,26 +149,31 @@ impl<A: Allocator + Clone> Machine<A> {
         }
     }
 
-    // One access.
-    fn access(&mut self, by: Caller, access: Access) -> Reply
-        requires { self.old.served < MAX_SERVED }
-        ensures reply { (f : Flat) → IsFlat self.old f → result
+    /// Takes one access of a processor, as [`Machine::step`] takes it as an event, with the same promises. What
+    /// it puts out is added to `output`, which is empty before. The host refuses none.
+    pub fn access(&mut self, by: Caller, access: Access, output: &mut Output) -> Result<(), Rule>
+        requires count { self.old.served < MAX_SERVED }
+        requires empty { output.old ≡ [] }
+        ensures reply { (f : Flat) → IsFlat self.old f → access_reply result output.new
             ≡ (step {A = A} f (access_event by access)).1 }
         ensures state { (f : Flat) → IsFlat self.old f
             → IsFlat self.new (step {A = A} f (access_event by access)).0 }
-        ensures asked { NamesAsked {A = A} (access_event by access) result }
+        ensures confined { (f g : Flat) → IsFlat self.old f → IsFlat self.new g
+            → IsConfined {A = A} (access_event by access) f g }
+        ensures asked { NamesAsked {A = A} (access_event by access) (access_reply result output.new) }
         ensures lasting { IsLasting self.new }
         ensures pages { self.new.pages ≡ self.old.pages }
+        ensures sound { IsSound self.new }
     {
         if let Err(rule) = caller_in(&self.tree, by) {
-            return Reply::Fault { rule };
+            return Err(rule);
         }
-        match dispatch_access(&mut self.tree, by, access) {
-            Ok(output) => {
+        match dispatch_access(&mut self.tree, by, access, output) {
+            Ok(()) => {
                 self.served += 1;
-                Reply::Served(output)
+                Ok(())
             }
-            Err(rule) => Reply::Fault { rule },
+            Err(rule) => Err(rule),
         }
     }
 

@@ -1,5 +1,7 @@
-// The accesses of this chapter. No access asks for a privilege.
-ghost use Rattle.std.specs.Prelude.{◌≡◌};
+// The accesses of this chapter. No access asks for a privilege. What one puts out goes into an output that has
+// room for a whole slot and stays where it is.
+ghost use Rattle.std.specs.Prelude.{◌≡◌, []};
+ghost use Rattle.std.specs.Result.{result_map_both};
 ghost use Rattle.hv_policy.specs.Flat.{Flat};
 ghost use Rattle.hv_policy.specs.declared.event.Action.TheVariants as action;
 ghost use Rattle.hv_tie.specs.Access.{IsAccess};
@@ -12,41 +14,51 @@ use hv_tie::Partitions;
 use std::alloc::Allocator;
 
 /// A read of the message slot of one of the caller's SINTs, in 256 bytes.
-pub fn read_slot<A: Allocator>(tree: &Partitions<A>, by: Caller, sint: u8) -> Result<Output, Rule>
-    ensures { (f : Flat) → IsTied tree.now f
-        → IsAccess {A = A} f by (action.ReadSlot sint) tree.now result tree.now }
+pub fn read_slot<A: Allocator>(
+    tree: &Partitions<A>,
+    by: Caller,
+    sint: u8,
+    output: &mut Output,
+) -> Result<(), Rule>
+    requires { output.old ≡ [] }
+    ensures { (f : Flat) → IsTied tree.now f → IsAccess {A = A} f by (action.ReadSlot sint) tree.now
+        (result_map_both (λ _. output.new) (λ rule. rule) result) tree.now }
 {
     if u32::from(sint) >= SINTS {
         return Err(Rule::Subject);
     }
-    Ok(Output::whole(&slot(tree, by.part, by.vp, sint)))
+    *output = Output::whole(&slot(tree, by.part, by.vp, sint));
+    Ok(())
 }
 
 /// The message that one of the caller's SINTs shows is removed, if it shows one. None is shown in its place.
-pub fn clear_slot<A: Allocator>(
-    tree: &mut Partitions<A>,
-    by: Caller,
-    sint: u8,
-) -> Result<Output, Rule>
-    ensures { (f : Flat) → IsTied tree.old f
-        → IsAccess {A = A} f by (action.ClearSlot sint) tree.old result tree.new }
+pub fn clear_slot<A: Allocator>(tree: &mut Partitions<A>, by: Caller, sint: u8) -> Result<(), Rule>
+    ensures { (f : Flat) → IsTied tree.old f → IsAccess {A = A} f by (action.ClearSlot sint) tree.old
+        (result_map_both (λ _. []) (λ rule. rule) result) tree.new }
 {
     if u32::from(sint) >= SINTS {
         return Err(Rule::Subject);
     }
     clear(tree, by.part, by.vp, sint);
-    Ok(Output::new())
+    Ok(())
 }
 
 /// A read of the event flags of one of the caller's SINTs, in 256 bytes.
-pub fn read_flags<A: Allocator>(tree: &Partitions<A>, by: Caller, sint: u8) -> Result<Output, Rule>
-    ensures { (f : Flat) → IsTied tree.now f
-        → IsAccess {A = A} f by (action.ReadFlags sint) tree.now result tree.now }
+pub fn read_flags<A: Allocator>(
+    tree: &Partitions<A>,
+    by: Caller,
+    sint: u8,
+    output: &mut Output,
+) -> Result<(), Rule>
+    requires { output.old ≡ [] }
+    ensures { (f : Flat) → IsTied tree.now f → IsAccess {A = A} f by (action.ReadFlags sint) tree.now
+        (result_map_both (λ _. output.new) (λ rule. rule) result) tree.now }
 {
     if u32::from(sint) >= SINTS {
         return Err(Rule::Subject);
     }
-    Ok(Output::whole(&flags(tree, by.part, by.vp, sint)))
+    *output = Output::whole(&flags(tree, by.part, by.vp, sint));
+    Ok(())
 }
 
 /// An event flag of one of the caller's SINTs is cleared.
@@ -55,24 +67,28 @@ pub fn clear_flag<A: Allocator>(
     by: Caller,
     sint: u8,
     flag: u16,
-) -> Result<Output, Rule>
-    ensures { (f : Flat) → IsTied tree.old f
-        → IsAccess {A = A} f by (action.ClearFlag sint flag) tree.old result tree.new }
+) -> Result<(), Rule>
+    ensures { (f : Flat) → IsTied tree.old f → IsAccess {A = A} f by (action.ClearFlag sint flag) tree.old
+        (result_map_both (λ _. []) (λ rule. rule) result) tree.new }
 {
     if u32::from(sint) >= SINTS || u32::from(flag) >= EVENT_FLAGS {
         return Err(Rule::Subject);
     }
     clear_one_flag(tree, by.part, by.vp, sint, flag);
-    Ok(Output::new())
+    Ok(())
 }
 
 /// The highest of the vectors that are pending at the caller is taken, in 1 byte, which is 0 where none is.
-pub fn take_interrupt<A: Allocator>(tree: &mut Partitions<A>, by: Caller) -> Result<Output, Rule>
-    ensures { (f : Flat) → IsTied tree.old f
-        → IsAccess {A = A} f by action.TakeInterrupt tree.old result tree.new }
+pub fn take_interrupt<A: Allocator>(
+    tree: &mut Partitions<A>,
+    by: Caller,
+    output: &mut Output,
+) -> Result<(), Rule>
+    requires { output.old ≡ [] }
+    ensures { (f : Flat) → IsTied tree.old f → IsAccess {A = A} f by action.TakeInterrupt tree.old
+        (result_map_both (λ _. output.new) (λ rule. rule) result) tree.new }
 {
     let vector = take(tree, by.part, by.vp);
-    let mut output = Output::new();
     output.push_byte(vector);
-    Ok(output)
+    Ok(())
 }

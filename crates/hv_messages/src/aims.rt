@@ -1,17 +1,21 @@
 // Where a connection leads, and the rules that look there.
-ghost use Rattle.std.specs.Prelude.{◌≡◌, option_map, IfOk, IfErr, Some};
+ghost use Rattle.std.specs.Prelude.{◌≡◌, ℕ, option_map, IfOk, IfErr, IfSome, Some};
 ghost use Rattle.std.specs.FinMap.{get};
+ghost use Rattle.hv_partition.specs.Partition.{PartitionState};
+ghost use Rattle.hv_policy.specs.Aim.{has_target as has_target_of};
 ghost use Rattle.hv_policy.specs.Flat.{Flat};
 ghost use Rattle.hv_policy.specs.Met.{has_message_room as has_message_room_of};
 ghost use Rattle.hv_policy.specs.Rules.{first_unmet};
 ghost use Rattle.hv_tie.specs.Served.{AreLawful};
 ghost use Rattle.hv_tie.specs.Tie.{IsTied, conn_row_of, port_row_of};
+ghost use Rattle.hv_tree.specs.Rows.{Rows, content};
 ghost use Rattle.hv_messages.specs.Aimed.{IsReached, aim_row, reach_asks, taker_of};
 
 use hv_defs::{Aim, MAX_MESSAGES, PortKind};
+use hv_partition::Partition;
 use hv_policy::Rule;
 use hv_ports::{Conn, Port};
-use hv_tie::{Partitions, has_target};
+use hv_tie::Partitions;
 use std::alloc::Allocator;
 
 // What a connection is aimed at: the connection, and the port with the id that it keeps.
@@ -29,31 +33,32 @@ pub struct Target {
     pub vp: u32,
 }
 
-// P16, P17 and P19 of a post or a signal: where the caller's connection leads, or the first of them that
-// isn't met.
-pub fn reach<A: Allocator>(
-    tree: &Partitions<A>,
+// P16, P17 and P19 of a post or a signal: where the caller's connection leads and the partition of the port, or
+// the first of them that isn't met. What is asked of the port's partition is asked of the one that was found.
+pub fn reach<'t, A: Allocator>(
+    tree: &'t Partitions<A>,
     caller: u64,
     connection: u32,
-) -> Result<Aimed, Rule>
-    ensures reached { IfOk result (λ aimed. (f : Flat) → IsTied tree.now f
-        → IsReached f (caller, connection) aimed.conn aimed.port) }
+) -> Result<(Aimed, &'t Partition<A>), Rule>
+    ensures reached { IfOk result (λ found. (f : Flat) → IsTied tree.now f
+        → IsReached f (caller, connection) found.0.conn found.0.port) }
+    ensures home { IfOk result (λ found. content tree.now found.0.conn.part ≡ Some found.1.now) }
     ensures first { IfErr result (λ rule. (f : Flat) → IsTied tree.now f
         → first_unmet (reach_asks f (caller, connection)) ≡ Some rule) }
 {
     let Some(conn) = conn_of(tree, caller, connection) else {
         return Err(Rule::Connection);
     };
-    let Some(port) = port_of(tree, conn.part, conn.port) else {
+    let Some((port, home)) = port_of(tree, conn.part, conn.port) else {
         return Err(Rule::Port);
     };
     if port.born != conn.born {
         return Err(Rule::Port);
     }
-    if !has_target(tree, conn.part, port.vp) {
+    if !has_target(home, port.vp) {
         return Err(Rule::VpExists);
     }
-    Ok(Aimed { conn, port })
+    Ok((Aimed { conn, port }, home))
 }
 
 // A partition's connection with this id, if it has one.
@@ -66,58 +71,67 @@ fn conn_of<A: Allocator>(tree: &Partitions<A>, id: u64, connection: u32) -> Opti
     }
 }
 
-// A partition's port with this id, if it has one.
-fn port_of<A: Allocator>(tree: &Partitions<A>, id: u64, port: u32) -> Option<Port>
-    ensures { (f : Flat) → IsTied tree.now f → option_map port_row_of result ≡ get f.port (id, port) }
+// A partition's port with this id, if it has one, and the partition.
+fn port_of<'t, A: Allocator>(
+    tree: &'t Partitions<A>,
+    id: u64,
+    port: u32,
+) -> Option<(Port, &'t Partition<A>)>
+    ensures port { (f : Flat) → IsTied tree.now f → option_map (λ found. port_row_of found.0) result
+        ≡ get f.port (id, port) }
+    ensures home { IfSome result (λ found. content tree.now id ≡ Some found.1.now) }
 {
-    match tree.get(id) {
+    let Some(partition) = tree.get(id) else {
+        return None;
+    };
+    match partition.port(port) {
         None => None,
-        Some(partition) => partition.port(port),
+        Some(port) => Some((port, partition)),
+    }
+}
+
+// P19 of a port: whether the one processor of its partition at which it aims is there. For any it is met.
+fn has_target<A: Allocator>(home: &Partition<A>, aim: Aim) -> bool
+    ensures { (f : Flat) (rows : Rows PartitionState) (id : ℕ) → content rows id ≡ Some home.now
+        → IsTied rows f → result ≡ has_target_of f id aim }
+{
+    match aim {
+        Aim::One(index) => home.vp(index).is_some(),
+        Aim::Any => true,
     }
 }
 
 // P22: the processor of the port's partition that takes what a port of this kind takes, if there is one: the
 // one at which the port aims, if it is ready, and for any the lowest of those that are.
-pub fn taker<A: Allocator>(tree: &Partitions<A>, aimed: Aimed, kind: PortKind) -> Option<u32>
-    ensures { (f : Flat) → IsTied tree.now f → result ≡ taker_of kind f (aim_row aimed.conn aimed.port) }
+pub fn taker<A: Allocator>(home: &Partition<A>, aimed: Aimed, kind: PortKind) -> Option<u32>
+    ensures { (f : Flat) (rows : Rows PartitionState) → content rows aimed.conn.part ≡ Some home.now
+        → IsTied rows f → result ≡ taker_of kind f (aim_row aimed.conn aimed.port) }
 {
-    let Some(partition) = tree.get(aimed.conn.part) else {
-        return None;
-    };
     match aimed.port.vp {
         Aim::One(index) => {
-            let Some(vp) = partition.vp(index) else {
+            let Some(vp) = home.vp(index) else {
                 return None;
             };
             if vp.is_ready(kind) { Some(index) } else { None }
         }
-        Aim::Any => partition.lowest_ready(kind),
+        Aim::Any => home.lowest_ready(kind),
     }
 }
 
 // P23: whether fewer than the most messages of the port and its birth are kept. They stand at the processor
 // at which the port aims, and for any at processors of its partition.
-pub fn has_message_room<A: Allocator>(
-    tree: &Partitions<A>,
-    caller: u64,
-    connection: u32,
-    aimed: Aimed,
-) -> bool
-    requires lawful { AreLawful tree.now }
-    requires reached { (f : Flat) → IsTied tree.now f
-        → IsReached f (caller, connection) aimed.conn aimed.port }
-    ensures { (f : Flat) → IsTied tree.now f
-        → result ≡ has_message_room_of f (aim_row aimed.conn aimed.port) }
+pub fn has_message_room<A: Allocator>(home: &Partition<A>, aimed: Aimed) -> bool
+    ensures { (f : Flat) (rows : Rows PartitionState) (caller connection : ℕ)
+        → content rows aimed.conn.part ≡ Some home.now → AreLawful rows
+        → ((f : Flat) → IsTied rows f → IsReached f (caller, connection) aimed.conn aimed.port)
+        → IsTied rows f → result ≡ has_message_room_of f (aim_row aimed.conn aimed.port) }
 {
-    let Some(partition) = tree.get(aimed.conn.part) else {
-        return false;
-    };
     let most = MAX_MESSAGES as usize;
     match aimed.port.vp {
-        Aim::One(index) => match partition.vp(index) {
+        Aim::One(index) => match home.vp(index) {
             None => false,
             Some(vp) => vp.of_port(aimed.conn.port, aimed.conn.born) < most,
         },
-        Aim::Any => partition.keep_fewer(aimed.conn.port, aimed.conn.born, most),
+        Aim::Any => home.keep_fewer(aimed.conn.port, aimed.conn.born, most),
     }
 }

@@ -66,17 +66,17 @@ fn ask_post<A: Allocator>(
     ensures first { IfErr result (λ rule. (f : Flat) (type : ℕ) (payload : List ℕ) → IsTied tree.now f
         → unmet_further f caller (call.PostMessage connection type payload) ≡ Some rule) }
 {
-    let aimed = match reach(tree, caller, connection) {
-        Ok(aimed) => aimed,
+    let (aimed, home) = match reach(tree, caller, connection) {
+        Ok(found) => found,
         Err(rule) => return Err(rule),
     };
     if !is_for_messages(aimed.port) {
         return Err(Rule::Subject);
     }
-    let Some(vp) = taker(tree, aimed, PortKind::Message) else {
+    let Some(vp) = taker(home, aimed, PortKind::Message) else {
         return Err(Rule::VpReady);
     };
-    if !has_message_room(tree, caller, connection, aimed) {
+    if !has_message_room(home, aimed) {
         return Err(Rule::PortRoom);
     }
     Ok(Target {
@@ -142,14 +142,14 @@ fn ask_signal<A: Allocator>(
     ensures first { IfErr result (λ rule. (f : Flat) → IsTied tree.now f
         → unmet_further f caller (call.SignalEvent connection flag) ≡ Some rule) }
 {
-    let aimed = match reach(tree, caller, connection) {
-        Ok(aimed) => aimed,
+    let (aimed, home) = match reach(tree, caller, connection) {
+        Ok(found) => found,
         Err(rule) => return Err(rule),
     };
     if !has_flag(aimed.port, flag) {
         return Err(Rule::Subject);
     }
-    let Some(vp) = taker(tree, aimed, PortKind::Event) else {
+    let Some(vp) = taker(home, aimed, PortKind::Event) else {
         return Err(Rule::VpReady);
     };
     Ok(Target {

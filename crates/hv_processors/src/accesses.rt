@@ -1,5 +1,6 @@
 // The accesses of this chapter.
-ghost use Rattle.std.specs.Prelude.{◌≡◌};
+ghost use Rattle.std.specs.Prelude.{◌≡◌, []};
+ghost use Rattle.std.specs.Result.{result_map_both};
 ghost use Rattle.hv_policy.specs.Flat.{Flat};
 ghost use Rattle.hv_policy.specs.Rules.{first_unmet};
 ghost use Rattle.hv_policy.specs.declared.event.Action.TheVariants as action;
@@ -15,16 +16,21 @@ use hv_vp::name_of_msr;
 use std::alloc::Allocator;
 
 /// A read of one of the caller's model-specific registers: its value, in 8 bytes.
-pub fn read_msr<A: Allocator>(tree: &Partitions<A>, by: Caller, msr: u32) -> Result<Output, Rule>
-    ensures { (f : Flat) → IsTied tree.now f
-        → IsAccess {A = A} f by (action.ReadMsr msr) tree.now result tree.now }
+pub fn read_msr<A: Allocator>(
+    tree: &Partitions<A>,
+    by: Caller,
+    msr: u32,
+    output: &mut Output,
+) -> Result<(), Rule>
+    requires { output.old ≡ [] }
+    ensures { (f : Flat) → IsTied tree.now f → IsAccess {A = A} f by (action.ReadMsr msr) tree.now
+        (result_map_both (λ _. output.new) (λ rule. rule) result) tree.now }
 {
     if let Some(rule) = unmet_msr(tree, by, msr) {
         return Err(rule);
     }
-    let mut output = Output::new();
     output.push_number(msr_register(tree, by.part, by.vp, msr));
-    Ok(output)
+    Ok(())
 }
 
 /// A write to one of the caller's model-specific registers, which keeps what it keeps of the value.
@@ -33,9 +39,9 @@ pub fn write_msr<A: Allocator>(
     by: Caller,
     msr: u32,
     value: u64,
-) -> Result<Output, Rule>
-    ensures { (f : Flat) → IsTied tree.old f
-        → IsAccess {A = A} f by (action.WriteMsr msr value) tree.old result tree.new }
+) -> Result<(), Rule>
+    ensures { (f : Flat) → IsTied tree.old f → IsAccess {A = A} f by (action.WriteMsr msr value) tree.old
+        (result_map_both (λ _. []) (λ rule. rule) result) tree.new }
 {
     if let Some(rule) = unmet_msr(tree, by, msr) {
         return Err(rule);
@@ -44,7 +50,7 @@ pub fn write_msr<A: Allocator>(
         return Err(Rule::MsrWrite);
     }
     write_register(tree, by.part, by.vp, msr, value);
-    Ok(Output::new())
+    Ok(())
 }
 
 // P25 and P26, which reading and writing ask alike.

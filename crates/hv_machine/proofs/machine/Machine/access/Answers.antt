@@ -2,11 +2,14 @@ use Rattle.std.proofs.Common.{◌≡◌, ◌+◌, None, Some, sym, ap, subst, �
 use Rattle.hv_laws.proofs.Replies.{names_asked}
 use Rattle.hv_policy.proofs.Unmet.{unmet_by_caller}
 use Rattle.hv_policy.specs.Step.{NamesAsked, step}
+use Rattle.hv_machine.proofs.Confined.{step_is_confined}
 use Rattle.hv_machine.proofs.Accessing.{accessed_flat, accessed_lasting, refused_access, served_access, unmet_own}
+use Rattle.hv_machine.proofs.Sound.{sound}
 use Rattle.hv_machine.proofs.Serving.{state_of, tied_tree}
 use Rattle.hv_machine.specs.Access.{access_event}
 use Rattle.hv_machine.specs.IsFlat.{IsFlat}
 use Rattle.hv_machine.specs.Lasting.{IsLasting}
+use Rattle.hv_machine.specs.Sound.{IsSound}
 use Rattle.hv_machine.proofs.machine.Machine.access.Goals as goal
 
 pub returns-in-Err-clause-reply : goal.returns-in-Err-clause-reply
@@ -86,3 +89,27 @@ returns-in-Err-dispatch_access-clause-asked g c =
 
 pub returns-in-Err-dispatch_access-clause-lasting : goal.returns-in-Err-dispatch_access-clause-lasting
 returns-in-Err-dispatch_access-clause-lasting g c = invariant_of-self-in-Err-dispatch_access g c
+
+pub returns-in-Err-clause-confined : goal.returns-in-Err-clause-confined
+returns-in-Err-clause-confined g c f h flat after =
+    step_is_confined c.args.self.now (access_event {A = g.row.A.Denot} c.args.by c.args.access) f h (returns-in-Err-clause-state g c f flat) after
+
+pub returns-in-Ok-clause-confined : goal.returns-in-Ok-clause-confined
+returns-in-Ok-clause-confined g c f h flat after =
+    step_is_confined (state_of c.dispatch_access.new.tree c.self.inside.pages c.self.inside.next (c.self.inside.served + 1)) (access_event {A = g.row.A.Denot} c.args.by c.args.access) f h (returns-in-Ok-clause-state g c f flat) after
+
+pub returns-in-Err-dispatch_access-clause-confined : goal.returns-in-Err-dispatch_access-clause-confined
+returns-in-Err-dispatch_access-clause-confined g c f h flat after =
+    step_is_confined (state_of c.dispatch_access.new.tree c.self.inside.pages c.self.inside.next c.self.inside.served) (access_event {A = g.row.A.Denot} c.args.by c.args.access) f h (returns-in-Err-dispatch_access-clause-state g c f flat) after
+
+pub returns-in-Ok-clause-sound : goal.returns-in-Ok-clause-sound
+returns-in-Ok-clause-sound g c =
+    sound (state_of c.dispatch_access.new.tree c.self.inside.pages c.self.inside.next (c.self.inside.served + 1)) (invariant_of-self g c)
+
+pub returns-in-Err-dispatch_access-clause-sound : goal.returns-in-Err-dispatch_access-clause-sound
+returns-in-Err-dispatch_access-clause-sound g c =
+    sound (state_of c.dispatch_access.new.tree c.self.inside.pages c.self.inside.next c.self.inside.served) (invariant_of-self-in-Err-dispatch_access g c)
+
+pub returns-in-Err-clause-sound : goal.returns-in-Err-clause-sound
+returns-in-Err-clause-sound g c =
+    subst IsSound c.self.view_is (sound (state_of c.self.inside.tree c.self.inside.pages c.self.inside.next c.self.inside.served) c.self.invariant)
