@@ -63,8 +63,8 @@ callers_permuted lines xs ys moved callers =
     }
 
 -- the task of a line's processor, after others changed places with it
-module _ {L : Type 0} (line : Line Global) (old mid : List (Task L)) (p : ℕ) (t e : Task L) (moved : IsPermutation old mid) (there : p < length mid)
-    (at : (d : Task L) → (get_or mid p d).work.pass.caller ≡ line.by) (caller_is : t.work.pass.caller ≡ (get_or mid p e).work.pass.caller) (different : AreDifferent (callers_in old)) where
+module _ {L : Type 0} (whose : Caller) (old mid : List (Task L)) (p : ℕ) (t e : Task L) (moved : IsPermutation old mid) (there : p < length mid)
+    (at : (d : Task L) → (get_or mid p d).work.pass.caller ≡ whose) (caller_is : t.work.pass.caller ≡ (get_or mid p e).work.pass.caller) (different : AreDifferent (callers_in old)) where
   moved_callers : IsPermutation (callers_in old) (callers_in mid)
   moved_callers = IsPermutation-map (λ (x : Task L). x.work.pass.caller) old mid moved
 
@@ -72,11 +72,11 @@ module _ {L : Type 0} (line : Line Global) (old mid : List (Task L)) (p : ℕ) (
   new_callers = subst (IsPermutation (callers_in old)) (sym (map-set_same (λ (x : Task L). x.work.pass.caller) mid p t e caller_is)) moved_callers
 
   -- a task at another place is another processor's
-  other : (i : ℕ) (d : Task L) → i < length mid → (i ≡ p → ⊥) → line.by ≡ (get_or mid i d).work.pass.caller → ⊥
+  other : (i : ℕ) (d : Task L) → i < length mid → (i ≡ p → ⊥) → whose ≡ (get_or mid i d).work.pass.caller → ⊥
   other i d h apart same =
       let m = length-map mid (λ (x : Task L). x.work.pass.caller) in
-      apart (different_permuted (callers_in old) (callers_in mid) moved_callers different i p line.by (omega arith) (omega arith)
-      (get_or-map (λ (x : Task L). x.work.pass.caller) mid i d line.by h ∙ sym same ∙ sym (at d) ∙ sym (get_or-map (λ (x : Task L). x.work.pass.caller) mid p d line.by there)))
+      apart (different_permuted (callers_in old) (callers_in mid) moved_callers different i p whose (omega arith) (omega arith)
+      (get_or-map (λ (x : Task L). x.work.pass.caller) mid i d whose h ∙ sym same ∙ sym (at d) ∙ sym (get_or-map (λ (x : Task L). x.work.pass.caller) mid p d whose there)))
 
   -- what holds of the task and of those at other places holds of all
   each : (P : Task L → Type 0) → P t → ((i : ℕ) (d : Task L) → i < length mid → (i ≡ p → ⊥) → P (get_or mid i d)) → All P (set mid p t)
@@ -88,9 +88,13 @@ module _ {L : Type 0} (line : Line Global) (old mid : List (Task L)) (p : ℕ) (
       by true is h' = subst P (sym (ap (λ (k : ℕ). get_or (set mid p t) k d) (eqb-true i p is) ∙ get_or-set_same mid p t d there)) here
       by false is h' = subst P (sym (get_or-set_other mid p i t d (eqb-false i p is))) (rest i d h' (eqb-false i p is))
 
+  -- nor is the line of the task's own processor another's
+  others : (line : Line Global) → whose ≡ line.by → (i : ℕ) (d : Task L) → i < length mid → (i ≡ p → ⊥) → line.by ≡ (get_or mid i d).work.pass.caller → ⊥
+  others line is i d h apart same = other i d h apart (is ∙ same)
+
   -- one action more is to be done
-  pub given : t.work.pass ≡ (get_or mid p e).work.pass → t.end ≡ (get_or mid p e).end → t.work.actions.items ≡ (get_or mid p e).work.actions.items ++ line.action ∷ [] → HasGiven line old (set mid p t)
-  given pass_is end_is actions_are = record {
+  pub given : (line : Line Global) → whose ≡ line.by → (what : Action Global) → what ≡ line.action → t.work.pass ≡ (get_or mid p e).work.pass → t.end ≡ (get_or mid p e).end → t.work.actions ≡ (get_or mid p e).work.actions ++ what ∷ [] → HasGiven line old (set mid p t)
+  given line is what what_is pass_is end_is actions_are = record {
     callers = new_callers;
     going = λ all. let here = All-permutation IsGoing old mid moved all in All-set IsGoing mid p t (end_is ∙ here p e there) here;
     run = λ lines all.
@@ -100,28 +104,28 @@ module _ {L : Type 0} (line : Line Global) (old mid : List (Task L)) (p : ℕ) (
     given = λ taken all.
         let here = All-permutation (IsGiven taken) old mid moved all in
         each (IsGiven (taken ++ line ∷ []))
-        (actions_are ∙ ap (λ (acts : List (Action Global)). acts ++ line.action ∷ []) (here p e there ∙ ap (λ (c : Caller). asked_by c taken) (sym caller_is))
-        ∙ ap (λ (acts : List (Action Global)). asked_by t.work.pass.caller taken ++ acts) (sym (asked_by_own t.work.pass.caller line (sym (at e) ∙ sym caller_is)))
+        (actions_are ∙ ap (λ (a : Action Global). (get_or mid p e).work.actions ++ a ∷ []) what_is ∙ ap (λ (acts : List (Action Global)). acts ++ line.action ∷ []) (here p e there ∙ ap (λ (c : Caller). asked_by c taken) (sym caller_is))
+        ∙ ap (λ (acts : List (Action Global)). asked_by t.work.pass.caller taken ++ acts) (sym (asked_by_own t.work.pass.caller line (sym (at e ∙ is) ∙ sym caller_is)))
         ∙ sym (asked_by-append t.work.pass.caller taken (line ∷ [])))
         (λ i d h apart. here i d h
         ∙ sym (append-nil (asked_by (get_or mid i d).work.pass.caller taken))
-        ∙ ap (λ (acts : List (Action Global)). asked_by (get_or mid i d).work.pass.caller taken ++ acts) (sym (asked_by_other (get_or mid i d).work.pass.caller line (other i d h apart)))
+        ∙ ap (λ (acts : List (Action Global)). asked_by (get_or mid i d).work.pass.caller taken ++ acts) (sym (asked_by_other (get_or mid i d).work.pass.caller line (others line is i d h apart)))
         ∙ sym (asked_by-append (get_or mid i d).work.pass.caller taken (line ∷ [])));
   }
 
   -- one line more was run, unless the host stopped its processor
-  pub ran_one : (t.end ≡ Finished → ((get_or mid p e).end ≡ Finished) × HasPerformed line.action (get_or mid p e).work.pass t.work.pass)
-      → t.work.actions.items ≡ (get_or mid p e).work.actions.items
+  pub ran_one : (line : Line Global) → whose ≡ line.by → (t.end ≡ Finished → ((get_or mid p e).end ≡ Finished) × HasPerformed line.action (get_or mid p e).work.pass t.work.pass)
+      → t.work.actions ≡ (get_or mid p e).work.actions
       → (ran : List (Line Global)) → All (IsAfter ran) old → All (IsAfter (ran ++ line ∷ [])) (set mid p t)
-  ran_one performed actions_are ran all =
+  ran_one line is performed actions_are ran all =
       let here = All-permutation (IsAfter ran) old mid moved all in
       each (IsAfter (ran ++ line ∷ []))
       (record {
-        run = λ going. ran_more (get_or mid p e).work.pass t.work.pass ran (at e) ((here p e there).run (performed going).0) (performed going).1;
+        run = λ going. ran_more (get_or mid p e).work.pass t.work.pass ran (at e ∙ is) ((here p e there).run (performed going).0) (performed going).1;
         idle = actions_are ∙ (here p e there).idle;
       })
       (λ i d h apart. record {
-        run = λ going. ran_other (get_or mid i d).work.pass ran (other i d h apart) ((here i d h).run going);
+        run = λ going. ran_other (get_or mid i d).work.pass ran (others line is i d h apart) ((here i d h).run going);
         idle = (here i d h).idle;
       })
     where
@@ -208,9 +212,9 @@ module _ {L : Type 0} (old new : List (Task L)) (members : ℕ) (long : length n
 
   pub idle_after : AreIdleFrom members old → All IsGoing new → AreIdleFrom 0 new
   idle_after idle going i d z h =
-      by_place (λ (task : Task L). task.work.actions.items ≡ [])
+      by_place (λ (task : Task L). task.work.actions ≡ [])
       (λ j e m k. (done j e m).idle (going j e (omega arith)))
-      (λ j e m k. ap (λ (x : Task L). x.work.actions.items) (rest j e m k) ∙ idle j e m k)
+      (λ j e m k. ap (λ (x : Task L). x.work.actions) (rest j e m k) ∙ idle j e m k)
       i d h
 
   -- none was stopped that had something to do, so none at all

@@ -3,14 +3,16 @@ use Rattle.std.proofs.Common.{◌≡◌, ℕ, ◌<◌, ◌≤◌, List, [], ◌�
 use Rattle.std.specs.Prelude.{map, reverse, All}
 use Rattle.std.specs.List.{Contains}
 use Rattle.std.specs.List.Sorted.{IsPermutation}
-use Rattle.std.proofs.lemmas.List.{reverse-append}
+use Rattle.std.proofs.lemmas.List.{length-append, length-reverse, reverse-append}
 use Rattle.std.proofs.lemmas.List.Elements.{All-cons, All-head, All-map, All-nil, All-tail}
 use Rattle.std.proofs.lemmas.List.Sorted.{All-permutation, Contains-permutation, IsPermutation-map, IsPermutation-reverse, IsPermutation-sym, IsPermutation-trans}
 use Rattle.std.specs.declared.alloc.Global.{Global}
 use Rattle.hv_policy.specs.declared.event.Caller.{Caller}
 use Rattle.hv_phases.specs.Crew.{AreCallersOf, AreIdleFrom, AreReady, HasGiven, HasHandedOut, HasRun, HaveRun, IsAfter, IsGoing, callers_in, passes_in}
+use Rattle.hv_phases.specs.Lines.{IsNextTurn}
 use Rattle.hv_phases.proofs.Crews.{callers_permuted, ran_phase, idle_after, same_callers}
 use Rattle.hv_script.specs.declared.line.Line.{Line}
+use Rattle.hv_script.specs.declared.lines.Turn.{Turn}
 use Rattle.hv_shared.specs.PassValue.{PassValue}
 use Rattle.hv_threads.specs.Phase.{IsDoneAt}
 use Rattle.hv_threads.specs.declared.phase.Task.{Task}
@@ -58,20 +60,28 @@ next : (lines ran left rest : List (Line Global)) (line : Line Global) → ran +
 next lines ran left rest line order is =
     append_assoc ran (line ∷ []) (reverse rest) ∙ ap (λ (ls : List (Line Global)). ran ++ ls) (sym (reverse-append rest (line ∷ [])) ∙ ap reverse (sym is)) ∙ order
 
--- a line that is left is named
-pub named_next : (lines ran left rest : List (Line Global)) (line : Line Global) (callers : List Caller) → ran ++ reverse left ≡ lines → left ≡ rest ++ line ∷ [] → AreCallersOf lines callers
-    → Contains callers line.by
-named_next lines ran left rest line callers order is crew =
-    All-head (λ (l : Line Global). Contains callers l.by) line (reverse rest)
-    (All-second (λ (l : Line Global). Contains callers l.by) ran (line ∷ reverse rest)
-    (subst (All (λ (l : Line Global). Contains callers l.by)) (sym (sym (append_assoc ran (line ∷ []) (reverse rest)) ∙ next lines ran left rest line order is)) crew.named))
+-- fewer are left
+pub handed_fewer : {L : Type 0} (left after : List (Line Global)) (old new : List (Task L)) → HasHandedOut left after old new → length after < length left
+handed_fewer left after old new handed =
+    omega (arith, ap length handed.order, length-append handed.more (reverse after), length-reverse after, length-reverse left)
 
-pub named_rest : (lines ran left rest : List (Line Global)) (line : Line Global) (callers : List Caller) → ran ++ reverse left ≡ lines → left ≡ rest ++ line ∷ [] → AreCallersOf lines callers
-    → All (λ l. Contains callers l.by) rest
-named_rest lines ran left rest line callers order is crew =
-    All-unreversed (λ (l : Line Global). Contains callers l.by) rest
-    (All-second (λ (l : Line Global). Contains callers l.by) (ran ++ line ∷ []) (reverse rest)
-    (subst (All (λ (l : Line Global). Contains callers l.by)) (sym (next lines ran left rest line order is)) crew.named))
+-- the next line was taken out
+pub taken : (left after : List (Line Global)) (turn : Turn) (next_is : IsNextTurn left turn) → after ≡ next_is.rest → left ≡ after ++ next_is.line ∷ []
+taken left after turn next_is is = next_is.order ∙ ap (λ (ls : List (Line Global)). ls ++ next_is.line ∷ []) (sym is)
+
+pub some_left : (left : List (Line Global)) (turn : Turn) → IsNextTurn left turn → 0 < length left
+some_left left turn next_is = let l = length-append next_is.rest (next_is.line ∷ []) in let e = ap length next_is.order in omega arith
+
+-- whose turn it is is named
+pub named_turn : (callers : List Caller) (left : List (Line Global)) (turn : Turn) → IsNextTurn left turn → All (λ line. Contains callers line.by) left → Contains callers turn.by
+named_turn callers left turn next_is all =
+    subst (Contains callers) (sym next_is.by) (last_of (λ (l : Line Global). Contains callers l.by) left next_is.rest next_is.line next_is.order all)
+
+-- those that are left are named
+pub named_left : (lines ran left : List (Line Global)) (callers : List Caller) → ran ++ reverse left ≡ lines → AreCallersOf lines callers → All (λ line. Contains callers line.by) left
+named_left lines ran left callers order crew =
+    All-unreversed (λ (l : Line Global). Contains callers l.by) left
+    (All-second (λ (l : Line Global). Contains callers l.by) ran (reverse left) (subst (All (λ (l : Line Global). Contains callers l.by)) (sym order) crew.named))
 
 pub in_order_first : {L : Type 0} (lines left : List (Line Global)) (tasks : List (Task L)) → reverse left ≡ lines → AreReady lines tasks → IsInOrder lines left tasks
 in_order_first lines left tasks is ready =
@@ -108,35 +118,36 @@ between_ends lines left tasks at none =
     have_run lines tasks at.callers (λ i d h. subst (λ (ls : List (Line Global)). HasRun ls (get_or tasks i d).work.pass) (all_ran lines at.ran left at.order none) (at.run i d h))
 
 -- a phase was run
-pub between_more : {L : Type 0} (lines left rest after : List (Line Global)) (first : Line Global) (old mid new : List (Task L)) (members : ℕ) → (at : IsBetween lines left old) → left ≡ rest ++ first ∷ []
-    → HasHandedOut first rest after old mid → AreIdleFrom members mid → length new ≡ length mid
+pub between_more : {L : Type 0} (lines left after : List (Line Global)) (old mid new : List (Task L)) (members : ℕ) → (at : IsBetween lines left old)
+    → HasHandedOut left after old mid → AreIdleFrom members mid → length new ≡ length mid
     → ((i : ℕ) (d : Task L) → i < members → IsDoneAt (get_or mid i d) (get_or new i d)) → ((i : ℕ) (d : Task L) → members ≤ i → i < length mid → get_or new i d ≡ get_or mid i d)
     → All IsGoing new → IsBetween lines after new
-between_more lines left rest after first old mid new members at is handed idle long done same going =
+between_more lines left after old mid new members at handed idle long done same going =
     record {
-      ran = at.ran ++ first ∷ handed.more;
-      order = append_assoc at.ran (first ∷ handed.more) (reverse after) ∙ ap (λ (ls : List (Line Global)). at.ran ++ first ∷ ls) (sym handed.order)
-          ∙ sym (append_assoc at.ran (first ∷ []) (reverse rest)) ∙ next lines at.ran left rest first at.order is;
+      ran = at.ran ++ handed.first ∷ handed.more;
+      order = append_assoc at.ran (handed.first ∷ handed.more) (reverse after) ∙ ap (λ (ls : List (Line Global)). at.ran ++ ls) (sym handed.order) ∙ at.order;
       callers = subst (AreCallersOf lines) (sym (same_callers mid new members long done same)) (callers_permuted lines _ _ handed.callers at.callers);
       going = going;
-      run = ran_phase mid new members long done same at.ran (first ∷ handed.more) (handed.run at.ran at.run) handed.given idle going;
+      run = ran_phase mid new members long done same at.ran (handed.first ∷ handed.more) (handed.run at.ran at.run) handed.given idle going;
       idle = idle_after mid new members long done same idle going;
     }
 
-pub handed_first : {L : Type 0} (first : Line Global) (left : List (Line Global)) (old new : List (Task L)) → AreIdleFrom 0 old → HasGiven first old new → HasHandedOut first left left old new
-handed_first first left old new idle given =
-    record { more = []; order = refl; callers = given.callers; going = given.going; run = given.run; given = given.given [] (λ i d h. idle i d (omega arith) h) }
+pub handed_first : {L : Type 0} (first : Line Global) (left rest : List (Line Global)) (old new : List (Task L)) → left ≡ rest ++ first ∷ [] → AreIdleFrom 0 old → HasGiven first old new
+    → HasHandedOut left rest old new
+handed_first first left rest old new is idle given =
+    record { first = first; more = []; order = ap reverse is ∙ reverse-append rest (first ∷ []); callers = given.callers; going = given.going; run = given.run; given = given.given [] (λ i d h. idle i d (omega arith) h) }
 
-pub handed_more : {L : Type 0} (first line : Line Global) (all left rest : List (Line Global)) (old mid new : List (Task L)) → (so_far : HasHandedOut first all left old mid) → left ≡ rest ++ line ∷ []
-    → HasGiven line mid new → HasHandedOut first all rest old new
-handed_more first line all left rest old mid new so_far is given =
+pub handed_more : {L : Type 0} (line : Line Global) (all left rest : List (Line Global)) (old mid new : List (Task L)) → (so_far : HasHandedOut all left old mid) → left ≡ rest ++ line ∷ []
+    → HasGiven line mid new → HasHandedOut all rest old new
+handed_more line all left rest old mid new so_far is given =
     record {
+      first = so_far.first;
       more = so_far.more ++ line ∷ [];
-      order = sym (next (reverse all) so_far.more left rest line (sym so_far.order) is);
+      order = sym (next (reverse all) (so_far.first ∷ so_far.more) left rest line (sym so_far.order) is);
       callers = IsPermutation-trans _ _ _ so_far.callers given.callers;
       going = λ all. given.going (so_far.going all);
       run = λ lines all. given.run lines (so_far.run lines all);
-      given = given.given (first ∷ so_far.more) so_far.given;
+      given = given.given (so_far.first ∷ so_far.more) so_far.given;
     }
 
 -- those that are left are named after tasks changed places

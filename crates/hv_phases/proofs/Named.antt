@@ -1,8 +1,9 @@
 -- The processors that lines name, one after the other.
-use Rattle.std.proofs.Common.{ℕ, ◌+◌, ◌<◌, List, [], ◌∷◌, ◌++◌, length, take, get_or, sym, subst}
+use Rattle.std.proofs.Common.{◌≡◌, ℕ, ◌+◌, ◌<◌, List, [], ◌∷◌, ◌++◌, length, take, get_or, inl, inr, Some, sym, ap, ◌∙◌, subst, arith}
 use Rattle.std.specs.Prelude.{All, ◌≢◌}
-use Rattle.std.specs.List.{Contains}
+use Rattle.std.specs.List.{Contains, slice_get}
 use Rattle.std.proofs.lemmas.List.{take_more}
+use Rattle.std.proofs.lemmas.Option.{slice_get_cases}
 use Rattle.std.proofs.lemmas.List.Elements.{All-from_get_or, All-push, Contains-append_left, Contains-push}
 use Rattle.std.proofs.lemmas.List.Kept.{AllPairs-cons}
 use Rattle.std.proofs.lemmas.List.Sorted.{IsPermutation-sym, IsPermutation-to_front}
@@ -26,11 +27,20 @@ pushed by xs absent =
     }
 
 -- one line more is looked at
-pub one_more : (lines : List (Line Global)) (i : ℕ) (d : Line Global) (old new : List Caller) → i < length lines → AreCallersOf (take i lines) old → HasCaller (get_or lines i d).by old new
+one_more_at : (lines : List (Line Global)) (i : ℕ) (d : Line Global) (old new : List Caller) → i < length lines → AreCallersOf (take i lines) old → HasCaller (get_or lines i d).by old new
     → AreCallersOf (take (i + 1) lines) new
-one_more lines i d old new h callers has =
+one_more_at lines i d old new h callers has =
     record {
       different = has.different callers.different;
       named = subst (All (λ (l : Line Global). Contains new l.by)) (sym (take_more lines i d h))
           (All-push (λ (l : Line Global). Contains new l.by) (take i lines) (get_or lines i d) (λ k e lt. has.kept _ (callers.named k e lt)) has.there);
     }
+
+-- the same, by whose turn it is
+pub one_more : (lines : List (Line Global)) (i : ℕ) (by : Caller) (old new : List Caller) → i < length lines → ((line : Line Global) → slice_get lines i ≡ Some line → by ≡ line.by)
+    → AreCallersOf (take i lines) old → HasCaller by old new → AreCallersOf (take (i + 1) lines) new
+one_more lines i by old new h is callers has =
+    elim (slice_get_cases lines i).1 [
+      | inl at ↦ one_more_at lines i at.0 old new h callers (subst (λ (c : Caller). HasCaller c old new) (is at.0 at.2 ∙ ap (λ (l : Line Global). l.by) (sym at.3)) has)
+      | inr past ↦ absurd (omega (arith, past.0))
+    ]

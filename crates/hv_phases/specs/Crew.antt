@@ -39,11 +39,11 @@ HasRun lines pass = AreWhole pass.caller (asked_by pass.caller lines) pass.recei
 -- the task's pass has run these lines, and nothing is left to do, unless the host stopped it
 pub record IsAfter {L : Type 0} (lines : List (Line Global)) (task : Task L) : Type 0 where
   pub run : task.end ≡ Finished → HasRun lines task.work.pass
-  pub idle : task.work.actions.items ≡ []
+  pub idle : task.work.actions ≡ []
 
 -- what is to be done next is what these lines ask for
 abbrev pub IsGiven : {L : Type 0} → List (Line Global) → Task L → Type 0
-IsGiven lines task = task.work.actions.items ≡ asked_by task.work.pass.caller lines
+IsGiven lines task = task.work.actions ≡ asked_by task.work.pass.caller lines
 
 -- the host didn't stop it
 abbrev pub IsGoing : {L : Type 0} → Task L → Type 0
@@ -51,7 +51,7 @@ IsGoing task = task.end ≡ Finished
 
 -- from this place on nothing is to be done
 abbrev pub AreIdleFrom : {L : Type 0} → ℕ → List (Task L) → Type 0
-AreIdleFrom {L} members tasks = (i : ℕ) (d : Task L) → members ≤ i → i < length tasks → (slice_index_or tasks i d).work.actions.items ≡ []
+AreIdleFrom {L} members tasks = (i : ℕ) (d : Task L) → members ≤ i → i < length tasks → (slice_index_or tasks i d).work.actions ≡ []
 
 -- the host stopped none from this place on
 abbrev pub AreGoingFrom : {L : Type 0} → ℕ → List (Task L) → Type 0
@@ -76,10 +76,11 @@ pub record HasGiven {L : Type 0} (line : Line Global) (old new : List (Task L)) 
   pub run : (lines : List (Line Global)) → All (λ task. HasRun lines task.work.pass) old → All (λ task. HasRun lines task.work.pass) new
   pub given : (taken : List (Line Global)) → All (IsGiven taken) old → All (IsGiven (taken ++ line ∷ [])) new
 
--- the first lines of those that were left are to be done next; `left` has the first line last
-pub record HasHandedOut {L : Type 0} (first : Line Global) (left_old left_new : List (Line Global)) (old new : List (Task L)) : Type 0 where
+-- the first lines of those that were left, one at least, are to be done next; `left` has the first line last
+pub record HasHandedOut {L : Type 0} (left_old left_new : List (Line Global)) (old new : List (Task L)) : Type 0 where
+  pub first : Line Global
   pub more : List (Line Global)
-  pub order : reverse left_old ≡ more ++ reverse left_new
+  pub order : reverse left_old ≡ first ∷ more ++ reverse left_new
   pub callers : IsPermutation (callers_in old) (callers_in new)
   pub going : All IsGoing old → All IsGoing new
   pub run : (lines : List (Line Global)) → All (λ task. HasRun lines task.work.pass) old → All (λ task. HasRun lines task.work.pass) new

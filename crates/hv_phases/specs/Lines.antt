@@ -1,10 +1,11 @@
 -- What the lines of a script come to.
-use Rattle.std.specs.Prelude.{List, map, filter}
+use Rattle.std.specs.Prelude.{◌≡◌, List, [], ◌∷◌, ◌++◌, map, filter}
 use Rattle.std.specs.declared.alloc.Global.{Global}
 use Rattle.hv_history.specs.declared.entry.Entry.{Entry}
 use Rattle.hv_policy.specs.declared.event.Action.{Action}
 use Rattle.hv_policy.specs.declared.event.Caller.{Caller}
 use Rattle.hv_script.specs.declared.line.Line.{Line}
+use Rattle.hv_script.specs.declared.lines.Turn.{Turn}
 use Rattle.hv_shared.specs.ByCaller.{is_caller, receipts_by}
 use Rattle.hv_shared.specs.Perform.{AreWhole}
 
@@ -16,3 +17,10 @@ asked_by by lines = map (λ line. line.action) (filter (λ line. is_caller by li
 -- one that no line names did nothing
 abbrev pub AreRun : List (Line Global) → List (Entry Global) → Type 0
 AreRun lines history = (by : Caller) → AreWhole by (asked_by by lines) (receipts_by by 1 history)
+
+-- whose line is the next of those that are left, of which the first is the last
+pub record IsNextTurn (left : List (Line Global)) (turn : Turn) : Type 0 where
+  pub rest : List (Line Global)
+  pub line : Line Global
+  pub order : left ≡ rest ++ line ∷ []
+  pub by : turn.by ≡ line.by

@@ -6,17 +6,17 @@ ghost use Rattle.hv_phases.specs.Places.{IsIndexOf};
 
 use crate::places::{Places, note, place_in};
 use hv_policy::Caller;
-use hv_script::Line;
+use hv_script::Lines;
 use std::alloc::{AllocError, Global};
 
 /// The processors that lines name, each once, in the order of their first lines.
-pub fn callers_of(alloc: Global, lines: &[Line<Global>]) -> Result<Vec<Caller>, AllocError>
+pub fn callers_of(alloc: Global, lines: &Lines<Global>) -> Result<Vec<Caller>, AllocError>
     ensures { IfOk result (λ callers. AreCallersOf lines.now callers.items) }
 {
     let mut callers = Vec::new(alloc);
     let mut places = Places::new(alloc);
     for i in 0..lines.len() {
-        add(&mut callers, &mut places, lines[i].by)?;
+        add(&mut callers, &mut places, lines.turn(i).by)?;
     }
     Ok(callers)
 }

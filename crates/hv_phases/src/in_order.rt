@@ -1,22 +1,25 @@
 // The lines of a script in its order, with no thread.
-ghost use Rattle.std.specs.Prelude.{◌≡◌, ◌≢◌, ◌≤◌, ◌<◌, ◌++◌, ◌∷◌, [], ℕ, List, All, IfNone, IfOk, length};
+ghost use Rattle.std.specs.Prelude.{◌≡◌, ◌≢◌, ◌≤◌, ◌<◌, ◌++◌, ◌∷◌, [], ℕ, List, All, IfErr, IfNone, IfOk};
+ghost use Rattle.std.specs.Prelude.{length};
 ghost use Rattle.std.specs.List.{Contains};
 ghost use Rattle.std.specs.List.Sorted.{IsPermutation};
 ghost use Rattle.std.specs.declared.alloc.Global.{Global};
+ghost use Rattle.hv_policy.specs.declared.event.Action.{Action};
+ghost use Rattle.hv_machine.specs.declared.machine.HostRefused.{HostRefused};
 ghost use Rattle.hv_phases.specs.Crew.{AreGoingFrom, AreReady, HaveRun, IsAfter, callers_in, passes_in};
 ghost use Rattle.hv_phases.specs.Places.{Tells};
 ghost use Rattle.hv_script.specs.declared.line.Line.{Line};
 ghost use Rattle.hv_shared.specs.ByCaller.{AreDifferent};
 ghost use Rattle.hv_shared.specs.Perform.{HasPerformed};
-ghost use Rattle.hv_threads.specs.declared.phase.End.TheVariants.{Finished};
+ghost use Rattle.hv_threads.specs.declared.phase.End.TheVariants.{Finished, Host};
 
 use crate::places::Places;
 use crate::tasks::{enlist, first_stop};
 use hv_history::HostRefused;
 use hv_policy::{Action, Caller};
-use hv_script::Line;
+use hv_script::Lines;
 use hv_threads::{End, Gate, Shared, Task, perform};
-use std::alloc::Global;
+use std::alloc::{AllocError, Global};
 use std::sync::Wait;
 use std::sync::ledger::Ledger;
 
@@ -30,24 +33,26 @@ pub fn run_in_order<L: Ledger, R: Wait, G: Gate>(
     callers: &[Caller],
     tasks: &mut [Task<L>],
     places: &mut Places,
-    lines: Vec<Line<Global>>,
+    lines: Lines<Global>,
 ) -> Option<HostRefused>
-    requires ready { AreReady lines.items tasks.old }
+    requires ready { AreReady lines tasks.old }
     requires index { Tells places.old (callers_in tasks.old) }
-    ensures { IfNone result (HaveRun lines.items (passes_in tasks.new)) }
+    ensures { IfNone result (HaveRun lines (passes_in tasks.new)) }
 {
     let mut left = lines;
     left.reverse();
     let mut phase = 0;
     let mut members = 0;
-    while let Some(line) = left.pop() {
-        let is_same = line.phase == phase;
-        phase = line.phase;
-        match members_of(tasks, callers, members, is_same) {
-            Ok(so_far) => members = run_line(rt, gate, shared, tasks, places, so_far, line),
+    while let Some(turn) = left.last() {
+        let is_same = turn.phase == phase;
+        phase = turn.phase;
+        let so_far = match members_of(tasks, callers, members, is_same) {
+            Ok(so_far) => so_far,
             Err(why) => return Some(why),
-        }
-        shrink(&mut left);
+        };
+        let action = left.take_last();
+        members = run_line(rt, gate, shared, tasks, places, so_far, turn.by, action);
+        left.give_back();
     }
     first_stop(&tasks[..members], callers)
 }
@@ -73,7 +78,8 @@ fn members_of<L: Ledger>(
     }
 }
 
-// Runs a line, and tells how many of the first tasks had one in its phase.
+// Runs a processor's line, and tells how many of the first tasks had one in its phase. It asks for this
+// action, or there was no memory to take that out.
 fn run_line<L: Ledger, R: Wait, G: Gate>(
     rt: &R,
     gate: &G,
@@ -81,10 +87,11 @@ fn run_line<L: Ledger, R: Wait, G: Gate>(
     tasks: &mut [Task<L>],
     places: &mut Places,
     members: usize,
-    line: Line<Global>,
+    by: Caller,
+    action: Result<Action<Global>, AllocError>,
 ) -> usize
     requires different { AreDifferent (callers_in tasks.old) }
-    requires named { Contains (callers_in tasks.old) line.by }
+    requires named { Contains (callers_in tasks.old) by }
     requires index { Tells places.old (callers_in tasks.old) }
     requires within { members ≤ length tasks.old }
     requires going { AreGoingFrom members tasks.old }
@@ -92,47 +99,39 @@ fn run_line<L: Ledger, R: Wait, G: Gate>(
     ensures going { AreGoingFrom result tasks.new }
     ensures index { Tells places.new (callers_in tasks.new) }
     ensures callers { IsPermutation (callers_in tasks.old) (callers_in tasks.new) }
-    ensures run { (ran : List (Line Global)) → All (IsAfter ran) tasks.old
+    ensures run { (ran : List (Line Global)) (line : Line Global) → by ≡ line.by
+        → IfOk action (λ action. action ≡ line.action) → All (IsAfter ran) tasks.old
         → All (IsAfter (ran ++ line ∷ [])) tasks.new }
 {
-    let Line { by, action, .. } = line;
     let place = enlist(tasks, places, members, by);
     do_next(rt, gate, shared, &mut tasks[place], action);
     if place < members { members } else { place + 1 }
 }
 
-// Lets a task's processor do one thing, unless it was stopped. Where the host refuses an event of it, it is
-// stopped.
+// Lets a task's processor do one thing, unless it was stopped. Where the host refuses an event of it, or
+// had no memory to take the action out, it is stopped.
 fn do_next<L: Ledger, R: Wait, G: Gate>(
     rt: &R,
     gate: &G,
     shared: &Shared<L>,
     task: &mut Task<L>,
-    action: Action<Global>,
+    action: Result<Action<Global>, AllocError>,
 )
-    ensures done { task.new.end ≡ Finished → (task.old.end ≡ Finished)
-        × HasPerformed action task.old.work.pass task.new.work.pass }
+    ensures done { (what : Action Global) → IfOk action (λ action. action ≡ what) → task.new.end ≡ Finished
+        → (task.old.end ≡ Finished) × HasPerformed what task.old.work.pass task.new.work.pass }
+    ensures memory { IfErr action (λ _. task.old.end ≡ Finished → task.new.end ≡ Host HostRefused.Memory) }
     ensures caller { task.new.work.pass.caller ≡ task.old.work.pass.caller }
-    ensures actions { task.new.work.actions.items ≡ task.old.work.actions.items }
+    ensures actions { task.new.work.actions ≡ task.old.work.actions }
     ensures stopped { task.old.end ≢ Finished → task.new ≡ task.old }
 {
     if task.end != End::Finished {
         return;
     }
+    let Ok(action) = action else {
+        task.end = End::Host(HostRefused::Memory);
+        return;
+    };
     if let Err(why) = perform(rt, shared, gate, &mut task.work.pass, action) {
         task.end = End::Host(why);
     }
 }
-
-// Gives back the memory of lines that were run, once they are an eighth of all.
-fn shrink(left: &mut Vec<Line<Global>>)
-    ensures { left.new.items ≡ left.old.items }
-{
-    let free = left.capacity() - left.len();
-    if free > LEAST_FREE && free > left.capacity() / 8 {
-        left.shrink_to_fit();
-    }
-}
-
-// So many lines' memory isn't worth giving back.
-const LEAST_FREE: usize = 1024;

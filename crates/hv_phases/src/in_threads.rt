@@ -1,10 +1,13 @@
 // The phases of a script, each processor of a phase in a thread of its own.
-ghost use Rattle.std.specs.Prelude.{◌≡◌, ◌≤◌, ◌<◌, ◌++◌, ◌∷◌, [], ℕ, All, IfNone, IfOk, IsTrue, OnOk};
+ghost use Rattle.std.specs.Prelude.{◌≡◌, ◌≤◌, ◌<◌, ◌++◌, ◌∷◌, [], ℕ, All, IfNone, IfOk, IfSome, OnOk};
 ghost use Rattle.std.specs.Prelude.{length, slice_index_or};
 ghost use Rattle.std.specs.List.{Contains};
+ghost use Rattle.std.specs.declared.alloc.Global.{Global};
 ghost use Rattle.hv_phases.specs.Crew.{AreCallersOf, AreIdleFrom, AreReady, HasGiven, HasHandedOut, HaveRun};
 ghost use Rattle.hv_phases.specs.Crew.{callers_in, passes_in};
+ghost use Rattle.hv_phases.specs.Lines.{IsNextTurn};
 ghost use Rattle.hv_phases.specs.Places.{Tells};
+ghost use Rattle.hv_script.specs.declared.line.Line.{Line};
 ghost use Rattle.hv_shared.specs.ByCaller.{AreDifferent};
 ghost use Rattle.hv_threads.specs.Phase.{IsDoneAt};
 ghost use Rattle.hv_threads.specs.declared.phase.Task.{Task};
@@ -13,7 +16,7 @@ use crate::places::Places;
 use crate::tasks::{enlist, first_stop};
 use hv_history::HostRefused;
 use hv_policy::{Action, Caller};
-use hv_script::Line;
+use hv_script::{Lines, Turn};
 use hv_threads::{Gate, Shared, Task, run_tasks};
 use std::alloc::{AllocError, Global};
 use std::sync::Wait;
@@ -30,15 +33,15 @@ pub fn run_in_threads<L: Ledger + Send + Sync, R: Threads + Wait + Sync, G: Gate
     callers: &[Caller],
     tasks: &mut [Task<L>],
     places: &mut Places,
-    lines: Vec<Line<Global>>,
+    lines: Lines<Global>,
 ) -> Option<HostRefused>
-    requires ready { AreReady lines.items tasks.old }
+    requires ready { AreReady lines tasks.old }
     requires index { Tells places.old (callers_in tasks.old) }
-    ensures { IfNone result (HaveRun lines.items (passes_in tasks.new)) }
+    ensures { IfNone result (HaveRun lines (passes_in tasks.new)) }
 {
     let mut left = lines;
     left.reverse();
-    while let Some(first) = left.pop() {
+    while let Some(first) = left.last() {
         let Ok(members) = hand_out(tasks, places, &mut left, first) else {
             return Some(HostRefused::Memory);
         };
@@ -55,56 +58,62 @@ pub fn run_in_threads<L: Ledger + Send + Sync, R: Threads + Wait + Sync, G: Gate
 fn hand_out<L: Ledger>(
     tasks: &mut [Task<L>],
     places: &mut Places,
-    left: &mut Vec<Line<Global>>,
-    first: Line<Global>,
+    left: &mut Lines<Global>,
+    first: Turn,
 ) -> Result<usize, AllocError>
     requires different { AreDifferent (callers_in tasks.old) }
-    requires first { Contains (callers_in tasks.old) first.by }
-    requires named { All (λ line. Contains (callers_in tasks.old) line.by) left.old.items }
+    requires first { IsNextTurn left.old first }
+    requires named { All (λ line. Contains (callers_in tasks.old) line.by) left.old }
     requires idle { AreIdleFrom 0 tasks.old }
     requires index { Tells places.old (callers_in tasks.old) }
     ensures index { OnOk result (Tells places.new (callers_in tasks.new)) }
-    ensures handed_out { OnOk result (HasHandedOut first left.old.items left.new.items tasks.old tasks.new) }
+    ensures handed_out { OnOk result (HasHandedOut left.old left.new tasks.old tasks.new) }
     ensures idle { IfOk result (λ members. (members ≤ length tasks.new) × AreIdleFrom members tasks.new) }
 {
-    let phase = first.phase;
-    let mut members = give(tasks, places, 0, first)?;
-    while is_next_of(left, phase) {
-        let Some(line) = left.pop() else {
-            unreachable!()
-        };
-        members = give(tasks, places, members, line)?;
+    let action = left.take_last()?;
+    let mut members = give(tasks, places, 0, first.by, action)?;
+    while let Some(turn) = next_of(left, first.phase) {
+        let action = left.take_last()?;
+        members = give(tasks, places, members, turn.by, action)?;
     }
     Ok(members)
 }
 
-// Whether there is a next line and it is of this phase.
-fn is_next_of(left: &Vec<Line<Global>>, phase: u32) -> bool
-    ensures { IsTrue result → 0 < length left.now.items }
+// Whose the next line is, if there is one and it is of this phase.
+fn next_of(left: &Lines<Global>, phase: u32) -> Option<Turn>
+    ensures { IfSome result (λ turn. IsNextTurn left.now turn) }
 {
     match left.last() {
-        Some(line) => line.phase == phase,
-        None => false,
+        Some(turn) => {
+            if turn.phase == phase {
+                Some(turn)
+            } else {
+                None
+            }
+        }
+        None => None,
     }
 }
 
-// Hands a line to the task of its processor, and tells how many of the first tasks have something to do.
+// Hands what a processor's line asks for to its task, and tells how many of the first tasks have something
+// to do.
 fn give<L: Ledger>(
     tasks: &mut [Task<L>],
     places: &mut Places,
     members: usize,
-    line: Line<Global>,
+    by: Caller,
+    action: Action<Global>,
 ) -> Result<usize, AllocError>
     requires different { AreDifferent (callers_in tasks.old) }
-    requires named { Contains (callers_in tasks.old) line.by }
+    requires named { Contains (callers_in tasks.old) by }
     requires within { members ≤ length tasks.old }
     requires idle { AreIdleFrom members tasks.old }
     requires index { Tells places.old (callers_in tasks.old) }
     ensures index { OnOk result (Tells places.new (callers_in tasks.new)) }
-    ensures given { OnOk result (HasGiven line tasks.old tasks.new) }
+    ensures given { OnOk result ((line : Line Global) → by ≡ line.by → action ≡ line.action
+        → HasGiven line tasks.old tasks.new) }
     ensures idle { IfOk result (λ members. (members ≤ length tasks.new) × AreIdleFrom members tasks.new) }
 {
-    let Line { by, action, .. } = line;
     let place = enlist(tasks, places, members, by);
     push_action(&mut tasks[place], action)?;
     if place < members {
@@ -116,11 +125,11 @@ fn give<L: Ledger>(
 
 // One action more is to be done.
 fn push_action<L: Ledger>(task: &mut Task<L>, action: Action<Global>) -> Result<(), AllocError>
-    ensures action { OnOk result (task.new.work.actions.items ≡ task.old.work.actions.items ++ action ∷ []) }
+    ensures action { OnOk result (task.new.work.actions ≡ task.old.work.actions ++ action ∷ []) }
     ensures pass { task.new.work.pass ≡ task.old.work.pass }
     ensures end { task.new.end ≡ task.old.end }
 {
-    task.work.actions.push(action)?;
+    task.work.actions.push(&action)?;
     Ok(())
 }
 

@@ -11,7 +11,7 @@ use crate::in_threads::run_in_threads;
 use crate::tasks::{give_back, places_of, tasks_of};
 use hv_history::{HostRefused, Kept};
 use hv_policy::Caller;
-use hv_script::Line;
+use hv_script::Lines;
 use hv_threads::{Gate, Pass, SettleFault, Shared, Task, settle};
 use std::alloc::Global;
 use std::marker::Brand;
@@ -36,15 +36,15 @@ pub fn run_lines<R: Threads + Wait + Sync, G: Gate>(
     rt: &R,
     gate: &G,
     kept: Kept<Global>,
-    lines: Vec<Line<Global>>,
+    lines: Lines<Global>,
     serial: bool,
 ) -> (Kept<Global>, Option<Unfinished>)
     requires empty { kept.history ≡ [] }
     ensures config { IfNone result.1 (result.0.config ≡ kept.config) }
     ensures limit { IfNone result.1 (result.0.limit ≡ kept.limit) }
-    ensures lines { IfNone result.1 (AreRun lines.items result.0.history) }
+    ensures lines { IfNone result.1 (AreRun lines result.0.history) }
 {
-    let Ok(callers) = callers_of(*lines.allocator(), lines.as_slice()) else {
+    let Ok(callers) = callers_of(*lines.allocator(), &lines) else {
         return (kept, Some(Unfinished::Host(HostRefused::Memory)));
     };
     if callers.is_empty() {
@@ -61,16 +61,16 @@ fn run_under<L: Ledger + Send + Sync, R: Threads + Wait + Sync, G: Gate>(
     kept: Kept<Global>,
     blank: Blank,
     callers: Vec<Caller>,
-    lines: Vec<Line<Global>>,
+    lines: Lines<Global>,
     serial: bool,
 ) -> (Kept<Global>, Option<Unfinished>)
     requires empty { kept.history ≡ [] }
     requires some { 0 < vec_len callers }
     requires ledger { (blank.name ≡ L.name) × (blank.parts ≡ L.parts) × (blank.parts ≡ vec_len callers) }
-    requires callers { AreCallersOf lines.items callers.items }
+    requires callers { AreCallersOf lines callers.items }
     ensures config { IfNone result.1 (result.0.config ≡ kept.config) }
     ensures limit { IfNone result.1 (result.0.limit ≡ kept.limit) }
-    ensures lines { IfNone result.1 (AreRun lines.items result.0.history) }
+    ensures lines { IfNone result.1 (AreRun lines result.0.history) }
 {
     let Ok(order) = callers.clone() else {
         return (kept, Some(Unfinished::Host(HostRefused::Memory)));
@@ -120,12 +120,12 @@ fn run_on<L: Ledger + Send + Sync, R: Threads + Wait + Sync, G: Gate>(
     shared: &Shared<L>,
     callers: &[Caller],
     passes: &mut Vec<Pass<L>>,
-    lines: Vec<Line<Global>>,
+    lines: Lines<Global>,
     serial: bool,
 ) -> Option<HostRefused>
-    requires callers { AreCallersOf lines.items (map (λ pass. pass.caller) passes.old.items) }
+    requires callers { AreCallersOf lines (map (λ pass. pass.caller) passes.old.items) }
     requires fresh { All (λ pass. pass.receipts ≡ []) passes.old.items }
-    ensures { IfNone result (HaveRun lines.items passes.new.items) }
+    ensures { IfNone result (HaveRun lines passes.new.items) }
 {
     let Ok(mut tasks) = tasks_of(passes) else {
         return Some(HostRefused::Memory);
@@ -150,11 +150,11 @@ fn run_either<L: Ledger + Send + Sync, R: Threads + Wait + Sync, G: Gate>(
     shared: &Shared<L>,
     callers: &[Caller],
     tasks: &mut [Task<L>],
-    lines: Vec<Line<Global>>,
+    lines: Lines<Global>,
     serial: bool,
 ) -> Option<HostRefused>
-    requires { AreReady lines.items tasks.old }
-    ensures { IfNone result (HaveRun lines.items (passes_in tasks.new)) }
+    requires { AreReady lines tasks.old }
+    ensures { IfNone result (HaveRun lines (passes_in tasks.new)) }
 {
     let Ok(mut places) = places_of(*lines.allocator(), tasks) else {
         return Some(HostRefused::Memory);

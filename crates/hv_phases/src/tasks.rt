@@ -13,6 +13,7 @@ ghost use Rattle.hv_threads.specs.declared.phase.End.TheVariants.{Host};
 ghost use Rattle.hv_threads.specs.declared.phase.Task.{Task};
 
 use crate::places::{Places, note, place_in};
+use hv_actions::Actions;
 use hv_history::HostRefused;
 use hv_policy::Caller;
 use hv_threads::{End, Pass, Task, Work};
@@ -33,7 +34,7 @@ pub fn tasks_of<L: Ledger>(passes: &mut Vec<Pass<L>>) -> Result<Vec<Task<L>>, Al
     while let Some(pass) = passes.pop() {
         let work = Work {
             pass,
-            actions: Vec::new(alloc),
+            actions: Actions::empty(alloc),
         };
         tasks.push_reserved(Task {
             work,
@@ -199,7 +200,7 @@ pub fn enlist<L: Ledger>(
     ensures there { (result ≤ members) × (result < length tasks.new) }
     ensures by { (d : Task L) → (slice_index_or tasks.new result d).work.pass.caller ≡ by }
     ensures idle { AreIdleFrom members tasks.old → (i : ℕ) (d : Task L) → members ≤ i → result < i
-        → i < length tasks.new → (slice_index_or tasks.new i d).work.actions.items ≡ [] }
+        → i < length tasks.new → (slice_index_or tasks.new i d).work.actions ≡ [] }
     ensures going { AreGoingFrom members tasks.old → (i : ℕ) (d : Task L) → members ≤ i → result < i
         → i < length tasks.new → IsGoing (slice_index_or tasks.new i d) }
 {

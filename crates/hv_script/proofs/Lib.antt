@@ -3,6 +3,7 @@ mod BitLemmas
 mod CutLemmas
 mod FrontLemmas
 mod LaneLemmas
+mod LineLemmas
 mod NumberLemmas
 mod SpaceLemmas
 mod WordLemmas

@@ -14,6 +14,7 @@ mod fault;
 mod fields;
 mod front;
 mod line;
+mod lines;
 mod number;
 mod reading;
 mod script;
@@ -21,5 +22,6 @@ mod verb;
 
 pub use fault::{FaultKind, ScriptFault};
 pub use line::Line;
+pub use lines::{Lines, Turn};
 pub use reading::MOST_PROCESSORS;
 pub use script::{MOST_BYTES, Script, parse};

@@ -6,7 +6,8 @@ use crate::boot::{Boot, read_boot};
 use crate::cut::{CutLine, next_line};
 use crate::fault::FaultKind;
 use crate::front::asked_line;
-use crate::line::{Line, action, processor};
+use crate::line::{action, processor};
+use crate::lines::Lines;
 use hv_policy::{Action, Caller};
 use std::alloc::Allocator;
 
@@ -21,11 +22,11 @@ pub struct Reading<A: Allocator> {
     pub(crate) phase: u32,
     /// The processors of the phase.
     pub(crate) callers: Vec<Caller, A>,
-    // Where among them that of the last line stands, since processors mostly take turns.
+    // Where among them that of the last line stands, since a processor mostly goes on, or they take turns.
     last: usize,
-    pub(crate) lines: Vec<Line<A>, A>,
-    ghost named: { callers.items ≡ callers_of phase lines.items },
-    ghost phases: { All (λ line. line.phase ≤ phase) lines.items },
+    pub(crate) lines: Lines<A>,
+    ghost named: { callers.items ≡ callers_of phase lines },
+    ghost phases: { All (λ line. line.phase ≤ phase) lines },
 }
 
 impl<A: Allocator + Clone> Reading<A> {
@@ -55,7 +56,7 @@ impl<A: Allocator + Clone> Reading<A> {
     {
         if let Some(reading) = reading {
             if let Some((by, action, rest)) = asked_line(alloc, text)? {
-                reading.take_line(by, action)?;
+                reading.take_line(by, &action)?;
                 return Ok(Some(rest));
             }
         }
@@ -98,13 +99,13 @@ impl<A: Allocator + Clone> Reading<A> {
         }
         let boot = read_boot(line)?;
         let callers = alloc.clone().map_err(|_| FaultKind::Memory)?;
-        let lines = alloc.clone().map_err(|_| FaultKind::Memory)?;
+        let lines = Lines::new(alloc).map_err(|_| FaultKind::Memory)?;
         Ok(Reading {
             boot,
             phase: 0,
             callers: Vec::new(callers),
             last: 0,
-            lines: Vec::new(lines),
+            lines,
         })
     }
 
@@ -150,13 +151,13 @@ impl<A: Allocator + Clone> Reading<A> {
     {
         let by = processor(line.word(0))?;
         let action = action(alloc, line)?;
-        self.take_line(by, action)
+        self.take_line(by, &action)
     }
 
     // Takes a line of a processor, if the phase has room for it.
     #[inline(always)]
-    fn take_line(&mut self, by: Caller, action: Action<A>) -> Result<(), FaultKind>
-        ensures read { IsRead result (λ _. so_far self.new) (taken (so_far self.old) by action) }
+    fn take_line(&mut self, by: Caller, action: &Action<A>) -> Result<(), FaultKind>
+        ensures read { IsRead result (λ _. so_far self.new) (taken (so_far self.old) by action.now) }
         ensures phase { self.new.phase ≡ self.old.phase }
     {
         let is_new = !self.names(by);
@@ -177,31 +178,34 @@ impl<A: Allocator + Clone> Reading<A> {
     }
 
     // Adds a line of a processor, which is new in the phase or not.
-    fn add_line(&mut self, is_new: bool, by: Caller, action: Action<A>) -> Result<(), FaultKind>
+    #[inline(always)]
+    fn add_line(&mut self, is_new: bool, by: Caller, action: &Action<A>) -> Result<(), FaultKind>
         requires { is_new ≡ not (is_among self.old.callers.items by) }
-        ensures read { IsRead result (λ _. so_far self.new) (Ok (with_line (so_far self.old) by action)) }
+        ensures read { IsRead result (λ _. so_far self.new) (Ok (with_line (so_far self.old) by
+            action.now)) }
         ensures phase { self.new.phase ≡ self.old.phase }
     {
-        // With the line's room made first, nothing fails after the processor is added.
-        self.lines.reserve(1).map_err(|_| FaultKind::Memory)?;
+        // With the processor's room made first, nothing fails after the line is added.
+        self.callers.reserve(1).map_err(|_| FaultKind::Memory)?;
+        self.lines
+            .push(self.phase, by, action)
+            .map_err(|_| FaultKind::Memory)?;
         if is_new {
-            self.callers.push(by).map_err(|_| FaultKind::Memory)?;
+            self.callers.push_reserved(by);
         }
-        self.lines.push_reserved(Line {
-            phase: self.phase,
-            by,
-            action,
-        });
         Ok(())
     }
 }
 
 // Where a processor stands among others, or how many they are where it is none of them. It is looked for
-// first behind this place, or at the front where that is the last.
+// first at this place, then behind it, or at the front where that is the last.
 #[tactic(auto, using(std::proofs::lemmas::List::Folds::list_any_at))]
 fn place_after(callers: &[Caller], last: usize, by: Caller) -> usize
     ensures { nat_lt result (length callers.now) ≡ is_among callers.now by }
 {
+    if last < callers.len() && callers[last] == by {
+        return last;
+    }
     let next = last.wrapping_add(1);
     let next = if next < callers.len() { next } else { 0 };
     if next < callers.len() && callers[next] == by {

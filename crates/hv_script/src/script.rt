@@ -6,7 +6,7 @@ ghost use Rattle.hv_script.specs.Words.{lines_of};
 ghost use Rattle.hv_script.specs.declared.script.TheConstants.{MOST_BYTES as MOST};
 
 use crate::fault::{FaultKind, ScriptFault};
-use crate::line::Line;
+use crate::lines::Lines;
 use crate::reading::Reading;
 use hv_policy::Config;
 use std::alloc::Allocator;
@@ -22,7 +22,7 @@ pub struct Script<A: Allocator> {
     /// The most events that the history keeps.
     pub limit: u32,
     /// The lines of its processors, in the text's order.
-    pub lines: Vec<Line<A>, A>,
+    pub lines: Lines<A>,
 }
 
 /// Reads a script, or finds its first fault: the first line with a fault decides, and in a line the

@@ -35,13 +35,13 @@ pub record IsAccount (by : Caller) (actions : List (Action Global)) (done : ℕ)
 -- the pass has the receipts more of what its thread did
 pub record IsDone {L : Type 0} (work : Work L) (pass : PassValue) (done : ℕ) (end : End) : Type 0 where
   pub more : List Receipt
-  pub account : IsAccount work.pass.caller work.actions.items done end more
+  pub account : IsAccount work.pass.caller work.actions done end more
   pub gained : HasReceipts more work.pass pass
 
 -- what a task holds after its thread; nothing is left of it unless the host stopped it
 pub record IsDoneAt {L : Type 0} (old new : Task L) : Type 0 where
   pub done : IsDone old.work new.work.pass new.done new.end
-  pub idle : new.end ≡ Finished → new.work.actions.items ≡ []
+  pub idle : new.end ≡ Finished → new.work.actions ≡ []
 
 abbrev pub done_of : {L : Type 0} → Task L → Done L
 done_of task = record { pass = task.work.pass; done = task.done; end = task.end }

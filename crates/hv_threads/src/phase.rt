@@ -4,8 +4,8 @@ ghost use Rattle.std.specs.Prelude.{vec_len, vec_capacity, slice_index_or, map, 
 ghost use Rattle.hv_threads.specs.Phase.{IsDoneAt, EachDone, done_of};
 ghost use Rattle.hv_threads.specs.declared.phase.Task.{Task};
 
+use hv_actions::Actions;
 use hv_history::HostRefused;
-use hv_policy::Action;
 use hv_shared::{Gate, Pass, Shared, perform};
 use std::alloc::Global;
 use std::sync::Wait;
@@ -17,7 +17,7 @@ use std::thread::Threads;
 #[derive(Drop)]
 pub struct Work<L: Ledger> {
     pub pass: Pass<L>,
-    pub actions: Vec<Action<Global>>,
+    pub actions: Actions<Global>,
 }
 
 /// How a thread's work ended.
@@ -25,7 +25,7 @@ pub struct Work<L: Ledger> {
 pub enum End {
     /// Every action came to its end.
     Finished,
-    /// The host refused an event.
+    /// The host refused an event, or had no memory to take out an action.
     Host(HostRefused),
 }
 
@@ -53,7 +53,7 @@ pub struct Task<L: Ledger> {
     pub end: End,
 }
 
-// Does the actions in order, up to the first that the host refuses.
+// Does the actions in order, up to the first that the host refuses or that can't be taken out.
 fn run_work<L: Ledger, R: Wait, G: Gate>(rt: &R, shared: &Shared<L>, gate: &G, task: &mut Task<L>)
     ensures { IsDoneAt task.old task.new }
 {
@@ -62,9 +62,13 @@ fn run_work<L: Ledger, R: Wait, G: Gate>(rt: &R, shared: &Shared<L>, gate: &G, t
     *done = 0;
     *end = End::Finished;
     actions.reverse();
-    while let Some(action) = actions.pop() {
+    for at in 0..actions.len() {
+        let Ok(action) = actions.take_last() else {
+            *end = End::Host(HostRefused::Memory);
+            return;
+        };
         match perform(rt, shared, gate, pass, action) {
-            Ok(()) => *done += 1,
+            Ok(()) => *done = at as u64 + 1,
             Err(why) => {
                 *end = End::Host(why);
                 return;

@@ -1,9 +1,10 @@
 // Input values with each of their bits changed, as `check` and `decode` answer them.
 
-use crate::hostile::frame;
+use crate::calls::{BY_0, Call, frame};
 use hv_abi::{AbiFault, Frame};
 use hv_calls::{Malformed, decode};
-use std::alloc::Global;
+use std::alloc::{AllocError, Global};
+use std::process::Abort;
 use std::test::Fail;
 
 // An input value, RDX, and what is answered where a bit is changed, by the bit from the lowest on: a call
@@ -62,13 +63,25 @@ fn letter_of(frame: &Frame<Global>) -> u8 {
     }
 }
 
+fn assert_bits(
+    rt: &impl Abort,
+    alloc: Global,
+    value: u64,
+    rdx: u64,
+    wanted: &str,
+) -> Result<(), AllocError> {
+    for (bit, letter) in wanted.bytes().enumerate() {
+        let rcx = value ^ 1 << (bit % 64);
+        let told = letter_of(&frame(alloc, Call { rcx, rdx, ..BY_0 })?);
+        assert!(rt; told == letter, "{value:#x}, bit {bit}");
+    }
+    Ok(())
+}
+
 #[test]
 fn changed_bits_are_told(rt: HostRuntime) -> Result<(), Fail> {
-    for (rcx, rdx, wanted) in VALUES {
-        for (bit, letter) in wanted.bytes().enumerate() {
-            let frame = frame(rt.alloc(), rcx ^ 1 << (bit % 64), rdx, &[])?;
-            assert_eq!(rt; letter_of(&frame), letter, "{rcx:#x}, bit {bit}");
-        }
+    for (rcx, rdx, wanted) in VALUES.iter() {
+        assert_bits(&rt, rt.alloc(), *rcx, *rdx, wanted)?;
     }
     Ok(())
 }

@@ -1,13 +1,10 @@
 // Hostile frames: inputs cut short, and input values with a bit flipped. Each is answered, and a refusal
 // names a rule that the call is asked.
 
-ghost use Rattle.std.specs.Prelude.{◌≤◌};
-
-use hv_abi::{Bytes, CallKind, Frame};
+use crate::calls::{BY_0, Call, Told, answer, frame};
+use hv_abi::{CallKind, Frame};
 use hv_calls::{Malformed, decode};
-use hv_machine::{Action, Caller, Config, Event, Machine, Reply, result_of};
-use hv_privs::Privileges;
-use std::alloc::Global;
+use std::alloc::{AllocError, Global};
 use std::process::Abort;
 use std::test::Fail;
 
@@ -107,150 +104,52 @@ const FURTHER: [(u64, &[u8]); 21] = [
 
 // Whether a call with this input value is asked the rule of this number.
 fn is_asked(rcx: u64, number: u8) -> bool {
-    for (code, further) in FURTHER {
-        if rcx & 0xffff == code {
+    for (code, further) in FURTHER.iter() {
+        if rcx & 0xffff == *code {
             return number <= 10 || further.contains(&number);
         }
     }
     number <= 4
 }
 
-pub(crate) fn boot(alloc: Global) -> Result<Machine<Global>, Fail> {
-    let config = Config {
-        pages: 32,
-        pool: 12,
-        vps: 1,
-        mask: Privileges::of(0x0000_00f7_0000_0044),
-    };
-    Ok(Machine::boot(alloc, config)?)
+// Whether a call with this input value is served, or refused by a rule that it is asked.
+fn is_answer(rcx: u64, told: Told) -> bool {
+    match told {
+        Told::Served | Told::More(_) => true,
+        Told::Denied(rule, _) => is_asked(rcx, rule.number()),
+        Told::Fault => false,
+    }
 }
 
-// Makes the call on a machine of its own, in which the root has the child 2.
-fn answer(rt: &impl Abort, alloc: Global, rcx: u64, rdx: u64, input: &[u8]) -> Result<(), Fail> {
-    let first = event(alloc, 0x40, 0, &[0; 8])?;
-    let second = event(alloc, rcx, rdx, input)?;
-    let mut machine = boot(alloc)?;
-    make_both(rt, &mut machine, &first, &second, rcx)
-}
-
-fn make_both(
-    rt: &impl Abort,
-    machine: &mut Machine<Global>,
-    first: &Event<Global>,
-    second: &Event<Global>,
-    rcx: u64,
-) -> Result<(), Fail> {
-    make(rt, machine, first, 0x40)?;
-    make(rt, machine, second, rcx)
-}
-
-// Makes a call, and looks at the answer: what it says, and whether it was counted.
-fn make(
-    rt: &impl Abort,
-    machine: &mut Machine<Global>,
-    event: &Event<Global>,
-    rcx: u64,
-) -> Result<(), Fail> {
-    let before = machine.served();
-    assert!(rt; before < 2);
-    let reply = machine.step(event)?;
-    let is_right = match &event.what {
-        Action::Hypercall(frame) => {
-            let value = result_of(frame, &reply).bits();
-            is_answer(rcx, &reply) && value & 0xffff == status_of(&reply)
-        }
-        Action::ReadMsr(_)
-        | Action::WriteMsr(_, _)
-        | Action::ReadSlot(_)
-        | Action::ClearSlot(_)
-        | Action::ReadFlags(_)
-        | Action::ClearFlag(_, _)
-        | Action::TakeInterrupt => false,
-    };
-    assert!(rt;
-        is_right && machine.served() == before + served_by(&reply),
-        "{rcx:#x}"
-    );
+fn assert_answer(rt: &impl Abort, alloc: Global, call: Call<'_>) -> Result<(), Fail> {
+    let told = answer(rt, alloc, call)?;
+    assert!(rt; is_answer(call.rcx, told), "{:#x}", call.rcx);
     Ok(())
 }
 
-// Whether the reply is one to a call: the next element has an index, and the rule of a refusal is one
-// that is asked.
-fn is_answer(rcx: u64, reply: &Reply) -> bool {
-    match reply {
-        Reply::Served(_) => true,
-        Reply::More { next, .. } => *next < 4096,
-        Reply::Denied { rule, .. } => is_asked(rcx, rule.number()),
-        Reply::Fault { .. } => false,
-    }
-}
-
-// How many events it serves.
-fn served_by(reply: &Reply) -> u64
-    ensures { result ≤ 1 }
-{
-    match reply {
-        Reply::Served(_) | Reply::More { .. } => 1,
-        Reply::Denied { .. } | Reply::Fault { .. } => 0,
-    }
-}
-
-// The status that its result value has.
-fn status_of(reply: &Reply) -> u64 {
-    match reply {
-        Reply::Denied { status, .. } => u64::from(status.code()),
-        Reply::Served(_) | Reply::More { .. } | Reply::Fault { .. } => 0,
-    }
-}
-
-pub(crate) fn event(
-    alloc: Global,
-    rcx: u64,
-    rdx: u64,
-    input: &[u8],
-) -> Result<Event<Global>, Fail> {
-    let by = Caller { part: 1, vp: 0 };
-    let what = Action::Hypercall(frame(alloc, rcx, rdx, input)?);
-    Ok(Event { by, what })
-}
-
-pub(crate) fn frame(
-    alloc: Global,
-    rcx: u64,
-    rdx: u64,
-    input: &[u8],
-) -> Result<Frame<Global>, Fail> {
-    let input = Bytes::from_vec(input.to_vec(alloc)?);
-    let r8 = 0;
-    Ok(Frame {
-        rcx,
-        rdx,
-        r8,
-        input,
-    })
-}
-
 // Its input cut after each byte, and its input value with each bit flipped.
-fn answer_each(
-    rt: &impl Abort,
-    alloc: Global,
-    rcx: u64,
-    rdx: u64,
-    input: &[u8],
-) -> Result<(), Fail> {
-    for end in 0..input.len() + 1 {
-        answer(rt, alloc, rcx, rdx, &input[..end])?;
+fn assert_each(rt: &impl Abort, alloc: Global, call: Call<'_>) -> Result<(), Fail> {
+    for end in 0..call.input.len() + 1 {
+        let input = &call.input[..end];
+        assert_answer(rt, alloc, Call { input, ..call })?;
     }
     for bit in 0..64_u32 {
-        answer(rt, alloc, rcx ^ 1 << bit, rdx, input)?;
+        let rcx = call.rcx ^ 1 << bit;
+        assert_answer(rt, alloc, Call { rcx, ..call })?;
     }
     Ok(())
 }
 
 #[test]
 fn hostile_frames_are_answered(rt: HostRuntime) -> Result<(), Fail> {
-    for (rcx, rdx, input) in CALLS {
-        answer_each(&rt, rt.alloc(), rcx, rdx, input)?;
+    for (rcx, rdx, input) in CALLS.iter() {
+        let call = Call {
+            rcx: *rcx,
+            rdx: *rdx,
+            input,
+            ..BY_0
+        };
+        assert_each(&rt, rt.alloc(), call)?;
     }
     Ok(())
 }
@@ -299,24 +198,36 @@ fn may_be_malformed(kind: CallKind, len: usize) -> bool {
 }
 
 // Whether the frame is decoded to a call of this kind, or may be malformed.
-fn is_decoded(frame: &Frame<Global>, kind: CallKind, len: usize) -> Result<bool, Fail> {
-    let shape = frame.check()?;
+fn is_decoded(frame: &Frame<Global>, kind: CallKind, len: usize) -> bool {
+    let Ok(shape) = frame.check() else {
+        return false;
+    };
     match decode(frame, &shape) {
-        Ok(call) => Ok(call.kind() == kind),
-        Err(Malformed) => Ok(may_be_malformed(kind, len)),
+        Ok(call) => call.kind() == kind,
+        Err(Malformed) => may_be_malformed(kind, len),
     }
 }
 
 // Whatever bytes are missing, a block is decoded to a call of its frame's kind, or is malformed as a
 // parameter's zeros can be.
+fn assert_decoded(
+    rt: &impl Abort,
+    alloc: Global,
+    rcx: u64,
+    kind: CallKind,
+) -> Result<(), AllocError> {
+    for len in 0..ANY_BLOCK.len() + 1 {
+        let input = &ANY_BLOCK[..len];
+        let is_decoded = is_decoded(&frame(alloc, Call { rcx, input, ..BY_0 })?, kind, len);
+        assert!(rt; is_decoded, "{rcx:#x} cut to {len}");
+    }
+    Ok(())
+}
+
 #[test]
 fn cut_blocks_are_decoded(rt: HostRuntime) -> Result<(), Fail> {
-    for (rcx, kind) in INPUT_VALUES {
-        for len in 0..ANY_BLOCK.len() + 1 {
-            let frame = frame(rt.alloc(), rcx, 0, &ANY_BLOCK[..len])?;
-            let decoded = is_decoded(&frame, kind, len)?;
-            assert!(rt; decoded, "{rcx:#x} cut to {len}");
-        }
+    for (rcx, kind) in INPUT_VALUES.iter() {
+        assert_decoded(&rt, rt.alloc(), *rcx, *kind)?;
     }
     Ok(())
 }

@@ -1,9 +1,8 @@
 // Ids that are none, the caller's own, a child's, the one that stands for the caller, and the last below it,
 // in each field of a block that has an id.
 
-use crate::hostile::{boot, event};
-use hv_machine::{Event, Machine, Reply};
-use std::alloc::Global;
+use crate::calls::{BY_0, Call, Told, answer};
+use std::alloc::{AllocError, Global};
 use std::process::Abort;
 use std::test::Fail;
 
@@ -82,33 +81,33 @@ const CALLS: [(u64, &[u8], &[u8], [u8; 5]); 20] = [
     ),
 ];
 
-// The number of the rule that refuses, or 0 where the call is served. Of an access there is none.
-fn refused_by(reply: &Reply) -> Option<u8> {
-    match reply {
-        Reply::Served(_) => Some(0),
-        Reply::Denied { rule, .. } => Some(rule.number()),
-        Reply::More { .. } | Reply::Fault { .. } => None,
+// The number of the rule that refuses, or 0 where the call is served. None is asked for more elements.
+fn refused_by(told: Told) -> Option<u8> {
+    match told {
+        Told::Served => Some(0),
+        Told::Denied(rule, _) => Some(rule.number()),
+        Told::More(_) | Told::Fault => None,
     }
 }
 
-fn step(
-    rt: &impl Abort,
-    machine: &mut Machine<Global>,
-    event: &Event<Global>,
-) -> Result<Option<u8>, Fail> {
-    assert!(rt; machine.served() < 2);
-    let reply = machine.step(event)?;
-    Ok(refused_by(&reply))
+fn block_of(alloc: Global, before: &[u8], id: u64, behind: &[u8]) -> Result<Vec<u8>, AllocError> {
+    let mut block = before.to_vec(alloc)?;
+    block.extend_from_slice(&id.to_le_bytes())?;
+    block.extend_from_slice(behind)?;
+    Ok(block)
 }
 
-// Makes the child and then the call, on a machine of their own.
-fn answer(rt: &impl Abort, alloc: Global, rcx: u64, block: &[u8]) -> Result<Option<u8>, Fail> {
-    let create = event(alloc, 0x40, 0, &[])?;
-    let call = event(alloc, rcx, 0, block)?;
-    let mut machine = boot(alloc)?;
-    let made = step(rt, &mut machine, &create)?;
-    assert!(rt; made == Some(0));
-    step(rt, &mut machine, &call)
+fn answer_of(
+    rt: &impl Abort,
+    alloc: Global,
+    rcx: u64,
+    before: &[u8],
+    id: u64,
+    behind: &[u8],
+) -> Result<Told, Fail> {
+    let block = block_of(alloc, before, id, behind)?;
+    let input = block.as_slice();
+    answer(rt, alloc, Call { rcx, input, ..BY_0 })
 }
 
 fn answer_each(
@@ -120,19 +119,16 @@ fn answer_each(
     wanted: [u8; 5],
 ) -> Result<(), Fail> {
     for (id, number) in IDS.iter().zip(wanted.iter()) {
-        let mut block = before.to_vec(alloc)?;
-        block.extend_from_slice(&id.to_le_bytes())?;
-        block.extend_from_slice(behind)?;
-        let told = answer(rt, alloc, rcx, &block)?;
-        assert!(rt; told == Some(*number), "{rcx:#x} of {id:#x}");
+        let told = answer_of(rt, alloc, rcx, before, *id, behind)?;
+        assert!(rt; refused_by(told) == Some(*number), "{rcx:#x} of {id:#x}");
     }
     Ok(())
 }
 
 #[test]
 fn ids_are_told_apart(rt: HostRuntime) -> Result<(), Fail> {
-    for (rcx, before, behind, wanted) in CALLS {
-        answer_each(&rt, rt.alloc(), rcx, before, behind, wanted)?;
+    for (rcx, before, behind, wanted) in CALLS.iter() {
+        answer_each(&rt, rt.alloc(), *rcx, before, behind, *wanted)?;
     }
     Ok(())
 }

@@ -39,11 +39,6 @@ impl<B: Allocator> Rationed<B> {
     {
         self.inner
     }
-
-    /// How many blocks it still gives.
-    pub fn left(&self) -> u64 {
-        self.left.get()
-    }
 }
 
 impl<B: Allocator> Drop for Rationed<B> {

@@ -1,9 +1,9 @@
 // Scripts in which each event is refused its first block, then its second, and so on until it happens.
 
+use crate::denials::assert_denials;
 use crate::rationed::{Heap, Rationed};
-use crate::texts::{has_audit, has_table, let_happen, read, table_of};
-use hv_history::{HostRefused, Kept};
-use hv_policy::{Config, Event};
+use crate::refusals::assert_refusals;
+use crate::texts::read;
 use std::process::Abort;
 use std::test::Fail;
 
@@ -11,11 +11,11 @@ use std::test::Fail;
 // end.
 #[derive(Clone, Copy)]
 pub(crate) struct Row {
-    pub(crate) script: &'static [u8],
+    script: &'static [u8],
     pub(crate) audit: &'static str,
-    table: &'static str,
+    pub(crate) table: &'static str,
     // By the event, how many blocks it takes, its history's included.
-    blocks: &'static [u64],
+    pub(crate) blocks: &'static [u64],
     // The places of the events that take some for the machine itself.
     pub(crate) wants: &'static [usize],
 }
@@ -348,131 +348,23 @@ pages 32
     wants: &[0, 2, 8, 9, 10, 15],
 };
 
-// Whether the host refuses the event with so many blocks, which it does for want of memory alone.
-fn is_event_refused<'h>(
-    rt: &impl Abort,
-    heap: &Heap,
-    kept: &mut Kept<&'h Heap>,
-    event: &Event<&'h Heap>,
-    blocks: u64,
-) -> bool {
-    heap.ration(blocks);
-    let told = kept.apply(event);
-    heap.lift();
-    match told {
-        Ok(_) => false,
-        Err(HostRefused::Memory) => true,
-        Err(_) => panic!(rt; "refused otherwise"),
-    }
-}
-
-// Lets the event happen with so many blocks, and where it is refused again with all.
-fn apply<'h>(
-    rt: &impl Abort,
-    heap: &Heap,
-    kept: &mut Kept<&'h Heap>,
-    event: &Event<&'h Heap>,
-    blocks: u64,
-) -> Result<bool, Fail> {
-    let before = table_of(heap.inner(), kept)?;
-    let count = kept.history().len();
-    let refused = is_event_refused(rt, heap, kept, event, blocks);
-    if refused {
-        assert!(rt; kept.history().len() == count && has_table(heap.inner(), kept, &before)?);
-        let_happen(kept, event)?;
-    }
-    Ok(refused)
-}
-
-// Lets all events happen, the one at a place with so many blocks.
-fn apply_all<'h>(
-    rt: &impl Abort,
-    heap: &Heap,
-    kept: &mut Kept<&'h Heap>,
-    events: &[Event<&'h Heap>],
-    place: usize,
-    blocks: u64,
-) -> Result<bool, Fail> {
-    let mut refused = false;
-    for (at, event) in events.iter().enumerate() {
-        if at == place {
-            refused = apply(rt, heap, kept, event, blocks)?;
-        } else {
-            let_happen(kept, event)?;
-        }
-    }
-    Ok(refused)
-}
-
-// Lets all events happen. All but the one at the place have all blocks, and either way the whole script is
-// told as it must be.
-fn run<'h>(
-    rt: &impl Abort,
-    heap: &Heap,
-    kept: &mut Kept<&'h Heap>,
-    events: &[Event<&'h Heap>],
-    row: &Row,
-    place: usize,
-    blocks: u64,
-) -> Result<bool, Fail> {
-    let refused = apply_all(rt, heap, kept, events, place, blocks)?;
-    assert!(rt; has_audit(heap.inner(), kept, row.audit.as_bytes())?);
-    assert!(rt; has_table(heap.inner(), kept, row.table.as_bytes())?);
-    Ok(refused)
-}
-
-fn run_booted<'h>(
-    rt: &impl Abort,
-    heap: &'h Heap,
-    booted: (Config, u32),
-    events: &[Event<&'h Heap>],
-    row: &Row,
-    place: usize,
-    blocks: u64,
-) -> Result<bool, Fail> {
-    let mut kept = Kept::boot(heap, booted.0, booted.1)?;
-    run(rt, heap, &mut kept, events, row, place, blocks)
-}
-
-// Whether the event at a place is refused with so many blocks.
-fn is_refused(
-    rt: &impl Abort,
-    heap: &Heap,
-    row: &Row,
-    place: usize,
-    blocks: u64,
-) -> Result<bool, Fail> {
-    let (config, limit, events) = read(heap, row.script)?;
-    assert!(rt; events.len() == row.blocks.len());
-    run_booted(rt, heap, (config, limit), &events, row, place, blocks)
-}
-
-// How many blocks the event at a place takes.
-fn blocks_of(rt: &impl Abort, heap: &Heap, row: &Row, place: usize) -> Result<u64, Fail> {
-    for blocks in 0..100u64 {
-        if !is_refused(rt, heap, row, place, blocks)? {
-            return Ok(blocks);
-        }
-    }
-    Ok(100)
-}
-
-fn assert_blocks(rt: &impl Abort, heap: &Heap, row: &Row) -> Result<(), Fail> {
-    for (place, blocks) in row.blocks.iter().enumerate() {
-        assert_eq!(rt; blocks_of(rt, heap, row, place)?, *blocks, "event {place}");
-    }
-    Ok(())
-}
-
-pub(crate) const ROWS: [Row; 9] = [
+const ROWS: [Row; 9] = [
     REPS, PRIVILEGE, MADE, DEPOSITED, WITHDRAWN, FRAGMENTED, GRANDCHILD, REMADE, POSTED,
 ];
+
+fn assert_row(rt: &impl Abort, heap: &Heap, row: &Row) -> Result<(), Fail> {
+    let (config, limit, events) = read(heap, row.script)?;
+    assert!(rt; events.len() == row.blocks.len());
+    assert_refusals(rt, heap, (config, limit), &events, row)?;
+    assert_denials(rt, heap, config, &events, row)?;
+    Ok(())
+}
 
 #[test]
 fn each_event_is_refused(rt: HostRuntime) -> Result<(), Fail> {
     let heap = Rationed::new(rt.alloc());
-    for row in ROWS {
-        assert_blocks(&rt, &heap, &row)?;
+    for row in ROWS.iter() {
+        assert_row(&rt, &heap, row)?;
     }
     Ok(())
 }

@@ -1,9 +1,8 @@
-// A frame, an action and an event are copied whole, and an input list is a vector again.
+// An event is copied whole, with its action, its frame and its input list, and a list is a vector again.
 
 use hv_abi::{Bytes, Frame};
 use hv_policy::{Action, Caller, Event};
-use std::alloc::Global;
-use std::process::Abort;
+use std::alloc::{AllocError, Global};
 use std::test::Fail;
 
 // Between them the first two registers have each bit set once, and the third has all.
@@ -24,69 +23,45 @@ const BY: Caller = Caller {
     vp: 0xFEDC_BA98,
 };
 
-fn frame(alloc: Global) -> Result<Frame<Global>, Fail> {
+fn event(alloc: Global) -> Result<Event<Global>, AllocError> {
     let input = Bytes::from_vec(INPUT.to_vec(alloc)?);
-    Ok(Frame {
+    let frame = Frame {
         rcx: RCX,
         rdx: RDX,
         r8: R8,
         input,
+    };
+    Ok(Event {
+        by: BY,
+        what: Action::Hypercall(frame),
     })
 }
 
-fn is_whole(frame: &Frame<Global>) -> bool {
-    frame.rcx == RCX
+fn is_whole(event: &Event<Global>) -> bool {
+    let Action::Hypercall(frame) = &event.what else {
+        return false;
+    };
+    event.by == BY
+        && frame.rcx == RCX
         && frame.rdx == RDX
         && frame.r8 == R8
         && frame.input.as_slice() == INPUT.as_slice()
 }
 
-fn is_whole_call(action: &Action<Global>) -> bool {
-    match action {
-        Action::Hypercall(frame) => is_whole(frame),
-        Action::ReadMsr(_)
-        | Action::WriteMsr(_, _)
-        | Action::ReadSlot(_)
-        | Action::ClearSlot(_)
-        | Action::ReadFlags(_)
-        | Action::ClearFlag(_, _)
-        | Action::TakeInterrupt => false,
-    }
-}
-
 // The copy is whole, and what it was made of stays so.
 #[test]
-fn a_frame_is_copied(rt: HostRuntime) -> Result<(), Fail> {
-    let frame = frame(rt.alloc())?;
-    let copied = frame.copy()?;
-    assert!(rt; is_whole(&copied) && is_whole(&frame));
-    Ok(())
-}
-
-fn copy_event(rt: &impl Abort, event: &Event<Global>) -> Result<(), Fail> {
+fn an_event_is_copied(rt: HostRuntime) -> Result<(), Fail> {
+    let event = event(rt.alloc())?;
     let copied = event.copy()?;
-    assert!(rt; copied.by == BY && is_whole_call(&copied.what) && is_whole_call(&event.what));
+    let are_whole = is_whole(&copied) && is_whole(&event);
+    assert!(rt; are_whole);
     Ok(())
-}
-
-fn copy_action(rt: &impl Abort, action: &Action<Global>) -> Result<(), Fail> {
-    let copied = action.copy()?;
-    assert!(rt; is_whole_call(&copied) && is_whole_call(action));
-    Ok(())
-}
-
-#[test]
-fn an_event_and_its_action_are_copied(rt: HostRuntime) -> Result<(), Fail> {
-    let what = Action::Hypercall(frame(rt.alloc())?);
-    let event = Event { by: BY, what };
-    copy_event(&rt, &event)?;
-    copy_action(&rt, &event.what)
 }
 
 #[test]
 fn an_input_list_is_a_vector_again(rt: HostRuntime) -> Result<(), Fail> {
-    let bytes = Bytes::from_vec(INPUT.to_vec(rt.alloc())?);
-    let vector = bytes.into_vec();
-    assert!(rt; vector.as_slice() == INPUT.as_slice());
+    let vector = Bytes::from_vec(INPUT.to_vec(rt.alloc())?).into_vec();
+    let is_again = vector.as_slice() == INPUT.as_slice();
+    assert!(rt; is_again);
     Ok(())
 }

@@ -4,7 +4,7 @@
 // The root is 1, its children 2 to 301, and the ten below the n-th of them 302 + 10 n to 311 + 10 n. Each
 // content is its node's id with all bits turned.
 
-use crate::few::has_few;
+use crate::tree::has_few;
 use hv_tree::IdTree;
 use std::alloc::Global;
 use std::process::Abort;

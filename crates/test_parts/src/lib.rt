@@ -1,13 +1,9 @@
-//! The public calls of the parts that no other crate makes, each run once with values from outside, and a
-//! large tree. Tests only.
+//! The public calls of the parts that no other crate makes, each run once with values from outside, and two
+//! trees. Tests only.
 #![tactic(auto)]
 
 #[cfg(test)]
-mod calls;
-#[cfg(test)]
 mod copies;
-#[cfg(test)]
-mod few;
 #[cfg(test)]
 mod large_tree;
 #[cfg(test)]
@@ -15,12 +11,8 @@ mod mail;
 #[cfg(test)]
 mod pages;
 #[cfg(test)]
-mod rooms;
-#[cfg(test)]
-mod small_tree;
-#[cfg(test)]
-mod statuses;
-#[cfg(test)]
-mod subtree;
-#[cfg(test)]
 mod tables;
+#[cfg(test)]
+mod tree;
+#[cfg(test)]
+mod words;

@@ -2,6 +2,7 @@
 
 use crate::ended::{Fault, must};
 use hv_abi::{Bytes, Frame};
+use hv_actions::Actions;
 use hv_policy::{Action, Event};
 use hv_threads::Pass;
 use std::alloc::Global;
@@ -21,6 +22,15 @@ fn call(rcx: u64, input: Vec<u8>) -> Frame<Global> {
 pub(crate) fn two_actions(alloc: Global) -> Result<Vec<Action<Global>>, Fault> {
     let own_id = Action::Hypercall(call(0x46, Vec::new(alloc)));
     let actions = vec![in alloc; own_id, Action::ReadMsr(0x4000_0084)]?;
+    Ok(actions)
+}
+
+// The same, as a work has them.
+pub(crate) fn two_to_do(alloc: Global) -> Result<Actions<Global>, Fault> {
+    let mut actions = Actions::new(&alloc)?;
+    for action in two_actions(alloc)? {
+        actions.push(&action)?;
+    }
     Ok(actions)
 }
 

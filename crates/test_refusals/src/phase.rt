@@ -1,6 +1,6 @@
 // A phase of two threads.
 
-use crate::actions::two_actions;
+use crate::actions::{two_actions, two_to_do};
 use crate::ended::{Fault, Refusal, must};
 use crate::gate::Count;
 use hv_history::HostRefused;
@@ -24,7 +24,7 @@ pub(crate) fn works_of<L: Ledger>(
 ) -> Result<Vec<Work<L>>, Fault> {
     let mut works = Vec::new(alloc);
     for pass in passes {
-        let actions = two_actions(alloc)?;
+        let actions = two_to_do(alloc)?;
         works.push(Work { pass, actions })?;
     }
     Ok(works)

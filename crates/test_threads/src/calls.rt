@@ -2,6 +2,7 @@
 ghost use Rattle.std.specs.Prelude.{◌≡◌, ◌<◌, [], IfOk, vec_len};
 
 use hv_abi::{Bytes, Frame};
+use hv_actions::Actions;
 use hv_history::Kept;
 use hv_pages::PageSet;
 use hv_partition::PageKind;
@@ -121,7 +122,8 @@ pub(crate) fn last_of<L: Ledger>(rt: &impl Abort, passes: &mut Vec<Pass<L>>) -> 
 
 // What a processor with one call has to do.
 fn work<L: Ledger>(alloc: Global, pass: Pass<L>, frame: Frame<Global>) -> Result<Work<L>, Fail> {
-    let actions = vec![in alloc; Action::Hypercall(frame)]?;
+    let mut actions = Actions::new(&alloc)?;
+    actions.push(&Action::Hypercall(frame))?;
     Ok(Work { pass, actions })
 }
 

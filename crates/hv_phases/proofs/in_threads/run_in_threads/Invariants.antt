@@ -6,9 +6,9 @@ use Rattle.hv_phases.proofs.in_threads.run_in_threads.Given as goal
 
 abbrev pub invariant-loop-first : goal.invariant-loop-first
 invariant-loop-first g l = record {
-  between : IsBetween l.fn.lines.items l.left.items l.tasks;
+  between : IsBetween l.fn.lines l.left l.tasks;
   index : Tells l.places (callers_in l.tasks);
 }
 
 abbrev pub decreases-loop-first : goal.decreases-loop-first
-decreases-loop-first g l = length l.left.items
+decreases-loop-first g l = length l.left

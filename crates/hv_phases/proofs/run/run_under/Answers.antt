@@ -11,4 +11,4 @@ both (Some x) s P Q R f none p q = tt
 
 pub returns-in-Ok-new-clause-lines : goal.returns-in-Ok-new-clause-lines
 returns-in-Ok-new-clause-lines g c =
-    both c.finish.result.1 c.run_on-stop.result _ _ _ (λ ran merge. settled c.args.lines.items _ _ ran merge) c.finish.ensures.stop c.run_on-stop.ensures c.finish.ensures.merge
+    both c.finish.result.1 c.run_on-stop.result _ _ _ (λ ran merge. settled c.args.lines _ _ ran merge) c.finish.ensures.stop c.run_on-stop.ensures c.finish.ensures.merge

@@ -1,10 +1,12 @@
-use Rattle.std.proofs.Common.{refl, arith}
+use Rattle.std.proofs.Common.{◌≡◌, [], refl, arith, rules}
 use Rattle.hv_script.specs.Callers.{callers_of}
 use Rattle.hv_script.proofs.reading.Reading.first_line.Goals as goal
 
 pub invariant_of-result : goal.invariant_of-result
 unfolding callers_of
-invariant_of-result g c = record {
-  named = rw (c.new-2.ensures.items, c.new.ensures.items) refl;
-  phases = rw c.new-2.ensures.items (λ k d lt. absurd (omega (arith, lt)));
-}
+invariant_of-result g c =
+    let none : c.in_ok-lines.lines ≡ [] = search rules in
+    record {
+      named = rw (c.new-2.ensures.items, none) refl;
+      phases = rw none (λ k d lt. absurd (omega (arith, lt)));
+    }

@@ -1,0 +1,184 @@
+// The lines of a script's processors, packed.
+ghost use Rattle.std.specs.Prelude.{◌≡◌, ◌==◌, ◌<◌, ◌++◌, [], ◌∷◌, List, length, reverse, slice_get, take};
+ghost use Rattle.std.specs.Prelude.{◌-◌, IfNone, IfOk, IfSome, IsTrue, OnErr, OnOk, Some, vec_len};
+ghost use Rattle.hv_script.specs.Lines.{EndsIn, turn_at};
+ghost use Rattle.hv_script.specs.declared.line.Line.{Line};
+
+use hv_actions::Actions;
+use hv_policy::{Action, Caller};
+use std::alloc::{AllocError, Allocator};
+use std::marker::Model;
+
+// So many lines' memory isn't worth giving back.
+const LEAST_FREE: usize = 1024;
+
+/// Whose line a line is.
+#[derive(Clone, Copy, PartialEq, Eq, Debug)]
+pub struct Turn {
+    /// How many `phase` lines stand before it.
+    pub phase: u32,
+    /// The processor that the line names.
+    pub by: Caller,
+}
+
+/// The lines of a script's processors, in the text's order, packed. Each takes the memory of its action in
+/// [`Actions`] and 4 bytes, and 24 more unless it is of the same processor and phase as the line that was
+/// added before it.
+#[derive(Drop)]
+pub struct Lines<A: Allocator> {
+    actions: Actions<A>,
+    // The place of each line's turn.
+    places: Vec<u32, A>,
+    turns: Vec<Turn, A>,
+}
+
+impl<A: Allocator> Model for Lines<A> {
+    ghost use Rattle.std.specs.Prelude.{List, length, vec_len};
+    ghost use Rattle.hv_script.specs.declared.line.Line.{Line};
+    ghost use Rattle.hv_script.specs.Lines.{ArePlaced, lines_from};
+
+    ghost Value = { List (Line A) };
+
+    ghost view = { λ l. lines_from l.turns.items l.places.items l.actions };
+
+    ghost invariant = { λ l. ArePlaced (vec_len l.turns) (length l.actions) l.places.items };
+}
+
+impl<A: Allocator> Lines<A> {
+    /// How many lines there are.
+    #[inline(always)]
+    pub fn len(&self) -> usize
+        ensures { result ≡ length self.now }
+    {
+        self.places.len()
+    }
+
+    /// Whether there is none.
+    #[inline(always)]
+    pub fn is_empty(&self) -> bool
+        ensures { result ≡ (length self.now == 0) }
+    {
+        self.len() == 0
+    }
+
+    /// Whose line stands at a place, counted from 0.
+    #[inline(always)]
+    pub fn turn(&self, at: usize) -> Turn
+        requires { at < length self.now }
+        ensures { (line : Line A) → slice_get self.now at ≡ Some line → (result.by ≡ line.by)
+            × (result.phase ≡ line.phase) }
+    {
+        self.turns[self.places[at] as usize]
+    }
+
+    /// Whose line the last one is.
+    #[inline(always)]
+    pub fn last(&self) -> Option<Turn>
+        ensures none { IfNone result (self.now ≡ []) }
+        ensures some { IfSome result (EndsIn self.now) }
+    {
+        let len = self.len();
+        if len == 0 {
+            return None;
+        }
+        Some(self.turn(len - 1))
+    }
+
+    /// Adds a line at the end, with a copy of its action. For want of memory nothing changes.
+    #[inline(always)]
+    pub fn push(&mut self, phase: u32, by: Caller, action: &Action<A>) -> Result<(), AllocError>
+        ensures added { OnOk result (self.new ≡ self.old
+            ++ record { phase = phase; by = by; action = action.now } ∷ []) }
+        ensures refused { OnErr result (self.new ≡ self.old) }
+    {
+        // With the place's room made first, nothing fails after the action is added.
+        self.places.reserve(1)?;
+        let place = place_of(&mut self.turns, Turn { phase, by })?;
+        self.actions.push(action)?;
+        self.places.push_reserved(place);
+        Ok(())
+    }
+
+    /// Gives back the memory of lines that were taken out, once they are an eighth of all.
+    #[inline(always)]
+    pub fn give_back(&mut self)
+        ensures { self.new ≡ self.old }
+    {
+        let free = self.places.capacity() - self.places.len();
+        if free > LEAST_FREE && free > self.places.capacity() / 8 {
+            self.shrink_to_fit();
+        }
+    }
+
+    #[inline(never)]
+    fn shrink_to_fit(&mut self)
+        ensures { self.new ≡ self.old }
+    {
+        self.actions.shrink_to_fit();
+        self.places.shrink_to_fit();
+    }
+
+    /// Turns the order round.
+    pub fn reverse(&mut self)
+        ensures { self.new ≡ reverse self.old }
+    {
+        self.actions.reverse();
+        self.places.reverse();
+    }
+
+    /// The allocator in whose memory they are.
+    pub fn allocator(&self) -> &A {
+        self.places.allocator()
+    }
+}
+
+impl<A: Allocator + Clone> Lines<A> {
+    /// No lines, on clones of this allocator.
+    pub(crate) fn new(alloc: &A) -> Result<Lines<A>, AllocError>
+        ensures { IfOk result (λ lines. lines ≡ []) }
+    {
+        Ok(Lines {
+            actions: Actions::new(alloc)?,
+            places: Vec::new(alloc.clone()?),
+            turns: Vec::new(alloc.clone()?),
+        })
+    }
+
+    /// Takes the last line out, in any case, and gives what it asks for. Its input is copied, for which the
+    /// host may have no memory: then it is lost.
+    #[inline(always)]
+    pub fn take_last(&mut self) -> Result<Action<A>, AllocError>
+        requires some { 0 < length self.old }
+        ensures { (rest : List (Line A)) (line : Line A) → self.old ≡ rest ++ line ∷ []
+            → (self.new ≡ rest) × IfOk result (λ action. action ≡ line.action) }
+    {
+        self.places.take_last();
+        self.actions.take_last()
+    }
+}
+
+// The place of a turn: that of the last one, if it is the same, and else of a new one. Refused where there is
+// no memory for it, or more than 2^32 turns.
+#[inline(always)]
+fn place_of<A: Allocator>(turns: &mut Vec<Turn, A>, turn: Turn) -> Result<u32, AllocError>
+    ensures turns { take (vec_len turns.old) turns.new.items ≡ turns.old.items }
+    ensures there { IfOk result (λ place. place < vec_len turns.new) }
+    ensures turn { IfOk result (λ place. turn_at turns.new.items place ≡ turn) }
+{
+    if !is_last(turns, turn) {
+        turns.push(turn)?;
+    }
+    u32::try_from(turns.len() - 1).map_err(|_| AllocError)
+}
+
+// Whether a turn is the last of others.
+#[inline(always)]
+fn is_last(turns: &[Turn], turn: Turn) -> bool
+    ensures some { IsTrue result → 0 < length turns.now }
+    ensures last { IsTrue result → turn_at turns.now (length turns.now - 1) ≡ turn }
+{
+    match turns.last() {
+        Some(last) => *last == turn,
+        None => false,
+    }
+}

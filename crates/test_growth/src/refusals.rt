@@ -1,0 +1,97 @@
+// Events of a script that are let happen with few blocks.
+
+use crate::rationed::Heap;
+use crate::rows::Row;
+use crate::texts::{has_audit, has_table, table_of};
+use hv_history::{HostRefused, Kept};
+use hv_policy::{Config, Event};
+use std::process::Abort;
+use std::test::Fail;
+
+// Lets the event happen with so many blocks, and where it is refused again with all. In between the table is
+// as before. Answers whether it was refused.
+fn apply_again<'h>(
+    rt: &impl Abort,
+    heap: &Heap,
+    kept: &mut Kept<&'h Heap>,
+    event: &Event<&'h Heap>,
+    blocks: u64,
+    before: &[u8],
+) -> Result<bool, HostRefused> {
+    heap.ration(blocks);
+    let refused = kept.apply(event).err();
+    heap.lift();
+    if refused.is_none() {
+        return Ok(false);
+    }
+    let is_same = has_table(heap.inner(), kept, before);
+    assert!(rt; is_same && refused == Some(HostRefused::Memory));
+    kept.apply(event)?;
+    Ok(true)
+}
+
+fn apply<'h>(
+    rt: &impl Abort,
+    heap: &Heap,
+    kept: &mut Kept<&'h Heap>,
+    event: &Event<&'h Heap>,
+    blocks: u64,
+) -> Result<bool, Fail> {
+    let before = table_of(heap.inner(), kept)?;
+    Ok(apply_again(rt, heap, kept, event, blocks, &before)?)
+}
+
+// Lets all events happen, the one at a place with so many blocks. Either way the whole script is told as it
+// must be.
+fn apply_all<'h>(
+    rt: &impl Abort,
+    heap: &Heap,
+    kept: &mut Kept<&'h Heap>,
+    events: &[Event<&'h Heap>],
+    row: &Row,
+    (place, blocks): (usize, u64),
+) -> Result<bool, Fail> {
+    let mut refused = false;
+    for (at, event) in events.iter().enumerate() {
+        if at == place {
+            refused = apply(rt, heap, kept, event, blocks)?;
+        } else {
+            kept.apply(event)?;
+        }
+    }
+    let is_audit = has_audit(heap.inner(), kept, row.audit.as_bytes());
+    assert!(rt; is_audit && has_table(heap.inner(), kept, row.table.as_bytes()));
+    Ok(refused)
+}
+
+fn is_refused<'h>(
+    rt: &impl Abort,
+    heap: &'h Heap,
+    booted: (Config, u32),
+    events: &[Event<&'h Heap>],
+    row: &Row,
+    at: (usize, u64),
+) -> Result<bool, Fail> {
+    let mut kept = Kept::boot(heap, booted.0, booted.1)?;
+    apply_all(rt, heap, &mut kept, events, row, at)
+}
+
+// With as many blocks as its row says no event is refused, and with each lower number it is.
+pub(crate) fn assert_refusals<'h>(
+    rt: &impl Abort,
+    heap: &'h Heap,
+    booted: (Config, u32),
+    events: &[Event<&'h Heap>],
+    row: &Row,
+) -> Result<(), Fail> {
+    for (place, wanted) in row.blocks.iter().enumerate() {
+        for blocks in 0..*wanted.min(&100) + 1 {
+            let refused = is_refused(rt, heap, booted, events, row, (place, blocks))?;
+            assert!(rt;
+                refused == (blocks < *wanted),
+                "event {place} with {blocks}"
+            );
+        }
+    }
+    Ok(())
+}
