@@ -57,6 +57,13 @@ impl<A: Allocator> Actions<A> {
         Ok(())
     }
 
+    /// Makes room for so many more actions, but not for what calls need beside their rows.
+    pub fn reserve(&mut self, count: usize) -> Result<(), AllocError>
+        ensures { self.new ≡ self.old }
+    {
+        self.rows.reserve(count)
+    }
+
     /// Gives back the memory that the actions don't take. Where that can't be, it stays.
     pub fn shrink_to_fit(&mut self)
         ensures { self.new ≡ self.old }

@@ -195,6 +195,22 @@ impl<A: Allocator> History<A> {
         self.outputs.reserve(most_outputs(&event.what, count))
     }
 
+    /// Makes room for so many more events, but not for what they put in, nor for long outputs: who knows
+    /// about how many there will be spares the rows' moves while the history grows.
+    pub fn reserve_rows(&mut self, count: usize) -> Result<(), AllocError>
+        ensures same { entries self.new ≡ entries self.old }
+        ensures room { OnOk result (count ≤ (room_of self.new).rows) }
+    {
+        self.rows.reserve(count)
+    }
+
+    /// For how many more events there is room, if there is for what they put in and out.
+    pub fn row_room(&self) -> usize
+        ensures { result ≡ (room_of self.now).rows }
+    {
+        self.rows.capacity() - self.rows.len()
+    }
+
     /// For how many events of a call there is room: this one and those that ask for other elements.
     pub fn room(&self, event: &Event<A>) -> usize
         ensures fits { HasRoomFor result (room_of self.now) event.now }
@@ -204,7 +220,7 @@ impl<A: Allocator> History<A> {
         if !self.is_last(event.by, r8_in(&event.what), input) && !self.has_room_for_head(input) {
             return 0;
         }
-        let rows = self.rows.capacity() - self.rows.len();
+        let rows = self.row_room();
         let outputs = outputs_in(&event.what, self.outputs.capacity() - self.outputs.len());
         if rows < outputs { rows } else { outputs }
     }
@@ -268,7 +284,7 @@ impl<A: Allocator> History<A> {
     {
         let row = &other.rows[other.rows.len() - 1];
         let head = self.head_for(event, goes_on);
-        let output = self.place_output(other.output_of(row));
+        let output = self.place_output_of(other, row);
         self.rows.push_reserved(Row {
             output,
             head,
@@ -400,6 +416,28 @@ impl<A: Allocator> History<A> {
         }
     }
 
+    // How a row keeps the output of a row of another history.
+    #[inline(always)]
+    fn place_output_of(&mut self, other: &History<A>, row: &Row) -> [u8; IN_ROW]
+        requires theirs { IsThere (vec_len other.now.outputs) row.now.output row.now.output_len }
+        requires room { vec_len self.old.outputs + row.now.output_len ≤ vec_capacity self.old.outputs }
+        ensures rows { self.new.rows ≡ self.old.rows }
+        ensures heads { self.new.heads ≡ self.old.heads }
+        ensures inputs { self.new.inputs ≡ self.old.inputs }
+        ensures outputs { take (vec_len self.old.outputs) self.new.outputs.items ≡ self.old.outputs.items }
+        ensures there { IsThere (vec_len self.new.outputs) result row.now.output_len }
+        ensures placed { output_at self.new.outputs.items result row.now.output_len
+            ≡ output_at other.now.outputs.items row.now.output row.now.output_len }
+        ensures used { vec_len self.new.outputs ≤ vec_len self.old.outputs + row.now.output_len }
+        ensures room { vec_capacity self.old.outputs ≤ vec_capacity self.new.outputs }
+    {
+        if row.output_len as usize <= IN_ROW {
+            row.output
+        } else {
+            (self.place_long(other.output_of(row)) as u64).to_le_bytes()
+        }
+    }
+
     // Where these bytes stand among the outputs: at the end, where they are added if they aren't there yet.
     #[inline(never)]
     fn place_long(&mut self, output: &[u8]) -> usize
@@ -475,6 +513,10 @@ fn in_row(output: &[u8]) -> [u8; IN_ROW]
     ensures { take (length output.now) result ≡ output.now }
 {
     let mut kept = [0; IN_ROW];
+    // Most accesses put out nothing.
+    if output.is_empty() {
+        return kept;
+    }
     if output.len() == IN_ROW {
         // With its length known, this is one word.
         kept.copy_from_slice(output);

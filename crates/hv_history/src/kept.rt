@@ -232,6 +232,13 @@ fn answer_of(became: Result<(), Rule>) -> Answer
 }
 
 impl<A: Allocator> Kept<A> {
+    /// Makes room in the history for so many more events, as [`History::reserve_rows`] does.
+    pub fn reserve_rows(&mut self, count: usize) -> Result<(), AllocError>
+        ensures { self.new ≡ self.old }
+    {
+        self.history.reserve_rows(count)
+    }
+
     /// What happened, in its order. It is a run of the policy with the replies of that run, from a
     /// configuration that boots.
     pub fn history(&self) -> &History<A>

@@ -43,6 +43,7 @@ pub fn run_in_order<L: Ledger, R: Wait, G: Gate>(
     left.reverse();
     let mut phase = 0;
     let mut members = 0;
+    let mut last = 0;
     while let Some(turn) = left.last() {
         let is_same = turn.phase == phase;
         phase = turn.phase;
@@ -51,7 +52,11 @@ pub fn run_in_order<L: Ledger, R: Wait, G: Gate>(
             Err(why) => return Some(why),
         };
         let action = left.take_last();
-        members = run_line(rt, gate, shared, tasks, places, so_far, turn.by, action);
+        let (place, more) = run_line(
+            rt, gate, shared, tasks, places, so_far, last, turn.by, action,
+        );
+        last = place;
+        members = more;
         left.give_back();
     }
     first_stop(&tasks[..members], callers)
@@ -78,8 +83,9 @@ fn members_of<L: Ledger>(
     }
 }
 
-// Runs a processor's line, and tells how many of the first tasks had one in its phase. It asks for this
-// action, or there was no memory to take that out.
+// Runs a processor's line, whose task may stand at the place `last`. Tells where it stands now, and how many
+// of the first tasks had a line in this phase. The line asks for this action, or there was no memory to take
+// that out.
 fn run_line<L: Ledger, R: Wait, G: Gate>(
     rt: &R,
     gate: &G,
@@ -87,25 +93,30 @@ fn run_line<L: Ledger, R: Wait, G: Gate>(
     tasks: &mut [Task<L>],
     places: &mut Places,
     members: usize,
+    last: usize,
     by: Caller,
     action: Result<Action<Global>, AllocError>,
-) -> usize
+) -> (usize, usize)
     requires different { AreDifferent (callers_in tasks.old) }
     requires named { Contains (callers_in tasks.old) by }
     requires index { Tells places.old (callers_in tasks.old) }
     requires within { members ≤ length tasks.old }
     requires going { AreGoingFrom members tasks.old }
-    ensures within { result ≤ length tasks.new }
-    ensures going { AreGoingFrom result tasks.new }
+    ensures within { result.1 ≤ length tasks.new }
+    ensures going { AreGoingFrom result.1 tasks.new }
     ensures index { Tells places.new (callers_in tasks.new) }
     ensures callers { IsPermutation (callers_in tasks.old) (callers_in tasks.new) }
     ensures run { (ran : List (Line Global)) (line : Line Global) → by ≡ line.by
         → IfOk action (λ action. action ≡ line.action) → All (IsAfter ran) tasks.old
         → All (IsAfter (ran ++ line ∷ [])) tasks.new }
 {
-    let place = enlist(tasks, places, members, by);
+    let place = enlist(tasks, places, members, last, by);
     do_next(rt, gate, shared, &mut tasks[place], action);
-    if place < members { members } else { place + 1 }
+    if place < members {
+        (place, members)
+    } else {
+        (place, place + 1)
+    }
 }
 
 // Lets a task's processor do one thing, unless it was stopped. Where the host refuses an event of it, or

@@ -71,10 +71,12 @@ fn hand_out<L: Ledger>(
     ensures idle { IfOk result (λ members. (members ≤ length tasks.new) × AreIdleFrom members tasks.new) }
 {
     let action = left.take_last()?;
-    let mut members = give(tasks, places, 0, first.by, action)?;
+    let (mut last, mut members) = give(tasks, places, 0, 0, first.by, action)?;
     while let Some(turn) = next_of(left, first.phase) {
         let action = left.take_last()?;
-        members = give(tasks, places, members, turn.by, action)?;
+        let (place, more) = give(tasks, places, members, last, turn.by, action)?;
+        last = place;
+        members = more;
     }
     Ok(members)
 }
@@ -95,15 +97,16 @@ fn next_of(left: &Lines<Global>, phase: u32) -> Option<Turn>
     }
 }
 
-// Hands what a processor's line asks for to its task, and tells how many of the first tasks have something
-// to do.
+// Hands what a processor's line asks for to its task, which may stand at the place `last`. Tells where it
+// stands now, and how many of the first tasks have something to do.
 fn give<L: Ledger>(
     tasks: &mut [Task<L>],
     places: &mut Places,
     members: usize,
+    last: usize,
     by: Caller,
     action: Action<Global>,
-) -> Result<usize, AllocError>
+) -> Result<(usize, usize), AllocError>
     requires different { AreDifferent (callers_in tasks.old) }
     requires named { Contains (callers_in tasks.old) by }
     requires within { members ≤ length tasks.old }
@@ -112,14 +115,14 @@ fn give<L: Ledger>(
     ensures index { OnOk result (Tells places.new (callers_in tasks.new)) }
     ensures given { OnOk result ((line : Line Global) → by ≡ line.by → action ≡ line.action
         → HasGiven line tasks.old tasks.new) }
-    ensures idle { IfOk result (λ members. (members ≤ length tasks.new) × AreIdleFrom members tasks.new) }
+    ensures idle { IfOk result (λ told. (told.1 ≤ length tasks.new) × AreIdleFrom told.1 tasks.new) }
 {
-    let place = enlist(tasks, places, members, by);
+    let place = enlist(tasks, places, members, last, by);
     push_action(&mut tasks[place], action)?;
     if place < members {
-        Ok(members)
+        Ok((place, members))
     } else {
-        Ok(place + 1)
+        Ok((place, place + 1))
     }
 }
 

@@ -13,7 +13,7 @@ use hv_history::{HostRefused, Kept};
 use hv_policy::Caller;
 use hv_script::Lines;
 use hv_threads::{Gate, Pass, SettleFault, Shared, Task, settle};
-use std::alloc::Global;
+use std::alloc::{AllocError, Global};
 use std::marker::Brand;
 use std::sync::Wait;
 use std::sync::ledger::{Blank, Ledger};
@@ -50,8 +50,20 @@ pub fn run_lines<R: Threads + Wait + Sync, G: Gate>(
     if callers.is_empty() {
         return (kept, None);
     }
+    let mut kept = kept;
+    if make_room(&mut kept, lines.len()).is_err() {
+        return (kept, Some(Unfinished::Host(HostRefused::Memory)));
+    }
     let parts = callers.len() as u64;
     run_under::<Brand, R, G>(rt, gate, kept, Blank::new(parts), callers, lines, serial)
+}
+
+// Makes room in the history for an event of each line, as most lines are, or for as many as it may have.
+fn make_room(kept: &mut Kept<Global>, lines: usize) -> Result<(), AllocError>
+    ensures { kept.new ≡ kept.old }
+{
+    let most = kept.limit() as usize;
+    kept.reserve_rows(if lines < most { lines } else { most })
 }
 
 // The same under one ledger.

@@ -99,6 +99,14 @@ impl<A: Allocator> Lines<A> {
         Ok(())
     }
 
+    // Makes room for so many more lines, but not for what calls need beside their rows, nor for turns.
+    pub(crate) fn reserve(&mut self, count: usize) -> Result<(), AllocError>
+        ensures { self.new ≡ self.old }
+    {
+        self.actions.reserve(count)?;
+        self.places.reserve(count)
+    }
+
     /// Gives back the memory of lines that were taken out, once they are an eighth of all.
     #[inline(always)]
     pub fn give_back(&mut self)

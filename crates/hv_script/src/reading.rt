@@ -14,6 +14,10 @@ use std::alloc::Allocator;
 /// The most processors that a phase has.
 pub const MOST_PROCESSORS: usize = 64;
 
+// About so many bytes a line has in the mean, or fewer: of shorter lines the room that is made for them grows
+// once or twice.
+const BYTES_A_LINE: usize = 32;
+
 /// What was read of a script, from its first line on.
 #[derive(Drop)]
 pub struct Reading<A: Allocator> {
@@ -61,16 +65,17 @@ impl<A: Allocator + Clone> Reading<A> {
             }
         }
         let (line, rest) = next_line(text);
-        Reading::read_line(alloc, reading, &line)?;
+        Reading::read_line(alloc, reading, &line, text.len() / BYTES_A_LINE)?;
         Ok(rest)
     }
 
-    /// Reads a line after what was read before it.
+    /// Reads a line after what was read before it. If it is the first, room is made for about so many more.
     #[tactic(auto, unfolding(crate::specs::Script::read_line))]
     pub fn read_line(
         alloc: &A,
         reading: &mut Option<Reading<A>>,
         line: &CutLine<'_>,
+        more: usize,
     ) -> Result<(), FaultKind>
         requires phases { phase_by reading.old + 1 < 2 ^ 32 }
         ensures read { IsRead result (λ _. read_by reading.new) (read_line (read_by reading.old) line.now) }
@@ -83,14 +88,14 @@ impl<A: Allocator + Clone> Reading<A> {
             return Err(FaultKind::Byte);
         }
         match reading {
-            None => *reading = Some(Reading::first_line(alloc, line)?),
+            None => *reading = Some(Reading::first_line(alloc, line, more)?),
             Some(reading) => reading.later_line(alloc, line)?,
         }
         Ok(())
     }
 
-    // Reads the first line, which is a `boot` line.
-    fn first_line(alloc: &A, line: &CutLine<'_>) -> Result<Reading<A>, FaultKind>
+    // Reads the first line, which is a `boot` line, and makes room for about so many more.
+    fn first_line(alloc: &A, line: &CutLine<'_>, more: usize) -> Result<Reading<A>, FaultKind>
         ensures read { IsRead result so_far (first_line (words_of line.now)) }
         ensures phase { IfOk result (λ reading. reading.phase ≡ 0) }
     {
@@ -99,7 +104,8 @@ impl<A: Allocator + Clone> Reading<A> {
         }
         let boot = read_boot(line)?;
         let callers = alloc.clone().map_err(|_| FaultKind::Memory)?;
-        let lines = Lines::new(alloc).map_err(|_| FaultKind::Memory)?;
+        let mut lines = Lines::new(alloc).map_err(|_| FaultKind::Memory)?;
+        lines.reserve(more).map_err(|_| FaultKind::Memory)?;
         Ok(Reading {
             boot,
             phase: 0,

@@ -120,12 +120,19 @@ impl<L: Ledger> Pass<L> {
 }
 
 impl<L: Ledger> Pass<L> {
-    // A pass without receipts, with one part of the count.
-    fn open(alloc: Global, caller: Caller, share: Share<L>) -> Result<Pass<L>, AllocError>
+    // A pass without receipts, which has room for some, with one part of the count.
+    fn open(
+        alloc: Global,
+        caller: Caller,
+        room: usize,
+        share: Share<L>,
+    ) -> Result<Pass<L>, AllocError>
         requires { (share.parts ≡ 1) × (share.amount ≡ 0) }
         ensures { IfOk result (λ pass. (pass.caller ≡ caller) × (pass.receipts ≡ []) × (pass.share ≡ 0)) }
     {
-        let receipts = Box::new(alloc, Receipts::new(alloc))?;
+        let mut receipts = Receipts::new(alloc);
+        receipts.reserve_rows(room)?;
+        let receipts = Box::new(alloc, receipts)?;
         Ok(Pass {
             caller,
             receipts,
@@ -223,7 +230,8 @@ impl<L: Ledger> Pass<L> {
 
 impl<L: Ledger> Held<L> {
     /// A machine to which nothing happened yet, and a pass for each caller, in order. The blank has as many
-    /// parts as there are callers. For want of memory the machine comes back.
+    /// parts as there are callers. The room that its history has for events is made in the passes too, each
+    /// an equal part. For want of memory the machine comes back.
     pub fn open(
         kept: Kept<Global>,
         blank: Blank,
@@ -239,10 +247,12 @@ impl<L: Ledger> Held<L> {
         if passes.reserve(callers.len()).is_err() {
             return Err(kept);
         }
+        let room = kept.history().row_room();
+        let each = room.checked_div(callers.len()).unwrap_or(0);
         let (count, mut rest) = blank.open::<L>();
         for i in 0..callers.len() {
             let share = rest.split_off(1, 0);
-            let Ok(pass) = Pass::open(*callers.allocator(), callers[i], share) else {
+            let Ok(pass) = Pass::open(*callers.allocator(), callers[i], each, share) else {
                 return Err(kept);
             };
             passes.push_reserved(pass);

@@ -109,6 +109,14 @@ impl Receipts {
         self.packed.reserve(event, count)
     }
 
+    // Makes room for so many receipts, but not for what their events put in, nor for long outputs.
+    pub(crate) fn reserve_rows(&mut self, count: usize) -> Result<(), AllocError>
+        ensures { list_of self.new ≡ list_of self.old }
+    {
+        self.numbers.reserve(count)?;
+        self.packed.reserve_rows(count)
+    }
+
     // For how many such receipts there is room.
     pub(crate) fn room(&self, event: &Event<Global>) -> usize
         ensures fits { HasRoom result (room_in self.now) event.now }

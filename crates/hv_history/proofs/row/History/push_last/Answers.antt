@@ -15,8 +15,8 @@ use Rattle.hv_history.proofs.row.History.push_last.Goals as goal
 pub head_for-head-requires-clause-head : goal.head_for-head-requires-clause-head
 head_for-head-requires-clause-head g c = c.requires.room.head (omega arith)
 
-pub place_output-output-requires : goal.place_output-output-requires
-place_output-output-requires g c =
+pub place_output_of-output-requires-clause-room : goal.place_output_of-output-requires-clause-room
+place_output_of-output-requires-clause-room g c =
     let h = c.args.self.now in
     let o = c.args.other.now in
     let event = c.args.event.now in
@@ -32,7 +32,6 @@ place_output-output-requires g c =
     let is = subst (IsPlaced (vec_len o.heads) (vec_len o.outputs)) (sym c.index-row.ensures) (o.placed (c.len.result - 1) row less) in
     let most = is.most in
     let same = same_most row.kind row.first row.second (head_at o.heads.items row.head).r8 (bytes_at o.inputs.items (head_at o.heads.items row.head).input_start (head_at o.heads.items row.head).input_len) event.what (ap (λ (e : Event g.row.A.Denot). e.what) last.1) in
-    let len = c.output_of.ensures.len in
     let times = suc-mul 0 (most_output event.what) in
     let ok = h.outputs.ok in
     omega (arith, ok.1)
@@ -43,11 +42,11 @@ invariant_of-self-clause-placed g c =
     let o = c.args.other.now in
     let row = c.index-row.result.now in
     let head = c.head_for-head.ensures in
-    let output = c.place_output-output.ensures in
+    let output = c.place_output_of-output.ensures in
     let outputs = rw head.outputs at output.outputs in
-    let len : vec_len c.place_output-output.new.self.heads ≡ vec_len c.head_for-head.new.self.heads = ap vec_len output.heads in
+    let len : vec_len c.place_output_of-output.new.self.heads ≡ vec_len c.head_for-head.new.self.heads = ap vec_len output.heads in
     let heads_more = grown _ _ h.heads.items c.head_for-head.new.self.heads.items h.heads.ok.0 c.head_for-head.new.self.heads.ok.0 head.heads in
-    let outputs_more = grown _ _ h.outputs.items c.place_output-output.new.self.outputs.items h.outputs.ok.0 c.place_output-output.new.self.outputs.ok.0 outputs in
+    let outputs_more = grown _ _ h.outputs.items c.place_output_of-output.new.self.outputs.items h.outputs.ok.0 c.place_output_of-output.new.self.outputs.ok.0 outputs in
     let there = head.there in
     let some = c.requires.some in
     let less : c.len.result - 1 < length o.rows.items = omega (arith, length-map o.rows.items (entry_of {A = g.row.A.Denot} o.heads.items o.inputs.items o.outputs.items)) in
@@ -55,7 +54,7 @@ invariant_of-self-clause-placed g c =
     rw (c.push_reserved.ensures.items, output.rows, head.rows)
     (placed_more _ _ _ _ h.rows.items _ (omega arith) outputs_more h.placed (record {
       head = omega arith;
-      output = subst (IsThere (vec_len c.place_output-output.new.self.outputs) c.place_output-output.result) c.output_of.ensures.len output.there;
+      output = output.there;
       most = is.most;
       index = is.index;
     }))
@@ -67,7 +66,7 @@ returns-clause-pushed g c = λ entry is.
     let event = c.args.event.now in
     let row = c.index-row.result.now in
     let head = c.head_for-head.ensures in
-    let output = c.place_output-output.ensures in
+    let output = c.place_output_of-output.ensures in
     let outputs = rw head.outputs at output.outputs in
     let some = c.requires.some in
     let place : c.len.result - 1 + 1 ≡ length o.rows.items = omega (arith, length-map o.rows.items (entry_of {A = g.row.A.Denot} o.heads.items o.inputs.items o.outputs.items)) in
@@ -80,8 +79,7 @@ returns-clause-pushed g c = λ entry is.
     ap (λ r8. action_of (asked_in row.kind row.first row.second r8) (input_in event.what)) head.r8 ∙ asks _ _ _ _ _ event.what what in
     let input = head.input in
     let out : List ℕ = output_at o.outputs.items row.output row.output_len in
-    let puts : output_at c.place_output-output.new.self.outputs.items c.place_output-output.result row.output_len ≡ out =
-    ap (output_at c.place_output-output.new.self.outputs.items c.place_output-output.result) (sym c.output_of.ensures.len) ∙ output.placed ∙ c.output_of.ensures.bytes in
+    let puts : output_at c.place_output_of-output.new.self.outputs.items c.place_output_of-output.result row.output_len ≡ out = output.placed in
     let reply = reply_of row.answer (out ++ zeros row.output_zeros) in
     let made : record { event = event; reply = reply } ≡ entry = λ i. record { event = sym event_is i; reply = ap (λ (e : Entry g.row.A.Denot). e.reply) (sym entry_is) i } in
     rw (c.push_reserved.ensures.items, output.rows, output.heads, output.inputs, head.rows)
@@ -96,7 +94,7 @@ returns-clause-room g c = λ more room.
     let event = c.args.event.now in
     let row = c.index-row.result.now in
     let head = c.head_for-head.ensures in
-    let output = c.place_output-output.ensures in
+    let output = c.place_output_of-output.ensures in
     let rows = ap vec_len output.rows ∙ ap vec_len head.rows in
     let rows_room = ap vec_capacity output.rows ∙ ap vec_capacity head.rows in
     let outputs = ap vec_len head.outputs in
@@ -115,7 +113,6 @@ returns-clause-room g c = λ more room.
     let is = subst (IsPlaced (vec_len o.heads) (vec_len o.outputs)) (sym c.index-row.ensures) (o.placed (c.len.result - 1) row less) in
     let most = is.most in
     let same = same_most row.kind row.first row.second (head_at o.heads.items row.head).r8 (bytes_at o.inputs.items (head_at o.heads.items row.head).input_start (head_at o.heads.items row.head).input_len) event.what (ap (λ (e : Event g.row.A.Denot). e.what) last.1) in
-    let len = c.output_of.ensures.len in
     let times = suc-mul more (most_output event.what) in
     record {
       rows = omega arith;
