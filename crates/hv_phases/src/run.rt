@@ -51,17 +51,25 @@ pub fn run_lines<R: Threads + Wait + Sync, G: Gate>(
         return (kept, None);
     }
     let mut kept = kept;
-    if make_room(&mut kept, lines.len()).is_err() {
+    if make_room(&mut kept, lines.len(), callers.len()).is_err() {
         return (kept, Some(Unfinished::Host(HostRefused::Memory)));
     }
     let parts = callers.len() as u64;
     run_under::<Brand, R, G>(rt, gate, kept, Blank::new(parts), callers, lines, serial)
 }
 
-// Makes room in the history for an event of each line, as most lines are, or for as many as it may have.
-fn make_room(kept: &mut Kept<Global>, lines: usize) -> Result<(), AllocError>
+// Where each processor has so many lines, room for their events is made before: an allocator keeps a list of
+// so many in a block of its own, which stays where it is.
+const MANY_LINES: usize = 4096;
+
+// Makes room in the history for an event of each line, as most lines are, or for as many as it may have,
+// unless the processors have few lines each.
+fn make_room(kept: &mut Kept<Global>, lines: usize, callers: usize) -> Result<(), AllocError>
     ensures { kept.new ≡ kept.old }
 {
+    if lines / MANY_LINES < callers {
+        return Ok(());
+    }
     let most = kept.limit() as usize;
     kept.reserve_rows(if lines < most { lines } else { most })
 }

@@ -131,17 +131,13 @@ fn place_among(callers: &[Caller], by: Caller) -> usize
     callers.len()
 }
 
-// Where the task of a processor stands. It is looked for first at this place, since a processor mostly goes
-// on, and then in front, where the tasks of one processor or two stand.
-fn place_of<L: Ledger>(tasks: &[Task<L>], places: &Places, last: usize, by: Caller) -> usize
+// Where the task of a processor stands. Many scripts have one processor or two, whose tasks stand in front.
+fn place_of<L: Ledger>(tasks: &[Task<L>], places: &Places, by: Caller) -> usize
     requires there { Contains (callers_in tasks.now) by }
     requires index { Tells places.now (callers_in tasks.now) }
     ensures there { result < length tasks.now }
     ensures by { (d : Task L) → (slice_index_or tasks.now result d).work.pass.caller ≡ by }
 {
-    if is_at(tasks, last, by) {
-        return last;
-    }
     if is_at(tasks, 0, by) {
         return 0;
     }
@@ -155,6 +151,7 @@ fn place_of<L: Ledger>(tasks: &[Task<L>], places: &Places, last: usize, by: Call
 }
 
 // Whether the task at a place, if there is one, is this processor's.
+#[inline(always)]
 fn is_at<L: Ledger>(tasks: &[Task<L>], place: usize, by: Caller) -> bool
     ensures there { IsTrue result → place < length tasks.now }
     ensures by { IsTrue result → (d : Task L)
@@ -190,7 +187,8 @@ fn move_to(places: &mut Places, by: Caller, place: usize)
 
 /// Brings the task of a processor to the place `members`, unless it stands before that, and tells where it
 /// stands: before that place stand the processors of the phase that had a line, in the order of their first
-/// lines. `last` is where it may stand already.
+/// lines. It is looked for first at the place `last`, since a processor mostly goes on.
+#[inline(always)]
 pub fn enlist<L: Ledger>(
     tasks: &mut [Task<L>],
     places: &mut Places,
@@ -209,7 +207,27 @@ pub fn enlist<L: Ledger>(
     ensures going { AreGoingFrom members tasks.old → (i : ℕ) (d : Task L) → members ≤ i → result < i
         → i < length tasks.new → IsGoing (slice_index_or tasks.new i d) }
 {
-    let place = place_of(tasks, places, last, by);
+    if last < members && is_at(tasks, last, by) {
+        return last;
+    }
+    bring(tasks, places, members, by)
+}
+
+// The same, wherever it stands.
+#[inline(never)]
+fn bring<L: Ledger>(tasks: &mut [Task<L>], places: &mut Places, members: usize, by: Caller) -> usize
+    requires there { Contains (callers_in tasks.old) by }
+    requires index { Tells places.old (callers_in tasks.old) }
+    ensures index { Tells places.new (callers_in tasks.new) }
+    ensures same { IsPermutation tasks.old tasks.new }
+    ensures there { (result ≤ members) × (result < length tasks.new) }
+    ensures by { (d : Task L) → (slice_index_or tasks.new result d).work.pass.caller ≡ by }
+    ensures idle { AreIdleFrom members tasks.old → (i : ℕ) (d : Task L) → members ≤ i → result < i
+        → i < length tasks.new → (slice_index_or tasks.new i d).work.actions ≡ [] }
+    ensures going { AreGoingFrom members tasks.old → (i : ℕ) (d : Task L) → members ≤ i → result < i
+        → i < length tasks.new → IsGoing (slice_index_or tasks.new i d) }
+{
+    let place = place_of(tasks, places, by);
     if place < members {
         return place;
     }

@@ -45,6 +45,7 @@ impl<A: Allocator + Clone> Reading<A> {
     ghost use Rattle.hv_script.specs.Words.{lines_left, lines_of, most_left, words_of};
 
     /// Reads the first line of a text, and gives what stands after its line feed, if it has one.
+    #[inline(always)]
     pub fn read_next<'a>(
         alloc: &A,
         reading: &mut Option<Reading<A>>,
@@ -70,6 +71,8 @@ impl<A: Allocator + Clone> Reading<A> {
     }
 
     /// Reads a line after what was read before it. If it is the first, room is made for about so many more.
+    /// Not inlined, as few lines are read so.
+    #[inline(never)]
     #[tactic(auto, unfolding(crate::specs::Script::read_line))]
     pub fn read_line(
         alloc: &A,
