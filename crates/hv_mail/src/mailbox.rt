@@ -71,6 +71,7 @@ impl<A: Allocator> Mailbox<A> {
         }
         if self.queues.is_empty() {
             self.queues = quiet_queues(self.queues.allocator().clone()?)?;
+            return Ok(());
         }
         reserve_each(&mut self.queues)
     }
@@ -175,14 +176,15 @@ fn are_roomy<A: Allocator>(queues: &[SintQueue<A>]) -> bool
     queues.iter().all(|queue| queue.has_room())
 }
 
-// A queue for each SINT, with nothing in it.
+// A queue for each SINT, with nothing in it and room for one message.
 fn quiet_queues<A: Allocator + Clone>(alloc: A) -> Result<Vec<SintQueue<A>, A>, AllocError>
     ensures count { IfOk result (λ queues. length queues.items ≡ SINTS) }
     ensures quiet { IfOk result (λ queues. mail_from 0 queues.items ≡ map.empty) }
+    ensures room { IfOk result (λ queues. list_all (λ q. q.room) queues.items ≡ true) }
 {
     let mut queues = Vec::new(alloc.clone()?);
     for _ in 0..SINTS {
-        queues.push(SintQueue::new(alloc.clone()?))?;
+        queues.push(SintQueue::new(alloc.clone()?)?)?;
     }
     Ok(queues)
 }

@@ -1,5 +1,5 @@
 // What stands at one SINT: a slot that shows a message, and a ring of those that wait.
-ghost use Rattle.std.specs.Prelude.{◌≡◌, ◌+◌, ◌≤◌, ◌^◌, true, OnOk};
+ghost use Rattle.std.specs.Prelude.{◌≡◌, ◌+◌, ◌≤◌, ◌^◌, true, IfOk, OnOk};
 ghost use Rattle.hv_mail.specs.Mail.{no_mail, with_next, has_next, with_last, posted, cleared, count_at};
 ghost use Rattle.hv_mail.specs.Slot.{is_some_of, slot_bytes};
 
@@ -36,14 +36,15 @@ impl<A: Allocator> Model for SintQueue<A> {
 }
 
 impl<A: Allocator> SintQueue<A> {
-    // No message, and no memory for any.
-    pub(crate) fn new(alloc: A) -> SintQueue<A>
-        ensures { result.mail ≡ no_mail }
+    // No message, and room for one, which is all that most SINTs ever need.
+    pub(crate) fn new(alloc: A) -> Result<SintQueue<A>, AllocError>
+        ensures mail { IfOk result (λ q. q.mail ≡ no_mail) }
+        ensures room { IfOk result (λ q. q.room ≡ true) }
     {
-        SintQueue {
+        Ok(SintQueue {
             slot: None,
-            waiting: VecDeque::new(alloc),
-        }
+            waiting: VecDeque::with_capacity(alloc, 1)?,
+        })
     }
 
     // Makes room for one message more.
