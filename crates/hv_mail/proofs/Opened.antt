@@ -28,6 +28,10 @@ whole queues w r =
 pub absent_at : (queues : List QueueState) (k : ℕ) → is_whole queues ≡ true → k < 16 → length queues ≤ k → get (mail_from 0 queues) k ≡ None
 absent_at queues k w small past = past-mail_from 0 queues k (omega arith)
 
+-- one of them written anew
+pub still_whole : (queues : List QueueState) (k : ℕ) (new : QueueState) → is_whole queues ≡ true → is_whole (set queues k new) ≡ true
+still_whole queues k new w = ap (λ n. (n == 0) || (n == 16)) (length-set queues k new) ∙ w
+
 -- where there is room, a queue that is written anew and keeps its room leaves room
 pub still_roomy : (queues : List QueueState) (k : ℕ) (old new : QueueState) → k < length queues → old ≡ get_or queues k old → (old.room ≡ true → new.room ≡ true)
     → is_roomy queues ≡ true → is_roomy (set queues k new) ≡ true

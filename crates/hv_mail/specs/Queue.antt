@@ -1,5 +1,5 @@
 -- What contracts see of one SINT's queue, and of all sixteen.
-use Rattle.std.specs.Prelude.{ℕ, suc, ◌==◌, ◌||◌, ◌&&◌, not, Bool, List, [], ◌∷◌, length, refl}
+use Rattle.std.specs.Prelude.{◌≡◌, ℕ, suc, ◌==◌, ◌||◌, ◌&&◌, not, Bool, true, List, [], ◌∷◌, length, refl}
 use Rattle.std.specs.Coded.{Coded, code_by, coded×, coded_bool}
 use Rattle.std.specs.FinMap as map
 use Rattle.std.specs.List.{list_all}
@@ -27,3 +27,8 @@ is_roomy queues = not (length queues == 0) && list_all (λ q. q.room) queues
 -- no queues yet, or one for each SINT
 abbrev pub is_whole : List QueueState → Bool
 is_whole queues = (length queues == 0) || (length queues == SINTS)
+
+-- the queues of a mailbox, each with room where that is noted
+pub record AreQueues (queues : List QueueState) (roomy : Bool) : Type 0 where
+  pub whole : is_whole queues ≡ true
+  pub room : roomy ≡ true → is_roomy queues ≡ true

@@ -21,12 +21,13 @@ use std::marker::Model;
 #[derive(Drop)]
 pub struct Mailbox<A: Allocator> {
     queues: Vec<SintQueue<A>, A>,
+    // Where it is set, each SINT is known to have room, and the queues need not be asked.
+    roomy: bool,
 }
 
 impl<A: Allocator> Model for Mailbox<A> {
-    ghost use Rattle.std.specs.Prelude.{true, ◌≡◌};
     ghost use Rattle.hv_mail.specs.Mail.{MailboxState, mailbox_code};
-    ghost use Rattle.hv_mail.specs.Queue.{mail_from, is_roomy, is_whole};
+    ghost use Rattle.hv_mail.specs.Queue.{mail_from, is_roomy, AreQueues};
 
     ghost Value = { MailboxState };
 
@@ -34,7 +35,7 @@ impl<A: Allocator> Model for Mailbox<A> {
 
     ghost view = { λ m. record { mail = mail_from 0 m.queues.items; room = is_roomy m.queues.items } };
 
-    ghost invariant = { λ m. is_whole m.queues.items ≡ true };
+    ghost invariant = { λ m. AreQueues m.queues.items m.roomy };
 }
 
 impl<A: Allocator> Mailbox<A> {
@@ -44,6 +45,7 @@ impl<A: Allocator> Mailbox<A> {
     {
         Mailbox {
             queues: Vec::new(alloc),
+            roomy: false,
         }
     }
 
@@ -51,7 +53,7 @@ impl<A: Allocator> Mailbox<A> {
     pub fn has_room(&self) -> bool
         ensures { result ≡ self.now.room }
     {
-        !self.queues.is_empty() && are_roomy(&self.queues)
+        self.roomy || (!self.queues.is_empty() && are_roomy(&self.queues))
     }
 
     /// Makes room for one message more at each SINT. Room that is there already always suffices.
@@ -66,14 +68,15 @@ impl<A: Allocator> Mailbox<A> {
         ensures mail { self.new.mail ≡ self.old.mail }
         ensures kept { self.old.room ≡ true → self.new.room ≡ true }
     {
-        if self.has_room() {
-            return Ok(());
+        if !self.has_room() {
+            if self.queues.is_empty() {
+                self.queues = quiet_queues(self.queues.allocator().clone()?)?;
+            } else {
+                reserve_each(&mut self.queues)?;
+            }
         }
-        if self.queues.is_empty() {
-            self.queues = quiet_queues(self.queues.allocator().clone()?)?;
-            return Ok(());
-        }
-        reserve_each(&mut self.queues)
+        self.roomy = true;
+        Ok(())
     }
 
     /// Adds a message behind those that stand at a SINT below 16, and shows it where none does. It must
@@ -85,7 +88,9 @@ impl<A: Allocator> Mailbox<A> {
         ensures shown { result ≡ has_next (with_last (at self.old.mail sint) message) }
     {
         let queue = &mut self.queues[usize::from(sint)];
-        queue.post(message)
+        let shown = queue.post(message);
+        self.roomy = queue.has_room();
+        shown
     }
 
     /// The 256 bytes of the message slot of a SINT below 16, which are zeros where it shows no message:

@@ -1,5 +1,5 @@
 use Rattle.std.proofs.Common.{◌∙◌, refl, sym, ap, arith}
-use Rattle.hv_mail.proofs.Opened.{absent_at, still_roomy}
+use Rattle.hv_mail.proofs.Opened.{absent_at, still_roomy, still_whole}
 use Rattle.hv_mail.proofs.Queues.{write_queue, read_queue, same_absent}
 use Rattle.hv_mail.specs.Mail.{MailboxState, with_next, has_next, mail_or_none}
 use Rattle.hv_mail.proofs.mailbox.Mailbox.advance.Goals as goal
@@ -14,12 +14,18 @@ returns-then-at-len-clause-shown g c =
 
 pub returns-else-at-len-clause-mail : goal.returns-else-at-len-clause-mail
 returns-else-at-len-clause-mail g c =
-    rw (← c.self.view_is) (same_absent _ c.args.sint with_next refl (absent_at c.self.inside.queues.items c.args.sint c.self.invariant c.requires (omega arith)))
+    rw (← c.self.view_is) (same_absent _ c.args.sint with_next refl (absent_at c.self.inside.queues.items c.args.sint c.self.invariant.whole c.requires (omega arith)))
 
 pub returns-else-at-len-clause-shown : goal.returns-else-at-len-clause-shown
 returns-else-at-len-clause-shown g c =
-    rw (← c.self.view_is) (sym (ap (λ o. has_next (mail_or_none o)) (absent_at c.self.inside.queues.items c.args.sint c.self.invariant c.requires (omega arith))))
+    rw (← c.self.view_is) (sym (ap (λ o. has_next (mail_or_none o)) (absent_at c.self.inside.queues.items c.args.sint c.self.invariant.whole c.requires (omega arith))))
 
 pub returns-then-at-len-clause-kept : goal.returns-then-at-len-clause-kept
 returns-then-at-len-clause-kept g c roomy =
     still_roomy c.self.inside.queues.items c.from-at.result c.index_mut-queue.result.now c.advance.new.self (omega arith) c.index_mut-queue.ensures.value c.advance.ensures.kept (ap {A = MailboxState} (λ m. m.room) c.self.view_is ∙ roomy)
+
+pub invariant_of-self : goal.invariant_of-self
+invariant_of-self g c = record {
+  whole = still_whole c.self.inside.queues.items c.from-at.result c.advance.new.self c.self.invariant.whole;
+  room = λ noted. still_roomy c.self.inside.queues.items c.from-at.result c.index_mut-queue.result.now c.advance.new.self (omega arith) c.index_mut-queue.ensures.value c.advance.ensures.kept (c.self.invariant.room noted);
+}
