@@ -3,6 +3,7 @@ pub mod FlagMembers
 pub mod Members
 pub mod Opened
 pub mod Queues
+pub mod Quiet
 pub mod Rows
 pub mod Totals
 pub mod WordBits

@@ -1,10 +1,11 @@
 -- What contracts see of one SINT's queue, and of all sixteen.
-use Rattle.std.specs.Prelude.{◌≡◌, ℕ, suc, ◌==◌, ◌||◌, ◌&&◌, not, Bool, true, List, [], ◌∷◌, length, refl}
+use Rattle.std.specs.Prelude.{◌≡◌, ℕ, suc, ◌<◌, ◌==◌, ◌||◌, ◌&&◌, not, Bool, true, List, [], ◌∷◌, length, refl}
 use Rattle.std.specs.Coded.{Coded, code_by, coded×, coded_bool}
 use Rattle.std.specs.FinMap as map
+use Rattle.std.specs.Int.{bit_at}
 use Rattle.std.specs.List.{list_all}
 use Rattle.hv_defs.specs.declared.sizes.TheConstants.{SINTS}
-use Rattle.hv_mail.specs.Mail.{Mail, SintMail, sint_mail_code, with_at}
+use Rattle.hv_mail.specs.Mail.{Mail, SintMail, sint_mail_code, no_mail, at, with_at}
 
 -- what stands there, and whether one message more has its memory
 pub record QueueState : Type 0 where
@@ -28,7 +29,12 @@ is_roomy queues = not (length queues == 0) && list_all (λ q. q.room) queues
 abbrev pub is_whole : List QueueState → Bool
 is_whole queues = (length queues == 0) || (length queues == SINTS)
 
--- the queues of a mailbox, each with room where that is noted
-pub record AreQueues (queues : List QueueState) (roomy : Bool) : Type 0 where
+-- nothing stands at a SINT whose bit is 0
+abbrev pub AreQuiet : ℕ → Mail → Type 0
+AreQuiet busy mail = (sint : ℕ) → sint < SINTS → bit_at busy sint ≡ 0 → at mail sint ≡ no_mail
+
+-- the queues of a mailbox, with what is noted of them: that each has room, and which SINTs may have a message
+pub record AreQueues (queues : List QueueState) (roomy : Bool) (busy : ℕ) : Type 0 where
   pub whole : is_whole queues ≡ true
   pub room : roomy ≡ true → is_roomy queues ≡ true
+  pub quiet : AreQuiet busy (mail_from 0 queues)

@@ -5,7 +5,7 @@ ghost use Rattle.std.specs.FinMap as map;
 ghost use Rattle.hv_defs.specs.declared.sizes.TheConstants.{SINTS};
 ghost use Rattle.hv_mail.specs.Mail.{no_messages, with_next, has_next, with_last, posted, cleared, count_at};
 ghost use Rattle.hv_mail.specs.Mail.{count_of, next_mask, at, with_at, all_next};
-ghost use Rattle.hv_mail.specs.Queue.{mail_from};
+ghost use Rattle.hv_mail.specs.Queue.{mail_from, AreQuiet};
 ghost use Rattle.hv_mail.specs.Slot.{slot_bytes};
 
 use crate::message::Message;
@@ -23,6 +23,8 @@ pub struct Mailbox<A: Allocator> {
     queues: Vec<SintQueue<A>, A>,
     // Where it is set, each SINT is known to have room, and the queues need not be asked.
     roomy: bool,
+    // Bit n is 1 where SINT n may have a message. No other SINT has one.
+    busy: u16,
 }
 
 impl<A: Allocator> Model for Mailbox<A> {
@@ -35,7 +37,7 @@ impl<A: Allocator> Model for Mailbox<A> {
 
     ghost view = { λ m. record { mail = mail_from 0 m.queues.items; room = is_roomy m.queues.items } };
 
-    ghost invariant = { λ m. AreQueues m.queues.items m.roomy };
+    ghost invariant = { λ m. AreQueues m.queues.items m.roomy m.busy };
 }
 
 impl<A: Allocator> Mailbox<A> {
@@ -46,6 +48,7 @@ impl<A: Allocator> Mailbox<A> {
         Mailbox {
             queues: Vec::new(alloc),
             roomy: false,
+            busy: 0,
         }
     }
 
@@ -90,6 +93,7 @@ impl<A: Allocator> Mailbox<A> {
         let queue = &mut self.queues[usize::from(sint)];
         let shown = queue.post(message);
         self.roomy = queue.has_room();
+        self.busy |= 1 << sint;
         shown
     }
 
@@ -119,6 +123,9 @@ impl<A: Allocator> Mailbox<A> {
         if at < self.queues.len() {
             let queue = &mut self.queues[at];
             queue.clear();
+            if !queue.is_pending() {
+                self.busy &= !(1 << sint);
+            }
         }
     }
 
@@ -158,18 +165,22 @@ impl<A: Allocator> Mailbox<A> {
     pub fn of_port(&self, port: u32, born: u64) -> usize
         ensures { result ≡ count_of port born self.now.mail }
     {
-        count_each(&self.queues, port, born)
+        count_each(&self.queues, self.busy, port, born)
     }
 }
 
-// How many messages of a port and birth there are in 16 queues at most.
-fn count_each<A: Allocator>(queues: &[SintQueue<A>], port: u32, born: u64) -> usize
-    requires { length queues.now ≤ SINTS }
+// How many messages of a port and birth there are in 16 queues at most, of which the busy ones alone
+// are looked at.
+fn count_each<A: Allocator>(queues: &[SintQueue<A>], busy: u16, port: u32, born: u64) -> usize
+    requires few { length queues.now ≤ SINTS }
+    requires quiet { AreQuiet busy (mail_from 0 queues.now) }
     ensures { result ≡ sum_by (λ q. count_at port born q.mail) queues.now }
 {
     let mut count = 0;
-    for queue in queues {
-        count += queue.count_of(port, born);
+    for (sint, queue) in queues.iter().enumerate() {
+        if busy >> sint & 1 != 0 {
+            count += queue.count_of(port, born);
+        }
     }
     count
 }

@@ -1,7 +1,9 @@
 use Rattle.std.proofs.Common.{◌∙◌, refl, sym, ap, arith}
 use Rattle.hv_mail.proofs.Opened.{absent_at, still_roomy, still_whole}
 use Rattle.hv_mail.proofs.Queues.{write_queue, read_queue, same_absent}
+use Rattle.hv_mail.proofs.Quiet.{quiet_kept}
 use Rattle.hv_mail.specs.Mail.{MailboxState, with_next, has_next, mail_or_none}
+use Rattle.hv_mail.specs.Queue.{mail_from}
 use Rattle.hv_mail.proofs.mailbox.Mailbox.advance.Goals as goal
 
 pub returns-then-at-len-clause-mail : goal.returns-then-at-len-clause-mail
@@ -28,4 +30,5 @@ pub invariant_of-self : goal.invariant_of-self
 invariant_of-self g c = record {
   whole = still_whole c.self.inside.queues.items c.from-at.result c.advance.new.self c.self.invariant.whole;
   room = λ noted. still_roomy c.self.inside.queues.items c.from-at.result c.index_mut-queue.result.now c.advance.new.self (omega arith) c.index_mut-queue.ensures.value c.advance.ensures.kept (c.self.invariant.room noted);
+  quiet = rw (write_queue c.self.inside.queues.items c.from-at.result c.index_mut-queue.result.now c.advance.new.self with_next (omega arith) c.index_mut-queue.ensures.value c.advance.ensures.mail) (quiet_kept c.self.inside.busy (mail_from 0 c.self.inside.queues.items) c.from-at.result c.self.invariant.quiet with_next refl);
 }

@@ -1,23 +1,58 @@
-use Rattle.std.proofs.Common.{◌∙◌, refl, ap, arith}
+use Rattle.std.proofs.Common.{◌≡◌, true, false, ◌∙◌, set, refl, sym, ap, arith}
 use Rattle.hv_mail.proofs.Opened.{absent_at, still_roomy, still_whole}
-use Rattle.hv_mail.proofs.Queues.{write_queue, same_absent}
-use Rattle.hv_mail.specs.Mail.{MailboxState, cleared}
+use Rattle.hv_mail.proofs.Queues.{write_queue, read_queue, same_absent}
+use Rattle.hv_mail.proofs.Quiet.{none_left, quiet_kept, quiet_cleared}
+use Rattle.hv_mail.specs.Mail.{MailboxState, SintMail, at, with_at, cleared}
+use Rattle.hv_mail.specs.Queue.{is_roomy, mail_from}
+use Rattle.hv_mail.specs.Slot.{is_some_of}
+use Rattle.hv_mail.proofs.mailbox.Mailbox.clear.Given.{Over}
+use Rattle.hv_mail.proofs.mailbox.Mailbox.clear.Goals.{After-clear}
 use Rattle.hv_mail.proofs.mailbox.Mailbox.clear.Goals as goal
 
-pub returns-then-at-len-clause-mail : goal.returns-then-at-len-clause-mail
-returns-then-at-len-clause-mail g c =
-    rw (← c.self.view_is, ← c.from-at.ensures) (write_queue c.self.inside.queues.items c.from-at.result c.index_mut-queue.result.now c.clear.new.self cleared (omega arith) c.index_mut-queue.ensures.value c.clear.ensures.mail)
+-- the mail once the queue was cleared
+written : (g : Over) (c : After-clear g)
+    → mail_from 0 (set c.self.inside.queues.items c.from-at.result c.clear.new.self) ≡ with_at (mail_from 0 c.self.inside.queues.items) c.from-at.result (cleared (at (mail_from 0 c.self.inside.queues.items) c.from-at.result))
+written g c = write_queue c.self.inside.queues.items c.from-at.result c.index_mut-queue.result.now c.clear.new.self cleared (omega arith) c.index_mut-queue.ensures.value c.clear.ensures.mail
+
+-- and that there is room still
+roomy : (g : Over) (c : After-clear g) → is_roomy c.self.inside.queues.items ≡ true → is_roomy (set c.self.inside.queues.items c.from-at.result c.clear.new.self) ≡ true
+roomy g c = still_roomy c.self.inside.queues.items c.from-at.result c.index_mut-queue.result.now c.clear.new.self (omega arith) c.index_mut-queue.ensures.value (λ r. c.clear.ensures.room ∙ r)
+
+pub returns-then-not-is_pending-clause-mail : goal.returns-then-not-is_pending-clause-mail
+returns-then-not-is_pending-clause-mail g c = rw (← c.self.view_is, ← c.from-at.ensures) (written g (goal.at.returns-then-not-is_pending-clause-mail g c).After-clear)
+
+pub returns-else-not-is_pending-clause-mail : goal.returns-else-not-is_pending-clause-mail
+returns-else-not-is_pending-clause-mail g c = rw (← c.self.view_is, ← c.from-at.ensures) (written g (goal.at.returns-else-not-is_pending-clause-mail g c).After-clear)
 
 pub returns-else-at-len-clause-mail : goal.returns-else-at-len-clause-mail
 returns-else-at-len-clause-mail g c =
     rw (← c.self.view_is) (same_absent _ c.args.sint cleared refl (absent_at c.self.inside.queues.items c.args.sint c.self.invariant.whole c.requires (omega arith)))
 
-pub returns-then-at-len-clause-kept : goal.returns-then-at-len-clause-kept
-returns-then-at-len-clause-kept g c roomy =
-    still_roomy c.self.inside.queues.items c.from-at.result c.index_mut-queue.result.now c.clear.new.self (omega arith) c.index_mut-queue.ensures.value (λ r. c.clear.ensures.room ∙ r) (ap {A = MailboxState} (λ m. m.room) c.self.view_is ∙ roomy)
+pub returns-then-not-is_pending-clause-kept : goal.returns-then-not-is_pending-clause-kept
+returns-then-not-is_pending-clause-kept g c room = roomy g (goal.at.returns-then-not-is_pending-clause-kept g c).After-clear (ap {A = MailboxState} (λ m. m.room) c.self.view_is ∙ room)
+
+pub returns-else-not-is_pending-clause-kept : goal.returns-else-not-is_pending-clause-kept
+returns-else-not-is_pending-clause-kept g c room = roomy g (goal.at.returns-else-not-is_pending-clause-kept g c).After-clear (ap {A = MailboxState} (λ m. m.room) c.self.view_is ∙ room)
 
 pub invariant_of-self : goal.invariant_of-self
-invariant_of-self g c = record {
-  whole = still_whole c.self.inside.queues.items c.from-at.result c.clear.new.self c.self.invariant.whole;
-  room = λ noted. still_roomy c.self.inside.queues.items c.from-at.result c.index_mut-queue.result.now c.clear.new.self (omega arith) c.index_mut-queue.ensures.value (λ r. c.clear.ensures.room ∙ r) (c.self.invariant.room noted);
-}
+invariant_of-self g c =
+    let there = (goal.at.invariant_of-self g c).After-clear in
+    let mail = mail_from 0 c.self.inside.queues.items in
+    let stood = read_queue c.self.inside.queues.items c.from-at.result c.index_mut-queue.result.now (omega arith) c.index_mut-queue.ensures.value in
+    let none : is_some_of (at mail c.from-at.result).waiting ≡ false = ap {A = SintMail} (λ m. is_some_of m.waiting) (ap cleared stood ∙ sym c.clear.ensures.mail) ∙ sym c.if-not-is_pending.ensures in
+    record {
+      whole = still_whole c.self.inside.queues.items c.from-at.result c.clear.new.self c.self.invariant.whole;
+      room = λ noted. roomy g there (c.self.invariant.room noted);
+      quiet =
+          rw (written g there, ← c.from-at.ensures)
+          (quiet_cleared c.self.inside.busy mail c.from-at.result c.self.invariant.quiet (cleared (at mail c.from-at.result)) (none_left (at mail c.from-at.result) none) (omega arith));
+    }
+
+pub invariant_of-self-else-not-is_pending : goal.invariant_of-self-else-not-is_pending
+invariant_of-self-else-not-is_pending g c =
+    let there = (goal.at.invariant_of-self-else-not-is_pending g c).After-clear in
+    record {
+      whole = still_whole c.self.inside.queues.items c.from-at.result c.clear.new.self c.self.invariant.whole;
+      room = λ noted. roomy g there (c.self.invariant.room noted);
+      quiet = rw (written g there) (quiet_kept c.self.inside.busy (mail_from 0 c.self.inside.queues.items) c.from-at.result c.self.invariant.quiet cleared refl);
+    }

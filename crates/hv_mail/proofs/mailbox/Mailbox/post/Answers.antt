@@ -1,7 +1,9 @@
 use Rattle.std.proofs.Common.{◌∙◌, sym, ap, arith}
 use Rattle.hv_mail.proofs.Opened.{whole, still_roomy, still_whole}
 use Rattle.hv_mail.proofs.Queues.{write_queue, read_queue}
+use Rattle.hv_mail.proofs.Quiet.{quiet_set}
 use Rattle.hv_mail.specs.Mail.{MailboxState, posted, with_last, has_next}
+use Rattle.hv_mail.specs.Queue.{mail_from}
 use Rattle.hv_mail.proofs.mailbox.Mailbox.post.Goals as goal
 
 pub returns-clause-mail : goal.returns-clause-mail
@@ -21,4 +23,7 @@ invariant_of-self g c =
     record {
       whole = still_whole c.self.inside.queues.items c.from.result c.post-shown.new.self c.self.invariant.whole;
       room = λ noted. still_roomy c.self.inside.queues.items c.from.result c.index_mut-queue.result.now c.post-shown.new.self (omega arith) c.index_mut-queue.ensures.value (λ _. sym c.has_room-self-inside.ensures ∙ noted) roomy;
+      quiet =
+          rw (write_queue c.self.inside.queues.items c.from.result c.index_mut-queue.result.now c.post-shown.new.self (λ m. posted m c.args.message) (omega arith) c.index_mut-queue.ensures.value c.post-shown.ensures.mail, c.from.ensures)
+          (quiet_set c.self.inside.busy (mail_from 0 c.self.inside.queues.items) c.args.sint c.self.invariant.quiet _ c.requires.sint);
     }
