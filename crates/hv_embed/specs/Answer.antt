@@ -1,5 +1,5 @@
 -- What C hands over and is answered, beside the policy's events and replies.
-use Rattle.std.specs.Prelude.{◌≡◌, ◌≤◌, ◌++◌, ℕ, List, length, take, codes, Option, None, Some}
+use Rattle.std.specs.Prelude.{◌≡◌, ◌++◌, ℕ, List, length, take, codes}
 use Rattle.std.specs.Global.{Global}
 use Rattle.hv_abi.specs.declared.frame.Frame.{Frame}
 use Rattle.hv_privs.specs.Privileges.{of}

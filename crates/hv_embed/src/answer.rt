@@ -1,57 +1,78 @@
 // The answer to an event, as C reads it.
-ghost use Rattle.std.specs.Prelude.{◌≡◌, ◌<◌, ◌≤◌, ◌++◌, length, take, false};
-ghost use Rattle.hv_abi.specs.declared.frame.Frame.{Frame as CallFrame};
+ghost use Rattle.std.specs.Prelude.{◌≡◌, ◌<◌, ◌≤◌, ◌++◌, ℕ, List, [], length, take, false};
 ghost use Rattle.hv_defs.specs.declared.sizes.TheConstants.{REPS_END};
 ghost use Rattle.hv_history.specs.Row.{next_in};
-ghost use Rattle.hv_policy.specs.Result.{HasResult};
-ghost use Rattle.hv_policy.specs.declared.event.Action.TheVariants.{Hypercall};
+ghost use Rattle.hv_machine.specs.Access.{access_reply};
+ghost use Rattle.hv_policy.specs.Parts.{reply_of};
+ghost use Rattle.hv_policy.specs.Result.{result_of};
 ghost use Rattle.hv_embed.specs.Answer.{HasOutput, IsAnswer, Says, line_text};
 ghost use Rattle.hv_embed.specs.Answer.{result_in as result_value_in};
 ghost use Rattle.hv_embed.specs.Taken.{HasLine, is_short as is_short_len};
 
 use crate::layout::{DENIED, FAULT, HvReply, MORE, SERVED};
-use hv_machine::{Action, Answer, Event, Reply, result_of};
+use hv_abi::{Frame, ResultValue, Status};
+use hv_machine::{Action, Answer, Event, Reply, Rule};
+use hv_policy::{completed_reps, refused_reps};
 use hv_text::{LINE, audit_line};
 use std::alloc::Global;
 
-// Answers an event with its reply, and puts the audit's line into a buffer that has bytes.
+// How an access is answered of which this became.
+pub(crate) fn answer_of(became: Result<(), Rule>) -> Answer
+    ensures reply { (output : List ℕ) → reply_of result output ≡ access_reply became output }
+    ensures index { next_in (reply_of result []) < REPS_END }
+{
+    match became {
+        Ok(()) => Answer::Served,
+        Err(rule) => Answer::Fault { rule },
+    }
+}
+
+// Answers an event with its reply, in its two parts, and puts the audit's line into a buffer that has bytes.
 pub(crate) fn answer(
     event: &Event<Global>,
     number: u64,
-    told: &Reply,
+    told: Answer,
+    output: &[u8],
     reply: &mut HvReply,
     line: &mut [u8],
 )
     requires room { is_short_len (length line.old) ≡ false }
-    requires index { next_in told.now < REPS_END }
-    requires result { (frame : CallFrame _) → event.now.what ≡ Hypercall frame → HasResult told.now }
-    ensures answer { IsAnswer reply.new event.now.what told.now }
-    ensures line { HasLine line.new reply.new.line_len (line_text number event.now told.now) }
+    requires most { length output.now ≤ 256 }
+    requires index { next_in (reply_of told []) < REPS_END }
+    ensures answer { IsAnswer reply.new event.now.what (reply_of told output.now) }
+    ensures line { HasLine line.new reply.new.line_len
+        (line_text number event.now (reply_of told output.now)) }
 {
-    say(told, reply);
+    say(told, output, reply);
     reply.result = result_in(&event.what, told);
-    reply.line_len = put_line(line, event, number, told);
+    reply.line_len = if line.is_empty() {
+        0
+    } else {
+        put_line(line, event, number, told, output)
+    };
 }
 
-// Puts the audit's line into a buffer that has bytes, and answers its length.
-fn put_line(line: &mut [u8], event: &Event<Global>, number: u64, told: &Reply) -> u32
-    requires room { is_short_len (length line.old) ≡ false }
-    requires index { next_in told.now < REPS_END }
-    ensures { HasLine line.new result (line_text number event.now told.now) }
+// Puts the audit's line into a buffer with room for any, and answers its length. Not inlined, so that an event
+// without a line makes no room for a whole reply.
+#[inline(never)]
+fn put_line(line: &mut [u8], event: &Event<Global>, number: u64, told: Answer, output: &[u8]) -> u32
+    requires room { LINE ≤ length line.old }
+    requires most { length output.now ≤ 256 }
+    requires index { next_in (reply_of told []) < REPS_END }
+    ensures text { take result line.new ≡ line_text number event.now (reply_of told output.now) }
+    ensures most { result ≤ LINE }
 {
-    if line.is_empty() {
-        return 0;
-    }
-    audit_line(line, number, event, told) as u32
+    let reply = Reply::of(told, output);
+    audit_line(line, number, event, &reply) as u32
 }
 
 // The result value of a call. An access has none.
-fn result_in(what: &Action<Global>, told: &Reply) -> u64
-    requires { (frame : CallFrame _) → what.now ≡ Hypercall frame → HasResult told.now }
-    ensures { result ≡ result_value_in what.now told.now }
+fn result_in(what: &Action<Global>, told: Answer) -> u64
+    requires { next_in (reply_of told []) < REPS_END }
+    ensures { (output : List ℕ) → result ≡ result_value_in what.now (reply_of told output) }
 {
     match what {
-        Action::Hypercall(frame) => result_of(frame, told).bits(),
+        Action::Hypercall(frame) => result_value(frame, told),
         Action::ReadMsr(_)
         | Action::WriteMsr(_, _)
         | Action::ReadSlot(_)
@@ -62,12 +83,25 @@ fn result_in(what: &Action<Global>, told: &Reply) -> u64
     }
 }
 
-// Says how an event ended, and what it put out.
-fn say(told: &Reply, reply: &mut HvReply)
-    ensures { Says reply.new told.now }
+// The result value of a call of this frame that was answered so. What it put out doesn't matter.
+fn result_value(frame: &Frame<Global>, told: Answer) -> u64
+    requires { next_in (reply_of told []) < REPS_END }
+    ensures { (output : List ℕ) → result ≡ result_of frame.now (reply_of told output) }
 {
-    let (answer, output) = told.parts();
-    match answer {
+    match told {
+        Answer::Served => ResultValue::new(Status::Success, completed_reps(frame.rcx)).bits(),
+        Answer::More { next } => ResultValue::new(Status::Success, next).bits(),
+        Answer::Denied { status, .. } => ResultValue::new(status, refused_reps(frame.rcx)).bits(),
+        Answer::Fault { .. } => 0,
+    }
+}
+
+// Says how an event ended, and what it put out.
+fn say(told: Answer, output: &[u8], reply: &mut HvReply)
+    requires { length output.now ≤ 256 }
+    ensures { Says reply.new (reply_of told output.now) }
+{
+    match told {
         Answer::Served => put(reply, SERVED, 0, 0, output),
         Answer::More { next } => put(reply, MORE, 0, u32::from(next), output),
         Answer::Denied { rule, .. } => put(reply, DENIED, u32::from(rule.number()), 0, &[]),

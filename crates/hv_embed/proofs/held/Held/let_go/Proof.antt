@@ -5,7 +5,7 @@ use mathlib.Core.List.{List, [], ◌∷◌, ◌++◌}
 use seplogic.Ra.Ura.{Ura}
 use lib.Dec.{T}
 use mir.Val.{Val, vstruct, of_list, has_ty, WT}
-use base.Logic.{SProp, ent, id⊢}
+use base.Logic.{SProp, ent}
 use base.Fml.{ftrue, fsep}
 use prog.Memory.{Memory}
 use prog.Routine.{Routine}
@@ -15,11 +15,10 @@ use contract.Monad.{Fun, fact}
 use contract.Running.{tables, tables_of}
 use sound.WpLaws.{WpFn-mono}
 use types.Kit.{Item, ‵, raw, ◌⊛◌, ◌$◌, ◌∵◌, !, qed, by, move, drop, join, split, fsplit, fjoin, fpick, feq_l, suffices, done}
-use types.Part.{whole, sub, agg}
-use types.Run.{stop, fld, no_more, and_then, of_opd, returns, enter}
+use types.Part.{whole, sub}
+use types.Run.{stop, fld, of_opd, returns, enter}
 use types.ByLocal.{alloc_all, pass_all, free_all, look_at, get, get_in, sets}
 use denote.Exit.{yes}
-use denote.Signature.{type_at}
 use denote.RawPtr.{Ptr, block_ptr, null_ptr, ptr_val}
 use denote.Steps.{nothing}
 use denote.Triple.Spec.{triple_of}
