@@ -1,9 +1,10 @@
 // Lists of actions.
-ghost use Rattle.std.specs.Prelude.{◌≡◌, ◌==◌, ◌<◌, ◌++◌, [], ◌∷◌, List, IfOk, OnErr, OnOk, length, reverse};
+ghost use Rattle.std.specs.Prelude.{◌≡◌, ◌<◌, ◌++◌, [], ◌∷◌, List, IfOk, OnErr, OnOk, length, reverse};
 ghost use Rattle.hv_policy.specs.declared.event.Action.{Action};
 
 use crate::heads::Heads;
 use crate::row::Row;
+use hv_abi::InputValue;
 use hv_policy::Action;
 use std::alloc::{AllocError, Allocator};
 use std::marker::Model;
@@ -29,6 +30,15 @@ impl<A: Allocator> Model for Actions<A> {
     ghost invariant = { λ a. ArePlaced (vec_len a.heads.list) a.rows.items };
 }
 
+/// About how much an action takes of a history.
+#[derive(Clone, Copy, PartialEq, Eq, Debug)]
+pub struct Extent {
+    /// How many events it is, where no rule refuses one: of a rep call its elements from the start index on.
+    pub events: u16,
+    /// How many bytes they put in.
+    pub bytes: u32,
+}
+
 impl<A: Allocator> Actions<A> {
     /// How many actions there are.
     #[inline(always)]
@@ -36,14 +46,6 @@ impl<A: Allocator> Actions<A> {
         ensures { result ≡ length self.now }
     {
         self.rows.len()
-    }
-
-    /// Whether there is none.
-    #[inline(always)]
-    pub fn is_empty(&self) -> bool
-        ensures { result ≡ (length self.now == 0) }
-    {
-        self.rows.is_empty()
     }
 
     /// Adds a copy of an action at the end. For want of memory nothing changes.
@@ -57,11 +59,30 @@ impl<A: Allocator> Actions<A> {
         Ok(())
     }
 
-    /// Makes room for so many more actions, but not for what calls need beside their rows.
-    pub fn reserve(&mut self, count: usize) -> Result<(), AllocError>
+    /// Makes room for so many more actions, whose inputs have so many bytes.
+    pub fn reserve(&mut self, count: usize, bytes: usize) -> Result<(), AllocError>
         ensures { self.new ≡ self.old }
     {
-        self.rows.reserve(count)
+        self.rows.reserve(count)?;
+        self.heads.reserve(count, bytes)
+    }
+
+    /// About how much the action at a place, if there is one, will take of a history.
+    pub fn extent(&self, at: usize) -> Extent {
+        let one = Extent {
+            events: 1,
+            bytes: 0,
+        };
+        if at >= self.rows.len() {
+            return one;
+        }
+        match self.rows[at] {
+            Row::Call { head, rcx, .. } => Extent {
+                events: elements(rcx),
+                bytes: self.heads.input_len(head),
+            },
+            Row::Access(_) => one,
+        }
     }
 
     /// Gives back the memory that the actions don't take. Where that can't be, it stays.
@@ -69,6 +90,11 @@ impl<A: Allocator> Actions<A> {
         ensures { self.new ≡ self.old }
     {
         self.rows.shrink_to_fit();
+    }
+
+    /// The allocator in whose memory they are.
+    pub fn allocator(&self) -> &A {
+        self.rows.allocator()
     }
 
     /// Turns the order round.
@@ -102,15 +128,23 @@ impl<A: Allocator + Clone> Actions<A> {
         })
     }
 
-    /// Takes the last action out, in any case. Its input is copied, for which the host may have no memory:
-    /// then it is lost. What has no input takes no memory.
+    /// Takes the last action out, in any case. Its input is copied into the memory of a spare vector, if it
+    /// has one. The host may have no memory where that is too small: then it is lost.
     #[inline(always)]
-    pub fn take_last(&mut self) -> Result<Action<A>, AllocError>
+    pub fn take_last(&mut self, spare: &mut Vec<u8, A>) -> Result<Action<A>, AllocError>
         requires some { 0 < length self.old }
         ensures { (rest : List (Action A)) (last : Action A) → self.old ≡ rest ++ last ∷ []
             → (self.new ≡ rest) × IfOk result (λ action. action ≡ last) }
     {
         let row = self.rows.take_last();
-        self.heads.action(row)
+        self.heads.action(row, spare)
     }
+}
+
+// How many elements a call names from its start index on, and one of a simple call.
+fn elements(rcx: u64) -> u16
+    ensures { 0 < result }
+{
+    let InputValue { reps, start, .. } = InputValue::read(rcx);
+    if start < reps { reps - start } else { 1 }
 }

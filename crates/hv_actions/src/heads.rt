@@ -8,7 +8,7 @@ use crate::row::{Row, action_from};
 use hv_abi::{Bytes, Frame};
 use hv_policy::Action;
 use std::alloc::{AllocError, Allocator};
-use std::mem::size_of;
+use std::mem::{replace, size_of};
 
 // What most calls share with the one before them: R8, and where the input starts among those of all calls.
 #[derive(Clone, Copy)]
@@ -31,6 +31,23 @@ pub(crate) struct Heads<A: Allocator> {
 }
 
 impl<A: Allocator> Heads<A> {
+    // Makes room for so many more heads, whose inputs have so many bytes.
+    pub(crate) fn reserve(&mut self, count: usize, bytes: usize) -> Result<(), AllocError>
+        ensures heads { self.new.list.items ≡ self.old.list.items }
+        ensures inputs { self.new.inputs.items ≡ self.old.inputs.items }
+    {
+        self.list.reserve(count)?;
+        self.inputs.reserve(bytes)
+    }
+
+    // How many bytes the input of a head has.
+    pub(crate) fn input_len(&self, at: u32) -> u32
+        requires { at < vec_len self.now.list }
+        ensures { result ≡ (head_at self.now.list.items at).len }
+    {
+        self.list[at as usize].len
+    }
+
     // The row of an action, with a head for it if it is a call.
     #[inline(always)]
     pub(crate) fn row(&mut self, action: &Action<A>) -> Result<Row, AllocError>
@@ -156,21 +173,29 @@ impl<A: Allocator + Clone> Heads<A> {
         })
     }
 
-    // The action of a row, with a copy of its input.
+    // The action of a row, with a copy of its input in the memory of a spare vector.
     #[inline(always)]
-    pub(crate) fn action(&self, row: Row) -> Result<Action<A>, AllocError>
+    pub(crate) fn action(&self, row: Row, spare: &mut Vec<u8, A>) -> Result<Action<A>, AllocError>
         requires { IsPlaced (vec_len self.now.list) row }
         ensures { IfOk result (λ action. action ≡ action_at self.now.list.items self.now.inputs.items row) }
     {
         match row {
-            Row::Call { head, rcx, rdx } => Ok(Action::Hypercall(self.frame(head, rcx, rdx)?)),
+            Row::Call { head, rcx, rdx } => {
+                Ok(Action::Hypercall(self.frame(head, rcx, rdx, spare)?))
+            }
             Row::Access(access) => Ok(action_from(access)),
         }
     }
 
     // The frame of a call with these registers, the rest of which is that of the head at a place.
     #[inline(always)]
-    fn frame(&self, at: u32, rcx: u64, rdx: u64) -> Result<Frame<A>, AllocError>
+    fn frame(
+        &self,
+        at: u32,
+        rcx: u64,
+        rdx: u64,
+        spare: &mut Vec<u8, A>,
+    ) -> Result<Frame<A>, AllocError>
         requires { at < vec_len self.now.list }
         ensures { IfOk result (λ frame. Hypercall frame ≡ call_under self.now.inputs.items rcx rdx
             (head_at self.now.list.items at)) }
@@ -178,12 +203,29 @@ impl<A: Allocator + Clone> Heads<A> {
         let Head { r8, start, len } = self.list[at as usize];
         let start = start as usize;
         let input = &self.inputs[start..start + len as usize];
-        let alloc = self.inputs.allocator().clone()?;
         Ok(Frame {
             rcx,
             rdx,
             r8,
-            input: Bytes::from_vec(Vec::from_slice(alloc, input)?),
+            input: Bytes::from_vec(copy_in(spare, input)?),
         })
     }
+}
+
+// A copy of these bytes, in the memory of a spare vector if there are any.
+#[inline(always)]
+fn copy_in<A: Allocator + Clone>(
+    spare: &mut Vec<u8, A>,
+    bytes: &[u8],
+) -> Result<Vec<u8, A>, AllocError>
+    ensures { IfOk result (λ copy. copy.items ≡ bytes.now) }
+{
+    let none = Vec::new(spare.allocator().clone()?);
+    if bytes.is_empty() {
+        return Ok(none);
+    }
+    let mut copy = replace(spare, none);
+    copy.clear();
+    copy.extend_from_slice(bytes)?;
+    Ok(copy)
 }

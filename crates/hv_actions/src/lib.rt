@@ -6,5 +6,7 @@
 mod actions;
 mod heads;
 mod row;
+mod spare;
 
-pub use actions::Actions;
+pub use actions::{Actions, Extent};
+pub use spare::give_back;

@@ -2,30 +2,15 @@
 ghost use Rattle.std.specs.Prelude.{◌≡◌, ◌<◌, ◌≤◌, ◌++◌, ℕ, List, [], length, take, false};
 ghost use Rattle.hv_defs.specs.declared.sizes.TheConstants.{REPS_END};
 ghost use Rattle.hv_history.specs.Row.{next_in};
-ghost use Rattle.hv_machine.specs.Access.{access_reply};
 ghost use Rattle.hv_policy.specs.Parts.{reply_of};
-ghost use Rattle.hv_policy.specs.Result.{result_of};
 ghost use Rattle.hv_embed.specs.Answer.{HasOutput, IsAnswer, Says, line_text};
 ghost use Rattle.hv_embed.specs.Answer.{result_in as result_value_in};
 ghost use Rattle.hv_embed.specs.Taken.{HasLine, is_short as is_short_len};
 
 use crate::layout::{DENIED, FAULT, HvReply, MORE, SERVED};
-use hv_abi::{Frame, ResultValue, Status};
-use hv_machine::{Action, Answer, Event, Reply, Rule};
-use hv_policy::{completed_reps, refused_reps};
-use hv_text::{LINE, audit_line};
+use hv_machine::{Action, Answer, Event};
+use hv_text::{LINE, audit_line, result_value};
 use std::alloc::Global;
-
-// How an access is answered of which this became.
-pub(crate) fn answer_of(became: Result<(), Rule>) -> Answer
-    ensures reply { (output : List ℕ) → reply_of result output ≡ access_reply became output }
-    ensures index { next_in (reply_of result []) < REPS_END }
-{
-    match became {
-        Ok(()) => Answer::Served,
-        Err(rule) => Answer::Fault { rule },
-    }
-}
 
 // Answers an event with its reply, in its two parts, and puts the audit's line into a buffer that has bytes.
 pub(crate) fn answer(
@@ -53,7 +38,7 @@ pub(crate) fn answer(
 }
 
 // Puts the audit's line into a buffer with room for any, and answers its length. Not inlined, so that an event
-// without a line makes no room for a whole reply.
+// without a line makes no room for its text.
 #[inline(never)]
 fn put_line(line: &mut [u8], event: &Event<Global>, number: u64, told: Answer, output: &[u8]) -> u32
     requires room { LINE ≤ length line.old }
@@ -62,8 +47,7 @@ fn put_line(line: &mut [u8], event: &Event<Global>, number: u64, told: Answer, o
     ensures text { take result line.new ≡ line_text number event.now (reply_of told output.now) }
     ensures most { result ≤ LINE }
 {
-    let reply = Reply::of(told, output);
-    audit_line(line, number, event, &reply) as u32
+    audit_line(line, number, event, told, output) as u32
 }
 
 // The result value of a call. An access has none.
@@ -72,7 +56,7 @@ fn result_in(what: &Action<Global>, told: Answer) -> u64
     ensures { (output : List ℕ) → result ≡ result_value_in what.now (reply_of told output) }
 {
     match what {
-        Action::Hypercall(frame) => result_value(frame, told),
+        Action::Hypercall(frame) => result_value::<Global>(frame.rcx, told),
         Action::ReadMsr(_)
         | Action::WriteMsr(_, _)
         | Action::ReadSlot(_)
@@ -80,19 +64,6 @@ fn result_in(what: &Action<Global>, told: Answer) -> u64
         | Action::ReadFlags(_)
         | Action::ClearFlag(_, _)
         | Action::TakeInterrupt => 0,
-    }
-}
-
-// The result value of a call of this frame that was answered so. What it put out doesn't matter.
-fn result_value(frame: &Frame<Global>, told: Answer) -> u64
-    requires { next_in (reply_of told []) < REPS_END }
-    ensures { (output : List ℕ) → result ≡ result_of frame.now (reply_of told output) }
-{
-    match told {
-        Answer::Served => ResultValue::new(Status::Success, completed_reps(frame.rcx)).bits(),
-        Answer::More { next } => ResultValue::new(Status::Success, next).bits(),
-        Answer::Denied { status, .. } => ResultValue::new(status, refused_reps(frame.rcx)).bits(),
-        Answer::Fault { .. } => 0,
     }
 }
 

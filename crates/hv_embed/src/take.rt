@@ -13,11 +13,12 @@ ghost use Rattle.hv_embed.specs.Taken.{HasLine, IsAsBefore, IsTaken, is_short as
 ghost use Rattle.hv_embed.specs.Taken.{is_used_up as is_used_up_at, readiness};
 ghost use Rattle.hv_embed.specs.declared.status.TheConstants.{DONE, USED_UP, MEMORY, MAX_EVENTS};
 
-use crate::answer::{answer, answer_of, is_short};
+use crate::answer::{answer, is_short};
 use crate::handle::HvMachine;
 use crate::layout::HvReply;
 use crate::status::{DONE, EMPTY, MAX_EVENTS, MEMORY, SHORT, USED_UP};
 use hv_defs::MAX_SERVED;
+use hv_history::answer_of;
 use hv_machine::{Access, Event, Machine, Output};
 use std::alloc::Global;
 use std::mem::replace;

@@ -1,10 +1,10 @@
 -- The room of a history.
-use Rattle.std.proofs.Common.{◌≡◌, ℕ, suc, ◌+◌, ◌-◌, ◌*◌, ◌<◌, ◌≤◌, ◌⊎◌, inl, inr, List, [], ◌∷◌, Option, None, Some, length, refl, sym, subst, ap, ◌∙◌, arith}
+use Rattle.std.proofs.Common.{◌≡◌, ℕ, ◌+◌, ◌-◌, ◌≤◌, ◌⊎◌, inl, inr, List, [], ◌∷◌, Some, length, refl, sym, subst, ap, ◌∙◌, arith}
 use Rattle.hv_policy.specs.declared.event.Action.{Action}
 use Rattle.hv_policy.specs.declared.event.Caller.{Caller}
 use Rattle.hv_policy.specs.declared.event.Event.{Event}
 use Rattle.hv_history.specs.History.{HasHeadFor, HasRoomForHead, IsRoomForHead, room_of}
-use Rattle.hv_history.specs.Row.{Common, IsLast, action_of, asked_in, bytes_at, common_at, head_at, input_in, last_common, most_of, most_output, r8_in}
+use Rattle.hv_history.specs.Row.{Common, IsLast, action_of, asked_in, bytes_at, common_at, head_at, input_in, last_common, most_of, most_output, r8_in, second_in}
 use Rattle.hv_history.specs.declared.row.Head.{Head}
 use Rattle.hv_history.specs.declared.row.History.{History}
 use Rattle.hv_history.specs.declared.row.Kind.{Kind}
@@ -28,21 +28,21 @@ at_end (head ∷ heads) inputs at c is has =
     let place : length heads ≡ at = omega arith in
     ap (λ n. Some (common_at inputs (head_at (head ∷ heads) n))) place ∙ ap Some has
 
-pub has_last : (heads : List Head) (inputs : List ℕ) (at : ℕ) (by : Caller) (r8 : ℕ) (input : List ℕ) → at + 1 ≡ length heads
-    → (head_at heads at).by ≡ by → (head_at heads at).r8 ≡ r8 → bytes_at inputs (head_at heads at).input_start (head_at heads at).input_len ≡ input
-    → last_common heads inputs ≡ Some (record { by = by; r8 = r8; input = input })
-has_last heads inputs at by r8 input is by_is r8_is input_is =
-    at_end heads inputs at (record { by = by; r8 = r8; input = input }) is (λ i. record { by = by_is i; r8 = r8_is i; input = input_is i })
+pub has_last : (heads : List Head) (inputs : List ℕ) (at : ℕ) (by : Caller) (second r8 : ℕ) (input : List ℕ) → at + 1 ≡ length heads
+    → (head_at heads at).by ≡ by → (head_at heads at).second ≡ second → (head_at heads at).r8 ≡ r8 → bytes_at inputs (head_at heads at).input_start (head_at heads at).input_len ≡ input
+    → last_common heads inputs ≡ Some (record { by = by; second = second; r8 = r8; input = input })
+has_last heads inputs at by second r8 input is by_is second_is r8_is input_is =
+    at_end heads inputs at (record { by = by; second = second; r8 = r8; input = input }) is (λ i. record { by = by_is i; second = second_is i; r8 = r8_is i; input = input_is i })
 
-pub is_last : (heads : List Head) (inputs : List ℕ) (by : Caller) (r8 : ℕ) (input : List ℕ) → IsLast heads inputs by r8 input → last_common heads inputs ≡ Some (record { by = by; r8 = r8; input = input })
-is_last heads inputs by r8 input is =
+pub is_last : (heads : List Head) (inputs : List ℕ) (by : Caller) (second r8 : ℕ) (input : List ℕ) → IsLast heads inputs by second r8 input → last_common heads inputs ≡ Some (record { by = by; second = second; r8 = r8; input = input })
+is_last heads inputs by second r8 input is =
     let some = is.some in
-    has_last heads inputs (length heads - 1) by r8 input (omega arith) is.by_is is.r8_is is.input_is
+    has_last heads inputs (length heads - 1) by second r8 input (omega arith) is.by_is is.second_is is.r8_is is.input_is
 
 one_value : (x y : Common) → Some x ≡ Some y → x ≡ y
 one_value x y is = cc
 
-pub last_is : (heads : List Head) (inputs : List ℕ) (c : Common) → last_common heads inputs ≡ Some c → IsLast heads inputs c.by c.r8 c.input
+pub last_is : (heads : List Head) (inputs : List ℕ) (c : Common) → last_common heads inputs ≡ Some c → IsLast heads inputs c.by c.second c.r8 c.input
 last_is [] inputs c is = cc
 last_is (head ∷ heads) inputs c is =
     let place : length heads ≡ length (head ∷ heads) - 1 = omega arith in
@@ -51,6 +51,7 @@ last_is (head ∷ heads) inputs c is =
     record {
       some = omega arith;
       by_is = ap (λ (x : Common). x.by) has;
+      second_is = ap (λ (x : Common). x.second) has;
       r8_is = ap (λ (x : Common). x.r8) has;
       input_is = ap (λ (x : Common). x.input) has;
     }
@@ -76,11 +77,13 @@ module _ {A : Type 0} where
       let r1 = head.heads in
       let r2 = head.places in
       let r3 = head.inputs in
+      let r4 = head.starts in
       let inputs = h.inputs.ok in
-      record { few = omega arith; head = omega arith; input = omega (arith, inputs.1) }
+      let short = h.short in
+      record { few = omega arith; head = omega arith; input = omega (arith, inputs.1); short = omega arith }
 
   -- there is room for an event's head, unless that is there
-  pub for_head : (h : History A) (event : Event A) → HasHeadFor (room_of h) event → IsLast h.heads.items h.inputs.items event.by (r8_in event.what) (input_in event.what) ⊎ IsRoomForHead h (length (input_in event.what))
+  pub for_head : (h : History A) (event : Event A) → HasHeadFor (room_of h) event → IsLast h.heads.items h.inputs.items event.by (second_in event.what) (r8_in event.what) (input_in event.what) ⊎ IsRoomForHead h (length (input_in event.what))
   for_head h event room =
       elim room [
         | inl last ↦ inl (last_is h.heads.items h.inputs.items _ last)
@@ -93,4 +96,5 @@ module _ {A : Type 0} where
       let r1 = room.few in
       let r2 = room.head in
       let r3 = room.input in
-      record { heads = omega arith; places = omega arith; inputs = omega arith }
+      let r4 = room.short in
+      record { heads = omega arith; places = omega arith; inputs = omega arith; starts = omega arith }

@@ -1,6 +1,6 @@
 -- Rows of a history, once one comes.
 use Rattle.std.proofs.Common.{◌≡◌, ℕ, ◌+◌, ◌-◌, ◌<◌, ◌≤◌, List, [], ◌∷◌, ◌++◌, Some, inl, inr, get_or, length, take, drop, refl, sym, ap, subst, ◌∙◌, arith}
-use Rattle.std.proofs.lemmas.List.{length-map, take-append-drop, take-append-le, drop-append-le, length-append, length-drop, length-take, map-append, get_or_append_left}
+use Rattle.std.proofs.lemmas.List.{length-map, take-append-drop, take-append-le, drop-append-le, length-drop, length-take, map-append, get_or_append_left}
 use Rattle.std.proofs.lemmas.Bool.{le-leb, lt-leb, cases_lt}
 use Rattle.std.proofs.lemmas.List.Elements.{All-head, All-push, All-tail, All-weaker}
 use Rattle.std.proofs.lemmas.Option.{slice_get-get_or, slice_get-map}
@@ -10,11 +10,9 @@ use Rattle.std.specs.Prelude.{option_map}
 use Rattle.hv_defs.specs.Slot.{zeros}
 use Rattle.hv_policy.specs.Parts.{reply_of}
 use Rattle.hv_policy.specs.declared.event.Action.{Action}
-use Rattle.hv_policy.specs.declared.event.Caller.{Caller}
 use Rattle.hv_policy.specs.declared.event.Event.{Event}
 use Rattle.hv_policy.specs.declared.reply.Reply.{Reply}
-use Rattle.hv_history.specs.History.{IsOfLastCall}
-use Rattle.hv_history.specs.Row.{AreAlike, ArePlaced, AreWithin, IsCall, IsPlaced, IsThere, action_of, asked_in, bytes_at, common_at, common_of, entries_of, entry_from, entry_of, head_at, input_in, output_at, r8_in}
+use Rattle.hv_history.specs.Row.{AreAlike, ArePlaced, AreWithin, IsPlaced, IsThere, action_of, asked_in, bytes_at, common_at, entries_of, entry_from, entry_of, head_at, input_in, output_at, r8_in, second_in}
 use Rattle.hv_history.specs.declared.entry.Entry.{Entry}
 use Rattle.hv_history.specs.declared.row.Head.{Head}
 use Rattle.hv_history.specs.declared.row.Kind.{Kind}
@@ -86,7 +84,7 @@ module _ {A : Type 0} where
   -- what a row with this head stands for
   abbrev under : Head → List ℕ → List ℕ → Row → Entry A
   under head inputs outputs row =
-      entry_from head.by (asked_in row.kind row.first row.second head.r8) (bytes_at inputs head.input_start head.input_len) row.answer (output_at outputs row.output row.output_len ++ zeros row.output_zeros)
+      entry_from head.by (asked_in row.kind row.first head.second head.r8) (bytes_at inputs head.input_start head.input_len) row.answer (output_at outputs row.output row.output_len ++ zeros row.output_zeros)
 
   -- rows stand for the same among more heads and more bytes
   same-more : (heads more_heads : List Head) (inputs more_inputs outputs more_outputs : List ℕ) (rows : List Row)
@@ -101,7 +99,7 @@ module _ {A : Type 0} where
       let output = output-more outputs more_outputs row.output row.output_len here.output in
       let rest = same-more heads more_heads inputs more_inputs outputs more_outputs rows within (All-tail (IsPlaced (length heads) (length outputs)) row rows placed) in
       ap (λ h. under h (inputs ++ more_inputs) (outputs ++ more_outputs) row ∷ entries_of (heads ++ more_heads) (inputs ++ more_inputs) (outputs ++ more_outputs) rows) same
-      ∙ (λ i. record { event = record { by = head.by; what = action_of (asked_in row.kind row.first row.second head.r8) (input i) }; reply = reply_of row.answer (output i ++ zeros row.output_zeros) } ∷ rest i)
+      ∙ (λ i. record { event = record { by = head.by; what = action_of (asked_in row.kind row.first head.second head.r8) (input i) }; reply = reply_of row.answer (output i ++ zeros row.output_zeros) } ∷ rest i)
 
   -- one row more, with its head among the heads and its output among the outputs, is one event more
   pub pushed : (head_len in_len out_len : ℕ) (heads new_heads : List Head) (inputs new_inputs outputs new_outputs : List ℕ) (rows : List Row) (row : Row) (event : Event A) (reply : Reply) (input output : List ℕ)
@@ -110,7 +108,7 @@ module _ {A : Type 0} where
       → AreWithin in_len heads → ArePlaced head_len out_len rows
       → (head_at new_heads row.head).by ≡ event.by
       → bytes_at new_inputs (head_at new_heads row.head).input_start (head_at new_heads row.head).input_len ≡ input
-      → action_of (asked_in row.kind row.first row.second (head_at new_heads row.head).r8) input ≡ event.what
+      → action_of (asked_in row.kind row.first (head_at new_heads row.head).second (head_at new_heads row.head).r8) input ≡ event.what
       → output_at new_outputs row.output row.output_len ≡ output
       → reply_of row.answer (output ++ zeros row.output_zeros) ≡ reply
       → entries_of new_heads new_inputs new_outputs (rows ++ row ∷ []) ≡ entries_of heads inputs outputs rows ++ record { event = event; reply = reply } ∷ []
@@ -118,8 +116,8 @@ module _ {A : Type 0} where
       let all_within = subst (λ n. AreWithin n heads) ins within in
       let all_placed = subst (λ n. ArePlaced n (length outputs) rows) hs (subst (λ n. ArePlaced head_len n rows) outs placed) in
       let head = head_at new_heads row.head in
-      let asked : action_of (asked_in row.kind row.first row.second head.r8) (bytes_at new_inputs head.input_start head.input_len) ≡ event.what =
-      ap (action_of (asked_in row.kind row.first row.second head.r8)) asks ∙ what in
+      let asked : action_of (asked_in row.kind row.first head.second head.r8) (bytes_at new_inputs head.input_start head.input_len) ≡ event.what =
+      ap (action_of (asked_in row.kind row.first head.second head.r8)) asks ∙ what in
       let answered : reply_of row.answer (output_at new_outputs row.output row.output_len ++ zeros row.output_zeros) ≡ reply =
       ap (λ (bytes : List ℕ). reply_of row.answer (bytes ++ zeros row.output_zeros)) puts ∙ told in
       let entry : entry_of new_heads new_inputs new_outputs row ≡ record { event = event; reply = reply } =
@@ -132,9 +130,9 @@ module _ {A : Type 0} where
       ∙ same-more heads (drop head_len new_heads) inputs (drop in_len new_inputs) outputs (drop out_len new_outputs) rows all_within all_placed in
       map-append (entry_of new_heads new_inputs new_outputs) rows (row ∷ []) ∙ (λ i. same i ++ entry i ∷ [])
 
-  -- what was asked for has its own R8 and input
+  -- what was asked for has its own RDX, R8 and input
   own : (k : Kind) (first second r8 : ℕ) (input : List ℕ)
-      → action_of {A = A} (asked_in k first second (r8_in (action_of {A = A} (asked_in k first second r8) input))) (input_in (action_of {A = A} (asked_in k first second r8) input)) ≡ action_of (asked_in k first second r8) input
+      → (λ (w : Action A). action_of {A = A} (asked_in k first (second_in w) (r8_in w)) (input_in w)) (action_of (asked_in k first second r8) input) ≡ action_of (asked_in k first second r8) input
   own kind.Hypercall first second r8 input = refl
   own kind.ReadMsr first second r8 input = refl
   own kind.WriteMsr first second r8 input = refl
@@ -144,9 +142,9 @@ module _ {A : Type 0} where
   own kind.ClearFlag first second r8 input = refl
   own kind.TakeInterrupt first second r8 input = refl
 
-  pub asks : (k : Kind) (first second r8 : ℕ) (input : List ℕ) (what : Action A) → action_of (asked_in k first second r8) input ≡ what → action_of (asked_in k first second (r8_in what)) (input_in what) ≡ what
+  pub asks : (k : Kind) (first second r8 : ℕ) (input : List ℕ) (what : Action A) → action_of (asked_in k first second r8) input ≡ what → action_of (asked_in k first (second_in what) (r8_in what)) (input_in what) ≡ what
   asks k first second r8 input what is =
-      ap (λ (w : Action A). action_of {A = A} (asked_in k first second (r8_in w)) (input_in w)) (sym is) ∙ own k first second r8 input ∙ is
+      ap (λ (w : Action A). action_of {A = A} (asked_in k first (second_in w) (r8_in w)) (input_in w)) (sym is) ∙ own k first second r8 input ∙ is
 
   -- rows with the same numbers, under heads with the same, stand for the same
   pub alike : (heads other_heads : List Head) (inputs other_inputs outputs other_outputs : List ℕ) (row that : Row) → AreAlike row that
@@ -155,7 +153,7 @@ module _ {A : Type 0} where
       → entry_of {A = A} heads inputs outputs row ≡ entry_of other_heads other_inputs other_outputs that
   alike heads other_heads inputs other_inputs outputs other_outputs row that same common output =
       λ i. record {
-        event = record { by = (common i).by; what = action_of (asked_in (same.kind i) (same.first i) (same.second i) (common i).r8) (common i).input };
+        event = record { by = (common i).by; what = action_of (asked_in (same.kind i) (same.first i) (common i).second (common i).r8) (common i).input };
         reply = reply_of (same.answer i) (output i ++ zeros (same.output_zeros i));
       }
 

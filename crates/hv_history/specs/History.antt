@@ -15,13 +15,14 @@ entries h = entries_of h.heads.items h.inputs.items h.outputs.items h.rows.items
 abbrev pub entry_by : {A : Type 0} → EntryRef → Entry A
 entry_by e = entry_from e.by e.asked e.input.now e.answer (shown e.output)
 
--- how many more rows, heads, places of a head, bytes that are put in and bytes that are put out there is room for, and what
+-- how many more rows, heads, places of a head, bytes that are put in, places of such bytes and bytes that are put out there is room for, and what
 -- the last event has in common with those that would share its head
 pub record Room : Type 0 where
   pub rows : ℕ
   pub heads : ℕ
   pub places : ℕ
   pub inputs : ℕ
+  pub starts : ℕ
   pub outputs : ℕ
   pub last : Option Common
 
@@ -31,6 +32,7 @@ room_of h = record {
   heads = vec_capacity h.heads - vec_len h.heads;
   places = 2 ^ 32 - 1 - vec_len h.heads;
   inputs = vec_capacity h.inputs - vec_len h.inputs;
+  starts = 2 ^ 32 - 1 - vec_len h.inputs;
   outputs = vec_capacity h.outputs - vec_len h.outputs;
   last = last_common h.heads.items h.inputs.items;
 }
@@ -40,12 +42,14 @@ pub record IsRoomForHead {A : Type 0} (h : History A) (bytes : ℕ) : Type 0 whe
   pub few : vec_len h.heads < 2 ^ 32 - 1
   pub head : vec_len h.heads < vec_capacity h.heads
   pub input : vec_len h.inputs + bytes ≤ vec_capacity h.inputs
+  pub short : vec_len h.inputs + bytes ≤ 2 ^ 32 - 1
 
 -- the same, by the room that there is
 pub record HasRoomForHead (room : Room) (bytes : ℕ) : Type 0 where
   pub heads : 0 < room.heads
   pub places : 0 < room.places
   pub inputs : bytes ≤ room.inputs
+  pub starts : bytes ≤ room.starts
 
 -- the last event has the same in common with those that would share its head as this one, or there is room for a head
 abbrev pub HasHeadFor : {A : Type 0} → Room → Event A → Type 0
@@ -58,7 +62,7 @@ pub record HasRoomFor {A : Type 0} (count : ℕ) (room : Room) (event : Event A)
   pub outputs : count * most_output event.what ≤ room.outputs
   pub head : 0 < count → HasHeadFor room event
 
--- the last entry is of a call, and this event is by the same caller with the same R8 and input, as another element of it is
+-- the last entry is of a call, and this event is by the same caller with the same RDX, R8 and input, as another element of it is
 pub record IsOfLastCall {A : Type 0} (event : Event A) (history : List (Entry A)) : Type 0 where
   pub before : List (Entry A)
   pub last : Entry A

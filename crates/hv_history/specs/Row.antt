@@ -1,5 +1,5 @@
 -- What is kept of an event and of its reply, and what it stands for.
-use Rattle.std.specs.Prelude.{ℕ, ◌≡◌, ◌+◌, ◌-◌, ◌%◌, ◌^◌, ◌≤◌, ◌<◌, Option, None, Some, List, [], ◌∷◌, ◌++◌, length, map, take, drop, slice_index_or, nat_le, if◌then◌else◌}
+use Rattle.std.specs.Prelude.{ℕ, ◌≡◌, ◌+◌, ◌-◌, ◌/◌, ◌%◌, ◌^◌, ◌≤◌, ◌<◌, Option, None, Some, List, [], ◌∷◌, ◌++◌, length, map, take, drop, slice_index_or, nat_le, if◌then◌else◌}
 use Rattle.std.specs.Int.{w64, from_le_bytes}
 use Rattle.std.specs.List.{All}
 use Rattle.hv_defs.specs.Slot.{zeros}
@@ -53,6 +53,17 @@ r8_in (action.ReadFlags sint) = 0
 r8_in (action.ClearFlag sint flag) = 0
 r8_in action.TakeInterrupt = 0
 
+-- RDX of a call, or the value that is written to an MSR; no other access has one
+abbrev pub second_in : {A : Type 0} → Action A → ℕ
+second_in (action.Hypercall frame) = frame.rdx
+second_in (action.ReadMsr msr) = 0
+second_in (action.WriteMsr msr value) = value
+second_in (action.ReadSlot sint) = 0
+second_in (action.ClearSlot sint) = 0
+second_in (action.ReadFlags sint) = 0
+second_in (action.ClearFlag sint flag) = 0
+second_in action.TakeInterrupt = 0
+
 -- the most bytes that an event puts out: an element of a call two numbers, an access a message slot
 abbrev pub most_output : {A : Type 0} → Action A → ℕ
 most_output (action.Hypercall frame) = MOST_CALL_OUTPUT
@@ -75,14 +86,15 @@ most_of kind.ReadFlags = MOST_OUTPUT
 most_of kind.ClearFlag = MOST_OUTPUT
 most_of kind.TakeInterrupt = MOST_OUTPUT
 
--- what the elements of one call have in common: who asks, R8 and the input list
+-- what the elements of one call have in common: who asks, RDX, R8 and the input list
 pub record Common : Type 0 where
   pub by : Caller
+  pub second : ℕ
   pub r8 : ℕ
   pub input : List ℕ
 
 abbrev pub common_of : {A : Type 0} → Event A → Common
-common_of event = record { by = event.by; r8 = r8_in event.what; input = input_in event.what }
+common_of event = record { by = event.by; second = second_in event.what; r8 = r8_in event.what; input = input_in event.what }
 
 -- what was asked for, with these bytes as the input list of a call
 abbrev pub action_of : {A : Type 0} → Asked → List ℕ → Action A
@@ -114,12 +126,12 @@ asked_in kind.WriteMsr first second r8 = asked.WriteMsr (first % 2 ^ 32) second
 asked_in kind.ReadSlot first second r8 = asked.ReadSlot (first % 2 ^ 8)
 asked_in kind.ClearSlot first second r8 = asked.ClearSlot (first % 2 ^ 8)
 asked_in kind.ReadFlags first second r8 = asked.ReadFlags (first % 2 ^ 8)
-asked_in kind.ClearFlag first second r8 = asked.ClearFlag (first % 2 ^ 8) (second % 2 ^ 16)
+asked_in kind.ClearFlag first second r8 = asked.ClearFlag (first % 2 ^ 8) (first / 2 ^ 8 % 2 ^ 16)
 asked_in kind.TakeInterrupt first second r8 = asked.TakeInterrupt
 
 -- the head at a place; a row names a place at which there is one
 abbrev pub head_at : List Head → ℕ → Head
-head_at heads at = slice_index_or heads at (record { by = record { part = 0; vp = 0 }; r8 = 0; input_start = 0; input_len = 0 })
+head_at heads at = slice_index_or heads at (record { by = record { part = 0; vp = 0 }; second = 0; r8 = 0; input_start = 0; input_len = 0 })
 
 -- so many of the bytes, from a place on
 abbrev pub bytes_at : List ℕ → ℕ → ℕ → List ℕ
@@ -127,7 +139,7 @@ bytes_at bytes start len = take len (drop start bytes)
 
 -- what a head has of the events of its rows
 abbrev pub common_at : List ℕ → Head → Common
-common_at inputs head = record { by = head.by; r8 = head.r8; input = bytes_at inputs head.input_start head.input_len }
+common_at inputs head = record { by = head.by; second = head.second; r8 = head.r8; input = bytes_at inputs head.input_start head.input_len }
 
 -- what the last head has
 abbrev pub last_common : List Head → List ℕ → Option Common
@@ -135,9 +147,10 @@ last_common [] inputs = None
 last_common (head ∷ heads) inputs = Some (common_at inputs (head_at (head ∷ heads) (length heads)))
 
 -- the last head has these
-pub record IsLast (heads : List Head) (inputs : List ℕ) (by : Caller) (r8 : ℕ) (input : List ℕ) : Type 0 where
+pub record IsLast (heads : List Head) (inputs : List ℕ) (by : Caller) (second r8 : ℕ) (input : List ℕ) : Type 0 where
   pub some : 0 < length heads
   pub by_is : (head_at heads (length heads - 1)).by ≡ by
+  pub second_is : (head_at heads (length heads - 1)).second ≡ second
   pub r8_is : (head_at heads (length heads - 1)).r8 ≡ r8
   pub input_is : bytes_at inputs (head_at heads (length heads - 1)).input_start (head_at heads (length heads - 1)).input_len ≡ input
 
@@ -149,7 +162,7 @@ output_at outputs kept len = if nat_le len IN_ROW then take len kept else bytes_
 abbrev pub entry_of : {A : Type 0} → List Head → List ℕ → List ℕ → Row → Entry A
 entry_of heads inputs outputs row =
     let head = head_at heads row.head in
-    entry_from head.by (asked_in row.kind row.first row.second head.r8) (bytes_at inputs head.input_start head.input_len) row.answer (output_at outputs row.output row.output_len ++ zeros row.output_zeros)
+    entry_from head.by (asked_in row.kind row.first head.second head.r8) (bytes_at inputs head.input_start head.input_len) row.answer (output_at outputs row.output row.output_len ++ zeros row.output_zeros)
 
 abbrev pub entries_of : {A : Type 0} → List Head → List ℕ → List ℕ → List Row → List (Entry A)
 entries_of heads inputs outputs rows = map (entry_of heads inputs outputs) rows
@@ -160,10 +173,9 @@ events_of entries = map (λ entry. entry.event) entries
 abbrev pub replies_of : {A : Type 0} → List (Entry A) → List Reply
 replies_of entries = map (λ entry. entry.reply) entries
 
--- rows with the same numbers and answer, and with equally many zeros put out
+-- rows with the same number and answer, and with equally many zeros put out
 pub record AreAlike (row that : Row) : Type 0 where
   pub first : row.first ≡ that.first
-  pub second : row.second ≡ that.second
   pub kind : row.kind ≡ that.kind
   pub output_zeros : row.output_zeros ≡ that.output_zeros
   pub answer : row.answer ≡ that.answer

@@ -7,21 +7,26 @@ ghost use Rattle.hv_history.specs.History.{entries, entry_by, room_of};
 ghost use Rattle.hv_history.specs.Output.{shown};
 ghost use Rattle.hv_history.specs.Row.{AreAlike, IsCall, IsLast, IsThere, bytes_at, common_at, common_of};
 ghost use Rattle.hv_history.specs.Row.{head_at, input_in, most_output, next_in, output_at, r8_in};
+ghost use Rattle.hv_history.specs.Row.{second_in};
 ghost use Rattle.hv_history.specs.declared.row.TheConstants.{IN_ROW};
 ghost use Rattle.hv_history.specs.declared.entry.Entry.{Entry};
 ghost use Rattle.hv_policy.specs.Parts.{reply_of};
 
 use crate::entry::EntryRef;
+use crate::expected::Expected;
 use crate::output::OutputRef;
 use crate::row::{
     Head, History, IN_ROW, Kind, Row, asked_of, input_in, most_outputs, numbers_of, outputs_in,
-    r8_in,
+    r8_in, second_in,
 };
 use hv_machine::{Answer, Caller, Event};
 use std::alloc::{AllocError, Allocator};
 
 // The most heads, whose places a u32 names.
 const MOST_HEADS: usize = u32::MAX as usize;
+
+// The most bytes that all events put in, whose places a u32 names.
+const MOST_INPUTS: usize = u32::MAX as usize;
 
 impl<A: Allocator + Copy> History<A> {
     /// No events.
@@ -57,8 +62,8 @@ impl<A: Allocator> History<A> {
         let head = &self.heads[row.head as usize];
         EntryRef {
             by: head.by,
-            asked: asked_of(row, head.r8),
-            input: &self.inputs[head.input_start..head.input_start + head.input_len],
+            asked: asked_of(row, head.second, head.r8),
+            input: self.input_of(head),
             answer: row.answer,
             output: OutputRef {
                 bytes: self.output_of(row),
@@ -127,11 +132,10 @@ impl<A: Allocator> History<A> {
         }
         let head = &self.heads[row.head as usize];
         let that_head = &other.heads[that.head as usize];
-        if head.by != that_head.by || head.r8 != that_head.r8 {
+        if head.by != that_head.by || head.second != that_head.second || head.r8 != that_head.r8 {
             return false;
         }
-        let input = &self.inputs[head.input_start..head.input_start + head.input_len];
-        other.has_input(that_head, input) && self.puts_out_alike(row, other, that)
+        other.has_input(that_head, self.input_of(head)) && self.puts_out_alike(row, other, that)
     }
 
     // Whether both go on with the calls of the events before them, which are the same, and are kept alike.
@@ -186,29 +190,24 @@ impl<A: Allocator> History<A> {
         ensures same { entries self.new ≡ entries self.old }
         ensures room { OnOk result (HasRoomFor count (room_of self.new) event.now) }
     {
-        if self.heads.len() >= MOST_HEADS {
+        let input_len = input_in(&event.what).len();
+        if self.heads.len() >= MOST_HEADS || input_len > MOST_INPUTS - self.inputs.len() {
             return Err(AllocError);
         }
         self.rows.reserve(count as usize)?;
         self.heads.reserve(1)?;
-        self.inputs.reserve(input_in(&event.what).len())?;
+        self.inputs.reserve(input_len)?;
         self.outputs.reserve(most_outputs(&event.what, count))
     }
 
-    /// Makes room for so many more events, but not for what they put in, nor for long outputs: who knows
-    /// about how many there will be spares the rows' moves while the history grows.
-    pub fn reserve_rows(&mut self, count: usize) -> Result<(), AllocError>
-        ensures same { entries self.new ≡ entries self.old }
-        ensures room { OnOk result (count ≤ (room_of self.new).rows) }
+    /// Makes room for about so many more events: who knows about how many there will be spares the rows'
+    /// moves while the history grows.
+    pub fn expect(&mut self, expected: Expected) -> Result<(), AllocError>
+        ensures { entries self.new ≡ entries self.old }
     {
-        self.rows.reserve(count)
-    }
-
-    /// For how many more events there is room, if there is for what they put in and out.
-    pub fn row_room(&self) -> usize
-        ensures { result ≡ (room_of self.now).rows }
-    {
-        self.rows.capacity() - self.rows.len()
+        self.rows.reserve(expected.events)?;
+        self.heads.reserve(expected.actions)?;
+        self.inputs.reserve(expected.bytes)
     }
 
     /// For how many events of a call there is room: this one and those that ask for other elements.
@@ -216,11 +215,13 @@ impl<A: Allocator> History<A> {
         ensures fits { HasRoomFor result (room_of self.now) event.now }
         ensures most { (count : ℕ) → HasRoomFor count (room_of self.now) event.now → count ≤ result }
     {
-        let input = input_in(&event.what);
-        if !self.is_last(event.by, r8_in(&event.what), input) && !self.has_room_for_head(input) {
+        let what = &event.what;
+        let input = input_in(what);
+        let is_last = self.is_last(event.by, second_in(what), r8_in(what), input);
+        if !is_last && !self.has_room_for_head(input) {
             return 0;
         }
-        let rows = self.row_room();
+        let rows = self.rows.capacity() - self.rows.len();
         let outputs = outputs_in(&event.what, self.outputs.capacity() - self.outputs.len());
         if rows < outputs { rows } else { outputs }
     }
@@ -231,6 +232,7 @@ impl<A: Allocator> History<A> {
     {
         self.heads.len() < MOST_HEADS
             && self.heads.len() < self.heads.capacity()
+            && input.len() <= MOST_INPUTS - self.inputs.len()
             && input.len() <= self.inputs.capacity() - self.inputs.len()
     }
 
@@ -256,7 +258,6 @@ impl<A: Allocator> History<A> {
         let kept = self.place_output(output.bytes);
         self.rows.push_reserved(Row {
             first: asked.first,
-            second: asked.second,
             output: kept,
             head,
             output_len: output.bytes.len() as u16,
@@ -304,6 +305,7 @@ impl<A: Allocator> History<A> {
         ensures inputs { take (vec_len self.old.inputs) self.new.inputs.items ≡ self.old.inputs.items }
         ensures there { result < vec_len self.new.heads }
         ensures by { (head_at self.new.heads.items result).by ≡ event.now.by }
+        ensures second { (head_at self.new.heads.items result).second ≡ second_in event.now.what }
         ensures r8 { (head_at self.new.heads.items result).r8 ≡ r8_in event.now.what }
         ensures input { let head = head_at self.new.heads.items result in bytes_at self.new.inputs.items
             head.input_start head.input_len ≡ input_in event.now.what }
@@ -314,14 +316,15 @@ impl<A: Allocator> History<A> {
         if goes_on {
             return self.rows[self.rows.len() - 1].head;
         }
-        self.place_head(event.by, r8_in(&event.what), input_in(&event.what))
+        let what = &event.what;
+        self.place_head(event.by, second_in(what), r8_in(what), input_in(what))
     }
 
-    // The place of a head with this caller, R8 and input, which is then the last one: it is, or a new one
-    // becomes so.
+    // The place of a head with this caller, second number, R8 and input, which is then the last one: it is,
+    // or a new one becomes so.
     #[inline(always)]
-    fn place_head(&mut self, by: Caller, r8: u64, input: &[u8]) -> u32
-        requires { IsLast self.old.heads.items self.old.inputs.items by r8 input.now
+    fn place_head(&mut self, by: Caller, second: u64, r8: u64, input: &[u8]) -> u32
+        requires { IsLast self.old.heads.items self.old.inputs.items by second r8 input.now
             ⊎ IsRoomForHead self.old (length input.now) }
         ensures rows { self.new.rows ≡ self.old.rows }
         ensures outputs { self.new.outputs ≡ self.old.outputs }
@@ -329,30 +332,36 @@ impl<A: Allocator> History<A> {
         ensures inputs { take (vec_len self.old.inputs) self.new.inputs.items ≡ self.old.inputs.items }
         ensures last { result + 1 ≡ vec_len self.new.heads }
         ensures by { (head_at self.new.heads.items result).by ≡ by }
+        ensures second { (head_at self.new.heads.items result).second ≡ second }
         ensures r8 { (head_at self.new.heads.items result).r8 ≡ r8 }
         ensures input { let head = head_at self.new.heads.items result in bytes_at self.new.inputs.items
             head.input_start head.input_len ≡ input.now }
     {
-        if self.is_last(by, r8, input) {
+        if self.is_last(by, second, r8, input) {
             return (self.heads.len() - 1) as u32;
         }
-        self.new_head(by, r8, input)
+        self.new_head(by, second, r8, input)
     }
 
     // Whether the last head has these.
     #[inline(always)]
-    fn is_last(&self, by: Caller, r8: u64, input: &[u8]) -> bool
-        ensures { IsTrue result ↔ IsLast self.now.heads.items self.now.inputs.items by r8 input.now }
+    fn is_last(&self, by: Caller, second: u64, r8: u64, input: &[u8]) -> bool
+        ensures { IsTrue result ↔ IsLast self.now.heads.items self.now.inputs.items by second r8 input.now }
     {
         match self.heads.last() {
-            Some(head) => head.by == by && head.r8 == r8 && self.has_input(head, input),
+            Some(head) => {
+                head.by == by
+                    && head.second == second
+                    && head.r8 == r8
+                    && self.has_input(head, input)
+            }
             None => false,
         }
     }
 
     // The place of a new head with these.
     #[inline(never)]
-    fn new_head(&mut self, by: Caller, r8: u64, input: &[u8]) -> u32
+    fn new_head(&mut self, by: Caller, second: u64, r8: u64, input: &[u8]) -> u32
         requires { IsRoomForHead self.old (length input.now) }
         ensures rows { self.new.rows ≡ self.old.rows }
         ensures outputs { self.new.outputs ≡ self.old.outputs }
@@ -360,6 +369,7 @@ impl<A: Allocator> History<A> {
         ensures inputs { take (vec_len self.old.inputs) self.new.inputs.items ≡ self.old.inputs.items }
         ensures last { result + 1 ≡ vec_len self.new.heads }
         ensures by { (head_at self.new.heads.items result).by ≡ by }
+        ensures second { (head_at self.new.heads.items result).second ≡ second }
         ensures r8 { (head_at self.new.heads.items result).r8 ≡ r8 }
         ensures input { let head = head_at self.new.heads.items result in bytes_at self.new.inputs.items
             head.input_start head.input_len ≡ input.now }
@@ -368,17 +378,19 @@ impl<A: Allocator> History<A> {
         let at = self.heads.len() as u32;
         self.heads.push_reserved(Head {
             by,
+            second,
             r8,
             input_start,
-            input_len: input.len(),
+            input_len: input.len() as u32,
         });
         at
     }
 
     // Where these bytes stand among the inputs: where the last head's do, if they are the same, and else
     // at the end.
-    fn place_input(&mut self, input: &[u8]) -> usize
-        requires { vec_len self.old.inputs + length input.now ≤ vec_capacity self.old.inputs }
+    fn place_input(&mut self, input: &[u8]) -> u32
+        requires room { vec_len self.old.inputs + length input.now ≤ vec_capacity self.old.inputs }
+        requires short { vec_len self.old.inputs + length input.now ≤ 2 ^ 32 - 1 }
         ensures rows { self.new.rows ≡ self.old.rows }
         ensures heads { self.new.heads ≡ self.old.heads }
         ensures outputs { self.new.outputs ≡ self.old.outputs }
@@ -391,7 +403,7 @@ impl<A: Allocator> History<A> {
                 return head.input_start;
             }
         }
-        let start = self.inputs.len();
+        let start = self.inputs.len() as u32;
         self.inputs.extend_from_slice(input).unwrap();
         start
     }
@@ -469,22 +481,30 @@ impl<A: Allocator> History<A> {
         ensures { IsTrue result ↔ (bytes_at self.now.inputs.items head.now.input_start head.now.input_len
             ≡ input.now) }
     {
-        let start = head.input_start;
-        let len = head.input_len;
-        len == input.len() && (len == 0 || &self.inputs[start..start + len] == input)
+        let len = head.input_len as usize;
+        len == input.len() && (len == 0 || self.input_of(head) == input)
+    }
+
+    // The input of this head, whose bytes are here.
+    #[inline(always)]
+    fn input_of(&self, head: &Head) -> &[u8]
+        requires { head.now.input_start + head.now.input_len ≤ vec_len self.now.inputs }
+        ensures { result.now ≡ bytes_at self.now.inputs.items head.now.input_start head.now.input_len }
+    {
+        let start = head.input_start as usize;
+        &self.inputs[start..start + head.input_len as usize]
     }
 }
 
-// Whether both have the same numbers, and say that what was asked was served and go on alike.
+// Whether both have the same number, and are answered alike.
 #[inline(always)]
 fn are_alike(row: &Row, that: &Row) -> bool
     ensures { IsTrue result → AreAlike row.now that.now }
 {
     row.first == that.first
-        && row.second == that.second
         && row.kind == that.kind
         && row.output_zeros == that.output_zeros
-        && are_served_alike(row.answer, that.answer)
+        && are_same_answers(row.answer, that.answer)
 }
 
 // Whether both have the same bytes. As numbers they are compared at once.
@@ -495,13 +515,22 @@ fn are_same(one: [u8; IN_ROW], other: [u8; IN_ROW]) -> bool
     u64::from_le_bytes(one) == u64::from_le_bytes(other)
 }
 
-// Whether both say that what was asked was served, and go on alike.
-fn are_served_alike(one: Answer, other: Answer) -> bool
+// Whether both are the same answer.
+fn are_same_answers(one: Answer, other: Answer) -> bool
     ensures { IsTrue result → one ≡ other }
 {
     match (one, other) {
         (Answer::Served, Answer::Served) => true,
         (Answer::More { next }, Answer::More { next: that }) => next == that,
+        (
+            Answer::Denied { rule, status, reps },
+            Answer::Denied {
+                rule: that_rule,
+                status: that_status,
+                reps: that_reps,
+            },
+        ) => rule == that_rule && (status == that_status && reps == that_reps),
+        (Answer::Fault { rule }, Answer::Fault { rule: that }) => rule == that,
         _ => false,
     }
 }

@@ -19,6 +19,7 @@ ghost use Rattle.hv_history.specs.Kept.{HasGained, HasStepped, HasTaken, IsRun, 
 ghost use Rattle.hv_history.specs.Row.{next_in};
 ghost use Rattle.hv_history.specs.declared.entry.Entry.{Entry};
 
+use crate::expected::Expected;
 use crate::output::OutputRef;
 use crate::row::History;
 use hv_machine::{
@@ -220,8 +221,8 @@ fn access_into<A: Allocator + Clone>(
     history.push(event, answer, OutputRef::of(output.as_slice()), false);
 }
 
-// How an access is answered of which this became.
-fn answer_of(became: Result<(), Rule>) -> Answer
+/// How an access is answered of which this became.
+pub fn answer_of(became: Result<(), Rule>) -> Answer
     ensures reply { (output : List ℕ) → reply_of result output ≡ access_reply became output }
     ensures index { next_in (reply_of result []) < REPS_END }
 {
@@ -232,11 +233,11 @@ fn answer_of(became: Result<(), Rule>) -> Answer
 }
 
 impl<A: Allocator> Kept<A> {
-    /// Makes room in the history for so many more events, as [`History::reserve_rows`] does.
-    pub fn reserve_rows(&mut self, count: usize) -> Result<(), AllocError>
+    /// Makes room in the history for about so many more events.
+    pub fn expect(&mut self, expected: Expected) -> Result<(), AllocError>
         ensures { self.new ≡ self.old }
     {
-        self.history.reserve_rows(count)
+        self.history.expect(expected)
     }
 
     /// What happened, in its order. It is a run of the policy with the replies of that run, from a

@@ -7,6 +7,7 @@
 #![tactic(auto)]
 
 mod entry;
+mod expected;
 mod history;
 mod kept;
 mod output;
@@ -14,8 +15,9 @@ mod row;
 mod run;
 
 pub use entry::{Asked, Entry, EntryRef};
+pub use expected::Expected;
 pub use hv_machine::{Answer, HostRefused};
-pub use kept::Kept;
+pub use kept::{Kept, answer_of};
 pub use output::OutputRef;
 pub use row::History;
 pub use run::{RunDone, at_element};

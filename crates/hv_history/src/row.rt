@@ -1,7 +1,7 @@
 // What is kept of an event and of its reply.
 ghost use Rattle.std.specs.Prelude.{◌≡◌, ◌*◌, ◌^◌, ◌-◌, ◌≤◌, ℕ, vec_len};
 ghost use Rattle.hv_history.specs.Row.{ArePlaced, AreWithin, action_of, asked_in, input_in, most_output};
-ghost use Rattle.hv_history.specs.Row.{r8_in};
+ghost use Rattle.hv_history.specs.Row.{r8_in, second_in};
 
 use crate::entry::Asked;
 use hv_machine::{Action, Answer, Caller};
@@ -33,10 +33,8 @@ pub(crate) const IN_ROW: usize = 8;
 // What an event was, but for what it shares with the one before it.
 #[derive(Clone, Copy)]
 pub(crate) struct Row {
-    // RCX of a call, else the MSR or the SINT.
+    // RCX of a call, else the MSR or the SINT. Above its 8 bits stands the number of a flag that is cleared.
     pub(crate) first: u64,
-    // RDX of a call, else the value written or the flag's number.
-    pub(crate) second: u64,
     // The bytes of its output, where no more than fit. Of more, where they start among those of all
     // events, the lowest byte first.
     pub(crate) output: [u8; IN_ROW],
@@ -51,21 +49,27 @@ pub(crate) struct Row {
 }
 
 // A history is the largest thing in memory, and most of it are its rows.
-const _: () = prove!(size_of::<Row>() == 40);
+const _: () = prove!(size_of::<Row>() == 32);
 
-// What most events share with the one before them: who asked, R8 of a call, else 0, and where the input
-// starts among those of all events.
+// What most events share with the one before them.
 #[derive(Clone, Copy)]
 pub(crate) struct Head {
+    // Who asked.
     pub(crate) by: Caller,
+    // RDX of a call, or the value written, else 0.
+    pub(crate) second: u64,
+    // R8 of a call, else 0.
     pub(crate) r8: u64,
-    pub(crate) input_start: usize,
-    pub(crate) input_len: usize,
+    // Where the input starts among those of all events.
+    pub(crate) input_start: u32,
+    pub(crate) input_len: u32,
 }
 
-/// Events with their replies, in the order in which they happened. An event with the same caller, R8 and
-/// input as the one before it, as the elements of a rep call have, takes no bytes for them, and none for
-/// the same output, nor for a short one.
+const _: () = prove!(size_of::<Head>() == 40);
+
+/// Events with their replies, in the order in which they happened. An event with the same caller, RDX, R8
+/// and input as the one before it, as the elements of a rep call have, takes no bytes for them, and none
+/// for the same output, nor for a short one.
 #[derive(Drop)]
 pub struct History<A: Allocator> {
     pub(crate) rows: Vec<Row, A>,
@@ -76,6 +80,7 @@ pub struct History<A: Allocator> {
     // The bytes that they put out, where their rows haven't room for them, one after the other.
     pub(crate) outputs: Vec<u8, A>,
     ghost few: { vec_len heads ≤ 2 ^ 32 - 1 },
+    ghost short: { vec_len inputs ≤ 2 ^ 32 - 1 },
     ghost within: { AreWithin (vec_len inputs) heads.items },
     ghost placed: { ArePlaced (vec_len heads) (vec_len outputs) rows.items },
 }
@@ -107,6 +112,7 @@ impl Numbers {
 pub(crate) fn numbers_of<A: Allocator>(what: &Action<A>) -> Numbers
     ensures what { action_of (asked_in result.kind result.first result.second result.r8) (input_in what.now)
         ≡ what.now }
+    ensures second { result.second ≡ second_in what.now }
     ensures r8 { result.r8 ≡ r8_in what.now }
 {
     match what {
@@ -124,32 +130,50 @@ pub(crate) fn numbers_of<A: Allocator>(what: &Action<A>) -> Numbers
         Action::ClearSlot(sint) => Numbers::of_access(Kind::ClearSlot, u64::from(*sint), 0),
         Action::ReadFlags(sint) => Numbers::of_access(Kind::ReadFlags, u64::from(*sint), 0),
         Action::ClearFlag(sint, flag) => {
-            Numbers::of_access(Kind::ClearFlag, u64::from(*sint), u64::from(*flag))
+            let first = u64::from(*sint) + u64::from(*flag) * (1 << 8);
+            Numbers::of_access(Kind::ClearFlag, first, 0)
         }
         Action::TakeInterrupt => Numbers::of_access(Kind::TakeInterrupt, 0, 0),
     }
 }
 
-// What the event of a row asked for, with R8 from its head.
-pub(crate) fn asked_of(row: &Row, r8: u64) -> Asked
-    ensures { result ≡ asked_in row.now.kind row.now.first row.now.second r8 }
+// What the event of a row asked for, with RDX, or the value written, and R8 from its head.
+pub(crate) fn asked_of(row: &Row, second: u64, r8: u64) -> Asked
+    ensures { result ≡ asked_in row.now.kind row.now.first second r8 }
 {
     match row.kind {
         Kind::Hypercall => Asked::Hypercall {
             rcx: row.first,
-            rdx: row.second,
+            rdx: second,
             r8,
         },
         Kind::ReadMsr => Asked::ReadMsr((row.first % (1 << 32)) as u32),
-        Kind::WriteMsr => Asked::WriteMsr((row.first % (1 << 32)) as u32, row.second),
+        Kind::WriteMsr => Asked::WriteMsr((row.first % (1 << 32)) as u32, second),
         Kind::ReadSlot => Asked::ReadSlot((row.first % (1 << 8)) as u8),
         Kind::ClearSlot => Asked::ClearSlot((row.first % (1 << 8)) as u8),
         Kind::ReadFlags => Asked::ReadFlags((row.first % (1 << 8)) as u8),
         Kind::ClearFlag => Asked::ClearFlag(
             (row.first % (1 << 8)) as u8,
-            (row.second % (1 << 16)) as u16,
+            (row.first / (1 << 8) % (1 << 16)) as u16,
         ),
         Kind::TakeInterrupt => Asked::TakeInterrupt,
+    }
+}
+
+// RDX of a call, or the value that is written to an MSR. No other access has one.
+#[inline(always)]
+pub(crate) fn second_in<A: Allocator>(what: &Action<A>) -> u64
+    ensures { result ≡ second_in what.now }
+{
+    match what {
+        Action::Hypercall(frame) => frame.rdx,
+        Action::WriteMsr(_, value) => *value,
+        Action::ReadMsr(_)
+        | Action::ReadSlot(_)
+        | Action::ClearSlot(_)
+        | Action::ReadFlags(_)
+        | Action::ClearFlag(_, _)
+        | Action::TakeInterrupt => 0,
     }
 }
 

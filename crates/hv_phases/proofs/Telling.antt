@@ -92,10 +92,6 @@ not_there places callers by tells none there =
     let is = sym none ∙ (told places callers by tells there).3 in
     cc
 
-pub none_from : (o : Option ℕ) (b : Bool) → b ≡ is_some o → b ≡ false → o ≡ None
-none_from None b is not = refl
-none_from (Some x) b is not = absurd (false≢true (sym not ∙ is))
-
 -- one list's place more is noted
 pub tells_more : (old new : BTreeMap (ℕ × ℕ) ℕ) (xs : List Caller) (by : Caller) (i : ℕ) → AreDifferent xs → i < length xs → ((c : Caller) → get_or xs i c ≡ by)
     → ((j : ℕ) (c : Caller) → j < i → place_by (get_or xs j c) old ≡ Some j) → place_by by new ≡ Some i → ((c : Caller) → (c ≡ by → ⊥) → place_by c new ≡ place_by c old)

@@ -1,48 +1,62 @@
 // The processors of a script.
-ghost use Rattle.std.specs.Prelude.{◌≡◌, IfOk, IsTrue, OnOk};
+ghost use Rattle.std.specs.Prelude.{◌≡◌, IfOk, IfSome, IsTrue, OnOk};
 ghost use Rattle.std.specs.List.{Contains};
 ghost use Rattle.hv_phases.specs.Crew.{AreCallersOf, HasCaller};
 ghost use Rattle.hv_phases.specs.Places.{IsIndexOf};
 
 use crate::places::{Places, note, place_in};
+use hv_history::Expected;
 use hv_policy::Caller;
-use hv_script::Lines;
+use hv_script::{Extent, Lines};
 use std::alloc::{AllocError, Global};
 
-/// The processors that lines name, each once, in the order of their first lines.
-pub fn callers_of(alloc: Global, lines: &Lines<Global>) -> Result<Vec<Caller>, AllocError>
-    ensures { IfOk result (λ callers. AreCallersOf lines.now callers.items) }
+/// The processors that lines name, each once, in the order of their first lines, and in the same order what is
+/// expected of each.
+pub fn callers_of(
+    alloc: Global,
+    lines: &Lines<Global>,
+) -> Result<(Vec<Caller>, Vec<Expected>), AllocError>
+    ensures { IfOk result (λ told. AreCallersOf lines.now told.0.items) }
 {
     let mut callers = Vec::new(alloc);
+    let mut expected = Vec::new(alloc);
     let mut places = Places::new(alloc);
     for i in 0..lines.len() {
-        add(&mut callers, &mut places, lines.turn(i).by)?;
+        let place = add(&mut callers, &mut places, lines.turn(i).by)?;
+        expect(&mut expected, place, lines.extent(i))?;
     }
-    Ok(callers)
+    Ok((callers, expected))
 }
 
-// Adds a processor, unless it is there.
-fn add(callers: &mut Vec<Caller>, places: &mut Places, by: Caller) -> Result<(), AllocError>
+// Adds a processor, unless it is there, and tells where it stands.
+fn add(callers: &mut Vec<Caller>, places: &mut Places, by: Caller) -> Result<usize, AllocError>
     requires { IsIndexOf places.old callers.old.items }
     ensures added { OnOk result (HasCaller by callers.old.items callers.new.items) }
     ensures index { OnOk result (IsIndexOf places.new callers.new.items) }
 {
-    if is_in_front(callers, by) {
-        return Ok(());
+    if let Some(place) = place_in_front(callers, by) {
+        return Ok(place);
     }
-    if place_in(places, by).is_some() {
-        return Ok(());
+    if let Some(place) = place_in(places, by) {
+        return Ok(place);
     }
-    note(places, by, callers.len())?;
+    let place = callers.len();
+    note(places, by, place)?;
     callers.push(by)?;
-    Ok(())
+    Ok(place)
 }
 
-// Whether a processor is the first of others or the second, as it is of most scripts.
-fn is_in_front(callers: &[Caller], by: Caller) -> bool
-    ensures { IsTrue result → Contains callers.now by }
+// Where a processor stands, if that is the first place or the second, as in most scripts.
+fn place_in_front(callers: &[Caller], by: Caller) -> Option<usize>
+    ensures { IfSome result (λ _. Contains callers.now by) }
 {
-    is_at(callers, 0, by) || is_at(callers, 1, by)
+    if is_at(callers, 0, by) {
+        Some(0)
+    } else if is_at(callers, 1, by) {
+        Some(1)
+    } else {
+        None
+    }
 }
 
 // Whether a processor stands at a place.
@@ -50,4 +64,24 @@ fn is_at(callers: &[Caller], place: usize, by: Caller) -> bool
     ensures { IsTrue result → Contains callers.now by }
 {
     place < callers.len() && callers[place] == by
+}
+
+// So many events of an action are received while the lock is taken once, and of others it isn't known whether
+// they will happen.
+const MOST_EVENTS: u16 = 16;
+
+// Expects an action more of the processor at a place.
+fn expect(expected: &mut Vec<Expected>, place: usize, extent: Extent) -> Result<(), AllocError> {
+    if expected.len() <= place {
+        expected.push(Expected::NOTHING)?;
+    }
+    let Some(own) = expected.get_mut(place) else {
+        return Ok(());
+    };
+    *own = own.and(Expected {
+        actions: 1,
+        events: usize::from(extent.events.min(MOST_EVENTS)),
+        bytes: extent.bytes as usize,
+    });
+    Ok(())
 }

@@ -15,21 +15,22 @@ ghost use Rattle.hv_threads.specs.declared.phase.End.TheVariants.{Finished, Host
 
 use crate::places::Places;
 use crate::tasks::{enlist, first_stop};
+use hv_actions::give_back;
 use hv_history::HostRefused;
 use hv_policy::{Action, Caller};
 use hv_script::Lines;
-use hv_threads::{End, Gate, Shared, Task, perform};
+use hv_threads::{End, Gate, Held, Task, perform_by};
 use std::alloc::{AllocError, Global};
 use std::sync::Wait;
 use std::sync::ledger::Ledger;
 
-/// Runs the lines one after the other, and tells why the host stopped a processor, of all that it stopped the
-/// first among these callers. A processor that was stopped does no line more, and no phase begins after one
-/// in which a processor was stopped.
+/// Runs the lines one after the other on what a lock holds, and tells why the host stopped a processor, of all
+/// that it stopped the first among these callers. A processor that was stopped does no line more, and no phase
+/// begins after one in which a processor was stopped.
 pub fn run_in_order<L: Ledger, R: Wait, G: Gate>(
     rt: &R,
     gate: &G,
-    shared: &Shared<L>,
+    held: &mut Held<L>,
     callers: &[Caller],
     tasks: &mut [Task<L>],
     places: &mut Places,
@@ -41,6 +42,7 @@ pub fn run_in_order<L: Ledger, R: Wait, G: Gate>(
 {
     let mut left = lines;
     left.reverse();
+    let mut spare = Vec::new(*left.allocator());
     let mut phase = 0;
     let mut members = 0;
     let mut last = 0;
@@ -51,9 +53,9 @@ pub fn run_in_order<L: Ledger, R: Wait, G: Gate>(
             Ok(so_far) => so_far,
             Err(why) => return Some(why),
         };
-        let action = left.take_last();
+        let action = left.take_last(&mut spare);
         let (place, more) = run_line(
-            rt, gate, shared, tasks, places, so_far, last, turn.by, action,
+            rt, gate, held, &mut spare, tasks, places, so_far, last, turn.by, action,
         );
         last = place;
         members = more;
@@ -89,7 +91,8 @@ fn members_of<L: Ledger>(
 fn run_line<L: Ledger, R: Wait, G: Gate>(
     rt: &R,
     gate: &G,
-    shared: &Shared<L>,
+    held: &mut Held<L>,
+    spare: &mut Vec<u8>,
     tasks: &mut [Task<L>],
     places: &mut Places,
     members: usize,
@@ -111,7 +114,7 @@ fn run_line<L: Ledger, R: Wait, G: Gate>(
         → All (IsAfter (ran ++ line ∷ [])) tasks.new }
 {
     let place = enlist(tasks, places, members, last, by);
-    do_next(rt, gate, shared, &mut tasks[place], action);
+    do_next(rt, gate, held, spare, &mut tasks[place], action);
     if place < members {
         (place, members)
     } else {
@@ -124,7 +127,8 @@ fn run_line<L: Ledger, R: Wait, G: Gate>(
 fn do_next<L: Ledger, R: Wait, G: Gate>(
     rt: &R,
     gate: &G,
-    shared: &Shared<L>,
+    held: &mut Held<L>,
+    spare: &mut Vec<u8>,
     task: &mut Task<L>,
     action: Result<Action<Global>, AllocError>,
 )
@@ -142,7 +146,9 @@ fn do_next<L: Ledger, R: Wait, G: Gate>(
         task.end = End::Host(HostRefused::Memory);
         return;
     };
-    if let Err(why) = perform(rt, shared, gate, &mut task.work.pass, action) {
-        task.end = End::Host(why);
+    match perform_by(rt, held, gate, &mut task.work.pass, action) {
+        Ok(Some(frame)) => give_back(spare, frame),
+        Ok(None) => {}
+        Err(why) => task.end = End::Host(why),
     }
 }

@@ -70,10 +70,11 @@ fn hand_out<L: Ledger>(
     ensures handed_out { OnOk result (HasHandedOut left.old left.new tasks.old tasks.new) }
     ensures idle { IfOk result (λ members. (members ≤ length tasks.new) × AreIdleFrom members tasks.new) }
 {
-    let action = left.take_last()?;
+    let mut spare = Vec::new(*left.allocator());
+    let action = left.take_last(&mut spare)?;
     let (mut last, mut members) = give(tasks, places, 0, 0, first.by, action)?;
     while let Some(turn) = next_of(left, first.phase) {
-        let action = left.take_last()?;
+        let action = left.take_last(&mut spare)?;
         let (place, more) = give(tasks, places, members, last, turn.by, action)?;
         last = place;
         members = more;

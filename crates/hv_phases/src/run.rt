@@ -9,7 +9,7 @@ use crate::callers::callers_of;
 use crate::in_order::run_in_order;
 use crate::in_threads::run_in_threads;
 use crate::tasks::{give_back, places_of, tasks_of};
-use hv_history::{HostRefused, Kept};
+use hv_history::{Expected, HostRefused, Kept};
 use hv_policy::Caller;
 use hv_script::Lines;
 use hv_threads::{Gate, Pass, SettleFault, Shared, Task, settle};
@@ -29,9 +29,9 @@ pub enum Unfinished {
 }
 
 /// Runs the lines of a script on a machine to which nothing happened yet, each processor of a phase in a
-/// thread of its own, or with `serial` all in their order and with no thread. Answers the machine with
-/// its history, and why it isn't a whole run of the lines, if it isn't. Where it is, each processor's
-/// events are those that its lines ask for, in their order (`lines`).
+/// thread of its own, or with `serial` all in their order, with no thread and the lock taken once. Answers
+/// the machine with its history, and why it isn't a whole run of the lines, if it isn't. Where it is, each
+/// processor's events are those that its lines ask for, in their order (`lines`).
 pub fn run_lines<R: Threads + Wait + Sync, G: Gate>(
     rt: &R,
     gate: &G,
@@ -44,34 +44,23 @@ pub fn run_lines<R: Threads + Wait + Sync, G: Gate>(
     ensures limit { IfNone result.1 (result.0.limit ≡ kept.limit) }
     ensures lines { IfNone result.1 (AreRun lines result.0.history) }
 {
-    let Ok(callers) = callers_of(*lines.allocator(), &lines) else {
+    let Ok((callers, expected)) = callers_of(*lines.allocator(), &lines) else {
         return (kept, Some(Unfinished::Host(HostRefused::Memory)));
     };
     if callers.is_empty() {
         return (kept, None);
     }
-    let mut kept = kept;
-    if make_room(&mut kept, lines.len(), callers.len()).is_err() {
-        return (kept, Some(Unfinished::Host(HostRefused::Memory)));
-    }
     let parts = callers.len() as u64;
-    run_under::<Brand, R, G>(rt, gate, kept, Blank::new(parts), callers, lines, serial)
-}
-
-// Where each processor has so many lines, room for their events is made before: an allocator keeps a list of
-// so many in a block of its own, which stays where it is.
-const MANY_LINES: usize = 4096;
-
-// Makes room in the history for an event of each line, as most lines are, or for as many as it may have,
-// unless the processors have few lines each.
-fn make_room(kept: &mut Kept<Global>, lines: usize, callers: usize) -> Result<(), AllocError>
-    ensures { kept.new ≡ kept.old }
-{
-    if lines / MANY_LINES < callers {
-        return Ok(());
-    }
-    let most = kept.limit() as usize;
-    kept.reserve_rows(if lines < most { lines } else { most })
+    run_under::<Brand, R, G>(
+        rt,
+        gate,
+        kept,
+        Blank::new(parts),
+        callers,
+        &expected,
+        lines,
+        serial,
+    )
 }
 
 // The same under one ledger.
@@ -81,6 +70,7 @@ fn run_under<L: Ledger + Send + Sync, R: Threads + Wait + Sync, G: Gate>(
     kept: Kept<Global>,
     blank: Blank,
     callers: Vec<Caller>,
+    expected: &[Expected],
     lines: Lines<Global>,
     serial: bool,
 ) -> (Kept<Global>, Option<Unfinished>)
@@ -95,7 +85,11 @@ fn run_under<L: Ledger + Send + Sync, R: Threads + Wait + Sync, G: Gate>(
     let Ok(order) = callers.clone() else {
         return (kept, Some(Unfinished::Host(HostRefused::Memory)));
     };
-    match Shared::<L>::new(kept, blank, callers) {
+    let mut kept = kept;
+    if kept.expect(all_of(expected)).is_err() {
+        return (kept, Some(Unfinished::Host(HostRefused::Memory)));
+    }
+    match Shared::<L>::new(kept, blank, callers, expected) {
         Ok((shared, mut passes)) => {
             let stop = run_on(
                 rt,
@@ -110,6 +104,15 @@ fn run_under<L: Ledger + Send + Sync, R: Threads + Wait + Sync, G: Gate>(
         }
         Err(kept) => (kept, Some(Unfinished::Host(HostRefused::Memory))),
     }
+}
+
+// What is expected of all.
+fn all_of(expected: &[Expected]) -> Expected {
+    let mut all = Expected::NOTHING;
+    for own in expected {
+        all = all.and(*own);
+    }
+    all
 }
 
 // Settles, and tells what comes first: why the lines didn't all run, or what the settlement found.
@@ -180,7 +183,9 @@ fn run_either<L: Ledger + Send + Sync, R: Threads + Wait + Sync, G: Gate>(
         return Some(HostRefused::Memory);
     };
     if serial {
-        run_in_order(rt, gate, shared, callers, tasks, &mut places, lines)
+        // Nobody else is there, so the lock is taken once for all lines.
+        let mut held = shared.lock(rt);
+        run_in_order(rt, gate, &mut held, callers, tasks, &mut places, lines)
     } else {
         run_in_threads(rt, gate, shared, callers, tasks, &mut places, lines)
     }

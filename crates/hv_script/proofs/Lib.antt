@@ -1,4 +1,5 @@
 pub mod CallerLemmas
+pub mod DigitLemmas
 mod BitLemmas
 mod CutLemmas
 mod FrontLemmas

@@ -13,6 +13,7 @@ use crate::verb::Verb;
 use hv_abi::{Bytes, Frame};
 use hv_policy::{Action, Caller};
 use std::alloc::Allocator;
+use std::mem::replace;
 
 // So many decimal digits always fit 64 bits.
 const FEW_DIGITS: usize = 18;
@@ -196,18 +197,22 @@ fn leading_call(text: &[u8]) -> Option<(u64, u64, u64, &[u8])>
     Some((rcx, rdx, r8, text))
 }
 
-// The bytes of a call's input list, or nothing where the word is none.
+// The bytes of a call's input list, in the memory of a spare vector, or nothing where the word is none.
 #[inline(always)]
-fn input<A: Allocator + Clone>(alloc: &A, word: &[u8]) -> Result<Option<Bytes<A>>, FaultKind>
+fn input<A: Allocator + Clone>(
+    spare: &mut Vec<u8, A>,
+    word: &[u8],
+) -> Result<Option<Bytes<A>>, FaultKind>
     ensures input { IfOk result (λ input. IfSome input (λ input. bytes_in word.now ≡ Ok input)) }
     ensures memory { IfErr result (λ kind. kind ≡ Memory) }
 {
-    let alloc = alloc.clone().map_err(|_| FaultKind::Memory)?;
+    let alloc = spare.allocator().clone().map_err(|_| FaultKind::Memory)?;
+    let none = Vec::new(alloc);
     // Most calls have none.
     if word == b"-".as_slice() {
-        return Ok(Some(Bytes::from_vec(Vec::new(alloc))));
+        return Ok(Some(Bytes::from_vec(none)));
     }
-    match number::bytes(alloc, word) {
+    match number::bytes(replace(spare, none), word) {
         Ok(input) => Ok(Some(Bytes::from_vec(input))),
         Err(FaultKind::Memory) => Err(FaultKind::Memory),
         Err(_) => Ok(None),
@@ -331,7 +336,7 @@ fn leading_access<A: Allocator>(text: &[u8]) -> Option<(Action<A>, &[u8])>
 // looked for first, as they are the most usual.
 #[inline(always)]
 fn asked<'a, A: Allocator + Clone>(
-    alloc: &A,
+    spare: &mut Vec<u8, A>,
     text: &'a [u8],
 ) -> Result<Option<(Action<A>, &'a [u8])>, FaultKind>
     ensures asked { IfOk result (λ asked. IfSome asked (λ asked. Asks text.now asked.0 asked.1.now)) }
@@ -343,7 +348,7 @@ fn asked<'a, A: Allocator + Clone>(
     let Some((word, rest)) = word_before(text, b'\n') else {
         return Ok(None);
     };
-    let Some(input) = input(alloc, word)? else {
+    let Some(input) = input(spare, word)? else {
         return Ok(None);
     };
     let frame = Frame {
@@ -357,9 +362,9 @@ fn asked<'a, A: Allocator + Clone>(
 
 /// What the line that a text begins with asks for, its processor, and what stands after the line: if its
 /// words stand right behind one another, that of the processor in few decimal digits, and it has no
-/// fault. A line of which nothing is told may be anything.
+/// fault. A line of which nothing is told may be anything. An input stands in the memory of a spare vector.
 pub fn asked_line<'a, A: Allocator + Clone>(
-    alloc: &A,
+    spare: &mut Vec<u8, A>,
     text: &'a [u8],
 ) -> Result<Option<(Caller, Action<A>, &'a [u8])>, FaultKind>
     ensures asked { IfOk result (λ asked. IfSome asked (λ asked. BeginsAsking text.now asked.0 asked.1
@@ -369,7 +374,7 @@ pub fn asked_line<'a, A: Allocator + Clone>(
     let Some((by, text)) = leading_processor(text) else {
         return Ok(None);
     };
-    let Some((action, rest)) = asked(alloc, text)? else {
+    let Some((action, rest)) = asked(spare, text)? else {
         return Ok(None);
     };
     Ok(Some((by, action, rest)))

@@ -21,6 +21,7 @@ mod script;
 mod verb;
 
 pub use fault::{FaultKind, ScriptFault};
+pub use hv_actions::Extent;
 pub use line::Line;
 pub use lines::{Lines, Turn};
 pub use reading::MOST_PROCESSORS;

@@ -1,10 +1,10 @@
 // The lines of a script's processors, packed.
-ghost use Rattle.std.specs.Prelude.{◌≡◌, ◌==◌, ◌<◌, ◌++◌, [], ◌∷◌, List, length, reverse, slice_get, take};
+ghost use Rattle.std.specs.Prelude.{◌≡◌, ◌<◌, ◌++◌, [], ◌∷◌, List, length, reverse, slice_get, take};
 ghost use Rattle.std.specs.Prelude.{◌-◌, IfNone, IfOk, IfSome, IsTrue, OnErr, OnOk, Some, vec_len};
 ghost use Rattle.hv_script.specs.Lines.{EndsIn, turn_at};
 ghost use Rattle.hv_script.specs.declared.line.Line.{Line};
 
-use hv_actions::Actions;
+use hv_actions::{Actions, Extent};
 use hv_policy::{Action, Caller};
 use std::alloc::{AllocError, Allocator};
 use std::marker::Model;
@@ -53,14 +53,6 @@ impl<A: Allocator> Lines<A> {
         self.places.len()
     }
 
-    /// Whether there is none.
-    #[inline(always)]
-    pub fn is_empty(&self) -> bool
-        ensures { result ≡ (length self.now == 0) }
-    {
-        self.len() == 0
-    }
-
     /// Whose line stands at a place, counted from 0.
     #[inline(always)]
     pub fn turn(&self, at: usize) -> Turn
@@ -99,11 +91,17 @@ impl<A: Allocator> Lines<A> {
         Ok(())
     }
 
-    // Makes room for so many more lines, but not for what calls need beside their rows, nor for turns.
-    pub(crate) fn reserve(&mut self, count: usize) -> Result<(), AllocError>
+    /// About how much the line at a place, if there is one, will take of a history.
+    #[inline(always)]
+    pub fn extent(&self, at: usize) -> Extent {
+        self.actions.extent(at)
+    }
+
+    // Makes room for so many more lines, whose inputs have so many bytes, but not for turns.
+    pub(crate) fn reserve(&mut self, count: usize, bytes: usize) -> Result<(), AllocError>
         ensures { self.new ≡ self.old }
     {
-        self.actions.reserve(count)?;
+        self.actions.reserve(count, bytes)?;
         self.places.reserve(count)
     }
 
@@ -152,16 +150,16 @@ impl<A: Allocator + Clone> Lines<A> {
         })
     }
 
-    /// Takes the last line out, in any case, and gives what it asks for. Its input is copied, for which the
-    /// host may have no memory: then it is lost.
+    /// Takes the last line out, in any case, and gives what it asks for. Its input is copied into the memory
+    /// of a spare vector. The host may have no memory where that is too small: then it is lost.
     #[inline(always)]
-    pub fn take_last(&mut self) -> Result<Action<A>, AllocError>
+    pub fn take_last(&mut self, spare: &mut Vec<u8, A>) -> Result<Action<A>, AllocError>
         requires some { 0 < length self.old }
         ensures { (rest : List (Line A)) (line : Line A) → self.old ≡ rest ++ line ∷ []
             → (self.new ≡ rest) × IfOk result (λ action. action ≡ line.action) }
     {
         self.places.take_last();
-        self.actions.take_last()
+        self.actions.take_last(spare)
     }
 }
 

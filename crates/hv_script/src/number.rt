@@ -64,17 +64,22 @@ pub fn number_8(word: &[u8]) -> Option<u8>
     u8::try_from(number(word)?).ok()
 }
 
-/// Bytes as an even number of hexadecimal digits of either case, at most 8,192, or `-` for none.
-pub fn bytes<A: Allocator>(alloc: A, word: &[u8]) -> Result<Vec<u8, A>, FaultKind>
+/// Bytes as an even number of hexadecimal digits of either case, at most 8,192, or `-` for none. They stand in
+/// the memory of a spare vector.
+pub fn bytes<A: Allocator>(spare: Vec<u8, A>, word: &[u8]) -> Result<Vec<u8, A>, FaultKind>
     ensures { IsRead result (λ bytes. bytes.items) (bytes_in word.now) }
 {
+    let mut bytes = spare;
+    bytes.clear();
     if word == b"-".as_slice() {
-        return Ok(Vec::new(alloc));
+        return Ok(bytes);
     }
     if word.len() % 2 != 0 || word.len() > MOST_DIGITS {
         return Err(FaultKind::Hex);
     }
-    let mut bytes = Vec::with_capacity(alloc, word.len() / 2).map_err(|_| FaultKind::Memory)?;
+    bytes
+        .reserve(word.len() / 2)
+        .map_err(|_| FaultKind::Memory)?;
     push_bytes(&mut bytes, word)?;
     Ok(bytes)
 }
@@ -105,18 +110,30 @@ fn pair_value(pair: &[u8]) -> Option<u8>
     Some(high * 16 + low)
 }
 
-// The value of a hexadecimal digit of either case.
+// The value of a hexadecimal digit of either case. It is looked up, since no branch foretells which comes.
 #[inline(always)]
+#[tactic(auto, using(crate::proofs::DigitLemmas::digit_at))]
 fn hex_digit(byte: u8) -> Option<u8>
     ensures { SomeIff result (digit_value byte < 16) (digit_value byte) }
 {
-    match byte {
-        b'0'..=b'9' => Some(byte - b'0'),
-        b'a'..=b'f' => Some(byte - b'a' + 10),
-        b'A'..=b'F' => Some(byte - b'A' + 10),
-        _ => None,
-    }
+    let value = DIGIT_VALUES[usize::from(byte)];
+    if value < 16 { Some(value) } else { None }
 }
+
+// The value of each byte as a digit of either case in bases up to 36, and 36 where it is none.
+const DIGIT_VALUES: [u8; 256] = [
+    36, 36, 36, 36, 36, 36, 36, 36, 36, 36, 36, 36, 36, 36, 36, 36, 36, 36, 36, 36, 36, 36, 36, 36,
+    36, 36, 36, 36, 36, 36, 36, 36, 36, 36, 36, 36, 36, 36, 36, 36, 36, 36, 36, 36, 36, 36, 36, 36,
+    0, 1, 2, 3, 4, 5, 6, 7, 8, 9, 36, 36, 36, 36, 36, 36, 36, 10, 11, 12, 13, 14, 15, 16, 17, 18,
+    19, 20, 21, 22, 23, 24, 25, 26, 27, 28, 29, 30, 31, 32, 33, 34, 35, 36, 36, 36, 36, 36, 36, 10,
+    11, 12, 13, 14, 15, 16, 17, 18, 19, 20, 21, 22, 23, 24, 25, 26, 27, 28, 29, 30, 31, 32, 33, 34,
+    35, 36, 36, 36, 36, 36, 36, 36, 36, 36, 36, 36, 36, 36, 36, 36, 36, 36, 36, 36, 36, 36, 36, 36,
+    36, 36, 36, 36, 36, 36, 36, 36, 36, 36, 36, 36, 36, 36, 36, 36, 36, 36, 36, 36, 36, 36, 36, 36,
+    36, 36, 36, 36, 36, 36, 36, 36, 36, 36, 36, 36, 36, 36, 36, 36, 36, 36, 36, 36, 36, 36, 36, 36,
+    36, 36, 36, 36, 36, 36, 36, 36, 36, 36, 36, 36, 36, 36, 36, 36, 36, 36, 36, 36, 36, 36, 36, 36,
+    36, 36, 36, 36, 36, 36, 36, 36, 36, 36, 36, 36, 36, 36, 36, 36, 36, 36, 36, 36, 36, 36, 36, 36,
+    36, 36, 36, 36, 36, 36, 36, 36, 36, 36, 36, 36, 36, 36,
+];
 
 // The number that digits in a base write, where it fits 64 bits. Inlined, so that the base is known.
 #[inline(always)]

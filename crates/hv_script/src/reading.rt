@@ -8,6 +8,7 @@ use crate::fault::FaultKind;
 use crate::front::asked_line;
 use crate::line::{action, processor};
 use crate::lines::Lines;
+use hv_actions::give_back;
 use hv_policy::{Action, Caller};
 use std::alloc::Allocator;
 
@@ -44,11 +45,13 @@ impl<A: Allocator + Clone> Reading<A> {
     ghost use Rattle.hv_script.specs.Script.{with_line};
     ghost use Rattle.hv_script.specs.Words.{lines_left, lines_of, most_left, words_of};
 
-    /// Reads the first line of a text, and gives what stands after its line feed, if it has one.
+    /// Reads the first line of a text, and gives what stands after its line feed, if it has one. The spare
+    /// vector's memory is lent to an input while its line is read.
     #[inline(always)]
     pub fn read_next<'a>(
         alloc: &A,
         reading: &mut Option<Reading<A>>,
+        spare: &mut Vec<u8, A>,
         text: &'a [u8],
     ) -> Result<Option<&'a [u8]>, FaultKind>
         requires phases { phase_by reading.old + 1 < 2 ^ 32 }
@@ -60,25 +63,28 @@ impl<A: Allocator + Clone> Reading<A> {
         ensures phase { OnOk result (phase_by reading.new ≤ phase_by reading.old + 1) }
     {
         if let Some(reading) = reading {
-            if let Some((by, action, rest)) = asked_line(alloc, text)? {
+            if let Some((by, action, rest)) = asked_line(spare, text)? {
                 reading.take_line(by, &action)?;
+                if let Action::Hypercall(frame) = action {
+                    give_back(spare, frame);
+                }
                 return Ok(Some(rest));
             }
         }
         let (line, rest) = next_line(text);
-        Reading::read_line(alloc, reading, &line, text.len() / BYTES_A_LINE)?;
+        Reading::read_line(alloc, reading, &line, text.len())?;
         Ok(rest)
     }
 
-    /// Reads a line after what was read before it. If it is the first, room is made for about so many more.
-    /// Not inlined, as few lines are read so.
+    /// Reads a line after what was read before it. If it is the first, room is made for the lines of about
+    /// so many bytes of text. Not inlined, as few lines are read so.
     #[inline(never)]
     #[tactic(auto, unfolding(crate::specs::Script::read_line))]
     pub fn read_line(
         alloc: &A,
         reading: &mut Option<Reading<A>>,
         line: &CutLine<'_>,
-        more: usize,
+        text_len: usize,
     ) -> Result<(), FaultKind>
         requires phases { phase_by reading.old + 1 < 2 ^ 32 }
         ensures read { IsRead result (λ _. read_by reading.new) (read_line (read_by reading.old) line.now) }
@@ -91,14 +97,15 @@ impl<A: Allocator + Clone> Reading<A> {
             return Err(FaultKind::Byte);
         }
         match reading {
-            None => *reading = Some(Reading::first_line(alloc, line, more)?),
+            None => *reading = Some(Reading::first_line(alloc, line, text_len)?),
             Some(reading) => reading.later_line(alloc, line)?,
         }
         Ok(())
     }
 
-    // Reads the first line, which is a `boot` line, and makes room for about so many more.
-    fn first_line(alloc: &A, line: &CutLine<'_>, more: usize) -> Result<Reading<A>, FaultKind>
+    // Reads the first line, which is a `boot` line, and makes room for the lines of about so many bytes of
+    // text. An input has two digits a byte.
+    fn first_line(alloc: &A, line: &CutLine<'_>, text_len: usize) -> Result<Reading<A>, FaultKind>
         ensures read { IsRead result so_far (first_line (words_of line.now)) }
         ensures phase { IfOk result (λ reading. reading.phase ≡ 0) }
     {
@@ -108,7 +115,9 @@ impl<A: Allocator + Clone> Reading<A> {
         let boot = read_boot(line)?;
         let callers = alloc.clone().map_err(|_| FaultKind::Memory)?;
         let mut lines = Lines::new(alloc).map_err(|_| FaultKind::Memory)?;
-        lines.reserve(more).map_err(|_| FaultKind::Memory)?;
+        lines
+            .reserve(text_len / BYTES_A_LINE, text_len / 2)
+            .map_err(|_| FaultKind::Memory)?;
         Ok(Reading {
             boot,
             phase: 0,

@@ -65,14 +65,20 @@ fn read_lines<A: Allocator + Clone>(
         → read_lines {A = A} 1 None (lines_of text.now) ≡ Err fault) }
 {
     let mut reading = None;
+    let Ok(spare) = alloc.clone() else {
+        return Err(ScriptFault {
+            line: 1,
+            kind: FaultKind::Memory,
+        });
+    };
+    let mut spare = Vec::new(spare);
     let mut number = 0usize;
     let mut left = Some(text);
     'lines: while let Some(here) = left {
         number += 1;
-        left = Reading::read_next(alloc, &mut reading, here).map_err(|kind| ScriptFault {
-            line: number,
-            kind,
-        })?;
+        left = Reading::read_next(alloc, &mut reading, &mut spare, here).map_err(
+            |kind| ScriptFault { line: number, kind },
+        )?;
     }
     Ok(reading)
 }

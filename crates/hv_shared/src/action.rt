@@ -5,9 +5,10 @@ ghost use Rattle.hv_policy.specs.declared.reply.Reply.{Reply};
 ghost use Rattle.hv_shared.specs.Pass.{HasCalled, IsAsBefore};
 ghost use Rattle.hv_shared.specs.Perform.{HasBegun, HasPerformed};
 
-use crate::drive::next_of;
+use crate::drive::{finish, next_of};
 use crate::gate::Gate;
 use crate::held::Pass;
+use crate::keeper::{Keeper, ask, happen};
 use crate::shared::Shared;
 use hv_abi::Frame;
 use hv_history::HostRefused;
@@ -29,11 +30,31 @@ pub fn perform<L: Ledger, R: Wait, G: Gate>(
     ensures performed { OnOk result (HasPerformed action pass.old pass.new) }
     ensures refused { OnErr result (HasBegun action pass.old pass.new) }
 {
+    let mut keeper = shared;
+    match perform_by(rt, &mut keeper, gate, pass, action) {
+        Ok(_) => Ok(()),
+        Err(why) => Err(why),
+    }
+}
+
+/// Lets one action come to its end as [`perform`] does, by a lock or by what is in it, and gives back the
+/// frame of a call's last element, whose memory may be used again.
+#[inline(always)]
+pub fn perform_by<L: Ledger, K: Keeper<L>, R: Wait, G: Gate>(
+    rt: &R,
+    keeper: &mut K,
+    gate: &G,
+    pass: &mut Pass<L>,
+    action: Action<Global>,
+) -> Result<Option<Frame<Global>>, HostRefused>
+    ensures performed { OnOk result (HasPerformed action pass.old pass.new) }
+    ensures refused { OnErr result (HasBegun action pass.old pass.new) }
+{
     match action {
-        Action::Hypercall(frame) => match shared.ask(rt, pass, gate, frame) {
+        Action::Hypercall(frame) => match ask(keeper, rt, pass, gate, frame) {
             Ok((last, answer)) => match next_of(answer) {
-                Some(next) => go_on(rt, shared, gate, pass, last.with_start(next)),
-                None => Ok(()),
+                Some(next) => go_on(rt, keeper, gate, pass, last.with_start(next)),
+                None => Ok(Some(last)),
             },
             Err(refused) => Err(refused.why),
         },
@@ -43,15 +64,18 @@ pub fn perform<L: Ledger, R: Wait, G: Gate>(
         | Action::ClearSlot(_)
         | Action::ReadFlags(_)
         | Action::ClearFlag(_, _)
-        | Action::TakeInterrupt => access(rt, shared, gate, pass, action),
+        | Action::TakeInterrupt => match access(rt, keeper, gate, pass, action) {
+            Ok(()) => Ok(None),
+            Err(why) => Err(why),
+        },
     }
 }
 
 // Lets one thing happen that isn't a hypercall.
 #[inline(never)]
-fn access<L: Ledger, R: Wait, G: Gate>(
+fn access<L: Ledger, K: Keeper<L>, R: Wait, G: Gate>(
     rt: &R,
-    shared: &Shared<L>,
+    keeper: &mut K,
     gate: &G,
     pass: &mut Pass<L>,
     what: Action<Global>,
@@ -60,7 +84,7 @@ fn access<L: Ledger, R: Wait, G: Gate>(
     ensures refused { OnErr result (IsAsBefore pass.old pass.new) }
 {
     let by = pass.caller();
-    match shared.happen(rt, pass, gate, &Event { by, what }) {
+    match happen(keeper, rt, pass, gate, &Event { by, what }) {
         Ok(_) => Ok(()),
         Err(why) => Err(why),
     }
@@ -68,18 +92,18 @@ fn access<L: Ledger, R: Wait, G: Gate>(
 
 // Lets the other elements of a rep call come to their end.
 #[inline(never)]
-fn go_on<L: Ledger, R: Wait, G: Gate>(
+fn go_on<L: Ledger, K: Keeper<L>, R: Wait, G: Gate>(
     rt: &R,
-    shared: &Shared<L>,
+    keeper: &mut K,
     gate: &G,
     pass: &mut Pass<L>,
     frame: Frame<Global>,
-) -> Result<(), HostRefused>
+) -> Result<Option<Frame<Global>>, HostRefused>
     ensures performed { OnOk result (HasPerformed (Hypercall frame) pass.old pass.new) }
     ensures refused { OnErr result (HasBegun (Hypercall frame) pass.old pass.new) }
 {
-    match shared.finish(rt, pass, gate, frame) {
-        Ok(_) => Ok(()),
+    match finish(keeper, rt, pass, gate, frame) {
+        Ok(last) => Ok(Some(last)),
         Err(refused) => Err(refused.why),
     }
 }

@@ -4,10 +4,10 @@ ghost use Rattle.hv_history.specs.Run.{IsMore};
 ghost use Rattle.hv_policy.specs.Parts.{reply_of};
 ghost use Rattle.hv_policy.specs.declared.reply.Reply.TheVariants.{More};
 ghost use Rattle.hv_shared.specs.Drive.{HasDriven, HasFinished, HasStopped};
-ghost use Rattle.hv_shared.specs.Told.{IsAsked};
 
 use crate::gate::Gate;
 use crate::held::Pass;
+use crate::keeper::{Keeper, ask};
 use crate::shared::Shared;
 use hv_abi::{Frame, InputValue, ResultValue};
 use hv_history::{Answer, HostRefused};
@@ -75,30 +75,31 @@ impl<L: Ledger> Shared<L> {
         ensures driven { IfOk result (λ r. HasDriven frame r.0 r.1 pass.old pass.new) }
         ensures refused { IfErr result (λ e. HasStopped frame e.next pass.old pass.new) }
     {
-        let last = self.finish(rt, pass, gate, frame)?;
+        let mut keeper = self;
+        let last = finish(&mut keeper, rt, pass, gate, frame)?;
         let reply = pass.last_reply();
         Ok((result_of(&last, &reply), reply))
     }
+}
 
-    // Drives a hypercall to its end, and gives back the frame of its last element. The replies stand in
-    // the receipts.
-    pub(crate) fn finish<R: Wait, G: Gate>(
-        &self,
-        rt: &R,
-        pass: &mut Pass<L>,
-        gate: &G,
-        frame: Frame<Global>,
-    ) -> Result<Frame<Global>, DriveRefused>
-        ensures finished { IfOk result (λ last. HasFinished frame last pass.old pass.new) }
-        ensures refused { IfErr result (λ e. HasStopped frame e.next pass.old pass.new) }
-    {
-        let (mut last, mut answer) = self.ask(rt, pass, gate, frame)?;
-        while let Some(next) = next_of(answer) {
-            let later = last.with_start(next);
-            let (asked, told) = self.ask(rt, pass, gate, later)?;
-            last = asked;
-            answer = told;
-        }
-        Ok(last)
+// Drives a hypercall to its end, and gives back the frame of its last element. The replies stand in the
+// receipts.
+pub(crate) fn finish<L: Ledger, K: Keeper<L>, R: Wait, G: Gate>(
+    keeper: &mut K,
+    rt: &R,
+    pass: &mut Pass<L>,
+    gate: &G,
+    frame: Frame<Global>,
+) -> Result<Frame<Global>, DriveRefused>
+    ensures finished { IfOk result (λ last. HasFinished frame last pass.old pass.new) }
+    ensures refused { IfErr result (λ e. HasStopped frame e.next pass.old pass.new) }
+{
+    let (mut last, mut answer) = ask(keeper, rt, pass, gate, frame)?;
+    while let Some(next) = next_of(answer) {
+        let later = last.with_start(next);
+        let (asked, told) = ask(keeper, rt, pass, gate, later)?;
+        last = asked;
+        answer = told;
     }
+    Ok(last)
 }

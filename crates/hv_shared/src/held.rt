@@ -21,7 +21,7 @@ ghost use Rattle.hv_shared.specs.Shared.{AreOpened};
 ghost use Rattle.hv_shared.specs.declared.receipts.Receipt.{Receipt};
 
 use crate::receipts::Receipts;
-use hv_history::{Answer, History, HostRefused, Kept};
+use hv_history::{Answer, Expected, History, HostRefused, Kept};
 use hv_policy::{Caller, Event, Reply};
 use std::alloc::{AllocError, Global};
 use std::marker::Model;
@@ -120,18 +120,18 @@ impl<L: Ledger> Pass<L> {
 }
 
 impl<L: Ledger> Pass<L> {
-    // A pass without receipts, which has room for some, with one part of the count.
+    // A pass without receipts, which has room for those of so much, with one part of the count.
     fn open(
         alloc: Global,
         caller: Caller,
-        room: usize,
+        expected: Expected,
         share: Share<L>,
     ) -> Result<Pass<L>, AllocError>
         requires { (share.parts ≡ 1) × (share.amount ≡ 0) }
         ensures { IfOk result (λ pass. (pass.caller ≡ caller) × (pass.receipts ≡ []) × (pass.share ≡ 0)) }
     {
         let mut receipts = Receipts::new(alloc);
-        receipts.reserve_rows(room)?;
+        receipts.expect(expected)?;
         let receipts = Box::new(alloc, receipts)?;
         Ok(Pass {
             caller,
@@ -230,12 +230,13 @@ impl<L: Ledger> Pass<L> {
 
 impl<L: Ledger> Held<L> {
     /// A machine to which nothing happened yet, and a pass for each caller, in order. The blank has as many
-    /// parts as there are callers. The room that its history has for events is made in the passes too, each
-    /// an equal part. For want of memory the machine comes back.
+    /// parts as there are callers. Each pass has room for what is expected of its caller, where that stands
+    /// in the same order. For want of memory the machine comes back.
     pub fn open(
         kept: Kept<Global>,
         blank: Blank,
         callers: Vec<Caller>,
+        expected: &[Expected],
     ) -> Result<(Held<L>, Vec<Pass<L>>), Kept<Global>>
         requires empty { kept.history ≡ [] }
         requires ledger { (blank.name ≡ L.name) × (blank.parts ≡ L.parts) × (blank.parts ≡ vec_len callers) }
@@ -247,12 +248,11 @@ impl<L: Ledger> Held<L> {
         if passes.reserve(callers.len()).is_err() {
             return Err(kept);
         }
-        let room = kept.history().row_room();
-        let each = room.checked_div(callers.len()).unwrap_or(0);
         let (count, mut rest) = blank.open::<L>();
         for i in 0..callers.len() {
             let share = rest.split_off(1, 0);
-            let Ok(pass) = Pass::open(*callers.allocator(), callers[i], each, share) else {
+            let own = expected.get(i).copied().unwrap_or(Expected::NOTHING);
+            let Ok(pass) = Pass::open(*callers.allocator(), callers[i], own, share) else {
                 return Err(kept);
             };
             passes.push_reserved(pass);

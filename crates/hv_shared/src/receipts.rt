@@ -5,7 +5,7 @@ ghost use Rattle.hv_history.specs.History.{IsOfLastCall, entries};
 ghost use Rattle.hv_history.specs.Output.{shown};
 ghost use Rattle.hv_history.specs.declared.entry.Entry.{Entry};
 
-use hv_history::{EntryRef, History};
+use hv_history::{EntryRef, Expected, History};
 use hv_policy::{Event, Reply};
 use std::alloc::{AllocError, Global};
 
@@ -109,12 +109,12 @@ impl Receipts {
         self.packed.reserve(event, count)
     }
 
-    // Makes room for so many receipts, but not for what their events put in, nor for long outputs.
-    pub(crate) fn reserve_rows(&mut self, count: usize) -> Result<(), AllocError>
+    // Makes room for the receipts of about so many more events.
+    pub(crate) fn expect(&mut self, expected: Expected) -> Result<(), AllocError>
         ensures { list_of self.new ≡ list_of self.old }
     {
-        self.numbers.reserve(count)?;
-        self.packed.reserve_rows(count)
+        self.numbers.reserve(expected.events)?;
+        self.packed.expect(expected)
     }
 
     // For how many such receipts there is room.

@@ -4,24 +4,19 @@ ghost use Rattle.hv_abi.specs.declared.frame.Frame.{Frame};
 ghost use Rattle.hv_policy.specs.Next.{GoesOn};
 ghost use Rattle.hv_policy.specs.Result.{HasResult};
 ghost use Rattle.hv_policy.specs.declared.event.Action.TheVariants.{Hypercall};
-ghost use Rattle.hv_shared.specs.Drive.{HasStopped};
-ghost use Rattle.hv_history.specs.Run.{element};
 ghost use Rattle.hv_shared.specs.Pass.{HasCalled, IsAsBefore};
-ghost use Rattle.hv_shared.specs.Room.{HasRoom};
 ghost use Rattle.hv_shared.specs.Shared.{AreOpened};
-ghost use Rattle.hv_shared.specs.Told.{IsAsked, IsTold};
 
-use crate::drive::{DriveRefused, elements_in_a_hold};
 use crate::gate::Gate;
 use crate::held::{Held, Pass};
-use crate::hold::frame_of;
-use hv_abi::{Frame, InputValue};
-use hv_history::{Answer, HostRefused, Kept};
+use crate::keeper::{Keeper, happen};
+use hv_abi::Frame;
+use hv_history::{Answer, Expected, HostRefused, Kept};
 use hv_policy::{Action, Caller, Config, Event, Reply};
 use std::alloc::Global;
 use std::marker::Model;
 use std::sync::ledger::{Blank, Ledger};
-use std::sync::{Mutex, Wait};
+use std::sync::{Mutex, MutexGuard, Wait};
 
 /// A lock round a machine with its history, and beside it how many passes there are and with what the
 /// history was begun.
@@ -45,12 +40,14 @@ impl<L: Ledger> Model for Shared<L> {
 }
 
 impl<L: Ledger> Shared<L> {
-    /// A lock round a machine to which nothing happened yet, and a pass for each caller, in order. The
-    /// blank has as many parts as there are callers. For want of memory the machine comes back.
+    /// A lock round a machine to which nothing happened yet, and a pass for each caller, in order, with room
+    /// for what is expected of the caller, where that is said. The blank has as many parts as there are
+    /// callers. For want of memory the machine comes back.
     pub fn new(
         kept: Kept<Global>,
         blank: Blank,
         callers: Vec<Caller>,
+        expected: &[Expected],
     ) -> Result<(Shared<L>, Vec<Pass<L>>), Kept<Global>>
         requires empty { kept.history ≡ [] }
         requires some { 0 < vec_len callers }
@@ -64,7 +61,7 @@ impl<L: Ledger> Shared<L> {
         let passes = callers.len();
         let config = kept.config();
         let limit = kept.limit();
-        let (held, opened) = Held::open(kept, blank, callers)?;
+        let (held, opened) = Held::open(kept, blank, callers, expected)?;
         let shared = Shared {
             held: Mutex::new(held),
             passes,
@@ -91,94 +88,16 @@ impl<L: Ledger> Shared<L> {
         ensures next { IfOk result (λ r. GoesOn what r) }
     {
         let by = pass.caller();
-        match self.happen(rt, pass, gate, &Event { by, what }) {
+        let mut keeper = self;
+        match happen(&mut keeper, rt, pass, gate, &Event { by, what }) {
             Ok(_) => Ok(pass.last_reply()),
             Err(why) => Err(why),
         }
     }
 
-    // Lets an event by the pass's caller happen, and keeps its receipt. Answers its reply without the
-    // output. Room for the receipt is made before the gate is asked.
-    #[inline(always)]
-    pub(crate) fn happen<R: Wait, G: Gate>(
-        &self,
-        rt: &R,
-        pass: &mut Pass<L>,
-        gate: &G,
-        event: &Event<Global>,
-    ) -> Result<Answer, HostRefused>
-        requires { event.now.by ≡ pass.old.caller }
-        ensures told { IfOk result (λ answer. IsTold event.now.what answer pass.old pass.new) }
-        ensures refused { OnErr result (IsAsBefore pass.old pass.new) }
-    {
-        if pass.reserve(event, 1).is_err() {
-            return Err(HostRefused::Memory);
-        }
-        let turn = pass.receipts().len() as u64;
-        gate.enter(rt, event.by, turn);
-        let answer = self.held.lock(rt).take(pass, event, false);
-        gate.leave(rt, event.by, turn);
-        answer
-    }
-
-    // Asks for the elements of a call from the frame's start index on, up to 16 of them, while the lock
-    // is taken once. Room for their receipts is made before the gate is asked. Answers the frame of the
-    // last element, and its reply without the output.
-    #[inline(always)]
-    pub(crate) fn ask<R: Wait, G: Gate>(
-        &self,
-        rt: &R,
-        pass: &mut Pass<L>,
-        gate: &G,
-        frame: Frame<Global>,
-    ) -> Result<(Frame<Global>, Answer), DriveRefused>
-        ensures asked { IfOk result (λ r. IsAsked frame r.0 r.1 pass.old pass.new) }
-        ensures refused { IfErr result (λ e. HasStopped frame e.next pass.old pass.new) }
-    {
-        let by = pass.caller();
-        let most = elements_in_a_hold(frame.rcx);
-        let event = Event {
-            by,
-            what: Action::Hypercall(frame),
-        };
-        let room = pass.reserve(&event, most);
-        let frame = frame_of(event);
-        if room.is_err() {
-            return Err(DriveRefused {
-                why: HostRefused::Memory,
-                next: InputValue::read(frame.rcx).start,
-            });
-        }
-        self.ask_held(rt, pass, gate, frame, most)
-    }
-
-    // Asks for so many elements while the lock is taken once. There is room for their receipts.
-    #[inline(always)]
-    fn ask_held<R: Wait, G: Gate>(
-        &self,
-        rt: &R,
-        pass: &mut Pass<L>,
-        gate: &G,
-        frame: Frame<Global>,
-        most: u32,
-    ) -> Result<(Frame<Global>, Answer), DriveRefused>
-        requires some { 0 < most }
-        requires room { HasRoom most pass.old.room (element pass.old.caller frame) }
-        ensures asked { IfOk result (λ r. IsAsked frame r.0 r.1 pass.old pass.new) }
-        ensures refused { IfErr result (λ e. HasStopped frame e.next pass.old pass.new) }
-    {
-        let by = pass.caller();
-        let turn = pass.receipts().len() as u64;
-        gate.enter(rt, by, turn);
-        let (last, told) = self.held.lock(rt).take_run(pass, frame, most);
-        gate.leave(rt, by, turn);
-        match told {
-            Ok(answer) => Ok((last, answer)),
-            Err(why) => Err(DriveRefused {
-                why,
-                next: InputValue::read(last.rcx).start,
-            }),
-        }
+    /// Takes the lock for as long as what this gives is there.
+    pub fn lock<R: Wait>(&self, rt: &R) -> MutexGuard<'_, Held<L>> {
+        self.held.lock(rt)
     }
 
     // What the lock held at last, how many passes there are, and with what the history was begun.
@@ -189,5 +108,31 @@ impl<L: Ledger> Shared<L> {
         ensures some { 0 < L.parts }
     {
         (self.held.into_inner(), self.passes, self.config, self.limit)
+    }
+}
+
+// A lock that is taken for each hold.
+impl<'s, L: Ledger> Keeper<L> for &'s Shared<L> {
+    #[inline(always)]
+    fn keep<R: Wait>(
+        &mut self,
+        rt: &R,
+        pass: &mut Pass<L>,
+        event: &Event<Global>,
+    ) -> Result<Answer, HostRefused> {
+        let shared = *self;
+        shared.held.lock(rt).take(pass, event, false)
+    }
+
+    #[inline(always)]
+    fn keep_run<R: Wait>(
+        &mut self,
+        rt: &R,
+        pass: &mut Pass<L>,
+        frame: Frame<Global>,
+        most: u32,
+    ) -> (Frame<Global>, Result<Answer, HostRefused>) {
+        let shared = *self;
+        shared.held.lock(rt).take_run(pass, frame, most)
     }
 }

@@ -246,8 +246,8 @@ fn push_result<A: Allocator>(line: &mut Text, entry: &EntryRef<'_>)
     }
 }
 
-// The result value of a hypercall with this input value that was answered so. What it put out doesn't matter.
-fn result_value<A: Allocator>(rcx: u64, answer: Answer) -> u64
+/// The result value of a hypercall with this input value that was answered so. What it put out doesn't matter.
+pub fn result_value<A: Allocator>(rcx: u64, answer: Answer) -> u64
     requires { next_in (reply_of answer []) < REPS_END }
     ensures { (frame : Frame A) (output : List ℕ) → frame.rcx ≡ rcx
         → result ≡ result_of frame (reply_of answer output) }

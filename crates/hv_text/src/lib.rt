@@ -15,7 +15,7 @@ mod put;
 mod table_text;
 mod text;
 
-pub use audit_text::audit;
+pub use audit_text::{audit, result_value};
 pub use fault::PrintFault;
 pub use line::audit_line;
 pub use table_text::table;

@@ -10,40 +10,46 @@ ghost use Rattle.hv_text.specs.declared.text.TheConstants.{LINE};
 use crate::audit_text::push_entry;
 use crate::numeral::Numeral;
 use crate::text::Text;
-use hv_history::{Asked, EntryRef, OutputRef};
-use hv_policy::{Action, Event, Reply};
+use hv_history::{Answer, Asked, EntryRef, OutputRef};
+use hv_policy::{Action, Event};
 use std::alloc::Allocator;
 
-/// Puts the audit's line of an event with its number and its reply, with its line feed, at the start of a
-/// buffer of [`LINE`] bytes or more, and answers how many bytes it has. It takes no memory.
+/// Puts the audit's line of an event with its number and the two parts of its reply, with its line feed, at the
+/// start of a buffer of [`LINE`] bytes or more, and answers how many bytes it has. It takes no memory.
 pub fn audit_line<A: Allocator>(
     buffer: &mut [u8],
     number: u64,
     event: &Event<A>,
-    reply: &Reply,
+    answer: Answer,
+    output: &[u8],
 ) -> usize
     requires room { LINE ≤ length buffer.old }
-    requires index { next_in reply.now < REPS_END }
+    requires most { length output.now ≤ 256 }
+    requires index { next_in (reply_of answer []) < REPS_END }
     ensures text { take result buffer.new
-        ≡ entry_text number (record { event = event.now; reply = reply.now }) ++ codes "\n" }
+        ≡ entry_text number (record { event = event.now; reply = reply_of answer output.now }) ++ codes "\n" }
     ensures most { result ≤ LINE }
     ensures length { length buffer.new ≡ length buffer.old }
     ensures rest { drop result buffer.new ≡ drop result buffer.old }
 {
     let mut line = Text::new();
-    push_entry::<A>(&mut line, &Numeral::of(number), &entry_of(event, reply));
+    push_entry::<A>(
+        &mut line,
+        &Numeral::of(number),
+        &entry_of(event, answer, output),
+    );
     line.push_text(b"\n");
     let bytes = line.as_slice();
     buffer[..bytes.len()].copy_from_slice(bytes);
     bytes.len()
 }
 
-// An event with its reply.
-fn entry_of<'e, A: Allocator>(event: &'e Event<A>, reply: &'e Reply) -> EntryRef<'e>
-    ensures entry { entry_by result ≡ record { event = event.now; reply = reply.now } }
-    ensures index { next_in (reply_of result.answer []) ≡ next_in reply.now }
+// An event with the two parts of its reply.
+fn entry_of<'e, A: Allocator>(event: &'e Event<A>, answer: Answer, output: &'e [u8]) -> EntryRef<'e>
+    requires { length output.now ≤ 256 }
+    ensures entry { entry_by result ≡ record { event = event.now; reply = reply_of answer output.now } }
+    ensures answer { result.answer ≡ answer }
 {
-    let (answer, output) = reply.parts();
     let (asked, input) = asked_in(&event.what);
     EntryRef {
         by: event.by,

@@ -4,9 +4,9 @@ ghost use Rattle.std.specs.Prelude.{vec_len, vec_capacity, slice_index_or, map, 
 ghost use Rattle.hv_threads.specs.Phase.{IsDoneAt, EachDone, done_of};
 ghost use Rattle.hv_threads.specs.declared.phase.Task.{Task};
 
-use hv_actions::Actions;
+use hv_actions::{Actions, give_back};
 use hv_history::HostRefused;
-use hv_shared::{Gate, Pass, Shared, perform};
+use hv_shared::{Gate, Pass, Shared, perform_by};
 use std::alloc::Global;
 use std::sync::Wait;
 use std::sync::ledger::Ledger;
@@ -62,13 +62,20 @@ fn run_work<L: Ledger, R: Wait, G: Gate>(rt: &R, shared: &Shared<L>, gate: &G, t
     *done = 0;
     *end = End::Finished;
     actions.reverse();
+    let mut keeper = shared;
+    let mut spare = Vec::new(*actions.allocator());
     for at in 0..actions.len() {
-        let Ok(action) = actions.take_last() else {
+        let Ok(action) = actions.take_last(&mut spare) else {
             *end = End::Host(HostRefused::Memory);
             return;
         };
-        match perform(rt, shared, gate, pass, action) {
-            Ok(()) => *done = at as u64 + 1,
+        match perform_by(rt, &mut keeper, gate, pass, action) {
+            Ok(last) => {
+                *done = at as u64 + 1;
+                if let Some(frame) = last {
+                    give_back(&mut spare, frame);
+                }
+            }
             Err(why) => {
                 *end = End::Host(why);
                 return;

@@ -344,7 +344,7 @@ partition 1 parent - Active mask 000000f700000044 loose 14 pooled 12 inuse 7 vps
 partition 2 parent 1 Active mask 0000003000000044 loose 0 pooled 6 inuse 5 vps 1 ports 1 connections 0
 pages 32
 ",
-    blocks: &[11, 0, 2, 1, 3, 0, 0, 1, 4, 1, 1, 1, 0, 0, 0, 20, 1, 1, 0],
+    blocks: &[11, 0, 2, 1, 3, 0, 0, 1, 4, 1, 1, 1, 0, 0, 0, 20, 1, 2, 0],
     wants: &[0, 2, 8, 9, 10, 15],
 };
 

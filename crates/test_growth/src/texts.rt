@@ -16,13 +16,14 @@ fn events_of<'h>(
     let mut left = lines;
     left.reverse();
     let mut events = Vec::new(alloc);
+    let mut spare = Vec::new(*left.allocator());
     for _ in 0..left.len() {
         let count = left.len();
         if count == 0 {
             return Ok(events);
         }
         let by = left.turn(count - 1).by;
-        let what = left.take_last()?;
+        let what = left.take_last(&mut spare)?;
         events.push(Event { by, what })?;
     }
     Ok(events)

@@ -91,7 +91,7 @@ fn in_lock_of<L: Ledger + Send + Sync, R: Threads + Wait + Sync>(
     requires callers { vec_len callers ≡ 4 }
     ensures { IfOk result (λ told. IfErr told (λ back. back ≡ kept)) }
 {
-    match Shared::<L>::new(kept, blank, callers) {
+    match Shared::<L>::new(kept, blank, callers, &[]) {
         Ok((shared, passes)) => Ok(Ok(try_in(rt, alloc, shared, passes)?)),
         Err(kept) => Ok(Err(kept)),
     }

@@ -107,7 +107,7 @@ fn alone<L: Ledger>(
     requires { (blank.name ≡ L.name) × (blank.parts ≡ L.parts) × (blank.parts ≡ 1) }
 {
     let callers = vec![in alloc; root(1)]?;
-    match Held::<L>::open(boot(alloc, 100)?, blank, callers) {
+    match Held::<L>::open(boot(alloc, 100)?, blank, callers, &[]) {
         Ok(opened) => Ok(opened),
         Err(_) => panic!(rt; "no memory"),
     }

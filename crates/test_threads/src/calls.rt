@@ -106,7 +106,7 @@ fn lock<L: Ledger>(
     requires some { 0 < vec_len callers }
     requires ledger { (blank.name ≡ L.name) × (blank.parts ≡ L.parts) × (blank.parts ≡ vec_len callers) }
 {
-    match Shared::<L>::new(kept, blank, callers) {
+    match Shared::<L>::new(kept, blank, callers, &[]) {
         Ok(opened) => opened,
         Err(_) => panic!(rt; "no memory"),
     }

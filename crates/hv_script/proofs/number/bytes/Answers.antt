@@ -9,7 +9,7 @@ use Rattle.hv_script.proofs.number.bytes.Goals.{then-word-ne0-via-then-word-ne0,
 pub returns-then-eq : goal.returns-then-eq
 returns-then-eq g c =
     let dash : bytes_eq c.args.word.now (codes "-") ≡ true = search rules in
-    rw (no_bytes c.args.word.now dash, c.new.ensures.items) refl
+    rw (no_bytes c.args.word.now dash, c.clear.ensures.items) refl
 
 pub returns-then-word-ne0 : goal.returns-then-word-ne0
 returns-then-word-ne0 g c =

@@ -24,10 +24,11 @@ returns-then-has_input g c = λ t.
     let at_that : head_at o.heads.items that.head ≡ that_head = get_or_from_slice_get o.heads.items that.head that_head _ (stands o.heads.items that.head that_head that_head_less c.index-that_head.ensures) in
     let rows : AreAlike row that = search rules in
     let by : head.by ≡ that_head.by = search rules in
+    let second : head.second ≡ that_head.second = search rules in
     let r8 : head.r8 ≡ that_head.r8 = search rules in
     let input : bytes_at h.inputs.items head.input_start head.input_len ≡ bytes_at o.inputs.items that_head.input_start that_head.input_len = search rules in
     let output : output_at h.outputs.items row.output row.output_len ≡ output_at o.outputs.items that.output that.output_len = search rules in
-    let heads : common_at h.inputs.items head ≡ common_at o.inputs.items that_head = λ i. record { by = by i; r8 = r8 i; input = input i } in
+    let heads : common_at h.inputs.items head ≡ common_at o.inputs.items that_head = λ i. record { by = by i; second = second i; r8 = r8 i; input = input i } in
     let common = ap (λ (x : Head). common_at h.inputs.items x) at_head ∙ heads ∙ sym (ap (λ (x : Head). common_at o.inputs.items x) at_that) in
     entry_at {A = g.row.A.Denot} h.heads.items h.inputs.items h.outputs.items h.rows.items c.args.at row here c.index-row.ensures
     ∙ ap Some (alike h.heads.items o.heads.items h.inputs.items o.inputs.items h.outputs.items o.outputs.items row that rows common output)

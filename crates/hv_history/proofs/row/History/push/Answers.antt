@@ -53,8 +53,11 @@ returns g c =
     let output = c.place_output-kept.ensures in
     let outputs = rw head.outputs at output.outputs in
     let input = head.input in
-    let what : action_of (asked_in asked.kind asked.first asked.second (head_at c.head_for-head.new.self.heads.items c.head_for-head.result).r8) (input_in event.what) ≡ event.what =
-    ap (λ r8. action_of (asked_in asked.kind asked.first asked.second r8) (input_in event.what)) (head.r8 ∙ sym c.numbers_of-asked.ensures.r8) ∙ c.numbers_of-asked.ensures.what in
+    let placed = head_at c.head_for-head.new.self.heads.items c.head_for-head.result in
+    let second : placed.second ≡ asked.second = head.second ∙ sym c.numbers_of-asked.ensures.second in
+    let r8 : placed.r8 ≡ asked.r8 = head.r8 ∙ sym c.numbers_of-asked.ensures.r8 in
+    let what : action_of (asked_in asked.kind asked.first placed.second placed.r8) (input_in event.what) ≡ event.what =
+    (λ i. action_of (asked_in asked.kind asked.first (second i) (r8 i)) (input_in event.what)) ∙ c.numbers_of-asked.ensures.what in
     rw (c.push_reserved.ensures.items, output.rows, output.heads, output.inputs, head.rows)
     (pushed _ _ _ h.heads.items _ h.inputs.items _ h.outputs.items _ _ _ event (reply_of c.args.answer (shown c.args.output)) _ _ h.heads.ok.0 h.inputs.ok.0 h.outputs.ok.0
     head.heads head.inputs outputs h.within h.placed head.by input what output.placed refl)

@@ -8,7 +8,7 @@ use Rattle.hv_policy.specs.declared.event.Event.{Event}
 use Rattle.hv_history.proofs.Rooms.{same_most}
 use Rattle.hv_history.proofs.Rows.{asks, grown, last_is, placed_more, pushed}
 use Rattle.hv_history.specs.History.{entries}
-use Rattle.hv_history.specs.Row.{IsPlaced, IsThere, action_of, asked_in, bytes_at, entry_of, head_at, input_in, most_of, most_output, output_at, r8_in}
+use Rattle.hv_history.specs.Row.{IsPlaced, action_of, asked_in, bytes_at, entry_of, head_at, input_in, most_output, output_at, r8_in, second_in}
 use Rattle.hv_history.specs.declared.entry.Entry.{Entry}
 use Rattle.hv_history.proofs.row.History.push_last.Goals as goal
 
@@ -31,7 +31,7 @@ place_output_of-output-requires-clause-room g c =
     let less : c.len.result - 1 < length o.rows.items = omega arith in
     let is = subst (IsPlaced (vec_len o.heads) (vec_len o.outputs)) (sym c.index-row.ensures) (o.placed (c.len.result - 1) row less) in
     let most = is.most in
-    let same = same_most row.kind row.first row.second (head_at o.heads.items row.head).r8 (bytes_at o.inputs.items (head_at o.heads.items row.head).input_start (head_at o.heads.items row.head).input_len) event.what (ap (λ (e : Event g.row.A.Denot). e.what) last.1) in
+    let same = same_most row.kind row.first (head_at o.heads.items row.head).second (head_at o.heads.items row.head).r8 (bytes_at o.inputs.items (head_at o.heads.items row.head).input_start (head_at o.heads.items row.head).input_len) event.what (ap (λ (e : Event g.row.A.Denot). e.what) last.1) in
     let times = suc-mul 0 (most_output event.what) in
     let ok = h.outputs.ok in
     omega (arith, ok.1)
@@ -75,8 +75,11 @@ returns-clause-pushed g c = λ entry is.
     let entry_is : entry ≡ entry_of o.heads.items o.inputs.items o.outputs.items row = cc in
     let event_is = c.requires.last entry is in
     let what = ap (λ (e : Event g.row.A.Denot). e.what) last.1 in
-    let asked : action_of (asked_in row.kind row.first row.second (head_at c.head_for-head.new.self.heads.items c.head_for-head.result).r8) (input_in event.what) ≡ event.what =
-    ap (λ r8. action_of (asked_in row.kind row.first row.second r8) (input_in event.what)) head.r8 ∙ asks _ _ _ _ _ event.what what in
+    let placed = head_at c.head_for-head.new.self.heads.items c.head_for-head.result in
+    let second : placed.second ≡ second_in event.what = head.second in
+    let r8 : placed.r8 ≡ r8_in event.what = head.r8 in
+    let asked : action_of (asked_in row.kind row.first placed.second placed.r8) (input_in event.what) ≡ event.what =
+    (λ i. action_of (asked_in row.kind row.first (second i) (r8 i)) (input_in event.what)) ∙ asks _ _ _ _ _ event.what what in
     let input = head.input in
     let out : List ℕ = output_at o.outputs.items row.output row.output_len in
     let puts : output_at c.place_output_of-output.new.self.outputs.items c.place_output_of-output.result row.output_len ≡ out = output.placed in
@@ -112,13 +115,13 @@ returns-clause-room g c = λ more room.
     let less : c.len.result - 1 < length o.rows.items = omega arith in
     let is = subst (IsPlaced (vec_len o.heads) (vec_len o.outputs)) (sym c.index-row.ensures) (o.placed (c.len.result - 1) row less) in
     let most = is.most in
-    let same = same_most row.kind row.first row.second (head_at o.heads.items row.head).r8 (bytes_at o.inputs.items (head_at o.heads.items row.head).input_start (head_at o.heads.items row.head).input_len) event.what (ap (λ (e : Event g.row.A.Denot). e.what) last.1) in
+    let same = same_most row.kind row.first (head_at o.heads.items row.head).second (head_at o.heads.items row.head).r8 (bytes_at o.inputs.items (head_at o.heads.items row.head).input_start (head_at o.heads.items row.head).input_len) event.what (ap (λ (e : Event g.row.A.Denot). e.what) last.1) in
     let times = suc-mul more (most_output event.what) in
     record {
       rows = omega arith;
       outputs = omega arith;
       head = λ _. rw (output.heads, output.inputs) (elim head.more [
         | inl last ↦ inl last
-        | inr free ↦ inr (record { heads = free.heads; places = free.places; inputs = free.inputs })
+        | inr free ↦ inr (record { heads = free.heads; places = free.places; inputs = free.inputs; starts = free.starts })
       ]);
     }

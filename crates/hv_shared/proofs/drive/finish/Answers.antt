@@ -2,7 +2,7 @@ use Rattle.std.proofs.Common.{◌<◌, arith}
 use Rattle.std.proofs.lemmas.Result.{err_from_is_err_and}
 use Rattle.hv_history.specs.Run.{start_of}
 use Rattle.hv_shared.proofs.Driving.{asked_next, further, stopped}
-use Rattle.hv_shared.proofs.shared.Shared.finish.Goals as goal
+use Rattle.hv_shared.proofs.drive.finish.Goals as goal
 
 pub returns-in_err-asked-clause-refused : goal.returns-in_err-asked-clause-refused
 returns-in_err-asked-clause-refused g c =
