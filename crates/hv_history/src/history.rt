@@ -184,7 +184,8 @@ impl<A: Allocator> History<A> {
     }
 
     /// Makes room for so many events of a call: this one and those that ask for other elements. They
-    /// share one head, so that the input is counted once.
+    /// share one head, so that the input is counted once. Refused where there is no memory for it, or
+    /// where there would be 2^32 heads, or as many bytes of all inputs.
     #[inline(always)]
     pub fn reserve(&mut self, event: &Event<A>, count: u32) -> Result<(), AllocError>
         ensures same { entries self.new ≡ entries self.old }
