@@ -13,6 +13,7 @@ mod kept;
 mod output;
 mod row;
 mod run;
+mod same;
 
 pub use entry::{Asked, Entry, EntryRef};
 pub use expected::Expected;

@@ -4,7 +4,7 @@ use Rattle.hv_abi.specs.declared.status.Status.{Status}
 use Rattle.hv_policy.specs.declared.answer.Answer.{Answer}
 use Rattle.hv_policy.specs.declared.answer.Answer.TheVariants.{Denied}
 use Rattle.hv_policy.specs.declared.rule.Rule.{Rule}
-use Rattle.hv_history.proofs.history.are_same_answers.Goals as goal
+use Rattle.hv_history.proofs.same.are_same_answers.Goals as goal
 
 -- two denials by one rule with one status are the same where their counts are
 same_denied : (x y : Answer) (rule other : Rule) (status that : Status) (m n : ℕ) → x ≡ Denied rule status m → y ≡ Denied other that n → rule ≡ other → status ≡ that → IsTrue (nat_eq m n) → x ≡ y

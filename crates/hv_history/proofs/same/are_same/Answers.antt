@@ -2,7 +2,7 @@ use Rattle.std.proofs.Common.{◌≡◌, ◌<◌, ◌∙◌, ℕ, ap, length, ru
 use Rattle.std.specs.Int.{to_le_bytes, w64}
 use Rattle.std.specs.Prelude.{get_or}
 use Rattle.std.proofs.lemmas.Nat.{le_bytes_8}
-use Rattle.hv_history.proofs.history.are_same.Goals as goal
+use Rattle.hv_history.proofs.same.are_same.Goals as goal
 
 pub returns : goal.returns
 returns c = λ same.
