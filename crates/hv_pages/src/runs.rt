@@ -1,6 +1,7 @@
 // Lists of runs of pages: from the highest down, none empty, with a page between any two.
 ghost use Rattle.std.specs.Prelude.{◌≡◌, ℕ, ◌+◌, ◌<◌, ◌≤◌, ◌++◌, ◌∷◌, false};
 ghost use Rattle.std.specs.Prelude.{length, take, drop, All, vec_len, slice_index_or};
+ghost use Rattle.std.specs.List.{insert};
 ghost use Rattle.std.specs.Vec.{vec_capacity};
 ghost use Rattle.std.specs.List.Sorted.{IsPermutation};
 ghost use Rattle.std.specs.FinSet as set;
@@ -113,15 +114,27 @@ fn replace<A: Allocator>(runs: &mut Vec<Run, A>, start: usize, end: usize, run: 
     ensures capacity { vec_capacity runs.new ≡ vec_capacity runs.old }
 {
     if start == end {
-        let Ok(()) = runs.insert(start, run) else {
-            unreachable!()
-        };
+        insert_at(runs, start, run);
     } else {
         runs[start] = run;
         if start + 1 < end {
             runs.remove(start + 1);
         }
     }
+}
+
+// Puts a run in at a place, where the runs from there on make way.
+//
+// They turn by one place, which the compiler makes one move of memory. Of `Vec::insert` it would make a loop.
+fn insert_at<A: Allocator>(runs: &mut Vec<Run, A>, at: usize, run: Run)
+    requires room { vec_len runs.old < vec_capacity runs.old }
+    requires within { at ≤ vec_len runs.old }
+    ensures items { runs.new.items ≡ insert runs.old.items at run }
+    ensures len { vec_len runs.new ≡ vec_len runs.old + 1 }
+    ensures capacity { vec_capacity runs.new ≡ vec_capacity runs.old }
+{
+    runs.push_reserved(run);
+    runs[at..].rotate_right(1);
 }
 
 // Takes a page out of the run at a place, which has it. What is left on both sides are runs of their own.
@@ -157,9 +170,7 @@ pub(crate) fn cut<A: Allocator>(runs: &mut Vec<Run, A>, at: usize, page: u32)
                 first: run.first,
                 last: page - 1,
             };
-            let Ok(()) = runs.insert(at + 1, lower) else {
-                unreachable!()
-            };
+            insert_at(runs, at + 1, lower);
         }
     }
 }

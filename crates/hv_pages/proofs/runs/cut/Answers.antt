@@ -22,15 +22,15 @@ returns-then-page-run-clause-pages g c =
     let within : c.args.at < length c.args.runs.now.items = omega (arith, c.args.runs.now.ok.0) in
     (cut_last c.args.runs.now.items c.args.at c.index-run.result.now c.args.page within c.index-run.ensures c.requires.runs c.requires.first c.requires.last c.if-run.false c.if-page-run.true).pages
 
-pub returns-in-Ok-clause-runs : goal.returns-in-Ok-clause-runs
-returns-in-Ok-clause-runs g c =
+pub returns-then-run-page-clause-runs : goal.returns-then-run-page-clause-runs
+returns-then-run-page-clause-runs g c =
     let within : c.args.at < length c.args.runs.now.items = omega (arith, c.args.runs.now.ok.0) in
-    rw c.in-Ok.ensures.items (cut_both c.args.runs.now.items c.args.at c.index-run.result.now c.args.page within c.index-run.ensures c.requires.runs c.requires.first c.requires.last c.if-page-run.false c.if-run-page.true).runs
+    rw c.insert_at.ensures.items (cut_both c.args.runs.now.items c.args.at c.index-run.result.now c.args.page within c.index-run.ensures c.requires.runs c.requires.first c.requires.last c.if-page-run.false c.if-run-page.true).runs
 
-pub returns-in-Ok-clause-pages : goal.returns-in-Ok-clause-pages
-returns-in-Ok-clause-pages g c =
+pub returns-then-run-page-clause-pages : goal.returns-then-run-page-clause-pages
+returns-then-run-page-clause-pages g c =
     let within : c.args.at < length c.args.runs.now.items = omega (arith, c.args.runs.now.ok.0) in
-    rw c.in-Ok.ensures.items (cut_both c.args.runs.now.items c.args.at c.index-run.result.now c.args.page within c.index-run.ensures c.requires.runs c.requires.first c.requires.last c.if-page-run.false c.if-run-page.true).pages
+    rw c.insert_at.ensures.items (cut_both c.args.runs.now.items c.args.at c.index-run.result.now c.args.page within c.index-run.ensures c.requires.runs c.requires.first c.requires.last c.if-page-run.false c.if-run-page.true).pages
 
 pub returns-else-run-page-clause-runs : goal.returns-else-run-page-clause-runs
 returns-else-run-page-clause-runs g c =
