@@ -4,6 +4,7 @@ ghost use Rattle.hv_policy.specs.declared.event.Action.{Action};
 
 use crate::heads::Heads;
 use crate::row::Row;
+use crate::spare::make_room;
 use hv_abi::InputValue;
 use hv_policy::Action;
 use std::alloc::{AllocError, Allocator};
@@ -55,7 +56,8 @@ impl<A: Allocator> Actions<A> {
         ensures refused { OnErr result (self.new ≡ self.old) }
     {
         let row = self.heads.row(action)?;
-        self.rows.push(row)?;
+        make_room(&mut self.rows)?;
+        self.rows.push_reserved(row);
         Ok(())
     }
 

@@ -5,6 +5,7 @@ ghost use Rattle.hv_actions.specs.Row.{AreWithin, IsPlaced, action_at, bytes_at,
 ghost use Rattle.hv_actions.specs.Row.{input_at};
 
 use crate::row::{Row, action_from};
+use crate::spare::make_room;
 use hv_abi::{Bytes, Frame};
 use hv_policy::Action;
 use std::alloc::{AllocError, Allocator};
@@ -145,7 +146,8 @@ impl<A: Allocator> Heads<A> {
             ≡ record { r8 = r8; start = start; len = len }) }
     {
         let at = u32::try_from(self.list.len()).map_err(|_| AllocError)?;
-        self.list.push(Head { r8, start, len })?;
+        make_room(&mut self.list)?;
+        self.list.push_reserved(Head { r8, start, len });
         Ok(at)
     }
 }

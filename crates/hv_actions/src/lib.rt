@@ -9,4 +9,4 @@ mod row;
 mod spare;
 
 pub use actions::{Actions, Extent};
-pub use spare::give_back;
+pub use spare::{give_back, make_room};

@@ -12,12 +12,12 @@ use Rattle.std.proofs.lemmas.Str.{digit_value_digit}
 use Rattle.std.proofs.lemmas.Str.Parse.{digit_from_value}
 use Rattle.std.proofs.Math.Nat.{pow-le-pow_right}
 use Rattle.std.proofs.Math.Seq.{drop-append-add, take-append_seam}
-use Rattle.hv_script.specs.Front.{Asks, Begins, BeginsAsking, BeginsCall, BeginsDecimal, BeginsFields, BeginsLine, BeginsNumber, BeginsWords, Names, is_of_word, is_word, taken}
+use Rattle.hv_script.specs.Front.{Asks, Begins, BeginsAsking, BeginsCall, BeginsDecimal, BeginsFields, BeginsInput, BeginsLine, BeginsNumber, BeginsWords, Names, is_of_word, is_word, taken}
 use Rattle.hv_policy.specs.declared.event.Action.{Action}
 use Rattle.hv_policy.specs.declared.event.Action.TheVariants as action
 use Rattle.hv_policy.specs.declared.event.Caller.{Caller}
 use Rattle.hv_script.specs.Line.{◌>>=◌, action_of, processor_of}
-use Rattle.hv_script.specs.Number.{bytes_in, decimal_in, number_in}
+use Rattle.hv_script.specs.Number.{bytes_in, bytes_of, decimal_in, number_in}
 use Rattle.hv_script.specs.Script.{SoFar, at_line, later_line, processor_line, read_line, read_lines}
 use Rattle.hv_script.specs.Verb.{word_of}
 use Rattle.hv_script.specs.Words.{begins_with, has_good_bytes, is_skipped, lines_of, words_of}
@@ -25,7 +25,7 @@ use Rattle.hv_script.specs.declared.fault.FaultKind.{FaultKind}
 use Rattle.hv_script.specs.declared.verb.Verb.{Verb}
 use Rattle.hv_script.specs.declared.verb.Verb.TheVariants as verb
 use Rattle.hv_script.proofs.CutLemmas.{found_in, not_bad, place}
-use Rattle.hv_script.proofs.NumberLemmas.{hex_test, plain_number, read_digits}
+use Rattle.hv_script.proofs.NumberLemmas.{hex_test, no_bytes, no_dash, pairs_of_bytes, plain_number, read_digits}
 use Rattle.hv_script.proofs.SpaceLemmas.{full_word}
 
 pub both : (s t : Bool) → (s && t) ≡ true → (s ≡ true) × (t ≡ true)
@@ -148,12 +148,14 @@ digit_fits value at text few inside is digits =
     let fits : 10 ^ 17 * 10 + 10 ≤ 2 ^ 64 = lit≤ tt in
     omega (arith, below, most, fits)
 
+-- what stands behind the first bytes of a text, as a slice of it
+pub behind : (text : List ℕ) (at : ℕ) → take (length text - at) (drop at text) ≡ drop at text
+behind text at = take_all (length text - at) (drop at text) (omega (arith, length-drop at text))
+
 -- a text by its first bytes, the next one and what stands behind
 pub cut_at : (text : List ℕ) (at : ℕ) → at < length text → text ≡ take at text ++ get_or text at 0 ∷ take (length text - (at + 1)) (drop (at + 1) text)
 cut_at text at inside =
-    let behind : take (length text - (at + 1)) (drop (at + 1) text) ≡ drop (at + 1) text =
-    take_all (length text - (at + 1)) (drop (at + 1) text) (omega (arith, length-drop (at + 1) text)) in
-    rw behind (sym (ap (λ (back : List ℕ). take at text ++ back) (sym (drop_more text at 0 inside)) ∙ take-append-drop at text))
+    rw (behind text (at + 1)) (sym (ap (λ (back : List ℕ). take at text ++ back) (sym (drop_more text at 0 inside)) ∙ take-append-drop at text))
 
 -- a number in decimal digits
 pub decimal_is : (ds : List ℕ) (value : ℕ) → 0 < length ds → AllDigits 10 ds → digits_value 10 ds ≡ value → value < 2 ^ 64 → decimal_in 64 ds ≡ Some value
@@ -383,3 +385,39 @@ begins_decimal text at value stop inside ends some digits is fits = (
   is,
   fits,
 )
+
+-- a hexadecimal digit is of a word
+hex_of_word : (c : ℕ) → digit_value c < 16 → is_of_word c ≡ true
+hex_of_word c d = grind (arith, nat_tests)
+
+all_hex_of_word : (ds : List ℕ) → AllDigits 16 ds → list_all is_of_word ds ≡ true
+all_hex_of_word [] d = refl
+all_hex_of_word (c ∷ cs) d = ap (λ (b : Bool). b && list_all is_of_word cs) (hex_of_word c d.0) ∙ all_hex_of_word cs d.1
+
+-- the bytes of an input by how many they are
+pub begins_input : (text bytes : List ℕ) (count : ℕ) → 0 < count → count ≤ 4096 → 2 * count < length text → get_or text (2 * count) 0 ≡ 10
+    → AllDigits 16 (take (2 * count) text) → bytes ≡ bytes_of (take (2 * count) text)
+    → BeginsInput text bytes (take (length text - (2 * count + 1)) (drop (2 * count + 1) text))
+begins_input text bytes count some few inside ends digits is =
+    let word = take (2 * count) text in
+    let long : length word ≡ 2 * count = length-take-le (2 * count) text (omega (arith, inside)) in (
+      word,
+      (
+        cut_at text (2 * count) inside ∙ ap (λ (byte : ℕ). word ++ byte ∷ take (length text - (2 * count + 1)) (drop (2 * count + 1) text)) ends,
+        some_is_word word (omega (arith, long, some)) (all_hex_of_word word digits),
+      ),
+      pairs_of_bytes word (no_dash word (omega (arith, long))) digits (omega (arith, long)) (omega (arith, long, few)) ∙ ap Ok (sym is),
+    )
+
+first_byte : (text : List ℕ) → 0 < length text → take 1 text ≡ get_or text 0 0 ∷ []
+first_byte [] some = absurd (omega (arith, some))
+first_byte (x ∷ rest) some = refl
+
+-- the word for no bytes
+pub begins_none : (text bytes : List ℕ) → 1 < length text → get_or text 0 0 ≡ 45 → get_or text 1 0 ≡ 10 → bytes ≡ []
+    → BeginsInput text bytes (take (length text - 2) (drop 2 text))
+begins_none text bytes inside dash ends none =
+    let front : take 1 text ≡ 45 ∷ [] = first_byte text (omega (arith, inside)) ∙ ap (λ (byte : ℕ). byte ∷ []) dash in
+    let whole : text ≡ 45 ∷ 10 ∷ take (length text - 2) (drop 2 text) =
+    cut_at text 1 inside ∙ (λ i. front i ++ ends i ∷ take (length text - 2) (drop 2 text)) in
+    (45 ∷ [], (whole, refl), no_bytes (45 ∷ []) refl ∙ ap Ok (sym none))

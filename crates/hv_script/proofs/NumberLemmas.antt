@@ -1,6 +1,8 @@
 -- Digits, one after the other.
-use Rattle.std.proofs.Common.{◌≡◌, ℕ, ◌+◌, ◌*◌, ◌%◌, ◌<◌, ◌≤◌, ◌&&◌, nat_eq, nat_lt, nat_le, Bool, true, false, cond, List, [], ◌∷◌, ◌++◌, refl, length, get_or, take, drop, codes, zero, suc, Option, Some, None, option_and_then, Result, Ok, Err, ◌==◌, ◌^◌, ap, sym, ◌∙◌, append_assoc, arith, lit≤}
-use Rattle.std.proofs.lemmas.List.{length-append, length-take-le}
+use Rattle.std.proofs.Common.{◌≡◌, ℕ, ◌+◌, ◌*◌, ◌%◌, ◌<◌, ◌≤◌, ◌&&◌, nat_eq, nat_lt, nat_le, Bool, true, false, cond, List, [], ◌∷◌, ◌++◌, refl, length, get_or, take, drop, codes, zero, suc, Option, Some, None, option_and_then, Result, Ok, Err, ◌==◌, ◌^◌, ap, sym, ◌∙◌, append-nil, append_assoc, arith, lit≤}
+use Rattle.std.proofs.lemmas.List.{drop_at, length-append, length-drop, length-take-le, take-append-drop, take-take, take_at}
+use Rattle.std.specs.Ordering.{nat_cmp, ord_min}
+use Rattle.std.proofs.lemmas.Slice.Eq.{bytes_eq-Decides}
 use Rattle.std.specs.Option.{SomeIff}
 use Rattle.std.specs.Char.{digit_value}
 use Rattle.std.specs.Str.Parse.{AllDigits, IsNumeral, digits_value}
@@ -155,6 +157,10 @@ pub no_bytes : (word : List ℕ) → bytes_eq word (codes "-") ≡ true → byte
 unfolding bytes_in
 no_bytes word dash = rw dash refl
 
+-- an even number of digits isn't the word for no bytes
+pub no_dash : (word : List ℕ) → length word % 2 ≡ 0 → bytes_eq word (codes "-") ≡ false
+no_dash word even = not_from_true _ (λ e. omega (arith, ap length ((bytes_eq-Decides word (codes "-")).0 e), even))
+
 pub pairs_of_bytes : (word : List ℕ) → bytes_eq word (codes "-") ≡ false → AllDigits 16 word → length word % 2 ≡ 0 → length word ≤ 8192
     → bytes_in word ≡ Ok (bytes_of word)
 unfolding bytes_in
@@ -186,14 +192,71 @@ bytes_of_pair (high ∷ []) rest two = absurd (omega (arith, two))
 bytes_of_pair (high ∷ low ∷ []) rest two = refl
 bytes_of_pair (high ∷ low ∷ x ∷ more) rest two = absurd (omega (arith, two))
 
--- the bytes so far, with one more, and those of the digits that are left
-pub one_more_pair : (start before word rest pair back : List ℕ) → before ++ bytes_of rest ≡ start ++ bytes_of word → rest ≡ pair ++ back
-    → length pair ≡ 2 → (before ++ digits_value 16 pair ∷ []) ++ bytes_of back ≡ start ++ bytes_of word
-one_more_pair start before word rest pair back so_far parts two =
-    let first : bytes_of rest ≡ digits_value 16 pair ∷ bytes_of back = ap bytes_of parts ∙ bytes_of_pair pair back two in
-    append_assoc before (digits_value 16 pair ∷ []) (bytes_of back) ∙ ap (λ (bytes : List ℕ). before ++ bytes) (sym first) ∙ so_far
+-- the bytes of digits with a pair of them more
+bytes_of_more : (word pair : List ℕ) → length word % 2 ≡ 0 → length pair ≡ 2 → bytes_of (word ++ pair) ≡ bytes_of word ++ digits_value 16 pair ∷ []
+bytes_of_more [] pair even two = ap bytes_of (sym (append-nil pair)) ∙ bytes_of_pair pair [] two
+bytes_of_more (high ∷ []) pair even two = absurd (omega (arith, even))
+bytes_of_more (high ∷ low ∷ word) pair even two =
+    let rest : length word % 2 ≡ 0 = omega (arith, even) in
+    ap (λ (bytes : List ℕ). digits_value 16 (high ∷ low ∷ []) ∷ bytes) (bytes_of_more word pair rest two)
 
-pub even_back : (rest pair back : List ℕ) → rest ≡ pair ++ back → length pair ≡ 2 → length rest % 2 ≡ 0 → length back % 2 ≡ 0
-even_back rest pair back parts two even =
-    let len : length rest ≡ length pair + length back = ap length parts ∙ length-append pair back in
-    omega (arith, len, two, even)
+-- so many digits were read as bytes
+pub record AreRead (text : List ℕ) (count : ℕ) (bytes : List ℕ) : Type 0 where
+  pub inside : 2 * count ≤ length text
+  pub digits : AllDigits 16 (take (2 * count) text)
+  pub are : bytes ≡ bytes_of (take (2 * count) text)
+
+-- none was yet
+pub none_read : (text bytes : List ℕ) (count : ℕ) → count ≡ 0 → bytes ≡ [] → AreRead text count bytes
+none_read text bytes count first none = rw (first, none) (record { inside = omega arith; digits = tt; are = refl })
+
+-- a pair of them more was
+pub pair_more : (text left pair back bytes : List ℕ) (count : ℕ) → AreRead text count bytes → left ≡ drop (2 * count) text → left ≡ pair ++ back → length pair ≡ 2
+    → AllDigits 16 pair → AreRead text (count + 1) (bytes ++ digits_value 16 pair ∷ []) × (back ≡ drop (2 * (count + 1)) text)
+pair_more text left pair back bytes count read is parts two digits =
+    let done = take (2 * count) text in
+    let long : length done ≡ 2 * count = length-take-le (2 * count) text read.inside in
+    let longer : length (done ++ pair) ≡ 2 * (count + 1) = omega (arith, length-append done pair, long, two) in
+    let whole : (done ++ pair) ++ back ≡ text =
+    append_assoc done pair back ∙ ap (λ (rest : List ℕ). done ++ rest) (sym parts ∙ is) ∙ take-append-drop (2 * count) text in
+    let front : take (2 * (count + 1)) text ≡ done ++ pair =
+    ap (take (2 * (count + 1))) (sym whole) ∙ take_at (done ++ pair) back (2 * (count + 1)) longer in
+    let behind : drop (2 * (count + 1)) text ≡ back =
+    ap (drop (2 * (count + 1))) (sym whole) ∙ drop_at (done ++ pair) back (2 * (count + 1)) longer in
+    let even : length done % 2 ≡ 0 = omega (arith, long) in (
+      record {
+        inside = omega (arith, longer, ap length whole, length-append (done ++ pair) back);
+        digits = rw front (all_digits_append 16 done pair read.digits digits);
+        are = rw (front, bytes_of_more done pair even two) (ap (λ (bytes : List ℕ). bytes ++ digits_value 16 pair ∷ []) read.are);
+      },
+      sym behind,
+    )
+
+-- a pair that is left of a text stands within it
+pub pair_inside : (text left pair back : List ℕ) (at : ℕ) → left ≡ drop at text → left ≡ pair ++ back → length pair ≡ 2 → at + 2 ≤ length text
+pair_inside text left pair back at is parts two =
+    omega (arith, ap length is, ap length parts, length-append pair back, length-drop at text, two)
+
+-- a pair in a text that isn't one of digits
+pub no_pair : (text left pair back : List ℕ) (at most : ℕ) → left ≡ drop at (take most text) → left ≡ pair ++ back → (AllDigits 16 pair → ⊥) → AllDigits 16 text → ⊥
+no_pair text left pair back at most is parts bad digits =
+    let whole = take-append-drop most text in
+    let front : AllDigits 16 (take most text) = all_digits_front 16 (take most text) (drop most text) (rw whole digits) in
+    let behind : AllDigits 16 (drop at (take most text)) =
+    all_digits_back 16 (take at (take most text)) (drop at (take most text)) (rw take-append-drop front) in
+    bad (all_digits_front 16 pair back (rw (← is, parts) at behind))
+
+-- what is read of a part of a text is read of the text
+pub read_in : (text bytes : List ℕ) (most count : ℕ) → AreRead (take most text) count bytes → most ≤ length text → AreRead text count bytes
+read_in text bytes most count read inside =
+    let few : 2 * count ≤ most = omega (arith, read.inside, length-take-le most text inside) in
+    let same : take (2 * count) (take most text) ≡ take (2 * count) text = take-take (2 * count) most text few in
+    record {
+      inside = omega (arith, few, inside);
+      digits = rw same at read.digits;
+      are = rw same at read.are;
+    }
+
+-- the smaller of two numbers
+pub smaller_is : (a b : ℕ) → (ord_min nat_cmp a b ≤ a) × (ord_min nat_cmp a b ≤ b) × (b ≤ a → ord_min nat_cmp a b ≡ b)
+smaller_is a b = (grind (arith, nat_tests), grind (arith, nat_tests), λ le. grind (arith, nat_tests))

@@ -7,7 +7,7 @@ use Rattle.hv_policy.specs.declared.event.Action.{Action}
 use Rattle.hv_policy.specs.declared.event.Caller.{Caller}
 use Rattle.hv_script.specs.Callers.{callers_of, have_room}
 use Rattle.hv_script.specs.Line.{action_of, processor_of}
-use Rattle.hv_script.specs.Number.{number_in}
+use Rattle.hv_script.specs.Number.{bytes_in, number_in}
 use Rattle.hv_script.specs.Script.{SoFar, read_lines, with_line}
 use Rattle.hv_script.specs.Verb.{word_of}
 use Rattle.hv_script.specs.Words.{has_good_bytes, lines_of, words_of}
@@ -44,6 +44,10 @@ BeginsWords text (word ∷ words) rest = (left : List ℕ) × Begins text word 3
 -- a text begins with a number of so many bits, which this byte ends, and this stands after it
 abbrev pub BeginsNumber : ℕ → List ℕ → ℕ → ℕ → List ℕ → Type 0
 BeginsNumber bits text value stop rest = (word : List ℕ) × Begins text word stop rest × (number_in bits word ≡ Some value)
+
+-- a text begins with a word for these bytes, the last before a line feed, and this stands after it
+abbrev pub BeginsInput : List ℕ → List ℕ → List ℕ → Type 0
+BeginsInput text input rest = (word : List ℕ) × Begins text word 10 rest × (bytes_in word ≡ Ok input)
 
 -- a text begins with all but the last word of a call behind its processor, and this stands after them
 abbrev pub BeginsCall : List ℕ → ℕ → ℕ → ℕ → List ℕ → Type 0

@@ -1,14 +1,14 @@
 // A line that is read at one pass from the front of a text, if it is one of a processor.
-ghost use Rattle.std.specs.Prelude.{ℕ, ◌≡◌, ◌≤◌, IfErr, IfOk, IfSome, List, Ok, Some, codes, length, take};
+ghost use Rattle.std.specs.Prelude.{ℕ, ◌≡◌, ◌<◌, ◌≤◌, IfErr, IfOk, IfSome, List, codes, drop, length, take};
 ghost use Rattle.std.specs.Str.Parse.{AllDigits, digits_value};
 ghost use Rattle.hv_script.specs.Front.{Asks, Begins, BeginsAsking, BeginsCall, BeginsDecimal, BeginsFields};
-ghost use Rattle.hv_script.specs.Front.{BeginsNumber, Names};
-ghost use Rattle.hv_script.specs.Number.{bytes_in};
+ghost use Rattle.hv_script.specs.Front.{BeginsInput, BeginsNumber, Names};
 ghost use Rattle.hv_script.specs.Verb.{word_of};
 ghost use Rattle.hv_script.specs.declared.fault.FaultKind.TheVariants.{Memory};
 
 use crate::fault::FaultKind;
 use crate::number;
+use crate::number::{MOST_BYTES, read_bytes};
 use crate::verb::Verb;
 use hv_abi::{Bytes, Frame};
 use hv_policy::{Action, Caller};
@@ -35,17 +35,33 @@ fn leading_digits(text: &[u8]) -> (u64, usize)
     (0, 0)
 }
 
-// The number in decimal digits that a text begins with and that this byte ends, and what stands after
-// it. Not inlined, so that the short numbers are.
+// The number in decimal digits that a text begins with and that this byte ends, and how many bytes they
+// take, 0 where there is none: two numbers come back in registers, and an option doesn't. Not inlined, so
+// that the short numbers are.
 #[inline(never)]
-fn longer_before(text: &[u8], stop: u8) -> Option<(u64, &[u8])>
-    ensures { IfSome result (λ cut. BeginsDecimal text.now cut.0 stop cut.1.now) }
+fn longer_before(text: &[u8], stop: u8) -> (u64, usize)
+    ensures inside { result.1 ≤ length text.now }
+    ensures number { 0 < result.1 → BeginsDecimal text.now result.0 stop (drop result.1 text.now) }
 {
     let (value, end) = leading_digits(text);
     if end == 0 || end == text.len() || text[end] != stop {
+        return (0, 0);
+    }
+    (value, end + 1)
+}
+
+// A number that takes so many bytes of a text, and what stands after them. Where it takes none there is none.
+#[inline(always)]
+fn cut_off(text: &[u8], number: (u64, usize)) -> Option<(u64, &[u8])>
+    requires { number.1 ≤ length text.now }
+    ensures { IfSome result (λ cut. (0 < number.1) × (cut.0 ≡ number.0)
+        × (cut.1.now ≡ drop number.1 text.now)) }
+{
+    let (value, taken) = number;
+    if taken == 0 {
         return None;
     }
-    Some((value, &text[end + 1..]))
+    Some((value, &text[taken..]))
 }
 
 // The number in two decimal digits that a text begins with and that this byte ends, and what stands
@@ -82,7 +98,7 @@ fn decimal_before(text: &[u8], stop: u8) -> Option<(u64, &[u8])>
 {
     match digit_before(text, stop) {
         Some(cut) => Some(cut),
-        None => longer_before(text, stop),
+        None => cut_off(text, longer_before(text, stop)),
     }
 }
 
@@ -111,14 +127,19 @@ fn word_before(text: &[u8], stop: u8) -> Option<(&[u8], &[u8])>
 }
 
 // The number that a text begins with and that this byte ends, as it may be written in hexadecimal
-// digits, and what stands after it.
+// digits, and how many bytes they take, 0 where there is none.
 #[inline(never)]
-fn number_by_word(text: &[u8], stop: u8) -> Option<(u64, &[u8])>
-    ensures { IfSome result (λ cut. BeginsNumber 64 text.now cut.0 stop cut.1.now) }
+fn number_by_word(text: &[u8], stop: u8) -> (u64, usize)
+    ensures inside { result.1 ≤ length text.now }
+    ensures number { 0 < result.1 → BeginsNumber 64 text.now result.0 stop (drop result.1 text.now) }
 {
-    let (word, rest) = word_before(text, stop)?;
-    let value = number::number(word)?;
-    Some((value, rest))
+    let Some((word, _)) = word_before(text, stop) else {
+        return (0, 0);
+    };
+    match number::number(word) {
+        Some(value) => (value, word.len() + 1),
+        None => (0, 0),
+    }
 }
 
 // The number that a text begins with and that this byte ends, and what stands after it.
@@ -128,7 +149,7 @@ fn leading_number(text: &[u8], stop: u8) -> Option<(u64, &[u8])>
 {
     match decimal_before(text, stop) {
         Some((value, rest)) => Some((value, rest)),
-        None => number_by_word(text, stop),
+        None => cut_off(text, number_by_word(text, stop)),
     }
 }
 
@@ -197,26 +218,33 @@ fn leading_call(text: &[u8]) -> Option<(u64, u64, u64, &[u8])>
     Some((rcx, rdx, r8, text))
 }
 
-// The bytes of a call's input list, in the memory of a spare vector, or nothing where the word is none.
+// The bytes of a call's input list that a text begins with, the last word of a line, in the memory of a
+// spare vector, and what stands after the line.
 #[inline(always)]
-fn input<A: Allocator + Clone>(
+fn leading_input<'a, A: Allocator + Clone>(
     spare: &mut Vec<u8, A>,
-    word: &[u8],
-) -> Result<Option<Bytes<A>>, FaultKind>
-    ensures input { IfOk result (λ input. IfSome input (λ input. bytes_in word.now ≡ Ok input)) }
+    text: &'a [u8],
+) -> Result<Option<(Bytes<A>, &'a [u8])>, FaultKind>
+    ensures input { IfOk result (λ cut. IfSome cut (λ cut. BeginsInput text.now cut.0 cut.1.now)) }
     ensures memory { IfErr result (λ kind. kind ≡ Memory) }
 {
     let alloc = spare.allocator().clone().map_err(|_| FaultKind::Memory)?;
     let none = Vec::new(alloc);
     // Most calls have none.
-    if word == b"-".as_slice() {
-        return Ok(Some(Bytes::from_vec(none)));
+    if let [b'-', b'\n', rest @ ..] = text {
+        return Ok(Some((Bytes::from_vec(none), rest)));
     }
-    match number::bytes(replace(spare, none), word) {
-        Ok(input) => Ok(Some(Bytes::from_vec(input))),
-        Err(FaultKind::Memory) => Err(FaultKind::Memory),
-        Err(_) => Ok(None),
+    // With room for any input, the next ones mostly find it made.
+    if spare.capacity() < MOST_BYTES {
+        spare.reserve(MOST_BYTES).map_err(|_| FaultKind::Memory)?;
     }
+    read_bytes(spare, text, MOST_BYTES);
+    let end = 2 * spare.len();
+    if end == 0 || end == text.len() || text[end] != b'\n' {
+        return Ok(None);
+    }
+    let input = replace(spare, none);
+    Ok(Some((Bytes::from_vec(input), &text[end + 1..])))
 }
 
 // What an access with numbers asks for, by the word that a text begins with, and what stands after the
@@ -345,10 +373,7 @@ fn asked<'a, A: Allocator + Clone>(
     let Some((rcx, rdx, r8, text)) = leading_call(text) else {
         return Ok(leading_access(text));
     };
-    let Some((word, rest)) = word_before(text, b'\n') else {
-        return Ok(None);
-    };
-    let Some(input) = input(spare, word)? else {
+    let Some((input, rest)) = leading_input(spare, text)? else {
         return Ok(None);
     };
     let frame = Frame {

@@ -4,7 +4,7 @@ ghost use Rattle.std.specs.Prelude.{◌-◌, IfNone, IfOk, IfSome, IsTrue, OnErr
 ghost use Rattle.hv_script.specs.Lines.{EndsIn, turn_at};
 ghost use Rattle.hv_script.specs.declared.line.Line.{Line};
 
-use hv_actions::{Actions, Extent};
+use hv_actions::{Actions, Extent, make_room};
 use hv_policy::{Action, Caller};
 use std::alloc::{AllocError, Allocator};
 use std::marker::Model;
@@ -22,8 +22,7 @@ pub struct Turn {
 }
 
 /// The lines of a script's processors, in the text's order, packed. Each takes the memory of its action in
-/// [`Actions`] and 4 bytes, and 24 more unless it is of the same processor and phase as the line that was
-/// added before it.
+/// [`Actions`] and 4 bytes, and each processor of a phase 24 more.
 #[derive(Drop)]
 pub struct Lines<A: Allocator> {
     actions: Actions<A>,
@@ -76,19 +75,31 @@ impl<A: Allocator> Lines<A> {
         Some(self.turn(len - 1))
     }
 
-    /// Adds a line at the end, with a copy of its action. For want of memory nothing changes.
+    /// Adds a line at the end, with a copy of its action. Its turn is looked for first at the place `likely`
+    /// among the turns. For want of memory nothing changes.
     #[inline(always)]
-    pub fn push(&mut self, phase: u32, by: Caller, action: &Action<A>) -> Result<(), AllocError>
+    pub(crate) fn push(
+        &mut self,
+        phase: u32,
+        by: Caller,
+        action: &Action<A>,
+        likely: usize,
+    ) -> Result<(), AllocError>
         ensures added { OnOk result (self.new ≡ self.old
             ++ record { phase = phase; by = by; action = action.now } ∷ []) }
         ensures refused { OnErr result (self.new ≡ self.old) }
     {
         // With the place's room made first, nothing fails after the action is added.
-        self.places.reserve(1)?;
-        let place = place_of(&mut self.turns, Turn { phase, by })?;
+        make_room(&mut self.places)?;
+        let place = place_of(&mut self.turns, Turn { phase, by }, likely)?;
         self.actions.push(action)?;
         self.places.push_reserved(place);
         Ok(())
+    }
+
+    // How many turns there are.
+    pub(crate) fn turns(&self) -> usize {
+        self.turns.len()
     }
 
     /// About how much the line at a place, if there is one, will take of a history.
@@ -163,28 +174,31 @@ impl<A: Allocator + Clone> Lines<A> {
     }
 }
 
-// The place of a turn: that of the last one, if it is the same, and else of a new one. Refused where there is
-// no memory for it, or more than 2^32 turns.
+// The place of a turn: this one, if it stands there, and else that of a new one. Refused where there is no
+// memory for it, or more than 2^32 turns.
 #[inline(always)]
-fn place_of<A: Allocator>(turns: &mut Vec<Turn, A>, turn: Turn) -> Result<u32, AllocError>
+fn place_of<A: Allocator>(
+    turns: &mut Vec<Turn, A>,
+    turn: Turn,
+    likely: usize,
+) -> Result<u32, AllocError>
     ensures turns { take (vec_len turns.old) turns.new.items ≡ turns.old.items }
     ensures there { IfOk result (λ place. place < vec_len turns.new) }
     ensures turn { IfOk result (λ place. turn_at turns.new.items place ≡ turn) }
 {
-    if !is_last(turns, turn) {
-        turns.push(turn)?;
+    if is_at(turns, likely, turn) {
+        return u32::try_from(likely).map_err(|_| AllocError);
     }
+    make_room(turns)?;
+    turns.push_reserved(turn);
     u32::try_from(turns.len() - 1).map_err(|_| AllocError)
 }
 
-// Whether a turn is the last of others.
+// Whether a turn stands at a place of others.
 #[inline(always)]
-fn is_last(turns: &[Turn], turn: Turn) -> bool
-    ensures some { IsTrue result → 0 < length turns.now }
-    ensures last { IsTrue result → turn_at turns.now (length turns.now - 1) ≡ turn }
+fn is_at(turns: &[Turn], place: usize, turn: Turn) -> bool
+    ensures there { IsTrue result → place < length turns.now }
+    ensures turn { IsTrue result → turn_at turns.now place ≡ turn }
 {
-    match turns.last() {
-        Some(last) => *last == turn,
-        None => false,
-    }
+    place < turns.len() && turns[place] == turn
 }

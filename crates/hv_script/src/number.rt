@@ -1,6 +1,5 @@
 // Numbers and bytes, as words of a script.
-ghost use Rattle.std.specs.Prelude.{◌≡◌, ◌^◌, ◌<◌, ◌≤◌, ◌*◌, ◌+◌, ◌/◌, ◌%◌, ◌++◌, [], ◌∷◌, IfErr, OnOk};
-ghost use Rattle.std.specs.Prelude.{length, vec_capacity, vec_len};
+ghost use Rattle.std.specs.Prelude.{◌≡◌, ◌^◌, ◌<◌, ◌≤◌, ◌*◌, [], ◌∷◌, length, take, vec_capacity, vec_len};
 ghost use Rattle.std.specs.Char.{digit_value};
 ghost use Rattle.std.specs.Option.{SomeIff};
 ghost use Rattle.std.specs.Str.Parse.{AllDigits, IsNumeral, digits_value};
@@ -10,9 +9,10 @@ ghost use Rattle.hv_script.specs.Number.{bytes_in, bytes_of, decimal_in, number_
 
 use crate::fault::FaultKind;
 use std::alloc::Allocator;
+use std::cmp::min;
 
-// The most digits that a word for bytes has.
-const MOST_DIGITS: usize = 8192;
+/// The most bytes that a word writes, by two digits for each.
+pub const MOST_BYTES: usize = 4096;
 
 // So many digits always fit 64 bits, in each base up to 16.
 const FEW_DIGITS: usize = 16;
@@ -64,60 +64,70 @@ pub fn number_8(word: &[u8]) -> Option<u8>
     u8::try_from(number(word)?).ok()
 }
 
-/// Bytes as an even number of hexadecimal digits of either case, at most 8,192, or `-` for none. They stand in
-/// the memory of a spare vector.
-pub fn bytes<A: Allocator>(spare: Vec<u8, A>, word: &[u8]) -> Result<Vec<u8, A>, FaultKind>
+/// Bytes as an even number of hexadecimal digits of either case, at most 8,192, or `-` for none.
+pub fn bytes<A: Allocator>(alloc: A, word: &[u8]) -> Result<Vec<u8, A>, FaultKind>
     ensures { IsRead result (λ bytes. bytes.items) (bytes_in word.now) }
 {
-    let mut bytes = spare;
-    bytes.clear();
+    let mut bytes = Vec::new(alloc);
     if word == b"-".as_slice() {
         return Ok(bytes);
     }
-    if word.len() % 2 != 0 || word.len() > MOST_DIGITS {
+    let count = word.len() / 2;
+    if word.len() % 2 != 0 || count > MOST_BYTES {
         return Err(FaultKind::Hex);
     }
-    bytes
-        .reserve(word.len() / 2)
-        .map_err(|_| FaultKind::Memory)?;
-    push_bytes(&mut bytes, word)?;
+    bytes.reserve(count).map_err(|_| FaultKind::Memory)?;
+    read_bytes(&mut bytes, word, count);
+    if bytes.len() != count {
+        return Err(FaultKind::Hex);
+    }
     Ok(bytes)
 }
 
-// Pushes the bytes that pairs of hexadecimal digits write, for which there is room.
-fn push_bytes<A: Allocator>(bytes: &mut Vec<u8, A>, word: &[u8]) -> Result<(), FaultKind>
-    requires even { length word.now % 2 ≡ 0 }
-    requires room { vec_len bytes.old + length word.now / 2 ≤ vec_capacity bytes.old }
-    ensures bytes { OnOk result (bytes.new.items ≡ bytes.old.items ++ bytes_of word.now) }
-    ensures ok { OnOk result (AllDigits 16 word.now) }
-    ensures err { IfErr result (λ kind. (kind ≡ FaultKind.Hex) × (AllDigits 16 word.now → ⊥)) }
+/// Makes a vector the bytes that pairs of hexadecimal digits write at the front of a text, at most so many,
+/// for which it has room.
+#[inline(always)]
+pub fn read_bytes<A: Allocator>(bytes: &mut Vec<u8, A>, text: &[u8], most: usize)
+    requires room { most ≤ vec_capacity bytes.old }
+    ensures few { vec_len bytes.new ≤ most }
+    ensures inside { 2 * vec_len bytes.new ≤ length text.now }
+    ensures digits { AllDigits 16 (take (2 * vec_len bytes.new) text.now) }
+    ensures bytes { bytes.new.items ≡ bytes_of (take (2 * vec_len bytes.new) text.now) }
+    ensures all { AllDigits 16 text.now → 2 * most ≤ length text.now → vec_len bytes.new ≡ most }
 {
-    for pair in word.chunks_exact(2) {
-        let byte = pair_value(pair).ok_or(FaultKind::Hex)?;
+    bytes.clear();
+    let digits = 2 * min(text.len() / 2, most);
+    for pair in text[..digits].chunks_exact(2) {
+        let Some(byte) = pair_value(pair) else {
+            return;
+        };
         bytes.push_reserved(byte);
     }
-    Ok(())
 }
 
-// The byte that two hexadecimal digits write.
+// The byte that two hexadecimal digits write. Both are looked up first, so that one test does for both.
 #[inline(always)]
 fn pair_value(pair: &[u8]) -> Option<u8>
     requires { length pair.now ≡ 2 }
     ensures { SomeIff result (AllDigits 16 pair.now) (digits_value 16 pair.now) }
 {
-    let high = hex_digit(pair[0])?;
-    let low = hex_digit(pair[1])?;
-    Some(high * 16 + low)
+    let high = digit_value(pair[0]);
+    let low = digit_value(pair[1]);
+    if high < 16 && low < 16 {
+        Some(high * 16 + low)
+    } else {
+        None
+    }
 }
 
-// The value of a hexadecimal digit of either case. It is looked up, since no branch foretells which comes.
+// The value of a byte as a digit of either case in bases up to 36. It is looked up, since no branch foretells
+// which comes.
 #[inline(always)]
 #[tactic(auto, using(crate::proofs::DigitLemmas::digit_at))]
-fn hex_digit(byte: u8) -> Option<u8>
-    ensures { SomeIff result (digit_value byte < 16) (digit_value byte) }
+fn digit_value(byte: u8) -> u8
+    ensures { result ≡ digit_value byte }
 {
-    let value = DIGIT_VALUES[usize::from(byte)];
-    if value < 16 { Some(value) } else { None }
+    DIGIT_VALUES[usize::from(byte)]
 }
 
 // The value of each byte as a digit of either case in bases up to 36, and 36 where it is none.

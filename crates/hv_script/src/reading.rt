@@ -8,7 +8,7 @@ use crate::fault::FaultKind;
 use crate::front::asked_line;
 use crate::line::{action, processor};
 use crate::lines::Lines;
-use hv_actions::give_back;
+use hv_actions::{give_back, make_room};
 use hv_policy::{Action, Caller};
 use std::alloc::Allocator;
 
@@ -29,6 +29,8 @@ pub struct Reading<A: Allocator> {
     pub(crate) callers: Vec<Caller, A>,
     // Where among them that of the last line stands, since a processor mostly goes on, or they take turns.
     last: usize,
+    // How many turns the lines had when the phase began. Those of its processors stand behind in their order.
+    first: usize,
     pub(crate) lines: Lines<A>,
     ghost named: { callers.items ≡ callers_of phase lines },
     ghost phases: { All (λ line. line.phase ≤ phase) lines },
@@ -71,16 +73,34 @@ impl<A: Allocator + Clone> Reading<A> {
                 return Ok(Some(rest));
             }
         }
+        Reading::read_cut(alloc, reading, text)
+    }
+
+    // The same of any line, which is cut into its words. Not inlined, as few lines are read so, and the cut
+    // line is large.
+    #[inline(never)]
+    fn read_cut<'a>(
+        alloc: &A,
+        reading: &mut Option<Reading<A>>,
+        text: &'a [u8],
+    ) -> Result<Option<&'a [u8]>, FaultKind>
+        requires phases { phase_by reading.old + 1 < 2 ^ 32 }
+        ensures read { IfOk result (λ rest. ReadsTo (lines_of text.now) (read_by reading.old)
+            (lines_left (option_copied rest)) (read_by reading.new)) }
+        ensures fault { IfErr result (λ kind. kind ≢ FaultKind.Memory → FailsBy (lines_of text.now)
+            (read_by reading.old) kind) }
+        ensures shorter { IfOk result (λ rest. most_left (option_copied rest) ≤ length text.now) }
+        ensures phase { OnOk result (phase_by reading.new ≤ phase_by reading.old + 1) }
+    {
         let (line, rest) = next_line(text);
         Reading::read_line(alloc, reading, &line, text.len())?;
         Ok(rest)
     }
 
-    /// Reads a line after what was read before it. If it is the first, room is made for the lines of about
-    /// so many bytes of text. Not inlined, as few lines are read so.
-    #[inline(never)]
+    // Reads a line after what was read before it. If it is the first, room is made for the lines of about
+    // so many bytes of text.
     #[tactic(auto, unfolding(crate::specs::Script::read_line))]
-    pub fn read_line(
+    fn read_line(
         alloc: &A,
         reading: &mut Option<Reading<A>>,
         line: &CutLine<'_>,
@@ -123,6 +143,7 @@ impl<A: Allocator + Clone> Reading<A> {
             phase: 0,
             callers: Vec::new(callers),
             last: 0,
+            first: 0,
             lines,
         })
     }
@@ -156,6 +177,7 @@ impl<A: Allocator + Clone> Reading<A> {
             return Err(FaultKind::Count);
         }
         self.callers.clear();
+        self.first = self.lines.turns();
         self.phase += 1;
         Ok(())
     }
@@ -204,9 +226,10 @@ impl<A: Allocator + Clone> Reading<A> {
         ensures phase { self.new.phase ≡ self.old.phase }
     {
         // With the processor's room made first, nothing fails after the line is added.
-        self.callers.reserve(1).map_err(|_| FaultKind::Memory)?;
+        make_room(&mut self.callers).map_err(|_| FaultKind::Memory)?;
+        let likely = self.first.wrapping_add(self.last);
         self.lines
-            .push(self.phase, by, action)
+            .push(self.phase, by, action, likely)
             .map_err(|_| FaultKind::Memory)?;
         if is_new {
             self.callers.push_reserved(by);

@@ -13,7 +13,7 @@ invariant_of-self-then-is_new g c =
     let callers : cond c.args.is_new (self.callers.items ++ c.args.by ∷ []) self.callers.items ≡ callers_of self.phase (self.lines ++ line ∷ []) =
     sym (adds_caller self.callers.items c.args.by c.args.is_new c.requires) ∙ rw self.named (sym (one_more_caller self.phase self.lines line refl)) in
     record {
-      named = rw (pushed, c.push_reserved.ensures.items, c.reserve.ensures.items) (rw c.if-is_new.true at callers);
+      named = rw (pushed, c.push_reserved.ensures.items, c.make_room.ensures.items) (rw c.if-is_new.true at callers);
       phases = rw pushed (All-push (λ line. line.phase ≤ self.phase) self.lines line self.phases (omega arith));
     }
 
@@ -25,6 +25,6 @@ invariant_of-self-else-is_new g c =
     let callers : cond c.args.is_new (self.callers.items ++ c.args.by ∷ []) self.callers.items ≡ callers_of self.phase (self.lines ++ line ∷ []) =
     sym (adds_caller self.callers.items c.args.by c.args.is_new c.requires) ∙ rw self.named (sym (one_more_caller self.phase self.lines line refl)) in
     record {
-      named = rw (pushed, c.reserve.ensures.items) (rw c.if-is_new.false at callers);
+      named = rw (pushed, c.make_room.ensures.items) (rw c.if-is_new.false at callers);
       phases = rw pushed (All-push (λ line. line.phase ≤ self.phase) self.lines line self.phases (omega arith));
     }
