@@ -1,9 +1,9 @@
 -- The room of a history.
-use Rattle.std.proofs.Common.{◌≡◌, ℕ, ◌+◌, ◌-◌, ◌≤◌, ◌⊎◌, inl, inr, List, [], ◌∷◌, Some, length, refl, sym, subst, ap, ◌∙◌, arith}
+use Rattle.std.proofs.Common.{◌≡◌, ℕ, ◌+◌, ◌*◌, ◌-◌, ◌≤◌, ◌⊎◌, inl, inr, List, [], ◌∷◌, Some, length, refl, sym, subst, ap, ◌∙◌, arith}
 use Rattle.hv_policy.specs.declared.event.Action.{Action}
 use Rattle.hv_policy.specs.declared.event.Caller.{Caller}
 use Rattle.hv_policy.specs.declared.event.Event.{Event}
-use Rattle.hv_history.specs.History.{HasHeadFor, HasRoomForHead, IsRoomForHead, room_of}
+use Rattle.hv_history.specs.History.{HasHeadFor, HasRoomFor, HasRoomForHead, IsRoomFor, IsRoomForHead, room_of}
 use Rattle.hv_history.specs.Row.{Common, IsLast, action_of, asked_in, bytes_at, common_at, head_at, input_in, last_common, most_of, most_output, r8_in, second_in}
 use Rattle.hv_history.specs.declared.row.Head.{Head}
 use Rattle.hv_history.specs.declared.row.History.{History}
@@ -98,3 +98,10 @@ module _ {A : Type 0} where
       let r3 = room.input in
       let r4 = room.short in
       record { heads = omega arith; places = omega arith; inputs = omega arith; starts = omega arith }
+
+  -- and so for events of one call, of which none puts out more than the bytes that there is room for
+  pub for_events : (h : History A) (event : Event A) (count : ℕ) → IsRoomFor h count (length (input_in event.what)) (count * most_output event.what) → HasRoomFor count (room_of h) event
+  for_events h event count room =
+      let r1 = room.rows in
+      let r2 = room.outputs in
+      record { rows = omega arith; outputs = omega arith; head = λ _. inr (head_room h _ room.head) }

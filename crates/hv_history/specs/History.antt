@@ -44,7 +44,13 @@ pub record IsRoomForHead {A : Type 0} (h : History A) (bytes : ℕ) : Type 0 whe
   pub input : vec_len h.inputs + bytes ≤ vec_capacity h.inputs
   pub short : vec_len h.inputs + bytes ≤ 2 ^ 32 - 1
 
--- the same, by the room that there is
+-- there is room for so many rows, for a head with so many bytes of input, and for so many bytes that are put out
+pub record IsRoomFor {A : Type 0} (h : History A) (count bytes puts : ℕ) : Type 0 where
+  pub rows : vec_len h.rows + count ≤ vec_capacity h.rows
+  pub head : IsRoomForHead h bytes
+  pub outputs : vec_len h.outputs + puts ≤ vec_capacity h.outputs
+
+-- the same of a head, by the room that there is
 pub record HasRoomForHead (room : Room) (bytes : ℕ) : Type 0 where
   pub heads : 0 < room.heads
   pub places : 0 < room.places

@@ -2,7 +2,7 @@
 ghost use Rattle.std.specs.Prelude.{◌≡◌, ◌+◌, ◌^◌, ◌-◌, ◌<◌, ◌≤◌, ◌↔◌, ◌⊎◌, ◌++◌, [], ◌∷◌, ℕ, IsTrue, length};
 ghost use Rattle.std.specs.Prelude.{take, OnOk, Some, slice_get, vec_len, vec_capacity};
 ghost use Rattle.hv_defs.specs.declared.sizes.TheConstants.{REPS_END};
-ghost use Rattle.hv_history.specs.History.{HasHeadFor, HasRoomFor, IsOfLastCall, IsRoomForHead};
+ghost use Rattle.hv_history.specs.History.{HasHeadFor, HasRoomFor, IsOfLastCall, IsRoomFor, IsRoomForHead};
 ghost use Rattle.hv_history.specs.History.{entries, entry_by, room_of};
 ghost use Rattle.hv_history.specs.Output.{shown};
 ghost use Rattle.hv_history.specs.Row.{IsLast, IsThere, bytes_at, head_at, input_in, most_output, next_in};
@@ -94,14 +94,39 @@ impl<A: Allocator> History<A> {
         ensures same { entries self.new ≡ entries self.old }
         ensures room { OnOk result (HasRoomFor count (room_of self.new) event.now) }
     {
+        let rows = count as usize;
         let input_len = input_in(&event.what).len();
+        let outputs = most_outputs(&event.what, count);
+        if self.has_room(rows, input_len, outputs) {
+            return Ok(());
+        }
+        self.make_room(rows, input_len, outputs)
+    }
+
+    // Whether there is room for so many rows, for a head with so many bytes of input, and for so many bytes
+    // that are put out.
+    #[inline(always)]
+    fn has_room(&self, rows: usize, input_len: usize, outputs: usize) -> bool
+        ensures { IsTrue result → IsRoomFor self.now rows input_len outputs }
+    {
+        rows <= self.rows.capacity() - self.rows.len()
+            && outputs <= self.outputs.capacity() - self.outputs.len()
+            && self.has_room_for_head(input_len)
+    }
+
+    // Makes that room. Not inlined, since mostly it is there.
+    #[inline(never)]
+    fn make_room(&mut self, rows: usize, input_len: usize, outputs: usize) -> Result<(), AllocError>
+        ensures same { entries self.new ≡ entries self.old }
+        ensures room { OnOk result (IsRoomFor self.new rows input_len outputs) }
+    {
         if self.heads.len() >= MOST_HEADS || input_len > MOST_INPUTS - self.inputs.len() {
             return Err(AllocError);
         }
-        self.rows.reserve(count as usize)?;
+        self.rows.reserve(rows)?;
         self.heads.reserve(1)?;
         self.inputs.reserve(input_len)?;
-        self.outputs.reserve(most_outputs(&event.what, count))
+        self.outputs.reserve(outputs)
     }
 
     /// Makes room for about so many more events: who knows about how many there will be spares the rows'
@@ -122,7 +147,7 @@ impl<A: Allocator> History<A> {
         let what = &event.what;
         let input = input_in(what);
         let is_last = self.is_last(event.by, second_in(what), r8_in(what), input);
-        if !is_last && !self.has_room_for_head(input) {
+        if !is_last && !self.has_room_for_head(input.len()) {
             return 0;
         }
         let rows = self.rows.capacity() - self.rows.len();
@@ -130,14 +155,15 @@ impl<A: Allocator> History<A> {
         if rows < outputs { rows } else { outputs }
     }
 
-    // Whether there is room for a head with this input.
-    fn has_room_for_head(&self, input: &[u8]) -> bool
-        ensures { IsTrue result ↔ IsRoomForHead self.now (length input.now) }
+    // Whether there is room for a head with so many bytes of input.
+    #[inline(always)]
+    fn has_room_for_head(&self, input_len: usize) -> bool
+        ensures { IsTrue result ↔ IsRoomForHead self.now input_len }
     {
         self.heads.len() < MOST_HEADS
             && self.heads.len() < self.heads.capacity()
-            && input.len() <= MOST_INPUTS - self.inputs.len()
-            && input.len() <= self.inputs.capacity() - self.inputs.len()
+            && input_len <= MOST_INPUTS - self.inputs.len()
+            && input_len <= self.inputs.capacity() - self.inputs.len()
     }
 
     // Adds an event with its reply, for which there is room. The reply comes as its answer and what it
@@ -241,10 +267,17 @@ impl<A: Allocator> History<A> {
         ensures input { let head = head_at self.new.heads.items result in bytes_at self.new.inputs.items
             head.input_start head.input_len ≡ input.now }
     {
-        if self.is_last(by, second, r8, input) {
+        let Some(head) = self.heads.last() else {
+            return self.new_head(by, second, r8, input);
+        };
+        if !self.has_input(head, input) {
+            return self.new_head(by, second, r8, input);
+        }
+        if head.by == by && head.second == second && head.r8 == r8 {
             return (self.heads.len() - 1) as u32;
         }
-        self.new_head(by, second, r8, input)
+        let (start, len) = (head.input_start, head.input_len);
+        self.add_head(by, second, r8, start, len)
     }
 
     // Whether the last head has these.
@@ -263,7 +296,7 @@ impl<A: Allocator> History<A> {
         }
     }
 
-    // The place of a new head with these.
+    // The place of a new head with these, whose input is added.
     #[inline(never)]
     fn new_head(&mut self, by: Caller, second: u64, r8: u64, input: &[u8]) -> u32
         requires { IsRoomForHead self.old (length input.now) }
@@ -278,38 +311,46 @@ impl<A: Allocator> History<A> {
         ensures input { let head = head_at self.new.heads.items result in bytes_at self.new.inputs.items
             head.input_start head.input_len ≡ input.now }
     {
-        let input_start = self.place_input(input);
+        let start = self.inputs.len() as u32;
+        self.inputs.extend_from_slice(input).unwrap();
+        self.add_head(by, second, r8, start, input.len() as u32)
+    }
+
+    // The place of a new head with these, whose input is there.
+    #[inline(always)]
+    fn add_head(
+        &mut self,
+        by: Caller,
+        second: u64,
+        r8: u64,
+        input_start: u32,
+        input_len: u32,
+    ) -> u32
+        requires few { vec_len self.old.heads < 2 ^ 32 - 1 }
+        requires room { vec_len self.old.heads < vec_capacity self.old.heads }
+        requires there { input_start + input_len ≤ vec_len self.old.inputs }
+        ensures rows { self.new.rows ≡ self.old.rows }
+        ensures outputs { self.new.outputs ≡ self.old.outputs }
+        ensures inputs { self.new.inputs ≡ self.old.inputs }
+        ensures heads { take (vec_len self.old.heads) self.new.heads.items ≡ self.old.heads.items }
+        ensures last { result + 1 ≡ vec_len self.new.heads }
+        ensures head { head_at self.new.heads.items result ≡ record {
+          by = by;
+          second = second;
+          r8 = r8;
+          input_start = input_start;
+          input_len = input_len;
+        } }
+    {
         let at = self.heads.len() as u32;
         self.heads.push_reserved(Head {
             by,
             second,
             r8,
             input_start,
-            input_len: input.len() as u32,
+            input_len,
         });
         at
-    }
-
-    // Where these bytes stand among the inputs: where the last head's do, if they are the same, and else
-    // at the end.
-    fn place_input(&mut self, input: &[u8]) -> u32
-        requires room { vec_len self.old.inputs + length input.now ≤ vec_capacity self.old.inputs }
-        requires short { vec_len self.old.inputs + length input.now ≤ 2 ^ 32 - 1 }
-        ensures rows { self.new.rows ≡ self.old.rows }
-        ensures heads { self.new.heads ≡ self.old.heads }
-        ensures outputs { self.new.outputs ≡ self.old.outputs }
-        ensures inputs { take (vec_len self.old.inputs) self.new.inputs.items ≡ self.old.inputs.items }
-        ensures within { result + length input.now ≤ vec_len self.new.inputs }
-        ensures placed { bytes_at self.new.inputs.items result (length input.now) ≡ input.now }
-    {
-        if let Some(head) = self.heads.last() {
-            if self.has_input(head, input) {
-                return head.input_start;
-            }
-        }
-        let start = self.inputs.len() as u32;
-        self.inputs.extend_from_slice(input).unwrap();
-        start
     }
 
     // How a row keeps an output: its bytes if they fit, and else where they are placed.

@@ -1,11 +1,13 @@
 -- A call that goes on from hold to hold.
 use Rattle.std.proofs.Common.{◌≡◌, ℕ, ◌+◌, ◌≤◌, ◌<◌, List, [], ◌∷◌, ◌++◌, length, refl, sym, ap, ◌∙◌, subst, arith, append_assoc, append-nil}
 use Rattle.std.specs.Prelude.{map}
-use Rattle.std.proofs.lemmas.List.{length-append, map-append}
+use Rattle.std.proofs.lemmas.List.{length-append, length-map, map-append}
 use Rattle.std.specs.declared.alloc.Global.{Global}
 use Rattle.hv_abi.specs.InputValue.{input_value}
 use Rattle.hv_abi.specs.declared.frame.Frame.{Frame}
 use Rattle.hv_defs.specs.declared.sizes.TheConstants.{REPS_END}
+use Rattle.hv_history.proofs.Elements.{of_last}
+use Rattle.hv_history.specs.History.{IsOfLastCall}
 use Rattle.hv_history.specs.Run.{AreElements as AreAsked, GoesOnAt, IsMore, element, restart, start_of}
 use Rattle.hv_history.specs.declared.entry.Entry.{Entry}
 use Rattle.hv_policy.specs.Next.{GoesOn}
@@ -128,6 +130,15 @@ module _ (frame now : Frame Global) (answer : Answer) (old mid : PassValue) (ask
     elements =
         subst (λ (f : Frame Global). AreElements old.caller frame all f) (sym later_is)
         (push old.caller frame asked.before now asked.number next asked.output (reply_of answer asked.output) asked.elements (more asked.output) asked.goes_on)
+
+    -- the pass's last receipt is of the element before
+    pub told_before : IsOfLastCall (element mid.caller later) (map entry_in mid.receipts)
+    told_before =
+        let receipts : map entry_in mid.receipts ≡ map entry_in old.receipts ++ map entry_in all =
+        ap (map entry_in) asked.gained.receipts ∙ map-append entry_in old.receipts all in
+        subst (λ (by : Caller). IsOfLastCall (element by later) (map entry_in mid.receipts)) (sym asked.gained.caller)
+        (subst (IsOfLastCall (element old.caller later)) (sym receipts)
+        (of_last old.caller frame (map entry_in all) later elements (omega (arith, length-map all entry_in, length-append asked.before (told ∷ []))) (map entry_in old.receipts)))
 
     goes : GoesOn (Hypercall now) (More next asked.output)
     goes = subst (GoesOn (Hypercall now)) (more asked.output) asked.goes_on

@@ -1,8 +1,8 @@
 -- Several elements in one hold.
-use Rattle.std.proofs.Common.{◌≡◌, ℕ, suc, zero, ◌+◌, ◌-◌, ◌<◌, ◌≢◌, List, [], ◌∷◌, ◌++◌, length, refl, sym, ap, ◌∙◌, subst, arith, append_assoc, append-nil}
+use Rattle.std.proofs.Common.{◌≡◌, ℕ, suc, zero, ◌+◌, ◌-◌, ◌<◌, ◌≢◌, ◌⊎◌, inl, inr, List, [], ◌∷◌, ◌++◌, length, refl, sym, ap, ◌∙◌, subst, arith, append_assoc, append-nil}
 use Rattle.std.specs.Prelude.{map}
 use Rattle.std.proofs.Math.Nat.{suc-mul}
-use Rattle.std.proofs.lemmas.List.{length-append, length-map, map-append}
+use Rattle.std.proofs.lemmas.List.{length-append, length-map, map-append, nil_from_length}
 use Rattle.std.specs.declared.alloc.Global.{Global}
 use Rattle.hv_abi.specs.declared.frame.Frame.{Frame}
 use Rattle.hv_history.proofs.Elements.{elements-push, goes_after, of_last}
@@ -32,6 +32,11 @@ use Rattle.hv_shared.specs.declared.receipts.Receipt.{Receipt}
 numbered-push : (n : ℕ) (rs : List Receipt) (r : Receipt) → AreNumbered n rs → r.number ≡ n + length rs → AreNumbered n (rs ++ r ∷ [])
 numbered-push n [] r is at = (at ∙ omega arith, tt)
 numbered-push n (x ∷ rs) r is at = (is.0, numbered-push (n + 1) rs r is.1 (at ∙ omega arith))
+
+-- none came before, or fewer are left
+all_or_fewer : (left most : ℕ) (rs : List Receipt) → left + length rs ≡ most → (left ≡ most) ⊎ (left < most)
+all_or_fewer left most [] is = inl (omega arith)
+all_or_fewer left most (x ∷ rs) is = inr (omega arith)
 
 -- one element more
 pub push : (by : Caller) (frame : Frame Global) (rs : List Receipt) (now : Frame Global) (number next : ℕ) (output : List ℕ) (reply : Reply)
@@ -120,6 +125,24 @@ module _ (frame : Frame Global) (event : Event Global) (left most : ℕ) (old no
       subst (λ (e : Event Global). IsOfLastCall e (map entry_in told.receipts)) (sym is.event_is)
       (subst (IsOfLastCall (element pass.caller is.at)) (sym receipts)
       (of_last pass.caller frame (map entry_in is.so_far.before) is.at is.so_far.elements (omega (arith, length-map is.so_far.before entry_in)) (map entry_in pass.receipts)))
+
+  -- and the first with that of the last receipt before, where that is known
+  first_receipt : left ≡ most → IsOfLastCall (element pass.caller frame) (map entry_in pass.receipts) → IsOfLastCall event (map entry_in told.receipts)
+  first_receipt all known =
+      let rest = is.rest in
+      let none : is.so_far.before ≡ [] = nil_from_length is.so_far.before (omega arith) in
+      let receipts : pass.receipts ≡ told.receipts = sym (is.so_far.held.gained.receipts ∙ ap (λ (rs : List Receipt). pass.receipts ++ rs) none ∙ append-nil pass.receipts) in
+      let at : is.at ≡ frame = subst (λ (rs : List Receipt). AreElements pass.caller frame rs is.at) none is.so_far.elements in
+      subst (λ (e : Event Global). IsOfLastCall e (map entry_in told.receipts)) (ap (element pass.caller) (sym at) ∙ sym is.event_is)
+      (subst (λ (rs : List Receipt). IsOfLastCall (element pass.caller frame) (map entry_in rs)) receipts known)
+
+  -- so each does
+  pub receipt_before : IsOfLastCall (element pass.caller frame) (map entry_in pass.receipts) → IsOfLastCall event (map entry_in told.receipts)
+  receipt_before known =
+      elim (all_or_fewer left most is.so_far.before is.rest) [
+        | inl all ↦ first_receipt all known
+        | inr fewer ↦ last_receipt fewer
+      ]
 
   -- the host refused it
   pub refused : (last : Frame Global) → last ≡ is.at → (new : HeldValue) (after : PassValue) → new ≡ now → after ≡ told → HasHeldUpTo frame last most old new pass after

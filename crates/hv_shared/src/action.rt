@@ -1,7 +1,10 @@
 // One action to its end.
-ghost use Rattle.std.specs.Prelude.{OnOk, OnErr};
+ghost use Rattle.std.specs.Prelude.{OnOk, OnErr, map};
+ghost use Rattle.hv_history.specs.History.{IsOfLastCall};
+ghost use Rattle.hv_history.specs.Run.{element};
 ghost use Rattle.hv_policy.specs.declared.event.Action.TheVariants.{Hypercall};
 ghost use Rattle.hv_policy.specs.declared.reply.Reply.{Reply};
+ghost use Rattle.hv_shared.specs.Drive.{entry_in};
 ghost use Rattle.hv_shared.specs.Pass.{HasCalled, IsAsBefore};
 ghost use Rattle.hv_shared.specs.Perform.{HasBegun, HasPerformed};
 
@@ -51,7 +54,7 @@ pub fn perform_by<L: Ledger, K: Keeper<L>, R: Wait, G: Gate>(
     ensures refused { OnErr result (HasBegun action pass.old pass.new) }
 {
     match action {
-        Action::Hypercall(frame) => match ask(keeper, rt, pass, gate, frame) {
+        Action::Hypercall(frame) => match ask(keeper, rt, pass, gate, frame, false) {
             Ok((last, answer)) => match next_of(answer) {
                 Some(next) => go_on(rt, keeper, gate, pass, last.with_start(next)),
                 None => Ok(Some(last)),
@@ -90,7 +93,7 @@ fn access<L: Ledger, K: Keeper<L>, R: Wait, G: Gate>(
     }
 }
 
-// Lets the other elements of a rep call come to their end.
+// Lets the other elements of a rep call come to their end, after those of which the pass's last receipt is.
 #[inline(never)]
 fn go_on<L: Ledger, K: Keeper<L>, R: Wait, G: Gate>(
     rt: &R,
@@ -99,10 +102,11 @@ fn go_on<L: Ledger, K: Keeper<L>, R: Wait, G: Gate>(
     pass: &mut Pass<L>,
     frame: Frame<Global>,
 ) -> Result<Option<Frame<Global>>, HostRefused>
+    requires { IsOfLastCall (element pass.old.caller frame) (map entry_in pass.old.receipts) }
     ensures performed { OnOk result (HasPerformed (Hypercall frame) pass.old pass.new) }
     ensures refused { OnErr result (HasBegun (Hypercall frame) pass.old pass.new) }
 {
-    match finish(keeper, rt, pass, gate, frame) {
+    match finish(keeper, rt, pass, gate, frame, true) {
         Ok(last) => Ok(Some(last)),
         Err(refused) => Err(refused.why),
     }

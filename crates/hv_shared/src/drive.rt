@@ -1,9 +1,10 @@
 // A hypercall from its first element to its last.
-ghost use Rattle.std.specs.Prelude.{◌≡◌, ◌<◌, ◌≤◌, ℕ, List, IfOk, IfErr, IfSome, IfNone};
-ghost use Rattle.hv_history.specs.Run.{IsMore};
+ghost use Rattle.std.specs.Prelude.{◌≡◌, ◌<◌, ◌≤◌, ℕ, List, IfOk, IfErr, IfSome, IfNone, IsTrue, map};
+ghost use Rattle.hv_history.specs.History.{IsOfLastCall};
+ghost use Rattle.hv_history.specs.Run.{IsMore, element};
 ghost use Rattle.hv_policy.specs.Parts.{reply_of};
 ghost use Rattle.hv_policy.specs.declared.reply.Reply.TheVariants.{More};
-ghost use Rattle.hv_shared.specs.Drive.{HasDriven, HasFinished, HasStopped};
+ghost use Rattle.hv_shared.specs.Drive.{HasDriven, HasFinished, HasStopped, entry_in};
 
 use crate::gate::Gate;
 use crate::held::Pass;
@@ -76,28 +77,31 @@ impl<L: Ledger> Shared<L> {
         ensures refused { IfErr result (λ e. HasStopped frame e.next pass.old pass.new) }
     {
         let mut keeper = self;
-        let last = finish(&mut keeper, rt, pass, gate, frame)?;
+        let last = finish(&mut keeper, rt, pass, gate, frame, false)?;
         let reply = pass.last_reply();
         Ok((result_of(&last, &reply), reply))
     }
 }
 
 // Drives a hypercall to its end, and gives back the frame of its last element. The replies stand in the
-// receipts.
+// receipts. `is_told` says that the pass's last receipt is known to be of this call.
 pub(crate) fn finish<L: Ledger, K: Keeper<L>, R: Wait, G: Gate>(
     keeper: &mut K,
     rt: &R,
     pass: &mut Pass<L>,
     gate: &G,
     frame: Frame<Global>,
+    is_told: bool,
 ) -> Result<Frame<Global>, DriveRefused>
+    requires { IsTrue is_told → IsOfLastCall (element pass.old.caller frame)
+        (map entry_in pass.old.receipts) }
     ensures finished { IfOk result (λ last. HasFinished frame last pass.old pass.new) }
     ensures refused { IfErr result (λ e. HasStopped frame e.next pass.old pass.new) }
 {
-    let (mut last, mut answer) = ask(keeper, rt, pass, gate, frame)?;
+    let (mut last, mut answer) = ask(keeper, rt, pass, gate, frame, is_told)?;
     while let Some(next) = next_of(answer) {
         let later = last.with_start(next);
-        let (asked, told) = ask(keeper, rt, pass, gate, later)?;
+        let (asked, told) = ask(keeper, rt, pass, gate, later, true)?;
         last = asked;
         answer = told;
     }

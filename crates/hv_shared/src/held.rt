@@ -284,26 +284,27 @@ impl<L: Ledger> Held<L> {
         ensures result { (frame : Frame Global) → event.now.what ≡ Hypercall frame → IfOk result HasResult }
         ensures next { IfOk result (λ r. GoesOn event.now.what r) }
     {
-        match self.take(pass, event, false) {
+        match self.take(pass, event, false, false) {
             Ok(_) => Ok(pass.last_reply()),
             Err(why) => Err(why),
         }
     }
 
     // Lets an event happen as `hold` does, and answers its reply without the output, which stands in the
-    // pass's receipt. `goes_on` says that it is known to go on with the call of the last event, which is
-    // also that of the pass's last receipt.
+    // pass's receipt. `goes_on` says that it is known to go on with the call of the last event, and `is_told`
+    // with that of the pass's last receipt.
     #[inline(always)]
     pub(crate) fn take(
         &mut self,
         pass: &mut Pass<L>,
         event: &Event<Global>,
         goes_on: bool,
+        is_told: bool,
     ) -> Result<Answer, HostRefused>
         requires by { event.now.by ≡ pass.old.caller }
         requires room { HasRoom 1 pass.old.room event.now }
         requires call { IsTrue goes_on → IsOfLastCall event.now self.old.kept.history }
-        requires told { IsTrue goes_on → IsOfLastCall event.now (map entry_in pass.old.receipts) }
+        requires told { IsTrue is_told → IsOfLastCall event.now (map entry_in pass.old.receipts) }
         ensures held { IfOk result (λ answer. IsHeld event.now answer self.old.kept self.new.kept pass.old
             pass.new) }
         ensures count { OnOk result (self.new.count ≡ self.old.count + 1) }
@@ -320,7 +321,7 @@ impl<L: Ledger> Held<L> {
                 let _limit = self.kept.limit();
                 let history = self.kept.history();
                 let entry = history.entry(history.len() - 1);
-                pass.receipts.push(number as u32, event, history, goes_on);
+                pass.receipts.push(number as u32, event, history, is_told);
                 Ok(entry.answer)
             }
             Err(why) => Err(why),

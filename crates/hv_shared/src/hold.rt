@@ -1,10 +1,12 @@
 // Several elements of one call in one hold of the lock.
-ghost use Rattle.std.specs.Prelude.{◌≡◌, ◌<◌, ◌↔◌, IfOk, OnErr, IfErr, length};
+ghost use Rattle.std.specs.Prelude.{◌≡◌, ◌<◌, ◌↔◌, IfOk, IsTrue, OnErr, IfErr, length, map};
 ghost use Rattle.hv_abi.specs.declared.frame.Frame.{Frame};
+ghost use Rattle.hv_history.specs.History.{IsOfLastCall};
 ghost use Rattle.hv_history.specs.Kept.{IsRun};
 ghost use Rattle.hv_history.specs.Row.{IsCall};
 ghost use Rattle.hv_history.specs.Run.{element};
 ghost use Rattle.hv_policy.specs.declared.event.Action.TheVariants.{Hypercall};
+ghost use Rattle.hv_shared.specs.Drive.{entry_in};
 ghost use Rattle.hv_shared.specs.Hold.{HasHeldFor, HasHeldPart, HasHeldRun, HasHeldUpTo};
 ghost use Rattle.hv_shared.specs.Room.{HasRoom};
 
@@ -31,17 +33,20 @@ pub(crate) fn frame_of(event: Event<Global>) -> Frame<Global>
 impl<L: Ledger> Held<L> {
     // Lets the elements of a call happen from the frame's start index on, and keeps their receipts. It
     // stops after `most` of them, after one that is answered otherwise than that the call goes on, or
-    // where the host refuses one. Answers the frame of the last that was asked, and its reply without the
-    // output.
+    // where the host refuses one. `is_told` says that the first is known to go on with the call of the
+    // pass's last receipt. Answers the frame of the last that was asked, and its reply without the output.
     #[inline(always)]
     pub(crate) fn take_run(
         &mut self,
         pass: &mut Pass<L>,
         frame: Frame<Global>,
         most: u32,
+        is_told: bool,
     ) -> (Frame<Global>, Result<Answer, HostRefused>)
         requires some { 0 < most }
         requires room { HasRoom most pass.old.room (element pass.old.caller frame) }
+        requires told { IsTrue is_told → IsOfLastCall (element pass.old.caller frame)
+            (map entry_in pass.old.receipts) }
         ensures held { IfOk result.1 (λ answer. HasHeldFor frame result.0 answer most self.old self.new
             pass.old pass.new) }
         ensures refused { OnErr result.1 (HasHeldUpTo frame result.0 most self.old self.new pass.old
@@ -57,7 +62,7 @@ impl<L: Ledger> Held<L> {
         };
         let mut left = most;
         loop {
-            let answer = match self.take(pass, &event, left < most) {
+            let answer = match self.take(pass, &event, left < most, is_told || left < most) {
                 Ok(answer) => answer,
                 Err(why) => return (frame_of(event), Err(why)),
             };
@@ -86,7 +91,7 @@ impl<L: Ledger> Held<L> {
             ↔ (length self.new.kept.history ≡ self.new.kept.limit)) }
     {
         let before = pass.receipts().len();
-        let (_, told) = self.take_run(pass, frame, most);
+        let (_, told) = self.take_run(pass, frame, most, false);
         match told {
             Ok(_) => RunDone {
                 events: (pass.receipts().len() - before) as u32,

@@ -1,8 +1,9 @@
 // Who lets events happen.
-ghost use Rattle.std.specs.Prelude.{◌≡◌, ◌<◌, IfOk, IfErr, OnErr};
+ghost use Rattle.std.specs.Prelude.{◌≡◌, ◌<◌, IfOk, IfErr, IsTrue, OnErr, map};
 ghost use Rattle.hv_abi.specs.InputValue.{input_value};
+ghost use Rattle.hv_history.specs.History.{IsOfLastCall};
 ghost use Rattle.hv_history.specs.Run.{element};
-ghost use Rattle.hv_shared.specs.Drive.{HasStopped};
+ghost use Rattle.hv_shared.specs.Drive.{HasStopped, entry_in};
 ghost use Rattle.hv_shared.specs.Pass.{IsAsBefore};
 ghost use Rattle.hv_shared.specs.Room.{HasRoom};
 ghost use Rattle.hv_shared.specs.Told.{IsAsked, IsTold};
@@ -36,17 +37,21 @@ pub trait Keeper<L: Ledger> {
 
     /// Lets the elements of a call happen from the frame's start index on, and keeps their receipts, for
     /// which there is room. It stops after `most` of them, after one that is answered otherwise than that
-    /// the call goes on, or where the host refuses one. Answers the frame of the last that was asked, and
-    /// its reply without the output.
+    /// the call goes on, or where the host refuses one. `is_told` says that the first is known to go on with
+    /// the call of the pass's last receipt. Answers the frame of the last that was asked, and its reply
+    /// without the output.
     fn keep_run<R: Wait>(
         &mut self,
         rt: &R,
         pass: &mut Pass<L>,
         frame: Frame<Global>,
         most: u32,
+        is_told: bool,
     ) -> (Frame<Global>, Result<Answer, HostRefused>)
         requires some { 0 < most }
         requires room { HasRoom most pass.old.room (element pass.old.caller frame) }
+        requires told { IsTrue is_told → IsOfLastCall (element pass.old.caller frame)
+            (map entry_in pass.old.receipts) }
         ensures asked { IfOk result.1 (λ answer. IsAsked frame result.0 answer pass.old pass.new) }
         ensures refused { OnErr result.1 (HasStopped frame (input_value result.0.rcx).start pass.old
             pass.new) };
@@ -61,7 +66,7 @@ impl<L: Ledger> Keeper<L> for Held<L> {
         pass: &mut Pass<L>,
         event: &Event<Global>,
     ) -> Result<Answer, HostRefused> {
-        self.take(pass, event, false)
+        self.take(pass, event, false, false)
     }
 
     #[inline(always)]
@@ -71,8 +76,9 @@ impl<L: Ledger> Keeper<L> for Held<L> {
         pass: &mut Pass<L>,
         frame: Frame<Global>,
         most: u32,
+        is_told: bool,
     ) -> (Frame<Global>, Result<Answer, HostRefused>) {
-        self.take_run(pass, frame, most)
+        self.take_run(pass, frame, most, is_told)
     }
 }
 
@@ -101,8 +107,8 @@ pub(crate) fn happen<L: Ledger, K: Keeper<L>, R: Wait, G: Gate>(
 }
 
 // Asks for the elements of a call from the frame's start index on, up to 16 of them, in one hold. Room for
-// their receipts is made before the gate is asked. Answers the frame of the last element, and its reply
-// without the output.
+// their receipts is made before the gate is asked. `is_told` says that the pass's last receipt is known to be
+// of this call. Answers the frame of the last element, and its reply without the output.
 #[inline(always)]
 pub(crate) fn ask<L: Ledger, K: Keeper<L>, R: Wait, G: Gate>(
     keeper: &mut K,
@@ -110,7 +116,10 @@ pub(crate) fn ask<L: Ledger, K: Keeper<L>, R: Wait, G: Gate>(
     pass: &mut Pass<L>,
     gate: &G,
     frame: Frame<Global>,
+    is_told: bool,
 ) -> Result<(Frame<Global>, Answer), DriveRefused>
+    requires { IsTrue is_told → IsOfLastCall (element pass.old.caller frame)
+        (map entry_in pass.old.receipts) }
     ensures asked { IfOk result (λ r. IsAsked frame r.0 r.1 pass.old pass.new) }
     ensures refused { IfErr result (λ e. HasStopped frame e.next pass.old pass.new) }
 {
@@ -128,7 +137,7 @@ pub(crate) fn ask<L: Ledger, K: Keeper<L>, R: Wait, G: Gate>(
             next: InputValue::read(frame.rcx).start,
         });
     }
-    ask_held(keeper, rt, pass, gate, frame, most)
+    ask_held(keeper, rt, pass, gate, frame, most, is_told)
 }
 
 // Asks for so many elements in one hold. There is room for their receipts.
@@ -140,16 +149,19 @@ fn ask_held<L: Ledger, K: Keeper<L>, R: Wait, G: Gate>(
     gate: &G,
     frame: Frame<Global>,
     most: u32,
+    is_told: bool,
 ) -> Result<(Frame<Global>, Answer), DriveRefused>
     requires some { 0 < most }
     requires room { HasRoom most pass.old.room (element pass.old.caller frame) }
+    requires told { IsTrue is_told → IsOfLastCall (element pass.old.caller frame)
+        (map entry_in pass.old.receipts) }
     ensures asked { IfOk result (λ r. IsAsked frame r.0 r.1 pass.old pass.new) }
     ensures refused { IfErr result (λ e. HasStopped frame e.next pass.old pass.new) }
 {
     let by = pass.caller();
     let turn = pass.receipts().len() as u64;
     gate.enter(rt, by, turn);
-    let (last, told) = keeper.keep_run(rt, pass, frame, most);
+    let (last, told) = keeper.keep_run(rt, pass, frame, most, is_told);
     gate.leave(rt, by, turn);
     match told {
         Ok(answer) => Ok((last, answer)),

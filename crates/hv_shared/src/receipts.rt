@@ -105,7 +105,10 @@ impl Receipts {
         ensures same { list_of self.new ≡ list_of self.old }
         ensures room { OnOk result (HasRoom count (room_in self.new) event.now) }
     {
-        self.numbers.reserve(count as usize)?;
+        let more = count as usize;
+        if self.numbers.capacity() - self.numbers.len() < more {
+            self.numbers.reserve(more)?;
+        }
         self.packed.reserve(event, count)
     }
 

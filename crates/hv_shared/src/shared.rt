@@ -121,7 +121,7 @@ impl<'s, L: Ledger> Keeper<L> for &'s Shared<L> {
         event: &Event<Global>,
     ) -> Result<Answer, HostRefused> {
         let shared = *self;
-        shared.held.lock(rt).take(pass, event, false)
+        shared.held.lock(rt).take(pass, event, false, false)
     }
 
     #[inline(always)]
@@ -131,8 +131,9 @@ impl<'s, L: Ledger> Keeper<L> for &'s Shared<L> {
         pass: &mut Pass<L>,
         frame: Frame<Global>,
         most: u32,
+        is_told: bool,
     ) -> (Frame<Global>, Result<Answer, HostRefused>) {
         let shared = *self;
-        shared.held.lock(rt).take_run(pass, frame, most)
+        shared.held.lock(rt).take_run(pass, frame, most, is_told)
     }
 }

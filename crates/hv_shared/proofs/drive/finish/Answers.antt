@@ -1,7 +1,7 @@
 use Rattle.std.proofs.Common.{◌<◌, arith}
 use Rattle.std.proofs.lemmas.Result.{err_from_is_err_and}
 use Rattle.hv_history.specs.Run.{start_of}
-use Rattle.hv_shared.proofs.Driving.{asked_next, further, stopped}
+use Rattle.hv_shared.proofs.Driving.{asked_next, further, stopped, told_before}
 use Rattle.hv_shared.proofs.drive.finish.Goals as goal
 
 pub returns-in_err-asked-clause-refused : goal.returns-in_err-asked-clause-refused
@@ -22,3 +22,8 @@ loop-next-smaller g c =
     let l = c.loop-next in
     let on : start_of l.last < start_of c.in_ok-asked.asked = further c.args.frame l.last l.answer c.args.pass.now l.pass l.invariant c.in-Some.next c.in-Some.ensures.some c.with_start-later.result c.with_start-later.ensures.frame c.in_ok-asked.asked c.in_ok-asked.told c.ask-in-Some.new.pass c.in_ok-asked.ensures.asked in
     omega (arith, on)
+
+pub ask-requires-in-Some-after_bounds : goal.ask-requires-in-Some-after_bounds
+ask-requires-in-Some-after_bounds g c κs within = λ _.
+    let l = c.loop-next in
+    told_before c.args.frame l.last l.answer c.args.pass.now l.pass l.invariant c.in-Some.next c.in-Some.ensures.some c.with_start-later.result c.with_start-later.ensures.frame
