@@ -1,8 +1,9 @@
--- A machine may go to another thread.
+-- A machine may go to another thread, with what it is housed with.
 use denote.Param.Send.{IsSend, sendable}
 use Rattle.std.proofs.Crossing.{crosses}
 use Rattle.std_heap.specs.contracts.Global as Heap
 use Rattle.std_heap.specs.contracts.GlobalAllocator.TheImpl.{ghosts}
+use Rattle.hv_machine.specs.contracts.machine.Machine as Machine
 use Rattle.hv_mail.specs.contracts.mailbox.Mailbox as Mailbox
 use Rattle.hv_pages.specs.contracts.page_set.PageSet as PageSet
 use Rattle.hv_partition.specs.contracts.partition.Partition as Partition
@@ -30,5 +31,8 @@ partition-send = search (sendable, crosses, vps-send, pages-send) depth 60 fits 
 tree-send : IsSend (IdTree.the_row (Partition.the_row Heap.the_row ghosts) Heap.the_row ghosts)
 tree-send = search (partition-send, crosses, knot.crosses, sendable) depth 60 fits 20000
 
+bare-send : IsSend (Machine.the_row Heap.the_row ghosts)
+bare-send = search (tree-send, crosses, sendable) depth 40
+
 pub machine-send : IsSend machine_row
-machine-send = search (tree-send, crosses, sendable) depth 40
+machine-send = search (bare-send, crosses, sendable) depth 40

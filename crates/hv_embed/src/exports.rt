@@ -16,13 +16,12 @@ ghost use Rattle.hv_embed.specs.Taken.{IsAsBefore, IsBooted, IsRefused, IsStarte
 ghost use Rattle.hv_embed.specs.Taken.{is_short as is_short_len, readiness};
 ghost use Rattle.hv_embed.specs.declared.status.TheConstants.{DONE, MEMORY, OCCUPIED};
 
-use crate::answer::is_short;
 use crate::handle::HvMachine;
+use crate::housed::Housed;
 use crate::layout::{HvCaller, HvConfig, HvRegisters, HvReply};
-use crate::status::{DONE, EMPTY, MEMORY, OCCUPIED, SHORT, status_of};
-use crate::take::take;
-use hv_abi::{Bytes, Frame};
-use hv_machine::{Action, BootRefused, Caller, Config, Event, Machine};
+use crate::status::{DONE, OCCUPIED, status_of};
+use crate::take::{take_access, take_call};
+use hv_machine::{Access, BootRefused, Config, Machine};
 use hv_privs::Privileges;
 use std::alloc::Global;
 use std::mem::replace;
@@ -49,7 +48,7 @@ pub extern "C" fn hv_embed_boot(alloc: Global, machine: &mut HvMachine, config: 
 }
 
 // A machine in a block of its own.
-fn boot(alloc: Global, config: &HvConfig) -> Result<Box<Machine<Global>>, BootRefused>
+fn boot(alloc: Global, config: &HvConfig) -> Result<Box<Housed>, BootRefused>
     ensures booted { IfOk result (λ boxed. IsStarted (config_of config.now) boxed.value) }
     ensures refused { IfErr result (IsBootRefusal (config_of config.now)) }
 {
@@ -60,7 +59,7 @@ fn boot(alloc: Global, config: &HvConfig) -> Result<Box<Machine<Global>>, BootRe
         mask: Privileges::of(config.mask),
     };
     let machine = Machine::boot(alloc, wanted)?;
-    match Box::new(alloc, machine) {
+    match Box::new(alloc, Housed::of(machine, alloc)) {
         Ok(boxed) => Ok(boxed),
         Err(_) => Err(BootRefused::Memory),
     }
@@ -87,23 +86,7 @@ pub extern "C" fn hv_embed_hypercall(
     ensures memory { result ≡ MEMORY
         → (machine.old.live ≡ true) × (is_short_len (length line.old) ≡ false) }
 {
-    if !machine.live {
-        return EMPTY;
-    }
-    if is_short(line) {
-        return SHORT;
-    }
-    let Ok(bytes) = Vec::from_slice(alloc, input) else {
-        return MEMORY;
-    };
-    let frame = Frame {
-        rcx: registers.rcx,
-        rdx: registers.rdx,
-        r8: registers.r8,
-        input: Bytes::from_vec(bytes),
-    };
-    let event = event_of(by, Action::Hypercall(frame));
-    take(alloc, machine, &event, reply, line)
+    take_call(alloc, machine, by, registers, input, reply, line)
 }
 
 /// Reads an MSR of a processor, of 8 bytes.
@@ -122,8 +105,7 @@ pub extern "C" fn hv_embed_read_msr(
     ensures unwritten { result ≢ DONE → (reply.new ≡ reply.old) × (line.new ≡ line.old) }
     ensures status { result ≡ readiness machine.old (length line.old) }
 {
-    let event = event_of(by, Action::ReadMsr(msr));
-    take(alloc, machine, &event, reply, line)
+    take_access(alloc, machine, by, Access::ReadMsr(msr), reply, line)
 }
 
 /// Writes a value to an MSR of a processor.
@@ -143,8 +125,14 @@ pub extern "C" fn hv_embed_write_msr(
     ensures unwritten { result ≢ DONE → (reply.new ≡ reply.old) × (line.new ≡ line.old) }
     ensures status { result ≡ readiness machine.old (length line.old) }
 {
-    let event = event_of(by, Action::WriteMsr(msr, value));
-    take(alloc, machine, &event, reply, line)
+    take_access(
+        alloc,
+        machine,
+        by,
+        Access::WriteMsr(msr, value),
+        reply,
+        line,
+    )
 }
 
 /// Reads the message slot of a SINT of a processor, of 256 bytes.
@@ -163,8 +151,7 @@ pub extern "C" fn hv_embed_read_slot(
     ensures unwritten { result ≢ DONE → (reply.new ≡ reply.old) × (line.new ≡ line.old) }
     ensures status { result ≡ readiness machine.old (length line.old) }
 {
-    let event = event_of(by, Action::ReadSlot(sint));
-    take(alloc, machine, &event, reply, line)
+    take_access(alloc, machine, by, Access::ReadSlot(sint), reply, line)
 }
 
 /// Removes the message that a SINT of a processor shows.
@@ -183,8 +170,7 @@ pub extern "C" fn hv_embed_clear_slot(
     ensures unwritten { result ≢ DONE → (reply.new ≡ reply.old) × (line.new ≡ line.old) }
     ensures status { result ≡ readiness machine.old (length line.old) }
 {
-    let event = event_of(by, Action::ClearSlot(sint));
-    take(alloc, machine, &event, reply, line)
+    take_access(alloc, machine, by, Access::ClearSlot(sint), reply, line)
 }
 
 /// Reads the event flags of a SINT of a processor, of 256 bytes.
@@ -203,8 +189,7 @@ pub extern "C" fn hv_embed_read_flags(
     ensures unwritten { result ≢ DONE → (reply.new ≡ reply.old) × (line.new ≡ line.old) }
     ensures status { result ≡ readiness machine.old (length line.old) }
 {
-    let event = event_of(by, Action::ReadFlags(sint));
-    take(alloc, machine, &event, reply, line)
+    take_access(alloc, machine, by, Access::ReadFlags(sint), reply, line)
 }
 
 /// Clears an event flag of a SINT of a processor.
@@ -224,8 +209,14 @@ pub extern "C" fn hv_embed_clear_flag(
     ensures unwritten { result ≢ DONE → (reply.new ≡ reply.old) × (line.new ≡ line.old) }
     ensures status { result ≡ readiness machine.old (length line.old) }
 {
-    let event = event_of(by, Action::ClearFlag(sint, flag));
-    take(alloc, machine, &event, reply, line)
+    take_access(
+        alloc,
+        machine,
+        by,
+        Access::ClearFlag(sint, flag),
+        reply,
+        line,
+    )
 }
 
 /// Takes the highest of the interrupt vectors that are pending at a processor, one byte, or 0.
@@ -243,8 +234,7 @@ pub extern "C" fn hv_embed_take_interrupt(
     ensures unwritten { result ≢ DONE → (reply.new ≡ reply.old) × (line.new ≡ line.old) }
     ensures status { result ≡ readiness machine.old (length line.old) }
 {
-    let event = event_of(by, Action::TakeInterrupt);
-    take(alloc, machine, &event, reply, line)
+    take_access(alloc, machine, by, Access::TakeInterrupt, reply, line)
 }
 
 /// Ends the machine of a handle, if there is one, and leaves the handle empty.
@@ -258,18 +248,5 @@ pub extern "C" fn hv_embed_destroy(alloc: Global, machine: &mut HvMachine)
         drop(old.open());
     } else {
         old.let_go();
-    }
-}
-
-// An event of the processor that C names.
-fn event_of(by: HvCaller, what: Action<Global>) -> Event<Global>
-    ensures { result ≡ event_by by what }
-{
-    Event {
-        by: Caller {
-            part: by.part,
-            vp: by.vp,
-        },
-        what,
     }
 }

@@ -2,8 +2,8 @@
 ghost use Rattle.std.specs.Prelude.{◌≡◌, true, false};
 
 use crate::held::Held;
+use crate::housed::Housed;
 use crate::parts::Parts;
-use hv_machine::Machine;
 use std::alloc::Global;
 
 /// A machine, or nothing. C makes one of zeros, which is nothing.
@@ -30,7 +30,7 @@ impl HvMachine {
     }
 
     // This machine, which took so many events.
-    pub(crate) fn full(machine: Box<Machine<Global>>, events: u64) -> HvMachine
+    pub(crate) fn full(machine: Box<Housed>, events: u64) -> HvMachine
         ensures live { result.live ≡ true }
         ensures events { result.events ≡ events }
         ensures machine { result.held.machine ≡ machine.value }
@@ -43,7 +43,7 @@ impl HvMachine {
     }
 
     // The machine that is there.
-    pub(crate) fn open(self) -> Box<Machine<Global>>
+    pub(crate) fn open(self) -> Box<Housed>
         requires { self.live ≡ true }
         ensures { result.value ≡ self.held.machine }
     {

@@ -1,10 +1,10 @@
-// A machine in a block of its own, behind a pointer whose type names no other type, as C takes it.
+// A housed machine in a block of its own, behind a pointer whose type names no other type, as C takes it.
 ghost use Rattle.std.specs.Prelude.{◌≡◌, Bool, true, false};
 ghost use Rattle.hv_machine.specs.State.{State, state_code};
 ghost use Rattle.hv_embed.specs.Holds.{machine_owns};
 
+use crate::housed::Housed;
 use crate::parts::Parts;
-use hv_machine::Machine;
 use std::alloc::Global;
 use std::marker::Model;
 
@@ -33,7 +33,7 @@ impl Held {
         }
     }
 
-    pub fn of_parts(parts: Parts<Machine<Global>, Global>) -> Held
+    pub fn of_parts(parts: Parts<Housed, Global>) -> Held
         ensures { (result.full ≡ true) × (result.machine ≡ parts.value) }
     {
         let Parts { ptr, alloc } = parts;
@@ -43,13 +43,13 @@ impl Held {
         }
     }
 
-    pub fn into_parts(self) -> Parts<Machine<Global>, Global>
+    pub fn into_parts(self) -> Parts<Housed, Global>
         requires { self.full ≡ true }
         ensures { result.value ≡ self.machine }
     {
         let Held { at, alloc } = self;
         Parts {
-            ptr: at as *mut Machine<Global>,
+            ptr: at as *mut Housed,
             alloc,
         }
     }

@@ -12,6 +12,7 @@ mod answer;
 mod exports;
 mod handle;
 mod held;
+mod housed;
 mod layout;
 mod parts;
 mod status;

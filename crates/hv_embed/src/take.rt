@@ -1,43 +1,49 @@
 // One event of a handle's machine.
-ghost use Rattle.std.specs.Prelude.{◌≡◌, ◌≢◌, ◌+◌, ◌<◌, length, None, IsTrue, false, if◌then◌else◌};
+ghost use Rattle.std.specs.Prelude.{◌≡◌, ◌≢◌, ◌+◌, ◌<◌, length, None, IsTrue, true, false, if◌then◌else◌};
+ghost use Rattle.std.specs.Global.{Global};
 ghost use Rattle.hv_defs.specs.declared.sizes.TheConstants.{MAX_SERVED};
+ghost use Rattle.hv_machine.specs.Access.{access_event};
 ghost use Rattle.hv_machine.specs.IsFlat.{IsFlat};
 ghost use Rattle.hv_machine.specs.Lasting.{IsLasting};
 ghost use Rattle.hv_machine.specs.Sound.{IsSound};
-ghost use Rattle.hv_policy.specs.Call.{action_of, may_take_memory};
+ghost use Rattle.hv_policy.specs.Call.{action_of, call_event, may_take_memory};
 ghost use Rattle.hv_policy.specs.Flat.{Flat};
 ghost use Rattle.hv_policy.specs.Rules.{unmet};
 ghost use Rattle.hv_policy.specs.Step.{step as flat_step};
+ghost use Rattle.hv_policy.specs.declared.event.Action.TheVariants.{Hypercall};
 ghost use Rattle.hv_embed.specs.Answer.{IsAnswer, line_text};
+ghost use Rattle.hv_embed.specs.Answer.{caller_of as caller_by, event_of as event_by, frame_of as frame_by};
 ghost use Rattle.hv_embed.specs.Taken.{HasLine, IsAsBefore, IsTaken, is_short as is_short_len};
 ghost use Rattle.hv_embed.specs.Taken.{is_used_up as is_used_up_at, readiness};
 ghost use Rattle.hv_embed.specs.declared.status.TheConstants.{DONE, USED_UP, MEMORY, MAX_EVENTS};
 
-use crate::answer::{answer, is_short};
+use crate::answer::{answer, answer_access, is_short};
 use crate::handle::HvMachine;
-use crate::layout::HvReply;
+use crate::housed::Housed;
+use crate::layout::{HvCaller, HvRegisters, HvReply};
 use crate::status::{DONE, EMPTY, MAX_EVENTS, MEMORY, SHORT, USED_UP};
+use hv_abi::Frame;
 use hv_defs::MAX_SERVED;
 use hv_history::answer_of;
-use hv_machine::{Access, Event, Machine, Output};
+use hv_machine::{Access, Action, Caller, Event, Machine, Output};
+use hv_text::Scratch;
 use std::alloc::Global;
 use std::mem::replace;
 
-// Lets the machine of a handle take an event.
-pub(crate) fn take(
+// Lets the machine of a handle take an access.
+pub(crate) fn take_access(
     alloc: Global,
     machine: &mut HvMachine,
-    event: &Event<Global>,
+    by: HvCaller,
+    access: Access,
     reply: &mut HvReply,
     line: &mut [u8],
 ) -> u32
-    ensures taken { result ≡ DONE → IsTaken event.now machine.old machine.new reply.new line.new }
+    ensures taken { result ≡ DONE
+        → IsTaken (event_by by (action_of access)) machine.old machine.new reply.new line.new }
     ensures kept { result ≢ DONE → IsAsBefore machine.old machine.new }
     ensures unwritten { result ≢ DONE → (reply.new ≡ reply.old) × (line.new ≡ line.old) }
-    ensures ready { result ≢ MEMORY → result ≡ readiness machine.old (length line.old) }
-    ensures memory { result ≡ MEMORY → IsTrue (may_take_memory event.now) }
-    ensures refused { (f : Flat) → IsFlat machine.old.held.machine f → result ≡ MEMORY
-        → unmet f event.now ≡ None }
+    ensures status { result ≡ readiness machine.old (length line.old) }
 {
     if !machine.live {
         return EMPTY;
@@ -46,22 +52,162 @@ pub(crate) fn take(
         return SHORT;
     }
     let before = machine.events;
-    let mut boxed = replace(machine, HvMachine::none(alloc)).open();
-    let status = step(&mut boxed, before, event, reply, line);
+    let mut housed = replace(machine, HvMachine::none(alloc)).open();
+    let status = step_access(&mut housed, before, caller_of(by), access, reply, line);
     let after = counted(before, status);
-    replace(machine, HvMachine::full(boxed, after)).let_go();
+    replace(machine, HvMachine::full(housed, after)).let_go();
     status
 }
 
-// Lets a machine take an event, before which there were so many.
-fn step(
-    machine: &mut Machine<Global>,
+// Lets the machine of a handle take a call with these registers and the bytes of its input list.
+pub(crate) fn take_call(
+    alloc: Global,
+    machine: &mut HvMachine,
+    by: HvCaller,
+    registers: &HvRegisters,
+    input: &[u8],
+    reply: &mut HvReply,
+    line: &mut [u8],
+) -> u32
+    ensures taken { result ≡ DONE
+        → IsTaken (event_by by (Hypercall (frame_by registers.now input.now))) machine.old machine.new
+        reply.new line.new }
+    ensures kept { result ≢ DONE → IsAsBefore machine.old machine.new }
+    ensures unwritten { result ≢ DONE → (reply.new ≡ reply.old) × (line.new ≡ line.old) }
+    ensures status { result ≢ MEMORY → result ≡ readiness machine.old (length line.old) }
+    ensures memory { result ≡ MEMORY
+        → (machine.old.live ≡ true) × (is_short_len (length line.old) ≡ false) }
+{
+    if !machine.live {
+        return EMPTY;
+    }
+    if is_short(line) {
+        return SHORT;
+    }
+    let before = machine.events;
+    let mut housed = replace(machine, HvMachine::none(alloc)).open();
+    let status = match housed.hold(input) {
+        Ok(input) => {
+            let frame = Frame {
+                rcx: registers.rcx,
+                rdx: registers.rdx,
+                r8: registers.r8,
+                input,
+            };
+            step_call(&mut housed, before, caller_of(by), frame, reply, line)
+        }
+        Err(_) => MEMORY,
+    };
+    let after = counted(before, status);
+    replace(machine, HvMachine::full(housed, after)).let_go();
+    status
+}
+
+// Lets a machine take an access, before which there were so many events.
+fn step_access(
+    housed: &mut Housed,
     before: u64,
-    event: &Event<Global>,
+    by: Caller,
+    access: Access,
+    reply: &mut HvReply,
+    line: &mut [u8],
+) -> u32
+    requires room { is_short_len (length line.old) ≡ false }
+    ensures reply { (f : Flat) → IsFlat housed.old f → result ≡ DONE
+        → IsAnswer reply.new (action_of access) (flat_step {A = Global} f (access_event by access)).1 }
+    ensures line { (f : Flat) → IsFlat housed.old f → result ≡ DONE
+        → HasLine line.new reply.new.line_len (line_text (before + 1) (access_event by access)
+        (flat_step {A = Global} f (access_event by access)).1) }
+    ensures state { (f : Flat) → IsFlat housed.old f → result ≡ DONE
+        → IsFlat housed.new (flat_step {A = Global} f (access_event by access)).0 }
+    ensures pages { housed.new.pages ≡ housed.old.pages }
+    ensures lasting { IsLasting housed.new }
+    ensures sound { result ≡ DONE → IsSound housed.new }
+    ensures fits { result ≡ DONE → before < MAX_EVENTS }
+    ensures kept { result ≢ DONE → housed.new ≡ housed.old }
+    ensures unwritten { result ≢ DONE → (reply.new ≡ reply.old) × (line.new ≡ line.old) }
+    ensures ready { result ≡ if is_used_up_at housed.old.served before then USED_UP else DONE }
+{
+    if housed.machine.served() >= MAX_SERVED || before >= MAX_EVENTS {
+        return USED_UP;
+    }
+    let mut output = Output::new();
+    let told = answer_of(housed.machine.access(by, access, &mut output));
+    answer_access(
+        by,
+        access,
+        before + 1,
+        told,
+        output.as_slice(),
+        &mut housed.scratch,
+        reply,
+        line,
+    );
+    DONE
+}
+
+// Lets a machine take a call, before which there were so many events. The memory of its input list is for the
+// next call.
+fn step_call(
+    housed: &mut Housed,
+    before: u64,
+    by: Caller,
+    frame: Frame<Global>,
     reply: &mut HvReply,
     line: &mut [u8],
 ) -> u32
     requires { is_short_len (length line.old) ≡ false }
+    ensures reply { (f : Flat) → IsFlat housed.old f → result ≡ DONE
+        → IsAnswer reply.new (Hypercall frame) (flat_step f (call_event by frame)).1 }
+    ensures line { (f : Flat) → IsFlat housed.old f → result ≡ DONE
+        → HasLine line.new reply.new.line_len
+        (line_text (before + 1) (call_event by frame) (flat_step f (call_event by frame)).1) }
+    ensures state { (f : Flat) → IsFlat housed.old f → result ≡ DONE
+        → IsFlat housed.new (flat_step f (call_event by frame)).0 }
+    ensures pages { housed.new.pages ≡ housed.old.pages }
+    ensures lasting { IsLasting housed.new }
+    ensures sound { result ≡ DONE → IsSound housed.new }
+    ensures fits { result ≡ DONE → before < MAX_EVENTS }
+    ensures kept { result ≢ DONE → housed.new ≡ housed.old }
+    ensures unwritten { result ≢ DONE → (reply.new ≡ reply.old) × (line.new ≡ line.old) }
+    ensures ready { result ≢ MEMORY
+        → result ≡ if is_used_up_at housed.old.served before then USED_UP else DONE }
+    ensures memory { result ≡ MEMORY → IsTrue (may_take_memory (call_event by frame)) }
+    ensures refused { (f : Flat) → IsFlat housed.old f → result ≡ MEMORY
+        → unmet f (call_event by frame) ≡ None }
+{
+    let event = Event {
+        by,
+        what: Action::Hypercall(frame),
+    };
+    let status = match event.what.as_access() {
+        Ok(_) => unreachable!(),
+        Err(frame) => answer_call(
+            &mut housed.machine,
+            before,
+            &event,
+            frame,
+            &mut housed.scratch,
+            reply,
+            line,
+        ),
+    };
+    housed.give_back(event);
+    status
+}
+
+// Lets a machine take an event that is the call of this frame, and answers it.
+fn answer_call(
+    machine: &mut Machine<Global>,
+    before: u64,
+    event: &Event<Global>,
+    frame: &Frame<Global>,
+    scratch: &mut Scratch,
+    reply: &mut HvReply,
+    line: &mut [u8],
+) -> u32
+    requires room { is_short_len (length line.old) ≡ false }
+    requires call { Hypercall frame.now ≡ event.now.what }
     ensures reply { (f : Flat) → IsFlat machine.old f → result ≡ DONE
         → IsAnswer reply.new event.now.what (flat_step f event.now).1 }
     ensures line { (f : Flat) → IsFlat machine.old f → result ≡ DONE
@@ -82,47 +228,30 @@ fn step(
     if machine.served() >= MAX_SERVED || before >= MAX_EVENTS {
         return USED_UP;
     }
-    let frame = match event.what.as_access() {
-        Ok(access) => {
-            step_access(machine, before + 1, event, access, reply, line);
-            return DONE;
-        }
-        Err(frame) => frame,
-    };
     let Ok(told) = machine.hypercall(event.by, frame) else {
         return MEMORY;
     };
     let (told, output, len) = told.parts();
-    answer(event, before + 1, told, &output[..len], reply, line);
+    answer(
+        event,
+        before + 1,
+        told,
+        &output[..len],
+        scratch,
+        reply,
+        line,
+    );
     DONE
 }
 
-// Lets a machine take an access, an event with this number. Not inlined, so that a call makes no room for the
-// output of one.
-#[inline(never)]
-fn step_access(
-    machine: &mut Machine<Global>,
-    number: u64,
-    event: &Event<Global>,
-    access: Access,
-    reply: &mut HvReply,
-    line: &mut [u8],
-)
-    requires what { action_of access ≡ event.now.what }
-    requires count { machine.old.served < MAX_SERVED }
-    requires room { is_short_len (length line.old) ≡ false }
-    ensures reply { (f : Flat) → IsFlat machine.old f
-        → IsAnswer reply.new event.now.what (flat_step f event.now).1 }
-    ensures line { (f : Flat) → IsFlat machine.old f
-        → HasLine line.new reply.new.line_len (line_text number event.now (flat_step f event.now).1) }
-    ensures state { (f : Flat) → IsFlat machine.old f → IsFlat machine.new (flat_step f event.now).0 }
-    ensures pages { machine.new.pages ≡ machine.old.pages }
-    ensures lasting { IsLasting machine.new }
-    ensures sound { IsSound machine.new }
+// The processor that C names.
+fn caller_of(by: HvCaller) -> Caller
+    ensures { result ≡ caller_by by }
 {
-    let mut output = Output::new();
-    let told = answer_of(machine.access(event.by, access, &mut output));
-    answer(event, number, told, output.as_slice(), reply, line);
+    Caller {
+        part: by.part,
+        vp: by.vp,
+    }
 }
 
 // How many events there were, after one that ended so.

@@ -17,6 +17,6 @@ mod text;
 
 pub use audit_text::{audit, result_value};
 pub use fault::PrintFault;
-pub use line::audit_line;
+pub use line::{Scratch, audit_line};
 pub use table_text::table;
 pub use text::LINE;

@@ -14,9 +14,24 @@ use hv_history::{Answer, Asked, EntryRef, OutputRef};
 use hv_policy::{Action, Event};
 use std::alloc::Allocator;
 
-/// Puts the audit's line of an event with its number and the two parts of its reply, with its line feed, at the
-/// start of a buffer of [`LINE`] bytes or more, and answers how many bytes it has. It takes no memory.
+/// Room in which lines are put together, one after another.
+#[derive(Drop)]
+pub struct Scratch {
+    line: Text,
+}
+
+impl Scratch {
+    /// Room for every line.
+    pub fn new() -> Scratch {
+        Scratch { line: Text::new() }
+    }
+}
+
+/// Puts the audit's line of an event with its number and the two parts of its reply, with its line feed, at
+/// the start of a buffer of [`LINE`] bytes or more, and answers how many bytes it has. It takes no memory, and
+/// what stands in the room doesn't matter.
 pub fn audit_line<A: Allocator>(
+    scratch: &mut Scratch,
     buffer: &mut [u8],
     number: u64,
     event: &Event<A>,
@@ -32,12 +47,9 @@ pub fn audit_line<A: Allocator>(
     ensures length { length buffer.new ≡ length buffer.old }
     ensures rest { drop result buffer.new ≡ drop result buffer.old }
 {
-    let mut line = Text::new();
-    push_entry::<A>(
-        &mut line,
-        &Numeral::of(number),
-        &entry_of(event, answer, output),
-    );
+    let line = &mut scratch.line;
+    line.clear();
+    push_entry::<A>(line, &Numeral::of(number), &entry_of(event, answer, output));
     line.push_text(b"\n");
     let bytes = line.as_slice();
     buffer[..bytes.len()].copy_from_slice(bytes);
