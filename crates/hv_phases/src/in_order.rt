@@ -45,20 +45,23 @@ pub fn run_in_order<L: Ledger, R: Wait, G: Gate>(
     let mut spare = Vec::new(*left.allocator());
     let mut phase = 0;
     let mut members = 0;
-    let mut last = 0;
+    let mut first = 0;
     while let Some(turn) = left.last() {
         let is_same = turn.phase == phase;
+        let seat = left.seat();
+        if !is_same {
+            first = seat;
+        }
         phase = turn.phase;
         let so_far = match members_of(tasks, callers, members, is_same) {
             Ok(so_far) => so_far,
             Err(why) => return Some(why),
         };
         let action = left.take_last(&mut spare);
-        let (place, more) = run_line(
-            rt, gate, held, &mut spare, tasks, places, so_far, last, turn.by, action,
+        let likely = seat.wrapping_sub(first);
+        members = run_line(
+            rt, gate, held, &mut spare, tasks, places, so_far, likely, turn.by, action,
         );
-        last = place;
-        members = more;
         left.give_back();
     }
     first_stop(&tasks[..members], callers)
@@ -85,9 +88,8 @@ fn members_of<L: Ledger>(
     }
 }
 
-// Runs a processor's line, whose task may stand at the place `last`. Tells where it stands now, and how many
-// of the first tasks had a line in this phase. The line asks for this action, or there was no memory to take
-// that out.
+// Runs a processor's line, whose task may stand at the place `likely`. Tells how many of the first tasks had a
+// line in this phase. The line asks for this action, or there was no memory to take that out.
 fn run_line<L: Ledger, R: Wait, G: Gate>(
     rt: &R,
     gate: &G,
@@ -96,30 +98,26 @@ fn run_line<L: Ledger, R: Wait, G: Gate>(
     tasks: &mut [Task<L>],
     places: &mut Places,
     members: usize,
-    last: usize,
+    likely: usize,
     by: Caller,
     action: Result<Action<Global>, AllocError>,
-) -> (usize, usize)
+) -> usize
     requires different { AreDifferent (callers_in tasks.old) }
     requires named { Contains (callers_in tasks.old) by }
     requires index { Tells places.old (callers_in tasks.old) }
     requires within { members ≤ length tasks.old }
     requires going { AreGoingFrom members tasks.old }
-    ensures within { result.1 ≤ length tasks.new }
-    ensures going { AreGoingFrom result.1 tasks.new }
+    ensures within { result ≤ length tasks.new }
+    ensures going { AreGoingFrom result tasks.new }
     ensures index { Tells places.new (callers_in tasks.new) }
     ensures callers { IsPermutation (callers_in tasks.old) (callers_in tasks.new) }
     ensures run { (ran : List (Line Global)) (line : Line Global) → by ≡ line.by
         → IfOk action (λ action. action ≡ line.action) → All (IsAfter ran) tasks.old
         → All (IsAfter (ran ++ line ∷ [])) tasks.new }
 {
-    let place = enlist(tasks, places, members, last, by);
+    let place = enlist(tasks, places, members, likely, by);
     do_next(rt, gate, held, spare, &mut tasks[place], action);
-    if place < members {
-        (place, members)
-    } else {
-        (place, place + 1)
-    }
+    if place < members { members } else { place + 1 }
 }
 
 // Lets a task's processor do one thing, unless it was stopped. Where the host refuses an event of it, or

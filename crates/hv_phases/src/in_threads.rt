@@ -71,13 +71,13 @@ fn hand_out<L: Ledger>(
     ensures idle { IfOk result (λ members. (members ≤ length tasks.new) × AreIdleFrom members tasks.new) }
 {
     let mut spare = Vec::new(*left.allocator());
+    let seat = left.seat();
     let action = left.take_last(&mut spare)?;
-    let (mut last, mut members) = give(tasks, places, 0, 0, first.by, action)?;
+    let mut members = give(tasks, places, 0, 0, first.by, action)?;
     while let Some(turn) = next_of(left, first.phase) {
+        let likely = left.seat().wrapping_sub(seat);
         let action = left.take_last(&mut spare)?;
-        let (place, more) = give(tasks, places, members, last, turn.by, action)?;
-        last = place;
-        members = more;
+        members = give(tasks, places, members, likely, turn.by, action)?;
     }
     Ok(members)
 }
@@ -98,16 +98,16 @@ fn next_of(left: &Lines<Global>, phase: u32) -> Option<Turn>
     }
 }
 
-// Hands what a processor's line asks for to its task, which may stand at the place `last`. Tells where it
-// stands now, and how many of the first tasks have something to do.
+// Hands what a processor's line asks for to its task, which may stand at the place `likely`. Tells how many of
+// the first tasks have something to do.
 fn give<L: Ledger>(
     tasks: &mut [Task<L>],
     places: &mut Places,
     members: usize,
-    last: usize,
+    likely: usize,
     by: Caller,
     action: Action<Global>,
-) -> Result<(usize, usize), AllocError>
+) -> Result<usize, AllocError>
     requires different { AreDifferent (callers_in tasks.old) }
     requires named { Contains (callers_in tasks.old) by }
     requires within { members ≤ length tasks.old }
@@ -116,14 +116,14 @@ fn give<L: Ledger>(
     ensures index { OnOk result (Tells places.new (callers_in tasks.new)) }
     ensures given { OnOk result ((line : Line Global) → by ≡ line.by → action ≡ line.action
         → HasGiven line tasks.old tasks.new) }
-    ensures idle { IfOk result (λ told. (told.1 ≤ length tasks.new) × AreIdleFrom told.1 tasks.new) }
+    ensures idle { IfOk result (λ told. (told ≤ length tasks.new) × AreIdleFrom told tasks.new) }
 {
-    let place = enlist(tasks, places, members, last, by);
+    let place = enlist(tasks, places, members, likely, by);
     push_action(&mut tasks[place], action)?;
     if place < members {
-        Ok((place, members))
+        Ok(members)
     } else {
-        Ok((place, place + 1))
+        Ok(place + 1)
     }
 }
 

@@ -187,13 +187,13 @@ fn move_to(places: &mut Places, by: Caller, place: usize)
 
 /// Brings the task of a processor to the place `members`, unless it stands before that, and tells where it
 /// stands: before that place stand the processors of the phase that had a line, in the order of their first
-/// lines. It is looked for first at the place `last`, since a processor mostly goes on.
+/// lines. It is looked for first at the place `likely`.
 #[inline(always)]
 pub fn enlist<L: Ledger>(
     tasks: &mut [Task<L>],
     places: &mut Places,
     members: usize,
-    last: usize,
+    likely: usize,
     by: Caller,
 ) -> usize
     requires there { Contains (callers_in tasks.old) by }
@@ -207,8 +207,8 @@ pub fn enlist<L: Ledger>(
     ensures going { AreGoingFrom members tasks.old → (i : ℕ) (d : Task L) → members ≤ i → result < i
         → i < length tasks.new → IsGoing (slice_index_or tasks.new i d) }
 {
-    if last < members && is_at(tasks, last, by) {
-        return last;
+    if likely < members && is_at(tasks, likely, by) {
+        return likely;
     }
     bring(tasks, places, members, by)
 }

@@ -75,6 +75,16 @@ impl<A: Allocator> Lines<A> {
         Some(self.turn(len - 1))
     }
 
+    /// Where the last line's turn stands among all turns, or 0 where there is no line. The processors of a phase
+    /// stand behind one another there, in the order of their first lines.
+    #[inline(always)]
+    pub fn seat(&self) -> usize {
+        match self.places.last() {
+            Some(place) => *place as usize,
+            None => 0,
+        }
+    }
+
     /// Adds a line at the end, with a copy of its action. Its turn is looked for first at the place `likely`
     /// among the turns. For want of memory nothing changes.
     #[inline(always)]
