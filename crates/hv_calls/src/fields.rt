@@ -32,6 +32,7 @@ pub fn u16_at<A: Allocator>(frame: &Frame<A>, shape: &Shape, at: usize) -> u16
 }
 
 // The `N` bytes at a place.
+#[inline(always)]
 fn bytes_at<A: Allocator, const N: usize>(frame: &Frame<A>, shape: &Shape, at: usize) -> [u8; N]
     requires place { at < 2 ^ 33 }
     requires few { N < 9 }
@@ -39,12 +40,25 @@ fn bytes_at<A: Allocator, const N: usize>(frame: &Frame<A>, shape: &Shape, at: u
     ensures bytes { (k : ℕ) → k < N → slice_index result k
         ≡ slice_index (input_of frame.now shape.now.fast) (at + k) }
 {
-    let mut bytes = [0; N];
     let input = frame.input.as_slice();
-    if !shape.fast && at + N <= input.len() {
-        bytes.copy_from_slice(&input[at..at + N]);
-        return bytes;
+    if shape.fast || at + N > input.len() {
+        return each_byte_at(frame, shape, at);
     }
+    let mut bytes = [0; N];
+    bytes.copy_from_slice(&input[at..at + N]);
+    bytes
+}
+
+// The same, byte by byte. Not inlined, since most fields stand whole in an input list.
+#[inline(never)]
+fn each_byte_at<A: Allocator, const N: usize>(frame: &Frame<A>, shape: &Shape, at: usize) -> [u8; N]
+    requires place { at < 2 ^ 33 }
+    requires few { N < 9 }
+    ensures len { length result ≡ N }
+    ensures bytes { (k : ℕ) → k < N → slice_index result k
+        ≡ slice_index (input_of frame.now shape.now.fast) (at + k) }
+{
+    let mut bytes = [0; N];
     for i in 0..N {
         bytes[i] = frame.byte(shape, at + i);
     }

@@ -14,7 +14,7 @@ use std::alloc::Allocator;
 pub(crate) fn lend<T, A: Allocator>(
     root: &mut Node<T, A>,
     index: &Index<A>,
-    ways: &Ways,
+    ways: &mut Ways,
     lender: &mut u64,
     lent: &mut Option<T>,
     id: u64,
@@ -33,6 +33,8 @@ pub(crate) fn lend<T, A: Allocator>(
     }
     settle(root, index, ways, *lender, lent);
     exchange(root, index, ways, id, lent);
+    // On its way back no way has to be looked for.
+    ways.note_lent(id);
     *lender = id;
 }
 

@@ -130,11 +130,11 @@ impl<T, A: Allocator> IdTree<T, A> {
     }
 
     /// Notes the way to a node, so that look-ups of it go straight down, until one or two others are noted or
-    /// the tree changes on that way. It changes no answer.
+    /// a node is taken out. It changes no answer.
     pub fn note(&mut self, id: u64)
         ensures { self.new ≡ self.old }
     {
-        if seek_noted(&self.root, &self.ways, id).is_none() {
+        if self.ways.noted(id).is_none() && id != self.root.id() {
             let way = way_to(&self.root, &self.index, id);
             self.ways.note_often(way);
         }
@@ -144,7 +144,7 @@ impl<T, A: Allocator> IdTree<T, A> {
     pub fn note_child(&mut self, parent: u64, id: u64)
         ensures { self.new ≡ self.old }
     {
-        if seek_noted(&self.root, &self.ways, id).is_some() {
+        if self.ways.noted(id).is_some() {
             return;
         }
         let Some(node) = seek_noted(&self.root, &self.ways, parent) else {
@@ -194,7 +194,7 @@ impl<T: Drop, A: Allocator> IdTree<T, A> {
         lend(
             &mut self.root,
             &self.index,
-            &self.ways,
+            &mut self.ways,
             &mut self.lender,
             &mut self.lent,
             id,
@@ -244,6 +244,7 @@ impl<T: Drop, A: Allocator> IdTree<T, A> {
         }
         let content = self.root.remove(&self.index, id)?;
         forget(&mut self.index, id);
+        self.ways.forget();
         self.count -= 1;
         match content {
             Some(content) => Some(content),

@@ -2,16 +2,18 @@
 ghost use Rattle.std.specs.Prelude.{◌<◌};
 ghost use Rattle.hv_tree.specs.declared.ways.TheConstants.{OFTEN};
 
-/// The ways down to some nodes, as they were when they were noted.
+/// The ways down to some nodes. All are forgotten when a node is taken out, which moves the steps to others; a
+/// new node has the highest id of all, mostly, and moves none.
 ///
-/// A look-up goes the noted way first. Where that doesn't come to the node, as when the tree has changed
-/// since, it goes the long way, with the same answer. So they save time, and nothing that is promised rests
-/// on them.
+/// A look-up goes the noted way first. Where that doesn't come to the node it goes the long way, with the same
+/// answer. So they save time, and nothing that is promised rests on them.
 #[derive(Drop)]
 pub(crate) struct Ways {
     // By the lowest bits of the ids.
     often: [Way; OFTEN],
     last: Way,
+    // To the node whose content is lent, to which it goes back.
+    lent: Way,
 }
 
 /// Which child to go on with, from the root on.
@@ -32,6 +34,7 @@ impl Ways {
         Ways {
             often: [Way::new(0); OFTEN],
             last: Way::new(0),
+            lent: Way::new(0),
         }
     }
 
@@ -43,7 +46,7 @@ impl Ways {
         }
     }
 
-    fn noted(&self, id: u64) -> Option<&Way> {
+    pub(crate) fn noted(&self, id: u64) -> Option<&Way> {
         let often = &self.often[place_of(id)];
         if often.id == id {
             return Some(often);
@@ -51,11 +54,22 @@ impl Ways {
         if self.last.id == id {
             return Some(&self.last);
         }
+        if self.lent.id == id {
+            return Some(&self.lent);
+        }
         None
     }
 
+    /// Notes a way, unless it has no steps, as the root's.
     pub(crate) fn note_often(&mut self, way: Way) {
-        self.often[place_of(way.id)] = way;
+        if 0 < way.count {
+            self.often[place_of(way.id)] = way;
+        }
+    }
+
+    /// Forgets all ways.
+    pub(crate) fn forget(&mut self) {
+        *self = Ways::new();
     }
 
     /// Notes the way to a child: that to its parent, if there is one, and a step more.
@@ -67,6 +81,13 @@ impl Ways {
         way.id = id;
         way.push(at);
         self.last = way;
+    }
+
+    /// Notes the way to a node, if there is one, until the content of another is lent.
+    pub(crate) fn note_lent(&mut self, id: u64) {
+        if let Some(way) = self.noted(id) {
+            self.lent = *way;
+        }
     }
 }
 

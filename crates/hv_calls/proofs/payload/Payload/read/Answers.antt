@@ -1,4 +1,4 @@
-use Rattle.std.proofs.Common.{◌≡◌, ℕ, ◌+◌, ap, ◌∙◌, arith}
+use Rattle.std.proofs.Common.{◌≡◌, ◌+◌, ap, ◌∙◌, arith}
 use Rattle.hv_abi.specs.Check.{input_of}
 use Rattle.hv_calls.specs.Bytes.{bytes_at}
 use Rattle.hv_calls.proofs.Copies.{bytes_at-drop}
