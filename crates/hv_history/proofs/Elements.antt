@@ -3,18 +3,26 @@ use Rattle.std.proofs.Common.{◌≡◌, ℕ, ◌+◌, ◌<◌, ◌≢◌, List,
 use Rattle.hv_abi.specs.declared.frame.Frame.{Frame}
 use Rattle.hv_defs.specs.declared.sizes.TheConstants.{REPS_END}
 use Rattle.hv_policy.specs.Next.{GoesOn}
+use Rattle.hv_policy.specs.Parts.{reply_of}
 use Rattle.hv_policy.specs.Result.{HasResult}
 use Rattle.hv_policy.specs.Step.{NamesAsked}
+use Rattle.hv_policy.specs.declared.answer.Answer.{Answer}
 use Rattle.hv_policy.specs.declared.event.Action.TheVariants.{Hypercall}
 use Rattle.hv_policy.specs.declared.event.Caller.{Caller}
 use Rattle.hv_policy.specs.declared.event.Event.{Event}
 use Rattle.hv_policy.specs.declared.reply.Reply.{Reply}
-use Rattle.hv_policy.specs.declared.reply.Reply.TheVariants.{More}
+use Rattle.hv_policy.specs.declared.reply.Reply.TheVariants.{Served, More, Denied, Fault}
 use Rattle.hv_history.specs.History.{IsOfLastCall}
-use Rattle.hv_history.specs.Kept.{HasGained, Kept}
+use Rattle.hv_history.specs.Kept.{HasGained, HasTaken, Kept}
 use Rattle.hv_history.specs.Row.{IsCall, common_of}
-use Rattle.hv_history.specs.Run.{AreElements, GoesOnAt, HasRun, HasStopped, IsMore, element, restart, start_of}
+use Rattle.hv_history.specs.Run.{AreElements, GoesOnAt, HasBegun, HasFinished, HasRun, HasRunFor, HasStopped, IsMore, IsRunning, element, restart, start_of}
 use Rattle.hv_history.specs.declared.entry.Entry.{Entry}
+
+pub has_index_at : (n : ℕ) (reply : Reply) → GoesOnAt n reply → n < REPS_END
+has_index_at n (More next output) is = is.1
+has_index_at n (Served output) is = absurd is
+has_index_at n (Denied rule status reps) is = absurd is
+has_index_at n (Fault rule) is = absurd is
 
 module _ {A : Type 0} where
   -- one element more
@@ -50,11 +58,6 @@ module _ {A : Type 0} where
   goes_after now next output reply is goes =
       let on = subst (GoesOn (Hypercall now)) is goes in
       (subst (GoesOnAt (start_of now + 1)) (sym is) (on.0, (let less = on.1 in let same = on.0 in omega arith)), on.0, on.1)
-
-  -- the elements so far are all answered that the call goes on, and this event is the next
-  pub record IsRunning (by : Caller) (frame : Frame A) (event : Event A) (events most : ℕ) (old now : Kept A) : Type 0 where
-    pub so_far : HasStopped by frame events most old now
-    pub event_is : event ≡ element by so_far.now
 
   pub begins : (by : Caller) (frame : Frame A) (most : ℕ) (k : Kept A) → 0 < most → IsRunning by frame (element by frame) 0 most k k
   begins by frame most k some =
@@ -124,3 +127,104 @@ module _ {A : Type 0} where
                 ∙ ap (λ (c : Caller). element c (restart is.so_far.now next)) (ap (λ (e : Event A). e.by) is.event_is)
                 ∙ ap (λ (n : ℕ). element by (restart is.so_far.now n)) at.1;
           }
+
+    module _ (answer : Answer) (new : Kept A) (taken : HasTaken event now new)
+        (told : (before : List (Entry A)) (last : Entry A) → new.history ≡ before ++ last ∷ [] → (output : List ℕ) × (last.reply ≡ reply_of answer output)) where
+      -- the reply that has this answer
+      reply_is : (output : List ℕ) × (taken.reply ≡ reply_of answer output)
+      reply_is = told now.history (record { event = event; reply = taken.reply }) taken.gained.history
+
+      gained : HasGained event (reply_of answer reply_is.0) now new
+      gained = subst (λ (r : Reply). HasGained event r now new) reply_is.1 taken.gained
+
+      -- it was the last
+      pub ended : (count : ℕ) → count ≡ events + 1 → (count < most → (output : List ℕ) → IsMore (reply_of answer output) → ⊥) → HasRunFor by frame event answer count most old new
+      unfolding ran
+      ended count counted ends =
+          record {
+            output = reply_is.0;
+            run = ran (reply_of answer reply_is.0) new gained count counted (λ fewer. ends fewer reply_is.0) (subst (NamesAsked event) reply_is.1 taken.asked)
+                (λ f is_call. subst HasResult reply_is.1 (taken.result f is_call));
+            event_is = is.event_is;
+          }
+
+      module _ (next : ℕ) (more : (output : List ℕ) → reply_of answer output ≡ More next output) where
+        goes : GoesOn event.what (reply_of answer reply_is.0)
+        goes = subst (GoesOn event.what) reply_is.1 taken.next
+
+        -- the next element has an index
+        pub index : next < REPS_END
+        index = (goes_after is.so_far.now next reply_is.0 (reply_of answer reply_is.0) (more reply_is.0) (subst (λ (e : Event A). GoesOn e.what (reply_of answer reply_is.0)) is.event_is goes)).2
+
+        -- the call goes on
+        pub goes_on : (later : Event A) (count : ℕ) → count ≡ events + 1 → count ≢ most → ((f : Frame A) → event.what ≡ Hypercall f → later ≡ element event.by (restart f next)) → IsRunning by frame later count most old new
+        goes_on later count counted fewer then = runs_on (reply_of answer reply_is.0) new gained next reply_is.0 later count counted fewer (more reply_is.0) goes then
+
+  -- a start index that is written is read
+  pub start_restart : (frame : Frame A) (n : ℕ) → n < REPS_END → start_of (restart frame n) ≡ n
+  start_restart frame n less = omega arith
+
+  -- the start index grows by one an element
+  pub as_many : (by : Caller) (frame : Frame A) (es : List (Entry A)) (now : Frame A) → AreElements by frame es now → length es + start_of frame ≡ start_of now
+  as_many by frame [] now is = let same = ap start_of is in omega arith
+  as_many by frame (e ∷ es) now is =
+      let rest = as_many by (restart frame (start_of frame + 1)) es now is.2 in
+      let here = start_restart frame (start_of frame + 1) (has_index_at (start_of frame + 1) e.reply is.1) in
+      omega arith
+
+  start_below : (frame : Frame A) → start_of frame < REPS_END
+  start_below frame = omega arith
+
+  -- an event that asks for this frame is a call
+  pub is_call : (by : Caller) (frame : Frame A) (event : Event A) → event ≡ element by frame → IsCall event.what
+  is_call by frame event is = subst (λ (e : Event A). IsCall e.what) (sym is) tt
+
+  -- so many elements are all
+  pub finished : (by : Caller) (frame last : Frame A) (event : Event A) (answer : Answer) (events most : ℕ) (old new : Kept A) → HasRunFor by frame event answer events most old new → REPS_END < most
+      → ((f : Frame A) → event.what ≡ Hypercall f → last ≡ f) → HasFinished by frame last old new
+  finished by frame last event answer events most old new did all last_is =
+      let run = did.run in
+      let many = as_many by frame run.before run.last run.elements in
+      let low = start_below run.last in
+      let count = run.count in
+      subst (λ (f : Frame A). HasFinished by frame f old new) (sym (last_is run.last (ap (λ (e : Event A). e.what) did.event_is)))
+      (record {
+        before = run.before;
+        reply = reply_of answer did.output;
+        elements = run.elements;
+        history = run.history;
+        config = run.config;
+        limit = run.limit;
+        ends = run.ends (omega arith);
+      })
+
+  -- the host refused the next
+  pub begun : (by : Caller) (frame now : Frame A) (event : Event A) (events most : ℕ) (old new : Kept A) → IsRunning by frame event events most old new
+      → ((f : Frame A) → event.what ≡ Hypercall f → now ≡ f) → HasBegun by frame now old new
+  begun by frame now event events most old new is now_is =
+      let so = is.so_far in
+      subst (λ (f : Frame A). HasBegun by frame f old new) (sym (now_is so.now (ap (λ (e : Event A). e.what) is.event_is)))
+      (record { before = so.before; elements = so.elements; history = so.history; config = so.config; limit = so.limit })
+
+  -- the reply to the last of them
+  pub ran_with : (by : Caller) (frame : Frame A) (event : Event A) (answer : Answer) (events most : ℕ) (old new : Kept A) → HasRunFor by frame event answer events most old new
+      → (reply : Reply) → ((before : List (Entry A)) (last : Entry A) → new.history ≡ before ++ last ∷ [] → reply ≡ last.reply) → HasRun by frame reply events most old new
+  ran_with by frame event answer events most old new did reply told =
+      let run = did.run in
+      let entry : Entry A = record { event = element by run.last; reply = reply_of answer did.output } in
+      subst (λ (r : Reply). HasRun by frame r events most old new) (sym (told (old.history ++ run.before) entry (run.history ∙ sym (append_assoc old.history run.before (entry ∷ []))))) run
+
+  -- after any of them there is a last one
+  pub some_last : (by : Caller) (frame : Frame A) (event : Event A) (answer : Answer) (events most : ℕ) (old new : Kept A) → HasRunFor by frame event answer events most old new → 0 < length new.history
+  some_last by frame event answer events most old new did =
+      let run = did.run in
+      let entry : Entry A = record { event = element by run.last; reply = reply_of answer did.output } in
+      let n = ap length run.history in
+      omega (arith, n, length-append old.history (run.before ++ entry ∷ []), length-append run.before (entry ∷ []))
+
+  -- and so there is after an event that was taken
+  pub some_taken : (event : Event A) (old new : Kept A) → HasTaken event old new → 0 < length new.history
+  some_taken event old new taken =
+      let entry : Entry A = record { event = event; reply = taken.reply } in
+      let n = ap length taken.gained.history in
+      omega (arith, n, length-append old.history (entry ∷ []))

@@ -3,8 +3,10 @@ use Rattle.std.specs.Prelude.{ℕ, ◌≡◌, ◌+◌, ◌≤◌, ◌<◌, List,
 use Rattle.hv_abi.specs.InputValue.{input_value, restarted}
 use Rattle.hv_abi.specs.declared.frame.Frame.{Frame}
 use Rattle.hv_defs.specs.declared.sizes.TheConstants.{REPS_END}
+use Rattle.hv_policy.specs.Parts.{reply_of}
 use Rattle.hv_policy.specs.Result.{HasResult}
 use Rattle.hv_policy.specs.Step.{NamesAsked}
+use Rattle.hv_policy.specs.declared.answer.Answer.{Answer}
 use Rattle.hv_policy.specs.declared.event.Action.TheVariants.{Hypercall}
 use Rattle.hv_policy.specs.declared.event.Caller.{Caller}
 use Rattle.hv_policy.specs.declared.event.Event.{Event}
@@ -73,3 +75,34 @@ pub record HasStopped {A : Type 0} (by : Caller) (frame : Frame A) (events most 
   pub limit : new.limit ≡ old.limit
   pub count : events ≡ length before
   pub within : events < most
+
+-- so far the elements of a call are all answered that it goes on, fewer than there may be, and this event asks for the next
+pub record IsRunning {A : Type 0} (by : Caller) (frame : Frame A) (event : Event A) (events most : ℕ) (old now : Kept A) : Type 0 where
+  pub so_far : HasStopped by frame events most old now
+  pub event_is : event ≡ element by so_far.now
+
+-- the history has so many elements of a call more, the last of which is this event and has a reply of this answer
+pub record HasRunFor {A : Type 0} (by : Caller) (frame : Frame A) (event : Event A) (answer : Answer) (events most : ℕ) (old new : Kept A) : Type 0 where
+  pub output : List ℕ
+  pub run : HasRun by frame (reply_of answer output) events most old new
+  pub event_is : event ≡ element by run.last
+
+-- The history has the elements of a call more from this frame on, in order, to its end: all but the last, that of the frame
+-- `last`, are answered that the call goes on, and the last is not.
+pub record HasFinished {A : Type 0} (by : Caller) (frame last : Frame A) (old new : Kept A) : Type 0 where
+  pub before : List (Entry A)
+  pub reply : Reply
+  pub elements : AreElements by frame before last
+  pub history : new.history ≡ old.history ++ (before ++ record { event = element by last; reply = reply } ∷ [])
+  pub config : new.config ≡ old.config
+  pub limit : new.limit ≡ old.limit
+  pub ends : IsMore reply → ⊥
+
+-- The history has elements of a call more from this frame on, in order, all of which are answered that the call goes on. The
+-- next would be that of the frame `now`.
+pub record HasBegun {A : Type 0} (by : Caller) (frame now : Frame A) (old new : Kept A) : Type 0 where
+  pub before : List (Entry A)
+  pub elements : AreElements by frame before now
+  pub history : new.history ≡ old.history ++ before
+  pub config : new.config ≡ old.config
+  pub limit : new.limit ≡ old.limit

@@ -104,34 +104,14 @@ impl<A: Allocator + Clone> Kept<A> {
             → IfOk result (λ r. HasResult r.1) }
         ensures next { IfOk result (λ r. GoesOn event.now.what r.1) }
     {
-        self.apply_element(event, false)
-    }
-
-    // The same, for an event that may be known to go on with the last event's call.
-    pub(crate) fn apply_element(
-        &mut self,
-        event: &Event<A>,
-        goes_on: bool,
-    ) -> Result<(u64, Reply), HostRefused>
-        requires { IsTrue goes_on → IsOfLastCall event.now self.old.history }
-        ensures applied { IfOk result (λ r. HasGained event.now r.1 self.old self.new) }
-        ensures number { IfOk result (λ r. r.0 ≡ length self.new.history) }
-        ensures run { IsRun self.new }
-        ensures full { IsErrOf result HostRefused.HistoryFull ↔ (length self.old.history ≡ self.old.limit) }
-        ensures refused { OnErr result (self.new ≡ self.old) }
-        ensures asked { IfOk result (λ r. NamesAsked event.now r.1) }
-        ensures result { (frame : Frame A) → event.now.what ≡ Hypercall frame
-            → IfOk result (λ r. HasResult r.1) }
-        ensures next { IfOk result (λ r. GoesOn event.now.what r.1) }
-    {
-        match self.take(event, goes_on) {
+        match self.take(event, false) {
             Ok(number) => Ok((number, self.last_reply())),
             Err(why) => Err(why),
         }
     }
 
     // The reply to the last event.
-    fn last_reply(&self) -> Reply
+    pub(crate) fn last_reply(&self) -> Reply
         requires { 0 < length self.now.history }
         ensures { (before : List (Entry A)) (last : Entry A) → self.now.history ≡ before ++ last ∷ []
             → result ≡ last.reply }
@@ -139,6 +119,16 @@ impl<A: Allocator + Clone> Kept<A> {
         let entry = self.history.entry(self.history.len() - 1);
         let output = entry.output.to_output();
         Reply::of(entry.answer, output.as_slice())
+    }
+
+    // How the last event was answered.
+    #[inline(always)]
+    pub(crate) fn last_answer(&self) -> Answer
+        requires { 0 < length self.now.history }
+        ensures { (before : List (Entry A)) (last : Entry A) → self.now.history ≡ before ++ last ∷ []
+            → (output : List ℕ) × (last.reply ≡ reply_of result output) }
+    {
+        self.history.entry(self.history.len() - 1).answer
     }
 
     /// Lets an event happen as [`Kept::apply`] does, and answers its number alone: its reply stands in the

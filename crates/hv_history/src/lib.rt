@@ -21,4 +21,4 @@ pub use hv_machine::{Answer, HostRefused};
 pub use kept::{Kept, answer_of};
 pub use output::OutputRef;
 pub use row::History;
-pub use run::{RunDone, at_element};
+pub use run::{RunDone, at_element, frame_of, next_of};

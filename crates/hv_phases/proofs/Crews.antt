@@ -14,20 +14,18 @@ use Rattle.std.proofs.lemmas.Map.Made.{AllPairs-from_IsDistinct, IsDistinct-from
 use Rattle.std.specs.declared.alloc.Global.{Global}
 use Rattle.hv_policy.specs.declared.event.Action.{Action}
 use Rattle.hv_policy.specs.declared.event.Caller.{Caller}
-use Rattle.hv_phases.specs.Crew.{AreCallersOf, AreGoingFrom, AreIdleFrom, HasGiven, HasRun, IsAfter, IsGiven, IsGoing, callers_in}
+use Rattle.hv_phases.specs.Crew.{AreCallersOf, AreGoingFrom, AreIdleFrom, HasGiven, HasRun, IsGiven, IsGoing, callers_in}
 use Rattle.hv_phases.specs.Lines.{asked_by}
 use Rattle.hv_phases.proofs.Asked.{asked_by-append, asked_by_other, asked_by_own, whole-append}
 use Rattle.hv_script.specs.declared.line.Line.{Line}
 use Rattle.hv_shared.proofs.Callers.{is_itself, same_caller}
 use Rattle.hv_shared.specs.ByCaller.{AreDifferent, is_caller}
-use Rattle.hv_shared.specs.PassValue.{PassValue}
-use Rattle.hv_shared.specs.Perform.{AreWhole, HasPerformed}
+use Rattle.hv_shared.specs.Perform.{AreWhole}
 use Rattle.hv_threads.specs.Phase.{IsDoneAt}
 use Rattle.hv_shared.specs.declared.receipts.Receipt.{Receipt}
 use Rattle.hv_threads.specs.declared.phase.End.TheVariants.{Finished}
 use Rattle.hv_threads.specs.declared.phase.Task.{Task}
 use Rattle.std.specs.Bool.{Decides}
-use Rattle.hv_threads.proofs.Working.{whole-push}
 use Rattle.hv_threads.specs.Phase.{HasEnded}
 use Rattle.hv_threads.specs.declared.phase.End.{End}
 
@@ -113,35 +111,6 @@ module _ {L : Type 0} (whose : Caller) (old mid : List (Task L)) (p : ℕ) (t e 
         ∙ sym (asked_by-append (get_or mid i d).work.pass.caller taken (line ∷ [])));
   }
 
-  -- one line more was run, unless the host stopped its processor
-  pub ran_one : (line : Line Global) → whose ≡ line.by → (t.end ≡ Finished → ((get_or mid p e).end ≡ Finished) × HasPerformed line.action (get_or mid p e).work.pass t.work.pass)
-      → t.work.actions ≡ (get_or mid p e).work.actions
-      → (ran : List (Line Global)) → All (IsAfter ran) old → All (IsAfter (ran ++ line ∷ [])) (set mid p t)
-  ran_one line is performed actions_are ran all =
-      let here = All-permutation (IsAfter ran) old mid moved all in
-      each (IsAfter (ran ++ line ∷ []))
-      (record {
-        run = λ going. ran_more (get_or mid p e).work.pass t.work.pass ran (at e ∙ is) ((here p e there).run (performed going).0) (performed going).1;
-        idle = actions_are ∙ (here p e there).idle;
-      })
-      (λ i d h apart. record {
-        run = λ going. ran_other (get_or mid i d).work.pass ran (others line is i d h apart) ((here i d h).run going);
-        idle = (here i d h).idle;
-      })
-    where
-      ran_other : (pass : PassValue) (ran : List (Line Global)) → (line.by ≡ pass.caller → ⊥) → HasRun ran pass → HasRun (ran ++ line ∷ []) pass
-      ran_other pass ran apart whole =
-          subst (λ (acts : List (Action Global)). AreWhole pass.caller acts pass.receipts)
-          (sym (asked_by-append pass.caller ran (line ∷ []) ∙ ap (λ (acts : List (Action Global)). asked_by pass.caller ran ++ acts) (asked_by_other pass.caller line apart) ∙ append-nil (asked_by pass.caller ran))) whole
-
-      ran_more : (pass new : PassValue) (ran : List (Line Global)) → pass.caller ≡ line.by → HasRun ran pass → HasPerformed line.action pass new → HasRun (ran ++ line ∷ []) new
-      ran_more pass new ran own whole performed =
-          subst (λ (c : Caller). AreWhole c (asked_by c (ran ++ line ∷ [])) new.receipts) (sym performed.gained.caller)
-          (subst (λ (rs : List Receipt). AreWhole pass.caller (asked_by pass.caller (ran ++ line ∷ [])) rs) (sym performed.gained.receipts)
-          (subst (λ (acts : List (Action Global)). AreWhole pass.caller acts (pass.receipts ++ performed.more))
-          (sym (asked_by-append pass.caller ran (line ∷ []) ∙ ap (λ (acts : List (Action Global)). asked_by pass.caller ran ++ acts) (asked_by_own pass.caller line (sym own))))
-          (whole-push pass.caller (asked_by pass.caller ran) pass.receipts line.action performed.more whole performed.whole)))
-
 -- what a thread did that the host didn't stop
 did_all : {L : Type 0} (old new : Task L) (ran taken : List (Line Global)) → IsDoneAt old new → new.end ≡ Finished → HasRun ran old.work.pass → IsGiven taken old → HasRun (ran ++ taken) new.work.pass
 did_all {L} old new ran taken did going whole given =
@@ -221,9 +190,3 @@ module _ {L : Type 0} (old new : List (Task L)) (members : ℕ) (long : length n
   pub going_after : members ≤ length old → All IsGoing old → All IsGoing (take members new) → All IsGoing new
   going_after within going front =
       going_all new members (omega arith) front (λ i d most there. subst (λ (x : Task L). IsGoing x) (sym (rest i d most (omega arith))) (going i d (omega arith)))
-
--- the task at a place before these did something
-pub going_set : {L : Type 0} (tasks : List (Task L)) (p members : ℕ) (t : Task L) → p < members → ((i : ℕ) (d : Task L) → members ≤ i → i < length tasks → IsGoing (get_or tasks i d))
-    → AreGoingFrom members (set tasks p t)
-going_set {L} tasks p members t before going i d most there =
-    subst (λ (x : Task L). IsGoing x) (sym (get_or-set_other tasks p i t d (λ is. omega arith))) (going i d most (let s = length-set tasks p t in omega arith))

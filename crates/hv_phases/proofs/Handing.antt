@@ -8,7 +8,7 @@ use Rattle.std.proofs.lemmas.List.Elements.{All-cons, All-head, All-map, All-nil
 use Rattle.std.proofs.lemmas.List.Sorted.{All-permutation, Contains-permutation, IsPermutation-map, IsPermutation-reverse, IsPermutation-sym, IsPermutation-trans}
 use Rattle.std.specs.declared.alloc.Global.{Global}
 use Rattle.hv_policy.specs.declared.event.Caller.{Caller}
-use Rattle.hv_phases.specs.Crew.{AreCallersOf, AreIdleFrom, AreReady, HasGiven, HasHandedOut, HasRun, HaveRun, IsAfter, IsGoing, callers_in, passes_in}
+use Rattle.hv_phases.specs.Crew.{AreCallersOf, AreIdleFrom, AreReady, HasGiven, HasHandedOut, HasRun, HaveRun, IsGoing, callers_in, passes_in}
 use Rattle.hv_phases.specs.Lines.{IsNextTurn}
 use Rattle.hv_phases.proofs.Crews.{callers_permuted, ran_phase, idle_after, same_callers}
 use Rattle.hv_script.specs.declared.line.Line.{Line}
@@ -17,14 +17,7 @@ use Rattle.hv_shared.specs.PassValue.{PassValue}
 use Rattle.hv_threads.specs.Phase.{IsDoneAt}
 use Rattle.hv_threads.specs.declared.phase.Task.{Task}
 
--- these lines were run in order; the others are left, the first of them last
-pub record IsInOrder {L : Type 0} (lines left : List (Line Global)) (tasks : List (Task L)) : Type 0 where
-  pub ran : List (Line Global)
-  pub order : ran ++ reverse left ≡ lines
-  pub callers : AreCallersOf lines (callers_in tasks)
-  pub after : All (IsAfter ran) tasks
-
--- the same between two phases, where the host stopped nobody
+-- between two phases these lines were run, in order, the others are left, the first of them last, and the host stopped nobody
 pub record IsBetween {L : Type 0} (lines left : List (Line Global)) (tasks : List (Task L)) : Type 0 where
   pub ran : List (Line Global)
   pub order : ran ++ reverse left ≡ lines
@@ -56,7 +49,7 @@ All-unreversed : {X : Type 0} (P : X → Type 0) (xs : List X) → All P (revers
 All-unreversed P xs all = All-permutation P (reverse xs) xs (IsPermutation-sym xs (reverse xs) (IsPermutation-reverse xs)) all
 
 -- the next line is the last of those that are left
-next : (lines ran left rest : List (Line Global)) (line : Line Global) → ran ++ reverse left ≡ lines → left ≡ rest ++ line ∷ [] → (ran ++ line ∷ []) ++ reverse rest ≡ lines
+pub next : (lines ran left rest : List (Line Global)) (line : Line Global) → ran ++ reverse left ≡ lines → left ≡ rest ++ line ∷ [] → (ran ++ line ∷ []) ++ reverse rest ≡ lines
 next lines ran left rest line order is =
     append_assoc ran (line ∷ []) (reverse rest) ∙ ap (λ (ls : List (Line Global)). ran ++ ls) (sym (reverse-append rest (line ∷ [])) ∙ ap reverse (sym is)) ∙ order
 
@@ -83,15 +76,6 @@ named_left lines ran left callers order crew =
     All-unreversed (λ (l : Line Global). Contains callers l.by) left
     (All-second (λ (l : Line Global). Contains callers l.by) ran (reverse left) (subst (All (λ (l : Line Global). Contains callers l.by)) (sym order) crew.named))
 
-pub in_order_first : {L : Type 0} (lines left : List (Line Global)) (tasks : List (Task L)) → reverse left ≡ lines → AreReady lines tasks → IsInOrder lines left tasks
-in_order_first lines left tasks is ready =
-    record { ran = []; order = is; callers = ready.callers; after = λ i d h. record { run = λ going. ready.run i d h; idle = ready.idle i d (omega arith) h } }
-
-pub in_order_more : {L : Type 0} (lines left rest : List (Line Global)) (line : Line Global) (old new : List (Task L)) → (at : IsInOrder lines left old) → left ≡ rest ++ line ∷ []
-    → IsPermutation (callers_in old) (callers_in new) → ((ran : List (Line Global)) → All (IsAfter ran) old → All (IsAfter (ran ++ line ∷ [])) new) → IsInOrder lines rest new
-in_order_more lines left rest line old new at is moved run =
-    record { ran = at.ran ++ line ∷ []; order = next lines at.ran left rest line at.order is; callers = callers_permuted lines _ _ moved at.callers; after = run at.ran at.after }
-
 -- the callers of the passes of tasks
 callers_of_passes : {L : Type 0} (tasks : List (Task L)) → map (λ (p : PassValue). p.caller) (passes_in tasks) ≡ callers_in tasks
 callers_of_passes [] = refl
@@ -105,13 +89,8 @@ have_run lines tasks callers all =
     record { callers = subst (AreCallersOf lines) (sym (callers_of_passes tasks)) callers; run = ran_passes lines tasks all }
 
 -- all lines were run
-all_ran : (lines ran left : List (Line Global)) → ran ++ reverse left ≡ lines → left ≡ [] → ran ≡ lines
+pub all_ran : (lines ran left : List (Line Global)) → ran ++ reverse left ≡ lines → left ≡ [] → ran ≡ lines
 all_ran lines ran left order none = sym (append-nil ran) ∙ ap (λ (ls : List (Line Global)). ran ++ reverse ls) (sym none) ∙ order
-
-pub in_order_ends : {L : Type 0} (lines left : List (Line Global)) (tasks : List (Task L)) → IsInOrder lines left tasks → left ≡ [] → All IsGoing tasks → HaveRun lines (passes_in tasks)
-in_order_ends lines left tasks at none going =
-    have_run lines tasks at.callers
-    (λ i d h. subst (λ (ls : List (Line Global)). HasRun ls (get_or tasks i d).work.pass) (all_ran lines at.ran left at.order none) ((at.after i d h).run (going i d h)))
 
 pub between_ends : {L : Type 0} (lines left : List (Line Global)) (tasks : List (Task L)) → IsBetween lines left tasks → left ≡ [] → HaveRun lines (passes_in tasks)
 between_ends lines left tasks at none =

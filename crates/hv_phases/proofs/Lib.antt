@@ -1,3 +1,4 @@
+pub mod Alone
 pub mod Asked
 pub mod Crews
 pub mod Handing

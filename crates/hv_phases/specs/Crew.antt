@@ -36,11 +36,6 @@ passes_in tasks = map (λ task. task.work.pass) tasks
 abbrev pub HasRun : List (Line Global) → PassValue → Type 0
 HasRun lines pass = AreWhole pass.caller (asked_by pass.caller lines) pass.receipts
 
--- the task's pass has run these lines, and nothing is left to do, unless the host stopped it
-pub record IsAfter {L : Type 0} (lines : List (Line Global)) (task : Task L) : Type 0 where
-  pub run : task.end ≡ Finished → HasRun lines task.work.pass
-  pub idle : task.work.actions ≡ []
-
 -- what is to be done next is what these lines ask for
 abbrev pub IsGiven : {L : Type 0} → List (Line Global) → Task L → Type 0
 IsGiven lines task = task.work.actions ≡ asked_by task.work.pass.caller lines

@@ -1,5 +1,5 @@
 // The processors of a script.
-ghost use Rattle.std.specs.Prelude.{◌≡◌, IfOk, IfSome, IsTrue, OnOk};
+ghost use Rattle.std.specs.Prelude.{◌≡◌, ◌<◌, IfOk, IsTrue, OnOk};
 ghost use Rattle.std.specs.List.{Contains};
 ghost use Rattle.hv_phases.specs.Crew.{AreCallersOf, HasCaller};
 ghost use Rattle.hv_phases.specs.Places.{IsIndexOf};
@@ -9,6 +9,9 @@ use hv_history::Expected;
 use hv_policy::Caller;
 use hv_script::{Extent, Lines};
 use std::alloc::{AllocError, Global};
+
+// A processor is looked for first where another was found that has the same number here.
+const GUESSES: usize = 256;
 
 /// The processors that lines name, each once, in the order of their first lines, and in the same order what is
 /// expected of each.
@@ -21,22 +24,54 @@ pub fn callers_of(
     let mut callers = Vec::new(alloc);
     let mut expected = Vec::new(alloc);
     let mut places = Places::new(alloc);
+    let mut guesses = [0; GUESSES];
     for i in 0..lines.len() {
-        let place = add(&mut callers, &mut places, lines.turn(i).by)?;
+        let place = add(&mut callers, &mut places, &mut guesses, lines.turn(i).by)?;
         expect(&mut expected, place, lines.extent(i))?;
     }
     Ok((callers, expected))
 }
 
 // Adds a processor, unless it is there, and tells where it stands.
-fn add(callers: &mut Vec<Caller>, places: &mut Places, by: Caller) -> Result<usize, AllocError>
+#[inline(always)]
+fn add(
+    callers: &mut Vec<Caller>,
+    places: &mut Places,
+    guesses: &mut [usize; GUESSES],
+    by: Caller,
+) -> Result<usize, AllocError>
     requires { IsIndexOf places.old callers.old.items }
     ensures added { OnOk result (HasCaller by callers.old.items callers.new.items) }
     ensures index { OnOk result (IsIndexOf places.new callers.new.items) }
 {
-    if let Some(place) = place_in_front(callers, by) {
-        return Ok(place);
+    let guess = guess_of(by);
+    let likely = guesses[guess];
+    if is_at(callers, likely, by) {
+        return Ok(likely);
     }
+    let place = find_or_add(callers, places, by)?;
+    guesses[guess] = place;
+    Ok(place)
+}
+
+// A number that few processors of a script share: those of two partitions, or one of each of many.
+fn guess_of(by: Caller) -> usize
+    ensures { result < GUESSES }
+{
+    (by.part.wrapping_mul(65).wrapping_add(u64::from(by.vp)) % GUESSES as u64) as usize
+}
+
+// The same by the index.
+#[inline(never)]
+fn find_or_add(
+    callers: &mut Vec<Caller>,
+    places: &mut Places,
+    by: Caller,
+) -> Result<usize, AllocError>
+    requires { IsIndexOf places.old callers.old.items }
+    ensures added { OnOk result (HasCaller by callers.old.items callers.new.items) }
+    ensures index { OnOk result (IsIndexOf places.new callers.new.items) }
+{
     if let Some(place) = place_in(places, by) {
         return Ok(place);
     }
@@ -44,19 +79,6 @@ fn add(callers: &mut Vec<Caller>, places: &mut Places, by: Caller) -> Result<usi
     note(places, by, place)?;
     callers.push(by)?;
     Ok(place)
-}
-
-// Where a processor stands, if that is the first place or the second, as in most scripts.
-fn place_in_front(callers: &[Caller], by: Caller) -> Option<usize>
-    ensures { IfSome result (λ _. Contains callers.now by) }
-{
-    if is_at(callers, 0, by) {
-        Some(0)
-    } else if is_at(callers, 1, by) {
-        Some(1)
-    } else {
-        None
-    }
 }
 
 // Whether a processor stands at a place.

@@ -29,9 +29,9 @@ pub enum Unfinished {
 }
 
 /// Runs the lines of a script on a machine to which nothing happened yet, each processor of a phase in a
-/// thread of its own, or with `serial` all in their order, with no thread and the lock taken once. Answers
-/// the machine with its history, and why it isn't a whole run of the lines, if it isn't. Where it is, each
-/// processor's events are those that its lines ask for, in their order (`lines`).
+/// thread of its own, or with `serial` all in their order, with no thread, lock or gate. Answers the machine
+/// with its history, and why it isn't a whole run of the lines, if it isn't. Where it is, each processor's
+/// events are those that its lines ask for, in their order (`lines`).
 pub fn run_lines<R: Threads + Wait + Sync, G: Gate>(
     rt: &R,
     gate: &G,
@@ -47,20 +47,36 @@ pub fn run_lines<R: Threads + Wait + Sync, G: Gate>(
     let Ok((callers, expected)) = callers_of(*lines.allocator(), &lines) else {
         return (kept, Some(Unfinished::Host(HostRefused::Memory)));
     };
+    if serial {
+        return run_alone(kept, &callers, &expected, lines);
+    }
     if callers.is_empty() {
         return (kept, None);
     }
     let parts = callers.len() as u64;
-    run_under::<Brand, R, G>(
-        rt,
-        gate,
-        kept,
-        Blank::new(parts),
-        callers,
-        &expected,
-        lines,
-        serial,
-    )
+    run_under::<Brand, R, G>(rt, gate, kept, Blank::new(parts), callers, &expected, lines)
+}
+
+// Runs the lines in their order, with no thread.
+fn run_alone(
+    kept: Kept<Global>,
+    callers: &[Caller],
+    expected: &[Expected],
+    lines: Lines<Global>,
+) -> (Kept<Global>, Option<Unfinished>)
+    requires { kept.history ≡ [] }
+    ensures config { IfNone result.1 (result.0.config ≡ kept.config) }
+    ensures limit { IfNone result.1 (result.0.limit ≡ kept.limit) }
+    ensures lines { IfNone result.1 (AreRun lines result.0.history) }
+{
+    let mut kept = kept;
+    if kept.expect(all_of(expected)).is_err() {
+        return (kept, Some(Unfinished::Host(HostRefused::Memory)));
+    }
+    match run_in_order(&mut kept, callers, lines) {
+        Some(why) => (kept, Some(Unfinished::Host(why))),
+        None => (kept, None),
+    }
 }
 
 // The same under one ledger.
@@ -72,7 +88,6 @@ fn run_under<L: Ledger + Send + Sync, R: Threads + Wait + Sync, G: Gate>(
     callers: Vec<Caller>,
     expected: &[Expected],
     lines: Lines<Global>,
-    serial: bool,
 ) -> (Kept<Global>, Option<Unfinished>)
     requires empty { kept.history ≡ [] }
     requires some { 0 < vec_len callers }
@@ -91,15 +106,7 @@ fn run_under<L: Ledger + Send + Sync, R: Threads + Wait + Sync, G: Gate>(
     }
     match Shared::<L>::new(kept, blank, callers, expected) {
         Ok((shared, mut passes)) => {
-            let stop = run_on(
-                rt,
-                gate,
-                &shared,
-                order.as_slice(),
-                &mut passes,
-                lines,
-                serial,
-            );
+            let stop = run_on(rt, gate, &shared, order.as_slice(), &mut passes, lines);
             finish(shared, passes, stop)
         }
         Err(kept) => (kept, Some(Unfinished::Host(HostRefused::Memory))),
@@ -144,7 +151,6 @@ fn run_on<L: Ledger + Send + Sync, R: Threads + Wait + Sync, G: Gate>(
     callers: &[Caller],
     passes: &mut Vec<Pass<L>>,
     lines: Lines<Global>,
-    serial: bool,
 ) -> Option<HostRefused>
     requires callers { AreCallersOf lines (map (λ pass. pass.caller) passes.old.items) }
     requires fresh { All (λ pass. pass.receipts ≡ []) passes.old.items }
@@ -153,28 +159,19 @@ fn run_on<L: Ledger + Send + Sync, R: Threads + Wait + Sync, G: Gate>(
     let Ok(mut tasks) = tasks_of(passes) else {
         return Some(HostRefused::Memory);
     };
-    let stop = run_either(
-        rt,
-        gate,
-        shared,
-        callers,
-        tasks.as_mut_slice(),
-        lines,
-        serial,
-    );
+    let stop = run_tasks_of(rt, gate, shared, callers, tasks.as_mut_slice(), lines);
     give_back(tasks, passes);
     stop
 }
 
-// Runs the lines in one of the two ways.
-fn run_either<L: Ledger + Send + Sync, R: Threads + Wait + Sync, G: Gate>(
+// Runs the lines on these tasks.
+fn run_tasks_of<L: Ledger + Send + Sync, R: Threads + Wait + Sync, G: Gate>(
     rt: &R,
     gate: &G,
     shared: &Shared<L>,
     callers: &[Caller],
     tasks: &mut [Task<L>],
     lines: Lines<Global>,
-    serial: bool,
 ) -> Option<HostRefused>
     requires { AreReady lines tasks.old }
     ensures { IfNone result (HaveRun lines (passes_in tasks.new)) }
@@ -182,11 +179,5 @@ fn run_either<L: Ledger + Send + Sync, R: Threads + Wait + Sync, G: Gate>(
     let Ok(mut places) = places_of(*lines.allocator(), tasks) else {
         return Some(HostRefused::Memory);
     };
-    if serial {
-        // Nobody else is there, so the lock is taken once for all lines.
-        let mut held = shared.lock(rt);
-        run_in_order(rt, gate, &mut held, callers, tasks, &mut places, lines)
-    } else {
-        run_in_threads(rt, gate, shared, callers, tasks, &mut places, lines)
-    }
+    run_in_threads(rt, gate, shared, callers, tasks, &mut places, lines)
 }

@@ -4,7 +4,7 @@ ghost use Rattle.std.specs.Prelude.{Some};
 ghost use Rattle.std.specs.Prelude.{length, map, reverse, slice_index_or, vec_capacity, vec_len};
 ghost use Rattle.std.specs.List.{Contains, SwappedAt};
 ghost use Rattle.std.specs.List.Sorted.{IsPermutation};
-ghost use Rattle.hv_phases.specs.Crew.{AreGoingFrom, AreIdleFrom, IsGoing, caller_of, callers_in, passes_in};
+ghost use Rattle.hv_phases.specs.Crew.{AreIdleFrom, IsGoing, caller_of, callers_in, passes_in};
 ghost use Rattle.hv_phases.specs.Places.{Tells, place_by};
 ghost use Rattle.hv_phases.specs.Stop.{IsEarlier, IsFirstStop, place_among};
 ghost use Rattle.hv_policy.specs.declared.event.Caller.{Caller};
@@ -99,8 +99,8 @@ fn stop_of<L: Ledger>(task: &Task<L>, callers: &[Caller]) -> Option<(usize, Host
     }
 }
 
-// The one of two stops that stands earlier.
-fn earlier(
+/// The one of two stops that stands earlier.
+pub fn earlier(
     one: Option<(usize, HostRefused)>,
     other: Option<(usize, HostRefused)>,
 ) -> Option<(usize, HostRefused)>
@@ -119,8 +119,8 @@ fn earlier(
     }
 }
 
-// How many of the callers stand before this one.
-fn place_among(callers: &[Caller], by: Caller) -> usize
+/// How many of the callers stand before this one.
+pub fn place_among(callers: &[Caller], by: Caller) -> usize
     ensures { result ≡ place_among by callers.now }
 {
     for i in 0..callers.len() {
@@ -204,8 +204,6 @@ pub fn enlist<L: Ledger>(
     ensures by { (d : Task L) → (slice_index_or tasks.new result d).work.pass.caller ≡ by }
     ensures idle { AreIdleFrom members tasks.old → (i : ℕ) (d : Task L) → members ≤ i → result < i
         → i < length tasks.new → (slice_index_or tasks.new i d).work.actions ≡ [] }
-    ensures going { AreGoingFrom members tasks.old → (i : ℕ) (d : Task L) → members ≤ i → result < i
-        → i < length tasks.new → IsGoing (slice_index_or tasks.new i d) }
 {
     if likely < members && is_at(tasks, likely, by) {
         return likely;
@@ -224,8 +222,6 @@ fn bring<L: Ledger>(tasks: &mut [Task<L>], places: &mut Places, members: usize, 
     ensures by { (d : Task L) → (slice_index_or tasks.new result d).work.pass.caller ≡ by }
     ensures idle { AreIdleFrom members tasks.old → (i : ℕ) (d : Task L) → members ≤ i → result < i
         → i < length tasks.new → (slice_index_or tasks.new i d).work.actions ≡ [] }
-    ensures going { AreGoingFrom members tasks.old → (i : ℕ) (d : Task L) → members ≤ i → result < i
-        → i < length tasks.new → IsGoing (slice_index_or tasks.new i d) }
 {
     let place = place_of(tasks, places, by);
     if place < members {

@@ -70,8 +70,8 @@ pub fn run_text<T: Threads + Wait + Sync, W: Write, E: Write>(
     run_gated(rt, alloc, script, options, &Open, out, err)
 }
 
-/// Runs a script as [`run_text`] does, with a gate that is told of each event before the machine's lock
-/// is taken and after the event's receipt is kept.
+/// Runs a script as [`run_text`] does, with a gate that is told of each hold before the machine's lock is
+/// taken and after the receipts are kept. With `--serial` there is no lock, and the gate is told nothing.
 pub fn run_gated<T: Threads + Wait + Sync, G: Gate, W: Write, E: Write>(
     rt: &T,
     alloc: Global,

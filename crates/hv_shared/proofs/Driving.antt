@@ -5,10 +5,9 @@ use Rattle.std.proofs.lemmas.List.{length-append, length-map, map-append}
 use Rattle.std.specs.declared.alloc.Global.{Global}
 use Rattle.hv_abi.specs.InputValue.{input_value}
 use Rattle.hv_abi.specs.declared.frame.Frame.{Frame}
-use Rattle.hv_defs.specs.declared.sizes.TheConstants.{REPS_END}
-use Rattle.hv_history.proofs.Elements.{of_last}
+use Rattle.hv_history.proofs.Elements.{as_many, of_last, start_restart}
 use Rattle.hv_history.specs.History.{IsOfLastCall}
-use Rattle.hv_history.specs.Run.{AreElements as AreAsked, GoesOnAt, IsMore, element, restart, start_of}
+use Rattle.hv_history.specs.Run.{AreElements as AreAsked, IsMore, element, restart, start_of}
 use Rattle.hv_history.specs.declared.entry.Entry.{Entry}
 use Rattle.hv_policy.specs.Next.{GoesOn}
 use Rattle.hv_policy.specs.Parts.{reply_of}
@@ -17,7 +16,7 @@ use Rattle.hv_policy.specs.declared.answer.Answer.{Answer}
 use Rattle.hv_policy.specs.declared.event.Action.TheVariants.{Hypercall}
 use Rattle.hv_policy.specs.declared.event.Caller.{Caller}
 use Rattle.hv_policy.specs.declared.reply.Reply.{Reply}
-use Rattle.hv_policy.specs.declared.reply.Reply.TheVariants.{Served, More, Denied, Fault}
+use Rattle.hv_policy.specs.declared.reply.Reply.TheVariants.{More}
 use Rattle.hv_shared.specs.Drive.{AreElements, HasDriven, HasFinished, HasStopped, IsWholeCall, entry_in}
 use Rattle.hv_shared.specs.HeldValue.{HeldValue}
 use Rattle.hv_shared.specs.Hold.{HasHeldFor, HasHeldUpTo}
@@ -34,23 +33,9 @@ asked-append by frame mid now (e ∷ es) more is then = (is.0, is.1, asked-appen
 pub append : (by : Caller) (frame mid now : Frame Global) (rs more : List Receipt) → AreElements by frame rs mid → AreElements by mid more now → AreElements by frame (rs ++ more) now
 append by frame mid now rs more is then = rw (map-append entry_in rs more) (asked-append by frame mid now (map entry_in rs) (map entry_in more) is then)
 
--- a start index that is written is read
-start_restart : (frame : Frame Global) (n : ℕ) → n < REPS_END → start_of (restart frame n) ≡ n
-start_restart frame n less = omega arith
-
-has_index : (n : ℕ) (reply : Reply) → GoesOnAt n reply → n < REPS_END
-has_index n (More next output) is = is.1
-has_index n (Served output) is = absurd is
-has_index n (Denied rule status reps) is = absurd is
-has_index n (Fault rule) is = absurd is
-
 -- elements don't go back
 onward-asked : (by : Caller) (frame now : Frame Global) (es : List (Entry Global)) → AreAsked by frame es now → start_of frame ≤ start_of now
-onward-asked by frame now [] is = let same = ap start_of is in omega arith
-onward-asked by frame now (e ∷ es) is =
-    let rest = onward-asked by (restart frame (start_of frame + 1)) now es is.2 in
-    let here = start_restart frame (start_of frame + 1) (has_index (start_of frame + 1) e.reply is.1) in
-    omega arith
+onward-asked by frame now es is = let many = as_many by frame es now is in omega arith
 
 -- the same receipts more, where the room alone changed before
 from_before : (more : List Receipt) (old mid new : PassValue) → IsAsBefore old mid → HasReceipts more mid new → HasReceipts more old new

@@ -8,44 +8,24 @@ ghost use Rattle.hv_shared.specs.Drive.{entry_in};
 ghost use Rattle.hv_shared.specs.Pass.{HasCalled, IsAsBefore};
 ghost use Rattle.hv_shared.specs.Perform.{HasBegun, HasPerformed};
 
-use crate::drive::{finish, next_of};
+use crate::drive::finish;
 use crate::gate::Gate;
 use crate::held::Pass;
-use crate::keeper::{Keeper, ask, happen};
 use crate::shared::Shared;
 use hv_abi::Frame;
-use hv_history::HostRefused;
+use hv_history::{HostRefused, next_of};
 use hv_policy::{Action, Event};
 use std::alloc::Global;
 use std::sync::Wait;
 use std::sync::ledger::Ledger;
 
 /// Lets one action come to its end: a hypercall element by element, up to 16 of them while the lock is
-/// taken once, anything else as one event.
+/// taken once, anything else as one event. Gives back the frame of a call's last element, whose memory may be
+/// used again.
 #[inline(always)]
 pub fn perform<L: Ledger, R: Wait, G: Gate>(
     rt: &R,
     shared: &Shared<L>,
-    gate: &G,
-    pass: &mut Pass<L>,
-    action: Action<Global>,
-) -> Result<(), HostRefused>
-    ensures performed { OnOk result (HasPerformed action pass.old pass.new) }
-    ensures refused { OnErr result (HasBegun action pass.old pass.new) }
-{
-    let mut keeper = shared;
-    match perform_by(rt, &mut keeper, gate, pass, action) {
-        Ok(_) => Ok(()),
-        Err(why) => Err(why),
-    }
-}
-
-/// Lets one action come to its end as [`perform`] does, by a lock or by what is in it, and gives back the
-/// frame of a call's last element, whose memory may be used again.
-#[inline(always)]
-pub fn perform_by<L: Ledger, K: Keeper<L>, R: Wait, G: Gate>(
-    rt: &R,
-    keeper: &mut K,
     gate: &G,
     pass: &mut Pass<L>,
     action: Action<Global>,
@@ -54,9 +34,9 @@ pub fn perform_by<L: Ledger, K: Keeper<L>, R: Wait, G: Gate>(
     ensures refused { OnErr result (HasBegun action pass.old pass.new) }
 {
     match action {
-        Action::Hypercall(frame) => match ask(keeper, rt, pass, gate, frame, false) {
+        Action::Hypercall(frame) => match shared.ask(rt, pass, gate, frame, false) {
             Ok((last, answer)) => match next_of(answer) {
-                Some(next) => go_on(rt, keeper, gate, pass, last.with_start(next)),
+                Some(next) => go_on(rt, shared, gate, pass, last.with_start(next)),
                 None => Ok(Some(last)),
             },
             Err(refused) => Err(refused.why),
@@ -67,7 +47,7 @@ pub fn perform_by<L: Ledger, K: Keeper<L>, R: Wait, G: Gate>(
         | Action::ClearSlot(_)
         | Action::ReadFlags(_)
         | Action::ClearFlag(_, _)
-        | Action::TakeInterrupt => match access(rt, keeper, gate, pass, action) {
+        | Action::TakeInterrupt => match access(rt, shared, gate, pass, action) {
             Ok(()) => Ok(None),
             Err(why) => Err(why),
         },
@@ -76,9 +56,9 @@ pub fn perform_by<L: Ledger, K: Keeper<L>, R: Wait, G: Gate>(
 
 // Lets one thing happen that isn't a hypercall.
 #[inline(never)]
-fn access<L: Ledger, K: Keeper<L>, R: Wait, G: Gate>(
+fn access<L: Ledger, R: Wait, G: Gate>(
     rt: &R,
-    keeper: &mut K,
+    shared: &Shared<L>,
     gate: &G,
     pass: &mut Pass<L>,
     what: Action<Global>,
@@ -87,7 +67,7 @@ fn access<L: Ledger, K: Keeper<L>, R: Wait, G: Gate>(
     ensures refused { OnErr result (IsAsBefore pass.old pass.new) }
 {
     let by = pass.caller();
-    match happen(keeper, rt, pass, gate, &Event { by, what }) {
+    match shared.happen(rt, pass, gate, &Event { by, what }) {
         Ok(_) => Ok(()),
         Err(why) => Err(why),
     }
@@ -95,9 +75,9 @@ fn access<L: Ledger, K: Keeper<L>, R: Wait, G: Gate>(
 
 // Lets the other elements of a rep call come to their end, after those of which the pass's last receipt is.
 #[inline(never)]
-fn go_on<L: Ledger, K: Keeper<L>, R: Wait, G: Gate>(
+fn go_on<L: Ledger, R: Wait, G: Gate>(
     rt: &R,
-    keeper: &mut K,
+    shared: &Shared<L>,
     gate: &G,
     pass: &mut Pass<L>,
     frame: Frame<Global>,
@@ -106,7 +86,7 @@ fn go_on<L: Ledger, K: Keeper<L>, R: Wait, G: Gate>(
     ensures performed { OnOk result (HasPerformed (Hypercall frame) pass.old pass.new) }
     ensures refused { OnErr result (HasBegun (Hypercall frame) pass.old pass.new) }
 {
-    match finish(keeper, rt, pass, gate, frame, true) {
+    match finish(shared, rt, pass, gate, frame, true) {
         Ok(last) => Ok(Some(last)),
         Err(refused) => Err(refused.why),
     }

@@ -8,10 +8,9 @@ ghost use Rattle.hv_shared.specs.Drive.{HasDriven, HasFinished, HasStopped, entr
 
 use crate::gate::Gate;
 use crate::held::Pass;
-use crate::keeper::{Keeper, ask};
 use crate::shared::Shared;
 use hv_abi::{Frame, InputValue, ResultValue};
-use hv_history::{Answer, HostRefused};
+use hv_history::{HostRefused, next_of};
 use hv_policy::{Reply, result_of};
 use std::alloc::Global;
 use std::sync::Wait;
@@ -23,17 +22,6 @@ use std::sync::ledger::Ledger;
 pub struct DriveRefused {
     pub why: HostRefused,
     pub next: u16,
-}
-
-// The element with which a call goes on after this answer.
-pub(crate) fn next_of(answer: Answer) -> Option<u16>
-    ensures some { IfSome result (λ next. (output : List ℕ) → reply_of answer output ≡ More next output) }
-    ensures none { IfNone result ((output : List ℕ) → IsMore (reply_of answer output) → ⊥) }
-{
-    match answer {
-        Answer::More { next } => Some(next),
-        Answer::Served | Answer::Denied { .. } | Answer::Fault { .. } => None,
-    }
 }
 
 // The most elements of a call for which the lock is taken once.
@@ -76,8 +64,7 @@ impl<L: Ledger> Shared<L> {
         ensures driven { IfOk result (λ r. HasDriven frame r.0 r.1 pass.old pass.new) }
         ensures refused { IfErr result (λ e. HasStopped frame e.next pass.old pass.new) }
     {
-        let mut keeper = self;
-        let last = finish(&mut keeper, rt, pass, gate, frame, false)?;
+        let last = finish(self, rt, pass, gate, frame, false)?;
         let reply = pass.last_reply();
         Ok((result_of(&last, &reply), reply))
     }
@@ -85,8 +72,8 @@ impl<L: Ledger> Shared<L> {
 
 // Drives a hypercall to its end, and gives back the frame of its last element. The replies stand in the
 // receipts. `is_told` says that the pass's last receipt is known to be of this call.
-pub(crate) fn finish<L: Ledger, K: Keeper<L>, R: Wait, G: Gate>(
-    keeper: &mut K,
+pub(crate) fn finish<L: Ledger, R: Wait, G: Gate>(
+    shared: &Shared<L>,
     rt: &R,
     pass: &mut Pass<L>,
     gate: &G,
@@ -98,10 +85,10 @@ pub(crate) fn finish<L: Ledger, K: Keeper<L>, R: Wait, G: Gate>(
     ensures finished { IfOk result (λ last. HasFinished frame last pass.old pass.new) }
     ensures refused { IfErr result (λ e. HasStopped frame e.next pass.old pass.new) }
 {
-    let (mut last, mut answer) = ask(keeper, rt, pass, gate, frame, is_told)?;
+    let (mut last, mut answer) = shared.ask(rt, pass, gate, frame, is_told)?;
     while let Some(next) = next_of(answer) {
         let later = last.with_start(next);
-        let (asked, told) = ask(keeper, rt, pass, gate, later, true)?;
+        let (asked, told) = shared.ask(rt, pass, gate, later, true)?;
         last = asked;
         answer = told;
     }

@@ -10,25 +10,12 @@ ghost use Rattle.hv_shared.specs.Drive.{entry_in};
 ghost use Rattle.hv_shared.specs.Hold.{HasHeldFor, HasHeldPart, HasHeldRun, HasHeldUpTo};
 ghost use Rattle.hv_shared.specs.Room.{HasRoom};
 
-use crate::drive::next_of;
 use crate::held::{Held, Pass};
 use hv_abi::Frame;
-use hv_history::{Answer, HostRefused, RunDone, at_element};
+use hv_history::{Answer, HostRefused, RunDone, at_element, frame_of, next_of};
 use hv_policy::{Action, Event};
 use std::alloc::Global;
 use std::sync::ledger::Ledger;
-
-// The frame of a call.
-#[inline(always)]
-pub(crate) fn frame_of(event: Event<Global>) -> Frame<Global>
-    requires { IsCall event.what }
-    ensures { (frame : Frame Global) → event.what ≡ Hypercall frame → result ≡ frame }
-{
-    let Action::Hypercall(frame) = event.what else {
-        unreachable!()
-    };
-    frame
-}
 
 impl<L: Ledger> Held<L> {
     // Lets the elements of a call happen from the frame's start index on, and keeps their receipts. It

@@ -1,22 +1,28 @@
 // The one lock.
-ghost use Rattle.std.specs.Prelude.{◌≡◌, ◌<◌, [], IfOk, IfErr, OnErr, vec_len};
+ghost use Rattle.std.specs.Prelude.{◌≡◌, ◌<◌, [], IfOk, IfErr, IsTrue, OnErr, map, vec_len};
+ghost use Rattle.hv_abi.specs.InputValue.{input_value};
 ghost use Rattle.hv_abi.specs.declared.frame.Frame.{Frame};
+ghost use Rattle.hv_history.specs.History.{IsOfLastCall};
+ghost use Rattle.hv_history.specs.Run.{element};
 ghost use Rattle.hv_policy.specs.Next.{GoesOn};
 ghost use Rattle.hv_policy.specs.Result.{HasResult};
 ghost use Rattle.hv_policy.specs.declared.event.Action.TheVariants.{Hypercall};
+ghost use Rattle.hv_shared.specs.Drive.{HasStopped, entry_in};
 ghost use Rattle.hv_shared.specs.Pass.{HasCalled, IsAsBefore};
+ghost use Rattle.hv_shared.specs.Room.{HasRoom};
 ghost use Rattle.hv_shared.specs.Shared.{AreOpened};
+ghost use Rattle.hv_shared.specs.Told.{IsAsked, IsTold};
 
+use crate::drive::{DriveRefused, elements_in_a_hold};
 use crate::gate::Gate;
 use crate::held::{Held, Pass};
-use crate::keeper::{Keeper, happen};
-use hv_abi::Frame;
-use hv_history::{Answer, Expected, HostRefused, Kept};
+use hv_abi::{Frame, InputValue};
+use hv_history::{Answer, Expected, HostRefused, Kept, frame_of};
 use hv_policy::{Action, Caller, Config, Event, Reply};
 use std::alloc::Global;
 use std::marker::Model;
 use std::sync::ledger::{Blank, Ledger};
-use std::sync::{Mutex, MutexGuard, Wait};
+use std::sync::{Mutex, Wait};
 
 /// A lock round a machine with its history, and beside it how many passes there are and with what the
 /// history was begun.
@@ -88,16 +94,10 @@ impl<L: Ledger> Shared<L> {
         ensures next { IfOk result (λ r. GoesOn what r) }
     {
         let by = pass.caller();
-        let mut keeper = self;
-        match happen(&mut keeper, rt, pass, gate, &Event { by, what }) {
+        match self.happen(rt, pass, gate, &Event { by, what }) {
             Ok(_) => Ok(pass.last_reply()),
             Err(why) => Err(why),
         }
-    }
-
-    /// Takes the lock for as long as what this gives is there.
-    pub fn lock<R: Wait>(&self, rt: &R) -> MutexGuard<'_, Held<L>> {
-        self.held.lock(rt)
     }
 
     // What the lock held at last, how many passes there are, and with what the history was begun.
@@ -109,31 +109,131 @@ impl<L: Ledger> Shared<L> {
     {
         (self.held.into_inner(), self.passes, self.config, self.limit)
     }
-}
 
-// A lock that is taken for each hold.
-impl<'s, L: Ledger> Keeper<L> for &'s Shared<L> {
+    // Lets an event by the pass's caller happen, and keeps its receipt. Answers its reply without the output.
+    // Room for the receipt is made before the gate is asked.
+    #[inline(always)]
+    pub(crate) fn happen<R: Wait, G: Gate>(
+        &self,
+        rt: &R,
+        pass: &mut Pass<L>,
+        gate: &G,
+        event: &Event<Global>,
+    ) -> Result<Answer, HostRefused>
+        requires { event.now.by ≡ pass.old.caller }
+        ensures told { IfOk result (λ answer. IsTold event.now.what answer pass.old pass.new) }
+        ensures refused { OnErr result (IsAsBefore pass.old pass.new) }
+    {
+        if pass.reserve(event, 1).is_err() {
+            return Err(HostRefused::Memory);
+        }
+        let turn = pass.receipts().len() as u64;
+        gate.enter(rt, event.by, turn);
+        let answer = self.keep(rt, pass, event);
+        gate.leave(rt, event.by, turn);
+        answer
+    }
+
+    // Asks for the elements of a call from the frame's start index on, up to 16 of them, in one hold. Room for
+    // their receipts is made before the gate is asked. `is_told` says that the pass's last receipt is known to
+    // be of this call. Answers the frame of the last element, and its reply without the output.
+    #[inline(always)]
+    pub(crate) fn ask<R: Wait, G: Gate>(
+        &self,
+        rt: &R,
+        pass: &mut Pass<L>,
+        gate: &G,
+        frame: Frame<Global>,
+        is_told: bool,
+    ) -> Result<(Frame<Global>, Answer), DriveRefused>
+        requires { IsTrue is_told → IsOfLastCall (element pass.old.caller frame)
+            (map entry_in pass.old.receipts) }
+        ensures asked { IfOk result (λ r. IsAsked frame r.0 r.1 pass.old pass.new) }
+        ensures refused { IfErr result (λ e. HasStopped frame e.next pass.old pass.new) }
+    {
+        let by = pass.caller();
+        let most = elements_in_a_hold(frame.rcx);
+        let event = Event {
+            by,
+            what: Action::Hypercall(frame),
+        };
+        let room = pass.reserve(&event, most);
+        let frame = frame_of(event);
+        if room.is_err() {
+            return Err(DriveRefused {
+                why: HostRefused::Memory,
+                next: InputValue::read(frame.rcx).start,
+            });
+        }
+        self.ask_held(rt, pass, gate, frame, most, is_told)
+    }
+
+    // Asks for so many elements in one hold. There is room for their receipts.
+    #[inline(always)]
+    fn ask_held<R: Wait, G: Gate>(
+        &self,
+        rt: &R,
+        pass: &mut Pass<L>,
+        gate: &G,
+        frame: Frame<Global>,
+        most: u32,
+        is_told: bool,
+    ) -> Result<(Frame<Global>, Answer), DriveRefused>
+        requires some { 0 < most }
+        requires room { HasRoom most pass.old.room (element pass.old.caller frame) }
+        requires told { IsTrue is_told → IsOfLastCall (element pass.old.caller frame)
+            (map entry_in pass.old.receipts) }
+        ensures asked { IfOk result (λ r. IsAsked frame r.0 r.1 pass.old pass.new) }
+        ensures refused { IfErr result (λ e. HasStopped frame e.next pass.old pass.new) }
+    {
+        let by = pass.caller();
+        let turn = pass.receipts().len() as u64;
+        gate.enter(rt, by, turn);
+        let (last, told) = self.keep_run(rt, pass, frame, most, is_told);
+        gate.leave(rt, by, turn);
+        match told {
+            Ok(answer) => Ok((last, answer)),
+            Err(why) => Err(DriveRefused {
+                why,
+                next: InputValue::read(last.rcx).start,
+            }),
+        }
+    }
+
+    // Takes the lock for one event.
     #[inline(always)]
     fn keep<R: Wait>(
-        &mut self,
+        &self,
         rt: &R,
         pass: &mut Pass<L>,
         event: &Event<Global>,
-    ) -> Result<Answer, HostRefused> {
-        let shared = *self;
-        shared.held.lock(rt).take(pass, event, false, false)
+    ) -> Result<Answer, HostRefused>
+        requires by { event.now.by ≡ pass.old.caller }
+        requires room { HasRoom 1 pass.old.room event.now }
+        ensures told { IfOk result (λ answer. IsTold event.now.what answer pass.old pass.new) }
+        ensures refused { OnErr result (pass.new ≡ pass.old) }
+    {
+        self.held.lock(rt).take(pass, event, false, false)
     }
 
+    // Takes the lock for several elements of a call.
     #[inline(always)]
     fn keep_run<R: Wait>(
-        &mut self,
+        &self,
         rt: &R,
         pass: &mut Pass<L>,
         frame: Frame<Global>,
         most: u32,
         is_told: bool,
-    ) -> (Frame<Global>, Result<Answer, HostRefused>) {
-        let shared = *self;
-        shared.held.lock(rt).take_run(pass, frame, most, is_told)
+    ) -> (Frame<Global>, Result<Answer, HostRefused>)
+        requires some { 0 < most }
+        requires room { HasRoom most pass.old.room (element pass.old.caller frame) }
+        requires told { IsTrue is_told → IsOfLastCall (element pass.old.caller frame)
+            (map entry_in pass.old.receipts) }
+        ensures asked { IfOk result.1 (λ answer. IsAsked frame result.0 answer pass.old pass.new) }
+        ensures refused { OnErr result.1 (HasStopped frame (input_value result.0.rcx).start pass.old
+            pass.new) }
+    {
+        self.held.lock(rt).take_run(pass, frame, most, is_told)
     }
 }

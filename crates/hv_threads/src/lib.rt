@@ -8,8 +8,8 @@
 mod phase;
 
 pub use hv_shared::{
-    DriveRefused, Gate, Held, Keeper, Open, Pass, Receipt, ReceiptRef, Receipts, SettleFault,
+    DriveRefused, Gate, Held, Open, Pass, Receipt, ReceiptRef, Receipts, SettleFault,
     SettleRefused, Shared, a_merge_counts_each_number_once, each_caller_did_what_its_pass_has,
-    perform, perform_by, settle,
+    perform, settle,
 };
 pub use phase::{Done, End, PhaseRefused, Task, Work, run_phase, run_tasks};

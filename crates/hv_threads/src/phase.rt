@@ -6,7 +6,7 @@ ghost use Rattle.hv_threads.specs.declared.phase.Task.{Task};
 
 use hv_actions::{Actions, give_back};
 use hv_history::HostRefused;
-use hv_shared::{Gate, Pass, Shared, perform_by};
+use hv_shared::{Gate, Pass, Shared, perform};
 use std::alloc::Global;
 use std::sync::Wait;
 use std::sync::ledger::Ledger;
@@ -62,14 +62,13 @@ fn run_work<L: Ledger, R: Wait, G: Gate>(rt: &R, shared: &Shared<L>, gate: &G, t
     *done = 0;
     *end = End::Finished;
     actions.reverse();
-    let mut keeper = shared;
     let mut spare = Vec::new(*actions.allocator());
     for at in 0..actions.len() {
         let Ok(action) = actions.take_last(&mut spare) else {
             *end = End::Host(HostRefused::Memory);
             return;
         };
-        match perform_by(rt, &mut keeper, gate, pass, action) {
+        match perform(rt, shared, gate, pass, action) {
             Ok(last) => {
                 *done = at as u64 + 1;
                 if let Some(frame) = last {

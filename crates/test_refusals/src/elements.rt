@@ -100,7 +100,7 @@ pub(crate) fn try_perform<L: Ledger, R: Wait>(
     let before = pass.receipts().len();
     let action = Action::Hypercall(forty_reads(alloc)?);
     let refusal = match perform(rt, shared, &gate, pass, action) {
-        Ok(()) => {
+        Ok(_) => {
             gate.must_have(HOLDS)?;
             None
         }

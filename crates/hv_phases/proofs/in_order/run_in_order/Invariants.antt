@@ -1,16 +1,9 @@
-use Rattle.std.proofs.Common.{◌≤◌, length}
-use Rattle.hv_phases.specs.Crew.{AreGoingFrom, callers_in}
-use Rattle.hv_phases.specs.Places.{Tells}
-use Rattle.hv_phases.proofs.Handing.{IsInOrder}
+use Rattle.std.proofs.Common.{length}
+use Rattle.hv_phases.proofs.Alone.{IsAlone}
 use Rattle.hv_phases.proofs.in_order.run_in_order.Given as goal
 
 abbrev pub invariant-loop-turn : goal.invariant-loop-turn
-invariant-loop-turn g l = record {
-  order : IsInOrder l.fn.lines l.left l.tasks;
-  within : l.members ≤ length l.tasks;
-  going : AreGoingFrom l.members l.tasks;
-  index : Tells l.places (callers_in l.tasks);
-}
+invariant-loop-turn l = IsAlone l.fn.lines l.left l.stops.first l.fn.kept l.kept
 
 abbrev pub decreases-loop-turn : goal.decreases-loop-turn
-decreases-loop-turn g l = length l.left
+decreases-loop-turn l = length l.left

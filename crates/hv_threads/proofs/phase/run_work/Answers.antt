@@ -14,7 +14,7 @@ loop-at-preserved g c =
     let order = taken_out l.actions c.take_last.new.self c.in-Ok.action some c.in-Ok.ensures in
     let working = subst (λ (n : ℕ). IsWorking work l.pass n l.actions) i.done i.working in
     record {
-      working = goes_on work l.pass c.perform_by.new.pass l.at l.actions c.take_last.new.self c.in-Ok.action working order c.in-Ok-perform_by.ensures.performed;
+      working = goes_on work l.pass c.perform.new.pass l.at l.actions c.take_last.new.self c.in-Ok.action working order c.in-Ok-perform.ensures.performed;
       done = refl;
       left = omega (arith, i.left, ap length order, length-append c.take_last.new.self (c.in-Ok.action ∷ []));
       end = i.end;

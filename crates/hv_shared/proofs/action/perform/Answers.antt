@@ -5,7 +5,7 @@ use Rattle.hv_policy.specs.declared.event.Action.{Action}
 use Rattle.hv_shared.specs.Perform.{HasBegun, HasPerformed}
 use Rattle.hv_shared.proofs.Driving.{told_before}
 use Rattle.hv_shared.proofs.Performing.{performed_after, refused_after}
-use Rattle.hv_shared.proofs.action.perform_by.Goals as goal
+use Rattle.hv_shared.proofs.action.perform.Goals as goal
 
 pub returns-in-Some-clause-performed : goal.returns-in-Some-clause-performed
 returns-in-Some-clause-performed g c =
