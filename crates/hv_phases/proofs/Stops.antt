@@ -1,13 +1,15 @@
 -- The first of the processors that the host stopped.
-use Rattle.std.proofs.Common.{◌≡◌, ℕ, ◌+◌, ◌<◌, ◌≤◌, ◌⊎◌, inl, inr, List, length, get_or, Option, Some, None, Bool, nat_lt, refl, sym, ap, ◌∙◌, subst, arith, true, false}
+use Rattle.std.proofs.Common.{◌≡◌, ℕ, ◌+◌, ◌<◌, ◌≤◌, ◌⊎◌, inl, inr, List, [], ◌∷◌, ◌++◌, length, get_or, Option, Some, None, Bool, nat_lt, refl, sym, ap, ◌∙◌, subst, arith, true, false}
 use Rattle.std.specs.Prelude.{IfNone, IfSome, if◌then◌else◌}
-use Rattle.std.proofs.lemmas.Bool.{cases_lt, ltb-false, ltb-true}
+use Rattle.std.proofs.lemmas.Bool.{cases_lt, false≢true, ltb-false, ltb-true}
 use Rattle.std.proofs.lemmas.Option.{get_or_from_slice_get, slice_get-get_or}
 use borrow.Author.Count.{below_more}
 use Rattle.hv_machine.specs.declared.machine.HostRefused.{HostRefused}
 use Rattle.hv_policy.specs.declared.event.Caller.{Caller}
 use Rattle.hv_phases.specs.Crew.{IsGoing, caller_of}
 use Rattle.hv_phases.specs.Stop.{AreBehind, IsEarlier, IsFirstStop, place_among}
+use Rattle.hv_shared.proofs.Callers.{is_itself}
+use Rattle.hv_shared.specs.ByCaller.{is_caller}
 use Rattle.hv_threads.specs.declared.phase.End.TheVariants.{Host}
 use Rattle.hv_threads.specs.declared.phase.Task.{Task}
 
@@ -75,3 +77,26 @@ module _ {L : Type 0} (callers : List Caller) (count : ℕ) (tasks : List (Task 
       found_more first None new found (λ d. subst (λ (t : Task L). IsGoing t) (sym (here task less is d)) going) tt earlier
   found_next first (Some s) new task less is found going stopped earlier =
       found_more first (Some s) new found tt (λ d. subst (λ (t : Task L). (t.end ≡ Host s.1) × (s.0 ≡ place_among (caller_of t) callers)) (sym (here task less is d)) stopped) earlier
+
+-- a caller that is put behind others stands among them
+pub stands_last : (by : Caller) (xs : List Caller) → place_among by (xs ++ by ∷ []) < length (xs ++ by ∷ [])
+stands_last by [] = ap_less (is_caller by by) refl
+  where
+    ap_less : (t : Bool) → is_caller by by ≡ t → (if t then 0 else 0 + 1) < 1
+    ap_less true is = omega arith
+    ap_less false is = absurd (false≢true (sym is ∙ is_itself by by refl))
+stands_last by (x ∷ xs) = at (is_caller by x) (stands_last by xs)
+  where
+    at : (t : Bool) → place_among by (xs ++ by ∷ []) < length (xs ++ by ∷ []) → (if t then 0 else place_among by (xs ++ by ∷ []) + 1) < length (x ∷ xs ++ by ∷ [])
+    at true rest = omega arith
+    at false rest = omega arith
+
+-- and those that stood there before still do
+pub stand_still : (c : Caller) (xs ys : List Caller) → place_among c xs < length xs → place_among c (xs ++ ys) < length (xs ++ ys)
+stand_still c [] ys less = absurd (omega arith)
+stand_still c (x ∷ xs) ys less = at (is_caller c x) less (λ fewer. stand_still c xs ys fewer)
+  where
+    at : (t : Bool) → (if t then 0 else place_among c xs + 1) < length (x ∷ xs) → (place_among c xs < length xs → place_among c (xs ++ ys) < length (xs ++ ys))
+        → (if t then 0 else place_among c (xs ++ ys) + 1) < length (x ∷ xs ++ ys)
+    at true less rest = omega arith
+    at false less rest = let still = rest (omega arith) in omega arith

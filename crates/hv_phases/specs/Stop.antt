@@ -1,7 +1,8 @@
 -- Which of the processors that the host stopped is told.
-use Rattle.std.specs.Prelude.{ℕ, ◌≡◌, ◌≤◌, ◌<◌, ◌+◌, if◌then◌else◌, Option, None, Some, nat_lt, List, [], ◌∷◌, slice_index_or}
+use Rattle.std.specs.Prelude.{ℕ, ◌≡◌, ◌≤◌, ◌<◌, ◌+◌, ◌⊎◌, if◌then◌else◌, true, length, Option, None, Some, nat_lt, List, [], ◌∷◌, slice_index_or}
 use Rattle.hv_machine.specs.declared.machine.HostRefused.{HostRefused}
 use Rattle.hv_phases.specs.Crew.{IsGoing, caller_of}
+use Rattle.hv_phases.specs.declared.stopped.Stops.{Stops}
 use Rattle.hv_policy.specs.declared.event.Caller.{Caller}
 use Rattle.hv_shared.specs.ByCaller.{is_caller}
 use Rattle.hv_threads.specs.declared.phase.End.TheVariants.{Host}
@@ -31,3 +32,7 @@ abbrev pub IsEarlier : Option (ℕ × HostRefused) → Option (ℕ × HostRefuse
 IsEarlier None other result = result ≡ other
 IsEarlier (Some one) None result = result ≡ Some one
 IsEarlier (Some one) (Some other) result = result ≡ (if nat_lt other.0 one.0 then Some other else Some one)
+
+-- this processor was stopped, or all are taken to be
+abbrev pub IsStopped : Caller → Stops → Type 0
+IsStopped by stops = (stops.all ≡ true) ⊎ (place_among by stops.stopped.items < length stops.stopped.items)

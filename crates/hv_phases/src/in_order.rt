@@ -3,6 +3,7 @@ ghost use Rattle.std.specs.Prelude.{◌≡◌, [], None, IfNone, IfOk, OnOk};
 ghost use Rattle.std.specs.declared.alloc.Global.{Global};
 ghost use Rattle.hv_policy.specs.declared.event.Action.{Action};
 ghost use Rattle.hv_phases.specs.Lines.{AreRun, HasDone};
+ghost use Rattle.hv_phases.specs.Stop.{IsStopped};
 
 use crate::stopped::Stops;
 use hv_actions::give_back;
@@ -28,7 +29,7 @@ pub fn run_in_order(
     let mut left = lines;
     left.reverse();
     let mut spare = Vec::new(*left.allocator());
-    let mut stops = Stops::new();
+    let mut stops = Stops::new(*left.allocator());
     let mut phase = 0;
     while let Some(turn) = left.last() {
         if turn.phase != phase {
@@ -57,6 +58,7 @@ fn run_line(
 )
     ensures config { kept.new.config ≡ kept.old.config }
     ensures limit { kept.new.limit ≡ kept.old.limit }
+    ensures stopped { IsStopped by stops.old → (kept.new ≡ kept.old) × (stops.new ≡ stops.old) }
     ensures going { stops.new.first ≡ None → stops.old.first ≡ None }
     ensures done { (what : Action Global) → IfOk action (λ action. action ≡ what) → stops.new.first ≡ None
         → HasDone by what kept.old kept.new }

@@ -1,30 +1,34 @@
 // Which processors the host stopped, where they run one after the other.
-ghost use Rattle.std.specs.Prelude.{◌≡◌, ◌≤◌, None, IfNone, IsTrue, IsSome};
+ghost use Rattle.std.specs.Prelude.{◌≡◌, [], None, false, IfNone, IsTrue, IsSome, ◌↔◌};
 
 use crate::tasks::{earlier, place_among};
 use hv_history::HostRefused;
 use hv_policy::Caller;
-use hv_script::MOST_PROCESSORS;
+use std::alloc::Global;
 
 /// The processors that the host stopped in a phase, and why the first of them was stopped, in the order of the
 /// script's processors.
 #[derive(Drop)]
 pub struct Stops {
-    stopped: [Caller; MOST_PROCESSORS],
-    // How many of them there are. A phase has no more processors; were there more, none would go on.
-    count: usize,
+    stopped: Vec<Caller>,
+    // Whether all are taken to be stopped, since there was no memory to note one.
+    all: bool,
     // The place of the first among the script's processors, and why it was stopped.
-    pub(crate) first: Option<(usize, HostRefused)>,
+    first: Option<(usize, HostRefused)>,
+    ghost none: { first ≡ None → (all ≡ false) × (stopped.items ≡ []) },
 }
 
 impl Stops {
+    ghost use Rattle.hv_phases.specs.Stop.{IsStopped};
+    ghost use Rattle.hv_policy.specs.declared.event.Caller.{Caller};
+
     /// None was stopped yet.
-    pub fn new() -> Stops
+    pub fn new(alloc: Global) -> Stops
         ensures { result.first ≡ None }
     {
         Stops {
-            stopped: [Caller { part: 0, vp: 0 }; MOST_PROCESSORS],
-            count: 0,
+            stopped: Vec::new(alloc),
+            all: false,
             first: None,
         }
     }
@@ -43,28 +47,27 @@ impl Stops {
     /// Whether this processor was stopped.
     #[inline(always)]
     pub fn has(&self, by: Caller) -> bool
-        ensures { IsTrue result → IsSome self.now.first }
+        ensures stopped { IsTrue result ↔ IsStopped by self.now }
+        ensures first { IsTrue result → IsSome self.now.first }
     {
-        self.first.is_some() && self.names(by)
-    }
-
-    // Whether it stands among those that were stopped.
-    fn names(&self, by: Caller) -> bool {
-        match self.stopped.get(..self.count) {
-            Some(stopped) => stopped.contains(&by),
-            None => true,
+        if self.first.is_none() {
+            return false;
         }
+        self.all || place_among(&self.stopped, by) < self.stopped.len()
     }
 
     /// Notes that a processor, one of these callers, was stopped, and why.
     #[inline(never)]
     pub fn note(&mut self, callers: &[Caller], by: Caller, why: HostRefused)
-        ensures { IsSome self.new.first }
+        ensures first { IsSome self.new.first }
+        ensures stopped { IsStopped by self.new }
+        ensures others { (c : Caller) → IsStopped c self.old → IsStopped c self.new }
     {
-        self.first = earlier(self.first, Some((place_among(callers, by), why)));
-        if self.count < MOST_PROCESSORS {
-            self.stopped[self.count] = by;
+        let stop = Some((place_among(callers, by), why));
+        self.first = earlier(self.first, stop);
+        match self.stopped.push(by) {
+            Ok(()) => {}
+            Err(_) => self.all = true,
         }
-        self.count = self.count.saturating_add(1);
     }
 }
