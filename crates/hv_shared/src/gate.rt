@@ -6,7 +6,7 @@ use std::sync::Wait;
 /// Is told of each hold of the lock, in which one event happens or up to 16 elements of one call: before
 /// the lock is taken, and after the receipts are kept. The turn is the number of receipts that the
 /// caller's pass had before. Where there is no memory for the receipts, there is no hold, and neither is
-/// called. One thread that takes the lock once for all that it does tells of its holds, too.
+/// called.
 pub trait Gate: Sync {
     /// Is called before the lock is taken. What waits here holds the events back.
     fn enter<R: Wait>(&self, rt: &R, by: Caller, turn: u64);
