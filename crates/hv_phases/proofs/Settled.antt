@@ -8,7 +8,7 @@ use Rattle.std.specs.declared.alloc.Global.{Global}
 use Rattle.hv_history.specs.declared.entry.Entry.{Entry}
 use Rattle.hv_policy.specs.declared.event.Action.{Action}
 use Rattle.hv_policy.specs.declared.event.Caller.{Caller}
-use Rattle.hv_phases.specs.Crew.{AreCallersOf, HaveRun}
+use Rattle.hv_phases.specs.Crew.{HaveRun}
 use Rattle.hv_phases.specs.Lines.{AreRun, asked_by}
 use Rattle.hv_phases.proofs.Asked.{asked_by_none, whole_by}
 use Rattle.hv_script.specs.declared.line.Line.{Line}
@@ -74,9 +74,3 @@ module _ (lines : List (Line Global)) (passes : List PassValue) (history : List 
   -- each caller's entries are what its lines ask for
   pub settled : AreRun lines history
   settled c = by_caller c (is_among c callers)
-
--- where no line names a processor, nothing is run
-pub none_ran : (lines : List (Line Global)) (callers : List Caller) (history : List (Entry Global)) → AreCallersOf lines callers → length callers ≡ 0 → history ≡ [] → AreRun lines history
-none_ran lines callers history named none empty c =
-    subst (λ (es : List (Entry Global)). AreWhole c (asked_by c lines) (receipts_by c 1 es)) (sym empty)
-    (subst (λ (acts : List (Action Global)). AreWhole c acts []) (sym (asked_by_none c callers lines named.named (λ there. let h = there.1 in omega arith))) refl)

@@ -29,9 +29,9 @@ pub enum Unfinished {
 }
 
 /// Runs the lines of a script on a machine to which nothing happened yet, each processor of a phase in a
-/// thread of its own, or with `serial` all in their order, with no thread, lock or gate. Answers the machine
-/// with its history, and why it isn't a whole run of the lines, if it isn't. Where it is, each processor's
-/// events are those that its lines ask for, in their order (`lines`).
+/// thread of its own, or with `serial`, or where one processor has all lines, in their order, with no thread,
+/// lock or gate. Answers the machine with its history, and why it isn't a whole run of the lines, if it isn't.
+/// Where it is, each processor's events are those that its lines ask for, in their order (`lines`).
 pub fn run_lines<R: Threads + Wait + Sync, G: Gate>(
     rt: &R,
     gate: &G,
@@ -47,11 +47,9 @@ pub fn run_lines<R: Threads + Wait + Sync, G: Gate>(
     let Ok((callers, expected)) = callers_of(*lines.allocator(), &lines) else {
         return (kept, Some(Unfinished::Host(HostRefused::Memory)));
     };
-    if serial {
+    // One processor has nobody to run beside.
+    if serial || callers.len() < 2 {
         return run_alone(kept, &callers, &expected, lines);
-    }
-    if callers.is_empty() {
-        return (kept, None);
     }
     let parts = callers.len() as u64;
     run_under::<Brand, R, G>(rt, gate, kept, Blank::new(parts), callers, &expected, lines)

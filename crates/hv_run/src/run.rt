@@ -71,7 +71,8 @@ pub fn run_text<T: Threads + Wait + Sync, W: Write, E: Write>(
 }
 
 /// Runs a script as [`run_text`] does, with a gate that is told of each hold before the machine's lock is
-/// taken and after the receipts are kept. With `--serial` there is no lock, and the gate is told nothing.
+/// taken and after the receipts are kept. With `--serial`, or where one processor has all lines, there is no
+/// lock, and the gate is told nothing.
 pub fn run_gated<T: Threads + Wait + Sync, G: Gate, W: Write, E: Write>(
     rt: &T,
     alloc: Global,
