@@ -1,5 +1,5 @@
 -- Lines that one thread runs, one after the other.
-use Rattle.std.proofs.Common.{◌≡◌, ℕ, ◌+◌, List, [], ◌∷◌, ◌++◌, length, refl, sym, ap, ◌∙◌, subst, arith, append-nil, Bool, true, false, Option, None}
+use Rattle.std.proofs.Common.{◌≡◌, ℕ, ◌+◌, List, [], ◌∷◌, ◌++◌, length, refl, sym, ap, ◌∙◌, subst, arith, append-nil, append_assoc, length-append, Bool, true, false, Option, None}
 use Rattle.std.specs.Prelude.{map, reverse, All, if◌then◌else◌}
 use Rattle.std.proofs.lemmas.Bool.{false≢true}
 use Rattle.std.proofs.lemmas.List.Elements.{All-append, All-cons, All-head, All-nil, All-tail}
@@ -12,7 +12,7 @@ use Rattle.hv_machine.specs.declared.machine.HostRefused.{HostRefused}
 use Rattle.hv_policy.specs.declared.event.Action.{Action}
 use Rattle.hv_policy.specs.declared.event.Action.TheVariants.{Hypercall}
 use Rattle.hv_policy.specs.declared.event.Caller.{Caller}
-use Rattle.hv_phases.specs.Lines.{AreRun, HasDone, asked_by}
+use Rattle.hv_phases.specs.Lines.{AreInOrder, AreRun, HasDone, asked_by}
 use Rattle.hv_phases.proofs.Asked.{asked_by-append, asked_by_other, asked_by_own}
 use Rattle.hv_phases.proofs.Handing.{all_ran, next}
 use Rattle.hv_script.specs.declared.line.Line.{Line}
@@ -111,18 +111,34 @@ module _ (line : Line Global) (old new : Kept Global) (did : HasDone line.by lin
   run_more : AreRun (ran ++ line ∷ []) new.history
   run_more c = by_caller c (is_caller c line.by) refl
 
+-- what a line asks for is done behind what was done before
+order-push : (n : ℕ) (ran : List (Line Global)) (es : List (Entry Global)) (line : Line Global) (own : List (Entry Global)) → AreInOrder n ran es → All (IsBy line.by) own
+    → IsWhole line.by line.action (receipts_by line.by (n + length es) own) → AreInOrder n (ran ++ line ∷ []) (es ++ own)
+order-push n [] es line own none all whole =
+    let at : n + length es ≡ n = let e = ap length none in omega arith in
+    (own, [], ap (λ (l : List (Entry Global)). l ++ own) none ∙ sym (append-nil own), all, subst (λ (k : ℕ). IsWhole line.by line.action (receipts_by line.by k own)) at whole, refl)
+order-push n (x ∷ ran) es line own some all whole =
+    let at : n + length es ≡ (n + length some.0) + length some.1 = let e = ap length some.2 in omega (arith, length-append some.0 some.1) in (
+      some.0,
+      some.1 ++ own,
+      ap (λ (l : List (Entry Global)). l ++ own) some.2 ∙ append_assoc some.0 some.1 own,
+      some.3,
+      some.4,
+      order-push (n + length some.0) ran some.1 line own some.5 all (subst (λ (k : ℕ). IsWhole line.by line.action (receipts_by line.by k own)) at whole),
+    )
+
 -- these lines were run, unless the host stopped a processor; the others are left, the first of them last
 pub record IsAlone (lines left : List (Line Global)) (first : Option (ℕ × HostRefused)) (old now : Kept Global) : Type 0 where
   pub config : now.config ≡ old.config
   pub limit : now.limit ≡ old.limit
-  pub run : first ≡ None → (ran : List (Line Global)) × (ran ++ reverse left ≡ lines) × AreRun ran now.history
+  pub run : first ≡ None → (ran : List (Line Global)) × (ran ++ reverse left ≡ lines) × AreRun ran now.history × AreInOrder 1 ran now.history
 
 pub alone_first : (lines left : List (Line Global)) (first : Option (ℕ × HostRefused)) (old : Kept Global) → reverse left ≡ lines → old.history ≡ [] → IsAlone lines left first old old
 alone_first lines left first old is empty =
     record {
       config = refl;
       limit = refl;
-      run = λ none. ([], is, λ c. ap (receipts_by c 1) empty);
+      run = λ none. ([], is, λ c. ap (receipts_by c 1) empty, empty);
     }
 
 pub alone_more : (lines left rest : List (Line Global)) (line : Line Global) (first later : Option (ℕ × HostRefused)) (old now new : Kept Global) → IsAlone lines left first old now → left ≡ rest ++ line ∷ []
@@ -133,10 +149,18 @@ alone_more lines left rest line first later old now new at is config limit going
       limit = limit ∙ at.limit;
       run = λ none.
           let so_far = at.run (going none) in
-          (so_far.0 ++ line ∷ [], next lines so_far.0 left rest line so_far.1 is, run_more line now new (did none) so_far.0 so_far.2);
+          let done = did none in (
+            so_far.0 ++ line ∷ [],
+            next lines so_far.0 left rest line so_far.1 is,
+            run_more line now new done so_far.0 so_far.2,
+            subst (AreInOrder 1 (so_far.0 ++ line ∷ [])) (sym done.history)
+                (order-push 1 so_far.0 now.history line done.more so_far.3 done.own
+                (subst (λ (k : ℕ). IsWhole line.by line.action (receipts_by line.by k done.more)) (omega arith) done.whole)),
+          );
     }
 
-pub alone_ends : (lines left : List (Line Global)) (first : Option (ℕ × HostRefused)) (old now : Kept Global) → IsAlone lines left first old now → left ≡ [] → first ≡ None → AreRun lines now.history
+pub alone_ends : (lines left : List (Line Global)) (first : Option (ℕ × HostRefused)) (old now : Kept Global) → IsAlone lines left first old now → left ≡ [] → first ≡ None
+    → AreRun lines now.history × AreInOrder 1 lines now.history
 alone_ends lines left first old now at left_none none =
     let so_far = at.run none in
-    subst (λ (ls : List (Line Global)). AreRun ls now.history) (all_ran lines so_far.0 left so_far.1 left_none) so_far.2
+    subst (λ (ls : List (Line Global)). AreRun ls now.history × AreInOrder 1 ls now.history) (all_ran lines so_far.0 left so_far.1 left_none) (so_far.2, so_far.3)

@@ -1,5 +1,5 @@
 -- What the lines of a script come to.
-use Rattle.std.specs.Prelude.{◌≡◌, ◌+◌, List, [], ◌∷◌, ◌++◌, length, map, filter, All}
+use Rattle.std.specs.Prelude.{ℕ, ◌≡◌, ◌+◌, List, [], ◌∷◌, ◌++◌, length, map, filter, All}
 use Rattle.std.specs.declared.alloc.Global.{Global}
 use Rattle.hv_history.specs.Kept.{Kept}
 use Rattle.hv_history.specs.declared.entry.Entry.{Entry}
@@ -18,6 +18,14 @@ asked_by by lines = map (λ line. line.action) (filter (λ line. is_caller by li
 -- one that no line names did nothing
 abbrev pub AreRun : List (Line Global) → List (Entry Global) → Type 0
 AreRun lines history = (by : Caller) → AreWhole by (asked_by by lines) (receipts_by by 1 history)
+
+-- The entries of these lines, from number n on, those of each behind those of the line before it: all by the line's processor, and
+-- what the line asks for, to its end.
+abbrev pub AreInOrder : ℕ → List (Line Global) → List (Entry Global) → Type 0
+AreInOrder n [] entries = entries ≡ []
+AreInOrder n (line ∷ lines) entries =
+    (own : List (Entry Global)) × (rest : List (Entry Global)) × (entries ≡ own ++ rest) × All (λ e. e.event.by ≡ line.by) own
+    × IsWhole line.by line.action (receipts_by line.by n own) × AreInOrder (n + length own) lines rest
 
 -- The history has entries more, all by this caller, which are those of an action that came to its end. It has the configuration
 -- and the limit that it had.

@@ -2,7 +2,7 @@
 ghost use Rattle.std.specs.Prelude.{◌≡◌, [], None, IfNone, IfOk, OnOk};
 ghost use Rattle.std.specs.declared.alloc.Global.{Global};
 ghost use Rattle.hv_policy.specs.declared.event.Action.{Action};
-ghost use Rattle.hv_phases.specs.Lines.{AreRun, HasDone};
+ghost use Rattle.hv_phases.specs.Lines.{AreInOrder, AreRun, HasDone};
 ghost use Rattle.hv_phases.specs.Stop.{IsStopped};
 
 use crate::stopped::Stops;
@@ -25,6 +25,7 @@ pub fn run_in_order(
     ensures config { kept.new.config ≡ kept.old.config }
     ensures limit { kept.new.limit ≡ kept.old.limit }
     ensures lines { IfNone result (AreRun lines kept.new.history) }
+    ensures order { IfNone result (AreInOrder 1 lines kept.new.history) }
 {
     let mut left = lines;
     left.reverse();

@@ -1,8 +1,8 @@
 // A whole run of lines, from a machine to which nothing happened to its settlement.
-ghost use Rattle.std.specs.Prelude.{◌≡◌, ◌<◌, [], All, IfNone, IsNone, Some, map, vec_len};
+ghost use Rattle.std.specs.Prelude.{◌≡◌, ◌<◌, [], All, IfNone, IsNone, IsTrue, Some, map, vec_len};
 ghost use Rattle.hv_machine.specs.declared.machine.HostRefused.{HostRefused};
 ghost use Rattle.hv_phases.specs.Crew.{AreCallersOf, AreReady, HaveRun, passes_in};
-ghost use Rattle.hv_phases.specs.Lines.{AreRun};
+ghost use Rattle.hv_phases.specs.Lines.{AreInOrder, AreRun};
 ghost use Rattle.hv_shared.specs.Merge.{IsMerge, receipts_of};
 
 use crate::callers::callers_of;
@@ -31,7 +31,8 @@ pub enum Unfinished {
 /// Runs the lines of a script on a machine to which nothing happened yet, each processor of a phase in a
 /// thread of its own, or with `serial`, or where one processor has all lines, in their order, with no thread,
 /// lock or gate. Answers the machine with its history, and why it isn't a whole run of the lines, if it isn't.
-/// Where it is, each processor's events are those that its lines ask for, in their order (`lines`).
+/// Where it is, each processor's events are those that its lines ask for, in their order (`lines`), and with
+/// `serial` those of each line stand behind those of the line before it (`order`).
 pub fn run_lines<R: Threads + Wait + Sync, G: Gate>(
     rt: &R,
     gate: &G,
@@ -43,6 +44,7 @@ pub fn run_lines<R: Threads + Wait + Sync, G: Gate>(
     ensures config { IfNone result.1 (result.0.config ≡ kept.config) }
     ensures limit { IfNone result.1 (result.0.limit ≡ kept.limit) }
     ensures lines { IfNone result.1 (AreRun lines result.0.history) }
+    ensures order { IsTrue serial → IfNone result.1 (AreInOrder 1 lines result.0.history) }
 {
     let Ok((callers, expected)) = callers_of(*lines.allocator(), &lines) else {
         return (kept, Some(Unfinished::Host(HostRefused::Memory)));
@@ -66,6 +68,7 @@ fn run_alone(
     ensures config { IfNone result.1 (result.0.config ≡ kept.config) }
     ensures limit { IfNone result.1 (result.0.limit ≡ kept.limit) }
     ensures lines { IfNone result.1 (AreRun lines result.0.history) }
+    ensures order { IfNone result.1 (AreInOrder 1 lines result.0.history) }
 {
     let mut kept = kept;
     if kept.expect(all_of(expected)).is_err() {

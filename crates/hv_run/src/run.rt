@@ -36,7 +36,7 @@ pub fn run_reader<T: Threads + Wait + Sync, R: Read + Drop, W: Write, E: Write>(
     err: &mut E,
 ) -> Exit
     ensures told { result ≡ Exit.Done → IfSome (R.remaining reader)
-        (λ text. HasToldOf text options.now.table (W.contents out.old) (W.contents out.new)) }
+        (λ text. HasToldOf text options.now.serial options.now.table (W.contents out.old) (W.contents out.new)) }
     ensures long { IfSome (R.remaining reader) (λ text. MOST < length text → out.new ≡ out.old) }
     ensures long_status { IfSome (R.remaining reader) (λ text. MOST < length text → result ≢ Exit.Done) }
     ensures silent { result ≡ Exit.Script → out.new ≡ out.old }
@@ -61,8 +61,8 @@ pub fn run_text<T: Threads + Wait + Sync, W: Write, E: Write>(
     out: &mut W,
     err: &mut E,
 ) -> Exit
-    ensures told { result ≡ Exit.Done → HasToldOf script.now options.now.table (W.contents out.old)
-        (W.contents out.new) }
+    ensures told { result ≡ Exit.Done → HasToldOf script.now options.now.serial options.now.table
+        (W.contents out.old) (W.contents out.new) }
     ensures long { MOST < length script.now → result ≡ Exit.Script }
     ensures silent { result ≡ Exit.Script → out.new ≡ out.old }
     ensures no_usage { result ≢ Exit.Usage }
@@ -82,8 +82,8 @@ pub fn run_gated<T: Threads + Wait + Sync, G: Gate, W: Write, E: Write>(
     out: &mut W,
     err: &mut E,
 ) -> Exit
-    ensures told { result ≡ Exit.Done → HasToldOf script.now options.now.table (W.contents out.old)
-        (W.contents out.new) }
+    ensures told { result ≡ Exit.Done → HasToldOf script.now options.now.serial options.now.table
+        (W.contents out.old) (W.contents out.new) }
     ensures long { MOST < length script.now → result ≡ Exit.Script }
     ensures silent { result ≡ Exit.Script → out.new ≡ out.old }
     ensures no_usage { result ≢ Exit.Usage }
@@ -123,8 +123,8 @@ fn finish<T: Threads + Wait + Sync, G: Gate, W: Write, E: Write>(
     out: &mut W,
     err: &mut E,
 ) -> Exit
-    ensures told { result ≡ Exit.Done → HasTold (said script) options.now.table (W.contents out.old)
-        (W.contents out.new) }
+    ensures told { result ≡ Exit.Done → HasTold (said script) options.now.serial options.now.table
+        (W.contents out.old) (W.contents out.new) }
     ensures silent { result ≡ Exit.Script → out.new ≡ out.old }
     ensures no_usage { result ≢ Exit.Usage }
 {
@@ -143,8 +143,8 @@ fn run_script<T: Threads + Wait + Sync, G: Gate, W: Write>(
     gate: &G,
     out: &mut W,
 ) -> Result<(), Failure>
-    ensures told { OnOk result (HasTold (said script) options.now.table (W.contents out.old)
-        (W.contents out.new)) }
+    ensures told { OnOk result (HasTold (said script) options.now.serial options.now.table
+        (W.contents out.old) (W.contents out.new)) }
     ensures silent { IfErr result (λ failure. exit_of failure ≡ Exit.Script → out.new ≡ out.old) }
 {
     let Script {

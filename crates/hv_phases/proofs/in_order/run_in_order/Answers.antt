@@ -28,4 +28,9 @@ loop-turn-preserved c =
 pub returns-clause-lines : goal.returns-clause-lines
 returns-clause-lines c =
     let none : c.loop-turn.left ≡ [] = search rules in
-    if_none c.first-2.result _ _ (λ is. alone_ends _ _ _ _ _ c.loop-turn.invariant none is) c.first-2.ensures
+    if_none c.first-2.result _ _ (λ is. (alone_ends _ _ _ _ _ c.loop-turn.invariant none is).0) c.first-2.ensures
+
+pub returns-clause-order : goal.returns-clause-order
+returns-clause-order c =
+    let none : c.loop-turn.left ≡ [] = search rules in
+    if_none c.first-2.result _ _ (λ is. (alone_ends _ _ _ _ _ c.loop-turn.invariant none is).1) c.first-2.ensures

@@ -17,13 +17,13 @@ not_long : {A : Type 0} (o : Option (List ℕ)) (s : Said A) (P : Type 0) → If
 not_long None s P is = tt
 not_long (Some text) s P is = λ long. absurd (short text s is long)
 
-of_text : (o : Option (List ℕ)) (s : Said Global) (table : Bool) (old new : Option (List ℕ)) → IfSome o (λ text. script_of text ≡ Ok s)
-    → HasTold s table old new → IfSome o (λ text. HasToldOf text table old new)
-of_text None s table old new is told = tt
-of_text (Some text) s table old new is told = record { said = s; is = is; told = told }
+of_text : (o : Option (List ℕ)) (s : Said Global) (serial table : Bool) (old new : Option (List ℕ)) → IfSome o (λ text. script_of text ≡ Ok s)
+    → HasTold s serial table old new → IfSome o (λ text. HasToldOf text serial table old new)
+of_text None s serial table old new is told = tt
+of_text (Some text) s serial table old new is told = record { said = s; is = is; told = told }
 
 pub returns-in-Ok-clause-told : goal.returns-in-Ok-clause-told
-returns-in-Ok-clause-told g c = λ done. of_text _ _ _ _ _ c.in-Ok.ensures.script (c.finish.ensures.told done)
+returns-in-Ok-clause-told g c = λ done. of_text _ _ _ _ _ _ c.in-Ok.ensures.script (c.finish.ensures.told done)
 
 pub returns-in-Ok-clause-long : goal.returns-in-Ok-clause-long
 returns-in-Ok-clause-long g c = not_long _ _ _ c.in-Ok.ensures.script
