@@ -1,5 +1,5 @@
 // The processors of a script.
-ghost use Rattle.std.specs.Prelude.{◌≡◌, ◌<◌, IfOk, IsTrue, OnOk};
+ghost use Rattle.std.specs.Prelude.{◌<◌, IfOk, IsTrue, OnOk};
 ghost use Rattle.std.specs.List.{Contains};
 ghost use Rattle.hv_phases.specs.Crew.{AreCallersOf, HasCaller};
 ghost use Rattle.hv_phases.specs.Places.{IsIndexOf};

@@ -3,7 +3,7 @@ ghost use Rattle.std.specs.Prelude.{◌≡◌, ◌≤◌, ◌<◌, ◌++◌, ◌
 ghost use Rattle.std.specs.Prelude.{length, slice_index_or};
 ghost use Rattle.std.specs.List.{Contains};
 ghost use Rattle.std.specs.declared.alloc.Global.{Global};
-ghost use Rattle.hv_phases.specs.Crew.{AreCallersOf, AreIdleFrom, AreReady, HasGiven, HasHandedOut, HaveRun};
+ghost use Rattle.hv_phases.specs.Crew.{AreIdleFrom, AreReady, HasGiven, HasHandedOut, HaveRun};
 ghost use Rattle.hv_phases.specs.Crew.{callers_in, passes_in};
 ghost use Rattle.hv_phases.specs.Lines.{IsNextTurn};
 ghost use Rattle.hv_phases.specs.Places.{Tells};

@@ -1,5 +1,5 @@
 // Where each processor stands in a list.
-ghost use Rattle.std.specs.Prelude.{◌≡◌, ◌≢◌, None, Some, IsSome, OnErr, OnOk};
+ghost use Rattle.std.specs.Prelude.{◌≡◌, ◌≢◌, None, Some, OnErr, OnOk};
 ghost use Rattle.hv_phases.specs.Places.{place_by};
 ghost use Rattle.hv_policy.specs.declared.event.Caller.{Caller};
 

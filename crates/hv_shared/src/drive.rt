@@ -1,9 +1,7 @@
 // A hypercall from its first element to its last.
-ghost use Rattle.std.specs.Prelude.{◌≡◌, ◌<◌, ◌≤◌, ℕ, List, IfOk, IfErr, IfSome, IfNone, IsTrue, map};
+ghost use Rattle.std.specs.Prelude.{◌<◌, ◌≤◌, IfOk, IfErr, IsTrue, map};
 ghost use Rattle.hv_history.specs.History.{IsOfLastCall};
-ghost use Rattle.hv_history.specs.Run.{IsMore, element};
-ghost use Rattle.hv_policy.specs.Parts.{reply_of};
-ghost use Rattle.hv_policy.specs.declared.reply.Reply.TheVariants.{More};
+ghost use Rattle.hv_history.specs.Run.{element};
 ghost use Rattle.hv_shared.specs.Drive.{HasDriven, HasFinished, HasStopped, entry_in};
 
 use crate::gate::Gate;

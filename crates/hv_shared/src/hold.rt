@@ -1,11 +1,8 @@
 // Several elements of one call in one hold of the lock.
 ghost use Rattle.std.specs.Prelude.{◌≡◌, ◌<◌, ◌↔◌, IfOk, IsTrue, OnErr, IfErr, length, map};
-ghost use Rattle.hv_abi.specs.declared.frame.Frame.{Frame};
 ghost use Rattle.hv_history.specs.History.{IsOfLastCall};
 ghost use Rattle.hv_history.specs.Kept.{IsRun};
-ghost use Rattle.hv_history.specs.Row.{IsCall};
 ghost use Rattle.hv_history.specs.Run.{element};
-ghost use Rattle.hv_policy.specs.declared.event.Action.TheVariants.{Hypercall};
 ghost use Rattle.hv_shared.specs.Drive.{entry_in};
 ghost use Rattle.hv_shared.specs.Hold.{HasHeldFor, HasHeldPart, HasHeldRun, HasHeldUpTo};
 ghost use Rattle.hv_shared.specs.Room.{HasRoom};
