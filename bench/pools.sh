@@ -1,7 +1,7 @@
 #!/usr/bin/env bash
 # How long `hvpm` takes for long rep calls on large page sets. First all pages are withdrawn from the root's pool, the lowest
-# first, and then deposited into it again, 511 pages a call; each page is an event, and each set is one run. Then every second
-# loose page is deposited, the lowest first, which leaves runs of one page: each event moves all runs that are lower.
+# first, and then deposited into it again, 511 pages a call; each page is an event, and each set is without gaps. Then every
+# second loose page is deposited, the lowest first, which leaves pages that lie alone on both sides.
 set -eu
 
 root=$(cd -- "$(dirname -- "${BASH_SOURCE[0]}")/.." && pwd)

@@ -1,10 +1,12 @@
-pub mod Cuts
-pub mod FallingLists
+pub mod Edits
 pub mod Held
-pub mod Joins
-pub mod Lowest
 pub mod Members
 pub mod Merges
-pub mod RunLists
+pub mod Ones
+pub mod Permutations
+pub mod RunSteps
+pub mod Spans
 pub mod Spreads
 pub mod Unions
+pub mod WordLists
+pub mod WordPages

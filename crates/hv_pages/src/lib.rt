@@ -10,6 +10,6 @@
 
 mod merging;
 mod page_set;
-mod runs;
+mod words;
 
 pub use page_set::PageSet;

@@ -1,13 +1,17 @@
-// The pages lie in runs, in one list that falls, so the lowest run is the last. A pool hands out its lowest
-// page far more often than any other, and from a list that rises a call that ends a run would move every run
-// that is left.
+// The pages lie in words of 64, and no word is kept of which no page is held: a bitmap without its zeros. A
+// page that comes or goes apart from all others moves nothing where its word is there, and 65,536 pages have
+// at most 1,024 words to search or to move. A list of runs would have as many as there are pages that lie
+// apart.
+//
+// The list falls, so the lowest word is the last. A pool hands out its lowest page far more often than any
+// other, and from a list that rises a call that ends a word would move every word that is left.
 ghost use Rattle.std.specs.Prelude.{◌≡◌, ℕ, ◌+◌, ◌^◌, ◌<◌, ◌≤◌, ◌↔◌, ◌||◌, ◌&&◌};
 ghost use Rattle.std.specs.Prelude.{nat_le, nat_lt, false, IsNone, IfSome, IfNone, IsOk, OnOk, OnErr};
 ghost use Rattle.std.specs.FinSet as set;
-ghost use Rattle.hv_pages.specs.PageSet.{IsDisjoint, IsLowest};
+ghost use Rattle.hv_pages.specs.PageSet.{IsDisjoint, IsLowest, words_of};
 
 use crate::merging::merge_in;
-use crate::runs::{Run, add, cut, find};
+use crate::words::{Word, add, add_run, cut, find};
 use std::alloc::{AllocError, Allocator};
 use std::marker::Model;
 
@@ -17,14 +21,14 @@ use std::marker::Model;
 /// out uses up at most 1 of it, and `reserve` makes more. A set that is dropped gives its memory back.
 #[derive(Drop)]
 pub struct PageSet<A: Allocator> {
-    runs: Vec<Run, A>,
+    words: Vec<Word, A>,
     held: u64,
 }
 
 impl<A: Allocator> Model for PageSet<A> {
     ghost use Rattle.std.specs.Prelude.{◌≡◌, ◌-◌, length, vec_len};
     ghost use Rattle.std.specs.Vec.{vec_capacity};
-    ghost use Rattle.hv_pages.specs.Runs.{AreRuns, spread};
+    ghost use Rattle.hv_pages.specs.Words.{AreWords, spread};
     ghost use Rattle.hv_pages.specs.PageSet.{PagesAndRoom, pages_and_room_code, pages_of};
 
     ghost Value = { PagesAndRoom };
@@ -32,11 +36,11 @@ impl<A: Allocator> Model for PageSet<A> {
     ghost coded = { pages_and_room_code };
 
     ghost view = { λ s. record {
-      pages = pages_of (spread s.runs.items);
-      room = vec_capacity s.runs - vec_len s.runs;
+      pages = pages_of (spread s.words.items);
+      room = vec_capacity s.words - vec_len s.words;
     } };
 
-    ghost invariant = { λ s. AreRuns s.runs.items × (s.held ≡ length (spread s.runs.items)) };
+    ghost invariant = { λ s. AreWords s.words.items × (s.held ≡ length (spread s.words.items)) };
 }
 
 impl<A: Allocator> PageSet<A> {
@@ -45,7 +49,7 @@ impl<A: Allocator> PageSet<A> {
         ensures { result ≡ record { pages = set.empty; room = 0 } }
     {
         PageSet {
-            runs: Vec::new(alloc),
+            words: Vec::new(alloc),
             held: 0,
         }
     }
@@ -63,38 +67,36 @@ impl<A: Allocator> PageSet<A> {
         ensures pages { self.new.pages ≡ self.old.pages }
         ensures room { self.old.room ≤ self.new.room }
     {
-        self.runs.reserve(more)
+        self.words.reserve(more)
     }
 
     /// How many more changes are sure to find their memory.
     pub fn room(&self) -> usize
         ensures { result ≡ self.now.room }
     {
-        self.runs.capacity() - self.runs.len()
+        self.words.capacity() - self.words.len()
     }
 
     /// Puts in a page that is not held. The page must find room.
     ///
-    /// It joins the runs that it touches. Where it touches none, it moves each run that is lower.
+    /// Where another page of its 64 is held, it moves nothing. Where none is, it moves what is kept of the
+    /// lower pages, one entry for each 64.
     pub fn put(&mut self, page: u32)
         requires room { 1 ≤ self.old.room }
         requires new { set.contains self.old.pages page ≡ false }
         ensures pages { self.new.pages ≡ set.insert self.old.pages page }
         ensures room { self.old.room ≤ self.new.room + 1 }
     {
-        let run = Run {
-            first: page,
-            last: page,
-        };
-        add(&mut self.runs, run);
+        add(&mut self.words, Word::of(page));
         self.held += 1;
     }
 
     /// Puts in so many pages from a first one on, none of which is held. It takes no memory.
     ///
-    /// They need room for one change, however many they are.
+    /// They need room for one change for each 64 pages, from a multiple of 64 on, that they touch, and cost
+    /// as much as one page of each.
     pub fn put_run(&mut self, start: u32, length: u64)
-        requires room { 1 ≤ self.old.room }
+        requires room { words_of start length ≤ self.old.room }
         requires some { 1 ≤ length }
         requires fits { start + length ≤ 2 ^ 32 }
         requires new { (page : ℕ) → start ≤ page → page < start + length
@@ -102,29 +104,25 @@ impl<A: Allocator> PageSet<A> {
         ensures pages { (page : ℕ) → set.contains self.new.pages page
             ≡ (set.contains self.old.pages page || (nat_le start page && nat_lt page (start + length))) }
         ensures count { set.len self.new.pages ≡ set.len self.old.pages + length }
-        ensures room { self.old.room ≤ self.new.room + 1 }
+        ensures room { self.old.room ≤ self.new.room + words_of start length }
     {
-        let run = Run {
-            first: start,
-            last: start + (length - 1) as u32,
-        };
-        add(&mut self.runs, run);
+        add_run(&mut self.words, start, length);
         self.held += length;
     }
 
     /// Takes a page out, and says whether it was held.
     ///
-    /// It asks for room, as `put` does, since it may have to split a run. Where it splits or ends one, it
-    /// moves each run that is lower.
+    /// It asks for room, as `put` does. Where another page of its 64 stays, it moves nothing. Where none does,
+    /// it moves what is kept of the lower pages, one entry for each 64.
     pub fn take(&mut self, page: u32) -> bool
         requires { 1 ≤ self.old.room }
         ensures held { result ≡ set.contains self.old.pages page }
         ensures pages { self.new.pages ≡ set.remove self.old.pages page }
         ensures room { self.old.room ≤ self.new.room + 1 }
     {
-        let at = find(&self.runs, page);
-        if at < self.runs.len() && page <= self.runs[at].last {
-            cut(&mut self.runs, at, page);
+        let at = find(&self.words, page / 64);
+        if at < self.words.len() && self.words[at].has(page) {
+            cut(&mut self.words, at, page);
             self.held -= 1;
             true
         } else {
@@ -137,11 +135,11 @@ impl<A: Allocator> PageSet<A> {
         ensures none { IsNone result ↔ (self.now.pages ≡ set.empty) }
         ensures lowest { IfSome result (IsLowest self.now.pages) }
     {
-        let runs = self.runs.len();
-        if runs == 0 {
+        let words = self.words.len();
+        if words == 0 {
             return None;
         }
-        Some(self.runs[runs - 1].first)
+        Some(self.words[words - 1].lowest())
     }
 
     /// Takes out the lowest page, or answers `None` where the set is empty. It takes constant time.
@@ -152,26 +150,26 @@ impl<A: Allocator> PageSet<A> {
         ensures taken { IfSome result (λ page. self.new.pages ≡ set.remove self.old.pages page) }
         ensures room { self.old.room ≤ self.new.room }
     {
-        let runs = self.runs.len();
-        if runs == 0 {
+        let words = self.words.len();
+        if words == 0 {
             return None;
         }
-        let page = self.runs[runs - 1].first;
-        cut(&mut self.runs, runs - 1, page);
+        let page = self.words[words - 1].lowest();
+        cut(&mut self.words, words - 1, page);
         self.held -= 1;
         Some(page)
     }
 
     /// Puts in all pages of a set that shares none with this one, and gives that set's memory back.
     ///
-    /// Its pages must find room. The time is proportional to the two counts at most.
+    /// Its pages must find room. It goes over both sets once, 64 pages a step.
     pub fn absorb(&mut self, other: PageSet<A>)
         requires room { set.len other.pages ≤ self.old.room }
         requires disjoint { IsDisjoint self.old.pages other.pages }
         ensures pages { self.new.pages ≡ set.union self.old.pages other.pages }
         ensures room { self.old.room ≤ self.new.room + set.len other.pages }
     {
-        merge_in(&mut self.runs, &other.runs);
+        merge_in(&mut self.words, &other.words);
         self.held += other.held;
     }
 
@@ -186,7 +184,7 @@ impl<A: Allocator> PageSet<A> {
     pub fn holds(&self, page: u32) -> bool
         ensures { result ≡ set.contains self.now.pages page }
     {
-        let at = find(&self.runs, page);
-        at < self.runs.len() && page <= self.runs[at].last
+        let at = find(&self.words, page / 64);
+        at < self.words.len() && self.words[at].has(page)
     }
 }

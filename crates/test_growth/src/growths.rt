@@ -100,8 +100,7 @@ const GROWTHS: [(Growth, u64); 25] = [
     (Growth::Event(Asked::Event), 1),
     // Its rows, heads, inputs and outputs.
     (Growth::Event(Asked::Entries), 4),
-    // The root's own, its runs of loose and of pooled pages, the flags of a processor, and the list of
-    // processors.
+    // The root's own, its loose and its pooled pages, the flags of a processor, and the list of processors.
     (Growth::Whole(Whole::Machine), 5),
     (Growth::Whole(Whole::Kept), 5),
     // A call's bytes; its processor, the place of its line, its turn, the block of inputs, its head and its row.

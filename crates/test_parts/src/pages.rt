@@ -25,23 +25,29 @@ fn gives(set: &mut PageSet<Global>, pages: &[u32]) -> bool {
     set.take_lowest() == None && set.count() == 0
 }
 
-// Pages that join what is held to one run, of which one goes again, and another isn't held.
-fn join_and_part(set: &mut PageSet<Global>) -> Result<bool, AllocError> {
+// Pages of four groups of 64, of which one goes that others of its group outlast, one that was alone in its group,
+// and another isn't held.
+fn scatter(set: &mut PageSet<Global>) -> Result<bool, AllocError> {
     let before = set.room();
     set.reserve(12)?;
-    let put = put_all(set, &[0, 2, 4, 6, 8, 1, 3, 5, 7, 9]);
-    if set.room() < 2 || set.count() != 10 || set.lowest() != Some(0) {
+    let put = put_all(set, &[64, 62, 0x8000_003F, 127, 66, 128, 63, 0, 191, 65]);
+    if set.room() < 4 || set.count() != 10 || set.lowest() != Some(0) {
         return Ok(false);
     }
-    let taken = [set.take(4), set.take(0x8000_0005)];
-    let is_right = before == 0 && put && taken == [true, false] && set.holds(5);
-    Ok(is_right && gives(set, &[0, 1, 2, 3, 5, 6, 7, 8, 9]))
+    let taken = [
+        set.take(65),
+        set.take(0x8000_003F),
+        set.take(0x8000_0005),
+        set.take(192),
+    ];
+    let is_right = before == 0 && put && taken == [true, true, false, false] && set.holds(66);
+    Ok(is_right && !set.holds(65) && gives(set, &[0, 62, 63, 64, 66, 127, 128, 191]))
 }
 
 #[test]
-fn pages_join_and_part(rt: HostRuntime) -> Result<(), Fail> {
+fn pages_of_several_groups_come_and_go(rt: HostRuntime) -> Result<(), Fail> {
     let mut set = PageSet::new(rt.alloc());
-    let is_right = join_and_part(&mut set)?;
+    let is_right = scatter(&mut set)?;
     assert!(rt; is_right);
     Ok(())
 }
