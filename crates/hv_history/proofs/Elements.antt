@@ -15,7 +15,7 @@ use Rattle.hv_policy.specs.declared.reply.Reply.TheVariants.{Served, More, Denie
 use Rattle.hv_history.specs.History.{IsOfLastCall}
 use Rattle.hv_history.specs.Kept.{HasGained, HasTaken, Kept}
 use Rattle.hv_history.specs.Row.{IsCall, common_of}
-use Rattle.hv_history.specs.Run.{AreElements, GoesOnAt, HasBegun, HasFinished, HasRun, HasRunFor, HasStopped, IsMore, IsRunning, element, restart, start_of}
+use Rattle.hv_history.specs.Run.{AreElements, GoesOnAt, GoesOnWithLast, HasBegun, HasFinished, HasRun, HasRunFor, HasStopped, IsMore, IsRunning, element, restart, start_of}
 use Rattle.hv_history.specs.declared.entry.Entry.{Entry}
 
 pub has_index_at : (n : ℕ) (reply : Reply) → GoesOnAt n reply → n < REPS_END
@@ -33,25 +33,45 @@ module _ {A : Type 0} where
   elements-push by frame (e ∷ es) now reply is goes =
       (is.0, is.1, elements-push by (restart frame (start_of frame + 1)) es now reply is.2 goes)
 
-  -- the elements of a call are by the same caller, with the same R8 and input
-  pub same_common : (by : Caller) (frame : Frame A) (es : List (Entry A)) (now : Frame A) → AreElements by frame es now → common_of (element by now) ≡ common_of (element by frame)
-  same_common by frame [] now is = ap (λ (f : Frame A). common_of (element by f)) is
-  same_common by frame (e ∷ es) now is = same_common by (restart frame (start_of frame + 1)) es now is.2
+  -- so that each asks for the element with which the call of the one before it goes on
+  goes_last : (by : Caller) (frame : Frame A) (event : Event A) (reply : Reply) → event ≡ element by frame → GoesOnAt (start_of frame + 1) reply → (old : List (Entry A))
+      → GoesOnWithLast (element by (restart frame (start_of frame + 1))) (old ++ record { event = event; reply = reply } ∷ [])
+  goes_last by frame event (More next output) is goes old = record {
+    before = old;
+    by = by;
+    frame = frame;
+    next = next;
+    output = output;
+    is = ap (λ (e : Event A). old ++ record { event = e; reply = More next output } ∷ []) is;
+    event_is = ap (λ n. element by (restart frame n)) (sym goes.0);
+  }
+  goes_last by frame event (Served output) is goes old = absurd goes
+  goes_last by frame event (Denied rule status reps) is goes old = absurd goes
+  goes_last by frame event (Fault rule) is goes old = absurd goes
 
-  -- so that each goes on with the call of the one before it
+  pub on_with_last : (by : Caller) (frame : Frame A) (es : List (Entry A)) (now : Frame A) → AreElements by frame es now → 0 < length es → (old : List (Entry A)) → GoesOnWithLast (element by now) (old ++ es)
+  on_with_last by frame [] now is some old = absurd (omega arith)
+  on_with_last by frame (e ∷ []) now is some old =
+      subst (λ (f : Frame A). GoesOnWithLast (element by f) (old ++ e ∷ [])) (sym is.2) (goes_last by frame e.event e.reply is.0 is.1 old)
+  on_with_last by frame (e ∷ d ∷ es) now is some old =
+      subst (GoesOnWithLast (element by now)) (append_assoc old (e ∷ []) (d ∷ es))
+      (on_with_last by (restart frame (start_of frame + 1)) (d ∷ es) now is.2 (omega arith) (old ++ e ∷ []))
+
+  -- and is of that call
+  pub of_call : (event : Event A) (history : List (Entry A)) → GoesOnWithLast event history → IsOfLastCall event history
+  of_call event history g = record {
+    before = g.before;
+    last = record { event = element g.by g.frame; reply = More g.next g.output };
+    is = g.is;
+    call = tt;
+    common = ap (λ (x : Event A). common_of x) (sym g.event_is);
+  }
+
+  pub is_call : (event : Event A) (history : List (Entry A)) → GoesOnWithLast event history → IsCall event.what
+  is_call event history g = subst (λ (e : Event A). IsCall e.what) (sym g.event_is) tt
+
   pub of_last : (by : Caller) (frame : Frame A) (es : List (Entry A)) (now : Frame A) → AreElements by frame es now → 0 < length es → (old : List (Entry A)) → IsOfLastCall (element by now) (old ++ es)
-  of_last by frame [] now is some old = absurd (omega arith)
-  of_last by frame (e ∷ []) now is some old =
-      record {
-        before = old;
-        last = e;
-        is = refl;
-        call = subst (λ (x : Event A). IsCall x.what) (sym is.0) tt;
-        common = ap (λ (x : Event A). common_of x) is.0 ∙ sym (same_common by frame (e ∷ []) now is);
-      }
-  of_last by frame (e ∷ d ∷ es) now is some old =
-      subst (IsOfLastCall (element by now)) (append_assoc old (e ∷ []) (d ∷ es))
-      (of_last by (restart frame (start_of frame + 1)) (d ∷ es) now is.2 (omega arith) (old ++ e ∷ []))
+  of_last by frame es now is some old = of_call (element by now) (old ++ es) (on_with_last by frame es now is some old)
 
   -- a call goes on with the element after the one that was served
   pub goes_after : (now : Frame A) (next : ℕ) (output : List ℕ) (reply : Reply) → reply ≡ More next output → GoesOn (Hypercall now) reply → (GoesOnAt (start_of now + 1) reply) × (next ≡ start_of now + 1) × (next < REPS_END)
@@ -71,12 +91,12 @@ module _ {A : Type 0} where
     pub stopped : (new : Kept A) → new ≡ now → HasStopped by frame events most old new
     stopped new same = subst (HasStopped by frame events most old) (sym same) is.so_far
 
-    -- it goes on with the call of the last event
-    pub next_of_call : 0 < events → IsOfLastCall event now.history
+    -- it asks for the element with which the call of the last event goes on
+    pub next_of_call : 0 < events → GoesOnWithLast event now.history
     next_of_call some =
         let count = is.so_far.count in
-        subst (λ (e : Event A). IsOfLastCall e now.history) (sym is.event_is)
-        (subst (IsOfLastCall (element by is.so_far.now)) (sym is.so_far.history) (of_last by frame is.so_far.before is.so_far.now is.so_far.elements (omega arith) old.history))
+        subst (λ (e : Event A). GoesOnWithLast e now.history) (sym is.event_is)
+        (subst (GoesOnWithLast (element by is.so_far.now)) (sym is.so_far.history) (on_with_last by frame is.so_far.before is.so_far.now is.so_far.elements (omega arith) old.history))
 
     module _ (reply : Reply) (new : Kept A) (gained : HasGained event reply now new) where
       abbrev entry : Entry A
@@ -174,10 +194,6 @@ module _ {A : Type 0} where
 
   start_below : (frame : Frame A) → start_of frame < REPS_END
   start_below frame = omega arith
-
-  -- an event that asks for this frame is a call
-  pub is_call : (by : Caller) (frame : Frame A) (event : Event A) → event ≡ element by frame → IsCall event.what
-  is_call by frame event is = subst (λ (e : Event A). IsCall e.what) (sym is) tt
 
   -- so many elements are all
   pub finished : (by : Caller) (frame last : Frame A) (event : Event A) (answer : Answer) (events most : ℕ) (old new : Kept A) → HasRunFor by frame event answer events most old new → REPS_END < most

@@ -16,14 +16,16 @@ ghost use Rattle.hv_policy.specs.declared.event.Action.TheVariants.{Hypercall};
 ghost use Rattle.hv_history.specs.History.{HasRoomFor, IsOfLastCall, entries, room_of};
 ghost use Rattle.hv_history.specs.Justified.{IsJustified, deeds_in, states_in};
 ghost use Rattle.hv_history.specs.Kept.{HasGained, HasStepped, HasTaken, IsRun, Stands};
-ghost use Rattle.hv_history.specs.Row.{next_in};
+ghost use Rattle.hv_history.specs.Row.{IsCall, next_in};
+ghost use Rattle.hv_history.specs.Run.{GoesOnWithLast, IsNextEvent};
 ghost use Rattle.hv_history.specs.declared.entry.Entry.{Entry};
 
 use crate::expected::Expected;
 use crate::output::OutputRef;
 use crate::row::History;
 use hv_machine::{
-    Access, Answer, BootRefused, Config, Event, HostRefused, Machine, Output, Reply, Rule,
+    Access, Action, Answer, BootRefused, CallReply, Config, Event, HostRefused, Machine, Output,
+    Reply, Rule,
 };
 use std::alloc::{AllocError, Allocator};
 use std::marker::Model;
@@ -132,11 +134,12 @@ impl<A: Allocator + Clone> Kept<A> {
     }
 
     /// Lets an event happen as [`Kept::apply`] does, and answers its number alone: its reply stands in the
-    /// history. Where it is known to go on with the last event's call, as each element of a rep call does
-    /// after the first, its input is compared with nothing.
+    /// history. Where it is known to ask for the element with which the last event's call goes on, as each
+    /// element of a rep call does after the first, its input is compared with nothing, and no rule is asked
+    /// of it that it is known to meet.
     #[inline(always)]
     pub fn take(&mut self, event: &Event<A>, goes_on: bool) -> Result<u64, HostRefused>
-        requires { IsTrue goes_on → IsOfLastCall event.now self.old.history }
+        requires { IsTrue goes_on → GoesOnWithLast event.now self.old.history }
         ensures taken { OnOk result (HasTaken event.now self.old self.new) }
         ensures number { IfOk result (λ number. number ≡ length self.new.history) }
         ensures run { IsRun self.new }
@@ -156,10 +159,9 @@ impl<A: Allocator + Clone> Kept<A> {
     }
 }
 
-// Lets an event happen to a machine, and adds it with its reply to a history that has room for it. A call
-// that is known to go on with the history's last one is compared with nothing. Not inlined, nor is what it
-// does for an access, so that a call makes no room on the stack for the output of one.
-#[inline(never)]
+// Lets an event happen to a machine, and adds it with its reply to a history that has room for it. It may be
+// known to ask for the element with which the history's last call goes on.
+#[inline(always)]
 fn step_into<A: Allocator + Clone>(
     machine: &mut Machine<A>,
     history: &mut History<A>,
@@ -170,6 +172,31 @@ fn step_into<A: Allocator + Clone>(
     requires count { machine.old.served < MAX_SERVED }
     requires room { HasRoomFor 1 (room_of history.old) event.now }
     requires call { IsTrue goes_on → IsOfLastCall event.now (entries history.old) }
+    requires what { IsTrue goes_on → IsCall event.now.what }
+    requires next { IsTrue goes_on → IsNextEvent machine.old event.now }
+    ensures stepped { OnOk result (HasStepped event.now machine.old (entries history.old) machine.new
+        (entries history.new)) }
+    ensures machine { OnErr result (machine.new ≡ machine.old) }
+    ensures history { OnErr result (entries history.new ≡ entries history.old) }
+{
+    if goes_on {
+        next_into(machine, history, event)
+    } else {
+        any_into(machine, history, event)
+    }
+}
+
+// The same, for any event. Not inlined, nor is what it does for an access, so that a call makes no room on the
+// stack for the output of one.
+#[inline(never)]
+fn any_into<A: Allocator + Clone>(
+    machine: &mut Machine<A>,
+    history: &mut History<A>,
+    event: &Event<A>,
+) -> Result<(), AllocError>
+    requires stands { Stands machine.old }
+    requires count { machine.old.served < MAX_SERVED }
+    requires room { HasRoomFor 1 (room_of history.old) event.now }
     ensures stepped { OnOk result (HasStepped event.now machine.old (entries history.old) machine.new
         (entries history.new)) }
     ensures machine { OnErr result (machine.new ≡ machine.old) }
@@ -184,15 +211,64 @@ fn step_into<A: Allocator + Clone>(
     };
     match machine.hypercall(event.by, frame) {
         Ok(reply) => {
-            let (answer, bytes, len) = reply.parts();
-            history.push(event, answer, OutputRef::of(&bytes[..len]), goes_on);
+            push_reply(history, event, reply, false);
             Ok(())
         }
         Err(_) => Err(AllocError),
     }
 }
 
-// The same, for an access.
+// The same, for such an element. Not inlined, so that it makes no room on the stack for what any event may
+// want there.
+#[inline(never)]
+fn next_into<A: Allocator + Clone>(
+    machine: &mut Machine<A>,
+    history: &mut History<A>,
+    event: &Event<A>,
+) -> Result<(), AllocError>
+    requires stands { Stands machine.old }
+    requires count { machine.old.served < MAX_SERVED }
+    requires room { HasRoomFor 1 (room_of history.old) event.now }
+    requires what { IsCall event.now.what }
+    requires call { IsOfLastCall event.now (entries history.old) }
+    requires next { IsNextEvent machine.old event.now }
+    ensures stepped { OnOk result (HasStepped event.now machine.old (entries history.old) machine.new
+        (entries history.new)) }
+    ensures machine { OnErr result (machine.new ≡ machine.old) }
+    ensures history { OnErr result (entries history.new ≡ entries history.old) }
+{
+    let Action::Hypercall(frame) = &event.what else {
+        unreachable!()
+    };
+    match machine.next_element(event.by, frame) {
+        Ok(reply) => {
+            push_reply(history, event, reply, true);
+            Ok(())
+        }
+        Err(_) => Err(AllocError),
+    }
+}
+
+// Adds a call with its reply to a history that has room for it. One that is known to go on with the history's
+// last call is compared with nothing.
+#[inline(always)]
+fn push_reply<A: Allocator>(
+    history: &mut History<A>,
+    event: &Event<A>,
+    reply: CallReply,
+    goes_on: bool,
+)
+    requires what { IsCall event.now.what }
+    requires room { HasRoomFor 1 (room_of history.old) event.now }
+    requires call { IsTrue goes_on → IsOfLastCall event.now (entries history.old) }
+    requires index { next_in reply < REPS_END }
+    ensures { entries history.new ≡ entries history.old ++ record { event = event.now; reply = reply } ∷ [] }
+{
+    let (answer, bytes, len) = reply.parts();
+    history.push(event, answer, OutputRef::of(&bytes[..len]), goes_on);
+}
+
+// Lets an access happen to a machine, as `step_into` does.
 #[inline(never)]
 fn access_into<A: Allocator + Clone>(
     machine: &mut Machine<A>,

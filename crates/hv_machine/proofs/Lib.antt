@@ -2,6 +2,7 @@ pub mod Accessing
 pub mod Booted
 pub mod Calls
 pub mod Confined
+pub mod Onward
 pub mod Root
 pub mod Serving
 pub mod Sound

@@ -1,5 +1,6 @@
 pub mod Access
 pub mod BootTree
+pub mod Element
 pub mod IsFlat
 pub mod Lasting
 pub mod Masks

@@ -16,6 +16,7 @@
 mod admit;
 mod boot;
 mod dispatch;
+mod element;
 mod machine;
 
 pub use hv_policy::{

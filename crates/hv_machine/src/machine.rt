@@ -1,16 +1,20 @@
 // The machine and its one step.
-ghost use Rattle.std.specs.Prelude.{◌≡◌, ◌<◌, [], None, IsTrue, IfOk, IfErr, OnOk, OnErr};
+ghost use Rattle.std.specs.Prelude.{◌≡◌, ◌<◌, [], None, true, IsTrue, IfOk, IfErr, OnOk, OnErr};
 ghost use Rattle.hv_defs.specs.declared.sizes.TheConstants.{MAX_SERVED};
+ghost use Rattle.hv_abi.specs.Check.{IsShape};
 ghost use Rattle.hv_abi.specs.declared.frame.Frame.{Frame as CallFrame};
+ghost use Rattle.hv_calls.specs.Call.{kind_of_call};
+ghost use Rattle.hv_calls.specs.Params.{is_plain};
 ghost use Rattle.hv_confine.specs.Confined.{IsConfined};
 ghost use Rattle.hv_laws.specs.Bounded.{IsBounded};
-ghost use Rattle.hv_policy.specs.Call.{call_event, may_take_memory};
+ghost use Rattle.hv_policy.specs.Call.{IsCall, call_event, may_take_memory};
 ghost use Rattle.hv_policy.specs.Flat.{Flat};
 ghost use Rattle.hv_policy.specs.Result.{HasResult};
 ghost use Rattle.hv_policy.specs.Step.{NamesAsked, step};
 ghost use Rattle.hv_policy.specs.Rules.{unmet};
 ghost use Rattle.hv_policy.specs.declared.event.Action.TheVariants.{Hypercall};
 ghost use Rattle.hv_tie.specs.Room.{roomless};
+ghost use Rattle.hv_tie.specs.Served.{unmet_further};
 ghost use Rattle.hv_machine.specs.Access.{HasAccess, access_event, access_reply};
 ghost use Rattle.hv_machine.specs.IsFlat.{IsFlat};
 ghost use Rattle.hv_machine.specs.Lasting.{IsLasting};
@@ -18,7 +22,7 @@ ghost use Rattle.hv_machine.specs.Served.{IsResult};
 ghost use Rattle.hv_machine.specs.Sound.{IsSound};
 
 use crate::dispatch::{dispatch, dispatch_access, next_after};
-use hv_abi::Frame;
+use hv_abi::{Frame, Shape};
 use hv_calls::Call;
 use hv_policy::{
     Access, CallOutput, CallReply, Caller, Event, Output, Reply, Rule, refused_reply, served_reply,
@@ -138,11 +142,51 @@ impl<A: Allocator + Clone> Machine<A> {
     {
         // Opens the machine for the proof: what it keeps is known of its fields.
         let _ = &self.tree;
-        let (shape, call) = match self.admit(by, frame) {
-            Ok(admitted) => admitted,
-            Err(rule) => return Ok(refused_reply(frame, rule)),
-        };
-        match self.serve(by, &call) {
+        match self.admit(by, frame) {
+            Ok((shape, call)) => self.answer(by, frame, shape, &call, false),
+            Err(rule) => Ok(refused_reply(frame, rule)),
+        }
+    }
+
+    // Serves a call for which P1 to P10 are met, where its own rules are met too, and answers. It is plain where
+    // the caller says so.
+    #[inline(always)]
+    pub(crate) fn answer(
+        &mut self,
+        by: Caller,
+        frame: &Frame<A>,
+        shape: Shape,
+        call: &Call<'_>,
+        plain: bool,
+    ) -> Result<CallReply, HostRefused>
+        requires count { self.old.served < MAX_SERVED }
+        requires shape { IsShape frame.now shape }
+        requires call { IsCall frame.now shape call.now }
+        requires bounded { IsBounded call.now }
+        requires access { (f : Flat) → IsFlat self.old f → HasAccess f by.part call.now }
+        requires further { (f : Flat) → IsFlat self.old f
+            → unmet f (call_event by frame.now) ≡ unmet_further f by.part call.now }
+        requires plain { IsTrue plain → is_plain (kind_of_call call.now) ≡ true }
+        ensures reply { (f : Flat) → IsFlat self.old f
+            → IfOk result (λ r. r ≡ (step f (call_event by frame.now)).1) }
+        ensures state { (f : Flat) → IsFlat self.old f
+            → OnOk result (IsFlat self.new (step f (call_event by frame.now)).0) }
+        ensures refused { (f : Flat) → IsFlat self.old f
+            → OnErr result (unmet f (call_event by frame.now) ≡ None) }
+        ensures memory { OnErr result (IsTrue (may_take_memory (call_event by frame.now))) }
+        ensures cause { IfErr result (λ why. why ≡ HostRefused.Memory) }
+        ensures kept { OnErr result (self.new ≡ self.old) }
+        ensures confined { (f g : Flat) → IsFlat self.old f → IsFlat self.new g
+            → IsConfined (call_event by frame.now) f g }
+        ensures asked { IfOk result (NamesAsked (call_event by frame.now)) }
+        ensures result { IfOk result HasResult }
+        ensures lasting { IsLasting self.new }
+        ensures pages { self.new.pages ≡ self.old.pages }
+        ensures sound { IsSound self.new }
+    {
+        // Opens the machine for the proof: what it keeps is known of its fields.
+        let _ = &self.tree;
+        match self.serve(by, call, plain) {
             Ok(output) => Ok(served_reply(frame, shape, output)),
             Err(Refused::Unmet(rule)) => Ok(refused_reply(frame, rule)),
             Err(Refused::Memory) => Err(HostRefused::Memory),
@@ -178,8 +222,10 @@ impl<A: Allocator + Clone> Machine<A> {
     }
 
     // Serves a call for which P1 to P10 are met, where its own rules are met too.
-    fn serve(&mut self, by: Caller, call: &Call<'_>) -> Result<CallOutput, Refused>
+    #[inline(always)]
+    fn serve(&mut self, by: Caller, call: &Call<'_>, plain: bool) -> Result<CallOutput, Refused>
         requires count { self.old.served < MAX_SERVED }
+        requires plain { IsTrue plain → is_plain (kind_of_call call.now) ≡ true }
         requires bounded { IsBounded call.now }
         requires access { (f : Flat) → IsFlat self.old f → HasAccess f by.part call.now }
         ensures outcome { (f : Flat) → IsFlat self.old f
@@ -194,6 +240,7 @@ impl<A: Allocator + Clone> Machine<A> {
             self.next,
             self.served,
             call,
+            plain,
         ) {
             Ok(output) => {
                 self.next = next_after(call, self.next);

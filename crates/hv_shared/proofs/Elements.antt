@@ -5,10 +5,10 @@ use Rattle.std.proofs.Math.Nat.{suc-mul}
 use Rattle.std.proofs.lemmas.List.{length-append, length-map, map-append, nil_from_length}
 use Rattle.std.specs.declared.alloc.Global.{Global}
 use Rattle.hv_abi.specs.declared.frame.Frame.{Frame}
-use Rattle.hv_history.proofs.Elements.{elements-push, goes_after, of_last}
+use Rattle.hv_history.proofs.Elements.{elements-push, goes_after, of_last, on_with_last}
 use Rattle.hv_history.specs.History.{IsOfLastCall}
 use Rattle.hv_history.specs.Row.{IsCall, most_output}
-use Rattle.hv_history.specs.Run.{IsMore, element, restart}
+use Rattle.hv_history.specs.Run.{GoesOnWithLast, IsMore, element, restart}
 use Rattle.hv_history.specs.declared.entry.Entry.{Entry}
 use Rattle.hv_policy.specs.Next.{GoesOn}
 use Rattle.hv_policy.specs.Parts.{reply_of}
@@ -108,15 +108,15 @@ module _ (frame : Frame Global) (event : Event Global) (left most : ℕ) (old no
   pub room_here : HasRoom 1 told.room event
   room_here = room_one left told.room event some_left is.room
 
-  -- it goes on with the call of the last event
-  pub last_event : left < most → IsOfLastCall event now.kept.history
+  -- it asks for the element with which the call of the last event goes on
+  pub last_event : left < most → GoesOnWithLast event now.kept.history
   last_event fewer =
       let rest = is.rest in
-      subst (λ (e : Event Global). IsOfLastCall e now.kept.history) (sym is.event_is)
-      (subst (IsOfLastCall (element pass.caller is.at)) (sym is.so_far.held.history)
-      (of_last pass.caller frame (map entry_in is.so_far.before) is.at is.so_far.elements (omega (arith, length-map is.so_far.before entry_in)) old.kept.history))
+      subst (λ (e : Event Global). GoesOnWithLast e now.kept.history) (sym is.event_is)
+      (subst (GoesOnWithLast (element pass.caller is.at)) (sym is.so_far.held.history)
+      (on_with_last pass.caller frame (map entry_in is.so_far.before) is.at is.so_far.elements (omega (arith, length-map is.so_far.before entry_in)) old.kept.history))
 
-  -- and of the last receipt
+  -- and goes on with that of the last receipt
   pub last_receipt : left < most → IsOfLastCall event (map entry_in told.receipts)
   last_receipt fewer =
       let rest = is.rest in

@@ -9,6 +9,7 @@ ghost use Rattle.hv_policy.specs.Step.{NamesAsked};
 ghost use Rattle.hv_policy.specs.declared.event.Action.TheVariants.{Hypercall};
 ghost use Rattle.hv_history.specs.History.{IsOfLastCall, entries};
 ghost use Rattle.hv_history.specs.Kept.{HasGained, IsRun};
+ghost use Rattle.hv_history.specs.Run.{GoesOnWithLast};
 ghost use Rattle.hv_history.specs.declared.entry.Entry.{Entry};
 ghost use Rattle.hv_shared.specs.Drive.{entry_in};
 ghost use Rattle.hv_shared.specs.Due.{IsDueAfter};
@@ -291,8 +292,8 @@ impl<L: Ledger> Held<L> {
     }
 
     // Lets an event happen as `hold` does, and answers its reply without the output, which stands in the
-    // pass's receipt. `goes_on` says that it is known to go on with the call of the last event, and `is_told`
-    // with that of the pass's last receipt.
+    // pass's receipt. `goes_on` says that it is known to ask for the element with which the call of the last
+    // event goes on, and `is_told` that it is known to go on with that of the pass's last receipt.
     #[inline(always)]
     pub(crate) fn take(
         &mut self,
@@ -303,7 +304,7 @@ impl<L: Ledger> Held<L> {
     ) -> Result<Answer, HostRefused>
         requires by { event.now.by ≡ pass.old.caller }
         requires room { HasRoom 1 pass.old.room event.now }
-        requires call { IsTrue goes_on → IsOfLastCall event.now self.old.kept.history }
+        requires call { IsTrue goes_on → GoesOnWithLast event.now self.old.kept.history }
         requires told { IsTrue is_told → IsOfLastCall event.now (map entry_in pass.old.receipts) }
         ensures held { IfOk result (λ answer. IsHeld event.now answer self.old.kept self.new.kept pass.old
             pass.new) }

@@ -29,81 +29,9 @@ returns-in-Err-clause-result g c =
 pub returns-in-Err-clause-lasting : goal.returns-in-Err-clause-lasting
 returns-in-Err-clause-lasting g c = rw (← c.self.view_is) c.self.invariant
 
-pub returns-in-Err-Unmet-clause-reply : goal.returns-in-Err-Unmet-clause-reply
-returns-in-Err-Unmet-clause-reply g c f flat =
-    let answered : c.refused_reply-in-Err-Unmet.result ≡ refusal (Hypercall c.args.frame.now) c.in-Err-Unmet.rule = search rules in
-    let out = subst (λ why. IsResult f c.args.by.part c.in-Ok.admitted.1 c.args.self.now (Err why) c.serve.new.self) c.in-Err-Unmet.field-0-is (c.in-Err-Unmet.ensures.outcome f flat) in
-    answered ∙ sym (ap (λ s. s.1) (refused_step f c.args.by c.args.frame.now c.in-Err-Unmet.rule (c.in-Ok.ensures.further f flat ∙ out.0)))
-
-pub returns-in-Err-Unmet-clause-state : goal.returns-in-Err-Unmet-clause-state
-returns-in-Err-Unmet-clause-state g c f flat =
-    let out = subst (λ why. IsResult f c.args.by.part c.in-Ok.admitted.1 c.args.self.now (Err why) c.serve.new.self) c.in-Err-Unmet.field-0-is (c.in-Err-Unmet.ensures.outcome f flat) in
-    subst (IsFlat c.serve.new.self) (sym (ap (λ s. s.0) (refused_step f c.args.by c.args.frame.now c.in-Err-Unmet.rule (c.in-Ok.ensures.further f flat ∙ out.0))))
-    (subst (λ m. IsFlat m f) (sym out.1) flat)
-
-pub returns-in-Err-Unmet-clause-asked : goal.returns-in-Err-Unmet-clause-asked
-returns-in-Err-Unmet-clause-asked g c =
-    let answered : c.refused_reply-in-Err-Unmet.result ≡ refusal (Hypercall c.args.frame.now) c.in-Err-Unmet.rule = search rules in
-    let f = c.self.invariant.flat in
-    let stands : IsFlat c.args.self.now f = rw (← c.self.view_is) c.self.invariant.stands in
-    let out = subst (λ why. IsResult f c.args.by.part c.in-Ok.admitted.1 c.args.self.now (Err why) c.serve.new.self) c.in-Err-Unmet.field-0-is (c.in-Err-Unmet.ensures.outcome f stands) in
-    subst (NamesAsked (call_event c.args.by c.args.frame.now)) (ap (λ s. s.1) (refused_step f c.args.by c.args.frame.now c.in-Err-Unmet.rule (c.in-Ok.ensures.further f stands ∙ out.0)) ∙ sym answered) (names_asked f (call_event c.args.by c.args.frame.now))
-
-pub returns-in-Err-Unmet-clause-result : goal.returns-in-Err-Unmet-clause-result
-returns-in-Err-Unmet-clause-result g c =
-    let answered : c.refused_reply-in-Err-Unmet.result ≡ refusal (Hypercall c.args.frame.now) c.in-Err-Unmet.rule = search rules in
-    let f = c.self.invariant.flat in
-    let stands : IsFlat c.args.self.now f = rw (← c.self.view_is) c.self.invariant.stands in
-    let out = subst (λ why. IsResult f c.args.by.part c.in-Ok.admitted.1 c.args.self.now (Err why) c.serve.new.self) c.in-Err-Unmet.field-0-is (c.in-Err-Unmet.ensures.outcome f stands) in
-    subst HasResult (ap (λ s. s.1) (refused_step f c.args.by c.args.frame.now c.in-Err-Unmet.rule (c.in-Ok.ensures.further f stands ∙ out.0)) ∙ sym answered) (has_result f c.args.by c.args.frame.now)
-
-pub returns-in-Err-Memory-clause-refused : goal.returns-in-Err-Memory-clause-refused
-returns-in-Err-Memory-clause-refused g c f flat =
-    let out = subst (λ why. IsResult f c.args.by.part c.in-Ok.admitted.1 c.args.self.now (Err why) c.serve.new.self) c.in-Err-Memory.field-0-is (c.in-Err-Memory.ensures.outcome f flat) in
-    c.in-Ok.ensures.further f flat ∙ out.0
-
-pub returns-in-Err-Memory-clause-memory : goal.returns-in-Err-Memory-clause-memory
-returns-in-Err-Memory-clause-memory g c =
-    let f = c.self.invariant.flat in
-    let stands : IsFlat c.args.self.now f = rw (← c.self.view_is) c.self.invariant.stands in
-    let out = subst (λ why. IsResult f c.args.by.part c.in-Ok.admitted.1 c.args.self.now (Err why) c.serve.new.self) c.in-Err-Memory.field-0-is (c.in-Err-Memory.ensures.outcome f stands) in
-    let takes : takes_memory (kind_of_call c.in-Ok.admitted.1) ≡ true = out.1 in
-    search rules
-
-pub returns-in-Err-Memory-clause-kept : goal.returns-in-Err-Memory-clause-kept
-returns-in-Err-Memory-clause-kept g c =
-    let f = c.self.invariant.flat in
-    let stands : IsFlat c.args.self.now f = rw (← c.self.view_is) c.self.invariant.stands in
-    let out = subst (λ why. IsResult f c.args.by.part c.in-Ok.admitted.1 c.args.self.now (Err why) c.serve.new.self) c.in-Err-Memory.field-0-is (c.in-Err-Memory.ensures.outcome f stands) in
-    out.2
-
 pub returns-in-Err-clause-sound : goal.returns-in-Err-clause-sound
 returns-in-Err-clause-sound g c = sound c.args.self.now (rw (← c.self.view_is) c.self.invariant)
-
-pub returns-in-Ok-serve-clause-sound : goal.returns-in-Ok-serve-clause-sound
-returns-in-Ok-serve-clause-sound g c = sound c.serve.new.self c.serve.ensures.lasting
-
-pub returns-in-Err-Unmet-clause-sound : goal.returns-in-Err-Unmet-clause-sound
-returns-in-Err-Unmet-clause-sound g c = sound c.serve.new.self c.serve.ensures.lasting
-
-pub returns-in-Err-Memory-clause-sound : goal.returns-in-Err-Memory-clause-sound
-returns-in-Err-Memory-clause-sound g c = sound c.serve.new.self c.serve.ensures.lasting
 
 pub returns-in-Err-clause-confined : goal.returns-in-Err-clause-confined
 returns-in-Err-clause-confined g c f h flat after =
     nothing_is_confined c.args.self.now (call_event c.args.by c.args.frame.now) f h flat after
-
-pub returns-in-Ok-serve-clause-confined : goal.returns-in-Ok-serve-clause-confined
-returns-in-Ok-serve-clause-confined g c f h flat after =
-    let done = c.in-Ok-serve.ensures.outcome f flat in
-    let served = served_step f c.args.by c.args.frame.now c.in-Ok.admitted.1 c.in-Ok.ensures.call.called (c.in-Ok.ensures.further f flat ∙ done.met) in
-    step_is_confined c.serve.new.self (call_event c.args.by c.args.frame.now) f h (subst (IsFlat c.serve.new.self) (sym served) done.flat) after
-
-pub returns-in-Err-Unmet-clause-confined : goal.returns-in-Err-Unmet-clause-confined
-returns-in-Err-Unmet-clause-confined g c f h flat after =
-    step_is_confined c.serve.new.self (call_event c.args.by c.args.frame.now) f h (returns-in-Err-Unmet-clause-state g c f flat) after
-
-pub returns-in-Err-Memory-clause-confined : goal.returns-in-Err-Memory-clause-confined
-returns-in-Err-Memory-clause-confined g c f h flat after =
-    let out = subst (λ why. IsResult f c.args.by.part c.in-Ok.admitted.1 c.args.self.now (Err why) c.serve.new.self) c.in-Err-Memory.field-0-is (c.in-Err-Memory.ensures.outcome f flat) in
-    nothing_is_confined c.serve.new.self (call_event c.args.by c.args.frame.now) f h (subst (λ m. IsFlat m f) (sym out.2) flat) after

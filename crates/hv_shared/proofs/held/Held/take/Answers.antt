@@ -5,6 +5,7 @@ use Rattle.std.specs.Prelude.{map}
 use Rattle.hv_history.specs.History.{IsOfLastCall, entries, entry_by}
 use Rattle.hv_history.specs.Kept.{Kept}
 use Rattle.hv_history.specs.Output.{shown}
+use Rattle.hv_history.specs.Run.{GoesOnWithLast}
 use Rattle.hv_policy.specs.Parts.{reply_of}
 use Rattle.hv_history.specs.declared.entry.Entry.{Entry}
 use Rattle.hv_policy.specs.declared.event.Event.{Event}
@@ -67,7 +68,7 @@ returns-in-Ok-clause-held g c =
     (subst (λ (r : Receipts). HasUsedOne event (room_in r) (room_in c.push.new.self)) c.deref_mut.ensures.value c.push.ensures.room)))
 
 pub take-requires : goal.take-requires
-take-requires g c = λ on. subst (λ (h : HeldValue). IsOfLastCall c.args.event.now h.kept.history) (sym c.self.view_is) (c.requires.call on)
+take-requires g c = λ on. subst (λ (h : HeldValue). GoesOnWithLast c.args.event.now h.kept.history) (sym c.self.view_is) (c.requires.call on)
 
 pub push-requires-clause-call : goal.push-requires-clause-call
 push-requires-clause-call g c = λ on.
