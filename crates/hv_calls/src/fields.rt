@@ -41,17 +41,24 @@ fn bytes_at<A: Allocator, const N: usize>(frame: &Frame<A>, shape: &Shape, at: u
         ≡ slice_index (input_of frame.now shape.now.fast) (at + k) }
 {
     let input = frame.input.as_slice();
-    if shape.fast || at + N > input.len() {
-        return each_byte_at(frame, shape, at);
+    if shape.fast {
+        return fast_bytes_at(frame, shape, at);
+    }
+    if at + N > input.len() {
+        return last_bytes_at(input, at);
     }
     let mut bytes = [0; N];
     bytes.copy_from_slice(&input[at..at + N]);
     bytes
 }
 
-// The same, byte by byte. Not inlined, since most fields stand whole in an input list.
+// The same of a fast frame, byte by byte. Not inlined, since most fields stand in an input list.
 #[inline(never)]
-fn each_byte_at<A: Allocator, const N: usize>(frame: &Frame<A>, shape: &Shape, at: usize) -> [u8; N]
+fn fast_bytes_at<A: Allocator, const N: usize>(
+    frame: &Frame<A>,
+    shape: &Shape,
+    at: usize,
+) -> [u8; N]
     requires place { at < 2 ^ 33 }
     requires few { N < 9 }
     ensures len { length result ≡ N }
@@ -61,6 +68,20 @@ fn each_byte_at<A: Allocator, const N: usize>(frame: &Frame<A>, shape: &Shape, a
     let mut bytes = [0; N];
     for i in 0..N {
         bytes[i] = frame.byte(shape, at + i);
+    }
+    bytes
+}
+
+// The `N` bytes at a place of a list that ends before the last of them: those that are there, and zeros.
+#[inline(never)]
+fn last_bytes_at<const N: usize>(input: &[u8], at: usize) -> [u8; N]
+    requires { length input.now < at + N }
+    ensures len { length result ≡ N }
+    ensures bytes { (k : ℕ) → k < N → slice_index result k ≡ slice_index input.now (at + k) }
+{
+    let mut bytes = [0; N];
+    if at < input.len() {
+        bytes[..input.len() - at].copy_from_slice(&input[at..]);
     }
     bytes
 }

@@ -105,7 +105,9 @@ fn exchange_noted<T, A: Allocator>(
     }
 }
 
-// Swaps the content of the node with the id, if there is one, with the slot's. No noted way leads there.
+// Swaps the content of the node with the id, if there is one, with the slot's. No noted way leads there. Not
+// inlined, since mostly one does.
+#[inline(never)]
 fn exchange_far<T, A: Allocator>(
     root: &mut Node<T, A>,
     index: &Index<A>,

@@ -44,7 +44,8 @@ pub(crate) fn seek_noted<'t, T, A: Allocator>(
     root.follow(ways.to(id), id)
 }
 
-// The node with the id, to which no noted way leads.
+// The node with the id, to which no noted way leads. Not inlined, since mostly one does.
+#[inline(never)]
 fn seek_far<'t, T, A: Allocator>(
     root: &'t Node<T, A>,
     index: &Index<A>,

@@ -7,7 +7,7 @@ ghost use Rattle.std.specs.Option.{option_map};
 ghost use Rattle.hv_tree.specs.Rows.{children_in, IsLeastAbove};
 ghost use Rattle.hv_tree.specs.Edited.{edited_in, IsEditedFrom};
 ghost use Rattle.hv_tree.specs.Index.{parents, IsIndexOf, IsWay, IsPath};
-ghost use Rattle.hv_tree.specs.Nest.{has_row, look, put_at, taken, top, first_content, IsGrownBy, IsWithout};
+ghost use Rattle.hv_tree.specs.Nest.{has_row, put_at, taken, top, first_content, IsGrownBy, IsWithout};
 ghost use Rattle.hv_tree.specs.Nest.{IsFound, IsNest, AreDistinct, HasDepthIn};
 
 use crate::edit::Edit;

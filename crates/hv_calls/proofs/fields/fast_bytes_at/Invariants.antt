@@ -1,6 +1,6 @@
 use Rattle.std.proofs.Common.{◌≡◌, ℕ, ◌+◌, ◌<◌, length, slice_index}
 use Rattle.hv_abi.specs.Check.{input_of}
-use Rattle.hv_calls.proofs.fields.each_byte_at.Given as goal
+use Rattle.hv_calls.proofs.fields.fast_bytes_at.Given as goal
 
 abbrev pub invariant-loop-i : goal.invariant-loop-i
 invariant-loop-i g l = record {
