@@ -1,5 +1,5 @@
 // The input value.
-ghost use Rattle.std.specs.Prelude.{◌≡◌, ◌+◌, ◌≤◌, ◌<◌};
+ghost use Rattle.std.specs.Prelude.{◌≡◌, ◌<◌};
 ghost use Rattle.hv_defs.specs.Bits.{bits as bits_of};
 
 /// The input value of a hypercall, which stands in RCX (TLFS 4.0, "Hypercall Inputs").

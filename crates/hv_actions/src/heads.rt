@@ -1,5 +1,5 @@
 // What calls that follow one another share.
-ghost use Rattle.std.specs.Prelude.{◌≡◌, ◌+◌, ◌^◌, ◌<◌, ◌≤◌, ◌↔◌, [], IfOk, IsTrue, length, take, vec_len};
+ghost use Rattle.std.specs.Prelude.{◌≡◌, ◌+◌, ◌^◌, ◌<◌, ◌≤◌, ◌↔◌, [], IfOk, IsTrue, take, vec_len};
 ghost use Rattle.hv_policy.specs.declared.event.Action.TheVariants.{Hypercall};
 ghost use Rattle.hv_actions.specs.Row.{AreWithin, IsPlaced, action_at, bytes_at, call_under, head_at};
 ghost use Rattle.hv_actions.specs.Row.{input_at};

@@ -1,7 +1,7 @@
 // The tasks of a script's processors.
 ghost use Rattle.std.specs.Prelude.{◌≡◌, ◌≢◌, ◌≤◌, ◌<◌, [], ℕ, All, IfOk, IfNone, IfSome, IsSome, IsTrue};
 ghost use Rattle.std.specs.Prelude.{Some};
-ghost use Rattle.std.specs.Prelude.{length, map, reverse, slice_index_or, vec_capacity, vec_len};
+ghost use Rattle.std.specs.Prelude.{length, reverse, slice_index_or, vec_capacity, vec_len};
 ghost use Rattle.std.specs.List.{Contains, SwappedAt};
 ghost use Rattle.std.specs.List.Sorted.{IsPermutation};
 ghost use Rattle.hv_phases.specs.Crew.{AreIdleFrom, IsGoing, caller_of, callers_in, passes_in};

@@ -1,5 +1,5 @@
 // What the calls and accesses of this chapter change in the tree.
-ghost use Rattle.std.specs.Prelude.{◌≡◌, true, false, OnOk, OnErr};
+ghost use Rattle.std.specs.Prelude.{◌≡◌, true, OnOk, OnErr};
 ghost use Rattle.std.specs.FinMap.{contains_key, insert};
 ghost use Rattle.std.specs.FinMap as map;
 ghost use Rattle.hv_defs.specs.Registers.{name_of_msr};

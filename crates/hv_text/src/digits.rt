@@ -1,5 +1,5 @@
 // Hexadecimal digits, sixteen at once.
-ghost use Rattle.std.specs.Prelude.{◌≡◌, ◌<◌, length, map, slice_index};
+ghost use Rattle.std.specs.Prelude.{◌≡◌, ◌<◌, map, slice_index};
 ghost use Rattle.std.specs.Int.{w64, to_be_bytes, to_le_bytes};
 ghost use Rattle.std.specs.Simd.Lanes.{Each1};
 ghost use Rattle.hex.specs.Hex.{encode_lower, lower_digits};

@@ -1,5 +1,5 @@
 // Many threads, each with a pass.
-ghost use Rattle.std.specs.Prelude.{◌≡◌, ◌<◌, ◌≤◌, ◌+◌, [], ℕ, List, IfOk, IfErr, OnOk, OnErr, length};
+ghost use Rattle.std.specs.Prelude.{◌≡◌, ◌<◌, ◌≤◌, ◌+◌, [], ℕ, IfOk, IfErr, length};
 ghost use Rattle.std.specs.Prelude.{vec_len, vec_capacity, slice_index_or, map, reverse};
 ghost use Rattle.hv_threads.specs.Phase.{IsDoneAt, EachDone, done_of};
 ghost use Rattle.hv_threads.specs.declared.phase.Task.{Task};
