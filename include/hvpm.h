@@ -69,10 +69,16 @@ typedef struct hvpm_reply {
     uint32_t rule;         /* the number of the rule that refuses, 1 to 27, or 0 where the event was served */
     uint64_t result;       /* of a hypercall the result value for RAX; 0 of an access */
     uint32_t next;         /* where the kind is HVPM_MORE the start index with which the call goes on; else 0 */
-    uint32_t output_len;   /* how many bytes of `output` the event put out; the bytes after them are as they were */
+    uint32_t output_len;   /* how many bytes of `output` the event put out; the bytes after them are of no meaning */
     uint32_t line_len;     /* how many bytes the audit's line has, with its line feed; 0 where no line was asked for */
     uint8_t output[256];
 } hvpm_reply;
+
+/* What became of the elements of a call that were taken one after another. */
+typedef struct hvpm_run_done {
+    uint32_t events;       /* how many there were, one at least */
+    uint32_t output_len;   /* how many bytes they put out, one element's behind the other's */
+} hvpm_run_done;
 
 /* How an event was answered. Of the last two nothing changed but the count of events. */
 enum {
@@ -91,7 +97,7 @@ enum {
     HVPM_PAGES = 6,        /* boot: no pages, or more than 65,536 */
     HVPM_POOL = 7,         /* boot: more pooled pages than pages */
     HVPM_VPS = 8,          /* boot: no processors, more than 64, or more than the pool pays for */
-    HVPM_SHORT = 3,        /* the line's buffer has bytes, but fewer than HVPM_LINE */
+    HVPM_SHORT = 3,        /* the line's buffer has bytes, but fewer than HVPM_LINE; that for outputs has fewer than HVPM_OUTPUT */
     HVPM_USED_UP = 4,      /* the machine served 2^32 - 1 events, or took 2^64 - 1: it takes no more */
     HVPM_MEMORY = 5        /* malloc has no memory for it; it may be tried again. No access answers this */
 };
@@ -99,10 +105,15 @@ enum {
 /* A buffer of so many bytes has room for every line of the audit. */
 #define HVPM_LINE 768
 
+/* No element of a call puts out more bytes. */
+#define HVPM_OUTPUT 16
+
 /* What the library itself has. The functions below add the tests for null, and are to be called in place of these. */
 uint32_t hv_embed_boot(hvpm_machine *machine, const hvpm_config *config);
 uint32_t hv_embed_hypercall(hvpm_machine *machine, hvpm_caller by, const hvpm_registers *registers, const uint8_t *input,
                             size_t input_len, hvpm_reply *reply, uint8_t *line, size_t line_size);
+uint32_t hv_embed_run(hvpm_machine *machine, hvpm_caller by, const hvpm_registers *registers, const uint8_t *input, size_t input_len,
+                      hvpm_reply *reply, uint8_t *outputs, size_t outputs_size, hvpm_run_done *done);
 uint32_t hv_embed_read_msr(hvpm_machine *machine, hvpm_caller by, uint32_t msr, hvpm_reply *reply, uint8_t *line, size_t line_size);
 uint32_t hv_embed_write_msr(hvpm_machine *machine, hvpm_caller by, uint32_t msr, uint64_t value, hvpm_reply *reply, uint8_t *line,
                             size_t line_size);
@@ -151,6 +162,23 @@ static inline uint32_t hvpm_hypercall(hvpm_machine *machine, hvpm_caller by, con
     if (hvpm_lacks(machine, reply, line, line_size) || !registers || (!input && input_len != 0)) return HVPM_NULL;
     return hv_embed_hypercall(machine, by, registers, hvpm_or_none(input, input_len), input_len, reply,
                               hvpm_or_none(line, line_size), line_size);
+}
+
+/*
+ * Takes a hypercall as `hvpm_hypercall` does, and of a rep call the elements after it, too, each as an event of its own: up to the
+ * last, or to one that a rule refuses; or until fewer than HVPM_OUTPUT bytes of `outputs` are left, the machine takes no more
+ * events, or malloc has no memory for the next element, which then didn't happen. It is the same as to call `hvpm_hypercall` and
+ * `hvpm_next` again and again, in half the time: the input list is copied once. The reply is that of the last element that was
+ * taken; where its kind is HVPM_MORE, the caller goes on with `hvpm_next`. `outputs` takes what the elements put out, for the guest's
+ * memory at R8, from that of the first one on. No line of the audit is handed back: who wants one takes the elements one by one.
+ *
+ * HVPM_SHORT says that `outputs` has fewer than HVPM_OUTPUT bytes. Bytes of it past `done->output_len` are of no meaning.
+ */
+static inline uint32_t hvpm_run(hvpm_machine *machine, hvpm_caller by, const hvpm_registers *registers, const void *input,
+                                size_t input_len, hvpm_reply *reply, void *outputs, size_t outputs_size, hvpm_run_done *done) {
+    if (hvpm_lacks(machine, reply, outputs, outputs_size) || !registers || !done || (!input && input_len != 0)) return HVPM_NULL;
+    return hv_embed_run(machine, by, registers, hvpm_or_none(input, input_len), input_len, reply,
+                        hvpm_or_none(outputs, outputs_size), outputs_size, done);
 }
 
 /* RCX of the element with which a call goes on after a reply whose kind is HVPM_MORE. */
@@ -218,6 +246,7 @@ HVPM_HOLDS(sizeof(hvpm_machine) == 24 && offsetof(hvpm_machine, events) == 8 && 
 HVPM_HOLDS(sizeof(hvpm_config) == 24 && offsetof(hvpm_config, pages) == 8 && offsetof(hvpm_config, vps) == 16);
 HVPM_HOLDS(sizeof(hvpm_caller) == 16 && offsetof(hvpm_caller, vp) == 8);
 HVPM_HOLDS(sizeof(hvpm_registers) == 24 && offsetof(hvpm_registers, r8) == 16);
+HVPM_HOLDS(sizeof(hvpm_run_done) == 8 && offsetof(hvpm_run_done, output_len) == 4);
 HVPM_HOLDS(sizeof(hvpm_reply) == 288 && offsetof(hvpm_reply, result) == 8 && offsetof(hvpm_reply, output) == 28);
 
 #endif

@@ -1,5 +1,5 @@
 // A list of bytes.
-ghost use Rattle.std.specs.Prelude.{◌≡◌, IfOk, slice_index};
+ghost use Rattle.std.specs.Prelude.{◌≡◌, [], IfOk, OnOk, OnErr, slice_index};
 
 use std::alloc::{AllocError, Allocator};
 use std::marker::Model;
@@ -24,6 +24,25 @@ impl<A: Allocator> Bytes<A> {
         ensures { result ≡ bytes.items }
     {
         Bytes { bytes }
+    }
+
+    /// Takes these bytes in place of its own, in the memory that it has where that is enough. Where the host
+    /// has no more it has none.
+    pub fn refill(&mut self, bytes: &[u8]) -> Result<(), AllocError>
+        ensures ok { OnOk result (self.new ≡ bytes.now) }
+        ensures err { OnErr result (self.new ≡ []) }
+    {
+        self.bytes.clear();
+        // Most calls have no input list.
+        if bytes.is_empty() {
+            return Ok(());
+        }
+        self.bytes.extend_from_slice(bytes)
+    }
+
+    /// How many bytes it has memory for.
+    pub fn capacity(&self) -> usize {
+        self.bytes.capacity()
     }
 
     /// The bytes as a vector, in the memory that they have.

@@ -53,7 +53,7 @@ pub enum AbiFault {
 
 impl<A: Allocator> Frame<A> {
     ghost use Rattle.hv_defs.specs.declared.sizes.TheConstants.{REPS_END};
-    ghost use Rattle.hv_abi.specs.Check.{IsShape, are_lists_placed, first_fault, input_of};
+    ghost use Rattle.hv_abi.specs.Check.{IsShape, are_lists_placed, call_of, first_fault, input_of};
 
     /// Accepts a frame of a call, or names its first fault.
     pub fn check(&self) -> Result<Shape, AbiFault>
@@ -61,8 +61,19 @@ impl<A: Allocator> Frame<A> {
         ensures only { (s : Shape) → IsShape self.now s → result ≡ Ok s }
         ensures fault { IfErr result (λ e. first_fault self.now ≡ Some e) }
     {
-        let value = InputValue::read(self.rcx);
-        let Some(kind) = CallKind::of(value.call) else {
+        self.check_as(CallKind::of(InputValue::read(self.rcx).call))
+    }
+
+    /// The same where the call that the frame names, if it names one, is known. Inlined, since where the source
+    /// names the call its row is known, too.
+    #[inline(always)]
+    pub fn check_as(&self, named: Option<CallKind>) -> Result<Shape, AbiFault>
+        requires { call_of self.now ≡ named }
+        ensures shape { IfOk result (IsShape self.now) }
+        ensures only { (s : Shape) → IsShape self.now s → result ≡ Ok s }
+        ensures fault { IfErr result (λ e. first_fault self.now ≡ Some e) }
+    {
+        let Some(kind) = named else {
             return Err(AbiFault::UnknownCode);
         };
         let row = kind.row();
@@ -72,15 +83,22 @@ impl<A: Allocator> Frame<A> {
         if !self.places_lists(row) {
             return Err(AbiFault::Alignment);
         }
+        let InputValue {
+            fast,
+            reps,
+            start,
+            ..
+        } = InputValue::read(self.rcx);
         Ok(Shape {
             kind,
-            fast: value.fast,
-            reps: value.reps,
-            start: value.start,
+            fast,
+            reps,
+            start,
         })
     }
 
     // Whether the lists of a call with this row may stand at their addresses.
+    #[inline(always)]
     fn places_lists(&self, row: CallRow) -> bool
         ensures { result ≡ are_lists_placed row self.now }
     {

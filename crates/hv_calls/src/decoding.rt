@@ -25,7 +25,9 @@ pub struct Malformed;
 
 /// The call that a frame holds, with its parameters, or Malformed where one of them is so by itself.
 /// Bytes that the frame lacks at its end read as zero. The shape is to be this frame's, from
-/// [`Frame::check`].
+/// [`Frame::check`]. Inlined with all that it calls, since of a call that the source names the parameters are
+/// known, too, and need no place in memory.
+#[inline(always)]
 pub fn decode<'f, A: Allocator>(frame: &'f Frame<A>, shape: &Shape) -> Result<Call<'f>, Malformed>
     requires { IsShape frame.now shape.now }
     ensures ok { IfOk result (Params frame.now shape.now.kind) }
@@ -56,6 +58,7 @@ pub fn decode_plain<A: Allocator>(frame: &Frame<A>, shape: &Shape) -> Option<Cal
 }
 
 // The place of the element at a frame's start index.
+#[inline(always)]
 fn element_at(shape: &Shape) -> usize
     ensures place { result ≡ place_of_element shape.now.kind shape.now.start }
     ensures near { result < 2 ^ 32 }
@@ -65,6 +68,7 @@ fn element_at(shape: &Shape) -> usize
 }
 
 // The call of a frame, of whose element the place is given.
+#[inline(always)]
 fn decode_at<'f, A: Allocator>(
     frame: &'f Frame<A>,
     shape: &Shape,
@@ -110,6 +114,7 @@ fn decode_at<'f, A: Allocator>(
     }
 }
 
+#[inline(always)]
 fn get_partition_property<A: Allocator>(frame: &Frame<A>, shape: &Shape) -> Call<'static>
     ensures { result ≡ call_in CallKind.GetPartitionProperty (input_of frame.now shape.now.fast) 0 }
 {
@@ -119,6 +124,7 @@ fn get_partition_property<A: Allocator>(frame: &Frame<A>, shape: &Shape) -> Call
     }
 }
 
+#[inline(always)]
 fn set_partition_property<A: Allocator>(frame: &Frame<A>, shape: &Shape) -> Call<'static>
     ensures { result ≡ call_in CallKind.SetPartitionProperty (input_of frame.now shape.now.fast) 0 }
 {
@@ -129,6 +135,7 @@ fn set_partition_property<A: Allocator>(frame: &Frame<A>, shape: &Shape) -> Call
     }
 }
 
+#[inline(always)]
 fn get_next_child_partition<A: Allocator>(frame: &Frame<A>, shape: &Shape) -> Call<'static>
     ensures { result ≡ call_in CallKind.GetNextChildPartition (input_of frame.now shape.now.fast) 0 }
 {
@@ -138,6 +145,7 @@ fn get_next_child_partition<A: Allocator>(frame: &Frame<A>, shape: &Shape) -> Ca
     }
 }
 
+#[inline(always)]
 fn deposit_memory<A: Allocator>(frame: &Frame<A>, shape: &Shape, element: usize) -> Call<'static>
     requires { element < 2 ^ 32 }
     ensures { result ≡ call_in CallKind.DepositMemory (input_of frame.now shape.now.fast) element }
@@ -148,6 +156,7 @@ fn deposit_memory<A: Allocator>(frame: &Frame<A>, shape: &Shape, element: usize)
     }
 }
 
+#[inline(always)]
 fn create_vp<A: Allocator>(frame: &Frame<A>, shape: &Shape) -> Call<'static>
     ensures { result ≡ call_in CallKind.CreateVp (input_of frame.now shape.now.fast) 0 }
 {
@@ -157,6 +166,7 @@ fn create_vp<A: Allocator>(frame: &Frame<A>, shape: &Shape) -> Call<'static>
     }
 }
 
+#[inline(always)]
 fn delete_vp<A: Allocator>(frame: &Frame<A>, shape: &Shape) -> Call<'static>
     ensures { result ≡ call_in CallKind.DeleteVp (input_of frame.now shape.now.fast) 0 }
 {
@@ -166,6 +176,7 @@ fn delete_vp<A: Allocator>(frame: &Frame<A>, shape: &Shape) -> Call<'static>
     }
 }
 
+#[inline(always)]
 fn get_vp_registers<A: Allocator>(frame: &Frame<A>, shape: &Shape, element: usize) -> Call<'static>
     requires { element < 2 ^ 32 }
     ensures { result ≡ call_in CallKind.GetVpRegisters (input_of frame.now shape.now.fast) element }
@@ -177,6 +188,7 @@ fn get_vp_registers<A: Allocator>(frame: &Frame<A>, shape: &Shape, element: usiz
     }
 }
 
+#[inline(always)]
 fn set_vp_registers<A: Allocator>(
     frame: &Frame<A>,
     shape: &Shape,
@@ -197,6 +209,7 @@ fn set_vp_registers<A: Allocator>(
     })
 }
 
+#[inline(always)]
 fn delete_port<A: Allocator>(frame: &Frame<A>, shape: &Shape) -> Result<Call<'static>, Malformed>
     ensures { result ≡ decoded CallKind.DeletePort (input_of frame.now shape.now.fast) 0 }
 {
@@ -208,6 +221,7 @@ fn delete_port<A: Allocator>(frame: &Frame<A>, shape: &Shape) -> Result<Call<'st
     Ok(Call::DeletePort { partition, port })
 }
 
+#[inline(always)]
 fn disconnect_port<A: Allocator>(
     frame: &Frame<A>,
     shape: &Shape,
@@ -225,6 +239,7 @@ fn disconnect_port<A: Allocator>(
     })
 }
 
+#[inline(always)]
 fn post_message<'f, A: Allocator>(frame: &'f Frame<A>, shape: &Shape) -> Result<Call<'f>, Malformed>
     ensures { result ≡ decoded CallKind.PostMessage (input_of frame.now shape.now.fast) 0 }
 {
@@ -241,6 +256,7 @@ fn post_message<'f, A: Allocator>(frame: &'f Frame<A>, shape: &Shape) -> Result<
     })
 }
 
+#[inline(always)]
 fn signal_event<A: Allocator>(frame: &Frame<A>, shape: &Shape) -> Result<Call<'static>, Malformed>
     ensures { result ≡ decoded CallKind.SignalEvent (input_of frame.now shape.now.fast) 0 }
 {
@@ -252,6 +268,7 @@ fn signal_event<A: Allocator>(frame: &Frame<A>, shape: &Shape) -> Result<Call<'s
     Ok(Call::SignalEvent { connection, flag })
 }
 
+#[inline(always)]
 fn create_port<A: Allocator>(frame: &Frame<A>, shape: &Shape) -> Result<Call<'static>, Malformed>
     ensures { result ≡ decoded CallKind.CreatePort (input_of frame.now shape.now.fast) 0 }
 {
@@ -278,6 +295,7 @@ fn create_port<A: Allocator>(frame: &Frame<A>, shape: &Shape) -> Result<Call<'st
     })
 }
 
+#[inline(always)]
 fn connect_port<A: Allocator>(frame: &Frame<A>, shape: &Shape) -> Result<Call<'static>, Malformed>
     ensures { result ≡ decoded CallKind.ConnectPort (input_of frame.now shape.now.fast) 0 }
 {

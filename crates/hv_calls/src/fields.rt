@@ -8,6 +8,7 @@ use hv_abi::{Frame, Shape};
 use std::alloc::Allocator;
 
 // The 8 bytes at a place as a number.
+#[inline(always)]
 pub fn u64_at<A: Allocator>(frame: &Frame<A>, shape: &Shape, at: usize) -> u64
     requires { at < 2 ^ 33 }
     ensures { result ≡ field (input_of frame.now shape.now.fast) at 8 }
@@ -16,6 +17,7 @@ pub fn u64_at<A: Allocator>(frame: &Frame<A>, shape: &Shape, at: usize) -> u64
 }
 
 // The 4 bytes at a place as a number.
+#[inline(always)]
 pub fn u32_at<A: Allocator>(frame: &Frame<A>, shape: &Shape, at: usize) -> u32
     requires { at < 2 ^ 33 }
     ensures { result ≡ field (input_of frame.now shape.now.fast) at 4 }
@@ -24,6 +26,7 @@ pub fn u32_at<A: Allocator>(frame: &Frame<A>, shape: &Shape, at: usize) -> u32
 }
 
 // The 2 bytes at a place as a number.
+#[inline(always)]
 pub fn u16_at<A: Allocator>(frame: &Frame<A>, shape: &Shape, at: usize) -> u16
     requires { at < 2 ^ 33 }
     ensures { result ≡ field (input_of frame.now shape.now.fast) at 2 }
@@ -42,7 +45,7 @@ fn bytes_at<A: Allocator, const N: usize>(frame: &Frame<A>, shape: &Shape, at: u
 {
     let input = frame.input.as_slice();
     if shape.fast {
-        return fast_bytes_at(frame, shape, at);
+        return fast_bytes_at(frame, *shape, at);
     }
     if at + N > input.len() {
         return last_bytes_at(input, at);
@@ -52,22 +55,19 @@ fn bytes_at<A: Allocator, const N: usize>(frame: &Frame<A>, shape: &Shape, at: u
     bytes
 }
 
-// The same of a fast frame, byte by byte. Not inlined, since most fields stand in an input list.
+// The same of a fast frame, byte by byte. Not inlined, since most fields stand in an input list. The shape is
+// given by value, so that whoever has it needn't keep it in memory.
 #[inline(never)]
-fn fast_bytes_at<A: Allocator, const N: usize>(
-    frame: &Frame<A>,
-    shape: &Shape,
-    at: usize,
-) -> [u8; N]
+fn fast_bytes_at<A: Allocator, const N: usize>(frame: &Frame<A>, shape: Shape, at: usize) -> [u8; N]
     requires place { at < 2 ^ 33 }
     requires few { N < 9 }
     ensures len { length result ≡ N }
     ensures bytes { (k : ℕ) → k < N → slice_index result k
-        ≡ slice_index (input_of frame.now shape.now.fast) (at + k) }
+        ≡ slice_index (input_of frame.now shape.fast) (at + k) }
 {
     let mut bytes = [0; N];
     for i in 0..N {
-        bytes[i] = frame.byte(shape, at + i);
+        bytes[i] = frame.byte(&shape, at + i);
     }
     bytes
 }

@@ -1,2 +1,4 @@
 mod AsBox
 mod Crosses
+mod Elements
+mod Outputs

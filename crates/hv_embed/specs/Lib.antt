@@ -1,3 +1,4 @@
 pub mod Answer
 pub mod Holds
+pub mod Run
 pub mod Taken

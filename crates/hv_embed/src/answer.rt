@@ -1,42 +1,59 @@
 // The answer to an event, as C reads it.
-ghost use Rattle.std.specs.Prelude.{◌≡◌, ◌<◌, ◌≤◌, ℕ, List, [], length, take, false};
+ghost use Rattle.std.specs.Prelude.{◌≡◌, ◌<◌, ◌≤◌, [], length, take, false};
 ghost use Rattle.hv_defs.specs.declared.sizes.TheConstants.{REPS_END};
 ghost use Rattle.hv_history.specs.Row.{next_in};
 ghost use Rattle.hv_machine.specs.Access.{access_event};
-ghost use Rattle.hv_policy.specs.Call.{action_of as action_by};
+ghost use Rattle.hv_policy.specs.Call.{action_of as action_by, call_event};
 ghost use Rattle.hv_policy.specs.Parts.{reply_of};
+ghost use Rattle.hv_policy.specs.declared.event.Action.TheVariants.{Hypercall};
 ghost use Rattle.hv_embed.specs.Answer.{HasOutput, IsAnswer, Says, line_text};
-ghost use Rattle.hv_embed.specs.Answer.{result_in as result_value_in};
 ghost use Rattle.hv_embed.specs.Taken.{HasLine, is_short as is_short_len};
 
+use crate::housed::no_frame;
 use crate::layout::{DENIED, FAULT, HvReply, MORE, SERVED};
+use hv_abi::Frame;
+use hv_history::frame_of;
 use hv_machine::{Access, Action, Answer, Caller, Event};
 use hv_text::{LINE, Scratch, audit_line, result_value};
 use std::alloc::Global;
+use std::mem::replace;
 
-// Answers an event with its reply, in its two parts, and puts the audit's line into a buffer that has bytes.
+// Answers the call of a frame with its reply, in its parts, and puts the audit's line into a buffer that has
+// bytes.
 pub(crate) fn answer(
-    event: &Event<Global>,
+    alloc: Global,
+    by: Caller,
+    frame: &mut Frame<Global>,
     number: u64,
     told: Answer,
-    output: &[u8],
+    output: [u8; 16],
+    len: usize,
     scratch: &mut Scratch,
     reply: &mut HvReply,
     line: &mut [u8],
 )
     requires room { is_short_len (length line.old) ≡ false }
-    requires most { length output.now ≤ 256 }
+    requires most { len ≤ 16 }
     requires index { next_in (reply_of told []) < REPS_END }
-    ensures answer { IsAnswer reply.new event.now.what (reply_of told output.now) }
+    ensures answer { IsAnswer reply.new (Hypercall frame.old) (reply_of told (take len output)) }
     ensures line { HasLine line.new reply.new.line_len
-        (line_text number event.now (reply_of told output.now)) }
+        (line_text number (call_event by frame.old) (reply_of told (take len output))) }
 {
-    say(told, output, reply);
-    reply.result = result_in(&event.what, told);
+    say_call(told, output, len, reply);
+    reply.result = result_value::<Global>(frame.rcx, told);
     reply.line_len = if line.is_empty() {
         0
     } else {
-        put_line(scratch, line, event, number, told, output)
+        put_call_line(
+            alloc,
+            scratch,
+            line,
+            by,
+            frame,
+            number,
+            told,
+            &output[..len],
+        )
     };
 }
 
@@ -87,6 +104,34 @@ fn put_line(
     audit_line(scratch, line, number, event, told, output) as u32
 }
 
+// Puts the audit's line of the call of a frame alike. The frame is an event only as long as that takes.
+#[inline(never)]
+fn put_call_line(
+    alloc: Global,
+    scratch: &mut Scratch,
+    line: &mut [u8],
+    by: Caller,
+    frame: &mut Frame<Global>,
+    number: u64,
+    told: Answer,
+    output: &[u8],
+) -> u32
+    requires room { LINE ≤ length line.old }
+    requires most { length output.now ≤ 256 }
+    requires index { next_in (reply_of told []) < REPS_END }
+    ensures text { take result line.new
+        ≡ line_text number (call_event by frame.old) (reply_of told output.now) }
+    ensures most { result ≤ LINE }
+{
+    let event = Event {
+        by,
+        what: Action::Hypercall(replace(frame, no_frame(alloc))),
+    };
+    let len = put_line(scratch, line, &event, number, told, output);
+    *frame = frame_of(event);
+    len
+}
+
 // Puts the audit's line of an access alike.
 #[inline(never)]
 fn put_access_line(
@@ -127,23 +172,6 @@ fn action_of(access: Access) -> Action<Global>
     }
 }
 
-// The result value of a call. An access has none.
-fn result_in(what: &Action<Global>, told: Answer) -> u64
-    requires { next_in (reply_of told []) < REPS_END }
-    ensures { (output : List ℕ) → result ≡ result_value_in what.now (reply_of told output) }
-{
-    match what {
-        Action::Hypercall(frame) => result_value::<Global>(frame.rcx, told),
-        Action::ReadMsr(_)
-        | Action::WriteMsr(_, _)
-        | Action::ReadSlot(_)
-        | Action::ClearSlot(_)
-        | Action::ReadFlags(_)
-        | Action::ClearFlag(_, _)
-        | Action::TakeInterrupt => 0,
-    }
-}
-
 // Says how an event ended, and what it put out.
 fn say(told: Answer, output: &[u8], reply: &mut HvReply)
     requires { length output.now ≤ 256 }
@@ -170,6 +198,41 @@ fn put(reply: &mut HvReply, kind: u32, rule: u32, next: u32, output: &[u8])
     reply.next = next;
     reply.output[..output.len()].copy_from_slice(output);
     reply.output_len = output.len() as u32;
+}
+
+// Says how a call ended, and what it put out: the first of these bytes.
+pub(crate) fn say_call(told: Answer, output: [u8; 16], len: usize, reply: &mut HvReply)
+    requires { len ≤ 16 }
+    ensures { Says reply.new (reply_of told (take len output)) }
+{
+    match told {
+        Answer::Served => put_call(reply, SERVED, 0, 0, output, len),
+        Answer::More { next } => put_call(reply, MORE, 0, u32::from(next), output, len),
+        Answer::Denied { rule, .. } => put_call(
+            reply,
+            DENIED,
+            u32::from(rule.number()),
+            0,
+            output,
+            0,
+        ),
+        Answer::Fault { rule } => put_call(reply, FAULT, u32::from(rule.number()), 0, output, 0),
+    }
+}
+
+// Puts these into a reply, of the output all bytes that there may be, which is a copy of a known length.
+fn put_call(reply: &mut HvReply, kind: u32, rule: u32, next: u32, output: [u8; 16], len: usize)
+    requires { len ≤ 16 }
+    ensures kind { reply.new.kind ≡ kind }
+    ensures rule { reply.new.rule ≡ rule }
+    ensures next { reply.new.next ≡ next }
+    ensures output { HasOutput reply.new (take len output) }
+{
+    reply.kind = kind;
+    reply.rule = rule;
+    reply.next = next;
+    reply.output[..16].copy_from_slice(&output);
+    reply.output_len = len as u32;
 }
 
 // Whether a buffer has bytes, but not for every line.

@@ -1,5 +1,5 @@
 // What C calls.
-ghost use Rattle.std.specs.Prelude.{◌≡◌, ◌≢◌, length, false, true, IfOk, IfErr};
+ghost use Rattle.std.specs.Prelude.{◌≡◌, ◌≢◌, ◌≤◌, length, false, true, IfOk, IfErr};
 ghost use Rattle.hv_policy.specs.BootFault.{IsBootRefusal};
 ghost use Rattle.hv_policy.specs.declared.event.Action.TheVariants.{
   ClearFlag,
@@ -11,14 +11,17 @@ ghost use Rattle.hv_policy.specs.declared.event.Action.TheVariants.{
   TakeInterrupt,
   WriteMsr,
 };
-ghost use Rattle.hv_embed.specs.Answer.{config_of, event_of as event_by, frame_of};
+ghost use Rattle.hv_embed.specs.Answer.{caller_of, config_of, event_of as event_by, frame_of};
+ghost use Rattle.hv_embed.specs.Run.{IsRunTaken, run_readiness};
 ghost use Rattle.hv_embed.specs.Taken.{IsAsBefore, IsBooted, IsRefused, IsStarted, IsTaken};
 ghost use Rattle.hv_embed.specs.Taken.{is_short as is_short_len, readiness};
+ghost use Rattle.hv_embed.specs.declared.layout.TheConstants.{ELEMENT_OUTPUT};
 ghost use Rattle.hv_embed.specs.declared.status.TheConstants.{DONE, MEMORY, OCCUPIED};
 
 use crate::handle::HvMachine;
 use crate::housed::Housed;
-use crate::layout::{HvCaller, HvConfig, HvRegisters, HvReply};
+use crate::layout::{HvCaller, HvConfig, HvRegisters, HvReply, HvRun};
+use crate::run::take_run;
 use crate::status::{DONE, OCCUPIED, status_of};
 use crate::take::{take_access, take_call};
 use hv_machine::{Access, BootRefused, Config, Machine};
@@ -87,6 +90,34 @@ pub extern "C" fn hv_embed_hypercall(
         → (machine.old.live ≡ true) × (is_short_len (length line.old) ≡ false) }
 {
     take_call(alloc, machine, by, registers, input, reply, line)
+}
+
+/// Takes a hypercall of a processor as [`hv_embed_hypercall`] does, and of a rep call the elements after it,
+/// one after another: up to the last or to one that isn't served, or until fewer than 16 bytes of the buffer
+/// for their outputs are left, the handle or the machine takes no more events, or the host has no memory. The
+/// reply is that of the last that was taken, so a call that goes on may be made again from the next element
+/// on. Bytes of the buffer past the outputs may be written, too. No line is put.
+#[unsafe(no_mangle)]
+pub extern "C" fn hv_embed_run(
+    alloc: Global,
+    machine: &mut HvMachine,
+    by: HvCaller,
+    registers: &HvRegisters,
+    input: &[u8],
+    reply: &mut HvReply,
+    outputs: &mut [u8],
+    done: &mut HvRun,
+) -> u32
+    ensures taken { result ≡ DONE
+        → IsRunTaken (caller_of by) (frame_of registers.now input.now) machine.old machine.new reply.new
+        outputs.new done.new }
+    ensures kept { result ≢ DONE → IsAsBefore machine.old machine.new }
+    ensures unwritten { result ≢ DONE → (reply.new ≡ reply.old) × (outputs.new ≡ outputs.old)
+        × (done.new ≡ done.old) }
+    ensures status { result ≢ MEMORY → result ≡ run_readiness machine.old (length outputs.old) }
+    ensures memory { result ≡ MEMORY → (machine.old.live ≡ true) × (ELEMENT_OUTPUT ≤ length outputs.old) }
+{
+    take_run(alloc, machine, by, registers, input, reply, outputs, done)
 }
 
 /// Reads an MSR of a processor, of 8 bytes.

@@ -1,23 +1,25 @@
 // What a handle's block holds: a machine, and memory that its events use one after another.
-ghost use Rattle.std.specs.Prelude.{◌≡◌, IfOk};
+ghost use Rattle.std.specs.Prelude.{◌≡◌, OnOk};
+ghost use Rattle.hv_embed.specs.Answer.{frame_of as frame_by};
 
-use hv_abi::Bytes;
-use hv_machine::{Action, Event, Machine};
+use crate::layout::HvRegisters;
+use hv_abi::{Bytes, Frame};
+use hv_machine::{Machine, Output};
 use hv_text::Scratch;
 use std::alloc::{AllocError, Global};
 use std::marker::Model;
-use std::mem::replace;
 
 // The most bytes of memory that are kept for input lists: twice a page. No list has more than a page, and
 // memory that grows may double.
 const MOST_SPARE: usize = 8192;
 
-/// A machine, a spare vector for the input list of the next call, and room for the audit's next line.
-/// Contracts see the machine alone.
+/// A machine, and what its events use one after another: a call's frame, what an access puts out, and room for
+/// the audit's next line. Contracts see the machine alone.
 #[derive(Drop)]
 pub struct Housed {
     pub(crate) machine: Machine<Global>,
-    spare: Vec<u8>,
+    pub(crate) frame: Frame<Global>,
+    pub(crate) output: Output,
     pub(crate) scratch: Scratch,
 }
 
@@ -32,45 +34,46 @@ impl Model for Housed {
 }
 
 impl Housed {
-    // This machine, with no memory to spare yet.
+    // This machine, before its first event.
     pub(crate) fn of(machine: Machine<Global>, alloc: Global) -> Housed
         ensures { result ≡ machine }
     {
         Housed {
             machine,
-            spare: Vec::new(alloc),
+            frame: no_frame(alloc),
+            output: Output::new(),
             scratch: Scratch::new(),
         }
     }
+}
 
-    // These bytes, in the memory of the spare vector. Where that has too little and the host has no more, it
-    // stays as large as it was.
-    pub(crate) fn hold(&mut self, input: &[u8]) -> Result<Bytes<Global>, AllocError>
-        ensures bytes { IfOk result (λ bytes. bytes ≡ input.now) }
-        ensures kept { self.new ≡ self.old }
-    {
-        let none = Vec::new(*self.spare.allocator());
-        let mut bytes = replace(&mut self.spare, none);
-        bytes.clear();
-        match bytes.extend_from_slice(input) {
-            Ok(()) => Ok(Bytes::from_vec(bytes)),
-            Err(refused) => {
-                self.spare = bytes;
-                Err(refused)
-            }
-        }
+// A frame without memory.
+pub(crate) fn no_frame(alloc: Global) -> Frame<Global> {
+    Frame {
+        rcx: 0,
+        rdx: 0,
+        r8: 0,
+        input: Bytes::from_vec(Vec::new(alloc)),
     }
+}
 
-    // Takes back the memory in which the input list of a call stands, unless that is more than is kept.
-    pub(crate) fn give_back(&mut self, event: Event<Global>)
-        ensures { self.new ≡ self.old }
-    {
-        let Event { what, .. } = event;
-        if let Action::Hypercall(frame) = what {
-            let input = frame.input.into_vec();
-            if input.capacity() <= MOST_SPARE {
-                self.spare = input;
-            }
-        }
+// Makes a frame that of these registers and bytes, in the memory that it has where that is enough.
+pub(crate) fn refill(
+    frame: &mut Frame<Global>,
+    registers: &HvRegisters,
+    input: &[u8],
+) -> Result<(), AllocError>
+    ensures { OnOk result (frame.new ≡ frame_by registers.now input.now) }
+{
+    frame.rcx = registers.rcx;
+    frame.rdx = registers.rdx;
+    frame.r8 = registers.r8;
+    frame.input.refill(input)
+}
+
+// Lets a frame keep its memory for the next call, unless that is more than is kept.
+pub(crate) fn trim(alloc: Global, frame: &mut Frame<Global>) {
+    if frame.input.capacity() > MOST_SPARE {
+        *frame = no_frame(alloc);
     }
 }

@@ -50,6 +50,19 @@ pub struct HvReply {
     pub output: [u8; 256],
 }
 
+/// What became of the elements of a call.
+#[repr(C)]
+#[derive(Clone, Copy)]
+pub struct HvRun {
+    /// How many elements were taken.
+    pub events: u32,
+    /// How many bytes they put out, one after another.
+    pub output_len: u32,
+}
+
+/// The most bytes that an element of a call puts out.
+pub const ELEMENT_OUTPUT: usize = 16;
+
 /// The event is served; of a rep call, with its last element.
 pub const SERVED: u32 = 0;
 

@@ -13,7 +13,8 @@ pub const EMPTY: u32 = 1;
 /// There is a machine in the handle already.
 pub const OCCUPIED: u32 = 2;
 
-/// The buffer for the audit's line has bytes, but not for every line.
+/// The buffer for the audit's line has bytes, but not for every line; or that for the outputs of a call's
+/// elements has too few for one of them.
 pub const SHORT: u32 = 3;
 
 /// The machine served, or the handle counted, as many events as are counted.

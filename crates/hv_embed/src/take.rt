@@ -19,13 +19,13 @@ ghost use Rattle.hv_embed.specs.declared.status.TheConstants.{DONE, USED_UP, MEM
 
 use crate::answer::{answer, answer_access, is_short};
 use crate::handle::HvMachine;
-use crate::housed::Housed;
+use crate::housed::{Housed, refill, trim};
 use crate::layout::{HvCaller, HvRegisters, HvReply};
 use crate::status::{DONE, EMPTY, MAX_EVENTS, MEMORY, SHORT, USED_UP};
 use hv_abi::Frame;
 use hv_defs::MAX_SERVED;
 use hv_history::answer_of;
-use hv_machine::{Access, Action, Caller, Event, Machine, Output};
+use hv_machine::{Access, Caller, Machine};
 use hv_text::Scratch;
 use std::alloc::Global;
 use std::mem::replace;
@@ -86,18 +86,16 @@ pub(crate) fn take_call(
     }
     let before = machine.events;
     let mut housed = replace(machine, HvMachine::none(alloc)).open();
-    let status = match housed.hold(input) {
-        Ok(input) => {
-            let frame = Frame {
-                rcx: registers.rcx,
-                rdx: registers.rdx,
-                r8: registers.r8,
-                input,
-            };
-            step_call(&mut housed, before, caller_of(by), frame, reply, line)
-        }
-        Err(_) => MEMORY,
-    };
+    let status = step_call(
+        alloc,
+        &mut housed,
+        before,
+        caller_of(by),
+        registers,
+        input,
+        reply,
+        line,
+    );
     let after = counted(before, status);
     replace(machine, HvMachine::full(housed, after)).let_go();
     status
@@ -131,14 +129,14 @@ fn step_access(
     if housed.machine.served() >= MAX_SERVED || before >= MAX_EVENTS {
         return USED_UP;
     }
-    let mut output = Output::new();
-    let told = answer_of(housed.machine.access(by, access, &mut output));
+    housed.output.clear();
+    let told = answer_of(housed.machine.access(by, access, &mut housed.output));
     answer_access(
         by,
         access,
         before + 1,
         told,
-        output.as_slice(),
+        housed.output.as_slice(),
         &mut housed.scratch,
         reply,
         line,
@@ -146,24 +144,28 @@ fn step_access(
     DONE
 }
 
-// Lets a machine take a call, before which there were so many events. The memory of its input list is for the
-// next call.
+// Lets a machine take a call with these registers and the bytes of its input list, before which there were so
+// many events.
 fn step_call(
+    alloc: Global,
     housed: &mut Housed,
     before: u64,
     by: Caller,
-    frame: Frame<Global>,
+    registers: &HvRegisters,
+    input: &[u8],
     reply: &mut HvReply,
     line: &mut [u8],
 ) -> u32
     requires { is_short_len (length line.old) ≡ false }
     ensures reply { (f : Flat) → IsFlat housed.old f → result ≡ DONE
-        → IsAnswer reply.new (Hypercall frame) (flat_step f (call_event by frame)).1 }
+        → IsAnswer reply.new (Hypercall (frame_by registers.now input.now))
+        (flat_step f (call_event by (frame_by registers.now input.now))).1 }
     ensures line { (f : Flat) → IsFlat housed.old f → result ≡ DONE
         → HasLine line.new reply.new.line_len
-        (line_text (before + 1) (call_event by frame) (flat_step f (call_event by frame)).1) }
+        (line_text (before + 1) (call_event by (frame_by registers.now input.now))
+        (flat_step f (call_event by (frame_by registers.now input.now))).1) }
     ensures state { (f : Flat) → IsFlat housed.old f → result ≡ DONE
-        → IsFlat housed.new (flat_step f (call_event by frame)).0 }
+        → IsFlat housed.new (flat_step f (call_event by (frame_by registers.now input.now))).0 }
     ensures pages { housed.new.pages ≡ housed.old.pages }
     ensures lasting { IsLasting housed.new }
     ensures sound { result ≡ DONE → IsSound housed.new }
@@ -172,48 +174,45 @@ fn step_call(
     ensures unwritten { result ≢ DONE → (reply.new ≡ reply.old) × (line.new ≡ line.old) }
     ensures ready { result ≢ MEMORY
         → result ≡ if is_used_up_at housed.old.served before then USED_UP else DONE }
-    ensures memory { result ≡ MEMORY → IsTrue (may_take_memory (call_event by frame)) }
-    ensures refused { (f : Flat) → IsFlat housed.old f → result ≡ MEMORY
-        → unmet f (call_event by frame) ≡ None }
 {
-    let event = Event {
+    let Ok(()) = refill(&mut housed.frame, registers, input) else {
+        // Tells the proof that the machine stands for a lawful state.
+        let _ = housed.machine.served();
+        return MEMORY;
+    };
+    let status = answer_call(
+        alloc,
+        &mut housed.machine,
+        before,
         by,
-        what: Action::Hypercall(frame),
-    };
-    let status = match event.what.as_access() {
-        Ok(_) => unreachable!(),
-        Err(frame) => answer_call(
-            &mut housed.machine,
-            before,
-            &event,
-            frame,
-            &mut housed.scratch,
-            reply,
-            line,
-        ),
-    };
-    housed.give_back(event);
+        &mut housed.frame,
+        &mut housed.scratch,
+        reply,
+        line,
+    );
+    trim(alloc, &mut housed.frame);
     status
 }
 
-// Lets a machine take an event that is the call of this frame, and answers it.
+// Lets a machine take the call of a frame, and answers it.
 fn answer_call(
+    alloc: Global,
     machine: &mut Machine<Global>,
     before: u64,
-    event: &Event<Global>,
-    frame: &Frame<Global>,
+    by: Caller,
+    frame: &mut Frame<Global>,
     scratch: &mut Scratch,
     reply: &mut HvReply,
     line: &mut [u8],
 ) -> u32
-    requires room { is_short_len (length line.old) ≡ false }
-    requires call { Hypercall frame.now ≡ event.now.what }
+    requires { is_short_len (length line.old) ≡ false }
     ensures reply { (f : Flat) → IsFlat machine.old f → result ≡ DONE
-        → IsAnswer reply.new event.now.what (flat_step f event.now).1 }
+        → IsAnswer reply.new (Hypercall frame.old) (flat_step f (call_event by frame.old)).1 }
     ensures line { (f : Flat) → IsFlat machine.old f → result ≡ DONE
-        → HasLine line.new reply.new.line_len (line_text (before + 1) event.now (flat_step f event.now).1) }
+        → HasLine line.new reply.new.line_len
+        (line_text (before + 1) (call_event by frame.old) (flat_step f (call_event by frame.old)).1) }
     ensures state { (f : Flat) → IsFlat machine.old f → result ≡ DONE
-        → IsFlat machine.new (flat_step f event.now).0 }
+        → IsFlat machine.new (flat_step f (call_event by frame.old)).0 }
     ensures pages { machine.new.pages ≡ machine.old.pages }
     ensures lasting { IsLasting machine.new }
     ensures sound { result ≡ DONE → IsSound machine.new }
@@ -222,21 +221,25 @@ fn answer_call(
     ensures unwritten { result ≢ DONE → (reply.new ≡ reply.old) × (line.new ≡ line.old) }
     ensures ready { result ≢ MEMORY
         → result ≡ if is_used_up_at machine.old.served before then USED_UP else DONE }
-    ensures memory { result ≡ MEMORY → IsTrue (may_take_memory event.now) }
-    ensures refused { (f : Flat) → IsFlat machine.old f → result ≡ MEMORY → unmet f event.now ≡ None }
+    ensures memory { result ≡ MEMORY → IsTrue (may_take_memory (call_event by frame.old)) }
+    ensures refused { (f : Flat) → IsFlat machine.old f → result ≡ MEMORY
+        → unmet f (call_event by frame.old) ≡ None }
 {
     if machine.served() >= MAX_SERVED || before >= MAX_EVENTS {
         return USED_UP;
     }
-    let Ok(told) = machine.hypercall(event.by, frame) else {
+    let Ok(told) = machine.hypercall(by, frame) else {
         return MEMORY;
     };
     let (told, output, len) = told.parts();
     answer(
-        event,
+        alloc,
+        by,
+        frame,
         before + 1,
         told,
-        &output[..len],
+        output,
+        len,
         scratch,
         reply,
         line,
@@ -245,7 +248,7 @@ fn answer_call(
 }
 
 // The processor that C names.
-fn caller_of(by: HvCaller) -> Caller
+pub(crate) fn caller_of(by: HvCaller) -> Caller
     ensures { result ≡ caller_by by }
 {
     Caller {

@@ -1,6 +1,6 @@
 // The rules up to P10, asked in the policy's order.
 ghost use Rattle.std.specs.Prelude.{◌≡◌, Some, IfOk, IfErr};
-ghost use Rattle.hv_abi.specs.Check.{IsShape};
+ghost use Rattle.hv_abi.specs.Check.{IsShape, call_of};
 ghost use Rattle.hv_laws.specs.Bounded.{IsBounded};
 ghost use Rattle.hv_policy.specs.Call.{IsCall, call_event};
 ghost use Rattle.hv_policy.specs.Flat.{Flat};
@@ -10,7 +10,7 @@ ghost use Rattle.hv_machine.specs.Access.{HasAccess};
 ghost use Rattle.hv_machine.specs.IsFlat.{IsFlat};
 
 use crate::machine::Machine;
-use hv_abi::{Frame, Shape};
+use hv_abi::{CallKind, Frame, Shape};
 use hv_calls::Call;
 use hv_policy::{Caller, Rule, ask_frame};
 use hv_tie::{caller_in, unmet_by_target};
@@ -18,8 +18,15 @@ use std::alloc::Allocator;
 
 impl<A: Allocator> Machine<A> {
     // The call that a frame holds where P1 to P10 are met, and what its input value says; else the first
-    // of them that isn't met.
-    pub fn admit<'f>(&self, by: Caller, frame: &'f Frame<A>) -> Result<(Shape, Call<'f>), Rule>
+    // of them that isn't met. The call that the frame names, if it names one, is known.
+    #[inline(always)]
+    pub fn admit<'f>(
+        &self,
+        by: Caller,
+        frame: &'f Frame<A>,
+        named: Option<CallKind>,
+    ) -> Result<(Shape, Call<'f>), Rule>
+        requires { call_of frame.now ≡ named }
         ensures shape { IfOk result (λ asked. IsShape frame.now asked.0) }
         ensures call { IfOk result (λ asked. IsCall frame.now asked.0 asked.1) }
         ensures bounded { IfOk result (λ asked. IsBounded asked.1) }
@@ -33,7 +40,7 @@ impl<A: Allocator> Machine<A> {
             Ok(caller) => caller,
             Err(rule) => return Err(rule),
         };
-        let (shape, call) = match ask_frame(frame) {
+        let (shape, call) = match ask_frame(frame, named) {
             Ok(asked) => asked,
             Err(rule) => return Err(rule),
         };

@@ -79,6 +79,7 @@ fn hand_plain_on<A: Allocator>(
 }
 
 // Notes where the caller and the target are, for the chapter's look-ups. Nothing changes.
+#[inline(always)]
 fn note_parties<A: Allocator>(tree: &mut Partitions<A>, caller: u64, call: &Call<'_>)
     ensures { tree.new ≡ tree.old }
 {
@@ -90,6 +91,7 @@ fn note_parties<A: Allocator>(tree: &mut Partitions<A>, caller: u64, call: &Call
 }
 
 // The chapter of each call.
+#[inline(always)]
 fn hand_on<A: Allocator + Clone>(
     tree: &mut Partitions<A>,
     alloc: &A,
@@ -226,6 +228,7 @@ fn hand_access_on<A: Allocator>(
 }
 
 // The id that the next partition gets after a call.
+#[inline(always)]
 pub fn next_after(call: &Call<'_>, next: u64) -> u64
     requires { next < 2 ^ 64 - 1 }
     ensures { result ≡ next_id_after call.now next }

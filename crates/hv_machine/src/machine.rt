@@ -1,7 +1,7 @@
 // The machine and its one step.
 ghost use Rattle.std.specs.Prelude.{◌≡◌, ◌<◌, [], None, true, IsTrue, IfOk, IfErr, OnOk, OnErr};
 ghost use Rattle.hv_defs.specs.declared.sizes.TheConstants.{MAX_SERVED};
-ghost use Rattle.hv_abi.specs.Check.{IsShape};
+ghost use Rattle.hv_abi.specs.Check.{IsShape, call_of};
 ghost use Rattle.hv_abi.specs.declared.frame.Frame.{Frame as CallFrame};
 ghost use Rattle.hv_calls.specs.Call.{kind_of_call};
 ghost use Rattle.hv_calls.specs.Params.{is_plain};
@@ -22,7 +22,7 @@ ghost use Rattle.hv_machine.specs.Served.{IsResult};
 ghost use Rattle.hv_machine.specs.Sound.{IsSound};
 
 use crate::dispatch::{dispatch, dispatch_access, next_after};
-use hv_abi::{Frame, Shape};
+use hv_abi::{CallKind, Frame, InputValue, Shape};
 use hv_calls::Call;
 use hv_policy::{
     Access, CallOutput, CallReply, Caller, Event, Output, Reply, Rule, refused_reply, served_reply,
@@ -140,9 +140,96 @@ impl<A: Allocator + Clone> Machine<A> {
         ensures pages { self.new.pages ≡ self.old.pages }
         ensures sound { IsSound self.new }
     {
+        // Each call has a way of its own, on which it is known which one it is: so no call is put together in
+        // memory, and of the rules and the table's rows only what this call needs is left.
+        match CallKind::of(InputValue::read(frame.rcx).call) {
+            Some(CallKind::CreatePartition) => self.take(
+                by,
+                frame,
+                Some(CallKind::CreatePartition),
+            ),
+            Some(CallKind::InitializePartition) => self.take(
+                by,
+                frame,
+                Some(CallKind::InitializePartition),
+            ),
+            Some(CallKind::FinalizePartition) => self.take(
+                by,
+                frame,
+                Some(CallKind::FinalizePartition),
+            ),
+            Some(CallKind::DeletePartition) => self.take(
+                by,
+                frame,
+                Some(CallKind::DeletePartition),
+            ),
+            Some(CallKind::GetPartitionProperty) => self.take(
+                by,
+                frame,
+                Some(CallKind::GetPartitionProperty),
+            ),
+            Some(CallKind::SetPartitionProperty) => self.take(
+                by,
+                frame,
+                Some(CallKind::SetPartitionProperty),
+            ),
+            Some(CallKind::GetPartitionId) => self.take(by, frame, Some(CallKind::GetPartitionId)),
+            Some(CallKind::GetNextChildPartition) => self.take(
+                by,
+                frame,
+                Some(CallKind::GetNextChildPartition),
+            ),
+            Some(CallKind::DepositMemory) => self.take(by, frame, Some(CallKind::DepositMemory)),
+            Some(CallKind::WithdrawMemory) => self.take(by, frame, Some(CallKind::WithdrawMemory)),
+            Some(CallKind::GetMemoryBalance) => self.take(
+                by,
+                frame,
+                Some(CallKind::GetMemoryBalance),
+            ),
+            Some(CallKind::CreateVp) => self.take(by, frame, Some(CallKind::CreateVp)),
+            Some(CallKind::DeleteVp) => self.take(by, frame, Some(CallKind::DeleteVp)),
+            Some(CallKind::GetVpRegisters) => self.take(by, frame, Some(CallKind::GetVpRegisters)),
+            Some(CallKind::SetVpRegisters) => self.take(by, frame, Some(CallKind::SetVpRegisters)),
+            Some(CallKind::DeletePort) => self.take(by, frame, Some(CallKind::DeletePort)),
+            Some(CallKind::DisconnectPort) => self.take(by, frame, Some(CallKind::DisconnectPort)),
+            Some(CallKind::PostMessage) => self.take(by, frame, Some(CallKind::PostMessage)),
+            Some(CallKind::SignalEvent) => self.take(by, frame, Some(CallKind::SignalEvent)),
+            Some(CallKind::CreatePort) => self.take(by, frame, Some(CallKind::CreatePort)),
+            Some(CallKind::ConnectPort) => self.take(by, frame, Some(CallKind::ConnectPort)),
+            None => self.take(by, frame, None),
+        }
+    }
+
+    // The same where the call that the frame names, if it names one, is known.
+    #[inline(always)]
+    fn take(
+        &mut self,
+        by: Caller,
+        frame: &Frame<A>,
+        named: Option<CallKind>,
+    ) -> Result<CallReply, HostRefused>
+        requires count { self.old.served < MAX_SERVED }
+        requires named { call_of frame.now ≡ named }
+        ensures reply { (f : Flat) → IsFlat self.old f
+            → IfOk result (λ r. r ≡ (step f (call_event by frame.now)).1) }
+        ensures state { (f : Flat) → IsFlat self.old f
+            → OnOk result (IsFlat self.new (step f (call_event by frame.now)).0) }
+        ensures refused { (f : Flat) → IsFlat self.old f
+            → OnErr result (unmet f (call_event by frame.now) ≡ None) }
+        ensures memory { OnErr result (IsTrue (may_take_memory (call_event by frame.now))) }
+        ensures cause { IfErr result (λ why. why ≡ HostRefused.Memory) }
+        ensures kept { OnErr result (self.new ≡ self.old) }
+        ensures confined { (f g : Flat) → IsFlat self.old f → IsFlat self.new g
+            → IsConfined (call_event by frame.now) f g }
+        ensures asked { IfOk result (NamesAsked (call_event by frame.now)) }
+        ensures result { IfOk result HasResult }
+        ensures lasting { IsLasting self.new }
+        ensures pages { self.new.pages ≡ self.old.pages }
+        ensures sound { IsSound self.new }
+    {
         // Opens the machine for the proof: what it keeps is known of its fields.
         let _ = &self.tree;
-        match self.admit(by, frame) {
+        match self.admit(by, frame, named) {
             Ok((shape, call)) => self.answer(by, frame, shape, &call, false),
             Err(rule) => Ok(refused_reply(frame, rule)),
         }

@@ -53,9 +53,11 @@ module _ (words : List ℕ) (s i : ℕ) (low : i < 256) where
   flag_byte = number_where-same _ _ 8 bit_of_byte ∙ number_where-bits (get_or words ((s * 256 + i) / 8) 0 / 2 ^ ((s * 256 + i) % 8 * 8)) 8
 
 -- the bytes of the words are those of the flags
-pub flag_bytes-words : (words : List ℕ) (s : ℕ) → map (λ i. byte_of words (s * 256 + i)) (range_with_len 0 256) ≡ flag_bytes (flags_of words) s
+pub flag_bytes-words : (words : List ℕ) (s : ℕ) → map (λ i. byte_of words (8 * (s * 32) + i)) (range_with_len 0 256) ≡ flag_bytes (flags_of words) s
 unfolding flag_bytes
 flag_bytes-words words s =
-    fill_by_all (λ i. number_where (λ j. set.contains (flags_of words) (s, i * 8 + j)) 8) (map (λ i. byte_of words (s * 256 + i)) (range_with_len 0 256)) 256 0
+    let first : 8 * (s * 32) ≡ s * 256 = omega arith in
+    rw first
+    (fill_by_all (λ i. number_where (λ j. set.contains (flags_of words) (s, i * 8 + j)) 8) (map (λ i. byte_of words (s * 256 + i)) (range_with_len 0 256)) 256 0
     (length-map-range_with_len (λ i. byte_of words (s * 256 + i)) 0 256)
-    (λ k below. get_or-map-range_with_len (λ i. byte_of words (s * 256 + i)) 0 256 k k 0 below (omega arith) ∙ sym (flag_byte words s k below))
+    (λ k below. get_or-map-range_with_len (λ i. byte_of words (s * 256 + i)) 0 256 k k 0 below (omega arith) ∙ sym (flag_byte words s k below)))

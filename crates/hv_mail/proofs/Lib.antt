@@ -5,5 +5,8 @@ pub mod Opened
 pub mod Queues
 pub mod Quiet
 pub mod Rows
+pub mod Shows
+pub mod SlotBytes
 pub mod Totals
 pub mod WordBits
+pub mod WordBytes

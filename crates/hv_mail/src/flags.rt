@@ -4,12 +4,12 @@ ghost use Rattle.std.specs.FinSet as set;
 ghost use Rattle.hv_defs.specs.Flags.{flag_bytes};
 ghost use Rattle.hv_defs.specs.declared.sizes.TheConstants.{EVENT_FLAGS, SINTS};
 
-use crate::words::{clear_bit, copy_bytes, set_bit};
+use crate::words::{clear_bit, copy_words, set_bit};
 use hv_defs::EVENT_FLAGS;
 use std::marker::Model;
 
-// Bytes of a SINT's flags.
-const FLAG_BYTES: usize = EVENT_FLAGS as usize / 8;
+// Words of a SINT's flags.
+const FLAG_WORDS: usize = EVENT_FLAGS as usize / 64;
 
 /// The event flags at the 16 SINTs of a virtual processor, 2,048 at each (TLFS 4.0, "Event Flags"). It
 /// takes 4 KB in place.
@@ -65,7 +65,7 @@ impl Flags {
         ensures { result ≡ flag_bytes self.now sint }
     {
         let mut bytes = [0; 256];
-        copy_bytes(&self.words, usize::from(sint) * FLAG_BYTES, &mut bytes);
+        copy_words(&self.words, usize::from(sint) * FLAG_WORDS, &mut bytes);
         bytes
     }
 }

@@ -151,11 +151,19 @@ impl<A: Allocator> Mailbox<A> {
         ensures mail { self.new.mail ≡ all_next SINTS self.old.mail }
         ensures shown { result ≡ next_mask SINTS self.old.mail }
     {
-        let mut shown = 0u16;
-        for sint in 0..SINTS as u8 {
+        let mut shown = 0;
+        // Bit n of `rest` is that of SINT `sint + n`.
+        let mut sint = 0u8;
+        let mut rest = self.busy;
+        while rest != 0 {
+            let quiet = rest.trailing_zeros();
+            sint += quiet as u8;
+            rest >>= quiet;
             if self.advance(sint) {
                 shown += 1 << sint;
             }
+            sint += 1;
+            rest >>= 1;
         }
         shown
     }

@@ -64,12 +64,17 @@ impl<A: Allocator> SintQueue<A> {
         self.waiting.len() < self.waiting.capacity() && self.waiting.len() < MAX_WAITING
     }
 
-    // The message goes last, and then the next is shown. Says whether one became shown.
+    // The message goes last, and then the next is shown. Says whether one became shown. Where nothing
+    // stands, the message is shown at once.
     pub(crate) fn post(&mut self, message: Message) -> bool
         requires { self.old.room ≡ true }
         ensures mail { self.new.mail ≡ posted self.old.mail message }
         ensures shown { result ≡ has_next (with_last self.old.mail message) }
     {
+        if self.slot.is_none() && self.waiting.is_empty() {
+            self.slot = Some(message);
+            return true;
+        }
         self.waiting.push_back_reserved(message);
         self.advance()
     }
@@ -80,16 +85,11 @@ impl<A: Allocator> SintQueue<A> {
         ensures shown { result ≡ has_next self.old.mail }
         ensures kept { self.old.room ≡ true → self.new.room ≡ true }
     {
-        if self.slot.is_some() {
+        if self.slot.is_some() || self.waiting.is_empty() {
             return false;
         }
-        match self.waiting.pop_front() {
-            Some(oldest) => {
-                self.slot = Some(oldest);
-                true
-            }
-            None => false,
-        }
+        self.slot = self.waiting.pop_front();
+        true
     }
 
     // The shown message goes.

@@ -1,5 +1,5 @@
 // Bits of words: bit k is bit k % 64 of word k / 64.
-ghost use Rattle.std.specs.Prelude.{◌≡◌, ℕ, ◌+◌, ◌*◌, ◌/◌, ◌<◌, ◌≤◌, ◌==◌, ◌||◌, ◌&&◌, not, true, false};
+ghost use Rattle.std.specs.Prelude.{◌≡◌, ℕ, ◌+◌, ◌*◌, ◌/◌, ◌%◌, ◌<◌, ◌≤◌, ◌==◌, ◌||◌, ◌&&◌, not, true, false};
 ghost use Rattle.std.specs.Prelude.{length, map, IfSome, IsNone};
 ghost use Rattle.std.specs.List.{range_with_len};
 ghost use Rattle.hv_mail.specs.Words.{has_bit, byte_of};
@@ -47,14 +47,13 @@ pub(crate) fn highest_bit(words: &[u64]) -> Option<usize>
     None
 }
 
-// Writes the bytes of the words, the lowest of a word first, from byte `first` on.
-pub(crate) fn copy_bytes(words: &[u64], first: usize, bytes: &mut [u8])
-    requires within { first + length bytes.old ≤ 8 * length words.now }
-    requires few { length words.now ≤ 512 }
-    ensures { bytes.new ≡ map (λ i. byte_of words.now (first + i)) (range_with_len 0 (length bytes.old)) }
+// Writes whole words as bytes, the lowest of a word first, from word `first` on.
+pub(crate) fn copy_words(words: &[u64], first: usize, bytes: &mut [u8])
+    requires whole { length bytes.old % 8 ≡ 0 }
+    requires within { 8 * first + length bytes.old ≤ 8 * length words.now }
+    ensures { bytes.new ≡ map (λ i. byte_of words.now (8 * first + i)) (range_with_len 0 (length bytes.old)) }
 {
-    for i in 0..bytes.len() {
-        let at = first + i;
-        bytes[i] = (words[at / 8] >> (at % 8 * 8) & 0xff) as u8;
+    for i in 0..bytes.len() / 8 {
+        bytes[8 * i..8 * i + 8].copy_from_slice(&words[first + i].to_le_bytes());
     }
 }

@@ -30,7 +30,7 @@ use std::marker::Model;
 /// of its ports and connections an id. A partition that is dropped gives its memory back.
 #[derive(Drop)]
 pub struct Partition<A: Allocator> {
-    // In a block of their own, so that whoever lends a partition moves little.
+    // In a block of their own, so that a partition is small where it is moved, as with a map that grows.
     pub(crate) parts: Box<Parts<A>, A>,
 }
 

@@ -34,10 +34,12 @@ pub enum Answer {
 /// bytes.
 #[derive(Debug, Drop)]
 pub struct CallOutput {
+    // The two numbers don't stand side by side: a copy would read them at once where each was written by itself,
+    // for which a processor waits.
     first: u64,
-    second: u64,
     // How many bytes there are.
     len: usize,
+    second: u64,
 }
 
 impl Model for CallOutput {
@@ -58,8 +60,8 @@ impl CallOutput {
     {
         CallOutput {
             first: 0,
-            second: 0,
             len: 0,
+            second: 0,
         }
     }
 

@@ -6,20 +6,26 @@ ghost use Rattle.hv_policy.specs.Flat.{Flat};
 ghost use Rattle.hv_policy.specs.Rules.{first_unmet, frame_asks, hypercall_asks};
 
 use crate::rule::Rule;
-use hv_abi::{AbiFault, Frame, Shape};
+use hv_abi::{AbiFault, CallKind, Frame, Shape};
 use hv_calls::{Call, Malformed, decode};
 use std::alloc::Allocator;
 
 /// P4 to P7: the call that a frame holds, and what its input value says; else the first of them that
-/// isn't met.
-pub fn ask_frame<A: Allocator>(frame: &Frame<A>) -> Result<(Shape, Call<'_>), Rule>
+/// isn't met. The call that the frame names, if it names one, is known. Inlined, since where the source names
+/// that call most of this is known, too.
+#[inline(always)]
+pub fn ask_frame<A: Allocator>(
+    frame: &Frame<A>,
+    named: Option<CallKind>,
+) -> Result<(Shape, Call<'_>), Rule>
+    requires { call_of frame.now ≡ named }
     ensures shape { IfOk result (λ asked. IsShape frame.now asked.0) }
     ensures call { IfOk result (λ asked. IsCall frame.now asked.0 asked.1) }
     ensures met { IfOk result (λ asked. first_unmet (frame_asks asked.0.kind frame.now) ≡ None) }
     ensures first { IfErr result (λ rule. (f : Flat) (caller : ℕ)
         → first_unmet (hypercall_asks f caller frame.now (call_of frame.now)) ≡ Some rule) }
 {
-    let shape = match frame.check() {
+    let shape = match frame.check_as(named) {
         Ok(shape) => shape,
         Err(AbiFault::UnknownCode) => return Err(Rule::CallCode),
         Err(AbiFault::Input) => return Err(Rule::InputValue),

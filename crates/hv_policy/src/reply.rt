@@ -1,26 +1,29 @@
 // What an event is answered.
-ghost use Rattle.std.specs.Prelude.{◌≡◌, ◌+◌, ◌≤◌, ◌++◌, [], ◌∷◌, length};
+ghost use Rattle.std.specs.Prelude.{◌≡◌, ◌+◌, ◌≤◌, ◌++◌, [], ◌∷◌, length, take};
 ghost use Rattle.std.specs.Int.{w64, to_le_bytes};
 ghost use Rattle.hv_policy.specs.Parts.{reply_of};
 
 use crate::answer::Answer;
 use crate::rule::Rule;
-use arrayvec::ArrayVec;
 use hv_abi::Status;
 use std::marker::Model;
 
 /// The output bytes of one event, at most 256.
 #[derive(Debug, Drop)]
 pub struct Output {
-    bytes: ArrayVec<u8, 256>,
+    // Those past its length are of no meaning.
+    bytes: [u8; 256],
+    len: usize,
 }
 
 impl Model for Output {
-    ghost use Rattle.std.specs.Prelude.{List, ℕ};
+    ghost use Rattle.std.specs.Prelude.{List, ℕ, ◌≤◌, take};
 
     ghost Value = { List ℕ };
 
-    ghost view = { λ o. o.bytes.items };
+    ghost view = { λ o. take o.len o.bytes };
+
+    ghost invariant = { λ o. o.len ≤ 256 };
 }
 
 impl Output {
@@ -29,8 +32,16 @@ impl Output {
         ensures { result ≡ [] }
     {
         Output {
-            bytes: ArrayVec::new(),
+            bytes: [0; 256],
+            len: 0,
         }
+    }
+
+    /// Lets go of its bytes.
+    pub fn clear(&mut self)
+        ensures { self.new ≡ [] }
+    {
+        self.len = 0;
     }
 
     /// Adds a number as 8 bytes, the lowest first.
@@ -38,9 +49,18 @@ impl Output {
         requires { length self.old + 8 ≤ 256 }
         ensures { self.new ≡ self.old ++ to_le_bytes w64 number }
     {
-        let Ok(()) = self.bytes.try_extend_from_slice(&number.to_le_bytes()) else {
-            unreachable!()
-        };
+        self.push(&number.to_le_bytes());
+    }
+
+    // Adds these bytes.
+    #[inline(always)]
+    fn push(&mut self, bytes: &[u8])
+        requires { length self.old + length bytes.now ≤ 256 }
+        ensures { self.new ≡ self.old ++ bytes.now }
+    {
+        let end = self.len + bytes.len();
+        self.bytes[self.len..end].copy_from_slice(bytes);
+        self.len = end;
     }
 
     /// Adds one byte.
@@ -48,7 +68,8 @@ impl Output {
         requires { length self.old + 1 ≤ 256 }
         ensures { self.new ≡ self.old ++ value ∷ [] }
     {
-        self.bytes.push(value);
+        self.bytes[self.len] = value;
+        self.len += 1;
     }
 
     /// These bytes.
@@ -56,11 +77,9 @@ impl Output {
         requires { length bytes.now ≤ 256 }
         ensures { result ≡ bytes.now }
     {
-        let mut own = ArrayVec::new();
-        let Ok(()) = own.try_extend_from_slice(bytes) else {
-            unreachable!()
-        };
-        Output { bytes: own }
+        let mut own = Output::new();
+        own.push(bytes);
+        own
     }
 
     /// The 256 bytes of a message slot, or of a SINT's event flags.
@@ -74,7 +93,15 @@ impl Output {
         ensures bytes { result.now ≡ self.now }
         ensures most { length self.now ≤ 256 }
     {
-        self.bytes.as_slice()
+        &self.bytes[..self.len]
+    }
+
+    /// The bytes with what stands after them, and how many they are.
+    pub fn as_parts(&self) -> (&[u8; 256], usize)
+        ensures bytes { take result.1 result.0.now ≡ self.now }
+        ensures most { result.1 ≤ 256 }
+    {
+        (&self.bytes, self.len)
     }
 }
 

@@ -33,6 +33,7 @@ pub fn result_of<A: Allocator>(frame: &Frame<A>, reply: &Reply) -> ResultValue
 }
 
 /// The reply to an element that is served: more are to come, or it is the last, as a simple call is.
+#[inline(always)]
 pub fn served_reply<A: Allocator>(frame: &Frame<A>, shape: Shape, output: CallOutput) -> CallReply
     requires shape { IsShape frame.now shape }
     requires named { call_of frame.now ≡ Some shape.kind }
@@ -48,7 +49,8 @@ pub fn served_reply<A: Allocator>(frame: &Frame<A>, shape: Shape, output: CallOu
     CallReply { answer, output }
 }
 
-/// The reply to a call that this rule refuses.
+/// The reply to a call that this rule refuses. Not inlined, since many places answer so.
+#[inline(never)]
 pub fn refused_reply<A: Allocator>(frame: &Frame<A>, rule: Rule) -> CallReply
     ensures { result ≡ refusal (Hypercall frame.now) rule }
 {
@@ -69,6 +71,7 @@ pub fn refused_reply<A: Allocator>(frame: &Frame<A>, rule: Rule) -> CallReply
 }
 
 // The call that an input value names, if there is one with its code.
+#[inline(always)]
 fn kind_of(rcx: u64) -> Option<CallKind>
     ensures { result ≡ kind_in rcx }
 {
@@ -77,6 +80,7 @@ fn kind_of(rcx: u64) -> Option<CallKind>
 
 /// The reps completed of a call with this input value that was refused: its start index where P4 and P5
 /// are met, else 0.
+#[inline(never)]
 pub fn refused_reps(rcx: u64) -> u16
     ensures value { result ≡ refused_reps_of rcx }
     ensures fits { result < REPS_END }
@@ -89,6 +93,7 @@ pub fn refused_reps(rcx: u64) -> u16
 
 /// The reps completed of a call with this input value whose last element was served: all of them, and
 /// none of a simple call.
+#[inline(always)]
 pub fn completed_reps(rcx: u64) -> u16
     ensures value { result ≡ completed_reps_of rcx }
     ensures fits { result < REPS_END }

@@ -15,7 +15,9 @@ use hv_partition::Partition;
 use hv_policy::{Caller, Kin, Rule, needs};
 use std::alloc::Allocator;
 
-/// P1 to P3: the caller's partition where they are met, and else the first of them that isn't.
+/// P1 to P3: the caller's partition where they are met, and else the first of them that isn't. Not inlined, since
+/// each call asks it in a place of its own.
+#[inline(never)]
 pub fn caller_in<A: Allocator>(tree: &Partitions<A>, by: Caller) -> Result<&Partition<A>, Rule>
     ensures met { IfOk result (λ _. (f : Flat) → IsTied tree.now f → first_unmet (caller_asks f by) ≡ None) }
     ensures there { IfOk result (λ caller. content tree.now by.part ≡ Some caller.now) }
@@ -34,7 +36,9 @@ pub fn caller_in<A: Allocator>(tree: &Partitions<A>, by: Caller) -> Result<&Part
     Ok(caller)
 }
 
-/// P8 to P10: the first of them that isn't met. The caller's partition is the one that was found.
+/// P8 to P10: the first of them that isn't met. The caller's partition is the one that was found. Inlined, since
+/// of a call that the source names it is known what is asked.
+#[inline(always)]
 pub fn unmet_by_target<A: Allocator>(
     tree: &Partitions<A>,
     by: Caller,
@@ -60,6 +64,7 @@ pub fn unmet_by_target<A: Allocator>(
 }
 
 // Whether a call that allows this kin may name the partition.
+#[inline(always)]
 fn is_kin<A: Allocator>(tree: &Partitions<A>, kin: Kin, caller: u64, id: u64) -> bool
     ensures { (f : Flat) → IsTied tree.now f → result ≡ is_kin_of kin f caller id }
 {
@@ -71,6 +76,7 @@ fn is_kin<A: Allocator>(tree: &Partitions<A>, kin: Kin, caller: u64, id: u64) ->
 }
 
 /// The partition that a call of this caller is about.
+#[inline(always)]
 pub fn target(caller: u64, call: &Call<'_>) -> u64
     ensures { result ≡ target_of call.now caller }
 {

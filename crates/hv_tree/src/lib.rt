@@ -1,4 +1,4 @@
-//! An owned tree of boxes whose nodes have ids, for any content and any allocator.
+//! An owned tree whose nodes have ids, for any content and any allocator.
 //!
 //! Contracts see a tree as its rows: a finite map from each id to the parent, if there is one, and the
 //! content. One row alone, the root's, has no parent, and each other's parent has a row (`IsTree`).
@@ -8,22 +8,18 @@
 //! - A refusal names its first cause, hands back what it was given, and leaves the rows as they were.
 //! - Look-ups, `get_mut`, `update_subtree` and `remove_leaf` take no memory.
 //!
-//! Beside the boxes stands an index from each id to its parent's, so that no call searches the tree for
-//! an id. The ways to nodes
-//! that are noted, by `note` and `note_child`, are kept: a look-up of such a node goes straight down.
+//! The nodes stand in one hash map by their ids, each with its depth and the ids of its parent and its children,
+//! so that no look-up climbs. Beside it stand guesses, where some nodes were found last. A guess is looked at
+//! before it is trusted, so nothing that is promised rests on it: a right one saves the hash.
 //!
 //! `specs/Rows.antt` and `specs/Subtree.antt` have the words of the contracts. `proofs/Laws.antt`,
 //! `proofs/ChildLaws.antt` and `proofs/SubtreeLaws.antt` have what a caller's proof may need of them.
 #![tactic(auto)]
 
 mod edit;
-mod index;
-mod loan;
-mod look_up;
-mod node;
+mod nodes;
 mod refused;
 mod tree;
-mod ways;
 
 pub use edit::Edit;
 pub use refused::{InsertRefused, ReserveRefused};

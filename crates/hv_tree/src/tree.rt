@@ -1,5 +1,5 @@
 //! The tree, seen as its rows.
-ghost use Rattle.std.specs.Prelude.{◌≡◌, ◌<◌, ◌↔◌, [], ◌∷◌, None, Some, true, false, length, is_some, IsSome};
+ghost use Rattle.std.specs.Prelude.{◌≡◌, ◌<◌, ◌↔◌, [], None, Some, true, false, length, is_some};
 ghost use Rattle.std.specs.Prelude.{ℕ, IfSome, IfNone, OnSome, IfOk, IfErr, OnOk, OnErr};
 ghost use Rattle.std.specs.Option.{option_copied, option_copied_mut, option_map};
 ghost use Rattle.std.specs.Borrow.{LendsIf, sem};
@@ -7,37 +7,28 @@ ghost use Rattle.std.specs.FinMap as map;
 ghost use Rattle.hv_tree.specs.contracts.tree.IdTree.{the_row};
 ghost use Rattle.hv_tree.specs.Rows.{change, content, parent, children, is_leaf, HasDepth, IsLeastAbove};
 ghost use Rattle.hv_tree.specs.Rows.{IsTree};
-ghost use Rattle.hv_tree.specs.Nest.{first_content};
 ghost use Rattle.hv_tree.specs.Refused.{Refuses};
 ghost use Rattle.hv_tree.specs.Subtree.{IsInSubtree};
 
 use crate::edit::Edit;
-use crate::index::{Index, forget, parent_in};
-use crate::loan::{lend, settle};
-use crate::look_up::{is_there, seek, seek_noted, way_to};
-use crate::node::Node;
+use crate::nodes::{
+    GUESSES, Guesses, Node, Nodes, edit_below, first_above, graft, ids_of, note_place, place_of,
+    prune, seek,
+};
 use crate::refused::{InsertRefused, ReserveRefused};
-use crate::ways::Ways;
 use indexmap::IndexMap;
 use std::alloc::{AllocError, AllocFailed, Allocator};
 use std::marker::Model;
 
 /// A tree whose nodes have ids of their own, each with a content. One node, the root, has no parent.
 ///
-/// A look-up goes down from the root. At each node it climbs in the index, from the id that it wants, to the
-/// child to go on with, and finds that child among its siblings in logarithmic time. A look-up of a node that
-/// was noted goes straight down.
+/// The nodes stand in one hash map by their ids. Each has its depth and the ids of its parent and its children,
+/// so that no look-up climbs. A look-up of a node that was noted takes one look at its place, and no hash.
 #[derive(Drop)]
 pub struct IdTree<T, A: Allocator> {
-    root: Node<T, A>,
-    // The parent of each node but the root.
-    index: Index<A>,
-    // How many nodes there are.
-    count: u64,
-    // The id of the node whose content was lent last, and that content. It goes back when another is lent.
-    lender: u64,
-    lent: Option<T>,
-    ways: Ways,
+    nodes: Nodes<T, A>,
+    // A guess is looked at before it is trusted.
+    guesses: Guesses,
     alloc: A,
 }
 
@@ -50,37 +41,30 @@ impl<T, A: Allocator> Model for IdTree<T, A> {
 
     ghost coded = { map.code coded_ℕ (coded× (coded_option coded_ℕ) T.code) };
 
-    ghost use Rattle.hv_tree.specs.Full.{full, loan};
-    ghost use Rattle.hv_tree.specs.Index.{parents, IsKept};
+    ghost use Rattle.hv_tree.specs.Flat.{look, rows, IsSound};
 
-    ghost view = { λ a. map.from_entries (full (loan a.lender a.lent) a.root) };
+    ghost view = { λ a. rows a.nodes.entries };
 
-    ghost invariant = { λ a. IsKept (loan a.lender a.lent) a.root a.count (parents a.index) };
+    ghost invariant = { λ a. IsSound (rows a.nodes.entries) (look a.nodes.entries) };
 }
 
 impl<T, A: Allocator> IdTree<T, A> {
-    /// Whether a node has the id. It takes one look into the index.
+    /// Whether a node has the id.
     pub fn contains(&self, id: u64) -> bool
         ensures value { result ≡ map.contains_key self.now id }
         ensures none { result ≡ false → children self.now id ≡ [] }
         ensures tree { IsTree self.now }
     {
-        is_there(&self.root, &self.index, id)
+        seek(&self.nodes, &self.guesses, id).is_some()
     }
 
     /// The content of a node.
     pub fn get(&self, id: u64) -> Option<&T>
         ensures { option_copied result ≡ content self.now id }
     {
-        let Some(node) = seek(&self.root, &self.index, &self.ways, id) else {
-            return None;
-        };
-        match node.content() {
-            Some(content) => Some(content),
-            None => match &self.lent {
-                None => None,
-                Some(content) => Some(content),
-            },
+        match seek(&self.nodes, &self.guesses, id) {
+            Some(node) => Some(&node.content),
+            None => None,
         }
     }
 
@@ -89,7 +73,10 @@ impl<T, A: Allocator> IdTree<T, A> {
         ensures value { result ≡ parent self.now id }
         ensures tree { IsTree self.now }
     {
-        parent_in(&self.index, id)
+        match seek(&self.nodes, &self.guesses, id) {
+            Some(node) => node.parent,
+            None => None,
+        }
     }
 
     /// How many nodes are above a node: 0 for the root, and `None` where no node has the id.
@@ -98,10 +85,10 @@ impl<T, A: Allocator> IdTree<T, A> {
         ensures depth { IfSome result (HasDepth self.now id) }
         ensures tree { IsTree self.now }
     {
-        if !self.contains(id) {
-            return None;
+        match seek(&self.nodes, &self.guesses, id) {
+            Some(node) => Some(node.depth),
+            None => None,
         }
-        Some(self.root.depth(&self.index, id))
     }
 
     /// How many children a node has, or `None` where no node has the id.
@@ -111,10 +98,10 @@ impl<T, A: Allocator> IdTree<T, A> {
         ensures none { IfNone result (children self.now id ≡ []) }
         ensures tree { IsTree self.now }
     {
-        let Some(node) = seek(&self.root, &self.index, &self.ways, id) else {
-            return None;
-        };
-        Some(node.child_count() as u32)
+        match seek(&self.nodes, &self.guesses, id) {
+            Some(node) => Some(node.children.len() as u32),
+            None => None,
+        }
     }
 
     /// The least id above `previous` among the children of `parent`.
@@ -123,52 +110,46 @@ impl<T, A: Allocator> IdTree<T, A> {
         ensures value { IsLeastAbove previous (children self.now parent) result }
         ensures tree { IsTree self.now }
     {
-        let Some(node) = seek(&self.root, &self.index, &self.ways, parent) else {
+        let Some(node) = seek(&self.nodes, &self.guesses, parent) else {
             return None;
         };
-        node.child_after(previous)
+        let children = node.children.as_slice();
+        match children.get(first_above(children, previous)) {
+            Some(child) => Some(*child),
+            None => None,
+        }
     }
 
-    /// Notes the way to a node, so that look-ups of it go straight down, until one or two others are noted or
-    /// a node is taken out. It changes no answer.
+    /// Notes the place of a node, so that a look-up of it takes one look there. That holds until another node
+    /// with the same lowest bits of its id is noted, or the removal of one moves this one. It changes no answer.
     pub fn note(&mut self, id: u64)
         ensures { self.new ≡ self.old }
     {
-        if self.ways.noted(id).is_none() && id != self.root.id() {
-            let way = way_to(&self.root, &self.index, id);
-            self.ways.note_often(way);
+        if let Some(place) = place_of(&self.nodes, &self.guesses, id) {
+            note_place(&mut self.guesses, id, place);
         }
     }
 
-    /// Notes the way to a child of a node that was noted, until the next child is noted. It changes no answer.
+    /// Notes the place of a child of a node, as `note` does. It changes no answer.
     pub fn note_child(&mut self, parent: u64, id: u64)
         ensures { self.new ≡ self.old }
     {
-        if self.ways.noted(id).is_some() {
-            return;
-        }
-        let Some(node) = seek_noted(&self.root, &self.ways, parent) else {
-            return;
-        };
-        if let Some(at) = node.place_of(id) {
-            self.ways.note_last(parent, id, at);
-        }
+        self.note(id);
     }
 
-    /// Makes room for one more child of `parent`. The next insert there needs memory for the node and for its
-    /// place in the index alone.
+    /// Makes room for one more child of `parent`. The next insert there needs memory for the node alone.
     pub fn reserve_child(&mut self, parent: u64) -> Result<(), ReserveRefused>
         ensures rows { self.new ≡ self.old }
         ensures no_parent { (result ≡ Err ReserveRefused.NoParent)
             ↔ (map.contains_key self.old parent ≡ false) }
     {
-        if !self.contains(parent) {
+        let Some(place) = place_of(&self.nodes, &self.guesses, parent) else {
             return Err(ReserveRefused::NoParent);
+        };
+        if self.nodes[place].children.reserve(1).is_err() {
+            return Err(ReserveRefused::Memory);
         }
-        match self.root.reserve(&self.index, parent) {
-            Ok(()) => Ok(()),
-            Err(_) => Err(ReserveRefused::Memory),
-        }
+        Ok(())
     }
 }
 
@@ -177,8 +158,7 @@ impl<T, A: Allocator + Clone> IdTree<T, A> {
     pub fn ids(&self) -> Result<Vec<u64, A>, AllocError>
         ensures { IfOk result (λ v. v.items ≡ map.keys self.now) }
     {
-        let mut ids = Vec::with_capacity(self.alloc.clone()?, self.count as usize)?;
-        self.root.push_ids(&mut ids)?;
+        let mut ids = ids_of(&self.nodes, self.alloc.clone()?)?;
         ids.sort_unstable();
         Ok(ids)
     }
@@ -191,17 +171,12 @@ impl<T: Drop, A: Allocator> IdTree<T, A> {
             (λ w. change self.old id (λ _. w)) self.old) }
         ensures value { option_copied_mut result ≡ content self.old id }
     {
-        lend(
-            &mut self.root,
-            &self.index,
-            &mut self.ways,
-            &mut self.lender,
-            &mut self.lent,
-            id,
-        );
-        match &mut self.lent {
+        match place_of(&self.nodes, &self.guesses, id) {
+            Some(place) => {
+                note_place(&mut self.guesses, id, place);
+                Some(&mut self.nodes[place].content)
+            }
             None => None,
-            Some(content) => Some(content),
         }
     }
 
@@ -217,17 +192,11 @@ impl<T: Drop, A: Allocator> IdTree<T, A> {
             ≡ option_map (λ r. r.0) (map.get self.old q) }
         ensures absent { result ≡ false → self.new ≡ self.old }
     {
-        if !self.contains(id) {
+        let Some(node) = seek(&self.nodes, &self.guesses, id) else {
             return false;
-        }
-        settle(
-            &mut self.root,
-            &self.index,
-            &self.ways,
-            self.lender,
-            &mut self.lent,
-        );
-        self.root.edit_below(&self.index, id, edit);
+        };
+        let depth = node.depth;
+        edit_below(&mut self.nodes, id, depth, edit);
         true
     }
 
@@ -239,17 +208,15 @@ impl<T: Drop, A: Allocator> IdTree<T, A> {
         ensures removed { OnSome result (self.new ≡ map.remove self.old id) }
         ensures unchanged { IfNone result (self.new ≡ self.old) }
     {
-        if parent_in(&self.index, id).is_none() {
+        let node = seek(&self.nodes, &self.guesses, id)?;
+        let parent = node.parent?;
+        if !node.children.is_empty() {
             return None;
         }
-        let content = self.root.remove(&self.index, id)?;
-        forget(&mut self.index, id);
-        self.ways.forget();
-        self.count -= 1;
-        match content {
-            Some(content) => Some(content),
-            None => self.lent.take(),
-        }
+        let Some(place) = place_of(&self.nodes, &self.guesses, parent) else {
+            unreachable!();
+        };
+        Some(prune(&mut self.nodes, place, parent, id))
     }
 }
 
@@ -259,15 +226,21 @@ impl<T: Drop, A: Allocator + Copy> IdTree<T, A> {
         ensures ok { IfOk result (λ t. t ≡ map.insert map.empty id (None, content)) }
         ensures err { IfErr result (λ c. c ≡ content) }
     {
-        Ok(IdTree {
-            root: Node::leaf(alloc, id, content),
-            index: IndexMap::new(alloc),
-            count: 1,
-            lender: id,
-            lent: None,
-            ways: Ways::new(),
-            alloc,
-        })
+        let mut nodes = IndexMap::new(alloc);
+        let root = Node {
+            parent: None,
+            depth: 0,
+            children: Vec::new(alloc),
+            content,
+        };
+        match nodes.insert(id, root) {
+            Ok(_) => Ok(IdTree {
+                nodes,
+                guesses: [0; GUESSES],
+                alloc,
+            }),
+            Err(AllocFailed { value }) => Err(value.1.content),
+        }
     }
 }
 
@@ -281,62 +254,15 @@ impl<T: Drop, A: Allocator + Clone> IdTree<T, A> {
         ensures refused { IfErr result (Refuses self.old parent id content) }
         ensures unchanged { OnErr result (self.new ≡ self.old) }
     {
-        if !self.contains(parent) {
+        let Some(place) = place_of(&self.nodes, &self.guesses, parent) else {
             return Err(InsertRefused::NoParent(content));
-        }
+        };
         if self.contains(id) {
             return Err(InsertRefused::IdTaken(content));
         }
-        // No memory holds so many nodes.
-        let Some(count) = self.count.checked_add(1) else {
+        if let Err(content) = graft(&mut self.nodes, &self.alloc, place, parent, id, content) {
             return Err(InsertRefused::Memory(content));
-        };
-        let node = match make(&self.alloc, id, content) {
-            Ok(node) => node,
-            Err(content) => return Err(InsertRefused::Memory(content)),
-        };
-        if let Err(node) = self.root.graft(&mut self.index, parent, node) {
-            return Err(InsertRefused::Memory(unmake(node)));
         }
-        self.count = count;
         Ok(())
-    }
-}
-
-// A node with nothing below it, or its content again.
-fn make<T: Drop, A: Allocator + Clone>(
-    alloc: &A,
-    id: u64,
-    content: T,
-) -> Result<Box<Node<T, A>, A>, T>
-    ensures ok { IfOk result (λ n. n.value ≡ (id, (None, Some content)) ∷ []) }
-    ensures err { IfErr result (λ c. c ≡ content) }
-{
-    let Ok(own) = alloc.clone() else {
-        return Err(content);
-    };
-    let Ok(below) = alloc.clone() else {
-        return Err(content);
-    };
-    match Box::new(own, Node::leaf(below, id, content)) {
-        Ok(node) => Ok(node),
-        Err(failed) => {
-            let AllocFailed { value } = failed;
-            match value.into_content() {
-                Some(content) => Err(content),
-                None => unreachable!(),
-            }
-        }
-    }
-}
-
-// The content of a node that was made and not used.
-fn unmake<T: Drop, A: Allocator>(node: Box<Node<T, A>, A>) -> T
-    requires { IsSome (first_content node.value) }
-    ensures { first_content node.value ≡ Some result }
-{
-    match Box::into_inner(node).into_content() {
-        Some(content) => content,
-        None => unreachable!(),
     }
 }

@@ -82,6 +82,8 @@ pub enum Answer {
 /// Why the library refused an event or a boot. Nothing changed.
 #[derive(Clone, Copy, Debug, PartialEq, Eq)]
 pub enum Refused {
+    /// The room for the outputs of a call's elements has fewer than 16 bytes.
+    Short,
     /// The machine takes no event any more.
     UsedUp,
     /// The host has no memory.
@@ -97,6 +99,7 @@ pub enum Refused {
 impl fmt::Display for Refused {
     fn fmt(&self, f: &mut fmt::Formatter<'_>) -> fmt::Result {
         f.write_str(match self {
+            Refused::Short => "no room for an output",
             Refused::UsedUp => "the machine takes no event any more",
             Refused::Memory => "the host has no memory",
             Refused::Pages => "boot refused: pages",
@@ -146,6 +149,16 @@ impl Reply {
     }
 }
 
+/// What became of the elements of a call that were taken one after another.
+pub struct Run<'o> {
+    /// What the last of them is answered, without a line.
+    pub reply: Reply,
+    /// How many there were.
+    pub events: u32,
+    /// What they put out, one behind the other.
+    pub outputs: &'o [u8],
+}
+
 /// The partitions that are there, with all that they hold. It ends when it is dropped.
 pub struct Machine {
     handle: raw::Handle,
@@ -158,12 +171,13 @@ unsafe impl Send for Machine {}
 fn done(status: u32) -> Result<(), Refused> {
     match status {
         0 => Ok(()),
+        3 => Err(Refused::Short),
         4 => Err(Refused::UsedUp),
         5 => Err(Refused::Memory),
         6 => Err(Refused::Pages),
         7 => Err(Refused::Pool),
         8 => Err(Refused::Vps),
-        // The handle is empty, occupied, or the line too short: a `Machine` has a machine, and a line has its room.
+        // The handle is empty or occupied: a `Machine` has a machine. A line has its room.
         _ => unreachable!("status {status}"),
     }
 }
@@ -202,6 +216,36 @@ impl Machine {
         self.take(|machine, reply, line, size| unsafe {
             raw::hv_embed_hypercall(machine, by.raw(), &registers, input.as_ptr(), input.len(), reply, line, size)
         })
+    }
+
+    /// Takes one hypercall, and of a rep call the elements after it, too, each as an event of its own: up to the last, or to one
+    /// that a rule refuses, or until fewer than 16 bytes of `outputs` are left. Where the reply is [`Answer::More`], the call goes on
+    /// with [`Registers::at_element`].
+    pub fn run<'o>(
+        &mut self,
+        by: Caller,
+        call: Registers,
+        input: &[u8],
+        outputs: &'o mut [u8],
+    ) -> Result<Run<'o>, Refused> {
+        let registers = raw::Registers { rcx: call.rcx, rdx: call.rdx, r8: call.r8 };
+        let mut reply = Reply::new();
+        let mut told = raw::RunDone { events: 0, output_len: 0 };
+        // SAFETY: as above, and so it is of the outputs and of what is told of them.
+        done(unsafe {
+            raw::hv_embed_run(
+                &mut self.handle,
+                by.raw(),
+                &registers,
+                input.as_ptr(),
+                input.len(),
+                &mut reply.raw,
+                outputs.as_mut_ptr(),
+                outputs.len(),
+                &mut told,
+            )
+        })?;
+        Ok(Run { reply, events: told.events, outputs: &outputs[..told.output_len as usize] })
     }
 
     /// Reads a model-specific register, 8 bytes.

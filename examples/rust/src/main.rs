@@ -85,9 +85,27 @@ fn run(machine: &Mutex<Machine>, vp: u32) -> Result<(), hvpm::Refused> {
     Ok(())
 }
 
+/// Withdraws three pages of a new machine in a run, in whose outputs there is room for two at first.
+fn withdraw(config: Config) -> Result<(), hvpm::Refused> {
+    let mut machine = Machine::boot(config)?;
+    let by = Caller { partition: 1, vp: 0 };
+    let call = Registers { rcx: 0x0000_0003_0000_0049, rdx: 0, r8: 0 };
+    let mut outputs = [0; 31];
+    let run = machine.run(by, call, &[1], &mut outputs)?;
+    assert_eq!((run.events, run.reply.answer(), run.reply.line()), (2, Answer::More { next: 2 }, ""));
+    assert_eq!(run.outputs, [0u64.to_le_bytes(), 1u64.to_le_bytes()].as_flattened());
+    let run = machine.run(by, call.at_element(2), &[1], &mut outputs)?;
+    assert_eq!((run.events, run.reply.answer(), run.reply.result()), (1, Answer::Served, 3 << 32));
+    assert_eq!(run.outputs, 2u64.to_le_bytes());
+    assert_eq!(machine.run(by, call, &[1], &mut outputs[..15]).err(), Some(hvpm::Refused::Short));
+    assert_eq!(machine.events(), 3);
+    Ok(())
+}
+
 fn main() -> Result<(), Box<dyn Error>> {
     let config = Config { mask: 0xf7_0000_0044, pages: 32, pool: 20, vps: 2 };
     println!("no pages: {}", Machine::boot(Config { pages: 0, ..config }).err().ok_or("booted")?);
+    withdraw(config)?;
     let machine = Arc::new(Mutex::new(Machine::boot(config)?));
     let threads = [0, 1].map(|vp| {
         let machine = Arc::clone(&machine);

@@ -43,10 +43,17 @@ pub struct Reply {
     pub output: [u8; 256],
 }
 
+#[repr(C)]
+pub struct RunDone {
+    pub events: u32,
+    pub output_len: u32,
+}
+
 const _: () = assert!(size_of::<Handle>() == 24 && offset_of!(Handle, events) == 8 && offset_of!(Handle, at) == 16);
 const _: () = assert!(size_of::<Config>() == 24 && offset_of!(Config, pages) == 8 && offset_of!(Config, vps) == 16);
 const _: () = assert!(size_of::<Caller>() == 16 && offset_of!(Caller, vp) == 8);
 const _: () = assert!(size_of::<Registers>() == 24 && offset_of!(Registers, r8) == 16);
+const _: () = assert!(size_of::<RunDone>() == 8 && offset_of!(RunDone, output_len) == 4);
 const _: () = assert!(size_of::<Reply>() == 288 && offset_of!(Reply, result) == 8 && offset_of!(Reply, output) == 28);
 
 pub const LINE: usize = 768;
@@ -62,6 +69,17 @@ unsafe extern "C" {
         reply: *mut Reply,
         line: *mut u8,
         line_size: usize,
+    ) -> u32;
+    pub fn hv_embed_run(
+        machine: *mut Handle,
+        by: Caller,
+        registers: *const Registers,
+        input: *const u8,
+        input_len: usize,
+        reply: *mut Reply,
+        outputs: *mut u8,
+        outputs_size: usize,
+        done: *mut RunDone,
     ) -> u32;
     pub fn hv_embed_read_msr(machine: *mut Handle, by: Caller, msr: u32, reply: *mut Reply, line: *mut u8, size: usize) -> u32;
     pub fn hv_embed_write_msr(

@@ -1,0 +1,124 @@
+-- The elements of one call, one after another.
+use Rattle.std.specs.Prelude.{ℕ, zero, suc, ◌≡◌, ◌+◌, ◌-◌, ◌<◌, ◌≤◌, List, [], ◌++◌, IsTrue, true, false, not, nat_lt, length, take, if◌then◌else◌}
+use Rattle.std.specs.Global.{Global}
+use Rattle.hv_abi.specs.declared.frame.Frame.{Frame}
+use Rattle.hv_defs.specs.declared.sizes.TheConstants.{REPS_END}
+use Rattle.hv_history.specs.Row.{next_in}
+use Rattle.hv_history.specs.Run.{IsMore, restart}
+use Rattle.hv_machine.specs.IsFlat.{IsFlat}
+use Rattle.hv_machine.specs.Lasting.{IsLasting}
+use Rattle.hv_machine.specs.Sound.{IsSound}
+use Rattle.hv_machine.specs.State.{State}
+use Rattle.hv_policy.specs.Call.{call_event, may_take_memory}
+use Rattle.hv_policy.specs.Flat.{Flat}
+use Rattle.hv_policy.specs.Step.{step}
+use Rattle.hv_policy.specs.declared.event.Action.TheVariants.{Hypercall}
+use Rattle.hv_policy.specs.declared.event.Caller.{Caller}
+use Rattle.hv_policy.specs.declared.reply.Reply.{Reply}
+use Rattle.hv_policy.specs.declared.reply.Reply.TheVariants.{Served, More, Denied, Fault}
+use Rattle.hv_embed.specs.Answer.{IsAnswer}
+use Rattle.hv_embed.specs.Taken.{is_used_up}
+use Rattle.hv_embed.specs.declared.handle.HvMachine.{HvMachine}
+use Rattle.hv_embed.specs.declared.layout.HvReply.{HvReply}
+use Rattle.hv_embed.specs.declared.layout.HvRun.{HvRun}
+use Rattle.hv_embed.specs.declared.layout.TheConstants.{ELEMENT_OUTPUT}
+use Rattle.hv_embed.specs.declared.status.TheConstants.{DONE, EMPTY, SHORT, USED_UP}
+
+-- the bytes that a reply puts out
+abbrev pub output_in : Reply → List ℕ
+output_in (Served output) = output
+output_in (More next output) = output
+output_in (Denied rule status reps) = []
+output_in (Fault rule) = []
+
+-- what elements of a call have come to: the state that the last of them left, its frame and its reply, and what all of them
+-- put out, one after another
+pub record Ran : Type 0 where
+  pub flat : Flat
+  pub frame : Frame Global
+  pub reply : Reply
+  pub bytes : List ℕ
+
+-- the element of this frame, after some that put out these bytes
+abbrev pub element_after : List ℕ → Flat → Caller → Frame Global → Ran
+element_after bytes f by frame = record {
+  flat = (step f (call_event by frame)).0;
+  frame = frame;
+  reply = (step f (call_event by frame)).1;
+  bytes = bytes ++ output_in (step f (call_event by frame)).1;
+}
+
+-- the first element
+abbrev pub first : Flat → Caller → Frame Global → Ran
+first f by frame = element_after [] f by frame
+
+-- and the one with which the call goes on, as the last one's reply says
+abbrev pub on : Caller → Ran → Ran
+on by ran = element_after ran.bytes ran.flat by (restart ran.frame (next_in ran.reply))
+
+-- and so many more
+abbrev pub run : ℕ → Caller → Ran → Ran
+run zero by ran = ran
+run (suc n) by ran = on by (run n by ran)
+
+-- each element before the last of so many more is answered that the call goes on
+abbrev pub GoesOn : ℕ → Caller → Ran → Type 0
+GoesOn n by ran = (k : ℕ) → k < n → IsMore (run k by ran).reply
+
+-- this is where elements of a call have come to: the machine stands for the state, and the rest is the same
+pub record IsAt (ran : Ran) (m : State) (last : Frame Global) (told : Reply) (out : List ℕ) : Type 0 where
+  pub state : IsFlat m ran.flat
+  pub frame : last ≡ ran.frame
+  pub reply : told ≡ ran.reply
+  pub bytes : out ≡ ran.bytes
+
+-- and this is where so many more of them have come to
+pub record IsAtMore (n : ℕ) (by : Caller) (ran : Ran) (m : State) (last : Frame Global) (told : Reply) (out : List ℕ) : Type 0 where
+  pub goes : GoesOn n by ran
+  pub stands : IsAt (run n by ran) m last told out
+
+-- the machine stands for the state that the element of this frame left, which has this reply
+pub record IsAfter (by : Caller) (m : State) (last : Frame Global) (told : Reply) : Type 0 where
+  pub before : Flat
+  pub reply : told ≡ (step before (call_event by last)).1
+  pub state : IsFlat m (step before (call_event by last)).0
+
+-- The elements of a call end here: it doesn't go on, or too few bytes are left for another output, or no more events are counted,
+-- or there were so many more already as no call has elements. Else the host refused the next one, which may take memory.
+abbrev pub HasStopped : Caller → Ran → State → (left more events : ℕ) → Type 0
+HasStopped by ran m left more events =
+    IsMore ran.reply → ELEMENT_OUTPUT ≤ left → is_used_up m.served events ≡ false → more < REPS_END
+    → IsTrue (may_take_memory (call_event by (restart ran.frame (next_in ran.reply))))
+
+-- The first element of a call was taken, before which there were so many events, and more after it, as many as can be. All but
+-- the last are answered that the call goes on; the answer is the last one's reply, the machine stands for the state that it
+-- left, and as many bytes of a buffer as were put out are those of all of them.
+pub record HasRun (by : Caller) (start : Ran) (before : ℕ) (m : State) (told : HvReply) (buffer : List ℕ) (done : HvRun) : Type 0 where
+  pub more : ℕ
+  pub events : done.events ≡ more + 1
+  pub goes : GoesOn more by start
+  pub state : IsFlat m (run more by start).flat
+  pub answer : IsAnswer told (Hypercall (run more by start).frame) (run more by start).reply
+  pub len : done.output_len ≡ length (run more by start).bytes
+  pub bytes : take done.output_len buffer ≡ (run more by start).bytes
+  pub stopped : HasStopped by (run more by start) m (length buffer - done.output_len) more (before + done.events)
+
+-- Elements of a call were taken so, of each flat state that the machine of a handle stood for. It now stands for a lawful one, is
+-- sound, and has as many pages; as many events more are counted as elements were taken. No line is put.
+pub record IsRunTaken (by : Caller) (frame : Frame Global) (old new : HvMachine) (answer : HvReply) (buffer : List ℕ) (done : HvRun) : Type 0 where
+  pub ran : (f : Flat) → IsFlat old.held.machine f → HasRun by (first f by frame) old.events new.held.machine answer buffer done
+  pub line : answer.line_len ≡ 0
+  pub pages : new.held.machine.pages ≡ old.held.machine.pages
+  pub lasting : IsLasting new.held.machine
+  pub sound : IsSound new.held.machine
+  pub some : 0 < done.events
+  pub events : new.events ≡ old.events + done.events
+  pub live : new.live ≡ true
+
+-- whether a handle takes a call's elements with a buffer for their outputs of this length, or else why not
+abbrev pub run_readiness : HvMachine → ℕ → ℕ
+run_readiness m len =
+    if not m.live then EMPTY
+    else if nat_lt len ELEMENT_OUTPUT then SHORT
+    else if is_used_up m.held.machine.served m.events then USED_UP
+    else DONE
