@@ -25,8 +25,8 @@ pub struct Malformed;
 
 /// The call that a frame holds, with its parameters, or Malformed where one of them is so by itself.
 /// Bytes that the frame lacks at its end read as zero. The shape is to be this frame's, from
-/// [`Frame::check`]. Inlined with all that it calls, since of a call that the source names the parameters are
-/// known, too, and need no place in memory.
+/// [`Frame::check`]. It is marked as inlined for who knows the call by its name; the compiler does so unless that
+/// grows too large.
 #[inline(always)]
 pub fn decode<'f, A: Allocator>(frame: &'f Frame<A>, shape: &Shape) -> Result<Call<'f>, Malformed>
     requires { IsShape frame.now shape.now }

@@ -140,8 +140,8 @@ impl<A: Allocator + Clone> Machine<A> {
         ensures pages { self.new.pages ≡ self.old.pages }
         ensures sound { IsSound self.new }
     {
-        // Each call has a way of its own, on which it is known which one it is: so no call is put together in
-        // memory, and of the rules and the table's rows only what this call needs is left.
+        // Each call has a way of its own, on which it is known which one it is, so that the compiler leaves out
+        // what that tells.
         match CallKind::of(InputValue::read(frame.rcx).call) {
             Some(CallKind::CreatePartition) => self.take(
                 by,
