@@ -131,9 +131,9 @@ static inline uint8_t *hvpm_or_none(const void *at, size_t size) {
     return size == 0 ? none : (uint8_t *)(uintptr_t)at;
 }
 
-/* Whether a pointer of an event is null. */
-static inline bool hvpm_lacks(const hvpm_machine *machine, const hvpm_reply *reply, const char *line, size_t line_size) {
-    return !machine || !reply || (!line && line_size != 0);
+/* Whether a pointer of an event is null. The buffer is that of its line or of its outputs. */
+static inline bool hvpm_lacks(const hvpm_machine *machine, const hvpm_reply *reply, const void *buffer, size_t size) {
+    return !machine || !reply || (!buffer && size != 0);
 }
 
 /*
