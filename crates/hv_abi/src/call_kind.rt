@@ -137,7 +137,15 @@ impl CallKind {
     pub fn is_rep(self) -> bool
         ensures { result ≡ (row_of self).rep }
     {
-        self.row().rep
+        // Said of the calls themselves, and not read in the table, which the contract holds it to: where this is
+        // inlined a table of all calls would be, too.
+        match self {
+            CallKind::DepositMemory
+            | CallKind::WithdrawMemory
+            | CallKind::GetVpRegisters
+            | CallKind::SetVpRegisters => true,
+            _ => false,
+        }
     }
 
     /// Whether it accepts the fast bit, with its input in RDX and R8.

@@ -16,7 +16,7 @@ mod status;
 
 pub use bytes::Bytes;
 pub use call_kind::{ALL_CALLS, CallKind};
-pub use call_row::CallRow;
+pub use call_row::{CallRow, DEPOSIT_MEMORY, GET_VP_REGISTERS, SET_VP_REGISTERS};
 pub use frame::{AbiFault, Frame, Shape};
 pub use input_value::InputValue;
 pub use result_value::ResultValue;

@@ -58,9 +58,9 @@ kind-choice : (kind : CallKind) (valid : Bool) (call : Call) → kind_of_call ca
 kind-choice kind true call same = same
 kind-choice kind false call same = tt
 
--- what a block gives with the element at a place is what the frame gives, where these are its input's and its start's
-pub decoded-same : {A : Type 0} (frame : Frame A) (kind : CallKind) (result : Result Call Malformed) (fast : Bool) (start element : ℕ) → result ≡ decoded kind (input_of frame fast) element → fast ≡ is_fast frame.rcx → start ≡ bits frame.rcx 48 12 → element ≡ element_at kind start → result ≡ decoded_of kind frame
-decoded-same frame kind result fast start element e of_fast of_start of_element = e ∙ rw (of_element, of_fast, of_start) refl
+-- what a block gives with the element at a start index is what the frame gives, where both are the frame's
+pub decoded-same : {A : Type 0} (frame : Frame A) (kind : CallKind) (result : Result Call Malformed) (fast : Bool) (start : ℕ) → result ≡ decoded kind (input_of frame fast) (element_at kind start) → fast ≡ is_fast frame.rcx → start ≡ bits frame.rcx 48 12 → result ≡ decoded_of kind frame
+decoded-same frame kind result fast start e of_fast of_start = e ∙ rw (of_start, of_fast) refl
 
 -- each clause of `decode`, from its result
 pub decoded-ok : {A : Type 0} (frame : Frame A) (kind : CallKind) (result : Result Call Malformed) → result ≡ decoded_of kind frame → IfOk result (Params frame kind)

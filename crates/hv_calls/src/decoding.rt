@@ -1,5 +1,5 @@
 // From a frame to its call.
-ghost use Rattle.std.specs.Prelude.{◌≡◌, ◌^◌, ◌<◌, Ok, false, IfOk, IfErr, IfSome, Some, None, is_some};
+ghost use Rattle.std.specs.Prelude.{◌≡◌, ◌+◌, ◌*◌, ◌^◌, ◌<◌, Ok, false, IfOk, IfErr, IfSome, Some, None, is_some};
 ghost use Rattle.std.specs.Prelude.{if◌then◌else◌};
 ghost use Rattle.hv_abi.specs.Check.{IsShape, input_of};
 ghost use Rattle.hv_calls.specs.Blocks.{call_in, port_aim as aim_of_port, port_kind as kind_of_port};
@@ -13,7 +13,7 @@ ghost use Rattle.hv_calls.specs.declared.call.Call.{Call as TypedCall};
 use crate::call::Call;
 use crate::fields::{u16_at, u32_at, u64_at};
 use crate::payload::Payload;
-use hv_abi::{CallKind, Frame, Shape};
+use hv_abi::{CallKind, CallRow, DEPOSIT_MEMORY, Frame, GET_VP_REGISTERS, SET_VP_REGISTERS, Shape};
 use hv_defs::{
     ANY_VP, Aim, EVENT_FLAGS, MAX_MESSAGE_TYPE, MAX_PAYLOAD, MAX_PORT_ID, PortKind, SINTS,
 };
@@ -35,7 +35,7 @@ pub fn decode<'f, A: Allocator>(frame: &'f Frame<A>, shape: &Shape) -> Result<Ca
     ensures malformed { IfErr result (λ _. are_parameters_valid shape.now.kind frame.now ≡ false) }
     ensures kind { IfOk result (λ c. kind_of_call c ≡ shape.now.kind) }
 {
-    decode_at(frame, shape, element_at(shape))
+    decode_named(frame, shape)
 }
 
 /// The call that a frame holds, where it is a rep call that has no parameter that can be malformed, as
@@ -48,34 +48,29 @@ pub fn decode_plain<A: Allocator>(frame: &Frame<A>, shape: &Shape) -> Option<Cal
     ensures plain { is_some result ≡ is_plain shape.now.kind }
 {
     match shape.kind {
-        CallKind::DepositMemory => Some(deposit_memory(frame, shape, element_at(shape))),
+        CallKind::DepositMemory => Some(deposit_memory(frame, shape)),
         CallKind::WithdrawMemory => Some(Call::WithdrawMemory {
             partition: u64_at(frame, shape, 0),
         }),
-        CallKind::GetVpRegisters => Some(get_vp_registers(frame, shape, element_at(shape))),
+        CallKind::GetVpRegisters => Some(get_vp_registers(frame, shape)),
         _ => None,
     }
 }
 
-// The place of the element at a frame's start index.
+// The place of the element at a start index, of a call with this row.
 #[inline(always)]
-fn element_at(shape: &Shape) -> usize
-    ensures place { result ≡ place_of_element shape.now.kind shape.now.start }
+fn element_at(row: CallRow, start: u16) -> usize
+    ensures place { result ≡ row.input + start * row.input_element }
     ensures near { result < 2 ^ 32 }
 {
-    let row = shape.kind.row();
-    usize::from(row.input) + usize::from(shape.start) * usize::from(row.input_element)
+    usize::from(row.input) + usize::from(start) * usize::from(row.input_element)
 }
 
-// The call of a frame, of whose element the place is given.
+// The call of a frame, by the decoder of its own call.
 #[inline(always)]
-fn decode_at<'f, A: Allocator>(
-    frame: &'f Frame<A>,
-    shape: &Shape,
-    element: usize,
-) -> Result<Call<'f>, Malformed>
-    requires { element < 2 ^ 32 }
-    ensures { result ≡ decoded shape.now.kind (input_of frame.now shape.now.fast) element }
+fn decode_named<'f, A: Allocator>(frame: &'f Frame<A>, shape: &Shape) -> Result<Call<'f>, Malformed>
+    ensures { result ≡ decoded shape.now.kind (input_of frame.now shape.now.fast)
+        (place_of_element shape.now.kind shape.now.start) }
 {
     match shape.kind {
         CallKind::CreatePartition => Ok(Call::CreatePartition {
@@ -94,7 +89,7 @@ fn decode_at<'f, A: Allocator>(
         CallKind::SetPartitionProperty => Ok(set_partition_property(frame, shape)),
         CallKind::GetPartitionId => Ok(Call::GetPartitionId),
         CallKind::GetNextChildPartition => Ok(get_next_child_partition(frame, shape)),
-        CallKind::DepositMemory => Ok(deposit_memory(frame, shape, element)),
+        CallKind::DepositMemory => Ok(deposit_memory(frame, shape)),
         CallKind::WithdrawMemory => Ok(Call::WithdrawMemory {
             partition: u64_at(frame, shape, 0),
         }),
@@ -103,8 +98,8 @@ fn decode_at<'f, A: Allocator>(
         }),
         CallKind::CreateVp => Ok(create_vp(frame, shape)),
         CallKind::DeleteVp => Ok(delete_vp(frame, shape)),
-        CallKind::GetVpRegisters => Ok(get_vp_registers(frame, shape, element)),
-        CallKind::SetVpRegisters => set_vp_registers(frame, shape, element),
+        CallKind::GetVpRegisters => Ok(get_vp_registers(frame, shape)),
+        CallKind::SetVpRegisters => set_vp_registers(frame, shape),
         CallKind::DeletePort => delete_port(frame, shape),
         CallKind::DisconnectPort => disconnect_port(frame, shape),
         CallKind::PostMessage => post_message(frame, shape),
@@ -146,13 +141,13 @@ fn get_next_child_partition<A: Allocator>(frame: &Frame<A>, shape: &Shape) -> Ca
 }
 
 #[inline(always)]
-fn deposit_memory<A: Allocator>(frame: &Frame<A>, shape: &Shape, element: usize) -> Call<'static>
-    requires { element < 2 ^ 32 }
-    ensures { result ≡ call_in CallKind.DepositMemory (input_of frame.now shape.now.fast) element }
+fn deposit_memory<A: Allocator>(frame: &Frame<A>, shape: &Shape) -> Call<'static>
+    ensures { result ≡ call_in CallKind.DepositMemory (input_of frame.now shape.now.fast)
+        (place_of_element CallKind.DepositMemory shape.now.start) }
 {
     Call::DepositMemory {
         partition: u64_at(frame, shape, 0),
-        page: u64_at(frame, shape, element),
+        page: u64_at(frame, shape, element_at(DEPOSIT_MEMORY, shape.start)),
     }
 }
 
@@ -177,14 +172,14 @@ fn delete_vp<A: Allocator>(frame: &Frame<A>, shape: &Shape) -> Call<'static>
 }
 
 #[inline(always)]
-fn get_vp_registers<A: Allocator>(frame: &Frame<A>, shape: &Shape, element: usize) -> Call<'static>
-    requires { element < 2 ^ 32 }
-    ensures { result ≡ call_in CallKind.GetVpRegisters (input_of frame.now shape.now.fast) element }
+fn get_vp_registers<A: Allocator>(frame: &Frame<A>, shape: &Shape) -> Call<'static>
+    ensures { result ≡ call_in CallKind.GetVpRegisters (input_of frame.now shape.now.fast)
+        (place_of_element CallKind.GetVpRegisters shape.now.start) }
 {
     Call::GetVpRegisters {
         partition: u64_at(frame, shape, 0),
         vp: u32_at(frame, shape, 8),
-        name: u32_at(frame, shape, element),
+        name: u32_at(frame, shape, element_at(GET_VP_REGISTERS, shape.start)),
     }
 }
 
@@ -192,11 +187,11 @@ fn get_vp_registers<A: Allocator>(frame: &Frame<A>, shape: &Shape, element: usiz
 fn set_vp_registers<A: Allocator>(
     frame: &Frame<A>,
     shape: &Shape,
-    element: usize,
 ) -> Result<Call<'static>, Malformed>
-    requires { element < 2 ^ 32 }
-    ensures { result ≡ decoded CallKind.SetVpRegisters (input_of frame.now shape.now.fast) element }
+    ensures { result ≡ decoded CallKind.SetVpRegisters (input_of frame.now shape.now.fast)
+        (place_of_element CallKind.SetVpRegisters shape.now.start) }
 {
+    let element = element_at(SET_VP_REGISTERS, shape.start);
     // A register has 64 bits, and the upper half of its 16 bytes is reserved.
     if u64_at(frame, shape, element + 24) != 0 {
         return Err(Malformed);
@@ -209,7 +204,6 @@ fn set_vp_registers<A: Allocator>(
     })
 }
 
-#[inline(always)]
 fn delete_port<A: Allocator>(frame: &Frame<A>, shape: &Shape) -> Result<Call<'static>, Malformed>
     ensures { result ≡ decoded CallKind.DeletePort (input_of frame.now shape.now.fast) 0 }
 {
@@ -221,7 +215,6 @@ fn delete_port<A: Allocator>(frame: &Frame<A>, shape: &Shape) -> Result<Call<'st
     Ok(Call::DeletePort { partition, port })
 }
 
-#[inline(always)]
 fn disconnect_port<A: Allocator>(
     frame: &Frame<A>,
     shape: &Shape,
@@ -268,7 +261,6 @@ fn signal_event<A: Allocator>(frame: &Frame<A>, shape: &Shape) -> Result<Call<'s
     Ok(Call::SignalEvent { connection, flag })
 }
 
-#[inline(always)]
 fn create_port<A: Allocator>(frame: &Frame<A>, shape: &Shape) -> Result<Call<'static>, Malformed>
     ensures { result ≡ decoded CallKind.CreatePort (input_of frame.now shape.now.fast) 0 }
 {
@@ -295,7 +287,6 @@ fn create_port<A: Allocator>(frame: &Frame<A>, shape: &Shape) -> Result<Call<'st
     })
 }
 
-#[inline(always)]
 fn connect_port<A: Allocator>(frame: &Frame<A>, shape: &Shape) -> Result<Call<'static>, Malformed>
     ensures { result ≡ decoded CallKind.ConnectPort (input_of frame.now shape.now.fast) 0 }
 {

@@ -1,5 +1,6 @@
 // The fields of a call's input, which are little-endian. Those past its end read as zero.
-ghost use Rattle.std.specs.Prelude.{◌≡◌, ◌+◌, ◌^◌, ◌<◌, ℕ, length, slice_index};
+ghost use Rattle.std.specs.Prelude.{◌≡◌, ◌+◌, ◌*◌, ◌/◌, ◌%◌, ◌^◌, ◌<◌, ◌≤◌, ◌++◌};
+ghost use Rattle.std.specs.Int.{w64, to_le_bytes};
 ghost use Rattle.hv_abi.specs.Check.{input_of};
 ghost use Rattle.hv_defs.specs.Field.{field};
 
@@ -8,80 +9,115 @@ use hv_abi::{Frame, Shape};
 use std::alloc::Allocator;
 
 // The 8 bytes at a place as a number.
-#[inline(always)]
+#[inline]
 pub fn u64_at<A: Allocator>(frame: &Frame<A>, shape: &Shape, at: usize) -> u64
     requires { at < 2 ^ 33 }
     ensures { result ≡ field (input_of frame.now shape.now.fast) at 8 }
 {
-    LittleEndian::read_u64(&bytes_at::<A, 8>(frame, shape, at))
+    let input = frame.input.as_slice();
+    if shape.fast {
+        return fast_number(frame.rdx, frame.r8, at, 8);
+    }
+    if at + 8 > input.len() {
+        return last_number(input, at, 8);
+    }
+    LittleEndian::read_u64(&input[at..at + 8])
 }
 
 // The 4 bytes at a place as a number.
-#[inline(always)]
+#[inline]
 pub fn u32_at<A: Allocator>(frame: &Frame<A>, shape: &Shape, at: usize) -> u32
     requires { at < 2 ^ 33 }
     ensures { result ≡ field (input_of frame.now shape.now.fast) at 4 }
 {
-    LittleEndian::read_u32(&bytes_at::<A, 4>(frame, shape, at))
+    let input = frame.input.as_slice();
+    if shape.fast {
+        return fast_number(frame.rdx, frame.r8, at, 4) as u32;
+    }
+    if at + 4 > input.len() {
+        return last_number(input, at, 4) as u32;
+    }
+    LittleEndian::read_u32(&input[at..at + 4])
 }
 
 // The 2 bytes at a place as a number.
-#[inline(always)]
+#[inline]
 pub fn u16_at<A: Allocator>(frame: &Frame<A>, shape: &Shape, at: usize) -> u16
     requires { at < 2 ^ 33 }
     ensures { result ≡ field (input_of frame.now shape.now.fast) at 2 }
 {
-    LittleEndian::read_u16(&bytes_at::<A, 2>(frame, shape, at))
-}
-
-// The `N` bytes at a place.
-#[inline(always)]
-fn bytes_at<A: Allocator, const N: usize>(frame: &Frame<A>, shape: &Shape, at: usize) -> [u8; N]
-    requires place { at < 2 ^ 33 }
-    requires few { N < 9 }
-    ensures len { length result ≡ N }
-    ensures bytes { (k : ℕ) → k < N → slice_index result k
-        ≡ slice_index (input_of frame.now shape.now.fast) (at + k) }
-{
     let input = frame.input.as_slice();
     if shape.fast {
-        return fast_bytes_at(frame, *shape, at);
+        return fast_number(frame.rdx, frame.r8, at, 2) as u16;
     }
-    if at + N > input.len() {
-        return last_bytes_at(input, at);
+    if at + 2 > input.len() {
+        return last_number(input, at, 2) as u16;
     }
-    let mut bytes = [0; N];
-    bytes.copy_from_slice(&input[at..at + N]);
-    bytes
+    LittleEndian::read_u16(&input[at..at + 2])
 }
 
-// The same of a fast frame, byte by byte. Not inlined, since most fields stand in an input list. The shape is
-// given by value, so that whoever has it needn't keep it in memory.
-#[inline(never)]
-fn fast_bytes_at<A: Allocator, const N: usize>(frame: &Frame<A>, shape: Shape, at: usize) -> [u8; N]
+// The number of so many bytes at a place of RDX and then R8, by shifts. No field of a fast call stands in both of
+// them.
+#[inline(always)]
+fn fast_number(rdx: u64, r8: u64, at: usize, size: usize) -> u64
     requires place { at < 2 ^ 33 }
-    requires few { N < 9 }
-    ensures len { length result ≡ N }
-    ensures bytes { (k : ℕ) → k < N → slice_index result k
-        ≡ slice_index (input_of frame.now shape.fast) (at + k) }
+    requires few { size ≤ 8 }
+    ensures number { result ≡ field (to_le_bytes w64 rdx ++ to_le_bytes w64 r8) at size }
+    ensures fits { result < 2 ^ (8 * size) }
 {
-    let mut bytes = [0; N];
-    for i in 0..N {
-        bytes[i] = frame.byte(&shape, at + i);
+    if at + size <= 8 {
+        return low_bytes(rdx, at, size);
     }
+    if at >= 8 && at + size <= 16 {
+        return low_bytes(r8, at - 8, size);
+    }
+    last_number(&both(rdx, r8), at, size)
+}
+
+// The bytes of two numbers.
+fn both(first: u64, second: u64) -> [u8; 16]
+    ensures { result ≡ to_le_bytes w64 first ++ to_le_bytes w64 second }
+{
+    let mut bytes = [0; 16];
+    bytes[..8].copy_from_slice(&first.to_le_bytes());
+    bytes[8..].copy_from_slice(&second.to_le_bytes());
     bytes
 }
 
-// The `N` bytes at a place of a list that ends before the last of them: those that are there, and zeros.
-#[inline(never)]
-fn last_bytes_at<const N: usize>(input: &[u8], at: usize) -> [u8; N]
-    requires { length input.now < at + N }
-    ensures len { length result ≡ N }
-    ensures bytes { (k : ℕ) → k < N → slice_index result k ≡ slice_index input.now (at + k) }
+// The number of so many bytes of a number from a place on.
+#[inline(always)]
+fn low_bytes(number: u64, at: usize, size: usize) -> u64
+    requires { at + size ≤ 8 }
+    ensures { result ≡ number / 256 ^ at % 256 ^ size }
 {
-    let mut bytes = [0; N];
-    if at < input.len() {
-        bytes[..input.len() - at].copy_from_slice(&input[at..]);
+    if size == 8 {
+        return number;
     }
-    bytes
+    if at == 8 {
+        return 0;
+    }
+    (number >> (8 * at as u32)) % (1 << (8 * size as u32))
+}
+
+// The number of so many bytes at a place of a list, where those past its end are 0. From the last on that is there,
+// in a register: bytes that are written to memory and read as a number are waited for.
+#[inline(never)]
+fn last_number(input: &[u8], at: usize, size: usize) -> u64
+    requires { size ≤ 8 }
+    ensures number { result ≡ field input.now at size }
+    ensures fits { result < 2 ^ (8 * size) }
+{
+    if at >= input.len() {
+        return 0;
+    }
+    let mut end = at + size;
+    if end > input.len() {
+        end = input.len();
+    }
+    let mut number = 0;
+    while end > at {
+        end -= 1;
+        number = number * 256 + u64::from(input[end]);
+    }
+    number
 }

@@ -46,14 +46,24 @@ impl<'f> Payload<'f> {
     }
 
     /// A copy of the bytes.
+    #[inline(always)]
     pub fn to_array(&self) -> ArrayVec<u8, 240>
         ensures { result.items ≡ self.now }
     {
         let rest = self.rest;
         let mut bytes = ArrayVec::new();
-        for i in 0..self.len {
-            bytes.push(byte(rest, i));
+        if self.len <= rest.len() {
+            let Ok(()) = bytes.try_extend_from_slice(&rest[..self.len]) else {
+                unreachable!()
+            };
+            return bytes;
         }
+        let Ok(()) = bytes.try_extend_from_slice(rest) else {
+            unreachable!()
+        };
+        let Ok(()) = bytes.try_extend_from_slice(&[0; 240][..self.len - rest.len()]) else {
+            unreachable!()
+        };
         bytes
     }
 }
@@ -69,11 +79,4 @@ fn rest<'f, A: Allocator>(frame: &'f Frame<A>, shape: &Shape, at: usize) -> &'f 
     } else {
         &input[at..]
     }
-}
-
-// The byte at a place, or 0 past the end.
-fn byte(bytes: &[u8], at: usize) -> u8
-    ensures { result ≡ slice_index bytes.now at }
-{
-    bytes.get(at).copied().unwrap_or(0)
 }

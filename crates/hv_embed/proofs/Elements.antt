@@ -1,5 +1,5 @@
 -- Where the elements of a call have come to after one more.
-use Rattle.std.proofs.Common.{IsTrue, false, nat_le, ◌||◌, ◌<◌, ◌≡◌, ℕ, ◌+◌, ◌≤◌, List, ◌++◌, length, take, refl, sym, subst, ap, ◌∙◌, arith, add-one, below_more, length-take}
+use Rattle.std.proofs.Common.{IsTrue, IfNone, Option, None, Some, is_some, false, nat_le, ◌||◌, ◌<◌, ◌≡◌, ℕ, ◌+◌, ◌≤◌, List, ◌++◌, length, take, refl, sym, subst, ap, ◌∙◌, arith, add-one, below_more, length-take}
 use Rattle.std.proofs.lemmas.Bool.Decides.{nat_tests}
 use Rattle.std.specs.Global.{Global}
 use Rattle.hv_abi.specs.InputValue.{restarted}
@@ -94,3 +94,8 @@ has_run by start before n m last told answer outputs at is within says stopped =
           subst (λ (f : Frame Global). IsTrue (may_take_memory (call_event by f))) (ap (λ (f : Frame Global). restart f (next_in told)) now.frame ∙ ap (λ (r : Reply). restart (run n by start).frame (next_in r)) now.reply)
           (stopped (subst IsMore (sym now.reply) more) (omega arith) free few);
     }
+
+-- what holds where there is no value, of one that isn't there
+pub none_of : {A P : Type 0} (o : Option A) → is_some o ≡ false → IfNone o P → P
+none_of None is holds = holds
+none_of (Some x) is holds = cc

@@ -58,6 +58,7 @@ pub(crate) fn answer(
 }
 
 // Answers an access alike. It is made an event only where a line is asked for.
+#[inline(always)]
 pub(crate) fn answer_access(
     by: Caller,
     access: Access,
@@ -173,6 +174,7 @@ fn action_of(access: Access) -> Action<Global>
 }
 
 // Says how an event ended, and what it put out.
+#[inline(always)]
 fn say(told: Answer, output: &[u8], reply: &mut HvReply)
     requires { length output.now ≤ 256 }
     ensures { Says reply.new (reply_of told output.now) }
@@ -186,6 +188,7 @@ fn say(told: Answer, output: &[u8], reply: &mut HvReply)
 }
 
 // Puts these into a reply. The bytes of its output past those that are put out stay.
+#[inline(always)]
 fn put(reply: &mut HvReply, kind: u32, rule: u32, next: u32, output: &[u8])
     requires { length output.now ≤ 256 }
     ensures kind { reply.new.kind ≡ kind }
@@ -196,7 +199,14 @@ fn put(reply: &mut HvReply, kind: u32, rule: u32, next: u32, output: &[u8])
     reply.kind = kind;
     reply.rule = rule;
     reply.next = next;
-    reply.output[..output.len()].copy_from_slice(output);
+    // What accesses put out is copied by known lengths.
+    match output.len() {
+        0 => {}
+        1 => reply.output[0] = output[0],
+        8 => reply.output[..8].copy_from_slice(output),
+        256 => reply.output.copy_from_slice(output),
+        len => reply.output[..len].copy_from_slice(output),
+    }
     reply.output_len = output.len() as u32;
 }
 

@@ -71,8 +71,18 @@ fn run_call(
     let Ok(first) = machine.hypercall(by, frame) else {
         return MEMORY;
     };
-    let mut last = Told::of(first);
-    let mut at = last.put_out(outputs, 0);
+    let first = Told::of(first);
+    let mut at = first.put_out(outputs, 0);
+    // Most calls have one element, whose answer needn't stand in memory.
+    if first.next().is_none() {
+        first.answer(frame.rcx, reply);
+        *done = HvRun {
+            events: 1,
+            output_len: at as u32,
+        };
+        return DONE;
+    }
+    let mut last = first;
     let most = u64::from(REPS_END).min(MAX_EVENTS - 1 - before) as u32;
     let more = run_on(machine, by, frame, &mut last, outputs, &mut at, most);
     last.answer(frame.rcx, reply);
@@ -85,6 +95,7 @@ fn run_call(
 
 // Lets the elements after the last one happen, one after another, at most so many, and only as long as the
 // buffer has room for an output and the machine takes more. Answers how many did.
+#[inline(never)]
 fn run_on(
     machine: &mut Machine<Global>,
     by: Caller,

@@ -31,6 +31,7 @@ use std::alloc::Global;
 use std::mem::replace;
 
 // Lets the machine of a handle take an access.
+#[inline(always)]
 pub(crate) fn take_access(
     alloc: Global,
     machine: &mut HvMachine,
@@ -102,6 +103,7 @@ pub(crate) fn take_call(
 }
 
 // Lets a machine take an access, before which there were so many events.
+#[inline(always)]
 fn step_access(
     housed: &mut Housed,
     before: u64,

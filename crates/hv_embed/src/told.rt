@@ -73,6 +73,7 @@ impl Told {
     }
 
     // Answers C with this, to the call with this input value. No line is put.
+    #[inline(always)]
     pub(crate) fn answer(&self, rcx: u64, reply: &mut HvReply)
         requires { HasResult self.now }
         ensures answer { (frame : FrameValue Global) → frame.rcx ≡ rcx

@@ -190,7 +190,8 @@ fn hand_on<A: Allocator + Clone>(
 }
 
 // Hands an access for which P1 to P3 are met to its chapter. What it puts out is added to an output that is
-// empty before.
+// empty before. Where the caller is, is noted by what changes it, and here for what reads it.
+#[inline(always)]
 pub fn dispatch_access<A: Allocator>(
     tree: &mut Partitions<A>,
     by: Caller,
@@ -201,27 +202,21 @@ pub fn dispatch_access<A: Allocator>(
     ensures { (f : Flat) → IsTied tree.old f → IsAccess {A = A} f by (action_of access) tree.old
         (result_map_both (λ _. output.new) (λ rule. rule) result) tree.new }
 {
-    tree.note(by.part);
-    hand_access_on(tree, by, access, output)
-}
-
-// The chapter of each access.
-fn hand_access_on<A: Allocator>(
-    tree: &mut Partitions<A>,
-    by: Caller,
-    access: Access,
-    output: &mut Output,
-) -> Result<(), Rule>
-    requires { output.old ≡ [] }
-    ensures { (f : Flat) → IsTied tree.old f → IsAccess {A = A} f by (action_of access) tree.old
-        (result_map_both (λ _. output.new) (λ rule. rule) result) tree.new }
-{
     match access {
-        Access::ReadMsr(msr) => read_msr(tree, by, msr, output),
+        Access::ReadMsr(msr) => {
+            tree.note(by.part);
+            read_msr(tree, by, msr, output)
+        }
         Access::WriteMsr(msr, value) => write_msr(tree, by, msr, value),
-        Access::ReadSlot(sint) => read_slot(tree, by, sint, output),
+        Access::ReadSlot(sint) => {
+            tree.note(by.part);
+            read_slot(tree, by, sint, output)
+        }
         Access::ClearSlot(sint) => clear_slot(tree, by, sint),
-        Access::ReadFlags(sint) => read_flags(tree, by, sint, output),
+        Access::ReadFlags(sint) => {
+            tree.note(by.part);
+            read_flags(tree, by, sint, output)
+        }
         Access::ClearFlag(sint, flag) => clear_flag(tree, by, sint, flag),
         Access::TakeInterrupt => take_interrupt(tree, by, output),
     }

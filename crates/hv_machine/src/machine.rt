@@ -140,29 +140,9 @@ impl<A: Allocator + Clone> Machine<A> {
         ensures pages { self.new.pages ≡ self.old.pages }
         ensures sound { IsSound self.new }
     {
-        // Each call has a way of its own, on which it is known which one it is, so that the compiler leaves out
-        // what that tells.
+        // A call that guests make again and again has a way of its own, on which it is known which one it is, so that
+        // the compiler leaves out what that tells. The others share the last.
         match CallKind::of(InputValue::read(frame.rcx).call) {
-            Some(CallKind::CreatePartition) => self.take(
-                by,
-                frame,
-                Some(CallKind::CreatePartition),
-            ),
-            Some(CallKind::InitializePartition) => self.take(
-                by,
-                frame,
-                Some(CallKind::InitializePartition),
-            ),
-            Some(CallKind::FinalizePartition) => self.take(
-                by,
-                frame,
-                Some(CallKind::FinalizePartition),
-            ),
-            Some(CallKind::DeletePartition) => self.take(
-                by,
-                frame,
-                Some(CallKind::DeletePartition),
-            ),
             Some(CallKind::GetPartitionProperty) => self.take(
                 by,
                 frame,
@@ -186,17 +166,11 @@ impl<A: Allocator + Clone> Machine<A> {
                 frame,
                 Some(CallKind::GetMemoryBalance),
             ),
-            Some(CallKind::CreateVp) => self.take(by, frame, Some(CallKind::CreateVp)),
-            Some(CallKind::DeleteVp) => self.take(by, frame, Some(CallKind::DeleteVp)),
             Some(CallKind::GetVpRegisters) => self.take(by, frame, Some(CallKind::GetVpRegisters)),
             Some(CallKind::SetVpRegisters) => self.take(by, frame, Some(CallKind::SetVpRegisters)),
-            Some(CallKind::DeletePort) => self.take(by, frame, Some(CallKind::DeletePort)),
-            Some(CallKind::DisconnectPort) => self.take(by, frame, Some(CallKind::DisconnectPort)),
             Some(CallKind::PostMessage) => self.take(by, frame, Some(CallKind::PostMessage)),
             Some(CallKind::SignalEvent) => self.take(by, frame, Some(CallKind::SignalEvent)),
-            Some(CallKind::CreatePort) => self.take(by, frame, Some(CallKind::CreatePort)),
-            Some(CallKind::ConnectPort) => self.take(by, frame, Some(CallKind::ConnectPort)),
-            None => self.take(by, frame, None),
+            named => self.take(by, frame, named),
         }
     }
 
@@ -282,6 +256,7 @@ impl<A: Allocator + Clone> Machine<A> {
 
     /// Takes one access of a processor, as [`Machine::step`] takes it as an event, with the same promises. What
     /// it puts out is added to `output`, which is empty before. The host refuses none.
+    #[inline(always)]
     pub fn access(&mut self, by: Caller, access: Access, output: &mut Output) -> Result<(), Rule>
         requires count { self.old.served < MAX_SERVED }
         requires empty { output.old ≡ [] }

@@ -1,11 +1,11 @@
 pub mod FlagBytes
 pub mod FlagMembers
 pub mod Members
+pub mod Nothing
 pub mod Opened
 pub mod Queues
 pub mod Quiet
 pub mod Rows
-pub mod Shows
 pub mod SlotBytes
 pub mod Totals
 pub mod WordBits

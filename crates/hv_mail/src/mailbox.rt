@@ -4,7 +4,7 @@ ghost use Rattle.std.specs.List.{list_all, sum_by};
 ghost use Rattle.std.specs.FinMap as map;
 ghost use Rattle.hv_defs.specs.declared.sizes.TheConstants.{SINTS};
 ghost use Rattle.hv_mail.specs.Mail.{no_messages, with_next, has_next, with_last, posted, cleared, count_at};
-ghost use Rattle.hv_mail.specs.Mail.{count_of, next_mask, at, with_at, all_next};
+ghost use Rattle.hv_mail.specs.Mail.{count_of, at, with_at};
 ghost use Rattle.hv_mail.specs.Queue.{mail_from, AreQuiet};
 ghost use Rattle.hv_mail.specs.Slot.{slot_bytes};
 
@@ -137,6 +137,10 @@ impl<A: Allocator> Mailbox<A> {
         ensures shown { result ≡ has_next (at self.old.mail sint) }
         ensures kept { self.old.room ≡ true → self.new.room ≡ true }
     {
+        // Most SINTs have none.
+        if self.busy >> sint & 1 == 0 {
+            return false;
+        }
         let at = usize::from(sint);
         if at < self.queues.len() {
             let queue = &mut self.queues[at];
@@ -144,28 +148,6 @@ impl<A: Allocator> Mailbox<A> {
         } else {
             false
         }
-    }
-
-    /// The same at each SINT. Bit n of the answer is 1 where a message became shown at SINT n.
-    pub fn advance_all(&mut self) -> u16
-        ensures mail { self.new.mail ≡ all_next SINTS self.old.mail }
-        ensures shown { result ≡ next_mask SINTS self.old.mail }
-    {
-        let mut shown = 0;
-        // Bit n of `rest` is that of SINT `sint + n`.
-        let mut sint = 0u8;
-        let mut rest = self.busy;
-        while rest != 0 {
-            let quiet = rest.trailing_zeros();
-            sint += quiet as u8;
-            rest >>= quiet;
-            if self.advance(sint) {
-                shown += 1 << sint;
-            }
-            sint += 1;
-            rest >>= 1;
-        }
-        shown
     }
 
     /// How many messages there are, shown or waiting, that came through this port of this birth. The

@@ -14,6 +14,7 @@ use hv_tie::Partitions;
 use std::alloc::Allocator;
 
 /// A read of the message slot of one of the caller's SINTs, in 256 bytes.
+#[inline(always)]
 pub fn read_slot<A: Allocator>(
     tree: &Partitions<A>,
     by: Caller,
@@ -32,6 +33,7 @@ pub fn read_slot<A: Allocator>(
 }
 
 /// The message that one of the caller's SINTs shows is removed, if it shows one. None is shown in its place.
+#[inline(always)]
 pub fn clear_slot<A: Allocator>(tree: &mut Partitions<A>, by: Caller, sint: u8) -> Result<(), Rule>
     ensures { (f : Flat) → IsTied tree.old f → IsAccess {A = A} f by (action.ClearSlot sint) tree.old
         (result_map_both (λ _. []) (λ rule. rule) result) tree.new }
@@ -44,6 +46,7 @@ pub fn clear_slot<A: Allocator>(tree: &mut Partitions<A>, by: Caller, sint: u8) 
 }
 
 /// A read of the event flags of one of the caller's SINTs, in 256 bytes.
+#[inline(always)]
 pub fn read_flags<A: Allocator>(
     tree: &Partitions<A>,
     by: Caller,
@@ -62,6 +65,7 @@ pub fn read_flags<A: Allocator>(
 }
 
 /// An event flag of one of the caller's SINTs is cleared.
+#[inline(always)]
 pub fn clear_flag<A: Allocator>(
     tree: &mut Partitions<A>,
     by: Caller,
@@ -79,6 +83,7 @@ pub fn clear_flag<A: Allocator>(
 }
 
 /// The highest of the vectors that are pending at the caller is taken, in 1 byte, which is 0 where none is.
+#[inline(always)]
 pub fn take_interrupt<A: Allocator>(
     tree: &mut Partitions<A>,
     by: Caller,

@@ -213,6 +213,7 @@ impl<A: Allocator> Partition<A> {
 // The processors. What a call needs of them, and what it promises of them, is what `Vps` asks and promises.
 impl<A: Allocator> Partition<A> {
     /// The processor with this index, or `None` where the partition has none.
+    #[inline(always)]
     pub fn vp(&self, index: u32) -> Option<&Vp<A>>
         ensures { option_copied result ≡ map.get self.now.vps.vps index }
     {

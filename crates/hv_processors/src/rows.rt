@@ -2,9 +2,8 @@
 ghost use Rattle.std.specs.Prelude.{◌≡◌, true, OnOk, OnErr};
 ghost use Rattle.std.specs.FinMap.{contains_key, insert};
 ghost use Rattle.std.specs.FinMap as map;
-ghost use Rattle.hv_defs.specs.Registers.{name_of_msr};
 ghost use Rattle.hv_tree.specs.Rows.{change as changed};
-ghost use Rattle.hv_vp.specs.Vp.{new_vp, written, written_msr};
+ghost use Rattle.hv_vp.specs.Vp.{new_vp, written};
 ghost use Rattle.hv_tie.specs.Vp.{with_state_of};
 ghost use Rattle.hv_processors.specs.Change.{HasVps, MayAdd};
 
@@ -53,25 +52,6 @@ pub fn write<A: Allocator>(tree: &mut Partitions<A>, id: u64, index: u32, name: 
         if let Some(vp) = partition.vp_mut(index) {
             // What the register doesn't take changes nothing.
             let _ = vp.write_reg(name, value);
-        }
-    }
-}
-
-// The same for a model-specific register.
-#[tactic(auto, using(hv_tree::proofs::Laws::unchanged))]
-pub fn write_register<A: Allocator>(
-    tree: &mut Partitions<A>,
-    id: u64,
-    index: u32,
-    msr: u32,
-    value: u64,
-)
-    ensures { tree.new ≡ changed tree.old id (with_state_of index (written_msr (name_of_msr msr) value)) }
-{
-    if let Some(partition) = tree.get_mut(id) {
-        if let Some(vp) = partition.vp_mut(index) {
-            // What the register doesn't take changes nothing.
-            let _ = vp.write_msr(msr, value);
         }
     }
 }

@@ -16,11 +16,11 @@ use Rattle.hv_mail.specs.declared.message.Message.{Message}
 use Rattle.hv_partition.specs.Partition.{PartitionState}
 use Rattle.hv_policy.proofs.Places.{cleared_apart, cleared_there, is_place_same, last_there, next_apart, next_rows, next_there, posted as list_posted, posted_apart, posted_there}
 use Rattle.hv_policy.specs.Aim.{on_vp}
-use Rattle.hv_policy.specs.Effect.{end_if, end_message, post, row_raised, row_signalled, show, show_each, with_vp, write_msr, write_register, written as row_written}
+use Rattle.hv_policy.specs.Effect.{end_if, end_message, post, row_raised, row_signalled, show, show_each, with_vp, write_register, written as row_written}
 use Rattle.hv_policy.specs.Flat.{Flat, MailRow, VpRow}
 use Rattle.hv_policy.specs.Mail.{Place, cleared, has_next, is_shown, is_some_row, mail_at, row_bytes, shown_next, slot_at}
 use Rattle.hv_tree.specs.Rows.{Rows, change}
-use Rattle.hv_vp.specs.Vp.{VpState, ended, ended_if, flag_cleared, interrupted, posted, shown, shown_each, signalled, slot_cleared, written, written_msr}
+use Rattle.hv_vp.specs.Vp.{VpState, ended, ended_if, flag_cleared, interrupted, posted, shown, shown_each, signalled, slot_cleared, written}
 use Rattle.hv_tie.proofs.Boxes.{cleared_box, has_next_box, last_box, next_box, posted_box, slot_box}
 use Rattle.hv_tie.proofs.Staff.{quiet_tied, rows_there, sint_tied, vp_in, vp_there}
 use Rattle.hv_tie.proofs.Twice.{change-alike, change-none, change-twice, with_vp-none}
@@ -149,7 +149,3 @@ module _ (rows : Rows PartitionState) (f : Flat) (flat : IsTied rows f) (id inde
     where
       register : VpState → VpState
       register v = record v { registers = after_write v.registers name (kept (row_of name) value) }
-
-  pub written_msr_tied : (name : Option ℕ) (value : ℕ) → IsTied (change rows id (with_state_of index (written_msr name value))) (write_msr id index name value f)
-  written_msr_tied None value = subst (λ rows. IsTied rows f) (sym (change-none rows id index)) flat
-  written_msr_tied (Some name) value = written_tied name value

@@ -15,9 +15,9 @@ use hv_partition::Partition;
 use hv_policy::{Caller, Kin, Rule, needs};
 use std::alloc::Allocator;
 
-/// P1 to P3: the caller's partition where they are met, and else the first of them that isn't. Not inlined, since
-/// each call asks it in a place of its own.
-#[inline(never)]
+/// P1 to P3: the caller's partition where they are met, and else the first of them that isn't. Inlined, so that the
+/// answer needn't go through memory.
+#[inline(always)]
 pub fn caller_in<A: Allocator>(tree: &Partitions<A>, by: Caller) -> Result<&Partition<A>, Rule>
     ensures met { IfOk result (λ _. (f : Flat) → IsTied tree.now f → first_unmet (caller_asks f by) ≡ None) }
     ensures there { IfOk result (λ caller. content tree.now by.part ≡ Some caller.now) }

@@ -29,7 +29,7 @@ pub(crate) type Nodes<T, A> = IndexMap<u64, Node<T, A>, BuildHasherDefault<FoldH
 /// Where a node was found last, by the lowest bits of its id.
 pub(crate) type Guesses = [u32; GUESSES];
 
-pub(crate) const GUESSES: usize = 64;
+pub(crate) const GUESSES: usize = 1024;
 
 /// The node with the id. Where the guess is right that takes one look, and else the map is asked.
 pub(crate) fn seek<'t, T, A: Allocator>(

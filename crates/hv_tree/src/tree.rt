@@ -122,6 +122,7 @@ impl<T, A: Allocator> IdTree<T, A> {
 
     /// Notes the place of a node, so that a look-up of it takes one look there. That holds until another node
     /// with the same lowest bits of its id is noted, or the removal of one moves this one. It changes no answer.
+    #[inline(always)]
     pub fn note(&mut self, id: u64)
         ensures { self.new ≡ self.old }
     {

@@ -65,14 +65,24 @@ fn are_shown(mailbox: &Mailbox<Global>) -> bool {
         && mailbox.slot(7)[0] == 0
 }
 
-// The answer has a bit for each SINT at which a message became shown.
+// The SINTs at which a message became shown.
+fn advance_each(mailbox: &mut Mailbox<Global>) -> u16 {
+    let mut shown = 0;
+    for sint in 0u8..16 {
+        if mailbox.advance(sint) {
+            shown |= 1 << sint;
+        }
+    }
+    shown
+}
+
 #[test]
 fn each_sint_shows_its_next_message(rt: HostRuntime) -> Result<(), Fail> {
     let mut mailbox = Mailbox::new(rt.alloc());
     let are_posted = post_all(&rt, &mut mailbox, &POSTS)?;
-    let early = mailbox.advance_all();
+    let early = advance_each(&mut mailbox);
     clear_all(&mut mailbox);
-    let shown = mailbox.advance_all();
+    let shown = advance_each(&mut mailbox);
     let is_right = early == 0 && shown == 0x8004 && are_shown(&mailbox);
     assert!(rt; are_posted && is_right);
     Ok(())

@@ -6,10 +6,10 @@ pub returns : goal.returns
 returns g c =
     let frame = c.args.frame.now in
     let kind = c.args.shape.now.kind in
-    let same : c.decode_at.result ≡ decoded_of kind frame = decoded-same frame kind c.decode_at.result c.args.shape.now.fast c.args.shape.now.start c.element_at.result c.decode_at.ensures c.requires.fast c.requires.start c.element_at.ensures.place in
+    let same : c.decode_named.result ≡ decoded_of kind frame = decoded-same frame kind c.decode_named.result c.args.shape.now.fast c.args.shape.now.start c.decode_named.ensures c.requires.fast c.requires.start in
     record {
-      ok = decoded-ok frame kind c.decode_at.result same;
-      only = decoded-only frame kind c.decode_at.result same;
-      malformed = decoded-malformed frame kind c.decode_at.result same;
-      kind = decoded-kind frame kind c.decode_at.result same;
+      ok = decoded-ok frame kind c.decode_named.result same;
+      only = decoded-only frame kind c.decode_named.result same;
+      malformed = decoded-malformed frame kind c.decode_named.result same;
+      kind = decoded-kind frame kind c.decode_named.result same;
     }

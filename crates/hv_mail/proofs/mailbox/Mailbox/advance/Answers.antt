@@ -1,10 +1,22 @@
 use Rattle.std.proofs.Common.{◌∙◌, refl, sym, ap, arith}
+use Rattle.std.proofs.lemmas.Nat.Bits.{shr_and_one}
 use Rattle.hv_mail.proofs.Opened.{absent_at, still_roomy, still_whole}
 use Rattle.hv_mail.proofs.Queues.{write_queue, read_queue, same_absent}
+use Rattle.hv_mail.proofs.Nothing.{quiet_next}
 use Rattle.hv_mail.proofs.Quiet.{quiet_kept}
 use Rattle.hv_mail.specs.Mail.{MailboxState, with_next, has_next, mail_or_none}
 use Rattle.hv_mail.specs.Queue.{mail_from}
 use Rattle.hv_mail.proofs.mailbox.Mailbox.advance.Goals as goal
+
+pub returns-then-self-sint-eq0-clause-mail : goal.returns-then-self-sint-eq0-clause-mail
+returns-then-self-sint-eq0-clause-mail g c =
+    let clear = sym (shr_and_one c.self.inside.busy c.args.sint) ∙ c.if-self-sint-eq0.true in
+    rw (← c.self.view_is) (quiet_next c.self.inside.queues.items c.args.sint (c.self.invariant.quiet c.args.sint c.requires clear))
+
+pub returns-then-self-sint-eq0-clause-shown : goal.returns-then-self-sint-eq0-clause-shown
+returns-then-self-sint-eq0-clause-shown g c =
+    let clear = sym (shr_and_one c.self.inside.busy c.args.sint) ∙ c.if-self-sint-eq0.true in
+    rw (← c.self.view_is) (sym (ap has_next (c.self.invariant.quiet c.args.sint c.requires clear)))
 
 pub returns-then-at-len-clause-mail : goal.returns-then-at-len-clause-mail
 returns-then-at-len-clause-mail g c =
