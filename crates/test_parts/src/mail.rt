@@ -1,4 +1,4 @@
-// SINTs that show their next messages all at once.
+// SINTs that show their next messages, one after another.
 
 use arrayvec::ArrayVec;
 use hv_mail::{Mailbox, Message};
