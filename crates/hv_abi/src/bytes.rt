@@ -1,5 +1,5 @@
 // A list of bytes.
-ghost use Rattle.std.specs.Prelude.{◌≡◌, [], IfOk, OnOk, OnErr, slice_index};
+ghost use Rattle.std.specs.Prelude.{◌≡◌, [], IfOk, OnOk, OnErr};
 
 use std::alloc::{AllocError, Allocator};
 use std::marker::Model;
@@ -58,13 +58,6 @@ impl<A: Allocator> Bytes<A> {
         ensures { result.now ≡ self.now }
     {
         self.bytes.as_slice()
-    }
-
-    /// The byte at a place counted from 0, or 0 past the end.
-    pub fn byte(&self, at: usize) -> u8
-        ensures { result ≡ slice_index self.now at }
-    {
-        self.bytes.get(at).copied().unwrap_or(0)
     }
 }
 

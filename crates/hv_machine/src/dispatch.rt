@@ -6,7 +6,7 @@ ghost use Rattle.hv_calls.specs.Params.{is_plain};
 ghost use Rattle.hv_defs.specs.declared.sizes.TheConstants.{MAX_SERVED};
 ghost use Rattle.hv_policy.specs.Call.{action_of};
 ghost use Rattle.hv_policy.specs.Flat.{Flat};
-ghost use Rattle.hv_tie.specs.Access.{IsAccess};
+ghost use Rattle.hv_tie.specs.Access.{IsAnswered};
 ghost use Rattle.hv_tie.specs.Served.{IsAdmitted, IsOutcome};
 ghost use Rattle.hv_tie.specs.Tie.{IsTied};
 ghost use Rattle.hv_machine.specs.Next.{next_after as next_id_after};
@@ -189,8 +189,8 @@ fn hand_on<A: Allocator + Clone>(
     }
 }
 
-// Hands an access for which P1 to P3 are met to its chapter. What it puts out is added to an output that is
-// empty before. Where the caller is, is noted by what changes it, and here for what reads it.
+// Hands an access to its chapter, which asks P1 to P3, too. What it puts out is added to an output that is empty
+// before.
 #[inline(always)]
 pub fn dispatch_access<A: Allocator>(
     tree: &mut Partitions<A>,
@@ -199,24 +199,15 @@ pub fn dispatch_access<A: Allocator>(
     output: &mut Output,
 ) -> Result<(), Rule>
     requires { output.old ≡ [] }
-    ensures { (f : Flat) → IsTied tree.old f → IsAccess {A = A} f by (action_of access) tree.old
+    ensures { (f : Flat) → IsTied tree.old f → IsAnswered {A = A} f by (action_of access) tree.old
         (result_map_both (λ _. output.new) (λ rule. rule) result) tree.new }
 {
     match access {
-        Access::ReadMsr(msr) => {
-            tree.note(by.part);
-            read_msr(tree, by, msr, output)
-        }
+        Access::ReadMsr(msr) => read_msr(tree, by, msr, output),
         Access::WriteMsr(msr, value) => write_msr(tree, by, msr, value),
-        Access::ReadSlot(sint) => {
-            tree.note(by.part);
-            read_slot(tree, by, sint, output)
-        }
+        Access::ReadSlot(sint) => read_slot(tree, by, sint, output),
         Access::ClearSlot(sint) => clear_slot(tree, by, sint),
-        Access::ReadFlags(sint) => {
-            tree.note(by.part);
-            read_flags(tree, by, sint, output)
-        }
+        Access::ReadFlags(sint) => read_flags(tree, by, sint, output),
         Access::ClearFlag(sint, flag) => clear_flag(tree, by, sint, flag),
         Access::TakeInterrupt => take_interrupt(tree, by, output),
     }

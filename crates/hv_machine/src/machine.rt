@@ -27,7 +27,7 @@ use hv_calls::Call;
 use hv_policy::{
     Access, CallOutput, CallReply, Caller, Event, Output, Reply, Rule, refused_reply, served_reply,
 };
-use hv_tie::{Partitions, Refused, caller_in};
+use hv_tie::{Partitions, Refused};
 use std::alloc::Allocator;
 use std::marker::Model;
 
@@ -271,9 +271,6 @@ impl<A: Allocator + Clone> Machine<A> {
         ensures pages { self.new.pages ≡ self.old.pages }
         ensures sound { IsSound self.new }
     {
-        if let Err(rule) = caller_in(&self.tree, by) {
-            return Err(rule);
-        }
         match dispatch_access(&mut self.tree, by, access, output) {
             Ok(()) => {
                 self.served += 1;

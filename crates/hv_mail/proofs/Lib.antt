@@ -1,3 +1,4 @@
+pub mod Bits
 pub mod FlagBytes
 pub mod FlagMembers
 pub mod Members
@@ -7,6 +8,7 @@ pub mod Queues
 pub mod Quiet
 pub mod Rows
 pub mod SlotBytes
+pub mod Standing
 pub mod Totals
 pub mod WordBits
 pub mod WordBytes

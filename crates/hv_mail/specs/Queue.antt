@@ -1,11 +1,12 @@
 -- What contracts see of one SINT's queue, and of all sixteen.
-use Rattle.std.specs.Prelude.{◌≡◌, ℕ, suc, ◌<◌, ◌==◌, ◌||◌, ◌&&◌, not, Bool, true, List, [], ◌∷◌, length, refl}
+use Rattle.std.specs.Prelude.{◌≡◌, ℕ, suc, ◌<◌, ◌==◌, ◌||◌, ◌&&◌, not, Bool, true, false, List, [], ◌∷◌, Some, None, length, refl}
 use Rattle.std.specs.Coded.{Coded, code_by, coded×, coded_bool}
 use Rattle.std.specs.FinMap as map
 use Rattle.std.specs.Int.{bit_at}
 use Rattle.std.specs.List.{list_all}
 use Rattle.hv_defs.specs.declared.sizes.TheConstants.{SINTS}
 use Rattle.hv_mail.specs.Mail.{Mail, SintMail, sint_mail_code, no_mail, at, with_at}
+use Rattle.hv_mail.specs.declared.message.Message.{Message}
 
 -- what stands there, and whether one message more has its memory
 pub record QueueState : Type 0 where
@@ -15,6 +16,12 @@ pub record QueueState : Type 0 where
 -- it is stored as the pair of its fields
 abbrev pub queue_code : Coded QueueState
 queue_code = code_by (SintMail × Bool) (coded× sint_mail_code coded_bool) (λ q. (q.mail, q.room)) (λ t. record { mail = t.0; room = t.1 }) (λ _. refl)
+
+-- what stands at a SINT with these messages, the oldest first, of which the first may be shown
+abbrev pub standing : Bool → List Message → SintMail
+standing true (first ∷ waiting) = record { slot = Some first; waiting = waiting }
+standing true [] = no_mail
+standing false waiting = record { slot = None; waiting = waiting }
 
 -- the mail of queues whose first one is that of this SINT
 abbrev pub mail_from : ℕ → List QueueState → Mail

@@ -1,14 +1,16 @@
 // The messages of one processor: a queue for each SINT, made when room for the first message is.
-ghost use Rattle.std.specs.Prelude.{◌≡◌, ◌<◌, ◌≤◌, ◌^◌, true, IfOk, IsOk, OnOk, length};
+ghost use Rattle.std.specs.Prelude.{◌≡◌, ◌<◌, ◌≤◌, ◌^◌, ℕ, true, None, IfOk, IsOk, OnOk, length};
+ghost use Rattle.std.specs.Int.{bit_at};
 ghost use Rattle.std.specs.List.{list_all, sum_by};
 ghost use Rattle.std.specs.FinMap as map;
 ghost use Rattle.hv_defs.specs.declared.sizes.TheConstants.{SINTS};
 ghost use Rattle.hv_mail.specs.Mail.{no_messages, with_next, has_next, with_last, posted, cleared, count_at};
 ghost use Rattle.hv_mail.specs.Mail.{count_of, at, with_at};
 ghost use Rattle.hv_mail.specs.Queue.{mail_from, AreQuiet};
+ghost use Rattle.hv_defs.specs.Slot.{zeros};
 ghost use Rattle.hv_mail.specs.Slot.{slot_bytes};
 
-use crate::message::Message;
+use crate::message::Posting;
 use crate::sint_queue::SintQueue;
 use hv_defs::SINTS;
 use std::alloc::{AllocError, Allocator};
@@ -84,11 +86,11 @@ impl<A: Allocator> Mailbox<A> {
 
     /// Adds a message behind those that stand at a SINT below 16, and shows it where none does. It must
     /// find room. True where a message became shown.
-    pub fn post(&mut self, sint: u8, message: Message) -> bool
+    pub fn post(&mut self, sint: u8, message: &Posting<'_>) -> bool
         requires sint { sint < SINTS }
         requires room { self.old.room ≡ true }
-        ensures mail { self.new.mail ≡ with_at self.old.mail sint (posted (at self.old.mail sint) message) }
-        ensures shown { result ≡ has_next (with_last (at self.old.mail sint) message) }
+        ensures mail { self.new.mail ≡ with_at self.old.mail sint (posted (at self.old.mail sint) message.now) }
+        ensures shown { result ≡ has_next (with_last (at self.old.mail sint) message.now) }
     {
         let queue = &mut self.queues[usize::from(sint)];
         let shown = queue.post(message);
@@ -97,19 +99,19 @@ impl<A: Allocator> Mailbox<A> {
         shown
     }
 
-    /// The 256 bytes of the message slot of a SINT below 16, which are zeros where it shows no message:
-    /// the type in 4 bytes, the payload's size, a byte that is 1 where another message waits and 0
+    /// Writes the 256 bytes of the message slot of a SINT below 16 into zeros, as which it reads where it shows no
+    /// message: the type in 4 bytes, the payload's size, a byte that is 1 where another message waits and 0
     /// otherwise, two zeros, the port's id in 8, and the payload with zeros after it. Numbers are
     /// little-endian.
-    pub fn slot(&self, sint: u8) -> [u8; 256]
-        requires { sint < SINTS }
-        ensures { result ≡ slot_bytes (at self.now.mail sint) }
+    #[inline(always)]
+    pub fn read_slot(&self, sint: u8, bytes: &mut [u8; 256])
+        requires sint { sint < SINTS }
+        requires zeros { bytes.old ≡ zeros 256 }
+        ensures { bytes.new ≡ slot_bytes (at self.now.mail sint) }
     {
         let at = usize::from(sint);
         if at < self.queues.len() {
-            self.queues[at].slot()
-        } else {
-            [0; 256]
+            self.queues[at].read_slot(bytes);
         }
     }
 
@@ -150,6 +152,17 @@ impl<A: Allocator> Mailbox<A> {
         }
     }
 
+    /// The lowest SINT from one on that may have a message, and 16 where none may: none stands at those between.
+    #[inline(always)]
+    pub fn next_from(&self, sint: u8) -> u8
+        requires { sint ≤ SINTS }
+        ensures from { sint ≤ result }
+        ensures within { result ≤ SINTS }
+        ensures quiet { (k : ℕ) → sint ≤ k → k < result → map.get self.now.mail k ≡ None }
+    {
+        next_busy(self.busy, sint)
+    }
+
     /// How many messages there are, shown or waiting, that came through this port of this birth. The
     /// time is proportional to the number of all messages.
     pub fn of_port(&self, port: u32, born: u64) -> usize
@@ -167,12 +180,32 @@ fn count_each<A: Allocator>(queues: &[SintQueue<A>], busy: u16, port: u32, born:
     ensures { result ≡ sum_by (λ q. count_at port born q.mail) queues.now }
 {
     let mut count = 0;
-    for (sint, queue) in queues.iter().enumerate() {
-        if busy >> sint & 1 != 0 {
-            count += queue.count_of(port, born);
-        }
+    let mut sint = next_busy(busy, 0);
+    while usize::from(sint) < queues.len() {
+        count += queues[usize::from(sint)].count_of(port, born);
+        sint = next_busy(busy, sint + 1);
     }
     count
+}
+
+// The lowest place from one on at which a bit is 1, and 16 where none is.
+#[inline(always)]
+fn next_busy(busy: u16, sint: u8) -> u8
+    requires { sint ≤ SINTS }
+    ensures from { sint ≤ result }
+    ensures within { result ≤ SINTS }
+    ensures clear { (k : ℕ) → sint ≤ k → k < result → bit_at busy k ≡ 0 }
+{
+    let most = SINTS as u8;
+    if sint >= most {
+        return most;
+    }
+    let rest = busy >> sint;
+    if rest == 0 {
+        most
+    } else {
+        sint + rest.trailing_zeros() as u8
+    }
 }
 
 // Whether each queue has room.

@@ -1,67 +1,76 @@
-// The accesses of this chapter. No access asks for a privilege. What one puts out goes into an output that has
-// room for a whole slot and stays where it is.
-ghost use Rattle.std.specs.Prelude.{◌≡◌, []};
+// The accesses of this chapter, each with P1 to P3. No access asks for a privilege. What one puts out goes into an
+// output that has room for a whole slot and stays where it is.
+ghost use Rattle.std.specs.Prelude.{◌≡◌, [], ◌∷◌, Some, false};
+ghost use Rattle.std.specs.Prelude.{◌++◌};
 ghost use Rattle.std.specs.Result.{result_map_both};
 ghost use Rattle.hv_policy.specs.Flat.{Flat};
+ghost use Rattle.hv_policy.specs.Rules.{caller_asks, first_unmet};
 ghost use Rattle.hv_policy.specs.declared.event.Action.TheVariants as action;
-ghost use Rattle.hv_tie.specs.Access.{IsAccess};
+ghost use Rattle.hv_policy.specs.declared.rule.Rule.TheVariants as rule;
+ghost use Rattle.hv_tie.specs.Access.{IsAnswered};
 ghost use Rattle.hv_tie.specs.Tie.{IsTied};
 
 use crate::rows::{clear, clear_one_flag, flags, slot, take};
 use hv_defs::{EVENT_FLAGS, SINTS};
 use hv_policy::{Caller, Output, Rule};
-use hv_tie::Partitions;
+use hv_tie::{Partitions, caller_in};
 use std::alloc::Allocator;
 
 /// A read of the message slot of one of the caller's SINTs, in 256 bytes.
 #[inline(always)]
 pub fn read_slot<A: Allocator>(
-    tree: &Partitions<A>,
+    tree: &mut Partitions<A>,
     by: Caller,
     sint: u8,
     output: &mut Output,
 ) -> Result<(), Rule>
     requires { output.old ≡ [] }
-    ensures { (f : Flat) → IsTied tree.now f → IsAccess {A = A} f by (action.ReadSlot sint) tree.now
-        (result_map_both (λ _. output.new) (λ rule. rule) result) tree.now }
+    ensures { (f : Flat) → IsTied tree.old f → IsAnswered {A = A} f by (action.ReadSlot sint) tree.old
+        (result_map_both (λ _. output.new) (λ rule. rule) result) tree.new }
 {
     if u32::from(sint) >= SINTS {
-        return Err(Rule::Subject);
+        return Err(no_subject(tree, by));
     }
-    *output = Output::whole(&slot(tree, by.part, by.vp, sint));
-    Ok(())
+    match slot(tree, by, sint, output) {
+        Ok(()) => Ok(()),
+        Err(rule) => Err(rule),
+    }
 }
 
 /// The message that one of the caller's SINTs shows is removed, if it shows one. None is shown in its place.
 #[inline(always)]
 pub fn clear_slot<A: Allocator>(tree: &mut Partitions<A>, by: Caller, sint: u8) -> Result<(), Rule>
-    ensures { (f : Flat) → IsTied tree.old f → IsAccess {A = A} f by (action.ClearSlot sint) tree.old
+    ensures { (f : Flat) → IsTied tree.old f → IsAnswered {A = A} f by (action.ClearSlot sint) tree.old
         (result_map_both (λ _. []) (λ rule. rule) result) tree.new }
 {
     if u32::from(sint) >= SINTS {
-        return Err(Rule::Subject);
+        return Err(no_subject(tree, by));
     }
-    clear(tree, by.part, by.vp, sint);
-    Ok(())
+    match clear(tree, by, sint) {
+        Ok(()) => Ok(()),
+        Err(rule) => Err(rule),
+    }
 }
 
 /// A read of the event flags of one of the caller's SINTs, in 256 bytes.
 #[inline(always)]
 pub fn read_flags<A: Allocator>(
-    tree: &Partitions<A>,
+    tree: &mut Partitions<A>,
     by: Caller,
     sint: u8,
     output: &mut Output,
 ) -> Result<(), Rule>
     requires { output.old ≡ [] }
-    ensures { (f : Flat) → IsTied tree.now f → IsAccess {A = A} f by (action.ReadFlags sint) tree.now
-        (result_map_both (λ _. output.new) (λ rule. rule) result) tree.now }
+    ensures { (f : Flat) → IsTied tree.old f → IsAnswered {A = A} f by (action.ReadFlags sint) tree.old
+        (result_map_both (λ _. output.new) (λ rule. rule) result) tree.new }
 {
     if u32::from(sint) >= SINTS {
-        return Err(Rule::Subject);
+        return Err(no_subject(tree, by));
     }
-    *output = Output::whole(&flags(tree, by.part, by.vp, sint));
-    Ok(())
+    match flags(tree, by, sint, output) {
+        Ok(()) => Ok(()),
+        Err(rule) => Err(rule),
+    }
 }
 
 /// An event flag of one of the caller's SINTs is cleared.
@@ -72,14 +81,16 @@ pub fn clear_flag<A: Allocator>(
     sint: u8,
     flag: u16,
 ) -> Result<(), Rule>
-    ensures { (f : Flat) → IsTied tree.old f → IsAccess {A = A} f by (action.ClearFlag sint flag) tree.old
+    ensures { (f : Flat) → IsTied tree.old f → IsAnswered {A = A} f by (action.ClearFlag sint flag) tree.old
         (result_map_both (λ _. []) (λ rule. rule) result) tree.new }
 {
     if u32::from(sint) >= SINTS || u32::from(flag) >= EVENT_FLAGS {
-        return Err(Rule::Subject);
+        return Err(no_subject(tree, by));
     }
-    clear_one_flag(tree, by.part, by.vp, sint, flag);
-    Ok(())
+    match clear_one_flag(tree, by, sint, flag) {
+        Ok(()) => Ok(()),
+        Err(rule) => Err(rule),
+    }
 }
 
 /// The highest of the vectors that are pending at the caller is taken, in 1 byte, which is 0 where none is.
@@ -90,10 +101,26 @@ pub fn take_interrupt<A: Allocator>(
     output: &mut Output,
 ) -> Result<(), Rule>
     requires { output.old ≡ [] }
-    ensures { (f : Flat) → IsTied tree.old f → IsAccess {A = A} f by action.TakeInterrupt tree.old
+    ensures { (f : Flat) → IsTied tree.old f → IsAnswered {A = A} f by action.TakeInterrupt tree.old
         (result_map_both (λ _. output.new) (λ rule. rule) result) tree.new }
 {
-    let vector = take(tree, by.part, by.vp);
-    output.push_byte(vector);
-    Ok(())
+    match take(tree, by) {
+        Ok(vector) => {
+            output.push_byte(vector);
+            Ok(())
+        }
+        Err(rule) => Err(rule),
+    }
+}
+
+// The first unmet rule of an access to a SINT or a flag that no processor has: one of P1 to P3, or else P21.
+#[inline(never)]
+fn no_subject<A: Allocator>(tree: &Partitions<A>, by: Caller) -> Rule
+    ensures { (f : Flat) → IsTied tree.now f
+        → first_unmet (caller_asks f by ++ ((rule.Subject, false) ∷ [])) ≡ Some result }
+{
+    match caller_in(tree, by) {
+        Ok(_) => Rule::Subject,
+        Err(rule) => rule,
+    }
 }

@@ -63,6 +63,7 @@ pub fn reach<'t, A: Allocator>(
 }
 
 // A partition's connection with this id, if it has one.
+#[inline(always)]
 fn conn_of<A: Allocator>(tree: &Partitions<A>, id: u64, connection: u32) -> Option<Conn>
     ensures { (f : Flat) → IsTied tree.now f → option_map conn_row_of result ≡ get f.conn (id, connection) }
 {
@@ -73,6 +74,7 @@ fn conn_of<A: Allocator>(tree: &Partitions<A>, id: u64, connection: u32) -> Opti
 }
 
 // A partition's port with this id, if it has one, and the partition.
+#[inline(always)]
 fn port_of<'t, A: Allocator>(
     tree: &'t Partitions<A>,
     id: u64,

@@ -4,7 +4,7 @@
 //!
 //! One public function for each call and each access. It asks the rules in the policy's order, makes what
 //! room it needs, and then changes the tree; its contract says in the policy's words what became of the
-//! call (`IsOutcome`) or of the access (`IsAccess`).
+//! call (`IsOutcome`) or of the access (`IsAnswered`), which is asked P1 to P3 here as well.
 #![tactic(auto)]
 
 mod accesses;

@@ -1,5 +1,6 @@
 // What the calls and accesses of this chapter change in the tree, and read of it.
-ghost use Rattle.std.specs.Prelude.{◌≡◌, ◌<◌, OnOk, OnErr};
+ghost use Rattle.std.specs.Prelude.{◌≡◌, ◌<◌, None, Some, IfOk, IfErr, OnOk, OnErr};
+ghost use Rattle.hv_policy.specs.Rules.{caller_asks, first_unmet};
 ghost use Rattle.std.specs.FinMap.{get};
 ghost use Rattle.hv_defs.specs.declared.sizes.TheConstants.{EVENT_FLAGS, SINTS};
 ghost use Rattle.hv_policy.specs.Answer.{flags_at, vector_of};
@@ -10,22 +11,23 @@ ghost use Rattle.hv_tie.specs.Vp.{with_state_of};
 ghost use Rattle.hv_tree.specs.Rows.{change as changed};
 ghost use Rattle.hv_vp.specs.Vp.{flag_cleared, interrupted, posted, signalled, slot_cleared};
 
-use hv_mail::Message;
-use hv_tie::Partitions;
+use hv_mail::Posting;
+use hv_policy::{Caller, Output, Rule};
+use hv_tie::{Partitions, caller_vp};
 use std::alloc::{AllocError, Allocator};
 
 // Posts a message at a SINT of a processor, where both are there.
-#[tactic(auto, using(hv_tree::proofs::Laws::unchanged, crate::proofs::Written::same_vp))]
+#[tactic(auto, using(hv_tree::proofs::Laws::unchanged, hv_tie::proofs::Written::same_vp))]
 pub fn post<A: Allocator + Clone>(
     tree: &mut Partitions<A>,
     id: u64,
     index: u32,
     sint: u8,
-    message: Message,
+    message: &Posting<'_>,
 ) -> Result<(), AllocError>
     requires { sint < SINTS }
     ensures posted { OnOk result (tree.new
-        ≡ changed tree.old id (with_state_of index (posted sint message))) }
+        ≡ changed tree.old id (with_state_of index (posted sint message.now))) }
     ensures kept { OnErr result (tree.new ≡ tree.old) }
 {
     if let Some(partition) = tree.get_mut(id) {
@@ -51,81 +53,121 @@ pub fn signal<A: Allocator>(tree: &mut Partitions<A>, id: u64, index: u32, sint:
     }
 }
 
-// Removes the message that a SINT of a processor shows, where both are there.
+// Removes the message that a SINT of the calling processor shows.
 #[tactic(auto, using(hv_tree::proofs::Laws::unchanged))]
-pub fn clear<A: Allocator>(tree: &mut Partitions<A>, id: u64, index: u32, sint: u8)
+#[inline(always)]
+pub fn clear<A: Allocator>(tree: &mut Partitions<A>, by: Caller, sint: u8) -> Result<(), Rule>
     requires { sint < SINTS }
-    ensures { tree.new ≡ changed tree.old id (with_state_of index (slot_cleared sint)) }
+    ensures cleared { OnOk result (tree.new ≡ changed tree.old by.part (with_state_of by.vp (slot_cleared sint))) }
+    ensures kept { OnErr result (tree.new ≡ tree.old) }
+    ensures met { IfOk result (λ _. (f : Flat) → IsTied tree.old f → first_unmet (caller_asks f by) ≡ None) }
+    ensures unmet { IfErr result (λ rule. (f : Flat) → IsTied tree.old f
+        → first_unmet (caller_asks f by) ≡ Some rule) }
 {
-    if let Some(partition) = tree.get_mut(id) {
-        if let Some(vp) = partition.vp_mut(index) {
-            vp.clear_slot(sint);
-        }
-    }
+    let vp = match caller_vp(tree, by) {
+        Ok(vp) => vp,
+        Err(rule) => return Err(rule),
+    };
+    vp.clear_slot(sint);
+    Ok(())
 }
 
-// Clears an event flag of a SINT of a processor, where both are there.
+// Clears an event flag of a SINT of the calling processor.
 #[tactic(auto, using(hv_tree::proofs::Laws::unchanged))]
+#[inline(always)]
 pub fn clear_one_flag<A: Allocator>(
     tree: &mut Partitions<A>,
-    id: u64,
-    index: u32,
+    by: Caller,
     sint: u8,
     flag: u16,
-)
+) -> Result<(), Rule>
     requires sint { sint < SINTS }
     requires flag { flag < EVENT_FLAGS }
-    ensures { tree.new ≡ changed tree.old id (with_state_of index (flag_cleared sint flag)) }
+    ensures cleared { OnOk result (tree.new
+        ≡ changed tree.old by.part (with_state_of by.vp (flag_cleared sint flag))) }
+    ensures kept { OnErr result (tree.new ≡ tree.old) }
+    ensures met { IfOk result (λ _. (f : Flat) → IsTied tree.old f → first_unmet (caller_asks f by) ≡ None) }
+    ensures unmet { IfErr result (λ rule. (f : Flat) → IsTied tree.old f
+        → first_unmet (caller_asks f by) ≡ Some rule) }
 {
-    if let Some(partition) = tree.get_mut(id) {
-        if let Some(vp) = partition.vp_mut(index) {
-            vp.clear_flag(sint, flag);
-        }
-    }
+    let vp = match caller_vp(tree, by) {
+        Ok(vp) => vp,
+        Err(rule) => return Err(rule),
+    };
+    vp.clear_flag(sint, flag);
+    Ok(())
 }
 
-// Takes the highest vector that is pending at a processor, where both are there, or 0 where none is.
+// Takes the highest vector that is pending at the calling processor, or 0 where none is.
 #[tactic(auto, using(hv_tree::proofs::Laws::unchanged))]
-pub fn take<A: Allocator>(tree: &mut Partitions<A>, id: u64, index: u32) -> u8
-    ensures vector { (f : Flat) → IsTied tree.old f → result ≡ vector_of (get f.vp (id, index)) }
-    ensures taken { tree.new ≡ changed tree.old id (with_state_of index interrupted) }
+#[inline(always)]
+pub fn take<A: Allocator>(tree: &mut Partitions<A>, by: Caller) -> Result<u8, Rule>
+    ensures vector { IfOk result (λ vector. (f : Flat) → IsTied tree.old f
+        → vector ≡ vector_of (get f.vp (by.part, by.vp))) }
+    ensures taken { OnOk result (tree.new ≡ changed tree.old by.part (with_state_of by.vp interrupted)) }
+    ensures kept { OnErr result (tree.new ≡ tree.old) }
+    ensures met { IfOk result (λ _. (f : Flat) → IsTied tree.old f → first_unmet (caller_asks f by) ≡ None) }
+    ensures unmet { IfErr result (λ rule. (f : Flat) → IsTied tree.old f
+        → first_unmet (caller_asks f by) ≡ Some rule) }
 {
-    let Some(partition) = tree.get_mut(id) else {
-        return 0;
-    };
-    let Some(vp) = partition.vp_mut(index) else {
-        return 0;
+    let vp = match caller_vp(tree, by) {
+        Ok(vp) => vp,
+        Err(rule) => return Err(rule),
     };
     match vp.take_interrupt() {
-        Some(vector) => vector,
-        None => 0,
+        Some(vector) => Ok(vector),
+        None => Ok(0),
     }
 }
 
-// The bytes of a message slot, zeros where there is no such processor.
-pub fn slot<A: Allocator>(tree: &Partitions<A>, id: u64, index: u32, sint: u8) -> [u8; 256]
+// Puts out the message slot of a SINT of the calling processor.
+#[tactic(auto, using(hv_tree::proofs::Laws::unchanged))]
+#[inline(always)]
+pub fn slot<A: Allocator>(
+    tree: &mut Partitions<A>,
+    by: Caller,
+    sint: u8,
+    output: &mut Output,
+) -> Result<(), Rule>
     requires { sint < SINTS }
-    ensures { (f : Flat) → IsTied tree.now f → result ≡ slot_at (here id index sint) f.mail }
+    ensures read { IfOk result (λ _. (f : Flat) → IsTied tree.old f
+        → output.new ≡ slot_at (here by.part by.vp sint) f.mail) }
+    ensures kept { tree.new ≡ tree.old }
+    ensures met { IfOk result (λ _. (f : Flat) → IsTied tree.old f → first_unmet (caller_asks f by) ≡ None) }
+    ensures unmet { IfErr result (λ rule. (f : Flat) → IsTied tree.old f
+        → first_unmet (caller_asks f by) ≡ Some rule) }
 {
-    let Some(partition) = tree.get(id) else {
-        return [0; 256];
+    let vp = match caller_vp(tree, by) {
+        Ok(vp) => vp,
+        Err(rule) => return Err(rule),
     };
-    match partition.vp(index) {
-        Some(vp) => vp.slot(sint),
-        None => [0; 256],
-    }
+    let mut bytes = [0; 256];
+    vp.read_slot(sint, &mut bytes);
+    output.put_whole(&bytes);
+    Ok(())
 }
 
-// The bytes of a SINT's event flags, zeros where there is no such processor.
-pub fn flags<A: Allocator>(tree: &Partitions<A>, id: u64, index: u32, sint: u8) -> [u8; 256]
+// Puts out the event flags of a SINT of the calling processor.
+#[tactic(auto, using(hv_tree::proofs::Laws::unchanged))]
+#[inline(always)]
+pub fn flags<A: Allocator>(
+    tree: &mut Partitions<A>,
+    by: Caller,
+    sint: u8,
+    output: &mut Output,
+) -> Result<(), Rule>
     requires { sint < SINTS }
-    ensures { (f : Flat) → IsTied tree.now f → result ≡ flags_at (get f.vp (id, index)) sint }
+    ensures read { IfOk result (λ _. (f : Flat) → IsTied tree.old f
+        → output.new ≡ flags_at (get f.vp (by.part, by.vp)) sint) }
+    ensures kept { tree.new ≡ tree.old }
+    ensures met { IfOk result (λ _. (f : Flat) → IsTied tree.old f → first_unmet (caller_asks f by) ≡ None) }
+    ensures unmet { IfErr result (λ rule. (f : Flat) → IsTied tree.old f
+        → first_unmet (caller_asks f by) ≡ Some rule) }
 {
-    let Some(partition) = tree.get(id) else {
-        return [0; 256];
+    let vp = match caller_vp(tree, by) {
+        Ok(vp) => vp,
+        Err(rule) => return Err(rule),
     };
-    match partition.vp(index) {
-        Some(vp) => vp.flags(sint),
-        None => [0; 256],
-    }
+    output.put_whole(&vp.flags(sint));
+    Ok(())
 }

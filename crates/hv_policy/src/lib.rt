@@ -26,7 +26,7 @@ pub use asking::ask_frame;
 pub use config::{BootRefused, Config};
 pub use event::{Access, Action, Caller, Event};
 pub use need::{Kin, Need, States, needs, states_to_set};
-pub use property::{ALL_PROPERTIES, Property};
+pub use property::Property;
 pub use reply::{Output, Reply};
 pub use result::{completed_reps, refused_reply, refused_reps, result_of, served_reply};
 pub use rule::Rule;

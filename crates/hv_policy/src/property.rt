@@ -18,20 +18,11 @@ pub enum Property {
     CpuWeight = 0x0002_0003,
 }
 
-/// Every property of the profile, by rising code.
-pub const ALL_PROPERTIES: [Property; 4] = [
-    Property::PrivilegeFlags,
-    Property::CpuReserve,
-    Property::CpuCap,
-    Property::CpuWeight,
-];
-
 impl Property {
     /// The property with this code, or `None` where the profile has none.
     pub fn of(code: u32) -> Option<Property>
         ensures { result ≡ property_of code }
     {
-        // A few comparisons, and no search through the list, which the contract holds them to.
         if code == Property::PrivilegeFlags as u32 {
             Some(Property::PrivilegeFlags)
         } else if code == Property::CpuReserve as u32 {

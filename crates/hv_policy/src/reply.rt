@@ -1,5 +1,5 @@
 // What an event is answered.
-ghost use Rattle.std.specs.Prelude.{◌≡◌, ◌+◌, ◌≤◌, ◌++◌, [], ◌∷◌, length, take};
+ghost use Rattle.std.specs.Prelude.{◌≡◌, ◌+◌, ◌≤◌, ◌++◌, [], ◌∷◌, length};
 ghost use Rattle.std.specs.Int.{w64, to_le_bytes};
 ghost use Rattle.hv_policy.specs.Parts.{reply_of};
 
@@ -82,26 +82,20 @@ impl Output {
         own
     }
 
-    /// The 256 bytes of a message slot, or of a SINT's event flags.
-    pub fn whole(bytes: &[u8; 256]) -> Output
-        ensures { result ≡ bytes.now }
+    /// Takes the 256 bytes of a message slot, or of a SINT's event flags, in place of its own.
+    pub fn put_whole(&mut self, bytes: &[u8; 256])
+        ensures { self.new ≡ bytes.now }
     {
-        Output::of(bytes)
+        self.len = 0;
+        self.push(bytes);
     }
 
+    /// The bytes.
     pub fn as_slice(&self) -> &[u8]
         ensures bytes { result.now ≡ self.now }
         ensures most { length self.now ≤ 256 }
     {
         &self.bytes[..self.len]
-    }
-
-    /// The bytes with what stands after them, and how many they are.
-    pub fn as_parts(&self) -> (&[u8; 256], usize)
-        ensures bytes { take result.1 result.0.now ≡ self.now }
-        ensures most { result.1 ≤ 256 }
-    {
-        (&self.bytes, self.len)
     }
 }
 

@@ -45,7 +45,8 @@ impl<R: Copy, A: Allocator> Table<R, A> {
         }
     }
 
-    /// The row with this id. The time is proportional to the logarithm of the count.
+    /// The row with this id. The time is proportional to the logarithm of the count at most.
+    #[inline(always)]
     pub fn find(&self, id: u32) -> Option<R>
         ensures { result ≡ map.get self.now.rows id }
     {
@@ -117,8 +118,27 @@ impl<R: Copy, A: Allocator> Table<R, A> {
     }
 }
 
-// The place of the row with this id, or where it would go.
+// The place of the row with this id, or where it would go. It is looked for first at the last place at which it may
+// stand, since each id is higher than the one before.
+#[inline(always)]
 fn place_of<R: Copy>(slots: &[(u32, R)], id: u32) -> Result<usize, usize>
+    requires { IsRising slots.now }
+    ensures within { IsSearchInRange result (length slots.now) }
+    ensures found { IfOk result (HoldsAt (λ slot. slot.0 ≡ id) slots.now) }
+    ensures between { IfErr result (IsPartitionPoint (λ slot. slot.0 < id) (λ slot. id < slot.0) slots.now) }
+{
+    if !slots.is_empty() && id >= slots[0].0 {
+        let guess = usize::min((id - slots[0].0) as usize, slots.len() - 1);
+        if slots[guess].0 == id {
+            return Ok(guess);
+        }
+    }
+    search(slots, id)
+}
+
+// The same wherever it stands.
+#[inline(never)]
+fn search<R: Copy>(slots: &[(u32, R)], id: u32) -> Result<usize, usize>
     requires { IsRising slots.now }
     ensures within { IsSearchInRange result (length slots.now) }
     ensures found { IfOk result (HoldsAt (λ slot. slot.0 ≡ id) slots.now) }

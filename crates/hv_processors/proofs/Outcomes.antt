@@ -4,11 +4,11 @@ use Rattle.std.proofs.lemmas.Bool.{and_parts}
 use Rattle.std.specs.FinMap.{contains_key, get, insert, remove}
 use Rattle.std.specs.Option.{option_map}
 use Rattle.hv_calls.specs.declared.call.Call.TheVariants.{CreateVp, DeleteVp, SetVpRegisters}
-use Rattle.hv_defs.specs.Registers.{name_of_msr}
 use Rattle.hv_partition.specs.Partition.{PartitionState}
 use Rattle.hv_policy.specs.Needs.{target_of}
 use Rattle.hv_policy.specs.Effect.{call_effect, write_msr, write_register}
 use Rattle.hv_policy.specs.Flat.{Flat}
+use Rattle.hv_policy.specs.Rules.{first_unmet}
 use Rattle.hv_policy.specs.declared.event.Caller.{Caller}
 use Rattle.hv_tie.proofs.Allowed.{admitted_allowed, target_row}
 use Rattle.hv_tie.proofs.Mailed.{written_tied}
@@ -17,6 +17,7 @@ use Rattle.hv_tie.specs.Tie.{IsTied, vp_row, vp_row_of}
 use Rattle.hv_tie.specs.Vp.{with_state_of}
 use Rattle.hv_tree.specs.Rows.{Rows, change}
 use Rattle.hv_vp.specs.Vp.{VpState, new_vp, written}
+use Rattle.hv_processors.specs.Asked.{write_asks}
 use Rattle.hv_processors.proofs.Made.{added_tied, removed_tied}
 use Rattle.hv_processors.specs.Change.{HasVps, MayAdd}
 
@@ -58,8 +59,9 @@ module _ (rows new : Rows PartitionState) (f : Flat) (flat : IsTied rows f) (cal
       subst (λ t. IsTied new (call_effect (SetVpRegisters partition vp name value) f caller t)) at
       (subst (λ rows. IsTied rows (call_effect (SetVpRegisters partition vp name value) f caller target)) (sym is) (written_tied rows f flat target vp name value))
 
-module _ (rows new : Rows PartitionState) (f : Flat) (flat : IsTied rows f) (by : Caller) (msr name value : ℕ) where
-  pub msr_set : name_of_msr msr ≡ Some name → new ≡ change rows by.part (with_state_of by.vp (written name value)) → IsTied new (write_msr by.part by.vp (name_of_msr msr) value f)
-  msr_set named is =
-      subst (λ o. IsTied new (write_msr by.part by.vp o value f)) (sym named)
-      (subst (λ rows. IsTied rows (write_register by.part by.vp name value f)) (sym is) (written_tied rows f flat by.part by.vp name value))
+module _ (rows new : Rows PartitionState) (f : Flat) (flat : IsTied rows f) (by : Caller) (value : ℕ) where
+  pub msr_set : (name : Option ℕ) → first_unmet (write_asks f by.part name value) ≡ None
+      → ((register : ℕ) → name ≡ Some register → new ≡ change rows by.part (with_state_of by.vp (written register value))) → IsTied new (write_msr by.part by.vp name value f)
+  msr_set None met is = cc
+  msr_set (Some register) met is =
+      subst (λ rows. IsTied rows (write_register by.part by.vp register value f)) (sym (is register refl)) (written_tied rows f flat by.part by.vp register value)

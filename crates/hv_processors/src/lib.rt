@@ -3,11 +3,12 @@
 //!
 //! One public function for each call; of a rep call it serves one element. It asks the call's own rules
 //! in the policy's order, makes what room it needs, and then changes the tree; its contract says in the
-//! policy's words what became of the call (`IsOutcome`). An access has such a function too, told that P1
-//! to P3 are met (`IsAccess`).
+//! policy's words what became of the call (`IsOutcome`). An access has such a function too, which asks P1
+//! to P3 as well (`IsAnswered`).
 #![tactic(auto)]
 
 mod accesses;
+mod own;
 mod processors;
 mod rows;
 mod rules;

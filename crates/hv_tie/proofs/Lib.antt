@@ -14,3 +14,4 @@ pub mod Room
 pub mod Staff
 pub mod Twice
 pub mod Takers
+pub mod Written

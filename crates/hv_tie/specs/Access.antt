@@ -6,7 +6,7 @@ use Rattle.hv_partition.specs.Partition.{PartitionState}
 use Rattle.hv_policy.specs.Answer.{action_answer}
 use Rattle.hv_policy.specs.Effect.{action_effect}
 use Rattle.hv_policy.specs.Flat.{Flat}
-use Rattle.hv_policy.specs.Rules.{action_asks, first_unmet}
+use Rattle.hv_policy.specs.Rules.{action_asks, caller_asks, first_unmet, unmet}
 use Rattle.hv_policy.specs.declared.event.Action.{Action}
 use Rattle.hv_policy.specs.declared.event.Caller.{Caller}
 use Rattle.hv_policy.specs.declared.reply.Reply.TheVariants.{Served}
@@ -20,8 +20,8 @@ pub record IsAccessed {A : Type 0} (f : Flat) (by : Caller) (what : Action A) (b
   pub reply : Served bytes ≡ action_answer f by what
   pub rows : IsTied new (action_effect f by what)
 
--- what became of an access for which P1 to P3 are met, in one of the flat states that the rows are tied to: it was served, or
--- refused by its first unmet rule with the rows as they were. It never wants memory
-abbrev pub IsAccess : {A : Type 0} → Flat → Caller → Action A → Rows PartitionState → Result (List ℕ) Rule → Rows PartitionState → Type 0
-IsAccess f by what old (Ok bytes) new = IsAccessed f by what bytes new
-IsAccess f by what old (Err rule) new = (first_unmet (action_asks f by.part what) ≡ Some rule) × (new ≡ old)
+-- what became of an access, in one of the flat states that the rows are tied to: it was served, or refused by its first unmet
+-- rule with the rows as they were. It never wants memory
+abbrev pub IsAnswered : {A : Type 0} → Flat → Caller → Action A → Rows PartitionState → Result (List ℕ) Rule → Rows PartitionState → Type 0
+IsAnswered f by what old (Ok bytes) new = (first_unmet (caller_asks f by) ≡ None) × IsAccessed f by what bytes new
+IsAnswered f by what old (Err rule) new = (unmet f (record { by = by; what = what }) ≡ Some rule) × (new ≡ old)

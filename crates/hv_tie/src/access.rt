@@ -1,6 +1,13 @@
 // The rules of the caller, and those that ask whether it may make the call.
-ghost use Rattle.std.specs.Prelude.{◌≡◌, IfErr, IfOk, None, Some};
+ghost use Rattle.std.specs.Prelude.{◌≡◌, IfErr, IfOk, IfSome, None, Some};
+ghost use Rattle.std.specs.Borrow.{LendsIfOk, sem};
+ghost use Rattle.std.specs.FinMap.{get};
+ghost use Rattle.hv_partition.specs.Partition.{with_vp_of};
+ghost use Rattle.hv_partition.specs.contracts.partition.Partition.{the_row as partition_row};
 ghost use Rattle.hv_policy.specs.Flat.{Flat};
+ghost use Rattle.hv_tree.specs.Rows.{change};
+ghost use Rattle.hv_tree.specs.contracts.tree.IdTree.{the_row as tree_row};
+ghost use Rattle.hv_vp.specs.contracts.vp.Vp.{the_row as vp_row};
 ghost use Rattle.hv_policy.specs.Met.{is_kin as is_kin_of};
 ghost use Rattle.hv_policy.specs.Needs.{target_of};
 ghost use Rattle.hv_policy.specs.Rules.{caller_asks, first_unmet, target_asks};
@@ -13,6 +20,7 @@ use hv_calls::Call;
 use hv_defs::Life;
 use hv_partition::Partition;
 use hv_policy::{Caller, Kin, Rule, needs};
+use hv_vp::Vp;
 use std::alloc::Allocator;
 
 /// P1 to P3: the caller's partition where they are met, and else the first of them that isn't. Inlined, so that the
@@ -34,6 +42,30 @@ pub fn caller_in<A: Allocator>(tree: &Partitions<A>, by: Caller) -> Result<&Part
         return Err(Rule::CallerVpExists);
     }
     Ok(caller)
+}
+
+/// P1 to P3 of an access, and the processor that makes it, to be read or changed; else the first of them that isn't
+/// met, with the partitions as they were.
+#[inline(always)]
+#[tactic(auto, using(hv_tree::proofs::Laws::unchanged))]
+pub fn caller_vp<A: Allocator>(tree: &mut Partitions<A>, by: Caller) -> Result<&mut Vp<A>, Rule>
+    ensures* writes_back { sem 𝓛 (LendsIfOk (tree_row (partition_row A.row A.Allocator) A.row A.Allocator)
+        (vp_row A.row A.Allocator) tree.entry result (λ w. change tree.old by.part (λ p. with_vp_of p by.vp w)) tree.old) }
+    ensures there { IfOk result (λ vp. IfSome (content tree.old by.part) (λ p. get p.vps.vps by.vp ≡ Some vp.now)) }
+    ensures met { IfOk result (λ _. (f : Flat) → IsTied tree.old f → first_unmet (caller_asks f by) ≡ None) }
+    ensures unmet { IfErr result (λ rule. (f : Flat) → IsTied tree.old f
+        → first_unmet (caller_asks f by) ≡ Some rule) }
+{
+    let Some(caller) = tree.get_mut(by.part) else {
+        return Err(Rule::CallerExists);
+    };
+    if caller.life() != Life::Active {
+        return Err(Rule::CallerActive);
+    }
+    match caller.vp_mut(by.vp) {
+        Some(vp) => Ok(vp),
+        None => Err(Rule::CallerVpExists),
+    }
 }
 
 /// P8 to P10: the first of them that isn't met. The caller's partition is the one that was found. Inlined, since

@@ -53,6 +53,15 @@ fn seek_far<'t, T, A: Allocator>(nodes: &'t Nodes<T, A>, id: u64) -> Option<&'t 
     nodes.get(&id)
 }
 
+/// Whether the guess for the id is right.
+#[inline(always)]
+pub(crate) fn is_noted<T, A: Allocator>(nodes: &Nodes<T, A>, guesses: &Guesses, id: u64) -> bool {
+    match nodes.as_slice().get_index(guesses[slot_of(id)] as usize) {
+        Some((key, _)) => *key == id,
+        None => false,
+    }
+}
+
 /// The place of the node with the id.
 pub(crate) fn place_of<T, A: Allocator>(
     nodes: &Nodes<T, A>,

@@ -12,8 +12,8 @@ ghost use Rattle.hv_tree.specs.Subtree.{IsInSubtree};
 
 use crate::edit::Edit;
 use crate::nodes::{
-    GUESSES, Guesses, Node, Nodes, edit_below, first_above, graft, ids_of, note_place, place_of,
-    prune, seek,
+    GUESSES, Guesses, Node, Nodes, edit_below, first_above, graft, ids_of, is_noted, note_place,
+    place_of, prune, seek,
 };
 use crate::refused::{InsertRefused, ReserveRefused};
 use indexmap::IndexMap;
@@ -122,8 +122,17 @@ impl<T, A: Allocator> IdTree<T, A> {
 
     /// Notes the place of a node, so that a look-up of it takes one look there. That holds until another node
     /// with the same lowest bits of its id is noted, or the removal of one moves this one. It changes no answer.
-    #[inline(always)]
     pub fn note(&mut self, id: u64)
+        ensures { self.new ≡ self.old }
+    {
+        if !is_noted(&self.nodes, &self.guesses, id) {
+            self.note_anew(id);
+        }
+    }
+
+    // Not inlined, since mostly a node is noted.
+    #[inline(never)]
+    fn note_anew(&mut self, id: u64)
         ensures { self.new ≡ self.old }
     {
         if let Some(place) = place_of(&self.nodes, &self.guesses, id) {

@@ -1,34 +1,20 @@
 // SINTs that show their next messages, one after another.
 
-use arrayvec::ArrayVec;
-use hv_mail::{Mailbox, Message};
+use hv_mail::{Mailbox, Posting};
 use std::alloc::{AllocError, Global};
-use std::process::Abort;
 use std::test::Fail;
 
 // A message of port 0x654321, with two bytes of payload.
-fn message(rt: &impl Abort, kind: u32) -> Message {
-    let mut payload = ArrayVec::new();
-    let written = payload.try_extend_from_slice(&[0xA5, 0xC3]);
-    assert!(rt; written.is_ok());
-    Message {
-        port: 0x0065_4321,
-        born: 0xFEDC_BA98_7654_3210,
-        kind,
-        payload,
-    }
+fn message(kind: u32) -> Posting<'static> {
+    Posting::new(0x0065_4321, 0xFEDC_BA98_7654_3210, kind, &[0xA5, 0xC3])
 }
 
 // Posts a message at each of the SINTs, and answers whether each is shown as it must be.
-fn post_all(
-    rt: &impl Abort,
-    mailbox: &mut Mailbox<Global>,
-    posts: &[(u8, u32, bool)],
-) -> Result<bool, AllocError> {
+fn post_all(mailbox: &mut Mailbox<Global>, posts: &[(u8, u32, bool)]) -> Result<bool, AllocError> {
     let mut are_right = true;
     for (sint, kind, shown) in posts {
         mailbox.reserve_one()?;
-        let posted = *sint < 16 && mailbox.post(*sint, message(rt, *kind)) == *shown;
+        let posted = *sint < 16 && mailbox.post(*sint, &message(*kind)) == *shown;
         are_right = are_right && posted;
     }
     Ok(are_right)
@@ -59,10 +45,18 @@ const SHOWN_AT_15: [u8; 18] = [
     0xA9, 0xCB, 0xED, 0x7F, 2, 0, 0, 0, 0x21, 0x43, 0x65, 0, 0, 0, 0, 0, 0xA5, 0xC3,
 ];
 
+fn slot(mailbox: &Mailbox<Global>, sint: u8) -> [u8; 256] {
+    let mut bytes = [0; 256];
+    if sint < 16 {
+        mailbox.read_slot(sint, &mut bytes);
+    }
+    bytes
+}
+
 fn are_shown(mailbox: &Mailbox<Global>) -> bool {
-    &mailbox.slot(2)[..18] == SHOWN_AT_2.as_slice()
-        && &mailbox.slot(15)[..18] == SHOWN_AT_15.as_slice()
-        && mailbox.slot(7)[0] == 0
+    &slot(mailbox, 2)[..18] == SHOWN_AT_2.as_slice()
+        && &slot(mailbox, 15)[..18] == SHOWN_AT_15.as_slice()
+        && slot(mailbox, 7)[0] == 0
 }
 
 // The SINTs at which a message became shown.
@@ -79,7 +73,7 @@ fn advance_each(mailbox: &mut Mailbox<Global>) -> u16 {
 #[test]
 fn each_sint_shows_its_next_message(rt: HostRuntime) -> Result<(), Fail> {
     let mut mailbox = Mailbox::new(rt.alloc());
-    let are_posted = post_all(&rt, &mut mailbox, &POSTS)?;
+    let are_posted = post_all(&mut mailbox, &POSTS)?;
     let early = advance_each(&mut mailbox);
     clear_all(&mut mailbox);
     let shown = advance_each(&mut mailbox);

@@ -1,6 +1,10 @@
-use Rattle.std.proofs.Common.{rules, sym, ◌∙◌}
+use Rattle.std.proofs.Common.{sym, ◌∙◌, rules}
 use Rattle.hv_tie.proofs.Mailed.{slot_told}
+use Rattle.hv_tie.proofs.Written.{vp_kept}
 use Rattle.hv_messages.proofs.rows.slot.Goals as goal
 
-pub returns-in-Some-vp : goal.returns-in-Some-vp
-returns-in-Some-vp g c f flat = c.slot.ensures ∙ sym (slot_told c.args.tree.now f flat c.args.id c.args.index c.args.sint c.in-Some-vp.vp.now (search rules))
+pub returns-clause-read : goal.returns-clause-read
+returns-clause-read g c f flat = c.put_whole.ensures ∙ c.read_slot.ensures ∙ sym (slot_told c.args.tree.now f flat c.args.by.part c.args.by.vp c.args.sint c.in-Ok.vp.now (let there = c.in-Ok.ensures.there in search rules))
+
+pub returns-clause-kept : goal.returns-clause-kept
+returns-clause-kept g c = vp_kept c.args.tree.now c.args.by.part c.args.by.vp c.in-Ok.vp.now (c.in-Ok.ensures.there)

@@ -16,7 +16,7 @@ written g c = write_queue c.self.inside.queues.items c.from-at.result c.index_mu
 
 -- and that there is room still
 roomy : (g : Over) (c : After-clear g) → is_roomy c.self.inside.queues.items ≡ true → is_roomy (set c.self.inside.queues.items c.from-at.result c.clear.new.self) ≡ true
-roomy g c = still_roomy c.self.inside.queues.items c.from-at.result c.index_mut-queue.result.now c.clear.new.self (omega arith) c.index_mut-queue.ensures.value (λ r. c.clear.ensures.room ∙ r)
+roomy g c = still_roomy c.self.inside.queues.items c.from-at.result c.index_mut-queue.result.now c.clear.new.self (omega arith) c.index_mut-queue.ensures.value c.clear.ensures.kept
 
 pub returns-then-not-is_pending-clause-mail : goal.returns-then-not-is_pending-clause-mail
 returns-then-not-is_pending-clause-mail g c = rw (← c.self.view_is, ← c.from-at.ensures) (written g (goal.at.returns-then-not-is_pending-clause-mail g c).After-clear)
