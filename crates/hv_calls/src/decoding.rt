@@ -11,7 +11,7 @@ ghost use Rattle.hv_calls.specs.WellFormed.{are_flags as fit_flags};
 ghost use Rattle.hv_calls.specs.declared.call.Call.{Call as TypedCall};
 
 use crate::call::Call;
-use crate::fields::{u16_at, u32_at, u64_at};
+use crate::fields::{first_u32, head_u32s, second_u16, u16_at, u32_at, u64_at};
 use crate::payload::Payload;
 use hv_abi::{CallKind, CallRow, DEPOSIT_MEMORY, Frame, GET_VP_REGISTERS, SET_VP_REGISTERS, Shape};
 use hv_defs::{
@@ -183,7 +183,6 @@ fn get_vp_registers<A: Allocator>(frame: &Frame<A>, shape: &Shape) -> Call<'stat
     }
 }
 
-#[inline(always)]
 fn set_vp_registers<A: Allocator>(
     frame: &Frame<A>,
     shape: &Shape,
@@ -236,9 +235,7 @@ fn disconnect_port<A: Allocator>(
 fn post_message<'f, A: Allocator>(frame: &'f Frame<A>, shape: &Shape) -> Result<Call<'f>, Malformed>
     ensures { result ≡ decoded CallKind.PostMessage (input_of frame.now shape.now.fast) 0 }
 {
-    let connection = u32_at(frame, shape, 0);
-    let message_type = u32_at(frame, shape, 8);
-    let size = u32_at(frame, shape, 12);
+    let (connection, message_type, size) = head_u32s(frame, shape);
     if !is_id(connection) || !is_message_type(message_type) || size > MAX_PAYLOAD {
         return Err(Malformed);
     }
@@ -253,8 +250,8 @@ fn post_message<'f, A: Allocator>(frame: &'f Frame<A>, shape: &Shape) -> Result<
 fn signal_event<A: Allocator>(frame: &Frame<A>, shape: &Shape) -> Result<Call<'static>, Malformed>
     ensures { result ≡ decoded CallKind.SignalEvent (input_of frame.now shape.now.fast) 0 }
 {
-    let connection = u32_at(frame, shape, 0);
-    let flag = u16_at(frame, shape, 4);
+    let connection = first_u32(frame, shape);
+    let flag = second_u16(frame, shape);
     if !is_id(connection) {
         return Err(Malformed);
     }

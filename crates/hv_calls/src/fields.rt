@@ -56,6 +56,50 @@ pub fn u16_at<A: Allocator>(frame: &Frame<A>, shape: &Shape, at: usize) -> u16
     LittleEndian::read_u16(&input[at..at + 2])
 }
 
+// The first 4 bytes as a number. Inlined for a fast call, whose first bytes are those of RDX.
+#[inline(always)]
+pub fn first_u32<A: Allocator>(frame: &Frame<A>, shape: &Shape) -> u32
+    ensures { result ≡ field (input_of frame.now shape.now.fast) 0 4 }
+{
+    if !shape.fast {
+        return u32_at(frame, shape, 0);
+    }
+    (frame.rdx % 0x1_0000_0000) as u32
+}
+
+// The 2 bytes after them as a number, alike.
+#[inline(always)]
+pub fn second_u16<A: Allocator>(frame: &Frame<A>, shape: &Shape) -> u16
+    ensures { result ≡ field (input_of frame.now shape.now.fast) 4 2 }
+{
+    if !shape.fast {
+        return u16_at(frame, shape, 4);
+    }
+    (frame.rdx / 0x1_0000_0000 % 0x1_0000) as u16
+}
+
+// The 4 bytes at 0, at 8 and at 12 as numbers. Inlined for a list in memory that has them.
+#[inline(always)]
+pub fn head_u32s<A: Allocator>(frame: &Frame<A>, shape: &Shape) -> (u32, u32, u32)
+    ensures first { result.0 ≡ field (input_of frame.now shape.now.fast) 0 4 }
+    ensures second { result.1 ≡ field (input_of frame.now shape.now.fast) 8 4 }
+    ensures third { result.2 ≡ field (input_of frame.now shape.now.fast) 12 4 }
+{
+    let input = frame.input.as_slice();
+    if shape.fast || input.len() < 16 {
+        return (
+            u32_at(frame, shape, 0),
+            u32_at(frame, shape, 8),
+            u32_at(frame, shape, 12),
+        );
+    }
+    (
+        LittleEndian::read_u32(&input[..4]),
+        LittleEndian::read_u32(&input[8..12]),
+        LittleEndian::read_u32(&input[12..16]),
+    )
+}
+
 // The number of so many bytes at a place of RDX and then R8, by shifts. No field of a fast call stands in both of
 // them.
 #[inline(always)]

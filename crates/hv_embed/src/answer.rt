@@ -2,18 +2,19 @@
 ghost use Rattle.std.specs.Prelude.{◌≡◌, ◌<◌, ◌≤◌, [], length, take, false};
 ghost use Rattle.hv_defs.specs.declared.sizes.TheConstants.{REPS_END};
 ghost use Rattle.hv_history.specs.Row.{next_in};
-ghost use Rattle.hv_machine.specs.Access.{access_event};
+ghost use Rattle.hv_machine.specs.Access.{access_event, access_reply};
 ghost use Rattle.hv_policy.specs.Call.{action_of as action_by, call_event};
 ghost use Rattle.hv_policy.specs.Parts.{reply_of};
 ghost use Rattle.hv_policy.specs.declared.event.Action.TheVariants.{Hypercall};
+ghost use Rattle.hv_policy.specs.declared.reply.Reply.TheVariants.{Fault, Served};
 ghost use Rattle.hv_embed.specs.Answer.{HasOutput, IsAnswer, Says, line_text};
 ghost use Rattle.hv_embed.specs.Taken.{HasLine, is_short as is_short_len};
 
 use crate::housed::no_frame;
 use crate::layout::{DENIED, FAULT, HvReply, MORE, SERVED};
 use hv_abi::Frame;
-use hv_history::frame_of;
-use hv_machine::{Access, Action, Answer, Caller, Event};
+use hv_history::{answer_of, frame_of};
+use hv_machine::{Access, Action, Answer, Caller, Event, Rule};
 use hv_text::{LINE, Scratch, audit_line, result_value};
 use std::alloc::Global;
 use std::mem::replace;
@@ -57,13 +58,13 @@ pub(crate) fn answer(
     };
 }
 
-// Answers an access alike. It is made an event only where a line is asked for.
+// Answers an access alike, of which this became. It is made an event only where a line is asked for.
 #[inline(always)]
 pub(crate) fn answer_access(
     by: Caller,
     access: Access,
     number: u64,
-    told: Answer,
+    became: Result<(), Rule>,
     output: &[u8],
     scratch: &mut Scratch,
     reply: &mut HvReply,
@@ -71,17 +72,23 @@ pub(crate) fn answer_access(
 )
     requires room { is_short_len (length line.old) ≡ false }
     requires most { length output.now ≤ 256 }
-    requires index { next_in (reply_of told []) < REPS_END }
-    ensures answer { IsAnswer reply.new (action_by access) (reply_of told output.now) }
+    ensures answer { IsAnswer reply.new (action_by access) (access_reply became output.now) }
     ensures line { HasLine line.new reply.new.line_len
-        (line_text number (access_event by access) (reply_of told output.now)) }
+        (line_text number (access_event by access) (access_reply became output.now)) }
 {
-    say(told, output, reply);
+    match became {
+        Ok(()) => serve(output, reply),
+        Err(rule) => refuse(rule, reply),
+    }
     reply.result = 0;
     reply.line_len = if line.is_empty() {
         0
     } else {
-        put_access_line(scratch, line, by, access, number, told, output)
+        let event = Event {
+            by,
+            what: action_of(access),
+        };
+        put_line(scratch, line, &event, number, answer_of(became), output)
     };
 }
 
@@ -133,32 +140,8 @@ fn put_call_line(
     len
 }
 
-// Puts the audit's line of an access alike.
-#[inline(never)]
-fn put_access_line(
-    scratch: &mut Scratch,
-    line: &mut [u8],
-    by: Caller,
-    access: Access,
-    number: u64,
-    told: Answer,
-    output: &[u8],
-) -> u32
-    requires room { LINE ≤ length line.old }
-    requires most { length output.now ≤ 256 }
-    requires index { next_in (reply_of told []) < REPS_END }
-    ensures text { take result line.new
-        ≡ line_text number (access_event by access) (reply_of told output.now) }
-    ensures most { result ≤ LINE }
-{
-    let event = Event {
-        by,
-        what: action_of(access),
-    };
-    put_line(scratch, line, &event, number, told, output)
-}
-
 // An access as an action.
+#[inline(always)]
 fn action_of(access: Access) -> Action<Global>
     ensures { result ≡ action_by access }
 {
@@ -173,32 +156,15 @@ fn action_of(access: Access) -> Action<Global>
     }
 }
 
-// Says how an event ended, and what it put out.
+// Says that an access was served and put this out. The bytes of the reply's output past those stay.
 #[inline(always)]
-fn say(told: Answer, output: &[u8], reply: &mut HvReply)
+fn serve(output: &[u8], reply: &mut HvReply)
     requires { length output.now ≤ 256 }
-    ensures { Says reply.new (reply_of told output.now) }
+    ensures { Says reply.new (Served output.now) }
 {
-    match told {
-        Answer::Served => put(reply, SERVED, 0, 0, output),
-        Answer::More { next } => put(reply, MORE, 0, u32::from(next), output),
-        Answer::Denied { rule, .. } => put(reply, DENIED, u32::from(rule.number()), 0, &[]),
-        Answer::Fault { rule } => put(reply, FAULT, u32::from(rule.number()), 0, &[]),
-    }
-}
-
-// Puts these into a reply. The bytes of its output past those that are put out stay.
-#[inline(always)]
-fn put(reply: &mut HvReply, kind: u32, rule: u32, next: u32, output: &[u8])
-    requires { length output.now ≤ 256 }
-    ensures kind { reply.new.kind ≡ kind }
-    ensures rule { reply.new.rule ≡ rule }
-    ensures next { reply.new.next ≡ next }
-    ensures output { HasOutput reply.new output.now }
-{
-    reply.kind = kind;
-    reply.rule = rule;
-    reply.next = next;
+    reply.kind = SERVED;
+    reply.rule = 0;
+    reply.next = 0;
     // What accesses put out is copied by known lengths.
     match output.len() {
         0 => {}
@@ -208,6 +174,17 @@ fn put(reply: &mut HvReply, kind: u32, rule: u32, next: u32, output: &[u8])
         len => reply.output[..len].copy_from_slice(output),
     }
     reply.output_len = output.len() as u32;
+}
+
+// Says that an access was refused by this rule.
+#[inline(always)]
+fn refuse(rule: Rule, reply: &mut HvReply)
+    ensures { Says reply.new (Fault rule) }
+{
+    reply.kind = FAULT;
+    reply.rule = u32::from(rule.number());
+    reply.next = 0;
+    reply.output_len = 0;
 }
 
 // Says how a call ended, and what it put out: the first of these bytes.

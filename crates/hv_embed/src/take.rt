@@ -24,7 +24,6 @@ use crate::layout::{HvCaller, HvRegisters, HvReply};
 use crate::status::{DONE, EMPTY, MAX_EVENTS, MEMORY, SHORT, USED_UP};
 use hv_abi::Frame;
 use hv_defs::MAX_SERVED;
-use hv_history::answer_of;
 use hv_machine::{Access, Caller, Machine};
 use hv_text::Scratch;
 use std::alloc::Global;
@@ -132,12 +131,12 @@ fn step_access(
         return USED_UP;
     }
     housed.output.clear();
-    let told = answer_of(housed.machine.access(by, access, &mut housed.output));
+    let became = housed.machine.access(by, access, &mut housed.output);
     answer_access(
         by,
         access,
         before + 1,
-        told,
+        became,
         housed.output.as_slice(),
         &mut housed.scratch,
         reply,

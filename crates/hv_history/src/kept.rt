@@ -288,6 +288,7 @@ fn access_into<A: Allocator + Clone>(
 }
 
 /// How an access is answered of which this became.
+#[inline(always)]
 pub fn answer_of(became: Result<(), Rule>) -> Answer
     ensures reply { (output : List ℕ) → reply_of result output ≡ access_reply became output }
     ensures index { next_in (reply_of result []) < REPS_END }

@@ -107,7 +107,8 @@ impl<A: Allocator> Mailbox<A> {
     pub fn read_slot(&self, sint: u8, bytes: &mut [u8; 256])
         requires sint { sint < SINTS }
         requires zeros { bytes.old ≡ zeros 256 }
-        ensures { bytes.new ≡ slot_bytes (at self.now.mail sint) }
+        ensures bytes { bytes.new ≡ slot_bytes (at self.now.mail sint) }
+        ensures size { length bytes.new ≡ 256 }
     {
         let at = usize::from(sint);
         if at < self.queues.len() {

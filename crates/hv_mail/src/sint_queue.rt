@@ -1,5 +1,5 @@
 // What stands at one SINT: a ring of messages, of which the first may be shown.
-ghost use Rattle.std.specs.Prelude.{◌≡◌, ◌≤◌, ◌^◌, true, IfOk, OnOk};
+ghost use Rattle.std.specs.Prelude.{◌≡◌, ◌≤◌, ◌^◌, true, IfOk, OnOk, length};
 ghost use Rattle.hv_mail.specs.Mail.{no_mail, with_next, has_next, with_last, posted, cleared, count_at};
 ghost use Rattle.hv_defs.specs.Slot.{zeros};
 ghost use Rattle.hv_mail.specs.Slot.{is_some_of, slot_bytes};
@@ -125,7 +125,8 @@ impl<A: Allocator> SintQueue<A> {
     #[inline(always)]
     pub(crate) fn read_slot(&self, bytes: &mut [u8; 256])
         requires { bytes.old ≡ zeros 256 }
-        ensures { bytes.new ≡ slot_bytes self.now.mail }
+        ensures bytes { bytes.new ≡ slot_bytes self.now.mail }
+        ensures size { length bytes.new ≡ 256 }
     {
         if self.is_shown {
             let Some(message) = self.messages.front() else {

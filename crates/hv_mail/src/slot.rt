@@ -1,5 +1,5 @@
 // The bytes that a slot reads as.
-ghost use Rattle.std.specs.Prelude.{◌≡◌, Some, if◌then◌else◌};
+ghost use Rattle.std.specs.Prelude.{◌≡◌, Some, if◌then◌else◌, length};
 ghost use Rattle.hv_defs.specs.Slot.{zeros};
 ghost use Rattle.hv_mail.specs.Slot.{bytes_of};
 
@@ -10,7 +10,8 @@ use crate::message::Message;
 #[inline(always)]
 pub(crate) fn write_shown(message: &Message, is_pending: bool, bytes: &mut [u8; 256])
     requires { bytes.old ≡ zeros 256 }
-    ensures { bytes.new ≡ bytes_of (Some message.now) is_pending }
+    ensures bytes { bytes.new ≡ bytes_of (Some message.now) is_pending }
+    ensures size { length bytes.new ≡ 256 }
 {
     let payload = message.payload.as_slice();
     bytes[..4].copy_from_slice(&message.kind.to_le_bytes());

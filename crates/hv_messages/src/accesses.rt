@@ -31,10 +31,7 @@ pub fn read_slot<A: Allocator>(
     if u32::from(sint) >= SINTS {
         return Err(no_subject(tree, by));
     }
-    match slot(tree, by, sint, output) {
-        Ok(()) => Ok(()),
-        Err(rule) => Err(rule),
-    }
+    slot(tree, by, sint, output)
 }
 
 /// The message that one of the caller's SINTs shows is removed, if it shows one. None is shown in its place.
@@ -53,7 +50,6 @@ pub fn clear_slot<A: Allocator>(tree: &mut Partitions<A>, by: Caller, sint: u8) 
 }
 
 /// A read of the event flags of one of the caller's SINTs, in 256 bytes.
-#[inline(always)]
 pub fn read_flags<A: Allocator>(
     tree: &mut Partitions<A>,
     by: Caller,
@@ -67,10 +63,7 @@ pub fn read_flags<A: Allocator>(
     if u32::from(sint) >= SINTS {
         return Err(no_subject(tree, by));
     }
-    match flags(tree, by, sint, output) {
-        Ok(()) => Ok(()),
-        Err(rule) => Err(rule),
-    }
+    flags(tree, by, sint, output)
 }
 
 /// An event flag of one of the caller's SINTs is cleared.
@@ -106,7 +99,7 @@ pub fn take_interrupt<A: Allocator>(
 {
     match take(tree, by) {
         Ok(vector) => {
-            output.push_byte(vector);
+            output.put_byte(vector);
             Ok(())
         }
         Err(rule) => Err(rule),

@@ -141,9 +141,7 @@ pub fn slot<A: Allocator>(
         Ok(vp) => vp,
         Err(rule) => return Err(rule),
     };
-    let mut bytes = [0; 256];
-    vp.read_slot(sint, &mut bytes);
-    output.put_whole(&bytes);
+    vp.read_slot(sint, output.zeros());
     Ok(())
 }
 

@@ -221,6 +221,7 @@ impl<A: Allocator> Partition<A> {
     }
 
     /// The processor with this index, to be changed.
+    #[inline(always)]
     pub fn vp_mut(&mut self, index: u32) -> Option<&mut Vp<A>>
         ensures* writes_back { sem 𝓛 (LendsIf (the_row A.row A.Allocator) (vp_row A.row A.Allocator)
             self.entry result

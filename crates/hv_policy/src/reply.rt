@@ -1,6 +1,9 @@
 // What an event is answered.
-ghost use Rattle.std.specs.Prelude.{◌≡◌, ◌+◌, ◌≤◌, ◌++◌, [], ◌∷◌, length};
+ghost use Rattle.std.specs.Prelude.{◌≡◌, ◌+◌, ◌≤◌, ◌++◌, [], ◌∷◌, length, take};
 ghost use Rattle.std.specs.Int.{w64, to_le_bytes};
+ghost use Rattle.std.specs.Borrow.{Array, Lends, sem, u8};
+ghost use Rattle.hv_defs.specs.Slot.{zeros};
+ghost use Rattle.hv_policy.specs.contracts.reply.Output.{the_row};
 ghost use Rattle.hv_policy.specs.Parts.{reply_of};
 
 use crate::answer::Answer;
@@ -44,25 +47,6 @@ impl Output {
         self.len = 0;
     }
 
-    /// Adds a number as 8 bytes, the lowest first.
-    pub fn push_number(&mut self, number: u64)
-        requires { length self.old + 8 ≤ 256 }
-        ensures { self.new ≡ self.old ++ to_le_bytes w64 number }
-    {
-        self.push(&number.to_le_bytes());
-    }
-
-    // Adds these bytes.
-    #[inline(always)]
-    fn push(&mut self, bytes: &[u8])
-        requires { length self.old + length bytes.now ≤ 256 }
-        ensures { self.new ≡ self.old ++ bytes.now }
-    {
-        let end = self.len + bytes.len();
-        self.bytes[self.len..end].copy_from_slice(bytes);
-        self.len = end;
-    }
-
     /// Adds one byte.
     pub fn push_byte(&mut self, value: u8)
         requires { length self.old + 1 ≤ 256 }
@@ -78,16 +62,52 @@ impl Output {
         ensures { result ≡ bytes.now }
     {
         let mut own = Output::new();
-        own.push(bytes);
+        own.put(bytes);
         own
+    }
+
+    /// Takes one byte in place of its own.
+    #[inline(always)]
+    pub fn put_byte(&mut self, value: u8)
+        ensures { self.new ≡ value ∷ [] }
+    {
+        self.put(&[value]);
+    }
+
+    /// Takes a number's 8 bytes, the lowest first, in place of its own.
+    #[inline(always)]
+    pub fn put_number(&mut self, number: u64)
+        ensures { self.new ≡ to_le_bytes w64 number }
+    {
+        self.put(&number.to_le_bytes());
     }
 
     /// Takes the 256 bytes of a message slot, or of a SINT's event flags, in place of its own.
     pub fn put_whole(&mut self, bytes: &[u8; 256])
         ensures { self.new ≡ bytes.now }
     {
-        self.len = 0;
-        self.push(bytes);
+        self.put(bytes);
+    }
+
+    /// Takes 256 zeros in place of its own bytes, to be written over.
+    #[inline(always)]
+    pub fn zeros(&mut self) -> &mut [u8; 256]
+        ensures* writes_back { sem 𝓛 (Lends the_row (Array u8 0) self.entry result (λ bytes. take 256 bytes)) }
+        ensures value { result.now ≡ zeros 256 }
+    {
+        self.bytes = [0; 256];
+        self.len = 256;
+        &mut self.bytes
+    }
+
+    // Takes these bytes in place of its own.
+    #[inline(always)]
+    fn put(&mut self, bytes: &[u8])
+        requires { length bytes.now ≤ 256 }
+        ensures { self.new ≡ bytes.now }
+    {
+        self.bytes[..bytes.len()].copy_from_slice(bytes);
+        self.len = bytes.len();
     }
 
     /// The bytes.

@@ -26,7 +26,7 @@ pub fn read_msr<A: Allocator>(
 {
     match read_own(tree, by, name_of_msr(msr)) {
         Ok(value) => {
-            output.push_number(value);
+            output.put_number(value);
             Ok(())
         }
         Err(rule) => Err(rule),

@@ -108,18 +108,13 @@ fn own_vp<A: Allocator>(
     if caller.life() != Life::Active {
         return Err(Rule::CallerActive);
     }
-    match unmet_by_mask(caller.mask(), name) {
-        None => match caller.vp_mut(by.vp) {
-            Some(vp) => Ok(vp),
-            None => Err(Rule::CallerVpExists),
-        },
-        Some(rule) => {
-            if caller.vp(by.vp).is_some() {
-                Err(rule)
-            } else {
-                Err(Rule::CallerVpExists)
-            }
-        }
+    let mask = caller.mask();
+    let Some(vp) = caller.vp_mut(by.vp) else {
+        return Err(Rule::CallerVpExists);
+    };
+    match unmet_by_mask(mask, name) {
+        None => Ok(vp),
+        Some(rule) => Err(rule),
     }
 }
 

@@ -63,6 +63,7 @@ pub(crate) fn is_noted<T, A: Allocator>(nodes: &Nodes<T, A>, guesses: &Guesses, 
 }
 
 /// The place of the node with the id.
+#[inline(always)]
 pub(crate) fn place_of<T, A: Allocator>(
     nodes: &Nodes<T, A>,
     guesses: &Guesses,

@@ -176,6 +176,7 @@ impl<T, A: Allocator + Clone> IdTree<T, A> {
 
 impl<T: Drop, A: Allocator> IdTree<T, A> {
     /// The content of a node, to be changed in place. It takes no memory.
+    #[inline(always)]
     pub fn get_mut(&mut self, id: u64) -> Option<&mut T>
         ensures* writes_back { sem 𝓛 (LendsIf (the_row T.row A.row A.Allocator) T.row self.entry result
             (λ w. change self.old id (λ _. w)) self.old) }

@@ -1,5 +1,5 @@
 // A processor's messages, event flags and pending vectors.
-ghost use Rattle.std.specs.Prelude.{◌≡◌, ◌<◌, true, IsOk, OnOk, OnErr};
+ghost use Rattle.std.specs.Prelude.{◌≡◌, ◌<◌, true, IsOk, OnOk, OnErr, length};
 ghost use Rattle.hv_defs.specs.Flags.{flag_bytes};
 ghost use Rattle.hv_defs.specs.Slot.{zeros};
 ghost use Rattle.hv_defs.specs.Vectors.{highest};
@@ -64,7 +64,8 @@ impl<A: Allocator> Vp<A> {
     pub fn read_slot(&self, sint: u8, bytes: &mut [u8; 256])
         requires sint { sint < SINTS }
         requires zeros { bytes.old ≡ zeros 256 }
-        ensures { bytes.new ≡ slot_bytes (at self.now.mail sint) }
+        ensures bytes { bytes.new ≡ slot_bytes (at self.now.mail sint) }
+        ensures size { length bytes.new ≡ 256 }
     {
         self.mailbox.read_slot(sint, bytes);
     }
@@ -96,6 +97,7 @@ impl<A: Allocator> Vp<A> {
     }
 
     /// Removes the highest of the vectors that wait and returns it, or returns `None` where none waits.
+    #[inline(always)]
     pub fn take_interrupt(&mut self) -> Option<u8>
         ensures vector { result ≡ highest self.old.pending }
         ensures state { self.new ≡ interrupted self.old }

@@ -56,6 +56,7 @@ impl<A: Allocator> Vps<A> {
     }
 
     /// The processor with this index.
+    #[inline(always)]
     pub fn get(&self, index: u32) -> Option<&Vp<A>>
         ensures { option_copied result ≡ map.get self.now.vps index }
     {
@@ -66,6 +67,7 @@ impl<A: Allocator> Vps<A> {
     }
 
     /// The processor with this index, to be changed.
+    #[inline(always)]
     pub fn get_mut(&mut self, index: u32) -> Option<&mut Vp<A>>
         ensures* writes_back { sem 𝓛 (LendsIf (the_row A.row A.Allocator)
             (vp_row A.row A.Allocator) self.entry result
