@@ -141,7 +141,6 @@ fn put_call_line(
 }
 
 // An access as an action.
-#[inline(always)]
 fn action_of(access: Access) -> Action<Global>
     ensures { result ≡ action_by access }
 {

@@ -29,9 +29,51 @@ use hv_text::Scratch;
 use std::alloc::Global;
 use std::mem::replace;
 
-// Lets the machine of a handle take an access.
+// Lets the machine of a handle take an access. Where no line is asked for, nothing is kept for one on the way.
 #[inline(always)]
 pub(crate) fn take_access(
+    alloc: Global,
+    machine: &mut HvMachine,
+    by: HvCaller,
+    access: Access,
+    reply: &mut HvReply,
+    line: &mut [u8],
+) -> u32
+    ensures taken { result ≡ DONE
+        → IsTaken (event_by by (action_of access)) machine.old machine.new reply.new line.new }
+    ensures kept { result ≢ DONE → IsAsBefore machine.old machine.new }
+    ensures unwritten { result ≢ DONE → (reply.new ≡ reply.old) × (line.new ≡ line.old) }
+    ensures status { result ≡ readiness machine.old (length line.old) }
+{
+    if line.is_empty() {
+        take_access_with(alloc, machine, by, access, reply, &mut [])
+    } else {
+        take_access_told(alloc, machine, by, access, reply, line)
+    }
+}
+
+// The same with a line. Not inlined, since one function serves all accesses.
+#[inline(never)]
+fn take_access_told(
+    alloc: Global,
+    machine: &mut HvMachine,
+    by: HvCaller,
+    access: Access,
+    reply: &mut HvReply,
+    line: &mut [u8],
+) -> u32
+    ensures taken { result ≡ DONE
+        → IsTaken (event_by by (action_of access)) machine.old machine.new reply.new line.new }
+    ensures kept { result ≢ DONE → IsAsBefore machine.old machine.new }
+    ensures unwritten { result ≢ DONE → (reply.new ≡ reply.old) × (line.new ≡ line.old) }
+    ensures status { result ≡ readiness machine.old (length line.old) }
+{
+    take_access_with(alloc, machine, by, access, reply, line)
+}
+
+// Lets the machine of a handle take an access, with a line where the buffer has bytes.
+#[inline(always)]
+fn take_access_with(
     alloc: Global,
     machine: &mut HvMachine,
     by: HvCaller,
