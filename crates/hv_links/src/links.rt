@@ -9,8 +9,9 @@ ghost use Rattle.hv_tie.specs.Tie.{IsTied};
 
 use crate::rows::{add_conn, add_port, remove_conn, remove_port};
 use crate::rules::{born_of, has_conn, has_port, is_kind, is_peer, is_there};
+use hv_calls::Call;
 use hv_defs::{Aim, CONNECTION_CHARGE, PORT_CHARGE, PortKind};
-use hv_policy::{CallOutput, Rule, States};
+use hv_policy::{CallOutput, Rule, needs};
 use hv_ports::{Conn, Port};
 use hv_tie::{Partitions, Refused, has_available, has_target, is_state_allowed, meant};
 use std::alloc::{AllocError, Allocator};
@@ -79,7 +80,18 @@ fn unmet_create<A: Allocator>(
         new.base new.count) }
 {
     let target = meant(caller, partition);
-    if !is_state_allowed(tree, target, States::Active) {
+    let states = needs(&Call::CreatePort {
+        partition,
+        port: new.port,
+        peer: new.peer,
+        kind: new.kind,
+        sint: new.sint,
+        vp: new.vp,
+        base: new.base,
+        count: new.count,
+    })
+    .states;
+    if !is_state_allowed(tree, target, states) {
         return Some(Rule::TargetState);
     }
     if !is_there(tree, meant(caller, new.peer)) {
@@ -119,7 +131,7 @@ pub fn delete_port<A: Allocator>(
         → IsOutcome f caller (call.DeletePort partition port) tree.old result tree.new }
 {
     let target = meant(caller, partition);
-    if !is_state_allowed(tree, target, States::Active) {
+    if !is_state_allowed(tree, target, needs(&Call::DeletePort { partition, port }).states) {
         return Err(Refused::Unmet(Rule::TargetState));
     }
     if !has_port(tree, target, port) {
@@ -186,7 +198,15 @@ fn unmet_connect<A: Allocator>(
 {
     let target = meant(caller, partition);
     let part = meant(caller, port_partition);
-    if !is_state_allowed(tree, target, States::Active) {
+    let states = needs(&Call::ConnectPort {
+        partition,
+        connection,
+        port_partition,
+        port,
+        kind,
+    })
+    .states;
+    if !is_state_allowed(tree, target, states) {
         return Some(Rule::TargetState);
     }
     if !is_there(tree, part) {
@@ -222,7 +242,12 @@ pub fn disconnect_port<A: Allocator>(
         → IsOutcome f caller (call.DisconnectPort partition connection) tree.old result tree.new }
 {
     let target = meant(caller, partition);
-    if !is_state_allowed(tree, target, States::Active) {
+    let states = needs(&Call::DisconnectPort {
+        partition,
+        connection,
+    })
+    .states;
+    if !is_state_allowed(tree, target, states) {
         return Err(Refused::Unmet(Rule::TargetState));
     }
     if !has_conn(tree, target, connection) {
