@@ -60,7 +60,11 @@ pub fn initialize_partition<A: Allocator>(
         → IsOutcome f caller (call.InitializePartition partition) tree.old result tree.new }
 {
     let target = meant(caller, partition);
-    if !is_state_allowed(tree, target, needs(&Call::InitializePartition { partition }).states) {
+    if !is_state_allowed(
+        tree,
+        target,
+        needs(&Call::InitializePartition { partition }).states,
+    ) {
         return Err(Refused::Unmet(Rule::TargetState));
     }
     initialize(tree, target);
@@ -90,7 +94,11 @@ fn unmet_finalize<A: Allocator>(tree: &Partitions<A>, caller: u64, partition: u6
         ≡ unmet_further f caller (call.FinalizePartition partition) }
 {
     let target = meant(caller, partition);
-    if !is_state_allowed(tree, target, needs(&Call::FinalizePartition { partition }).states) {
+    if !is_state_allowed(
+        tree,
+        target,
+        needs(&Call::FinalizePartition { partition }).states,
+    ) {
         return Some(Rule::TargetState);
     }
     if !is_childless(tree, target) {
@@ -110,7 +118,11 @@ pub fn delete_partition<A: Allocator>(
         → IsOutcome f caller (call.DeletePartition partition) tree.old result tree.new }
 {
     let target = meant(caller, partition);
-    if !is_state_allowed(tree, target, needs(&Call::DeletePartition { partition }).states) {
+    if !is_state_allowed(
+        tree,
+        target,
+        needs(&Call::DeletePartition { partition }).states,
+    ) {
         return Err(Refused::Unmet(Rule::TargetState));
     }
     match delete(tree, caller, target) {

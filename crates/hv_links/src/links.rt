@@ -80,27 +80,36 @@ fn unmet_create<A: Allocator>(
         new.base new.count) }
 {
     let target = meant(caller, partition);
+    let NewPort {
+        port,
+        peer,
+        kind,
+        sint,
+        vp,
+        base,
+        count,
+    } = new;
     let states = needs(&Call::CreatePort {
         partition,
-        port: new.port,
-        peer: new.peer,
-        kind: new.kind,
-        sint: new.sint,
-        vp: new.vp,
-        base: new.base,
-        count: new.count,
+        port,
+        peer,
+        kind,
+        sint,
+        vp,
+        base,
+        count,
     })
     .states;
     if !is_state_allowed(tree, target, states) {
         return Some(Rule::TargetState);
     }
-    if !is_there(tree, meant(caller, new.peer)) {
+    if !is_there(tree, meant(caller, peer)) {
         return Some(Rule::OtherExists);
     }
-    if has_port(tree, target, new.port) {
+    if has_port(tree, target, port) {
         return Some(Rule::Port);
     }
-    if !has_target(tree, target, new.vp) {
+    if !has_target(tree, target, vp) {
         return Some(Rule::VpExists);
     }
     if !has_available(tree, target, PORT_CHARGE) {
@@ -131,7 +140,11 @@ pub fn delete_port<A: Allocator>(
         → IsOutcome f caller (call.DeletePort partition port) tree.old result tree.new }
 {
     let target = meant(caller, partition);
-    if !is_state_allowed(tree, target, needs(&Call::DeletePort { partition, port }).states) {
+    if !is_state_allowed(
+        tree,
+        target,
+        needs(&Call::DeletePort { partition, port }).states,
+    ) {
         return Err(Refused::Unmet(Rule::TargetState));
     }
     if !has_port(tree, target, port) {

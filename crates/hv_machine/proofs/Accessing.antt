@@ -82,7 +82,7 @@ module _ (A : Type 0) (tree new : Rows PartitionState) (pages next served : ℕ)
       answered (access_event {A = A} by access) (state_of tree pages next served) l (Served output) (state_of new pages next (served + 1))
       (accessed_lasting l (met l.flat l.stands) (done l.flat (tied l.flat l.stands)).1.rows) refl
       (λ f flat. let step_is = served_access A f by access (met f flat) in
-          ((done f (tied f flat)).1.reply ∙ sym (ap (λ s. s.1) step_is), subst (IsFlat (state_of new pages next (served + 1))) (sym (ap (λ s. s.0) step_is)) (accessed_flat f flat (done f (tied f flat)).1.rows)))
+      ((done f (tied f flat)).1.reply ∙ sym (ap (λ s. s.1) step_is), subst (IsFlat (state_of new pages next (served + 1))) (sym (ap (λ s. s.0) step_is)) (accessed_flat f flat (done f (tied f flat)).1.rows)))
 
   pub refused_step : IsLasting (state_of tree pages next served) → (rule : Rule) → ((f : Flat) → IsTied tree f → IsAnswered {A = A} f by (action_of access) tree (Err rule) new)
       → IsStep {A = A} (access_event by access) (state_of tree pages next served) (Ok (Fault rule)) (state_of new pages next served)

@@ -90,8 +90,10 @@ module _ {A : Type 0} (by : Caller) (frame : Frame A) (old : State) (was : IsLas
   served_call reply bytes new done told now pages =
       let at = λ (f : Flat) (flat : IsFlat old f). ap (step_by f (call_event by frame)) (further f flat ∙ (done f flat).met) in
       answered (call_event by frame) old was reply new now pages
-      (λ f flat. (told ∙ ap (reply_with frame) ((done f flat).output ∙ ap (output_of f by.part) (sym is.called)) ∙ sym (ap (λ s. s.1) (at f flat)),
-       subst (IsFlat new) (sym (ap (λ s. s.0) (at f flat) ∙ ap (λ call. counted (served_effect f by.part call)) is.called)) (done f flat).flat))
+      (λ f flat. (
+        told ∙ ap (reply_with frame) ((done f flat).output ∙ ap (output_of f by.part) (sym is.called)) ∙ sym (ap (λ s. s.1) (at f flat)),
+        subst (IsFlat new) (sym (ap (λ s. s.0) (at f flat) ∙ ap (λ call. counted (served_effect f by.part call)) is.called)) (done f flat).flat,
+      ))
 
   -- or refused it
   pub denied_call : (rule : Rule) (reply : Reply) (new : State) → ((f : Flat) → IsFlat old f → IsResult f by.part call old (Err (refused.Unmet rule)) new) → reply ≡ refusal (Hypercall frame) rule

@@ -50,7 +50,11 @@ fn unmet_create<A: Allocator>(
     ensures { (f : Flat) → IsTied tree.now f → result ≡ unmet_further f caller (call.CreateVp partition vp) }
 {
     let target = meant(caller, partition);
-    if !is_state_allowed(tree, target, needs(&Call::CreateVp { partition, vp }).states) {
+    if !is_state_allowed(
+        tree,
+        target,
+        needs(&Call::CreateVp { partition, vp }).states,
+    ) {
         return Some(Rule::TargetState);
     }
     if !is_vp_free(tree, target, vp) {
@@ -74,7 +78,11 @@ pub fn delete_vp<A: Allocator>(
         → IsOutcome f caller (call.DeleteVp partition vp) tree.old result tree.new }
 {
     let target = meant(caller, partition);
-    if !is_state_allowed(tree, target, needs(&Call::DeleteVp { partition, vp }).states) {
+    if !is_state_allowed(
+        tree,
+        target,
+        needs(&Call::DeleteVp { partition, vp }).states,
+    ) {
         return Err(Refused::Unmet(Rule::TargetState));
     }
     if !has_vp(tree, target, vp) {
@@ -114,7 +122,12 @@ fn unmet_get<A: Allocator>(
     ensures { (f : Flat) → IsTied tree.now f → result
         ≡ unmet_further f caller (call.GetVpRegisters partition vp name) }
 {
-    let states = needs(&Call::GetVpRegisters { partition, vp, name }).states;
+    let states = needs(&Call::GetVpRegisters {
+        partition,
+        vp,
+        name,
+    })
+    .states;
     if let Some(rule) = unmet_register(tree, caller, partition, vp, name, states) {
         return Some(rule);
     }
