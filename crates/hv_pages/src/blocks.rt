@@ -13,7 +13,11 @@ use arrayvec::ArrayVec;
 use crate::runs::Run;
 use std::alloc::{AllocError, Allocator};
 
-type Block = ArrayVec<Run, 256>;
+// How many runs a block has at most, and half as many.
+const FULL: usize = 256;
+const HALF: usize = 128;
+
+type Block = ArrayVec<Run, FULL>;
 
 // Where a run stands: in which block, and where in that.
 #[derive(Clone, Copy, Drop)]
@@ -67,10 +71,10 @@ fn split<A: Allocator>(blocks: &mut Vec<Block, A>, at: usize)
     ensures capacity { vec_capacity blocks.new ≡ vec_capacity blocks.old }
 {
     let mut lower: Block = ArrayVec::new();
-    let Ok(()) = lower.try_extend_from_slice(&blocks[at][128..]) else {
+    let Ok(()) = lower.try_extend_from_slice(&blocks[at][HALF..]) else {
         unreachable!()
     };
-    blocks[at].truncate(128);
+    blocks[at].truncate(HALF);
     insert_block(blocks, at + 1, lower);
 }
 
@@ -270,13 +274,13 @@ impl<A: Allocator> Blocks<A> {
         }
         let capacity = self.blocks.capacity();
         let spare = capacity - self.blocks.len();
-        let wanted = (more - self.room).div_ceil(128);
+        let wanted = (more - self.room).div_ceil(HALF);
         let Some(additional) = spare.checked_add(wanted) else {
             return Err(AllocError);
         };
         self.blocks.reserve(additional)?;
         let grown = self.blocks.capacity() - capacity;
-        self.room = self.room.saturating_add(grown.saturating_mul(128));
+        self.room = self.room.saturating_add(grown.saturating_mul(HALF));
         Ok(())
     }
 
@@ -310,7 +314,7 @@ impl<A: Allocator> Blocks<A> {
     {
         self.blocks.remove(block);
         if self.blocks.len() >= 1 {
-            self.room = self.room.saturating_add(128);
+            self.room = self.room.saturating_add(HALF);
         }
     }
 
@@ -326,7 +330,7 @@ impl<A: Allocator> Blocks<A> {
         ensures room { self.old.room ≤ self.new.room }
         ensures len { vec_len self.new.blocks ≡ vec_len self.old.blocks }
     {
-        if self.blocks[block].len() > 128 {
+        if self.blocks[block].len() > HALF {
             self.room = self.room.saturating_add(1);
         }
         self.blocks[block].remove(at);
@@ -342,9 +346,9 @@ impl<A: Allocator> Blocks<A> {
         ensures len { vec_len self.old.blocks ≤ vec_len self.new.blocks + 1 }
     {
         let next = block + 1;
-        if next < self.blocks.len() && self.blocks[block].len() + self.blocks[next].len() <= 128 {
+        if next < self.blocks.len() && self.blocks[block].len() + self.blocks[next].len() <= HALF {
             join(&mut self.blocks, block);
-            self.room = self.room.saturating_add(128);
+            self.room = self.room.saturating_add(HALF);
         }
     }
 
@@ -382,17 +386,17 @@ impl<A: Allocator> Blocks<A> {
         ensures room { self.old.room ≤ self.new.room + 1 }
     {
         let len = self.blocks[block].len();
-        if len < 256 {
+        if len < FULL {
             insert_into(&mut self.blocks, block, at, run);
-            if len >= 128 {
+            if len >= HALF {
                 self.room -= 1;
             }
         } else {
             split(&mut self.blocks, block);
-            if at <= 128 {
+            if at <= HALF {
                 insert_into(&mut self.blocks, block, at, run);
             } else {
-                insert_into(&mut self.blocks, block + 1, at - 128, run);
+                insert_into(&mut self.blocks, block + 1, at - HALF, run);
             }
             self.room -= 1;
         }
