@@ -1,12 +1,12 @@
 -- Lists of blocks: their runs and their weight, where one block is changed, halved or taken out.
 use Rattle.std.proofs.Common.{◌≡◌, ℕ, zero, suc, ◌+◌, ◌-◌, ◌*◌, ◌<◌, ◌≤◌, List, [], ◌∷◌, ◌++◌, length, get_or, set as list_set, take, drop, arith, refl, ap, sym, subst, ◌∙◌, append_assoc, drop-cons, length-append, length-drop}
-use Rattle.std.specs.Prelude.{All, max}
-use Rattle.std.specs.List.{insert as list_insert, remove as list_remove, flat_map, sum_by}
-use Rattle.std.proofs.Math.Seq.{take-append_seam, drop-append_seam, get_or-append_seam, take-append-add}
+use Rattle.std.specs.Prelude.{All}
+use Rattle.std.specs.List.{insert as list_insert, remove as list_remove}
+use Rattle.std.proofs.Math.Seq.{take-append_seam, get_or-append_seam, take-append-add}
 use Rattle.std.proofs.lemmas.Grind.{flat_map-append}
-use Rattle.std.proofs.lemmas.List.{take_more_set, drop-set-lt, append-nil, take-append-drop, set_split, length-take-le, get_or-append-add, get_or_append_left}
+use Rattle.std.proofs.lemmas.List.{take_more_set, drop-set-lt, append-nil, take-append-drop, set_split, length-take-le, get_or-append-add}
 use Rattle.std.proofs.lemmas.List.Edits.{length-insert, length-remove, insert-append_left, insert-append_right, remove-append_left, remove-append_right}
-use Rattle.std.proofs.lemmas.List.Elements.{All-append, All-cons, All-head, All-tail, All-nil, All-set, All-take, All-drop}
+use Rattle.std.proofs.lemmas.List.Elements.{All-append, All-cons, All-set, All-take, All-drop}
 use Rattle.std.proofs.lemmas.List.Sums.{sum_by-cons, sum_by-append}
 use Rattle.hv_pages.specs.declared.runs.Run.{Run}
 use Rattle.arrayvec.specs.ArrayVec.{with_items}

@@ -1,35 +1,40 @@
-// Runs of pages in blocks of at most 256, so that a run that comes or goes moves few others.
+// Runs of pages in blocks. A run that comes or goes moves the runs of one block. A block that fills up
+// becomes two, and two neighbors that fit in half a block become one.
 ghost use Rattle.std.specs.Prelude.{◌≡◌, ℕ, ◌+◌, ◌-◌, ◌*◌, ◌<◌, ◌≤◌, ◌++◌, ◌∷◌, [], ◌↔◌};
-ghost use Rattle.std.specs.Prelude.{length, take, drop, All, vec_len, slice_index_or, slice_set, IsOk, OnOk, OnErr, IsNone, IfNone, IfSome};
+ghost use Rattle.std.specs.Prelude.{length, take, drop, All, vec_len, slice_index_or, slice_set};
+ghost use Rattle.std.specs.Prelude.{IsOk, OnOk, OnErr, IsNone, IfNone, IfSome};
 ghost use Rattle.std.specs.List.{insert, remove};
 ghost use Rattle.std.specs.Vec.{vec_capacity};
 ghost use Rattle.arrayvec.specs.ArrayVec.{ArrayVec as Items};
 ghost use Rattle.hv_pages.specs.declared.runs.Run.{Run as ARun};
 ghost use Rattle.hv_pages.specs.declared.blocks.Place.{Place as APlace};
-ghost use Rattle.hv_pages.specs.Blocks.{Block as ABlock, AreBlocks, IsPlace, IsPlaceOrEnd, before, flat, lowest_of};
+ghost use Rattle.hv_pages.specs.Blocks.{Block as ABlock, flat, lowest_of};
+ghost use Rattle.hv_pages.specs.Blocks.{AreBlocks, HasPlace, HasRun, index_of, run_at, runs_above, runs_from, runs_in};
 ghost use Rattle.hv_pages.specs.Runs.{AreRuns};
 
-use arrayvec::ArrayVec;
 use crate::runs::Run;
+use arrayvec::ArrayVec;
 use std::alloc::{AllocError, Allocator};
 
-// How many runs a block has at most, and half as many.
+// The most runs of a block, and half of them.
 const FULL: usize = 256;
+
 const HALF: usize = 128;
 
 type Block = ArrayVec<Run, FULL>;
 
-// Where a run stands: in which block, and where in that.
+// Where a run stands: in which block, and where in the block.
 #[derive(Clone, Copy, Drop)]
 pub(crate) struct Place {
     pub(crate) block: usize,
     pub(crate) at: usize,
 }
 
+// The room is how many more runs are sure to find a place.
+// proof: it is a field, since no contract of `Vec` says that 128 times a capacity fits a `usize`.
 #[derive(Drop)]
 pub(crate) struct Blocks<A: Allocator> {
     pub(crate) blocks: Vec<Block, A>,
-    // How many more runs are sure to find their place.
     pub(crate) room: usize,
 }
 
@@ -46,7 +51,8 @@ fn insert_into<A: Allocator>(blocks: &mut Vec<Block, A>, block: usize, at: usize
     blocks[block].insert(at, run);
 }
 
-// Puts a block in at a place, where the blocks from there on make way.
+// Puts a block in at a place. The blocks from there on turn by one place, which the compiler makes one move of
+// memory. Of `Vec::insert` it would make a loop.
 fn insert_block<A: Allocator>(blocks: &mut Vec<Block, A>, at: usize, block: Block)
     requires room { vec_len blocks.old < vec_capacity blocks.old }
     requires within { at ≤ vec_len blocks.old }
@@ -58,7 +64,7 @@ fn insert_block<A: Allocator>(blocks: &mut Vec<Block, A>, at: usize, block: Bloc
     blocks[at..].rotate_right(1);
 }
 
-// Makes two halves of a full block.
+// Makes two blocks of a full one.
 fn split<A: Allocator>(blocks: &mut Vec<Block, A>, at: usize)
     requires at { at < vec_len blocks.old }
     requires full { (b : ABlock) → length (slice_index_or blocks.old.items at b).items ≡ 256 }
@@ -84,7 +90,10 @@ fn join<A: Allocator>(blocks: &mut Vec<Block, A>, at: usize)
     requires few { (b : ABlock) → length (slice_index_or blocks.old.items at b).items
         + length (slice_index_or blocks.old.items (at + 1) b).items ≤ 128 }
     ensures items { (b : ABlock) → blocks.new.items ≡ take at blocks.old.items
-        ++ record { items = (slice_index_or blocks.old.items at b).items ++ (slice_index_or blocks.old.items (at + 1) b).items }
+        ++ record {
+          items = (slice_index_or blocks.old.items at b).items
+              ++ (slice_index_or blocks.old.items (at + 1) b).items;
+        }
         ∷ drop (at + 2) blocks.old.items }
     ensures len { vec_len blocks.new + 1 ≡ vec_len blocks.old }
     ensures capacity { vec_capacity blocks.new ≡ vec_capacity blocks.old }
@@ -95,7 +104,7 @@ fn join<A: Allocator>(blocks: &mut Vec<Block, A>, at: usize)
     };
 }
 
-// How many of the runs begin above the page.
+// How many runs begin above the page.
 fn search(runs: &[Run], page: u32) -> usize
     ensures bound { result ≤ length runs.now }
     ensures above { (r : ARun) → 1 ≤ result → page < (slice_index_or runs.now (result - 1) r).first }
@@ -113,12 +122,15 @@ fn search(runs: &[Run], page: u32) -> usize
     low
 }
 
-// How many of the blocks have runs above the page alone.
+// How many blocks have only runs that begin above the page.
 fn search_blocks(blocks: &[Block], page: u32) -> usize
-    requires { (k : ℕ) (b : ABlock) → k < length blocks.now → 1 ≤ length (slice_index_or blocks.now k b).items }
+    requires { (k : ℕ) (b : ABlock) → k < length blocks.now
+        → 1 ≤ length (slice_index_or blocks.now k b).items }
     ensures bound { result ≤ length blocks.now }
-    ensures above { (b : ABlock) (r : ARun) → 1 ≤ result → page < (lowest_of (slice_index_or blocks.now (result - 1) b) r).first }
-    ensures from { (b : ABlock) (r : ARun) → result < length blocks.now → (lowest_of (slice_index_or blocks.now result b) r).first ≤ page }
+    ensures above { (b : ABlock) (r : ARun) → 1 ≤ result
+        → page < (lowest_of (slice_index_or blocks.now (result - 1) b) r).first }
+    ensures from { (b : ABlock) (r : ARun) → result < length blocks.now
+        → (lowest_of (slice_index_or blocks.now result b) r).first ≤ page }
 {
     let (mut low, mut high) = (0, blocks.len());
     while low < high {
@@ -137,10 +149,10 @@ impl<A: Allocator> Blocks<A> {
     // The place of the first run that begins at the page or below.
     pub(crate) fn find(&self, page: u32) -> Place
         requires blocks { AreBlocks self.now }
-        requires runs { AreRuns (flat self.now.blocks.items) }
-        ensures place { IsPlaceOrEnd self.now.blocks.items result }
-        ensures above { All (λ (run : ARun). page < run.first) (take (before self.now.blocks.items result) (flat self.now.blocks.items)) }
-        ensures from { All (λ (run : ARun). run.first ≤ page) (drop (before self.now.blocks.items result) (flat self.now.blocks.items)) }
+        requires runs { AreRuns (runs_in self.now) }
+        ensures place { HasPlace self.now result }
+        ensures above { All (λ (run : ARun). page < run.first) (runs_above self.now result) }
+        ensures from { All (λ (run : ARun). run.first ≤ page) (runs_from self.now result) }
     {
         let block = search_blocks(&self.blocks, page);
         if block < self.blocks.len() {
@@ -154,10 +166,10 @@ impl<A: Allocator> Blocks<A> {
     // The run at a place, or `None` at the end.
     pub(crate) fn get(&self, place: Place) -> Option<Run>
         requires blocks { AreBlocks self.now }
-        requires place { IsPlaceOrEnd self.now.blocks.items place }
-        ensures none { IsNone result ↔ (length (flat self.now.blocks.items) ≤ before self.now.blocks.items place) }
-        ensures some { IfSome result (λ run. IsPlace self.now.blocks.items place
-            × ((r : ARun) → run ≡ slice_index_or (flat self.now.blocks.items) (before self.now.blocks.items place) r)) }
+        requires place { HasPlace self.now place }
+        ensures none { IsNone result ↔ (length (runs_in self.now) ≤ index_of self.now place) }
+        ensures some { IfSome result (λ run. HasRun self.now place
+            × ((r : ARun) → run ≡ run_at self.now place r)) }
     {
         if place.block < self.blocks.len() {
             Some(self.blocks[place.block][place.at])
@@ -169,19 +181,19 @@ impl<A: Allocator> Blocks<A> {
     // The run at a place.
     pub(crate) fn read(&self, place: Place) -> Run
         requires blocks { AreBlocks self.now }
-        requires place { IsPlace self.now.blocks.items place }
-        ensures { (r : ARun) → result ≡ slice_index_or (flat self.now.blocks.items) (before self.now.blocks.items place) r }
+        requires place { HasRun self.now place }
+        ensures { (r : ARun) → result ≡ run_at self.now place r }
     {
         self.blocks[place.block][place.at]
     }
 
-    // The place before, or `None` at the first.
+    // The place of the run before, or `None` at the first run.
     pub(crate) fn upper(&self, place: Place) -> Option<Place>
         requires blocks { AreBlocks self.now }
-        requires place { IsPlaceOrEnd self.now.blocks.items place }
-        ensures none { IfNone result (before self.now.blocks.items place ≡ 0) }
-        ensures some { IfSome result (λ upper. IsPlace self.now.blocks.items upper
-            × (before self.now.blocks.items upper + 1 ≡ before self.now.blocks.items place)) }
+        requires place { HasPlace self.now place }
+        ensures none { IfNone result (index_of self.now place ≡ 0) }
+        ensures some { IfSome result (λ upper. HasRun self.now upper
+            × (index_of self.now upper + 1 ≡ index_of self.now place)) }
     {
         if place.at > 0 {
             Some(Place {
@@ -198,12 +210,12 @@ impl<A: Allocator> Blocks<A> {
         }
     }
 
-    // The place behind.
+    // The place of the run behind, or the end.
     pub(crate) fn next(&self, place: Place) -> Place
         requires blocks { AreBlocks self.now }
-        requires place { IsPlace self.now.blocks.items place }
-        ensures place { IsPlaceOrEnd self.now.blocks.items result }
-        ensures next { before self.now.blocks.items result ≡ before self.now.blocks.items place + 1 }
+        requires place { HasRun self.now place }
+        ensures place { HasPlace self.now result }
+        ensures next { index_of self.now result ≡ index_of self.now place + 1 }
     {
         if place.at + 1 < self.blocks[place.block].len() {
             Place {
@@ -218,12 +230,12 @@ impl<A: Allocator> Blocks<A> {
         }
     }
 
-    // The place of the last run.
+    // The place of the last run, or `None` where there is no run.
     pub(crate) fn last(&self) -> Option<Place>
         requires blocks { AreBlocks self.now }
-        ensures none { IsNone result ↔ (length (flat self.now.blocks.items) ≡ 0) }
-        ensures some { IfSome result (λ place. IsPlace self.now.blocks.items place
-            × (before self.now.blocks.items place + 1 ≡ length (flat self.now.blocks.items))) }
+        ensures none { IsNone result ↔ (length (runs_in self.now) ≡ 0) }
+        ensures some { IfSome result (λ place. HasRun self.now place
+            × (index_of self.now place + 1 ≡ length (runs_in self.now))) }
     {
         let blocks = self.blocks.len();
         if blocks == 0 {
@@ -238,12 +250,12 @@ impl<A: Allocator> Blocks<A> {
     // Writes another run at a place.
     pub(crate) fn set(&mut self, place: Place, run: Run)
         requires blocks { AreBlocks self.old }
-        requires place { IsPlace self.old.blocks.items place }
+        requires place { HasRun self.old place }
         ensures blocks { AreBlocks self.new }
-        ensures runs { flat self.new.blocks.items ≡ slice_set (flat self.old.blocks.items) (before self.old.blocks.items place) run }
+        ensures runs { runs_in self.new ≡ slice_set (runs_in self.old) (index_of self.old place) run }
         ensures room { self.new.room ≡ self.old.room }
-        ensures places { (other : APlace) → IsPlace self.old.blocks.items other → IsPlace self.new.blocks.items other
-            × (before self.new.blocks.items other ≡ before self.old.blocks.items other) }
+        ensures places { (other : APlace) → HasRun self.old other → HasRun self.new other
+            × (index_of self.new other ≡ index_of self.old other) }
     {
         self.blocks[place.block][place.at] = run;
     }
@@ -284,12 +296,13 @@ impl<A: Allocator> Blocks<A> {
         Ok(())
     }
 
-    // Takes out the run at a place. A block that has no other run goes.
+    // Takes out the run at a place. A block that has no other run goes, and a block that has become small joins
+    // a neighbor, so that few runs never take many blocks.
     pub(crate) fn remove(&mut self, place: Place)
         requires blocks { AreBlocks self.old }
-        requires place { IsPlace self.old.blocks.items place }
+        requires place { HasRun self.old place }
         ensures blocks { AreBlocks self.new }
-        ensures runs { flat self.new.blocks.items ≡ remove (flat self.old.blocks.items) (before self.old.blocks.items place) }
+        ensures runs { runs_in self.new ≡ remove (runs_in self.old) (index_of self.old place) }
         ensures room { self.old.room ≤ self.new.room }
     {
         if self.blocks[place.block].len() == 1 {
@@ -309,7 +322,8 @@ impl<A: Allocator> Blocks<A> {
         requires block { block < vec_len self.old.blocks }
         requires one { (b : ABlock) → length (slice_index_or self.old.blocks.items block b).items ≡ 1 }
         ensures blocks { AreBlocks self.new }
-        ensures runs { flat self.new.blocks.items ≡ remove (flat self.old.blocks.items) (length (flat (take block self.old.blocks.items))) }
+        ensures runs { runs_in self.new
+            ≡ remove (runs_in self.old) (length (flat (take block self.old.blocks.items))) }
         ensures room { self.old.room ≤ self.new.room }
     {
         self.blocks.remove(block);
@@ -325,8 +339,8 @@ impl<A: Allocator> Blocks<A> {
         requires at { (b : ABlock) → at < length (slice_index_or self.old.blocks.items block b).items }
         requires more { (b : ABlock) → 1 < length (slice_index_or self.old.blocks.items block b).items }
         ensures blocks { AreBlocks self.new }
-        ensures runs { flat self.new.blocks.items
-            ≡ remove (flat self.old.blocks.items) (length (flat (take block self.old.blocks.items)) + at) }
+        ensures runs { runs_in self.new
+            ≡ remove (runs_in self.old) (length (flat (take block self.old.blocks.items)) + at) }
         ensures room { self.old.room ≤ self.new.room }
         ensures len { vec_len self.new.blocks ≡ vec_len self.old.blocks }
     {
@@ -336,12 +350,12 @@ impl<A: Allocator> Blocks<A> {
         self.blocks[block].remove(at);
     }
 
-    // Joins a block with the next one, if both fit in half a block.
+    // Joins a block with the next one if both fit in half a block.
     fn join_next(&mut self, block: usize)
         requires blocks { AreBlocks self.old }
         requires block { block < vec_len self.old.blocks }
         ensures blocks { AreBlocks self.new }
-        ensures runs { flat self.new.blocks.items ≡ flat self.old.blocks.items }
+        ensures runs { runs_in self.new ≡ runs_in self.old }
         ensures room { self.old.room ≤ self.new.room }
         ensures len { vec_len self.old.blocks ≤ vec_len self.new.blocks + 1 }
     {
@@ -352,13 +366,13 @@ impl<A: Allocator> Blocks<A> {
         }
     }
 
-    // Puts a run in before the one at a place.
+    // Puts a run in at a place, before the one that stands there.
     pub(crate) fn insert(&mut self, place: Place, run: Run)
         requires blocks { AreBlocks self.old }
         requires room { 1 ≤ self.old.room }
-        requires place { IsPlaceOrEnd self.old.blocks.items place }
+        requires place { HasPlace self.old place }
         ensures blocks { AreBlocks self.new }
-        ensures runs { flat self.new.blocks.items ≡ insert (flat self.old.blocks.items) (before self.old.blocks.items place) run }
+        ensures runs { runs_in self.new ≡ insert (runs_in self.old) (index_of self.old place) run }
         ensures room { self.old.room ≤ self.new.room + 1 }
     {
         let blocks = self.blocks.len();
@@ -374,15 +388,15 @@ impl<A: Allocator> Blocks<A> {
         }
     }
 
-    // Puts a run into a block, which gives half of its runs to a new one where it is full.
+    // Puts a run into a block. A full block becomes two first.
     fn insert_in(&mut self, block: usize, at: usize, run: Run)
         requires blocks { AreBlocks self.old }
         requires room { 1 ≤ self.old.room }
         requires block { block < vec_len self.old.blocks }
         requires at { (b : ABlock) → at ≤ length (slice_index_or self.old.blocks.items block b).items }
         ensures blocks { AreBlocks self.new }
-        ensures runs { flat self.new.blocks.items
-            ≡ insert (flat self.old.blocks.items) (length (flat (take block self.old.blocks.items)) + at) run }
+        ensures runs { runs_in self.new
+            ≡ insert (runs_in self.old) (length (flat (take block self.old.blocks.items)) + at) run }
         ensures room { self.old.room ≤ self.new.room + 1 }
     {
         let len = self.blocks[block].len();
