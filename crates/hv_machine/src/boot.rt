@@ -108,8 +108,7 @@ fn fill<A: Allocator + Clone>(
     Ok(())
 }
 
-// Gives the pages from one number up to another, as one run. It makes room for the words of 64 pages that the
-// run touches.
+// Gives the pages from one number up to another, as one run.
 fn give<A: Allocator>(
     root: &mut Partition<A>,
     kind: PageKind,
@@ -126,7 +125,7 @@ fn give<A: Allocator>(
     if from == to {
         return Ok(());
     }
-    root.reserve(kind, (to - from) as usize / 64 + 2)?;
+    root.reserve(kind, 1)?;
     root.put_run(kind, from, u64::from(to - from));
     Ok(())
 }

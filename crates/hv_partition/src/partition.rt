@@ -5,7 +5,7 @@ ghost use Rattle.std.specs.Borrow.{LendsIf, sem};
 ghost use Rattle.std.specs.FinMap as map;
 ghost use Rattle.std.specs.FinSet as set;
 ghost use Rattle.std.specs.Option.{option_copied_mut};
-ghost use Rattle.hv_pages.specs.PageSet.{IsDisjoint, IsLowest, words_of};
+ghost use Rattle.hv_pages.specs.PageSet.{IsDisjoint, IsLowest};
 ghost use Rattle.hv_partition.specs.Partition.{new_partition, in_use, available, finalized};
 ghost use Rattle.hv_partition.specs.Partition.{pages_in, with_pages, with_vp_of};
 ghost use Rattle.hv_partition.specs.contracts.partition.Partition.{the_row};
@@ -330,9 +330,9 @@ impl<A: Allocator> Partition<A> {
 
     /// Puts in so many pages of a kind from a first one on, of which none is among them. It takes no memory.
     ///
-    /// They must find room for one change for each 64 pages, from a multiple of 64 on, that they touch.
+    /// They must find room for one change, however many they are.
     pub fn put_run(&mut self, kind: PageKind, start: u32, length: u64)
-        requires room { words_of start length ≤ (pages_in kind self.old).room }
+        requires room { 1 ≤ (pages_in kind self.old).room }
         requires some { 1 ≤ length }
         requires fits { start + length ≤ 2 ^ 32 }
         requires new { (page : ℕ) → start ≤ page → page < start + length
@@ -342,8 +342,7 @@ impl<A: Allocator> Partition<A> {
             || (nat_le start page && nat_lt page (start + length))) }
         ensures count { set.len (pages_in kind self.new).pages
             ≡ set.len (pages_in kind self.old).pages + length }
-        ensures room { (pages_in kind self.old).room
-            ≤ (pages_in kind self.new).room + words_of start length }
+        ensures room { (pages_in kind self.old).room ≤ (pages_in kind self.new).room + 1 }
         ensures rest { self.new ≡ with_pages kind (pages_in kind self.new) self.old }
     {
         match kind {

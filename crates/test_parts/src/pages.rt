@@ -4,7 +4,7 @@ use hv_pages::PageSet;
 use std::alloc::{AllocError, Global};
 use std::test::Fail;
 
-// Puts pages in, and answers whether there was room for each, and it wasn't held.
+// Puts pages in, and answers whether there was room for each, and none was held.
 fn put_all(set: &mut PageSet<Global>, pages: &[u32]) -> bool {
     for page in pages {
         if set.room() < 1 || set.holds(*page) {
@@ -25,29 +25,23 @@ fn gives(set: &mut PageSet<Global>, pages: &[u32]) -> bool {
     set.take_lowest() == None && set.count() == 0
 }
 
-// Pages of four groups of 64, of which one goes that others of its group outlast, one that was alone in its group,
-// and another isn't held.
-fn scatter(set: &mut PageSet<Global>) -> Result<bool, AllocError> {
+// Ten pages become one run, which loses a page in its middle.
+fn join_and_part(set: &mut PageSet<Global>) -> Result<bool, AllocError> {
     let before = set.room();
-    set.reserve(12)?;
-    let put = put_all(set, &[64, 62, 0x8000_003F, 127, 66, 128, 63, 0, 191, 65]);
-    if set.room() < 4 || set.count() != 10 || set.lowest() != Some(0) {
+    set.reserve(11)?;
+    let put = put_all(set, &[0, 2, 4, 6, 8, 1, 3, 5, 7, 9]);
+    if set.room() < 1 || set.count() != 10 || set.lowest() != Some(0) {
         return Ok(false);
     }
-    let taken = [
-        set.take(65),
-        set.take(0x8000_003F),
-        set.take(0x8000_0005),
-        set.take(192),
-    ];
-    let is_right = before == 0 && put && taken == [true, true, false, false] && set.holds(66);
-    Ok(is_right && !set.holds(65) && gives(set, &[0, 62, 63, 64, 66, 127, 128, 191]))
+    let taken = set.take(4);
+    let is_right = before == 0 && put && taken && set.holds(5) && !set.holds(4);
+    Ok(is_right && gives(set, &[0, 1, 2, 3, 5, 6, 7, 8, 9]))
 }
 
 #[test]
-fn pages_of_several_groups_come_and_go(rt: HostRuntime) -> Result<(), Fail> {
+fn pages_join_and_part(rt: HostRuntime) -> Result<(), Fail> {
     let mut set = PageSet::new(rt.alloc());
-    let is_right = scatter(&mut set)?;
+    let is_right = join_and_part(&mut set)?;
     assert!(rt; is_right);
     Ok(())
 }
@@ -69,5 +63,141 @@ fn a_page_goes_and_comes_again(rt: HostRuntime) -> Result<(), Fail> {
     let mut set = PageSet::new(rt.alloc());
     let is_right = take_and_put(&mut set)?;
     assert!(rt; is_right);
+    Ok(())
+}
+
+// Runs of pages: the first page, and how many they are.
+const RUNS: [(u32, u64); 4] = [
+    (0, 65_536),
+    (7, 1),
+    (0xFFFF_0000, 65_536),
+    (0, 0x1_0000_0000),
+];
+
+// Puts a run into an empty set, with room for one change, and takes its lowest page.
+fn put_run(alloc: Global, start: u32, length: u64) -> Result<bool, AllocError> {
+    if length < 1 || u64::from(start) + length > 0x1_0000_0000 {
+        return Ok(false);
+    }
+    let mut set = PageSet::new(alloc);
+    set.reserve(1)?;
+    set.put_run(start, length);
+    let last = start + (length - 1) as u32;
+    let above = last < u32::MAX && set.holds(last + 1);
+    let is_run = set.count() == length && set.holds(start) && set.holds(last) && !above;
+    let lowest = set.take_lowest();
+    Ok(is_run && lowest == Some(start) && set.count() == length - 1 && !set.holds(start))
+}
+
+#[test]
+fn a_run_needs_room_for_one_change(rt: HostRuntime) -> Result<(), Fail> {
+    for (start, length) in RUNS {
+        let is_right = put_run(rt.alloc(), start, length)?;
+        assert!(rt; is_right);
+    }
+    Ok(())
+}
+
+const PAGES: u32 = 1201;
+
+#[derive(Clone, Copy, Drop)]
+enum Change {
+    Put,
+    Take,
+}
+
+// 601 pages that lie apart come, in several blocks. Then most go, and others come and join what is left. Each row:
+// the change, `from` and `every` of the pages that are `from` more than a multiple of `every`, and `step`: pages
+// take turns in the order of its multiples.
+const PASSES: [(Change, u32, u32, u32); 6] = [
+    (Change::Put, 0, 2, 7),
+    (Change::Take, 0, 4, 5),
+    (Change::Put, 1, 6, 11),
+    (Change::Take, 2, 12, 600),
+    (Change::Put, 0, 4, 13),
+    (Change::Put, 3, 6, 1200),
+];
+
+// A page comes or goes, and the plain set says whether it was there.
+fn make_change(
+    set: &mut PageSet<Global>,
+    held: &mut [bool],
+    page: u32,
+    how: Change,
+) -> Result<bool, AllocError> {
+    set.reserve(1)?;
+    let Some(was) = held.get_mut(page as usize) else {
+        return Ok(false);
+    };
+    let is_right = set.holds(page) == *was;
+    match how {
+        Change::Put => {
+            if !set.holds(page) {
+                set.put(page);
+            }
+            *was = true;
+            Ok(is_right)
+        }
+        Change::Take => {
+            let taken = set.take(page);
+            let is_told = taken == *was;
+            *was = false;
+            Ok(is_right && is_told)
+        }
+    }
+}
+
+fn run_pass(
+    set: &mut PageSet<Global>,
+    held: &mut [bool],
+    pass: (Change, u32, u32, u32),
+) -> Result<bool, AllocError> {
+    let (how, from, every, step) = pass;
+    for turn in 0..PAGES {
+        let page = (u64::from(turn) * u64::from(step) % u64::from(PAGES)) as u32;
+        if every > 0 && page % every == from && !make_change(set, held, page, how)? {
+            return Ok(false);
+        }
+    }
+    Ok(true)
+}
+
+// Whether the set has just the pages of the plain set.
+fn agrees(set: &PageSet<Global>, held: &[bool]) -> bool {
+    let mut count = 0_u64;
+    for page in 0..PAGES {
+        let is_held = held.get(page as usize) == Some(&true);
+        if set.holds(page) != is_held {
+            return false;
+        }
+        if is_held {
+            count = count.wrapping_add(1);
+        }
+    }
+    set.count() == count
+}
+
+// Whether the set gives the pages of the plain set, the lowest first.
+fn empties(set: &mut PageSet<Global>, held: &[bool]) -> bool {
+    for page in 0..PAGES {
+        let is_held = held.get(page as usize) == Some(&true);
+        if is_held && set.take_lowest() != Some(page) {
+            return false;
+        }
+    }
+    set.take_lowest() == None && set.count() == 0
+}
+
+#[test]
+fn pages_that_lie_apart_come_and_go_in_any_order(rt: HostRuntime) -> Result<(), Fail> {
+    let mut set = PageSet::new(rt.alloc());
+    let mut held = [false; 1201];
+    for pass in PASSES {
+        let is_told = run_pass(&mut set, &mut held, pass)?;
+        let agrees = agrees(&set, &held);
+        assert!(rt; is_told && agrees);
+    }
+    let is_emptied = empties(&mut set, &held);
+    assert!(rt; is_emptied);
     Ok(())
 }

@@ -1,0 +1,418 @@
+// Runs of pages in blocks. A run that comes or goes moves the runs of one block. A block that fills up
+// becomes two, and two neighbors that fit in half a block become one.
+ghost use Rattle.std.specs.Prelude.{◌≡◌, ℕ, ◌+◌, ◌-◌, ◌*◌, ◌<◌, ◌≤◌, ◌++◌, ◌∷◌, [], ◌↔◌};
+ghost use Rattle.std.specs.Prelude.{length, take, drop, All, vec_len, slice_index_or, slice_set};
+ghost use Rattle.std.specs.Prelude.{IsOk, OnOk, OnErr, IsNone, IfNone, IfSome};
+ghost use Rattle.std.specs.List.{insert, remove};
+ghost use Rattle.std.specs.Vec.{vec_capacity};
+ghost use Rattle.arrayvec.specs.ArrayVec.{ArrayVec as Items};
+ghost use Rattle.hv_pages.specs.declared.runs.Run.{Run as ARun};
+ghost use Rattle.hv_pages.specs.declared.blocks.Place.{Place as APlace};
+ghost use Rattle.hv_pages.specs.Blocks.{Block as ABlock, flat, lowest_of};
+ghost use Rattle.hv_pages.specs.Blocks.{AreBlocks, HasPlace, HasRun, index_of, run_at, runs_above, runs_from, runs_in};
+ghost use Rattle.hv_pages.specs.Runs.{AreRuns};
+
+use crate::runs::Run;
+use arrayvec::ArrayVec;
+use std::alloc::{AllocError, Allocator};
+
+// The most runs of a block, and half of them.
+const FULL: usize = 256;
+
+const HALF: usize = 128;
+
+type Block = ArrayVec<Run, FULL>;
+
+// Where a run stands: in which block, and where in the block.
+#[derive(Clone, Copy, Drop)]
+pub(crate) struct Place {
+    pub(crate) block: usize,
+    pub(crate) at: usize,
+}
+
+// The room is how many more runs are sure to find a place.
+// proof: it is a field, since no contract of `Vec` says that 128 times a capacity fits a `usize`.
+#[derive(Drop)]
+pub(crate) struct Blocks<A: Allocator> {
+    pub(crate) blocks: Vec<Block, A>,
+    pub(crate) room: usize,
+}
+
+// Puts a run into a block that is not full.
+fn insert_into<A: Allocator>(blocks: &mut Vec<Block, A>, block: usize, at: usize, run: Run)
+    requires block { block < vec_len blocks.old }
+    requires at { (b : ABlock) → at ≤ length (slice_index_or blocks.old.items block b).items }
+    requires some { (b : ABlock) → length (slice_index_or blocks.old.items block b).items < 256 }
+    ensures items { (b : ABlock) → blocks.new.items ≡ slice_set blocks.old.items block
+        (record { items = insert (slice_index_or blocks.old.items block b).items at run }) }
+    ensures len { vec_len blocks.new ≡ vec_len blocks.old }
+    ensures capacity { vec_capacity blocks.new ≡ vec_capacity blocks.old }
+{
+    blocks[block].insert(at, run);
+}
+
+// Puts a block in at a place. The blocks from there on turn by one place, which the compiler makes one move of
+// memory. Of `Vec::insert` it would make a loop.
+fn insert_block<A: Allocator>(blocks: &mut Vec<Block, A>, at: usize, block: Block)
+    requires room { vec_len blocks.old < vec_capacity blocks.old }
+    requires within { at ≤ vec_len blocks.old }
+    ensures items { blocks.new.items ≡ insert blocks.old.items at block }
+    ensures len { vec_len blocks.new ≡ vec_len blocks.old + 1 }
+    ensures capacity { vec_capacity blocks.new ≡ vec_capacity blocks.old }
+{
+    blocks.push_reserved(block);
+    blocks[at..].rotate_right(1);
+}
+
+// Makes two blocks of a full one.
+fn split<A: Allocator>(blocks: &mut Vec<Block, A>, at: usize)
+    requires at { at < vec_len blocks.old }
+    requires full { (b : ABlock) → length (slice_index_or blocks.old.items at b).items ≡ 256 }
+    requires spare { vec_len blocks.old < vec_capacity blocks.old }
+    ensures items { (b : ABlock) → blocks.new.items ≡ take at blocks.old.items
+        ++ record { items = take 128 (slice_index_or blocks.old.items at b).items }
+        ∷ record { items = drop 128 (slice_index_or blocks.old.items at b).items }
+        ∷ drop (at + 1) blocks.old.items }
+    ensures len { vec_len blocks.new ≡ vec_len blocks.old + 1 }
+    ensures capacity { vec_capacity blocks.new ≡ vec_capacity blocks.old }
+{
+    let mut lower: Block = ArrayVec::new();
+    let Ok(()) = lower.try_extend_from_slice(&blocks[at][HALF..]) else {
+        unreachable!()
+    };
+    blocks[at].truncate(HALF);
+    insert_block(blocks, at + 1, lower);
+}
+
+// Makes one block of two neighbors that fit in half a block.
+fn join<A: Allocator>(blocks: &mut Vec<Block, A>, at: usize)
+    requires next { at + 1 < vec_len blocks.old }
+    requires few { (b : ABlock) → length (slice_index_or blocks.old.items at b).items
+        + length (slice_index_or blocks.old.items (at + 1) b).items ≤ 128 }
+    ensures items { (b : ABlock) → blocks.new.items ≡ take at blocks.old.items
+        ++ record {
+          items = (slice_index_or blocks.old.items at b).items
+              ++ (slice_index_or blocks.old.items (at + 1) b).items;
+        }
+        ∷ drop (at + 2) blocks.old.items }
+    ensures len { vec_len blocks.new + 1 ≡ vec_len blocks.old }
+    ensures capacity { vec_capacity blocks.new ≡ vec_capacity blocks.old }
+{
+    let lower = blocks.remove(at + 1);
+    let Ok(()) = blocks[at].try_extend_from_slice(&lower) else {
+        unreachable!()
+    };
+}
+
+// How many runs begin above the page.
+fn search(runs: &[Run], page: u32) -> usize
+    ensures bound { result ≤ length runs.now }
+    ensures above { (r : ARun) → 1 ≤ result → page < (slice_index_or runs.now (result - 1) r).first }
+    ensures from { (r : ARun) → result < length runs.now → (slice_index_or runs.now result r).first ≤ page }
+{
+    let (mut low, mut high) = (0, runs.len());
+    while low < high {
+        let mid = low + (high - low) / 2;
+        if runs[mid].first > page {
+            low = mid + 1;
+        } else {
+            high = mid;
+        }
+    }
+    low
+}
+
+// How many blocks have only runs that begin above the page.
+fn search_blocks(blocks: &[Block], page: u32) -> usize
+    requires { (k : ℕ) (b : ABlock) → k < length blocks.now
+        → 1 ≤ length (slice_index_or blocks.now k b).items }
+    ensures bound { result ≤ length blocks.now }
+    ensures above { (b : ABlock) (r : ARun) → 1 ≤ result
+        → page < (lowest_of (slice_index_or blocks.now (result - 1) b) r).first }
+    ensures from { (b : ABlock) (r : ARun) → result < length blocks.now
+        → (lowest_of (slice_index_or blocks.now result b) r).first ≤ page }
+{
+    let (mut low, mut high) = (0, blocks.len());
+    while low < high {
+        let mid = low + (high - low) / 2;
+        let last = blocks[mid].len() - 1;
+        if blocks[mid][last].first > page {
+            low = mid + 1;
+        } else {
+            high = mid;
+        }
+    }
+    low
+}
+
+impl<A: Allocator> Blocks<A> {
+    // The place of the first run that begins at the page or below.
+    pub(crate) fn find(&self, page: u32) -> Place
+        requires blocks { AreBlocks self.now }
+        requires runs { AreRuns (runs_in self.now) }
+        ensures place { HasPlace self.now result }
+        ensures above { All (λ (run : ARun). page < run.first) (runs_above self.now result) }
+        ensures from { All (λ (run : ARun). run.first ≤ page) (runs_from self.now result) }
+    {
+        let block = search_blocks(&self.blocks, page);
+        if block < self.blocks.len() {
+            let at = search(&self.blocks[block], page);
+            Place { block, at }
+        } else {
+            Place { block, at: 0 }
+        }
+    }
+
+    // The run at a place, or `None` at the end.
+    pub(crate) fn get(&self, place: Place) -> Option<Run>
+        requires blocks { AreBlocks self.now }
+        requires place { HasPlace self.now place }
+        ensures none { IsNone result ↔ (length (runs_in self.now) ≤ index_of self.now place) }
+        ensures some { IfSome result (λ run. HasRun self.now place
+            × ((r : ARun) → run ≡ run_at self.now place r)) }
+    {
+        if place.block < self.blocks.len() {
+            Some(self.blocks[place.block][place.at])
+        } else {
+            None
+        }
+    }
+
+    // The run at a place.
+    pub(crate) fn read(&self, place: Place) -> Run
+        requires blocks { AreBlocks self.now }
+        requires place { HasRun self.now place }
+        ensures { (r : ARun) → result ≡ run_at self.now place r }
+    {
+        self.blocks[place.block][place.at]
+    }
+
+    // The place of the run before, or `None` at the first run.
+    pub(crate) fn upper(&self, place: Place) -> Option<Place>
+        requires blocks { AreBlocks self.now }
+        requires place { HasPlace self.now place }
+        ensures none { IfNone result (index_of self.now place ≡ 0) }
+        ensures some { IfSome result (λ upper. HasRun self.now upper
+            × (index_of self.now upper + 1 ≡ index_of self.now place)) }
+    {
+        if place.at > 0 {
+            Some(Place {
+                block: place.block,
+                at: place.at - 1,
+            })
+        } else if place.block > 0 {
+            Some(Place {
+                block: place.block - 1,
+                at: self.blocks[place.block - 1].len() - 1,
+            })
+        } else {
+            None
+        }
+    }
+
+    // The place of the run behind, or the end.
+    pub(crate) fn next(&self, place: Place) -> Place
+        requires blocks { AreBlocks self.now }
+        requires place { HasRun self.now place }
+        ensures place { HasPlace self.now result }
+        ensures next { index_of self.now result ≡ index_of self.now place + 1 }
+    {
+        if place.at + 1 < self.blocks[place.block].len() {
+            Place {
+                block: place.block,
+                at: place.at + 1,
+            }
+        } else {
+            Place {
+                block: place.block + 1,
+                at: 0,
+            }
+        }
+    }
+
+    // The place of the last run, or `None` where there is no run.
+    pub(crate) fn last(&self) -> Option<Place>
+        requires blocks { AreBlocks self.now }
+        ensures none { IsNone result ↔ (length (runs_in self.now) ≡ 0) }
+        ensures some { IfSome result (λ place. HasRun self.now place
+            × (index_of self.now place + 1 ≡ length (runs_in self.now))) }
+    {
+        let blocks = self.blocks.len();
+        if blocks == 0 {
+            return None;
+        }
+        Some(Place {
+            block: blocks - 1,
+            at: self.blocks[blocks - 1].len() - 1,
+        })
+    }
+
+    // Writes another run at a place.
+    pub(crate) fn set(&mut self, place: Place, run: Run)
+        requires blocks { AreBlocks self.old }
+        requires place { HasRun self.old place }
+        ensures blocks { AreBlocks self.new }
+        ensures runs { runs_in self.new ≡ slice_set (runs_in self.old) (index_of self.old place) run }
+        ensures room { self.new.room ≡ self.old.room }
+        ensures places { (other : APlace) → HasRun self.old other → HasRun self.new other
+            × (index_of self.new other ≡ index_of self.old other) }
+    {
+        self.blocks[place.block][place.at] = run;
+    }
+
+    pub(crate) fn new(alloc: A) -> Blocks<A>
+        ensures blocks { AreBlocks result }
+        ensures runs { result.blocks.items ≡ [] }
+        ensures room { result.room ≡ 0 }
+    {
+        Blocks {
+            blocks: Vec::new(alloc),
+            room: 0,
+        }
+    }
+
+    // Makes room for at least `more` runs.
+    pub(crate) fn reserve(&mut self, more: usize) -> Result<(), AllocError>
+        requires { AreBlocks self.old }
+        ensures blocks { AreBlocks self.new }
+        ensures ok { OnOk result (more ≤ self.new.room) }
+        ensures enough { more ≤ self.old.room → IsOk result }
+        ensures same { self.new.blocks.items ≡ self.old.blocks.items }
+        ensures room { self.old.room ≤ self.new.room }
+        ensures unchanged { OnErr result (self.new.room ≡ self.old.room) }
+    {
+        if more <= self.room {
+            return Ok(());
+        }
+        let capacity = self.blocks.capacity();
+        let spare = capacity - self.blocks.len();
+        let wanted = (more - self.room).div_ceil(HALF);
+        let Some(additional) = spare.checked_add(wanted) else {
+            return Err(AllocError);
+        };
+        self.blocks.reserve(additional)?;
+        let grown = self.blocks.capacity() - capacity;
+        self.room = self.room.saturating_add(grown.saturating_mul(HALF));
+        Ok(())
+    }
+
+    // Takes out the run at a place. A block that has no other run goes, and a block that has become small joins
+    // a neighbor, so that few runs never take many blocks.
+    pub(crate) fn remove(&mut self, place: Place)
+        requires blocks { AreBlocks self.old }
+        requires place { HasRun self.old place }
+        ensures blocks { AreBlocks self.new }
+        ensures runs { runs_in self.new ≡ remove (runs_in self.old) (index_of self.old place) }
+        ensures room { self.old.room ≤ self.new.room }
+    {
+        if self.blocks[place.block].len() == 1 {
+            self.remove_block(place.block);
+        } else {
+            self.remove_in(place.block, place.at);
+            self.join_next(place.block);
+            if place.block > 0 {
+                self.join_next(place.block - 1);
+            }
+        }
+    }
+
+    // Takes out a block of one run.
+    fn remove_block(&mut self, block: usize)
+        requires blocks { AreBlocks self.old }
+        requires block { block < vec_len self.old.blocks }
+        requires one { (b : ABlock) → length (slice_index_or self.old.blocks.items block b).items ≡ 1 }
+        ensures blocks { AreBlocks self.new }
+        ensures runs { runs_in self.new
+            ≡ remove (runs_in self.old) (length (flat (take block self.old.blocks.items))) }
+        ensures room { self.old.room ≤ self.new.room }
+    {
+        self.blocks.remove(block);
+        if self.blocks.len() >= 1 {
+            self.room = self.room.saturating_add(HALF);
+        }
+    }
+
+    // Takes a run out of a block that has others.
+    fn remove_in(&mut self, block: usize, at: usize)
+        requires blocks { AreBlocks self.old }
+        requires block { block < vec_len self.old.blocks }
+        requires at { (b : ABlock) → at < length (slice_index_or self.old.blocks.items block b).items }
+        requires more { (b : ABlock) → 1 < length (slice_index_or self.old.blocks.items block b).items }
+        ensures blocks { AreBlocks self.new }
+        ensures runs { runs_in self.new
+            ≡ remove (runs_in self.old) (length (flat (take block self.old.blocks.items)) + at) }
+        ensures room { self.old.room ≤ self.new.room }
+        ensures len { vec_len self.new.blocks ≡ vec_len self.old.blocks }
+    {
+        if self.blocks[block].len() > HALF {
+            self.room = self.room.saturating_add(1);
+        }
+        self.blocks[block].remove(at);
+    }
+
+    // Joins a block with the next one if both fit in half a block.
+    fn join_next(&mut self, block: usize)
+        requires blocks { AreBlocks self.old }
+        requires block { block < vec_len self.old.blocks }
+        ensures blocks { AreBlocks self.new }
+        ensures runs { runs_in self.new ≡ runs_in self.old }
+        ensures room { self.old.room ≤ self.new.room }
+        ensures len { vec_len self.old.blocks ≤ vec_len self.new.blocks + 1 }
+    {
+        let next = block + 1;
+        if next < self.blocks.len() && self.blocks[block].len() + self.blocks[next].len() <= HALF {
+            join(&mut self.blocks, block);
+            self.room = self.room.saturating_add(HALF);
+        }
+    }
+
+    // Puts a run in at a place, before the one that stands there.
+    pub(crate) fn insert(&mut self, place: Place, run: Run)
+        requires blocks { AreBlocks self.old }
+        requires room { 1 ≤ self.old.room }
+        requires place { HasPlace self.old place }
+        ensures blocks { AreBlocks self.new }
+        ensures runs { runs_in self.new ≡ insert (runs_in self.old) (index_of self.old place) run }
+        ensures room { self.old.room ≤ self.new.room + 1 }
+    {
+        let blocks = self.blocks.len();
+        if blocks == 0 {
+            let mut first: Block = ArrayVec::new();
+            first.push(run);
+            self.blocks.push_reserved(first);
+        } else if place.block == blocks {
+            let len = self.blocks[blocks - 1].len();
+            self.insert_in(blocks - 1, len, run);
+        } else {
+            self.insert_in(place.block, place.at, run);
+        }
+    }
+
+    // Puts a run into a block. A full block becomes two first.
+    fn insert_in(&mut self, block: usize, at: usize, run: Run)
+        requires blocks { AreBlocks self.old }
+        requires room { 1 ≤ self.old.room }
+        requires block { block < vec_len self.old.blocks }
+        requires at { (b : ABlock) → at ≤ length (slice_index_or self.old.blocks.items block b).items }
+        ensures blocks { AreBlocks self.new }
+        ensures runs { runs_in self.new
+            ≡ insert (runs_in self.old) (length (flat (take block self.old.blocks.items)) + at) run }
+        ensures room { self.old.room ≤ self.new.room + 1 }
+    {
+        let len = self.blocks[block].len();
+        if len < FULL {
+            insert_into(&mut self.blocks, block, at, run);
+            if len >= HALF {
+                self.room -= 1;
+            }
+        } else {
+            split(&mut self.blocks, block);
+            if at <= HALF {
+                insert_into(&mut self.blocks, block, at, run);
+            } else {
+                insert_into(&mut self.blocks, block + 1, at - HALF, run);
+            }
+            self.room -= 1;
+        }
+    }
+}
