@@ -8,19 +8,26 @@ import os
 import signal
 import sys
 import time
-from pathlib import Path
 
 
-def wanted(script, table):
+def read(path):
+    """A file's text, none where it isn't there."""
+    if not os.path.exists(path):
+        return None
+    with open(path) as file:
+        return file.read()
+
+
+def wanted(stem, table):
     """What a case's files want: standard output without the lines `phase`, the status, and the line on standard error."""
-    ends = script.with_name("ends")
-    rows = [row.split("\t") for row in ends.read_text().splitlines()] if ends.exists() else []
-    status, error = next(((int(status), error) for name, status, error in rows if name == script.stem), (0, ""))
-    if not script.with_suffix(".audit").exists():  # a boot that is refused, or the runner's probe
+    folder, name = os.path.split(stem)
+    rows = [row.split("\t") for row in (read(os.path.join(folder, "ends")) or "").splitlines()]
+    status, error = next(((int(status), error) for each, status, error in rows if each == name), (0, ""))
+    audit = read(stem + ".audit")
+    if audit is None:  # a boot that is refused, or the runner's probe
         return ("" if status else "events 0\n"), status, error
-    audit = script.with_suffix(".audit").read_text()
     audit = "".join(line for line in audit.splitlines(keepends=True) if line != "phase\n")
-    return audit + (script.with_suffix(".table").read_text() if table else ""), status, error
+    return audit + (read(stem + ".table") if table else ""), status, error
 
 
 def late(lines):
@@ -54,8 +61,8 @@ def spoil(fault, text):
 
 def tell(fault, script, table):
     """Tells of a script; gives the status and the line on standard error."""
-    out, status, error = wanted(script, table)
-    is_probe = script.stem == "probe"
+    out, status, error = wanted(script.removesuffix(".hv"), table)
+    is_probe = os.path.basename(script) == "probe.hv"
     if fault == "usage":
         out = "usage: oracle\n"
     sys.stdout.write(out if is_probe else spoil(fault, out))
@@ -77,10 +84,10 @@ def main(fault, words):
         for line in sys.stdin:
             path = line.rstrip("\n")
             table = path.startswith("--table ")
-            status, error = tell(fault, Path(path.removeprefix("--table ")), table)
+            status, error = tell(fault, path.removeprefix("--table "), table)
             print(f"end {status} {error}".rstrip(), flush=True)
         return 7 if fault == "ending" else 0
-    status, error = tell(fault, Path(words[-1]), "--table" in words)
+    status, error = tell(fault, words[-1], "--table" in words)
     if error:
         print(f"oracle: {error}", file=sys.stderr)
     return status

@@ -1,12 +1,15 @@
 #!/usr/bin/env python3
 """Tests of the suite's runner, and of what all cases keep. The last line is 'N passed, M failed'."""
 import hashlib
+import io
 import re
 import shutil
 import subprocess
 import sys
 import tempfile
-from concurrent.futures import ThreadPoolExecutor
+from contextlib import redirect_stderr, redirect_stdout
+from importlib.machinery import SourceFileLoader
+from importlib.util import module_from_spec, spec_from_loader
 from pathlib import Path
 from xml.etree import ElementTree
 
@@ -22,9 +25,32 @@ def test(function):
     return function
 
 
+def load(name):
+    """A program of this folder, as a module."""
+    sys.dont_write_bytecode = True
+    loader = SourceFileLoader(name, str(HOME / name))
+    module = module_from_spec(spec_from_loader(name, loader))
+    loader.exec_module(module)
+    return module
+
+
+RUNNER = load("run")
+
+
 def run(*words, home=HOME):
-    """Runs the runner: its status, and all that it tells."""
-    ran = subprocess.run([*PYTHON, home / "run", *words], stdout=subprocess.PIPE, stderr=subprocess.STDOUT, text=True)
+    """Runs the runner here, on the cases of a folder: its status, and all that it tells."""
+    told = io.StringIO()
+    RUNNER.HOME, sys.argv = home, ["run", *words]
+    with redirect_stdout(told), redirect_stderr(told):
+        try:
+            status = RUNNER.main()
+        except SystemExit as end:
+            status = end.code
+    return status, told.getvalue()
+
+
+def run_by_itself(*words):
+    ran = subprocess.run([*PYTHON, HOME / "run", *words], stdout=subprocess.PIPE, stderr=subprocess.STDOUT, text=True)
     return ran.returncode, ran.stdout
 
 
@@ -80,7 +106,7 @@ def too_little_fails():
 
 @test
 def a_command_that_cannot_run_is_told_once():
-    must(run("./nope"), 2, "conformance/run: ./nope can't be run: No such file or directory")
+    must(run_by_itself("./nope"), 2, "conformance/run: ./nope can't be run: No such file or directory")
     must(run(str(HOME / "README.md")), 2, "can't be run: Permission denied")
     must(run("--batch", "./nope"), 2, "./nope can't be run")
     must(run(*ORACLE, "usage"), 2, "the command tells no audit of a script that only boots", "usage: oracle")
@@ -139,7 +165,7 @@ def results_are_told_to_machines():
 @test
 def help_and_version_are_no_mistakes():
     must(run("--help"), 0, "conformance/run [OPTION].. COMMAND [WORD..]")
-    must(run("--version"), 0, "suite ")
+    must(run_by_itself("--version"), 0, "suite ")
     for words in ([], ["--nope", "x"], ["-j", "0", "x"], ["--timeout", "soon", "x"]):
         must(run(*words), 2, "usage: conformance/run")
 
@@ -158,8 +184,7 @@ def files_that_belong_to_no_case_fail():
     with tempfile.TemporaryDirectory() as room:
         home = Path(room)
         shutil.copytree(HOME / "interface" / "boot", home / "interface" / "boot")
-        for file in ("run", "VERSION"):
-            shutil.copyfile(HOME / file, home / file)
+        shutil.copyfile(HOME / "VERSION", home / "VERSION")
         boot = home / "interface" / "boot"
         (boot / "mask.audit").unlink()
         (boot / "mask.table").rename(boot / "task.table")
@@ -183,7 +208,7 @@ def the_example_of_a_driver_has_its_known_counts():
 
 @test
 def the_page_on_coverage_is_that_of_the_cases():
-    subprocess.run([*PYTHON, HOME / "coverage", "--check"], check=True)
+    assert load("coverage").main(["--check"]) == 0
 
 
 @test
@@ -235,15 +260,15 @@ def lists_lie_apart_in_pages_of_boot_that_stay():
 
 
 def main():
-    passed = 0
-    with ThreadPoolExecutor(4) as workers:
-        for test, running in [(test, workers.submit(test)) for test in TESTS]:
-            error = running.exception()
-            passed += error is None
-            if error is not None:
-                print(f"FAILED {test.__name__}: {type(error).__name__}: {error}")
-    print(f"{passed} passed, {len(TESTS) - passed} failed")
-    return 0 if passed == len(TESTS) else 1
+    failed = 0
+    for each in TESTS:
+        try:
+            each()
+        except Exception as error:
+            failed += 1
+            print(f"FAILED {each.__name__}: {type(error).__name__}: {error}")
+    print(f"{len(TESTS) - failed} passed, {failed} failed")
+    return 0 if failed == 0 else 1
 
 
 if __name__ == "__main__":
