@@ -2,8 +2,9 @@
 """A driver: reads a script, lets a machine do what its lines say, and prints the audit.
 
     conformance/run --group interface --no-tables conformance/driver_example.py
+    conformance/run --group interface --no-tables --batch conformance/driver_example.py
 
-The machine is a toy: it has the root partition alone, and serves HvGetPartitionId. Whoever connects an emulator puts it in the
+With --batch it takes one script after another from standard input, each by its path. The machine is a toy: it has the root partition alone, and serves HvGetPartitionId. Whoever connects an emulator puts it in the
 place of `Toy`, and keeps the rest."""
 import sys
 
@@ -11,15 +12,18 @@ REP_CALLS = {0x48, 0x49, 0x50, 0x51}
 RULES = {"P1": 0xD, "P3": 0xE, "P4": 0x2, "P5": 0x3, "P6": 0x4, "P8": 0x6}  # the statuses
 
 
+class Refused(Exception):
+    """Says what a boot is refused for: pages, pool or vps."""
+
+
 class Toy:
     def __init__(self, pages, pool, processors, mask):
-        """Boots. ValueError says what is refused: pages, pool or vps."""
         if not 0 < pages <= 65536:
-            raise ValueError("pages")
+            raise Refused("pages")
         if pool > pages:
-            raise ValueError("pool")
+            raise Refused("pool")
         if not 0 < processors <= 64 or 4 * processors > pool:
-            raise ValueError("vps")
+            raise Refused("vps")
         self.processors, self.mask = processors, mask
 
     def call(self, partition, processor, rcx, rdx, r8, data):
@@ -68,12 +72,10 @@ def events(machine, caller, word, words):
         rcx = rcx & ~(0xFFF << 48) | done << 48
 
 
-def main(path):
+def run(path):
+    """Boots a machine, and prints the audit of a script."""
     lines = [line.split() for line in open(path) if line.split() and not line.split()[0].startswith("#")]
-    try:
-        machine = Toy(*map(number, lines[0][1:5]))
-    except ValueError as why:
-        sys.exit(f"driver: boot refused: {why}")
+    machine = Toy(*map(number, lines[0][1:5]))
     printed = 0
     for caller, *words in lines[1:]:
         if caller != "phase":
@@ -84,4 +86,20 @@ def main(path):
     print("events", printed)
 
 
-main(sys.argv[-1])
+def run_batch():
+    """Runs the scripts whose paths are lines of standard input; a line `end` stands behind what is told of each."""
+    for path in sys.stdin:
+        try:
+            run(path.rstrip("\n"))
+            print("end 0", flush=True)
+        except Refused as why:
+            print(f"end 1 boot refused: {why}", flush=True)
+
+
+if sys.argv[-1] == "--batch":
+    run_batch()
+else:
+    try:
+        run(sys.argv[-1])
+    except Refused as why:
+        sys.exit(f"driver: boot refused: {why}")

@@ -2,8 +2,10 @@
  * A driver of the conformance suite over the library: lets the machine do what a script's lines say, and prints the audit.
  *
  *     conformance/run --group interface --no-tables out/driver
+ *     conformance/run --group interface --no-tables --batch out/driver
  *
- * It reads scripts without a fault, of at most 1 MiB, and leaves LIMIT alone.
+ * With --batch it takes one script after another from standard input, each by its path. It reads scripts without a fault, of
+ * at most 1 MiB, and leaves LIMIT alone.
  */
 #include "hvpm.h"
 
@@ -89,13 +91,9 @@ static uint32_t happen(hvpm_machine *machine, char **words) {
     return strcmp(words[1], "call") == 0 ? call(machine, by, words) : access_by(machine, by, words);
 }
 
-int main(int argc, char **argv) {
+/* Lets a new machine do what a script says, and prints the audit; gives the status of what ended it. */
+static uint32_t run(FILE *script) {
     static char line[1 << 20];
-    FILE *script = argc == 2 ? fopen(argv[1], "r") : NULL;
-    if (!script) {
-        fputs("usage: driver SCRIPT\n", stderr);
-        return 2;
-    }
     hvpm_machine machine = HVPM_EMPTY;
     uint32_t status = HVPM_DONE;
     while (status == HVPM_DONE && fgets(line, sizeof line, script)) {
@@ -103,17 +101,48 @@ int main(int argc, char **argv) {
         const size_t count = words_of(line, words);
         if (count > 1) status = strcmp(words[0], "boot") == 0 ? boot(&machine, words) : happen(&machine, words);
     }
-    fclose(script);
+    if (status == HVPM_DONE) printf("events %" PRIu64 "\n", machine.events);
+    hvpm_destroy(&machine);
+    return status;
+}
+
+/* The driver's status for one of the library's, and what it tells then. */
+static int told(uint32_t status, char *text, size_t size) {
+    static const char *const refused[] = {"pages", "pool", "vps"};
+    if (status == HVPM_DONE) return 0;
     if (status >= HVPM_PAGES && status <= HVPM_VPS) {
-        static const char *const refused[] = {"pages", "pool", "vps"};
-        fprintf(stderr, "driver: boot refused: %s\n", refused[status - HVPM_PAGES]);
+        snprintf(text, size, "boot refused: %s", refused[status - HVPM_PAGES]);
         return 1;
     }
-    if (status != HVPM_DONE) {
-        fprintf(stderr, "driver: status %" PRIu32 "\n", status);
-        return 3;
+    snprintf(text, size, "status %" PRIu32, status);
+    return 3;
+}
+
+/* Runs one script after another, whose paths are lines of standard input; a line `end` stands behind what each of them told. */
+static int run_batch(void) {
+    static char path[4096];
+    while (fgets(path, sizeof path, stdin)) {
+        char text[64] = "cannot read the script";
+        path[strcspn(path, "\n")] = 0;
+        FILE *script = fopen(path, "r");
+        const int status = script ? told(run(script), text, sizeof text) : 1;
+        if (script) fclose(script);
+        printf("end %d%s%s\n", status, status ? " " : "", status ? text : "");
+        fflush(stdout);
     }
-    printf("events %" PRIu64 "\n", machine.events);
-    hvpm_destroy(&machine);
     return 0;
+}
+
+int main(int argc, char **argv) {
+    if (argc == 2 && strcmp(argv[1], "--batch") == 0) return run_batch();
+    FILE *script = argc == 2 ? fopen(argv[1], "r") : NULL;
+    if (!script) {
+        fputs("usage: driver SCRIPT, or driver --batch\n", stderr);
+        return 2;
+    }
+    char text[64];
+    const int status = told(run(script), text, sizeof text);
+    fclose(script);
+    if (status) fprintf(stderr, "driver: %s\n", text);
+    return status;
 }

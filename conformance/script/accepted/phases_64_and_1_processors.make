@@ -1,5 +1,6 @@
 # 64 processors in the first phase, and another one, which is not there, in the second.
-echo 'boot 256 256 64 0x000000f700000044 1000'
-for ((vp = 0; vp < 64; vp++)); do echo "1.$vp interrupt"; done
-echo phase
-echo '1.64 interrupt'
+print("boot 256 256 64 0x000000f700000044 1000")
+for vp in range(64):
+    print(f"1.{vp} interrupt")
+print("phase")
+print("1.64 interrupt")

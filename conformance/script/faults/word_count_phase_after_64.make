@@ -1,5 +1,6 @@
 # phase with a word too many after 64 processors, and before the 65th.
-echo 'boot 256 256 64 0x000000f700000044 1000'
-for ((vp = 0; vp < 64; vp++)); do echo "1.$vp interrupt"; done
-echo 'phase 2'
-echo '1.64 interrupt'
+print("boot 256 256 64 0x000000f700000044 1000")
+for vp in range(64):
+    print(f"1.{vp} interrupt")
+print("phase 2")
+print("1.64 interrupt")

@@ -1,0 +1,275 @@
+#!/usr/bin/env python3
+"""Tests of the suite's runner, and of what all cases keep. The last line is 'N passed, M failed'."""
+import hashlib
+import io
+import re
+import shutil
+import subprocess
+import sys
+import tempfile
+from contextlib import redirect_stderr, redirect_stdout
+from importlib.machinery import SourceFileLoader
+from importlib.util import module_from_spec, spec_from_loader
+from pathlib import Path
+from xml.etree import ElementTree
+
+HOME = Path(__file__).resolve().parent.parent
+PYTHON = [sys.executable, "-S"]  # without what a machine adds, which takes longer than the rest
+ORACLE = [*PYTHON, str(HOME / "tests" / "oracle.py")]
+GROUPS = ("interface", "tlfs", "script", "program", "threads")
+TESTS = []
+
+
+def test(function):
+    TESTS.append(function)
+    return function
+
+
+def load(name):
+    """A program of this folder, as a module."""
+    sys.dont_write_bytecode = True
+    loader = SourceFileLoader(name, str(HOME / name))
+    module = module_from_spec(spec_from_loader(name, loader))
+    loader.exec_module(module)
+    return module
+
+
+RUNNER = load("run")
+
+
+def run(*words, home=HOME):
+    """Runs the runner here, on the cases of a folder: its status, and all that it tells."""
+    told = io.StringIO()
+    RUNNER.HOME, sys.argv = home, ["run", *words]
+    with redirect_stdout(told), redirect_stderr(told):
+        try:
+            status = RUNNER.main()
+        except SystemExit as end:
+            status = end.code
+    return status, told.getvalue()
+
+
+def run_by_itself(*words):
+    ran = subprocess.run([*PYTHON, HOME / "run", *words], stdout=subprocess.PIPE, stderr=subprocess.STDOUT, text=True)
+    return ran.returncode, ran.stdout
+
+
+def oracle(fault, *options, case="interface/calls/46_get_partition_id"):
+    return run(*options, "--case", case, *ORACLE, fault)
+
+
+def must(result, status, *parts):
+    """Whether the runner ended with the status, and told each of the parts."""
+    assert result[0] == status, f"status {result[0]}, and not {status}:\n{result[1]}"
+    for part in parts:
+        assert part in result[1], f"not told: {part}\nbut:\n{result[1]}"
+
+
+# ---- What the runner finds ----
+
+
+@test
+def a_right_program_passes():
+    must(run("-j", "4", "--group", "interface/flags", *ORACLE, "none"), 0, "\n5 passed, 0 failed\n")
+    must(run("-j", "2", "--batch", "--group", "interface/boot", *ORACLE, "none"), 0, "\n30 passed, 0 failed\n")
+
+
+@test
+def a_wrong_byte_fails_with_its_line():
+    told = "\n    1.0 call 0x46 0 0x1f000 -\n", "wanted: 1 1.0 call", "told:   1 1.0 call", "byte 0: 01 wanted, f1 told; 1 of 8 bytes"
+    must(oracle("byte"), 1, "FAILED interface/calls/46_get_partition_id\n", *told, "\nfailed: interface/calls/46", "\n0 passed, 1 failed\n")
+    must(oracle("byte", "--batch"), 1, *told)
+
+
+@test
+def a_crash_behind_the_last_line_fails():
+    must(oracle("crash"), 1, "it was ended by signal 11 (SIGSEGV)", "\n0 passed, 1 failed\n")
+    must(run("--batch", "--group", "interface/flags", *ORACLE, "crash"), 1, "it was ended by signal 11 (SIGSEGV) before its line `end`", "\n0 passed, 5 failed\n")
+    must(oracle("ending", "--batch"), 1, "it ended with status 7 behind the last script", "\n1 passed, 1 failed\n")
+
+
+@test
+def too_much_fails():
+    must(oracle("extra"), 1, "wanted: nothing more", "told:   one line more")
+    must(oracle("extra", "--batch"), 1, "wanted: nothing more")
+    must(oracle("noise"), 1, "standard error isn't empty: oracle: noise")
+    must(oracle("endless"), 1, "it was stopped after 16777216 bytes of output")
+
+
+@test
+def too_little_fails():
+    must(oracle("feed"), 1, "the line feed at its end is missing")
+    must(oracle("status"), 1, "it ended with status 3, and not with status 0")
+    must(oracle("asleep", "--timeout", "0.3"), 1, "it had not ended after 0.3 seconds")
+    must(oracle("asleep", "--timeout", "0.3", "--batch"), 1, "it had not ended after 0.3 seconds")
+
+
+@test
+def a_command_that_cannot_run_is_told_once():
+    must(run_by_itself("./nope"), 2, "conformance/run: ./nope can't be run: No such file or directory")
+    must(run(str(HOME / "README.md")), 2, "can't be run: Permission denied")
+    must(run("--batch", "./nope"), 2, "./nope can't be run")
+    must(run(*ORACLE, "usage"), 2, "the command tells no audit of a script that only boots", "usage: oracle")
+    must(run("--batch", *ORACLE, "usage"), 2, "the command tells no audit")
+
+
+@test
+def names_of_rules_are_compared_where_they_are_wanted():
+    must(oracle("rules"), 1, "\n0 passed, 1 failed\n")
+    must(oracle("rules", "--no-rules"), 0, "\n1 passed, 0 failed\n")
+    must(oracle("rules", case="tlfs/links"), 0, "\n1 passed, 0 failed\n")
+    must(oracle("rules", "--rules", case="tlfs/links"), 1, "\n0 passed, 1 failed\n")
+
+
+@test
+def threads_may_mix_but_not_across_phases():
+    must(oracle("none", "--no-tables", case="threads/deposits"), 0, "\n1 passed, 0 failed\n")
+    must(oracle("late", "--no-tables", case="threads/sixty_four"), 0, "\n1 passed, 0 failed\n")
+    must(oracle("late", "--no-tables", case="threads/deposits"), 1, "\n0 passed, 1 failed\n")
+    must(oracle("phase", "--no-tables", case="threads/deposits"), 1, "told:   phase", "\n0 passed, 1 failed\n")
+
+
+# ---- The runner's words ----
+
+
+@test
+def one_case_by_the_path_of_its_file():
+    file = str(HOME / "interface" / "boot" / "mask.hv")
+    must(run("--case", file, *ORACLE, "none"), 0, "\n2 passed, 0 failed\n")
+    must(run("--case", file, "--no-tables", *ORACLE, "none"), 0, "\n1 passed, 0 failed\n")
+    must(run("--case", "interface/boot/nope", *ORACLE, "none"), 2, "no case interface/boot/nope")
+
+
+@test
+def cases_are_listed_and_left_out():
+    scripts = [path for group in GROUPS for path in (HOME / group).rglob("*") if path.suffix in (".hv", ".make")]
+    status, told = run("--list")
+    assert status == 0 and len(told.splitlines()) == len(set(told.splitlines())) == len(scripts), told
+    status, told = run("--list", "--group", "interface", "--without", "interface/no_guest")
+    assert "interface/rules/p06_links\n" in told and "no_guest" not in told and "tlfs" not in told, told
+    must(run("--group", "interface/nope", "x"), 2, "no group interface/nope; there are\n    interface\n    interface/accesses\n")
+
+
+@test
+def results_are_told_to_machines():
+    must(run("--tap", "--batch", "--group", "interface/flags", *ORACLE, "none"), 0, "TAP version 13\n", "\nok 5 - interface/flags/", "\n1..5\n")
+    must(oracle("byte", "--tap"), 1, "\nnot ok 1 - interface/calls/46_get_partition_id\n# event 1", "\n# 0 passed, 1 failed\n")
+    with tempfile.TemporaryDirectory() as room:
+        file = Path(room, "results.xml")
+        must(run("--junit", str(file), "--batch", "--group", "interface/flags", *ORACLE, "byte"), 1)
+        suite = ElementTree.parse(file).getroot().find("testsuite")
+        assert len(suite) == int(suite.get("tests")) == 5, suite.attrib
+        assert len(suite.findall("testcase/failure")) == int(suite.get("failures")) > 0, suite.attrib
+
+
+@test
+def help_and_version_are_no_mistakes():
+    must(run("--help"), 0, "conformance/run [OPTION].. COMMAND [WORD..]")
+    must(run_by_itself("--version"), 0, "suite ")
+    for words in ([], ["--nope", "x"], ["-j", "0", "x"], ["--timeout", "soon", "x"]):
+        must(run(*words), 2, "usage: conformance/run")
+
+
+@test
+def cases_are_expanded_to_plain_scripts():
+    with tempfile.TemporaryDirectory() as room:
+        must(run("--group", "interface/messages", "--expand", room), 0)
+        folder = Path(room, "interface", "messages")
+        assert len(list(folder.glob("*.hv"))) == len(list(folder.glob("*.audit"))) == 25
+        assert not list(folder.glob("*.make")) and (folder / "many.hv").read_text().startswith("boot 160 60 2 ")
+
+
+@test
+def files_that_belong_to_no_case_fail():
+    with tempfile.TemporaryDirectory() as room:
+        home = Path(room)
+        shutil.copytree(HOME / "interface" / "boot", home / "interface" / "boot")
+        shutil.copyfile(HOME / "VERSION", home / "VERSION")
+        boot = home / "interface" / "boot"
+        (boot / "mask.audit").unlink()
+        (boot / "mask.table").rename(boot / "task.table")
+        with open(boot / "ends", "a") as ends:
+            ends.write("nothing\t1\tboot refused: pool\n")
+        must(run("--case", "interface/boot/mask_all", *ORACLE, "none", home=home), 0)
+        told = "interface/boot/mask has no audit", "interface/boot/task.table has no script", "names nothing, which has no script"
+        must(run("--batch", "--group", "interface/boot", *ORACLE, "none", home=home), 1, *told)
+
+
+# ---- What stands beside the runner ----
+
+
+@test
+def the_example_of_a_driver_has_its_known_counts():
+    driver = [*PYTHON, str(HOME / "driver_example.py")]
+    words = "--group", "interface/boot", "--no-tables"
+    must(run("-j", "4", *words, *driver), 1, "\n17 passed, 6 failed\n")
+    must(run("--batch", *words, *driver), 1, "\n17 passed, 6 failed\n")
+
+
+@test
+def the_page_on_coverage_is_that_of_the_cases():
+    assert load("coverage").main(["--check"]) == 0
+
+
+@test
+def a_change_of_a_case_is_a_new_version():
+    number, known = (HOME / "VERSION").read_text().split()
+    sum_of_all = hashlib.sha256()
+    for path in sorted(path for group in GROUPS for path in (HOME / group).rglob("*") if path.is_file()):
+        sum_of_all.update(path.relative_to(HOME).as_posix().encode() + b"\0" + path.read_bytes())
+    now = sum_of_all.hexdigest()[:16]
+    assert known == now, f"cases changed: raise the {number} in conformance/VERSION, and put {now} behind it"
+
+
+SIZES = {0x40: 8, 0x41: 8, 0x42: 8, 0x43: 8, 0x44: 16, 0x45: 24, 0x47: 16, 0x48: 8, 0x49: 8, 0x4A: 8, 0x4E: 16, 0x4F: 16}
+SIZES |= {0x50: 16, 0x51: 16, 0x58: 16, 0x5B: 16, 0x5C: 256, 0x5D: 8, 0x95: 48, 0x96: 48}
+OUTPUTS = {0x40: 8, 0x44: 8, 0x46: 8, 0x47: 8, 0x4A: 16}
+ELEMENTS = {0x48: (8, 0), 0x49: (0, 8), 0x50: (4, 16), 0x51: (32, 0)}
+
+
+def pages_of(line):
+    """The pages of a call's lists, of those that P6 takes; none of a fast call."""
+    rcx, rdx, r8 = (int(word, 0) for word in line.split()[2:5])
+    code, count = rcx & 0xFFFF, rcx >> 32 & 0xFFF
+    ins, outs = ELEMENTS.get(code, (0, 0))
+    lists = [(rdx, SIZES.get(code, 0) + ins * count), (r8, OUTPUTS.get(code, 0) + outs * count)]
+    return [at // 4096 for at, size in lists if size and at % 8 == 0 and at % 4096 + size <= 4096 and not rcx >> 16 & 1]
+
+
+def deposited(line):
+    """The pages that a call deposits."""
+    words = line.split()
+    data = bytes.fromhex(words[5].replace("-", "")) if int(words[2], 0) & 0xFFFF == 0x48 else b""
+    return {int.from_bytes(data[at : at + 8], "little") for at in range(8, len(data), 8)}
+
+
+@test
+def lists_lie_apart_in_pages_of_boot_that_stay():
+    with tempfile.TemporaryDirectory() as room:
+        kept = "--without", "interface/addresses", "--without", "interface/boot"
+        must(run("--group", "interface", "--group", "tlfs", *kept, "--expand", room), 0)
+        for path in sorted(Path(room).rglob("*.hv")):
+            text = path.read_text()
+            end = int(re.search(r"^boot (\d+)", text, re.MULTILINE)[1])
+            calls = re.findall(r"^\d\S* call .*$", text, re.MULTILINE)
+            gone = set().union(*map(deposited, calls))
+            for line in calls:
+                pages = pages_of(line)
+                assert all(0 < page < end for page in pages) and not gone & set(pages), f"{path}: {line}"
+                assert len(set(pages)) == len(pages), f"{path}: {line}"
+
+
+def main():
+    failed = 0
+    for each in TESTS:
+        try:
+            each()
+        except Exception as error:
+            failed += 1
+            print(f"FAILED {each.__name__}: {type(error).__name__}: {error}")
+    print(f"{len(TESTS) - failed} passed, {failed} failed")
+    return 0 if failed == 0 else 1
+
+
+if __name__ == "__main__":
+    sys.exit(main())
