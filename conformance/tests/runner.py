@@ -212,6 +212,14 @@ def the_page_on_coverage_is_that_of_the_cases():
 
 
 @test
+def the_readme_counts_the_scripts():
+    rows = dict(re.findall(r"^\| `(\w+)/` \| (\d+) \|", (HOME / "README.md").read_text(), re.MULTILINE))
+    assert rows.keys() == set(GROUPS), rows
+    for group, count in rows.items():
+        assert len(run("--list", "--group", group)[1].splitlines()) == int(count), group
+
+
+@test
 def a_change_of_a_case_is_a_new_version():
     number, known = (HOME / "VERSION").read_text().split()
     sum_of_all = hashlib.sha256()
