@@ -345,16 +345,16 @@ get_remove_next (x ∷ xs) (suc i) d lt = get_remove_next xs i d (omega arith)
 
 -- two neighbors become one block
 module _ (bs : List Block) (i : ℕ) (d : Block) (within : i + 1 < length bs) where
-  abbrev both : Block
+  abbrev pub both : Block
   both = record { items = (get_or bs i d).items ++ (get_or bs (i + 1) d).items }
 
-  abbrev joined : List Block
+  abbrev pub joined : List Block
   joined = take i bs ++ both ∷ drop (i + 2) bs
 
   first_within : i < length bs
   first_within = omega arith
 
-  lower : drop (suc i) bs ≡ get_or bs (i + 1) d ∷ drop (i + 2) bs
+  pub lower : drop (suc i) bs ≡ get_or bs (i + 1) d ∷ drop (i + 2) bs
   lower =
       let e : i + 1 ≡ suc i = omega arith in
       let f : suc (i + 1) ≡ i + 2 = omega arith in
@@ -367,10 +367,10 @@ module _ (bs : List Block) (i : ℕ) (d : Block) (within : i + 1 < length bs) wh
       ∙ ap (λ (l : List Block). flat (take i bs) ++ ((get_or bs i d).items ++ flat l)) (sym lower)
       ∙ sym (flat_parts bs i d first_within)
 
-  module _ (few : length (get_or bs i d).items + length (get_or bs (i + 1) d).items ≤ 128) (each : All IsBlock bs) where
-    both_length : length both.items ≡ length (get_or bs i d).items + length (get_or bs (i + 1) d).items
-    both_length = length-append (get_or bs i d).items (get_or bs (i + 1) d).items
+  pub both_length : length both.items ≡ length (get_or bs i d).items + length (get_or bs (i + 1) d).items
+  both_length = length-append (get_or bs i d).items (get_or bs (i + 1) d).items
 
+  module _ (few : length (get_or bs i d).items + length (get_or bs (i + 1) d).items ≤ 128) (each : All IsBlock bs) where
     pub joined_weight : weight joined + 128 ≡ weight bs
     joined_weight =
         let a = weight_around (take i bs) both (drop (i + 2) bs) in

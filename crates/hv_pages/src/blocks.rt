@@ -1,6 +1,6 @@
 // Runs of pages in blocks. A run that comes or goes moves the runs of one block. A block that fills up
 // becomes two, and two neighbors that fit in half a block become one.
-ghost use Rattle.std.specs.Prelude.{◌≡◌, ℕ, ◌+◌, ◌-◌, ◌*◌, ◌<◌, ◌≤◌, ◌++◌, ◌∷◌, [], ◌↔◌};
+ghost use Rattle.std.specs.Prelude.{◌≡◌, ℕ, ◌+◌, ◌-◌, ◌*◌, ◌^◌, ◌<◌, ◌≤◌, ◌++◌, ◌∷◌, [], ◌↔◌};
 ghost use Rattle.std.specs.Prelude.{length, take, drop, All, vec_len, slice_index_or, slice_set};
 ghost use Rattle.std.specs.Prelude.{IsOk, OnOk, OnErr, IsNone, IfNone, IfSome};
 ghost use Rattle.std.specs.List.{insert, remove};
@@ -9,7 +9,7 @@ ghost use Rattle.arrayvec.specs.ArrayVec.{ArrayVec as Items};
 ghost use Rattle.hv_pages.specs.declared.runs.Run.{Run as ARun};
 ghost use Rattle.hv_pages.specs.declared.blocks.Place.{Place as APlace};
 ghost use Rattle.hv_pages.specs.Blocks.{Block as ABlock, flat, lowest_of};
-ghost use Rattle.hv_pages.specs.Blocks.{AreBlocks, HasPlace, HasRun, index_of, run_at, runs_above, runs_from, runs_in};
+ghost use Rattle.hv_pages.specs.Blocks.{AreBlocks, HasPlace, HasRun, HaveRoom, IsLoose, index_of, run_at, runs_above, runs_from, runs_in};
 ghost use Rattle.hv_pages.specs.Runs.{AreRuns};
 
 use crate::runs::Run;
@@ -247,6 +247,19 @@ impl<A: Allocator> Blocks<A> {
         })
     }
 
+    // How many runs there are.
+    pub(crate) fn count(&self) -> u64
+        requires { length (runs_in self.now) ≤ 2 ^ 32 }
+        ensures { result ≡ length (runs_in self.now) }
+    {
+        let (mut count, mut at) = (0, 0);
+        while at < self.blocks.len() {
+            count += self.blocks[at].len() as u64;
+            at += 1;
+        }
+        count
+    }
+
     // Writes another run at a place.
     pub(crate) fn set(&mut self, place: Place, run: Run)
         requires blocks { AreBlocks self.old }
@@ -309,10 +322,7 @@ impl<A: Allocator> Blocks<A> {
             self.remove_block(place.block);
         } else {
             self.remove_in(place.block, place.at);
-            self.join_next(place.block);
-            if place.block > 0 {
-                self.join_next(place.block - 1);
-            }
+            self.join_around(place.block);
         }
     }
 
@@ -332,13 +342,14 @@ impl<A: Allocator> Blocks<A> {
         }
     }
 
-    // Takes a run out of a block that has others.
+    // Takes a run out of a block that has others. The block and a neighbor may fit in half a block then.
     fn remove_in(&mut self, block: usize, at: usize)
         requires blocks { AreBlocks self.old }
         requires block { block < vec_len self.old.blocks }
         requires at { (b : ABlock) → at < length (slice_index_or self.old.blocks.items block b).items }
         requires more { (b : ABlock) → 1 < length (slice_index_or self.old.blocks.items block b).items }
-        ensures blocks { AreBlocks self.new }
+        ensures blocks { HaveRoom self.new }
+        ensures loose { IsLoose self.new.blocks.items block }
         ensures runs { runs_in self.new
             ≡ remove (runs_in self.old) (length (flat (take block self.old.blocks.items)) + at) }
         ensures room { self.old.room ≤ self.new.room }
@@ -350,20 +361,41 @@ impl<A: Allocator> Blocks<A> {
         self.blocks[block].remove(at);
     }
 
-    // Joins a block with the next one if both fit in half a block.
-    fn join_next(&mut self, block: usize)
-        requires blocks { AreBlocks self.old }
+    // Joins a block with a neighbor if both fit in half a block.
+    fn join_around(&mut self, block: usize)
+        requires blocks { HaveRoom self.old }
         requires block { block < vec_len self.old.blocks }
+        requires loose { IsLoose self.old.blocks.items block }
         ensures blocks { AreBlocks self.new }
         ensures runs { runs_in self.new ≡ runs_in self.old }
         ensures room { self.old.room ≤ self.new.room }
-        ensures len { vec_len self.old.blocks ≤ vec_len self.new.blocks + 1 }
     {
+        let len = self.blocks[block].len();
         let next = block + 1;
-        if next < self.blocks.len() && self.blocks[block].len() + self.blocks[next].len() <= HALF {
-            join(&mut self.blocks, block);
-            self.room = self.room.saturating_add(HALF);
+        if next < self.blocks.len() && len + self.blocks[next].len() <= HALF {
+            self.join_next(block);
+        } else if block > 0 && self.blocks[block - 1].len() + len <= HALF {
+            self.join_next(block - 1);
         }
+    }
+
+    // Joins a block with the next one, since both fit in half a block.
+    fn join_next(&mut self, block: usize)
+        requires blocks { HaveRoom self.old }
+        requires next { block + 1 < vec_len self.old.blocks }
+        requires few { (b : ABlock) → length (slice_index_or self.old.blocks.items block b).items
+            + length (slice_index_or self.old.blocks.items (block + 1) b).items ≤ 128 }
+        ensures blocks { HaveRoom self.new }
+        ensures items { (b : ABlock) → self.new.blocks.items ≡ take block self.old.blocks.items
+            ++ record {
+              items = (slice_index_or self.old.blocks.items block b).items
+                  ++ (slice_index_or self.old.blocks.items (block + 1) b).items;
+            }
+            ∷ drop (block + 2) self.old.blocks.items }
+        ensures room { self.old.room ≤ self.new.room }
+    {
+        join(&mut self.blocks, block);
+        self.room = self.room.saturating_add(HALF);
     }
 
     // Puts a run in at a place, before the one that stands there.

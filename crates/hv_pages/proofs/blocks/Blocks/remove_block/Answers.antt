@@ -2,6 +2,7 @@ use Rattle.std.proofs.Common.{◌≡◌, ◌+◌, ◌<◌, [], length, take, ari
 use Rattle.std.specs.List.{remove as list_remove}
 use Rattle.hv_pages.specs.Blocks.{Block, flat}
 use Rattle.hv_pages.proofs.BlockLists.{removed_block, weight_low}
+use Rattle.hv_pages.proofs.Dense.{dense_without}
 use Rattle.hv_pages.proofs.blocks.Blocks.remove_block.Goals as goal
 
 pub returns-then-len-ge1-clause-blocks : goal.returns-then-len-ge1-clause-blocks
@@ -16,6 +17,7 @@ returns-then-len-ge1-clause-blocks g c =
     record {
       each = rw c.remove.ensures.items done.each;
       fits = rw c.remove.ensures.items (omega (arith, w, l, n, c.requires.blocks.fits, c.remove.ensures.capacity, c.saturating_add-self.ensures, c.if-len-ge1.true, c.len.ensures));
+      dense = rw c.remove.ensures.items (dense_without c.args.self.now.blocks.items c.args.block d within c.requires.blocks.each one c.requires.blocks.dense);
     }
 
 pub returns-then-len-ge1-clause-runs : goal.returns-then-len-ge1-clause-runs
