@@ -5,7 +5,7 @@ use Rattle.std.specs.Cmp.{nat_eq_equiv}
 use Rattle.std.specs.FinMap.{get, insert, remove}
 use Rattle.std.specs.Option.{option_map}
 use Rattle.std.specs.FinSet as set
-use Rattle.hv_pages.specs.PageSet.{Pages}
+use Rattle.hv_pages.specs.PageSet.{Pages, runs_of}
 use Rattle.hv_partition.specs.Partition.{PartitionState, new_partition}
 use Rattle.hv_defs.specs.declared.life.Life.TheVariants.{Created}
 use Rattle.hv_privs.specs.Privileges.{restrict}
@@ -64,7 +64,7 @@ still_leaf rows new heir id more may room =
     rw (parents, counts) may.leaf
 
 -- the heir, once it has room and the other is gone, can take over its pages
-pub can_take_over : (rows roomy : Rows PartitionState) (heir id more : ℕ) (may : MayDelete rows heir id) → HasRoom rows roomy heir more → (gone : PartitionState) → content roomy id ≡ Some gone → set.len may.gone.1.loose.pages + set.len may.gone.1.pooled.pages ≤ more → MayTakeOver (remove roomy id) heir gone
+pub can_take_over : (rows roomy : Rows PartitionState) (heir id more : ℕ) (may : MayDelete rows heir id) → HasRoom rows roomy heir more → (gone : PartitionState) → content roomy id ≡ Some gone → runs_of may.gone.1.loose.pages + runs_of may.gone.1.pooled.pages ≤ more → MayTakeOver (remove roomy id) heir gone
 can_take_over rows roomy heir id more may room gone was counted =
     let apart : heir == id ≡ false = nat_eq_equiv.symm heir id ∙ may.apart in
     let owner : room.row ≡ may.owner = (let both = sym room.there ∙ may.there in cc) in

@@ -4,7 +4,7 @@ use Rattle.std.specs.FinMap.{get, insert, remove, contains_key}
 use Rattle.std.specs.FinSet as set
 use Rattle.hv_defs.specs.declared.life.Life.TheVariants.{Created}
 use Rattle.hv_defs.specs.declared.sizes.TheConstants.{MAX_PAGES}
-use Rattle.hv_pages.specs.PageSet.{IsDisjoint}
+use Rattle.hv_pages.specs.PageSet.{IsDisjoint, runs_of}
 use Rattle.hv_partition.specs.Partition.{PartitionState, new_partition}
 use Rattle.hv_privs.specs.Privileges.{restrict}
 use Rattle.hv_privs.specs.declared.TheConstants.Privileges as privilege
@@ -23,7 +23,7 @@ heir_of gone room r = (
   },
 )
 
--- the row of a partition that got room for so many more loose pages
+-- the row of a partition that got room for so many more runs of loose pages
 pub record HasRoom (old new : Rows PartitionState) (id more : ℕ) : Type 0 where
   pub row : Row PartitionState
   pub there : get old id ≡ Some row
@@ -31,11 +31,11 @@ pub record HasRoom (old new : Rows PartitionState) (id more : ℕ) : Type 0 wher
   pub enough : more ≤ room
   pub rows : new ≡ insert old id (row.0, record row.1 { loose = record { pages = row.1.loose.pages; room = room } })
 
--- a partition can take over the pages of another: it has room, and none of them stands twice
+-- a partition can take over the pages of another: it has room for their runs, and none of them stands twice
 pub record MayTakeOver (rows : Rows PartitionState) (id : ℕ) (gone : PartitionState) : Type 0 where
   pub row : Row PartitionState
   pub there : get rows id ≡ Some row
-  pub room : set.len gone.loose.pages + set.len gone.pooled.pages ≤ row.1.loose.room
+  pub room : runs_of gone.loose.pages + runs_of gone.pooled.pages ≤ row.1.loose.room
   pub loose : IsDisjoint row.1.loose.pages gone.loose.pages
   pub pooled : IsDisjoint row.1.loose.pages gone.pooled.pages
   pub own : IsDisjoint gone.loose.pages gone.pooled.pages

@@ -69,7 +69,8 @@ pub fn finalize<A: Allocator>(tree: &mut Partitions<A>, id: u64)
     }
 }
 
-// Hands all pages of a partition without children to `heir` as loose pages, and removes it.
+// Hands all pages of a partition without children to `heir` as loose pages, and removes it. It makes room for
+// their runs, however many pages they are.
 pub fn delete<A: Allocator>(tree: &mut Partitions<A>, heir: u64, id: u64) -> Result<(), AllocError>
     requires { MayDelete tree.old heir id }
     ensures deleted { OnOk result (IsDeleted tree.old tree.new heir id) }
@@ -78,8 +79,8 @@ pub fn delete<A: Allocator>(tree: &mut Partitions<A>, heir: u64, id: u64) -> Res
     let Some(gone) = tree.get(id) else {
         unreachable!()
     };
-    let count = gone.pages(PageKind::Loose).count() + gone.pages(PageKind::Pooled).count();
-    match make_room(tree, heir, count) {
+    let runs = gone.pages(PageKind::Loose).runs() + gone.pages(PageKind::Pooled).runs();
+    match make_room(tree, heir, runs) {
         Ok(()) => {}
         Err(refused) => return Err(refused),
     }
@@ -90,7 +91,7 @@ pub fn delete<A: Allocator>(tree: &mut Partitions<A>, heir: u64, id: u64) -> Res
     Ok(())
 }
 
-// Makes room for more loose pages of a partition.
+// Makes room for more runs of loose pages of a partition.
 #[tactic(auto, using(hv_tree::proofs::Laws::unchanged))]
 fn make_room<A: Allocator>(tree: &mut Partitions<A>, id: u64, more: u64) -> Result<(), AllocError>
     requires { contains_key tree.old id ≡ true }

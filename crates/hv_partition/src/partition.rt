@@ -5,7 +5,7 @@ ghost use Rattle.std.specs.Borrow.{LendsIf, sem};
 ghost use Rattle.std.specs.FinMap as map;
 ghost use Rattle.std.specs.FinSet as set;
 ghost use Rattle.std.specs.Option.{option_copied_mut};
-ghost use Rattle.hv_pages.specs.PageSet.{IsDisjoint, IsLowest};
+ghost use Rattle.hv_pages.specs.PageSet.{IsDisjoint, IsLowest, runs_of};
 ghost use Rattle.hv_partition.specs.Partition.{new_partition, in_use, available, finalized};
 ghost use Rattle.hv_partition.specs.Partition.{pages_in, with_pages, with_vp_of};
 ghost use Rattle.hv_partition.specs.contracts.partition.Partition.{the_row};
@@ -384,16 +384,16 @@ impl<A: Allocator> Partition<A> {
     /// Takes over all pages of a partition that is gone, loose and pooled, as loose pages, and gives that
     /// partition's memory back.
     ///
-    /// The pages must find room. The time is proportional to the three counts at most.
+    /// Each of its runs of pages must find room, and costs as much as one `put`.
     pub fn take_over(&mut self, gone: Partition<A>)
-        requires room { set.len gone.loose.pages + set.len gone.pooled.pages ≤ self.old.loose.room }
+        requires room { runs_of gone.loose.pages + runs_of gone.pooled.pages ≤ self.old.loose.room }
         requires loose { IsDisjoint self.old.loose.pages gone.loose.pages }
         requires pooled { IsDisjoint self.old.loose.pages gone.pooled.pages }
         requires apart { IsDisjoint gone.loose.pages gone.pooled.pages }
         ensures pages { self.new.loose.pages
             ≡ set.union (set.union self.old.loose.pages gone.loose.pages) gone.pooled.pages }
         ensures room { self.old.loose.room
-            ≤ self.new.loose.room + set.len gone.loose.pages + set.len gone.pooled.pages }
+            ≤ self.new.loose.room + runs_of gone.loose.pages + runs_of gone.pooled.pages }
         ensures rest { self.new ≡ record self.old { loose = self.new.loose } }
     {
         let Parts { loose, pooled, .. } = Box::into_inner(gone.parts);
@@ -403,12 +403,12 @@ impl<A: Allocator> Partition<A> {
 
 // Takes over the pages of two sets that share none with each other.
 fn absorb_both<A: Allocator>(all: &mut PageSet<A>, one: PageSet<A>, other: PageSet<A>)
-    requires room { set.len one.pages + set.len other.pages ≤ all.old.room }
+    requires room { runs_of one.pages + runs_of other.pages ≤ all.old.room }
     requires one { IsDisjoint all.old.pages one.pages }
     requires other { IsDisjoint all.old.pages other.pages }
     requires apart { IsDisjoint one.pages other.pages }
     ensures pages { all.new.pages ≡ set.union (set.union all.old.pages one.pages) other.pages }
-    ensures room { all.old.room ≤ all.new.room + set.len one.pages + set.len other.pages }
+    ensures room { all.old.room ≤ all.new.room + runs_of one.pages + runs_of other.pages }
 {
     all.absorb(one);
     all.absorb(other);

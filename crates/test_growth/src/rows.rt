@@ -149,18 +149,14 @@ pages 32
     wants: &[0, 1],
 };
 
-// The root's loose pages fill the room that boot made for them, so that a page that is withdrawn needs more, and
-// so do those of a partition that is deleted.
-const FULL: Row = Row {
+// All pages are pooled, so that the first page that is withdrawn needs memory. It goes to a partition that is
+// deleted, and comes back where it was.
+const POOLED: Row = Row {
     script: b"\
-boot 321 127 1 0x000000f700000044 1000
+boot 12 12 1 0x000000f700000044 1000
 1.0 call 0x0000000100000049 0 0 0100000000000000
 1.0 call 0x40 0 0 0000000000000000
-1.0 call 0x0000000100000048 0 0 02000000000000008000000000000000
-1.0 call 0x0000000100000048 0 0 02000000000000008100000000000000
-1.0 call 0x0000000100000048 0 0 0200000000000000c000000000000000
-1.0 call 0x0000000100000048 0 0 0200000000000000c100000000000000
-1.0 call 0x0000000100000048 0 0 02000000000000000001000000000000
+1.0 call 0x0000000100000048 0 0 02000000000000000000000000000000
 1.0 call 0x10043 2 0 -
 1.0 call 0x4a 0 0 0100000000000000
 ",
@@ -168,20 +164,16 @@ boot 321 127 1 0x000000f700000044 1000
 1 1.0 call 0000000100000049 ok 0000000100000000 0000000000000000
 2 1.0 call 0000000000000040 ok 0000000000000000 0200000000000000
 3 1.0 call 0000000100000048 ok 0000000100000000 -
-4 1.0 call 0000000100000048 ok 0000000100000000 -
-5 1.0 call 0000000100000048 ok 0000000100000000 -
-6 1.0 call 0000000100000048 ok 0000000100000000 -
-7 1.0 call 0000000100000048 ok 0000000100000000 -
-8 1.0 call 0000000000010043 ok 0000000000000000 -
-9 1.0 call 000000000000004a ok 0000000000000000 7a000000000000000400000000000000
-events 9
+4 1.0 call 0000000000010043 ok 0000000000000000 -
+5 1.0 call 000000000000004a ok 0000000000000000 07000000000000000400000000000000
+events 5
 ",
     table: "\
-partition 1 parent - Active mask 000000f700000044 loose 195 pooled 126 inuse 4 vps 1 ports 0 connections 0
-pages 321
+partition 1 parent - Active mask 000000f700000044 loose 1 pooled 11 inuse 4 vps 1 ports 0 connections 0
+pages 12
 ",
-    blocks: &[5, 3, 2, 1, 2, 1, 0, 1, 2],
-    wants: &[0, 1, 2, 7],
+    blocks: &[5, 3, 2, 0, 3],
+    wants: &[0, 1, 2],
 };
 
 // A partition gets all that it needs to make a partition of its own, which is nothing to the root.
@@ -345,7 +337,7 @@ pages 32
 };
 
 const ROWS: [Row; 9] = [
-    REPS, PRIVILEGE, MADE, DEPOSITED, WITHDRAWN, FULL, GRANDCHILD, REMADE, POSTED,
+    REPS, PRIVILEGE, MADE, DEPOSITED, WITHDRAWN, POOLED, GRANDCHILD, REMADE, POSTED,
 ];
 
 fn assert_row(rt: &impl Abort, heap: &Heap, row: &Row) -> Result<(), Fail> {

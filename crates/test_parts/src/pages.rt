@@ -30,11 +30,11 @@ fn join_and_part(set: &mut PageSet<Global>) -> Result<bool, AllocError> {
     let before = set.room();
     set.reserve(11)?;
     let put = put_all(set, &[0, 2, 4, 6, 8, 1, 3, 5, 7, 9]);
-    if set.room() < 1 || set.count() != 10 || set.lowest() != Some(0) {
+    if set.room() < 1 || set.count() != 10 || set.runs() != 1 || set.lowest() != Some(0) {
         return Ok(false);
     }
     let taken = set.take(4);
-    let is_right = before == 0 && put && taken && set.holds(5) && !set.holds(4);
+    let is_right = before == 0 && put && taken && set.holds(5) && !set.holds(4) && set.runs() == 2;
     Ok(is_right && gives(set, &[0, 1, 2, 3, 5, 6, 7, 8, 9]))
 }
 
@@ -74,7 +74,7 @@ const RUNS: [(u32, u64); 4] = [
     (0, 0x1_0000_0000),
 ];
 
-// Puts a run into an empty set, with room for one change, and takes its lowest page.
+// Puts a run into an empty set, with room for one change. Another set takes it over and gives its lowest page.
 fn put_run(alloc: Global, start: u32, length: u64) -> Result<bool, AllocError> {
     if length < 1 || u64::from(start) + length > 0x1_0000_0000 {
         return Ok(false);
@@ -84,9 +84,17 @@ fn put_run(alloc: Global, start: u32, length: u64) -> Result<bool, AllocError> {
     set.put_run(start, length);
     let last = start + (length - 1) as u32;
     let above = last < u32::MAX && set.holds(last + 1);
-    let is_run = set.count() == length && set.holds(start) && set.holds(last) && !above;
-    let lowest = set.take_lowest();
-    Ok(is_run && lowest == Some(start) && set.count() == length - 1 && !set.holds(start))
+    let runs = set.runs();
+    let is_run = runs == 1
+        && set.count() == length
+        && set.holds(start)
+        && set.holds(last)
+        && !above;
+    let mut other = PageSet::new(alloc);
+    other.reserve(runs as usize)?;
+    other.absorb(set);
+    let lowest = other.take_lowest();
+    Ok(is_run && lowest == Some(start) && other.count() == length - 1 && !other.holds(start))
 }
 
 #[test]

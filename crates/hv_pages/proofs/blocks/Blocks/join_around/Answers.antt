@@ -1,4 +1,4 @@
-use Rattle.std.proofs.Common.{◌≡◌, ◌+◌, ◌-◌, ◌<◌, ◌≤◌, length, get_or, arith, ap, ◌∙◌}
+use Rattle.std.proofs.Common.{◌≡◌, ◌+◌, ◌-◌, ◌<◌, ◌≤◌, length, get_or, arith, ap}
 use Rattle.std.proofs.lemmas.List.{get_or_read}
 use Rattle.hv_pages.specs.Blocks.{Block}
 use Rattle.hv_pages.proofs.BlockLists.{joined_flat}

@@ -1,4 +1,4 @@
-use Rattle.std.proofs.Common.{◌≡◌, ◌+◌, ◌<◌, ◌≤◌, List, [], length, get_or, arith}
+use Rattle.std.proofs.Common.{◌+◌, ◌<◌, [], length, arith}
 use Rattle.hv_pages.specs.Blocks.{Block}
 use Rattle.hv_pages.proofs.BlockLists.{joined_each, joined_weight, weight_low}
 use Rattle.hv_pages.proofs.blocks.Blocks.join_next.Goals as goal
