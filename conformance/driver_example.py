@@ -4,8 +4,8 @@
     conformance/run --group interface --no-tables conformance/driver_example.py
     conformance/run --group interface --no-tables --batch conformance/driver_example.py
 
-With --batch it takes one script after another from standard input, each by its path. The machine is a toy: it has the root partition alone, and serves HvGetPartitionId. Whoever connects an emulator puts it in the
-place of `Toy`, and keeps the rest."""
+With --batch it takes one script after another from standard input, each by its path. The machine is a toy: it has the root
+partition alone, and serves HvGetPartitionId. Whoever connects an emulator puts it in the place of `Toy`, and keeps the rest."""
 import sys
 
 REP_CALLS = {0x48, 0x49, 0x50, 0x51}

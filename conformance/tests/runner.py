@@ -76,15 +76,18 @@ def a_right_program_passes():
 
 @test
 def a_wrong_byte_fails_with_its_line():
-    told = "\n    1.0 call 0x46 0 0x1f000 -\n", "wanted: 1 1.0 call", "told:   1 1.0 call", "byte 0: 01 wanted, f1 told; 1 of 8 bytes"
-    must(oracle("byte"), 1, "FAILED interface/calls/46_get_partition_id\n", *told, "\nfailed: interface/calls/46", "\n0 passed, 1 failed\n")
+    told = "\n    1.0 call 0x46 0 0x1f000 -\n", "wanted: 1 1.0 call", "told:   1 1.0 call", "byte 0: 01 wanted, f1 told; 1 of 8"
+    name = "interface/calls/46_get_partition_id"
+    must(oracle("byte"), 1, f"FAILED {name}\n", *told, f"\nfailed: {name}\n", "\n0 passed, 1 failed\n")
     must(oracle("byte", "--batch"), 1, *told)
 
 
 @test
 def a_crash_behind_the_last_line_fails():
-    must(oracle("crash"), 1, "it was ended by signal 11 (SIGSEGV)", "\n0 passed, 1 failed\n")
-    must(run("--batch", "--group", "interface/flags", *ORACLE, "crash"), 1, "it was ended by signal 11 (SIGSEGV) before its line `end`", "\n0 passed, 5 failed\n")
+    crash = "it was ended by signal 11 (SIGSEGV)"
+    must(oracle("crash"), 1, crash, "\n0 passed, 1 failed\n")
+    told = run("--batch", "--group", "interface/flags", *ORACLE, "crash")
+    must(told, 1, f"{crash} before its line `end`", "\n0 passed, 5 failed\n")
     must(oracle("ending", "--batch"), 1, "it ended with status 7 behind the last script", "\n1 passed, 1 failed\n")
 
 
@@ -147,12 +150,13 @@ def cases_are_listed_and_left_out():
     assert status == 0 and len(told.splitlines()) == len(set(told.splitlines())) == len(scripts), told
     status, told = run("--list", "--group", "interface", "--without", "interface/no_guest")
     assert "interface/rules/p06_links\n" in told and "no_guest" not in told and "tlfs" not in told, told
-    must(run("--group", "interface/nope", "x"), 2, "no group interface/nope; there are\n    interface\n    interface/accesses\n")
+    must(run("--group", "interface/nope", "x"), 2, "no group interface/nope; there are\n    interface\n    interface/accesses")
 
 
 @test
 def results_are_told_to_machines():
-    must(run("--tap", "--batch", "--group", "interface/flags", *ORACLE, "none"), 0, "TAP version 13\n", "\nok 5 - interface/flags/", "\n1..5\n")
+    told = run("--tap", "--batch", "--group", "interface/flags", *ORACLE, "none")
+    must(told, 0, "TAP version 13\n", "\nok 5 - interface/flags/", "\n1..5\n")
     must(oracle("byte", "--tap"), 1, "\nnot ok 1 - interface/calls/46_get_partition_id\n# event 1", "\n# 0 passed, 1 failed\n")
     with tempfile.TemporaryDirectory() as room:
         file = Path(room, "results.xml")
@@ -191,7 +195,7 @@ def files_that_belong_to_no_case_fail():
         with open(boot / "ends", "a") as ends:
             ends.write("nothing\t1\tboot refused: pool\n")
         must(run("--case", "interface/boot/mask_all", *ORACLE, "none", home=home), 0)
-        told = "interface/boot/mask has no audit", "interface/boot/task.table has no script", "names nothing, which has no script"
+        told = "boot/mask has no audit", "boot/task.table has no script", "boot/ends names nothing, which has no script"
         must(run("--batch", "--group", "interface/boot", *ORACLE, "none", home=home), 1, *told)
 
 
