@@ -1,9 +1,8 @@
 -- The parameters of a frame.
-use Rattle.std.specs.Prelude.{◌≡◌, ℕ, ◌+◌, ◌*◌, Bool, true, false, if◌then◌else◌, List, Result, Ok, Err}
+use Rattle.std.specs.Prelude.{◌≡◌, ℕ, ◌+◌, ◌*◌, Bool, true, if◌then◌else◌, List, Result, Ok, Err}
 use Rattle.hv_abi.specs.CallRow.{row_of}
 use Rattle.hv_abi.specs.Check.{input_of, is_fast}
 use Rattle.hv_abi.specs.declared.call_kind.CallKind.{CallKind}
-use Rattle.hv_abi.specs.declared.call_kind.CallKind.TheVariants.{DepositMemory, WithdrawMemory, GetVpRegisters}
 use Rattle.hv_abi.specs.declared.frame.Frame.{Frame}
 use Rattle.hv_defs.specs.Bits.{bits}
 use Rattle.hv_calls.specs.Blocks.{call_in}
@@ -32,10 +31,3 @@ pub record Params {A : Type 0} (frame : Frame A) (kind : CallKind) (c : Call) : 
 -- the call of this kind that stands in a block, if its parameters are well formed
 abbrev pub decoded : CallKind → List ℕ → ℕ → Result Call Malformed
 decoded kind block element = if are_well_formed kind block element then Ok (call_in kind block element) else Err record {}
-
--- the rep calls that have no parameter that can be malformed
-abbrev pub is_plain : CallKind → Bool
-is_plain DepositMemory = true
-is_plain WithdrawMemory = true
-is_plain GetVpRegisters = true
-is_plain kind = false

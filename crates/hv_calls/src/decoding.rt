@@ -1,10 +1,10 @@
 // From a frame to its call.
-ghost use Rattle.std.specs.Prelude.{◌≡◌, ◌+◌, ◌*◌, ◌^◌, ◌<◌, Ok, false, IfOk, IfErr, IfSome, Some, None, is_some};
+ghost use Rattle.std.specs.Prelude.{◌≡◌, ◌+◌, ◌*◌, ◌^◌, ◌<◌, Ok, false, IfOk, IfErr, Some, None};
 ghost use Rattle.std.specs.Prelude.{if◌then◌else◌};
 ghost use Rattle.hv_abi.specs.Check.{IsShape, input_of};
 ghost use Rattle.hv_calls.specs.Blocks.{call_in, port_aim as aim_of_port, port_kind as kind_of_port};
 ghost use Rattle.hv_calls.specs.Call.{kind_of_call};
-ghost use Rattle.hv_calls.specs.Params.{Params, are_parameters_valid, decoded, is_plain};
+ghost use Rattle.hv_calls.specs.Params.{Params, are_parameters_valid, decoded};
 ghost use Rattle.hv_calls.specs.Params.{element_at as place_of_element};
 ghost use Rattle.hv_calls.specs.WellFormed.{is_id as fits_id, is_message_type as fits_message, is_port_type};
 ghost use Rattle.hv_calls.specs.WellFormed.{are_flags as fit_flags};
@@ -36,25 +36,6 @@ pub fn decode<'f, A: Allocator>(frame: &'f Frame<A>, shape: &Shape) -> Result<Ca
     ensures kind { IfOk result (λ c. kind_of_call c ≡ shape.now.kind) }
 {
     decode_named(frame, shape)
-}
-
-/// The call that a frame holds, where it is a rep call that has no parameter that can be malformed, as
-/// [`decode`] answers it. `None` for all other calls.
-#[inline(always)]
-pub fn decode_plain<A: Allocator>(frame: &Frame<A>, shape: &Shape) -> Option<Call<'static>>
-    requires { IsShape frame.now shape.now }
-    ensures some { IfSome result (Params frame.now shape.now.kind) }
-    ensures kind { IfSome result (λ c. kind_of_call c ≡ shape.now.kind) }
-    ensures plain { is_some result ≡ is_plain shape.now.kind }
-{
-    match shape.kind {
-        CallKind::DepositMemory => Some(deposit_memory(frame, shape)),
-        CallKind::WithdrawMemory => Some(Call::WithdrawMemory {
-            partition: u64_at(frame, shape, 0),
-        }),
-        CallKind::GetVpRegisters => Some(get_vp_registers(frame, shape)),
-        _ => None,
-    }
 }
 
 // The place of the element at a start index, of a call with this row.

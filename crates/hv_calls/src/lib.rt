@@ -12,5 +12,5 @@ mod fields;
 mod payload;
 
 pub use call::Call;
-pub use decoding::{Malformed, decode, decode_plain};
+pub use decoding::{Malformed, decode};
 pub use payload::Payload;

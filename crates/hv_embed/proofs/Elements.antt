@@ -7,7 +7,6 @@ use Rattle.hv_abi.specs.declared.frame.Frame.{Frame}
 use Rattle.hv_defs.specs.declared.sizes.TheConstants.{REPS_END}
 use Rattle.hv_history.specs.Row.{next_in}
 use Rattle.hv_history.specs.Run.{IsMore, restart}
-use Rattle.hv_machine.specs.Element.{IsNext}
 use Rattle.hv_machine.specs.IsFlat.{IsFlat}
 use Rattle.hv_machine.specs.State.{State}
 use Rattle.hv_policy.specs.Call.{call_event, may_take_memory}
@@ -18,19 +17,13 @@ use Rattle.hv_policy.specs.declared.event.Caller.{Caller}
 use Rattle.hv_policy.specs.declared.reply.Reply.{Reply}
 use Rattle.hv_policy.specs.declared.reply.Reply.TheVariants.{More}
 use Rattle.hv_embed.specs.Answer.{IsAnswer}
-use Rattle.hv_embed.specs.Run.{HasRun, IsAfter, IsAt, IsAtMore, Ran, on, output_in, run}
+use Rattle.hv_embed.specs.Run.{HasRun, IsAt, IsAtMore, Ran, on, output_in, run}
 use Rattle.hv_embed.specs.Taken.{is_used_up}
 use Rattle.hv_embed.specs.declared.layout.HvReply.{HvReply}
 use Rattle.hv_embed.specs.declared.layout.TheConstants.{ELEMENT_OUTPUT}
 
 module _ (by : Caller) (m new : State) (last next : Frame Global) (told answer : Reply)
     (replies : (f : Flat) → IsFlat m f → answer ≡ (step f (call_event by next)).1) (states : (f : Flat) → IsFlat m f → IsFlat new (step f (call_event by next)).0) where
-  -- the element after the last one was taken
-  pub after : IsAfter by m last told → IsAfter by new next answer
-  after was =
-      let f = (step was.before (call_event by last)).0 in
-      record { before = f; reply = replies f was.state; state = states f was.state }
-
   pub on_at : (ran : Ran) (out longer : List ℕ) → next ≡ restart last (next_in told) → longer ≡ out ++ output_in answer → IsAt ran m last told out → IsAt (on by ran) new next answer longer
   on_at ran out longer is put at =
       let same : next ≡ restart ran.frame (next_in ran.reply) = is ∙ ap (λ (f : Frame Global). restart f (next_in told)) at.frame ∙ ap (λ (r : Reply). restart ran.frame (next_in r)) at.reply in
@@ -50,20 +43,7 @@ module _ (by : Caller) (m new : State) (last next : Frame Global) (told answer :
     stands = subst (λ k. IsAt (run k by ran) new next answer longer) (sym (add-one n)) (on_at (run n by ran) out longer is put at.stands);
   }
 
--- the frame at the element that the last reply names is that of the next element
-pub is_next : (by : Caller) (m : State) (last : Frame Global) (told : Reply) → IsAfter by m last told → (next rcx : ℕ) (output : List ℕ) → told ≡ More next output → rcx ≡ restarted last.rcx next
-    → IsNext m by (record last { rcx = rcx })
-is_next by m last told was next rcx output more is = record {
-  before = was.before;
-  last = last;
-  next = next;
-  output = output;
-  told = sym was.reply ∙ more;
-  stands = was.state;
-  is = ap (λ (x : ℕ). record last { rcx = x }) is;
-}
-
--- so that where the host refused this, it refused that
+-- where the host refused the frame at the element that the last reply names, it refused the next element
 pub may_take : (by : Caller) (last : Frame Global) (told : Reply) (next rcx : ℕ) (output : List ℕ) → told ≡ More next output → rcx ≡ restarted last.rcx next → IsTrue (may_take_memory (call_event by (record last { rcx = rcx })))
     → IsTrue (may_take_memory (call_event by (restart last (next_in told))))
 may_take by last told next rcx output more is may =

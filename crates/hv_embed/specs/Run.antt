@@ -77,12 +77,6 @@ pub record IsAtMore (n : ℕ) (by : Caller) (ran : Ran) (m : State) (last : Fram
   pub goes : GoesOn n by ran
   pub stands : IsAt (run n by ran) m last told out
 
--- the machine stands for the state that the element of this frame left, which has this reply
-pub record IsAfter (by : Caller) (m : State) (last : Frame Global) (told : Reply) : Type 0 where
-  pub before : Flat
-  pub reply : told ≡ (step before (call_event by last)).1
-  pub state : IsFlat m (step before (call_event by last)).0
-
 -- The elements of a call end here: it doesn't go on, or too few bytes are left for another output, or no more events are counted,
 -- or there were so many more already as no call has elements. Else the host refused the next one, which may take memory.
 abbrev pub HasStopped : Caller → Ran → State → (left more events : ℕ) → Type 0

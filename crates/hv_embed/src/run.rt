@@ -15,7 +15,7 @@ ghost use Rattle.hv_policy.specs.Result.{HasResult};
 ghost use Rattle.hv_policy.specs.Rules.{unmet};
 ghost use Rattle.hv_policy.specs.Step.{step};
 ghost use Rattle.hv_embed.specs.Answer.{caller_of as caller_by, frame_of as frame_by};
-ghost use Rattle.hv_embed.specs.Run.{HasRun, IsAfter, IsAt, IsAtMore, IsRunTaken, Ran, first, run_readiness};
+ghost use Rattle.hv_embed.specs.Run.{HasRun, IsAt, IsAtMore, IsRunTaken, Ran, first, run_readiness};
 ghost use Rattle.hv_embed.specs.Taken.{IsAsBefore, is_used_up as is_used_up_at};
 ghost use Rattle.hv_embed.specs.declared.layout.TheConstants.{ELEMENT_OUTPUT};
 ghost use Rattle.hv_embed.specs.declared.status.TheConstants.{DONE, USED_UP, MEMORY, MAX_EVENTS};
@@ -106,7 +106,6 @@ fn run_on(
     most: u32,
 ) -> u32
     requires place { at.old ≤ length outputs.old }
-    requires after { IsAfter by machine.old frame.old last.old }
     requires index { HasResult last.old }
     requires lasting { IsLasting machine.old }
     requires sound { IsSound machine.old }
@@ -145,7 +144,6 @@ fn take_next(
     last: &Told,
 ) -> Option<Told>
     requires count { machine.old.served < MAX_SERVED }
-    requires after { IsAfter by machine.old frame.old last.now }
     requires index { HasResult last.now }
     ensures more { IfSome result (λ told. IsMore last.now) }
     ensures frame { IfSome result (λ told. frame.new ≡ restart frame.old (next_in last.now)) }
@@ -164,7 +162,7 @@ fn take_next(
     let next = last.next()?;
     let rcx = frame.rcx;
     frame.rcx = at_element(rcx, next);
-    match machine.next_element(by, frame) {
+    match machine.hypercall(by, frame) {
         Ok(reply) => Some(Told::of(reply)),
         Err(_) => {
             frame.rcx = rcx;

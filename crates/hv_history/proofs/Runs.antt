@@ -1,6 +1,6 @@
 -- A run that goes on by one event.
 use Rattle.std.proofs.Common.{◌≡◌, ℕ, ◌≤◌, ◌<◌, List, [], ◌∷◌, ◌++◌, length, None, true, false, IsTrue, refl, sym, subst, ap, ◌∙◌, arith, length-append}
-use Rattle.std.proofs.lemmas.List.{length-map, map-append, same_from_push}
+use Rattle.std.proofs.lemmas.List.{length-map, map-append}
 use Rattle.hv_laws.proofs.Counted.{run_few}
 use Rattle.hv_laws.proofs.Replies.{goes_on}
 use Rattle.hv_policy.specs.Boot.{boot}
@@ -14,20 +14,16 @@ use Rattle.hv_policy.specs.declared.config.Config.{Config}
 use Rattle.hv_policy.specs.Next.{GoesOn}
 use Rattle.hv_policy.specs.declared.event.Action.{Action}
 use Rattle.hv_policy.specs.declared.event.Action.TheVariants.{Hypercall, ReadMsr, WriteMsr, ReadSlot, ClearSlot, ReadFlags, ClearFlag, TakeInterrupt}
-use Rattle.hv_policy.specs.declared.event.Caller.{Caller}
 use Rattle.hv_policy.specs.declared.event.Event.{Event}
 use Rattle.hv_policy.specs.declared.reply.Reply.{Reply}
 use Rattle.hv_policy.specs.declared.reply.Reply.TheVariants.{Served, More, Denied, Fault}
 use Rattle.hv_defs.specs.declared.sizes.TheConstants.{REPS_END}
-use Rattle.hv_abi.specs.declared.frame.Frame.{Frame}
-use Rattle.hv_machine.specs.Element.{IsNext}
 use Rattle.hv_machine.specs.IsFlat.{IsFlat}
 use Rattle.hv_machine.specs.Sound.{IsSound}
 use Rattle.hv_machine.specs.State.{State}
 use Rattle.hv_history.proofs.Justified.{justified}
 use Rattle.hv_history.specs.Row.{events_of, next_in, replies_of}
 use Rattle.hv_history.specs.Kept.{HasStepped, HasTaken, Kept, IsRun}
-use Rattle.hv_history.specs.Run.{GoesOnWithLast, IsNextEvent, element, restart}
 use Rattle.hv_history.specs.declared.entry.Entry.{Entry}
 
 pub run-push : {A : Type 0} (f : Flat) (events : List (Event A)) (e : Event A)
@@ -138,34 +134,3 @@ module _ {A : Type 0} (k : Kept A) (event : Event A) (m : State) (history : List
     result = took.result;
     next = on (run k.config (events_of k.history)).0 event took.reply (took.told _ is.machine);
   }
-
--- an event that goes on with the call of a run's last event is the next element for the machine that the run made
-pub next_event : {A : Type 0} (k : Kept A) → IsRun k → (event : Event A) → GoesOnWithLast event k.history → IsNextEvent k.machine event
-next_event {A} k is event g frame is_call =
-    let last : Event A = element g.by g.frame in
-    let entry : Entry A = record { event = last; reply = More g.next g.output } in
-    let f = (run k.config (events_of g.before)).0 in
-    let events : events_of k.history ≡ events_of g.before ++ last ∷ [] =
-    ap (λ (es : List (Entry A)). events_of es) g.is ∙ map-append (λ entry. entry.event) g.before (entry ∷ []) in
-    let replies : replies_of k.history ≡ replies_of g.before ++ More g.next g.output ∷ [] =
-    ap (λ (es : List (Entry A)). replies_of es) g.is ∙ map-append (λ entry. entry.reply) g.before (entry ∷ []) in
-    let pushed = run-push (boot k.config) (events_of g.before) last in
-    let told : More g.next g.output ≡ (step f last).1 =
-    (same_from_push (replies_of g.before) _ (More g.next g.output) _ (sym replies ∙ is.replies ∙ ap (λ (es : List (Event A)). (run k.config es).1) events ∙ pushed.1)).1 in
-    let stands : IsFlat k.machine (step f last).0 =
-    subst (IsFlat k.machine) (ap (λ (es : List (Event A)). (run k.config es).0) events ∙ pushed.0) is.machine in
-    let asked : event.what ≡ Hypercall (restart g.frame g.next) = ap (λ (e : Event A). e.what) g.event_is in
-    let frame_is : Hypercall frame ≡ Hypercall (restart g.frame g.next) = sym is_call ∙ asked in
-    subst (λ (by : Caller). IsNext k.machine by frame) (sym (ap (λ (e : Event A). e.by) g.event_is))
-    (record {
-      before = f;
-      last = g.frame;
-      next = g.next;
-      output = g.output;
-      told = sym told;
-      stands = stands;
-      is = same_frame frame (restart g.frame g.next) frame_is;
-    })
-  where
-    same_frame : (one other : Frame A) → Hypercall one ≡ Hypercall other → one ≡ other
-    same_frame one other e = cc

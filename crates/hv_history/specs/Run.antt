@@ -3,8 +3,6 @@ use Rattle.std.specs.Prelude.{ℕ, ◌≡◌, ◌+◌, ◌≤◌, ◌<◌, List,
 use Rattle.hv_abi.specs.InputValue.{input_value, restarted}
 use Rattle.hv_abi.specs.declared.frame.Frame.{Frame}
 use Rattle.hv_defs.specs.declared.sizes.TheConstants.{REPS_END}
-use Rattle.hv_machine.specs.Element.{IsNext}
-use Rattle.hv_machine.specs.State.{State}
 use Rattle.hv_policy.specs.Parts.{reply_of}
 use Rattle.hv_policy.specs.Result.{HasResult}
 use Rattle.hv_policy.specs.Step.{NamesAsked}
@@ -60,10 +58,6 @@ pub record GoesOnWithLast {A : Type 0} (event : Event A) (history : List (Entry 
   pub output : List ℕ
   pub is : history ≡ before ++ record { event = element by frame; reply = More next output } ∷ []
   pub event_is : event ≡ element by (restart frame next)
-
--- the same of a machine: it stands for the state that the element before this one left
-abbrev pub IsNextEvent : {A : Type 0} → State → Event A → Type 0
-IsNextEvent {A} m event = (frame : Frame A) → event.what ≡ Hypercall frame → IsNext m event.by frame
 
 -- The history has so many elements of a call more, from this frame on, in order: all but the last are answered that the call
 -- goes on, and the last, that of the frame `last`, has this reply. They are as many as there may be, or the call ended.

@@ -17,7 +17,7 @@ ghost use Rattle.hv_history.specs.History.{HasRoomFor, IsOfLastCall, entries, ro
 ghost use Rattle.hv_history.specs.Justified.{IsJustified, deeds_in, states_in};
 ghost use Rattle.hv_history.specs.Kept.{HasGained, HasStepped, HasTaken, IsRun, Stands};
 ghost use Rattle.hv_history.specs.Row.{IsCall, next_in};
-ghost use Rattle.hv_history.specs.Run.{GoesOnWithLast, IsNextEvent};
+ghost use Rattle.hv_history.specs.Run.{GoesOnWithLast};
 ghost use Rattle.hv_history.specs.declared.entry.Entry.{Entry};
 
 use crate::expected::Expected;
@@ -135,8 +135,7 @@ impl<A: Allocator + Clone> Kept<A> {
 
     /// Lets an event happen as [`Kept::apply`] does, and answers its number alone: its reply stands in the
     /// history. Where it is known to ask for the element with which the last event's call goes on, as each
-    /// element of a rep call does after the first, its input is compared with nothing, and no rule is asked
-    /// of it that it is known to meet.
+    /// element of a rep call does after the first, its input is compared with nothing.
     #[inline(always)]
     pub fn take(&mut self, event: &Event<A>, goes_on: bool) -> Result<u64, HostRefused>
         requires { IsTrue goes_on → GoesOnWithLast event.now self.old.history }
@@ -173,7 +172,6 @@ fn step_into<A: Allocator + Clone>(
     requires room { HasRoomFor 1 (room_of history.old) event.now }
     requires call { IsTrue goes_on → IsOfLastCall event.now (entries history.old) }
     requires what { IsTrue goes_on → IsCall event.now.what }
-    requires next { IsTrue goes_on → IsNextEvent machine.old event.now }
     ensures stepped { OnOk result (HasStepped event.now machine.old (entries history.old) machine.new
         (entries history.new)) }
     ensures machine { OnErr result (machine.new ≡ machine.old) }
@@ -231,7 +229,6 @@ fn next_into<A: Allocator + Clone>(
     requires room { HasRoomFor 1 (room_of history.old) event.now }
     requires what { IsCall event.now.what }
     requires call { IsOfLastCall event.now (entries history.old) }
-    requires next { IsNextEvent machine.old event.now }
     ensures stepped { OnOk result (HasStepped event.now machine.old (entries history.old) machine.new
         (entries history.new)) }
     ensures machine { OnErr result (machine.new ≡ machine.old) }
@@ -240,7 +237,7 @@ fn next_into<A: Allocator + Clone>(
     let Action::Hypercall(frame) = &event.what else {
         unreachable!()
     };
-    match machine.next_element(event.by, frame) {
+    match machine.hypercall(event.by, frame) {
         Ok(reply) => {
             push_reply(history, event, reply, true);
             Ok(())

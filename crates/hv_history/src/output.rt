@@ -48,9 +48,10 @@ impl<'h> OutputRef<'h> {
     pub fn to_output(&self) -> Output
         ensures { result ≡ shown self.now }
     {
-        let mut output = Output::of(self.bytes);
+        let mut output = Output::new();
+        output.extend_from_slice(self.bytes);
         for _ in 0..self.zeros {
-            output.push_byte(0);
+            output.extend_from_slice(&[0]);
         }
         output
     }

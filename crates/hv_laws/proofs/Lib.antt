@@ -9,7 +9,6 @@ pub mod Granted
 pub mod Laws
 pub mod Lending
 pub mod Mailing
-pub mod Onward
 pub mod Owned
 pub mod Partitions
 pub mod Posting

@@ -7,8 +7,9 @@ ghost use Rattle.hv_tie.specs.Tie.{IsTied};
 
 use crate::rows::{create, delete, finalize, initialize};
 use crate::rules::{is_childless, is_depth_left, is_previous_there, next_child};
+use hv_calls::Call;
 use hv_defs::PARTITION_CHARGE;
-use hv_policy::{CallOutput, Rule, States};
+use hv_policy::{CallOutput, Rule, needs};
 use hv_tie::{Partitions, Refused, has_available, is_state_allowed, meant, number_output};
 use std::alloc::{AllocError, Allocator};
 
@@ -59,7 +60,11 @@ pub fn initialize_partition<A: Allocator>(
         → IsOutcome f caller (call.InitializePartition partition) tree.old result tree.new }
 {
     let target = meant(caller, partition);
-    if !is_state_allowed(tree, target, States::Created) {
+    if !is_state_allowed(
+        tree,
+        target,
+        needs(&Call::InitializePartition { partition }).states,
+    ) {
         return Err(Refused::Unmet(Rule::TargetState));
     }
     initialize(tree, target);
@@ -89,7 +94,11 @@ fn unmet_finalize<A: Allocator>(tree: &Partitions<A>, caller: u64, partition: u6
         ≡ unmet_further f caller (call.FinalizePartition partition) }
 {
     let target = meant(caller, partition);
-    if !is_state_allowed(tree, target, States::CreatedOrActive) {
+    if !is_state_allowed(
+        tree,
+        target,
+        needs(&Call::FinalizePartition { partition }).states,
+    ) {
         return Some(Rule::TargetState);
     }
     if !is_childless(tree, target) {
@@ -109,7 +118,11 @@ pub fn delete_partition<A: Allocator>(
         → IsOutcome f caller (call.DeletePartition partition) tree.old result tree.new }
 {
     let target = meant(caller, partition);
-    if !is_state_allowed(tree, target, States::CreatedOrFinalized) {
+    if !is_state_allowed(
+        tree,
+        target,
+        needs(&Call::DeletePartition { partition }).states,
+    ) {
         return Err(Refused::Unmet(Rule::TargetState));
     }
     match delete(tree, caller, target) {

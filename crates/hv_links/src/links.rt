@@ -9,8 +9,9 @@ ghost use Rattle.hv_tie.specs.Tie.{IsTied};
 
 use crate::rows::{add_conn, add_port, remove_conn, remove_port};
 use crate::rules::{born_of, has_conn, has_port, is_kind, is_peer, is_there};
+use hv_calls::Call;
 use hv_defs::{Aim, CONNECTION_CHARGE, PORT_CHARGE, PortKind};
-use hv_policy::{CallOutput, Rule, States};
+use hv_policy::{CallOutput, Rule, needs};
 use hv_ports::{Conn, Port};
 use hv_tie::{Partitions, Refused, has_available, has_target, is_state_allowed, meant};
 use std::alloc::{AllocError, Allocator};
@@ -79,16 +80,36 @@ fn unmet_create<A: Allocator>(
         new.base new.count) }
 {
     let target = meant(caller, partition);
-    if !is_state_allowed(tree, target, States::Active) {
+    let NewPort {
+        port,
+        peer,
+        kind,
+        sint,
+        vp,
+        base,
+        count,
+    } = new;
+    let states = needs(&Call::CreatePort {
+        partition,
+        port,
+        peer,
+        kind,
+        sint,
+        vp,
+        base,
+        count,
+    })
+    .states;
+    if !is_state_allowed(tree, target, states) {
         return Some(Rule::TargetState);
     }
-    if !is_there(tree, meant(caller, new.peer)) {
+    if !is_there(tree, meant(caller, peer)) {
         return Some(Rule::OtherExists);
     }
-    if has_port(tree, target, new.port) {
+    if has_port(tree, target, port) {
         return Some(Rule::Port);
     }
-    if !has_target(tree, target, new.vp) {
+    if !has_target(tree, target, vp) {
         return Some(Rule::VpExists);
     }
     if !has_available(tree, target, PORT_CHARGE) {
@@ -119,7 +140,11 @@ pub fn delete_port<A: Allocator>(
         → IsOutcome f caller (call.DeletePort partition port) tree.old result tree.new }
 {
     let target = meant(caller, partition);
-    if !is_state_allowed(tree, target, States::Active) {
+    if !is_state_allowed(
+        tree,
+        target,
+        needs(&Call::DeletePort { partition, port }).states,
+    ) {
         return Err(Refused::Unmet(Rule::TargetState));
     }
     if !has_port(tree, target, port) {
@@ -186,7 +211,15 @@ fn unmet_connect<A: Allocator>(
 {
     let target = meant(caller, partition);
     let part = meant(caller, port_partition);
-    if !is_state_allowed(tree, target, States::Active) {
+    let states = needs(&Call::ConnectPort {
+        partition,
+        connection,
+        port_partition,
+        port,
+        kind,
+    })
+    .states;
+    if !is_state_allowed(tree, target, states) {
         return Some(Rule::TargetState);
     }
     if !is_there(tree, part) {
@@ -222,7 +255,12 @@ pub fn disconnect_port<A: Allocator>(
         → IsOutcome f caller (call.DisconnectPort partition connection) tree.old result tree.new }
 {
     let target = meant(caller, partition);
-    if !is_state_allowed(tree, target, States::Active) {
+    let states = needs(&Call::DisconnectPort {
+        partition,
+        connection,
+    })
+    .states;
+    if !is_state_allowed(tree, target, states) {
         return Err(Refused::Unmet(Rule::TargetState));
     }
     if !has_conn(tree, target, connection) {

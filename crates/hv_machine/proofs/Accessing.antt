@@ -1,5 +1,6 @@
 -- From what a chapter made of an access to the machine.
-use Rattle.std.proofs.Common.{◌≡◌, ℕ, ◌+◌, Option, None, Some, refl, ap, ◌∙◌}
+use Rattle.std.proofs.Common.{◌≡◌, ℕ, ◌+◌, List, Option, None, refl, sym, ap, subst, ◌∙◌}
+use Rattle.std.specs.declared.result.Result.TheVariants.{Ok, Err}
 use Rattle.hv_defs.specs.Registers.{name_of_msr}
 use Rattle.hv_laws.proofs.Counted.{action_served}
 use Rattle.hv_laws.proofs.Ended.{write_next_is}
@@ -16,15 +17,18 @@ use Rattle.hv_policy.specs.declared.event.Access.TheVariants.{WriteMsr, TakeInte
 use Rattle.hv_policy.specs.declared.event.Action.{Action}
 use Rattle.hv_policy.specs.declared.event.Caller.{Caller}
 use Rattle.hv_policy.specs.declared.event.Event.{Event}
-use Rattle.hv_policy.specs.declared.reply.Reply.TheVariants.{Fault}
+use Rattle.hv_policy.specs.declared.reply.Reply.TheVariants.{Served, Fault}
 use Rattle.hv_policy.specs.declared.rule.Rule.{Rule}
 use Rattle.hv_tie.proofs.Room.{roomless_tied}
+use Rattle.hv_tie.specs.Access.{IsAnswered}
 use Rattle.hv_tie.specs.Tie.{IsTied}
 use Rattle.hv_tree.specs.Rows.{Rows}
-use Rattle.hv_machine.proofs.Serving.{state_of}
+use Rattle.hv_machine.proofs.Serving.{state_of, tied_tree}
+use Rattle.hv_machine.proofs.Steps.{answered, denied}
 use Rattle.hv_machine.specs.Access.{access_event}
 use Rattle.hv_machine.specs.IsFlat.{IsFlat}
 use Rattle.hv_machine.specs.Lasting.{IsLasting}
+use Rattle.hv_machine.specs.Step.{IsStep}
 
 -- an access that is an event's
 pub access_event_is : {A : Type 0} (e : Event A) (access : Access) → action_of access ≡ e.what → access_event e.by access ≡ e
@@ -41,10 +45,7 @@ module _ (A : Type 0) where
   next_is access f by = refl
 
   module _ (f : Flat) (by : Caller) (access : Access) where
-    -- the flat step of an access that is refused, and of one that isn't
-    pub refused_access : (rule : Rule) → unmet f (access_event {A = A} by access) ≡ Some rule → step f (access_event {A = A} by access) ≡ (f, Fault rule)
-    refused_access rule is = ap (step_by f (access_event {A = A} by access)) is ∙ ap (λ reply. (f, reply)) (fault_is access rule)
-
+    -- the flat step of an access that no rule refuses
     pub served_access : unmet f (access_event {A = A} by access) ≡ None → step f (access_event {A = A} by access) ≡ step_by f (access_event {A = A} by access) None
     served_access is = ap (step_by f (access_event {A = A} by access)) is
 
@@ -71,3 +72,21 @@ module _ (A : Type 0) (tree new : Rows PartitionState) (pages next served : ℕ)
     lawful = lawful_effect pages l.flat (access_event {A = A} by access) l.lawful met;
     bounded = l.bounded;
   }
+
+  -- so an access is a step where it is served, and where a rule refuses it
+  pub served_step : IsLasting (state_of tree pages next served) → (output : List ℕ) → ((f : Flat) → IsTied tree f → IsAnswered {A = A} f by (action_of access) tree (Ok output) new)
+      → IsStep {A = A} (access_event by access) (state_of tree pages next served) (Ok (Served output)) (state_of new pages next (served + 1))
+  served_step l output done =
+      let tied = tied_tree tree pages next served in
+      let met = λ (f : Flat) (flat : IsFlat (state_of tree pages next served) f). unmet_own A f by access None (done f (tied f flat)).0 (done f (tied f flat)).1.met in
+      answered (access_event {A = A} by access) (state_of tree pages next served) l (Served output) (state_of new pages next (served + 1))
+      (accessed_lasting l (met l.flat l.stands) (done l.flat (tied l.flat l.stands)).1.rows) refl
+      (λ f flat. let step_is = served_access A f by access (met f flat) in
+      ((done f (tied f flat)).1.reply ∙ sym (ap (λ s. s.1) step_is), subst (IsFlat (state_of new pages next (served + 1))) (sym (ap (λ s. s.0) step_is)) (accessed_flat f flat (done f (tied f flat)).1.rows)))
+
+  pub refused_step : IsLasting (state_of tree pages next served) → (rule : Rule) → ((f : Flat) → IsTied tree f → IsAnswered {A = A} f by (action_of access) tree (Err rule) new)
+      → IsStep {A = A} (access_event by access) (state_of tree pages next served) (Ok (Fault rule)) (state_of new pages next served)
+  refused_step l rule kept =
+      let tied = tied_tree tree pages next served in
+      denied (access_event {A = A} by access) (state_of tree pages next served) l rule (Fault rule) (state_of new pages next served) (λ f flat. (kept f (tied f flat)).0) (sym (fault_is A access rule))
+      (ap (λ rows. state_of rows pages next served) (kept l.flat (tied l.flat l.stands)).1)

@@ -2,7 +2,6 @@ pub mod Accessing
 pub mod Booted
 pub mod Calls
 pub mod Confined
-pub mod Onward
 pub mod Root
 pub mod Serving
 pub mod Sound

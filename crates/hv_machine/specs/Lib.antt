@@ -1,6 +1,5 @@
 pub mod Access
 pub mod BootTree
-pub mod Element
 pub mod IsFlat
 pub mod Lasting
 pub mod Masks
@@ -8,3 +7,4 @@ pub mod Next
 pub mod Served
 pub mod Sound
 pub mod State
+pub mod Step

@@ -1,8 +1,6 @@
 // The calls and accesses, each to its chapter.
-ghost use Rattle.std.specs.Prelude.{◌≡◌, ◌+◌, ◌-◌, ◌^◌, ◌<◌, [], true, IsTrue};
+ghost use Rattle.std.specs.Prelude.{◌≡◌, ◌+◌, ◌-◌, ◌^◌, ◌<◌, []};
 ghost use Rattle.std.specs.Result.{result_map_both};
-ghost use Rattle.hv_calls.specs.Call.{kind_of_call};
-ghost use Rattle.hv_calls.specs.Params.{is_plain};
 ghost use Rattle.hv_defs.specs.declared.sizes.TheConstants.{MAX_SERVED};
 ghost use Rattle.hv_policy.specs.Call.{action_of};
 ghost use Rattle.hv_policy.specs.Flat.{Flat};
@@ -30,8 +28,7 @@ use hv_tie::{Partitions, Refused, target};
 use std::alloc::Allocator;
 
 // Hands a call for which P1 to P10 are met to its chapter. `next` is the id that the next partition gets,
-// and `served` how many events were served. Of a call that is known to be plain the parties are noted: an
-// element before this one had them noted.
+// and `served` how many events were served.
 #[inline(always)]
 pub fn dispatch<A: Allocator + Clone>(
     tree: &mut Partitions<A>,
@@ -40,42 +37,14 @@ pub fn dispatch<A: Allocator + Clone>(
     next: u64,
     served: u64,
     call: &Call<'_>,
-    plain: bool,
 ) -> Result<CallOutput, Refused>
     requires admitted { (a : IsAdmitted tree.old caller call.now) × (a.rows.flat.next ≡ next) }
     requires count { served < MAX_SERVED }
-    requires plain { IsTrue plain → is_plain (kind_of_call call.now) ≡ true }
     ensures { (f : Flat) → IsTied tree.old f → f.next ≡ next → f.served ≡ served
         → IsOutcome f caller call.now tree.old result tree.new }
 {
-    if plain {
-        return hand_plain_on(tree, caller, call);
-    }
     note_parties(tree, caller, call);
     hand_on(tree, alloc, caller, next, served, call)
-}
-
-// The chapter of each plain call.
-#[inline(always)]
-fn hand_plain_on<A: Allocator>(
-    tree: &mut Partitions<A>,
-    caller: u64,
-    call: &Call<'_>,
-) -> Result<CallOutput, Refused>
-    requires admitted { IsAdmitted tree.old caller call.now }
-    requires plain { is_plain (kind_of_call call.now) ≡ true }
-    ensures { (f : Flat) → IsTied tree.old f → IsOutcome f caller call.now tree.old result tree.new }
-{
-    match *call {
-        Call::DepositMemory { partition, page } => deposit_memory(tree, caller, partition, page),
-        Call::WithdrawMemory { partition } => withdraw_memory(tree, caller, partition),
-        Call::GetVpRegisters {
-            partition,
-            vp,
-            name,
-        } => get_vp_registers(tree, caller, partition, vp, name),
-        _ => unreachable!(),
-    }
 }
 
 // Notes where the caller and the target are, for the chapter's look-ups. Nothing changes.

@@ -16,7 +16,6 @@
 mod admit;
 mod boot;
 mod dispatch;
-mod element;
 mod machine;
 
 pub use hv_policy::{

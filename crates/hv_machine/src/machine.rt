@@ -1,10 +1,8 @@
 // The machine and its one step.
-ghost use Rattle.std.specs.Prelude.{◌≡◌, ◌<◌, [], None, true, IsTrue, IfOk, IfErr, OnOk, OnErr};
+ghost use Rattle.std.specs.Prelude.{◌≡◌, ◌<◌, [], None, IsTrue, IfOk, IfErr, OnOk, OnErr};
 ghost use Rattle.hv_defs.specs.declared.sizes.TheConstants.{MAX_SERVED};
 ghost use Rattle.hv_abi.specs.Check.{IsShape, call_of};
 ghost use Rattle.hv_abi.specs.declared.frame.Frame.{Frame as CallFrame};
-ghost use Rattle.hv_calls.specs.Call.{kind_of_call};
-ghost use Rattle.hv_calls.specs.Params.{is_plain};
 ghost use Rattle.hv_confine.specs.Confined.{IsConfined};
 ghost use Rattle.hv_laws.specs.Bounded.{IsBounded};
 ghost use Rattle.hv_policy.specs.Call.{IsCall, call_event, may_take_memory};
@@ -20,6 +18,7 @@ ghost use Rattle.hv_machine.specs.IsFlat.{IsFlat};
 ghost use Rattle.hv_machine.specs.Lasting.{IsLasting};
 ghost use Rattle.hv_machine.specs.Served.{IsResult};
 ghost use Rattle.hv_machine.specs.Sound.{IsSound};
+ghost use Rattle.hv_machine.specs.Step.{IsStep};
 
 use crate::dispatch::{dispatch, dispatch_access, next_after};
 use hv_abi::{CallKind, Frame, InputValue, Shape};
@@ -123,22 +122,7 @@ impl<A: Allocator + Clone> Machine<A> {
     /// promises. A [`CallReply`] has no room for the output of an access.
     pub fn hypercall(&mut self, by: Caller, frame: &Frame<A>) -> Result<CallReply, HostRefused>
         requires { self.old.served < MAX_SERVED }
-        ensures reply { (f : Flat) → IsFlat self.old f
-            → IfOk result (λ r. r ≡ (step f (call_event by frame.now)).1) }
-        ensures state { (f : Flat) → IsFlat self.old f
-            → OnOk result (IsFlat self.new (step f (call_event by frame.now)).0) }
-        ensures refused { (f : Flat) → IsFlat self.old f
-            → OnErr result (unmet f (call_event by frame.now) ≡ None) }
-        ensures memory { OnErr result (IsTrue (may_take_memory (call_event by frame.now))) }
-        ensures cause { IfErr result (λ why. why ≡ HostRefused.Memory) }
-        ensures kept { OnErr result (self.new ≡ self.old) }
-        ensures confined { (f g : Flat) → IsFlat self.old f → IsFlat self.new g
-            → IsConfined (call_event by frame.now) f g }
-        ensures asked { IfOk result (NamesAsked (call_event by frame.now)) }
-        ensures result { IfOk result HasResult }
-        ensures lasting { IsLasting self.new }
-        ensures pages { self.new.pages ≡ self.old.pages }
-        ensures sound { IsSound self.new }
+        ensures { IsStep (call_event by frame.now) self.old result self.new }
     {
         // A call that guests make again and again has a way of its own, on which it is known which one it is, so that
         // the compiler leaves out what that tells. The others share the last.
@@ -184,41 +168,24 @@ impl<A: Allocator + Clone> Machine<A> {
     ) -> Result<CallReply, HostRefused>
         requires count { self.old.served < MAX_SERVED }
         requires named { call_of frame.now ≡ named }
-        ensures reply { (f : Flat) → IsFlat self.old f
-            → IfOk result (λ r. r ≡ (step f (call_event by frame.now)).1) }
-        ensures state { (f : Flat) → IsFlat self.old f
-            → OnOk result (IsFlat self.new (step f (call_event by frame.now)).0) }
-        ensures refused { (f : Flat) → IsFlat self.old f
-            → OnErr result (unmet f (call_event by frame.now) ≡ None) }
-        ensures memory { OnErr result (IsTrue (may_take_memory (call_event by frame.now))) }
-        ensures cause { IfErr result (λ why. why ≡ HostRefused.Memory) }
-        ensures kept { OnErr result (self.new ≡ self.old) }
-        ensures confined { (f g : Flat) → IsFlat self.old f → IsFlat self.new g
-            → IsConfined (call_event by frame.now) f g }
-        ensures asked { IfOk result (NamesAsked (call_event by frame.now)) }
-        ensures result { IfOk result HasResult }
-        ensures lasting { IsLasting self.new }
-        ensures pages { self.new.pages ≡ self.old.pages }
-        ensures sound { IsSound self.new }
+        ensures { IsStep (call_event by frame.now) self.old result self.new }
     {
         // Opens the machine for the proof: what it keeps is known of its fields.
         let _ = &self.tree;
         match self.admit(by, frame, named) {
-            Ok((shape, call)) => self.answer(by, frame, shape, &call, false),
+            Ok((shape, call)) => self.answer(by, frame, shape, &call),
             Err(rule) => Ok(refused_reply(frame, rule)),
         }
     }
 
-    // Serves a call for which P1 to P10 are met, where its own rules are met too, and answers. It is plain where
-    // the caller says so.
+    // Serves a call for which P1 to P10 are met, where its own rules are met too, and answers.
     #[inline(always)]
-    pub(crate) fn answer(
+    fn answer(
         &mut self,
         by: Caller,
         frame: &Frame<A>,
         shape: Shape,
         call: &Call<'_>,
-        plain: bool,
     ) -> Result<CallReply, HostRefused>
         requires count { self.old.served < MAX_SERVED }
         requires shape { IsShape frame.now shape }
@@ -227,27 +194,11 @@ impl<A: Allocator + Clone> Machine<A> {
         requires access { (f : Flat) → IsFlat self.old f → HasAccess f by.part call.now }
         requires further { (f : Flat) → IsFlat self.old f
             → unmet f (call_event by frame.now) ≡ unmet_further f by.part call.now }
-        requires plain { IsTrue plain → is_plain (kind_of_call call.now) ≡ true }
-        ensures reply { (f : Flat) → IsFlat self.old f
-            → IfOk result (λ r. r ≡ (step f (call_event by frame.now)).1) }
-        ensures state { (f : Flat) → IsFlat self.old f
-            → OnOk result (IsFlat self.new (step f (call_event by frame.now)).0) }
-        ensures refused { (f : Flat) → IsFlat self.old f
-            → OnErr result (unmet f (call_event by frame.now) ≡ None) }
-        ensures memory { OnErr result (IsTrue (may_take_memory (call_event by frame.now))) }
-        ensures cause { IfErr result (λ why. why ≡ HostRefused.Memory) }
-        ensures kept { OnErr result (self.new ≡ self.old) }
-        ensures confined { (f g : Flat) → IsFlat self.old f → IsFlat self.new g
-            → IsConfined (call_event by frame.now) f g }
-        ensures asked { IfOk result (NamesAsked (call_event by frame.now)) }
-        ensures result { IfOk result HasResult }
-        ensures lasting { IsLasting self.new }
-        ensures pages { self.new.pages ≡ self.old.pages }
-        ensures sound { IsSound self.new }
+        ensures { IsStep (call_event by frame.now) self.old result self.new }
     {
         // Opens the machine for the proof: what it keeps is known of its fields.
         let _ = &self.tree;
-        match self.serve(by, call, plain) {
+        match self.serve(by, call) {
             Ok(output) => Ok(served_reply(frame, shape, output)),
             Err(Refused::Unmet(rule)) => Ok(refused_reply(frame, rule)),
             Err(Refused::Memory) => Err(HostRefused::Memory),
@@ -260,16 +211,8 @@ impl<A: Allocator + Clone> Machine<A> {
     pub fn access(&mut self, by: Caller, access: Access, output: &mut Output) -> Result<(), Rule>
         requires count { self.old.served < MAX_SERVED }
         requires empty { output.old ≡ [] }
-        ensures reply { (f : Flat) → IsFlat self.old f → access_reply result output.new
-            ≡ (step {A = A} f (access_event by access)).1 }
-        ensures state { (f : Flat) → IsFlat self.old f
-            → IsFlat self.new (step {A = A} f (access_event by access)).0 }
-        ensures confined { (f g : Flat) → IsFlat self.old f → IsFlat self.new g
-            → IsConfined {A = A} (access_event by access) f g }
-        ensures asked { NamesAsked {A = A} (access_event by access) (access_reply result output.new) }
-        ensures lasting { IsLasting self.new }
-        ensures pages { self.new.pages ≡ self.old.pages }
-        ensures sound { IsSound self.new }
+        ensures { IsStep {A = A} (access_event by access) self.old
+            (Ok (access_reply result output.new)) self.new }
     {
         match dispatch_access(&mut self.tree, by, access, output) {
             Ok(()) => {
@@ -282,9 +225,8 @@ impl<A: Allocator + Clone> Machine<A> {
 
     // Serves a call for which P1 to P10 are met, where its own rules are met too.
     #[inline(always)]
-    fn serve(&mut self, by: Caller, call: &Call<'_>, plain: bool) -> Result<CallOutput, Refused>
+    fn serve(&mut self, by: Caller, call: &Call<'_>) -> Result<CallOutput, Refused>
         requires count { self.old.served < MAX_SERVED }
-        requires plain { IsTrue plain → is_plain (kind_of_call call.now) ≡ true }
         requires bounded { IsBounded call.now }
         requires access { (f : Flat) → IsFlat self.old f → HasAccess f by.part call.now }
         ensures outcome { (f : Flat) → IsFlat self.old f
@@ -299,7 +241,6 @@ impl<A: Allocator + Clone> Machine<A> {
             self.next,
             self.served,
             call,
-            plain,
         ) {
             Ok(output) => {
                 self.next = next_after(call, self.next);

@@ -99,7 +99,7 @@ pub fn take_interrupt<A: Allocator>(
 {
     match take(tree, by) {
         Ok(vector) => {
-            output.put_byte(vector);
+            output.extend_from_slice(&[vector]);
             Ok(())
         }
         Err(rule) => Err(rule),

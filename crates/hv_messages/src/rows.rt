@@ -1,5 +1,5 @@
 // What the calls and accesses of this chapter change in the tree, and read of it.
-ghost use Rattle.std.specs.Prelude.{◌≡◌, ◌<◌, None, Some, IfOk, IfErr, OnOk, OnErr};
+ghost use Rattle.std.specs.Prelude.{◌≡◌, ◌<◌, [], None, Some, IfOk, IfErr, OnOk, OnErr};
 ghost use Rattle.hv_policy.specs.Rules.{caller_asks, first_unmet};
 ghost use Rattle.std.specs.FinMap.{get};
 ghost use Rattle.hv_defs.specs.declared.sizes.TheConstants.{EVENT_FLAGS, SINTS};
@@ -129,7 +129,8 @@ pub fn slot<A: Allocator>(
     sint: u8,
     output: &mut Output,
 ) -> Result<(), Rule>
-    requires { sint < SINTS }
+    requires sint { sint < SINTS }
+    requires empty { output.old ≡ [] }
     ensures read { IfOk result (λ _. (f : Flat) → IsTied tree.old f
         → output.new ≡ slot_at (here by.part by.vp sint) f.mail) }
     ensures kept { tree.new ≡ tree.old }
@@ -141,7 +142,9 @@ pub fn slot<A: Allocator>(
         Ok(vp) => vp,
         Err(rule) => return Err(rule),
     };
-    vp.read_slot(sint, output.zeros());
+    let mut bytes = [0; 256];
+    vp.read_slot(sint, &mut bytes);
+    output.extend_from_slice(&bytes);
     Ok(())
 }
 
@@ -154,7 +157,8 @@ pub fn flags<A: Allocator>(
     sint: u8,
     output: &mut Output,
 ) -> Result<(), Rule>
-    requires { sint < SINTS }
+    requires sint { sint < SINTS }
+    requires empty { output.old ≡ [] }
     ensures read { IfOk result (λ _. (f : Flat) → IsTied tree.old f
         → output.new ≡ flags_at (get f.vp (by.part, by.vp)) sint) }
     ensures kept { tree.new ≡ tree.old }
@@ -166,6 +170,6 @@ pub fn flags<A: Allocator>(
         Ok(vp) => vp,
         Err(rule) => return Err(rule),
     };
-    output.put_whole(&vp.flags(sint));
+    output.extend_from_slice(&vp.flags(sint));
     Ok(())
 }

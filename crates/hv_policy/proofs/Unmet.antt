@@ -41,11 +41,6 @@ all_met (ask ∷ asks) h = by ask.1 refl h (all_met asks)
     by true is h rest = (is, rest h)
     by false is h rest = cc
 
--- and the other way round
-pub none_unmet : (asks : List Ask) → AreMet asks → first_unmet asks ≡ None
-none_unmet [] h = refl
-none_unmet (ask ∷ asks) h = ap (λ met. cond met (first_unmet asks) (Some ask.0)) h.0 ∙ none_unmet asks h.1
-
 module _ {A : Type 0} (f : Flat) (event : Event A) where
   -- one of P1 to P3 refuses
   pub unmet_by_caller : (rule : Rule) → first_unmet (caller_asks f event.by) ≡ Some rule → unmet f event ≡ Some rule

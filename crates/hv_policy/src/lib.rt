@@ -25,7 +25,7 @@ pub use answer::{Answer, CallOutput, CallReply};
 pub use asking::ask_frame;
 pub use config::{BootRefused, Config};
 pub use event::{Access, Action, Caller, Event};
-pub use need::{Kin, Need, States, needs, states_to_set};
+pub use need::{Kin, Need, States, needs};
 pub use property::Property;
 pub use reply::{Output, Reply};
 pub use result::{completed_reps, refused_reply, refused_reps, result_of, served_reply};

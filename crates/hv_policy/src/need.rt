@@ -147,9 +147,9 @@ pub fn needs(call: &Call) -> Need
     }
 }
 
-/// The life states in which a property may be set: before the partition runs, and while it does. A code
-/// that no property has is refused by P11 before they matter.
-pub fn states_to_set(property: Option<Property>) -> States
+// The life states in which a property may be set: before the partition runs, and while it does. A code
+// that no property has is refused by P11 before they matter.
+fn states_to_set(property: Option<Property>) -> States
     ensures { result ≡ states_to_set_of property }
 {
     match property {

@@ -7,7 +7,8 @@ ghost use Rattle.hv_tie.specs.Tie.{IsTied};
 
 use crate::rows::{deposit, withdraw};
 use crate::rules::{is_loose, lowest_pooled};
-use hv_policy::{CallOutput, Rule, States};
+use hv_calls::Call;
+use hv_policy::{CallOutput, Rule, needs};
 use hv_tie::{
     Partitions, Refused, has_available, is_state_allowed, meant, memory_balance, number_output,
 };
@@ -48,7 +49,8 @@ fn unmet_deposit<A: Allocator>(
     ensures { (f : Flat) → IsTied tree.now f → result
         ≡ unmet_further f caller (call.DepositMemory partition page) }
 {
-    if !is_state_allowed(tree, meant(caller, partition), States::CreatedOrActive) {
+    let states = needs(&Call::DepositMemory { partition, page }).states;
+    if !is_state_allowed(tree, meant(caller, partition), states) {
         return Some(Rule::TargetState);
     }
     if !is_loose(tree, caller, page) {

@@ -26,7 +26,7 @@ pub fn read_msr<A: Allocator>(
 {
     match read_own(tree, by, name_of_msr(msr)) {
         Ok(value) => {
-            output.put_number(value);
+            output.extend_from_slice(&value.to_le_bytes());
             Ok(())
         }
         Err(rule) => Err(rule),

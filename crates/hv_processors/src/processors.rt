@@ -11,8 +11,9 @@ ghost use Rattle.hv_tie.specs.Tie.{IsTied};
 
 use crate::rows::{add, remove, write};
 use crate::rules::{is_known, is_vp_free, may_access, register, takes};
+use hv_calls::Call;
 use hv_defs::VP_CHARGE;
-use hv_policy::{CallOutput, Rule, States};
+use hv_policy::{CallOutput, Rule, States, needs};
 use hv_tie::{Partitions, Refused, has_available, has_vp, is_state_allowed, meant};
 use std::alloc::{AllocError, Allocator};
 
@@ -49,7 +50,11 @@ fn unmet_create<A: Allocator>(
     ensures { (f : Flat) → IsTied tree.now f → result ≡ unmet_further f caller (call.CreateVp partition vp) }
 {
     let target = meant(caller, partition);
-    if !is_state_allowed(tree, target, States::Active) {
+    if !is_state_allowed(
+        tree,
+        target,
+        needs(&Call::CreateVp { partition, vp }).states,
+    ) {
         return Some(Rule::TargetState);
     }
     if !is_vp_free(tree, target, vp) {
@@ -73,7 +78,11 @@ pub fn delete_vp<A: Allocator>(
         → IsOutcome f caller (call.DeleteVp partition vp) tree.old result tree.new }
 {
     let target = meant(caller, partition);
-    if !is_state_allowed(tree, target, States::Active) {
+    if !is_state_allowed(
+        tree,
+        target,
+        needs(&Call::DeleteVp { partition, vp }).states,
+    ) {
         return Err(Refused::Unmet(Rule::TargetState));
     }
     if !has_vp(tree, target, vp) {
@@ -113,7 +122,13 @@ fn unmet_get<A: Allocator>(
     ensures { (f : Flat) → IsTied tree.now f → result
         ≡ unmet_further f caller (call.GetVpRegisters partition vp name) }
 {
-    if let Some(rule) = unmet_register(tree, caller, partition, vp, name) {
+    let states = needs(&Call::GetVpRegisters {
+        partition,
+        vp,
+        name,
+    })
+    .states;
+    if let Some(rule) = unmet_register(tree, caller, partition, vp, name, states) {
         return Some(rule);
     }
     if !is_known(name) {
@@ -122,19 +137,20 @@ fn unmet_get<A: Allocator>(
     None
 }
 
-// P12, P18 and P19, which reading and writing a register ask alike.
+// P12, P18 and P19, which reading and writing a register ask alike, of a target in one of these life states.
 fn unmet_register<A: Allocator>(
     tree: &Partitions<A>,
     caller: u64,
     partition: u64,
     vp: u32,
     name: u32,
+    states: States,
 ) -> Option<Rule>
     ensures { (f : Flat) → IsTied tree.now f → result
-        ≡ first_unmet (register_asks f caller (meant_id caller partition) vp name) }
+        ≡ first_unmet (register_asks f caller (meant_id caller partition) states vp name) }
 {
     let target = meant(caller, partition);
-    if !is_state_allowed(tree, target, States::Active) {
+    if !is_state_allowed(tree, target, states) {
         return Some(Rule::TargetState);
     }
     if !may_access(tree, caller, name) {
@@ -187,7 +203,14 @@ fn unmet_set<A: Allocator>(
     ensures { (f : Flat) → IsTied tree.now f → result
         ≡ unmet_further f caller (call.SetVpRegisters partition vp name value) }
 {
-    if let Some(rule) = unmet_register(tree, caller, partition, vp, name) {
+    let states = needs(&Call::SetVpRegisters {
+        partition,
+        vp,
+        name,
+        value,
+    })
+    .states;
+    if let Some(rule) = unmet_register(tree, caller, partition, vp, name, states) {
         return Some(rule);
     }
     if !takes(name, value) {

@@ -7,7 +7,8 @@ ghost use Rattle.hv_tie.specs.Tie.{IsTied};
 
 use crate::rows::set_property;
 use crate::rules::{is_in_range, is_known, may_give, property_value};
-use hv_policy::{CallOutput, Property, Rule, states_to_set};
+use hv_calls::Call;
+use hv_policy::{CallOutput, Rule, needs};
 use hv_tie::{Partitions, Refused, is_state_allowed, meant, number_output};
 use std::alloc::Allocator;
 
@@ -61,11 +62,13 @@ fn unmet_set<A: Allocator>(
     if !is_known(code) {
         return Some(Rule::PropertyKnown);
     }
-    if !is_state_allowed(
-        tree,
-        meant(caller, partition),
-        states_to_set(Property::of(code)),
-    ) {
+    let states = needs(&Call::SetPartitionProperty {
+        partition,
+        code,
+        value,
+    })
+    .states;
+    if !is_state_allowed(tree, meant(caller, partition), states) {
         return Some(Rule::TargetState);
     }
     if !may_give(tree, caller, code, value) {

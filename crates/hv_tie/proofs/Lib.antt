@@ -8,7 +8,6 @@ pub mod Kept
 pub mod Lawful
 pub mod Links
 pub mod Mailed
-pub mod One
 pub mod Processors
 pub mod Room
 pub mod Staff

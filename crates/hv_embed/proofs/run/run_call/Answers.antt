@@ -6,12 +6,6 @@ use Rattle.hv_embed.specs.declared.status.TheConstants.{MAX_EVENTS}
 use Rattle.hv_embed.proofs.Elements.{has_run, more_free, none_of}
 use Rattle.hv_embed.proofs.run.run_call.Goals as goal
 
--- the machine stood for a flat state, and so the first element was taken of one
-pub run_on-more-requires-clause-after : goal.run_on-more-requires-clause-after
-run_on-more-requires-clause-after c =
-    let was = c.served.ensures.lasting in
-    record { before = was.flat; reply = c.of-first.ensures ∙ c.in-Ok.ensures.reply was.flat was.stands; state = c.in-Ok.ensures.state was.flat was.stands }
-
 -- an element with which the call doesn't go on is the only one
 pub returns-then-is_none-clause-ran : goal.returns-then-is_none-clause-ran
 returns-then-is_none-clause-ran c = λ f flat _.

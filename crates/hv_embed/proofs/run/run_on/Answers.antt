@@ -1,6 +1,6 @@
 use Rattle.std.proofs.Common.{◌≡◌, take, subst, arith, ◌∙◌}
 use Rattle.hv_embed.specs.Run.{IsAtMore}
-use Rattle.hv_embed.proofs.Elements.{after, one_more}
+use Rattle.hv_embed.proofs.Elements.{one_more}
 use Rattle.hv_embed.proofs.run.run_on.Goals as goal
 
 pub loop-more-preserved : goal.loop-more-preserved
@@ -14,7 +14,6 @@ loop-more-preserved c =
     record {
       ran = λ ran at. one_more c.args.by l.machine m l.frame next l.last told taken.reply taken.state l.more ran (take l.at l.outputs) (take c.put_out.result c.put_out.new.outputs) taken.frame taken.more
           c.put_out.ensures.bytes (was.ran ran at);
-      after = after c.args.by l.machine m l.frame next l.last told taken.reply taken.state was.after;
       place = omega arith;
       few = omega arith;
       index = taken.index;

@@ -2,13 +2,12 @@ use Rattle.std.proofs.Common.{◌≡◌, ◌+◌, ◌*◌, ◌≤◌, length, ta
 use Rattle.hv_machine.specs.Lasting.{IsLasting}
 use Rattle.hv_machine.specs.Sound.{IsSound}
 use Rattle.hv_policy.specs.Result.{HasResult}
-use Rattle.hv_embed.specs.Run.{IsAfter, IsAt, IsAtMore, Ran}
+use Rattle.hv_embed.specs.Run.{IsAt, IsAtMore, Ran}
 use Rattle.hv_embed.proofs.run.run_on.Given as goal
 
 abbrev pub invariant-loop-more : goal.invariant-loop-more
 invariant-loop-more l = record {
   ran : (ran : Ran) → IsAt ran l.fn.machine l.fn.frame l.fn.last (take l.fn.at l.fn.outputs) → IsAtMore l.more l.by ran l.machine l.frame l.last (take l.at l.outputs);
-  after : IsAfter l.by l.machine l.frame l.last;
   place : l.at ≤ length l.outputs;
   few : l.at ≤ l.fn.at + 16 * l.more;
   index : HasResult l.last;

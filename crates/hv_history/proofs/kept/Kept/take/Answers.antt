@@ -1,8 +1,8 @@
-use Rattle.std.proofs.Common.{ap, arith, subst, sym, ◌∙◌}
+use Rattle.std.proofs.Common.{ap, arith, subst, sym}
 use Rattle.hv_history.specs.History.{IsOfLastCall, entries}
 use Rattle.hv_history.specs.Kept.{HasStepped, HasTaken, Kept}
 use Rattle.hv_history.proofs.Elements.{is_call, of_call}
-use Rattle.hv_history.proofs.Runs.{few, has_taken, is_run, new_of, next_event, room}
+use Rattle.hv_history.proofs.Runs.{few, has_taken, is_run, new_of, room}
 use Rattle.hv_history.specs.Run.{GoesOnWithLast}
 use Rattle.hv_history.proofs.kept.Kept.take.Goals as goal
 
@@ -36,11 +36,6 @@ pub step_into-requires-clause-call : goal.step_into-requires-clause-call
 step_into-requires-clause-call g c = λ on.
     let goes : GoesOnWithLast c.args.event.now (entries c.self.inside.history) = subst (GoesOnWithLast c.args.event.now) (sym (ap (λ (k : Kept g.row.A.Denot). k.history) c.self.view_is)) (c.requires on) in
     subst (IsOfLastCall c.args.event.now) (sym c.reserve.ensures.same) (of_call c.args.event.now (entries c.self.inside.history) goes)
-
-pub step_into-requires-clause-next : goal.step_into-requires-clause-next
-step_into-requires-clause-next g c = λ on.
-    let k : Kept g.row.A.Denot = record { config = c.self.inside.config; limit = c.self.inside.limit; history = entries c.self.inside.history; machine = c.self.inside.machine } in
-    next_event k c.self.invariant c.args.event.now (subst (GoesOnWithLast c.args.event.now) (sym (ap (λ (k : Kept g.row.A.Denot). k.history) c.self.view_is)) (c.requires on))
 
 pub step_into-requires-clause-what : goal.step_into-requires-clause-what
 step_into-requires-clause-what g c = λ on. is_call c.args.event.now c.args.self.now.history (c.requires on)
