@@ -1,6 +1,9 @@
 -- Messages that become shown at SINTs, and the write of EOM.
-use Rattle.std.proofs.Common.{◌≡◌, ℕ, zero, suc, ◌+◌, Bool, Ok, Err, inl, inr, refl, sym, ap, ◌∙◌, arith, add-one}
+use Rattle.std.proofs.Common.{◌≡◌, ℕ, zero, suc, ◌+◌, Bool, Result, Ok, Err, inl, inr, refl, sym, ap, ◌∙◌, arith, add-one}
 use Rattle.std.proofs.lemmas.Bool.{cases_eq, ne_eqb}
+use Rattle.std.specs.FinMap.{FinMap}
+use Rattle.std.specs.Result.{OnErr}
+use Rattle.std.specs.Ordering.{nat_cmp}
 use Rattle.hv_defs.specs.Registers.{after_write, kept, row_of}
 use Rattle.hv_defs.specs.declared.registers.RegFault.{RegFault}
 use Rattle.hv_defs.specs.declared.registers.TheConstants.{EOM}
@@ -52,3 +55,16 @@ written-refused name value fault v refused =
           cc
       | inr apart ↦ rw (ne_eqb name EOM apart) refl
     ]
+
+-- and changes nothing
+kept_err : (registers : FinMap nat_cmp ℕ) (name : ℕ) (k : Result ℕ RegFault) (fault : RegFault) → answer k ≡ Err fault → after_write registers name k ≡ registers
+kept_err registers name (Ok value) fault refused = cc
+kept_err registers name (Err why) fault refused = refl
+
+on_err : {T E P : Type 0} (r : Result T E) → P → OnErr r P
+on_err (Ok x) p = tt
+on_err (Err e) p = p
+
+pub unchanged : (name value : ℕ) (fault : RegFault) (v : VpState) (r : Result (Unit {0}) RegFault) → answer (kept (row_of name) value) ≡ Err fault
+    → OnErr r (record v { registers = after_write v.registers name (kept (row_of name) value) } ≡ v)
+unchanged name value fault v r refused = on_err r (ap (λ registers. record v { registers = registers }) (kept_err v.registers name (kept (row_of name) value) fault refused))

@@ -1,5 +1,5 @@
 // The virtual processor, and its registers.
-ghost use Rattle.std.specs.Prelude.{◌≡◌, IfOk};
+ghost use Rattle.std.specs.Prelude.{◌≡◌, IfOk, OnErr};
 ghost use Rattle.hv_defs.specs.Registers.{is_on, kept, name_of_msr, row_of, takes_flags, takes_messages};
 ghost use Rattle.hv_vp.specs.Registers.{answer, kept_msr, read_of, read_of_msr};
 ghost use Rattle.hv_vp.specs.Vp.{new_vp, written, written_msr};
@@ -80,6 +80,7 @@ impl<A: Allocator> Vp<A> {
     pub fn write_reg(&mut self, name: u32, value: u64) -> Result<(), RegFault>
         ensures answer { result ≡ answer (kept (row_of name) value) }
         ensures state { self.new ≡ written name value self.old }
+        ensures unchanged { OnErr result (self.new ≡ self.old) }
     {
         self.registers.write(name, value)?;
         if name == EOM {
@@ -103,6 +104,7 @@ impl<A: Allocator> Vp<A> {
     pub fn write_msr(&mut self, msr: u32, value: u64) -> Result<(), RegFault>
         ensures answer { result ≡ answer (kept_msr (name_of_msr msr) value) }
         ensures state { self.new ≡ written_msr (name_of_msr msr) value self.old }
+        ensures unchanged { OnErr result (self.new ≡ self.old) }
     {
         match name_of_msr(msr) {
             Some(name) => self.write_reg(name, value),
