@@ -3,15 +3,13 @@ use Rattle.std.specs.Prelude.{ℕ, is_some, List, [], ◌∷◌, Option}
 use Rattle.std.specs.FinMap.{contains_key}
 use Rattle.hv_defs.specs.Registers.{row_of}
 use Rattle.hv_policy.specs.Flat.{Flat}
-use Rattle.hv_policy.specs.Met.{is_in, may_access, may_access_msr, takes_msr}
+use Rattle.hv_policy.specs.Met.{may_access, may_access_msr, takes_msr}
 use Rattle.hv_policy.specs.Rules.{Ask}
-use Rattle.hv_policy.specs.declared.need.States.{States}
-use Rattle.hv_policy.specs.declared.rule.Rule.TheVariants.{TargetState, Right, VpExists, MsrKnown, MsrPrivilege, MsrWrite}
+use Rattle.hv_policy.specs.declared.rule.Rule.TheVariants.{Right, VpExists, MsrKnown, MsrPrivilege, MsrWrite}
 
--- P12, P18 and P19: of a processor of the target, which may be in these states, and a register by its name
-abbrev pub register_asks : Flat → ℕ → ℕ → States → ℕ → ℕ → List Ask
-register_asks f caller target states vp name =
-    (TargetState, is_in f target states) ∷ (Right, may_access f caller (row_of name)) ∷ (VpExists, contains_key f.vp (target, vp)) ∷ []
+-- P18 and P19: of a processor of the target and a register by its name
+abbrev pub register_asks : Flat → ℕ → ℕ → ℕ → ℕ → List Ask
+register_asks f caller target vp name = (Right, may_access f caller (row_of name)) ∷ (VpExists, contains_key f.vp (target, vp)) ∷ []
 
 -- P25 and P26: of the model-specific register that has this name in a call, if it is one
 abbrev pub msr_asks : Flat → ℕ → Option ℕ → List Ask

@@ -3,7 +3,6 @@ ghost use Rattle.std.specs.Prelude.{◌≡◌, ◌++◌};
 ghost use Rattle.std.specs.Int.{w64, to_le_bytes};
 ghost use Rattle.hv_calls.specs.declared.call.Call.TheVariants as call;
 ghost use Rattle.hv_policy.specs.Flat.{Flat};
-ghost use Rattle.hv_policy.specs.Needs.{meant_id};
 ghost use Rattle.hv_policy.specs.Rules.{first_unmet};
 ghost use Rattle.hv_processors.specs.Asked.{register_asks};
 ghost use Rattle.hv_tie.specs.Served.{AreLawful, IsAdmitted, IsOutcome, unmet_further};
@@ -13,7 +12,7 @@ use crate::rows::{add, remove, write};
 use crate::rules::{is_known, is_vp_free, may_access, register, takes};
 use hv_calls::Call;
 use hv_defs::VP_CHARGE;
-use hv_policy::{CallOutput, Rule, States, needs};
+use hv_policy::{CallOutput, Rule, needs};
 use hv_tie::{Partitions, Refused, has_available, has_vp, is_state_allowed, meant};
 use std::alloc::{AllocError, Allocator};
 
@@ -122,13 +121,17 @@ fn unmet_get<A: Allocator>(
     ensures { (f : Flat) → IsTied tree.now f → result
         ≡ unmet_further f caller (call.GetVpRegisters partition vp name) }
 {
+    let target = meant(caller, partition);
     let states = needs(&Call::GetVpRegisters {
         partition,
         vp,
         name,
     })
     .states;
-    if let Some(rule) = unmet_register(tree, caller, partition, vp, name, states) {
+    if !is_state_allowed(tree, target, states) {
+        return Some(Rule::TargetState);
+    }
+    if let Some(rule) = unmet_register(tree, caller, target, vp, name) {
         return Some(rule);
     }
     if !is_known(name) {
@@ -137,22 +140,16 @@ fn unmet_get<A: Allocator>(
     None
 }
 
-// P12, P18 and P19, which reading and writing a register ask alike, of a target in one of these life states.
+// P18 and P19, which reading and writing a register ask alike.
 fn unmet_register<A: Allocator>(
     tree: &Partitions<A>,
     caller: u64,
-    partition: u64,
+    target: u64,
     vp: u32,
     name: u32,
-    states: States,
 ) -> Option<Rule>
-    ensures { (f : Flat) → IsTied tree.now f → result
-        ≡ first_unmet (register_asks f caller (meant_id caller partition) states vp name) }
+    ensures { (f : Flat) → IsTied tree.now f → result ≡ first_unmet (register_asks f caller target vp name) }
 {
-    let target = meant(caller, partition);
-    if !is_state_allowed(tree, target, states) {
-        return Some(Rule::TargetState);
-    }
     if !may_access(tree, caller, name) {
         return Some(Rule::Right);
     }
@@ -203,6 +200,7 @@ fn unmet_set<A: Allocator>(
     ensures { (f : Flat) → IsTied tree.now f → result
         ≡ unmet_further f caller (call.SetVpRegisters partition vp name value) }
 {
+    let target = meant(caller, partition);
     let states = needs(&Call::SetVpRegisters {
         partition,
         vp,
@@ -210,7 +208,10 @@ fn unmet_set<A: Allocator>(
         value,
     })
     .states;
-    if let Some(rule) = unmet_register(tree, caller, partition, vp, name, states) {
+    if !is_state_allowed(tree, target, states) {
+        return Some(Rule::TargetState);
+    }
+    if let Some(rule) = unmet_register(tree, caller, target, vp, name) {
         return Some(rule);
     }
     if !takes(name, value) {
