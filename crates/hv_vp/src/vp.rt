@@ -89,7 +89,7 @@ impl<A: Allocator> Vp<A> {
         Ok(())
     }
 
-    /// The value of the model-specific register with this number, as of the register that it is in a call.
+    /// The value of the model-specific register with this number.
     pub fn read_msr(&self, msr: u32) -> Result<u64, RegFault>
         ensures { result ≡ read_of_msr self.now.registers (name_of_msr msr) }
     {
@@ -99,7 +99,7 @@ impl<A: Allocator> Vp<A> {
         }
     }
 
-    /// Writes the model-specific register with this number, as [`Vp::write_reg`] does by its name. A fault
+    /// Writes the model-specific register with this number, by the rules of [`Vp::write_reg`]. A fault
     /// changes nothing.
     pub fn write_msr(&mut self, msr: u32, value: u64) -> Result<(), RegFault>
         ensures answer { result ≡ answer (kept_msr (name_of_msr msr) value) }
