@@ -1,5 +1,5 @@
 // Frames and their check.
-ghost use Rattle.std.specs.Prelude.{◌≡◌, ◌<◌, IfOk, IfErr};
+ghost use Rattle.std.specs.Prelude.{◌≡◌, ◌<◌, IfOk, IfErr, slice_index};
 ghost use Rattle.hv_defs.specs.declared.sizes.TheConstants.{REPS_END};
 ghost use Rattle.hv_abi.specs.Check.{is_placed};
 ghost use Rattle.hv_abi.specs.InputValue.{input_value, restarted};
@@ -53,7 +53,7 @@ pub enum AbiFault {
 
 impl<A: Allocator> Frame<A> {
     ghost use Rattle.hv_defs.specs.declared.sizes.TheConstants.{REPS_END};
-    ghost use Rattle.hv_abi.specs.Check.{IsShape, are_lists_placed, call_of, first_fault};
+    ghost use Rattle.hv_abi.specs.Check.{IsShape, are_lists_placed, call_of, first_fault, input_of};
 
     /// Accepts a frame of a call, or names its first fault.
     pub fn check(&self) -> Result<Shape, AbiFault>
@@ -104,6 +104,21 @@ impl<A: Allocator> Frame<A> {
     {
         let InputValue { fast, reps, .. } = InputValue::read(self.rcx);
         fast || may_stand(self.rdx, row.input_len(reps)) && may_stand(self.r8, row.output_len(reps))
+    }
+
+    /// The input's byte at a place counted from 0, or 0 past its end. The input of a fast frame is RDX
+    /// and then R8, little-endian. The shape is to be this frame's, from [`Frame::check`].
+    pub fn byte(&self, shape: &Shape, at: usize) -> u8
+        ensures { result ≡ slice_index (input_of self.now shape.now.fast) at }
+    {
+        if !shape.fast {
+            return self.input.as_slice().get(at).copied().unwrap_or(0);
+        }
+        match at {
+            0..8 => self.rdx.to_le_bytes()[at],
+            8..16 => self.r8.to_le_bytes()[at - 8],
+            _ => 0,
+        }
     }
 
     /// The same frame with another rep start index, below 4,096.

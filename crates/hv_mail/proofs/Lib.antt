@@ -1,4 +1,3 @@
-pub mod Bits
 pub mod FlagBytes
 pub mod FlagMembers
 pub mod Members
@@ -7,6 +6,7 @@ pub mod Opened
 pub mod Queues
 pub mod Quiet
 pub mod Rows
+pub mod Shows
 pub mod SlotBytes
 pub mod Standing
 pub mod Totals

@@ -1,5 +1,5 @@
 -- What contracts see of a mailbox.
-use Rattle.std.specs.Prelude.{ℕ, ◌+◌, ◌==◌, ◌&&◌, Bool, true, false, if◌then◌else◌, List, [], ◌∷◌, ◌++◌, Option, None, Some, count_by, refl}
+use Rattle.std.specs.Prelude.{ℕ, zero, suc, ◌+◌, ◌==◌, ◌&&◌, Bool, true, false, if◌then◌else◌, List, [], ◌∷◌, ◌++◌, Option, None, Some, count_by, refl}
 use Rattle.std.specs.Coded.{Coded, code_by, coded×, coded_ℕ, coded_bool, coded_list, coded_option}
 use Rattle.std.specs.List.{sum_by}
 use Rattle.std.specs.Ordering.{nat_cmp}
@@ -81,6 +81,11 @@ with_row mail sint slot waiting = map.insert mail sint (record { slot = slot; wa
 -- the mail with this at a SINT
 abbrev pub with_at : Mail → ℕ → SintMail → Mail
 with_at mail sint there = with_row mail sint there.slot there.waiting
+
+-- Show at each of the first so many SINTs
+unfoldable pub all_next : ℕ → Mail → Mail
+all_next zero mail = mail
+all_next (suc sint) mail = with_at (all_next sint mail) sint (with_next (at (all_next sint mail) sint))
 
 -- how many messages of a port and birth a processor has
 abbrev pub count_of : ℕ → ℕ → Mail → ℕ

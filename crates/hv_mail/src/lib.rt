@@ -23,5 +23,5 @@ mod words;
 
 pub use flags::Flags;
 pub use mailbox::Mailbox;
-pub use message::{Message, Posting};
+pub use message::Message;
 pub use pending::Pending;

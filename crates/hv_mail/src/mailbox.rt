@@ -1,16 +1,15 @@
 // The messages of one processor: a queue for each SINT, made when room for the first message is.
-ghost use Rattle.std.specs.Prelude.{◌≡◌, ◌<◌, ◌≤◌, ◌^◌, ℕ, true, None, IfOk, IsOk, OnOk, length};
+ghost use Rattle.std.specs.Prelude.{◌≡◌, ◌<◌, ◌≤◌, ◌==◌, ◌^◌, ℕ, true, IfOk, IsOk, OnOk, length};
 ghost use Rattle.std.specs.Int.{bit_at};
 ghost use Rattle.std.specs.List.{list_all, sum_by};
 ghost use Rattle.std.specs.FinMap as map;
 ghost use Rattle.hv_defs.specs.declared.sizes.TheConstants.{SINTS};
 ghost use Rattle.hv_mail.specs.Mail.{no_messages, with_next, has_next, with_last, posted, cleared, count_at};
-ghost use Rattle.hv_mail.specs.Mail.{count_of, at, with_at};
+ghost use Rattle.hv_mail.specs.Mail.{all_next, count_of, at, with_at};
 ghost use Rattle.hv_mail.specs.Queue.{mail_from, AreQuiet};
-ghost use Rattle.hv_defs.specs.Slot.{zeros};
 ghost use Rattle.hv_mail.specs.Slot.{slot_bytes};
 
-use crate::message::Posting;
+use crate::message::Message;
 use crate::sint_queue::SintQueue;
 use hv_defs::SINTS;
 use std::alloc::{AllocError, Allocator};
@@ -86,11 +85,11 @@ impl<A: Allocator> Mailbox<A> {
 
     /// Adds a message behind those that stand at a SINT below 16, and shows it where none does. It must
     /// find room. True where a message became shown.
-    pub fn post(&mut self, sint: u8, message: &Posting<'_>) -> bool
+    pub fn post(&mut self, sint: u8, message: Message) -> bool
         requires sint { sint < SINTS }
         requires room { self.old.room ≡ true }
-        ensures mail { self.new.mail ≡ with_at self.old.mail sint (posted (at self.old.mail sint) message.now) }
-        ensures shown { result ≡ has_next (with_last (at self.old.mail sint) message.now) }
+        ensures mail { self.new.mail ≡ with_at self.old.mail sint (posted (at self.old.mail sint) message) }
+        ensures shown { result ≡ has_next (with_last (at self.old.mail sint) message) }
     {
         let queue = &mut self.queues[usize::from(sint)];
         let shown = queue.post(message);
@@ -99,20 +98,19 @@ impl<A: Allocator> Mailbox<A> {
         shown
     }
 
-    /// Writes the 256 bytes of the message slot of a SINT below 16 into zeros, as which it reads where it shows no
-    /// message: the type in 4 bytes, the payload's size, a byte that is 1 where another message waits and 0
+    /// The 256 bytes of the message slot of a SINT below 16, which are zeros where it shows no message:
+    /// the type in 4 bytes, the payload's size, a byte that is 1 where another message waits and 0
     /// otherwise, two zeros, the port's id in 8, and the payload with zeros after it. Numbers are
     /// little-endian.
-    #[inline(always)]
-    pub fn read_slot(&self, sint: u8, bytes: &mut [u8; 256])
-        requires sint { sint < SINTS }
-        requires zeros { bytes.old ≡ zeros 256 }
-        ensures bytes { bytes.new ≡ slot_bytes (at self.now.mail sint) }
-        ensures size { length bytes.new ≡ 256 }
+    pub fn slot(&self, sint: u8) -> [u8; 256]
+        requires { sint < SINTS }
+        ensures { result ≡ slot_bytes (at self.now.mail sint) }
     {
         let at = usize::from(sint);
         if at < self.queues.len() {
-            self.queues[at].read_slot(bytes);
+            self.queues[at].slot()
+        } else {
+            [0; 256]
         }
     }
 
@@ -132,9 +130,24 @@ impl<A: Allocator> Mailbox<A> {
         }
     }
 
-    /// Shows the oldest message that waits at a SINT below 16, where one waits and none is shown. True
-    /// where one became shown. It moves no other message.
-    pub fn advance(&mut self, sint: u8) -> bool
+    /// At each SINT that shows none, shows the oldest message that waits there. Bit n of the answer is 1
+    /// where a message became shown at SINT n.
+    pub fn advance_all(&mut self) -> u16
+        ensures mail { self.new.mail ≡ all_next SINTS self.old.mail }
+        ensures shown { (sint : ℕ) → sint < SINTS → (bit_at result sint == 1) ≡ has_next (at self.old.mail sint) }
+        ensures kept { self.old.room ≡ true → self.new.room ≡ true }
+    {
+        let mut shown = 0;
+        for sint in 0..SINTS as u8 {
+            if self.advance(sint) {
+                shown |= 1 << sint;
+            }
+        }
+        shown
+    }
+
+    // Shows the oldest message that waits at a SINT, where one waits and none is shown. Says whether one became shown.
+    fn advance(&mut self, sint: u8) -> bool
         requires { sint < SINTS }
         ensures mail { self.new.mail ≡ with_at self.old.mail sint (with_next (at self.old.mail sint)) }
         ensures shown { result ≡ has_next (at self.old.mail sint) }
@@ -151,17 +164,6 @@ impl<A: Allocator> Mailbox<A> {
         } else {
             false
         }
-    }
-
-    /// The lowest SINT from one on that may have a message, and 16 where none may: none stands at those between.
-    #[inline(always)]
-    pub fn next_from(&self, sint: u8) -> u8
-        requires { sint ≤ SINTS }
-        ensures from { sint ≤ result }
-        ensures within { result ≤ SINTS }
-        ensures quiet { (k : ℕ) → sint ≤ k → k < result → map.get self.now.mail k ≡ None }
-    {
-        next_busy(self.busy, sint)
     }
 
     /// How many messages there are, shown or waiting, that came through this port of this birth. The
@@ -181,32 +183,12 @@ fn count_each<A: Allocator>(queues: &[SintQueue<A>], busy: u16, port: u32, born:
     ensures { result ≡ sum_by (λ q. count_at port born q.mail) queues.now }
 {
     let mut count = 0;
-    let mut sint = next_busy(busy, 0);
-    while usize::from(sint) < queues.len() {
-        count += queues[usize::from(sint)].count_of(port, born);
-        sint = next_busy(busy, sint + 1);
+    for (sint, queue) in queues.iter().enumerate() {
+        if busy >> sint & 1 != 0 {
+            count += queue.count_of(port, born);
+        }
     }
     count
-}
-
-// The lowest place from one on at which a bit is 1, and 16 where none is.
-#[inline(always)]
-fn next_busy(busy: u16, sint: u8) -> u8
-    requires { sint ≤ SINTS }
-    ensures from { sint ≤ result }
-    ensures within { result ≤ SINTS }
-    ensures clear { (k : ℕ) → sint ≤ k → k < result → bit_at busy k ≡ 0 }
-{
-    let most = SINTS as u8;
-    if sint >= most {
-        return most;
-    }
-    let rest = busy >> sint;
-    if rest == 0 {
-        most
-    } else {
-        sint + rest.trailing_zeros() as u8
-    }
 }
 
 // Whether each queue has room.

@@ -1,11 +1,10 @@
 // What stands at one SINT: a ring of messages, of which the first may be shown.
-ghost use Rattle.std.specs.Prelude.{◌≡◌, ◌≤◌, ◌^◌, true, IfOk, OnOk, length};
+ghost use Rattle.std.specs.Prelude.{◌≡◌, ◌≤◌, ◌^◌, true, IfOk, OnOk};
 ghost use Rattle.hv_mail.specs.Mail.{no_mail, with_next, has_next, with_last, posted, cleared, count_at};
-ghost use Rattle.hv_defs.specs.Slot.{zeros};
 ghost use Rattle.hv_mail.specs.Slot.{is_some_of, slot_bytes};
 
-use crate::message::{Message, Posting};
-use crate::slot::write_shown;
+use crate::message::Message;
+use crate::slot::shown_slot;
 use std::alloc::{AllocError, Allocator};
 use std::collections::VecDeque;
 use std::marker::Model;
@@ -67,18 +66,13 @@ impl<A: Allocator> SintQueue<A> {
         self.messages.len() < self.messages.capacity() && self.messages.len() < MOST
     }
 
-    // The message goes last, and then the next is shown. Says whether one became shown. Its payload is copied once,
-    // to where it stands.
-    pub(crate) fn post(&mut self, message: &Posting<'_>) -> bool
+    // The message goes last, and then the next is shown. Says whether one became shown.
+    pub(crate) fn post(&mut self, message: Message) -> bool
         requires { self.old.room ≡ true }
-        ensures mail { self.new.mail ≡ posted self.old.mail message.now }
-        ensures shown { result ≡ has_next (with_last self.old.mail message.now) }
+        ensures mail { self.new.mail ≡ posted self.old.mail message }
+        ensures shown { result ≡ has_next (with_last self.old.mail message) }
     {
-        self.messages.push_back_reserved(message.head());
-        let Some(last) = self.messages.back_mut() else {
-            unreachable!()
-        };
-        message.fill(last);
+        self.messages.push_back_reserved(message);
         self.advance()
     }
 
@@ -121,18 +115,16 @@ impl<A: Allocator> SintQueue<A> {
         self.messages.iter().filter(|m| m.is_of(port, born)).count()
     }
 
-    // Writes the bytes that the slot reads as into zeros.
-    #[inline(always)]
-    pub(crate) fn read_slot(&self, bytes: &mut [u8; 256])
-        requires { bytes.old ≡ zeros 256 }
-        ensures bytes { bytes.new ≡ slot_bytes self.now.mail }
-        ensures size { length bytes.new ≡ 256 }
+    // The bytes that the slot reads as.
+    pub(crate) fn slot(&self) -> [u8; 256]
+        ensures { result ≡ slot_bytes self.now.mail }
     {
-        if self.is_shown {
-            let Some(message) = self.messages.front() else {
-                unreachable!()
-            };
-            write_shown(message, self.is_pending(), bytes);
+        if !self.is_shown {
+            return [0; 256];
         }
+        let Some(message) = self.messages.front() else {
+            unreachable!()
+        };
+        shown_slot(message, self.is_pending())
     }
 }

@@ -10,5 +10,6 @@
 mod ports;
 mod table;
 
+pub use hv_defs::Aim;
 pub use ports::{Conn, ConnTable, Port, PortTable};
 pub use table::Table;

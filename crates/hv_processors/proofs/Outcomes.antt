@@ -16,7 +16,7 @@ use Rattle.hv_tie.specs.Served.{IsAdmitted, unmet_further}
 use Rattle.hv_tie.specs.Tie.{IsTied, vp_row, vp_row_of}
 use Rattle.hv_tie.specs.Vp.{with_state_of}
 use Rattle.hv_tree.specs.Rows.{Rows, change}
-use Rattle.hv_vp.specs.Vp.{VpState, new_vp, written}
+use Rattle.hv_vp.specs.Vp.{VpState, new_vp, written, written_msr}
 use Rattle.hv_processors.specs.Asked.{write_asks}
 use Rattle.hv_processors.proofs.Made.{added_tied, removed_tied}
 use Rattle.hv_processors.specs.Change.{HasVps, MayAdd}
@@ -60,8 +60,7 @@ module _ (rows new : Rows PartitionState) (f : Flat) (flat : IsTied rows f) (cal
       (subst (λ rows. IsTied rows (call_effect (SetVpRegisters partition vp name value) f caller target)) (sym is) (written_tied rows f flat target vp name value))
 
 module _ (rows new : Rows PartitionState) (f : Flat) (flat : IsTied rows f) (by : Caller) (value : ℕ) where
-  pub msr_set : (name : Option ℕ) → first_unmet (write_asks f by.part name value) ≡ None
-      → ((register : ℕ) → name ≡ Some register → new ≡ change rows by.part (with_state_of by.vp (written register value))) → IsTied new (write_msr by.part by.vp name value f)
+  pub msr_set : (name : Option ℕ) → first_unmet (write_asks f by.part name value) ≡ None → new ≡ change rows by.part (with_state_of by.vp (written_msr name value)) → IsTied new (write_msr by.part by.vp name value f)
   msr_set None met is = cc
   msr_set (Some register) met is =
-      subst (λ rows. IsTied rows (write_register by.part by.vp register value f)) (sym (is register refl)) (written_tied rows f flat by.part by.vp register value)
+      subst (λ rows. IsTied rows (write_register by.part by.vp register value f)) (sym is) (written_tied rows f flat by.part by.vp register value)

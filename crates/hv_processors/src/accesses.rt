@@ -9,7 +9,6 @@ ghost use Rattle.hv_tie.specs.Tie.{IsTied};
 use crate::own::{read_own, write_own};
 use hv_policy::{Caller, Output, Rule};
 use hv_tie::Partitions;
-use hv_vp::name_of_msr;
 use std::alloc::Allocator;
 
 /// A read of one of the caller's model-specific registers: its value, in 8 bytes.
@@ -24,7 +23,7 @@ pub fn read_msr<A: Allocator>(
     ensures { (f : Flat) → IsTied tree.old f → IsAnswered {A = A} f by (action.ReadMsr msr) tree.old
         (result_map_both (λ _. output.new) (λ rule. rule) result) tree.new }
 {
-    match read_own(tree, by, name_of_msr(msr)) {
+    match read_own(tree, by, msr) {
         Ok(value) => {
             output.extend_from_slice(&value.to_le_bytes());
             Ok(())
@@ -44,7 +43,7 @@ pub fn write_msr<A: Allocator>(
     ensures { (f : Flat) → IsTied tree.old f → IsAnswered {A = A} f by (action.WriteMsr msr value) tree.old
         (result_map_both (λ _. []) (λ rule. rule) result) tree.new }
 {
-    match write_own(tree, by, name_of_msr(msr), value) {
+    match write_own(tree, by, msr, value) {
         Ok(()) => Ok(()),
         Err(rule) => Err(rule),
     }

@@ -1,8 +1,8 @@
-// The model-specific registers of the processor that makes an access. A register is given by its name in a call, which
-// is none where there is no model-specific register with the number.
+// The model-specific registers of the processor that makes an access.
 ghost use Rattle.std.specs.Prelude.{◌≡◌, ◌++◌, ℕ, None, Some, IfErr, IfOk, IfSome, OnErr, OnOk};
 ghost use Rattle.std.specs.Borrow.{LendsIfOk, sem};
 ghost use Rattle.std.specs.FinMap.{get};
+ghost use Rattle.hv_defs.specs.Registers.{name_of_msr};
 ghost use Rattle.hv_partition.specs.Partition.{PartitionState, with_vp_of};
 ghost use Rattle.hv_partition.specs.contracts.partition.Partition.{the_row as partition_row};
 ghost use Rattle.hv_policy.specs.Answer.{msr_of};
@@ -12,95 +12,78 @@ ghost use Rattle.hv_tie.specs.Tie.{IsTied};
 ghost use Rattle.hv_tie.specs.Vp.{with_state_of};
 ghost use Rattle.hv_tree.specs.Rows.{Rows, change, content};
 ghost use Rattle.hv_tree.specs.contracts.tree.IdTree.{the_row as tree_row};
-ghost use Rattle.hv_vp.specs.Vp.{written};
+ghost use Rattle.hv_vp.specs.Vp.{written_msr};
 ghost use Rattle.hv_vp.specs.contracts.vp.Vp.{the_row as vp_row};
 ghost use Rattle.hv_processors.specs.Asked.{msr_asks, write_asks};
 
-use crate::rules::takes;
 use hv_defs::Life;
 use hv_policy::{Caller, Rule};
 use hv_privs::Privileges;
 use hv_tie::Partitions;
-use hv_vp::{Vp, privilege_of};
+use hv_vp::{Vp, name_of_msr, privilege_of};
 use std::alloc::Allocator;
 
-// P1 to P3, P25 and P26, and then the value of a register.
+// P1 to P3, P25 and P26, and then the register's value.
 #[inline(always)]
 #[tactic(auto, using(hv_tree::proofs::Laws::unchanged))]
-pub fn read_own<A: Allocator>(
-    tree: &mut Partitions<A>,
-    by: Caller,
-    name: Option<u32>,
-) -> Result<u64, Rule>
+pub fn read_own<A: Allocator>(tree: &mut Partitions<A>, by: Caller, msr: u32) -> Result<u64, Rule>
     ensures value { IfOk result (λ value. (f : Flat) → IsTied tree.old f
-        → value ≡ msr_of (get f.vp (by.part, by.vp)) name) }
+        → value ≡ msr_of (get f.vp (by.part, by.vp)) (name_of_msr msr)) }
     ensures kept { tree.new ≡ tree.old }
-    ensures met { IfOk result (λ _. (f : Flat) → IsTied tree.old f
-        → (first_unmet (caller_asks f by) ≡ None) × (first_unmet (msr_asks f by.part name) ≡ None)) }
+    ensures met { IfOk result (λ _. (f : Flat) → IsTied tree.old f → (first_unmet (caller_asks f by) ≡ None)
+        × (first_unmet (msr_asks f by.part (name_of_msr msr)) ≡ None)) }
     ensures unmet { IfErr result (λ rule. (f : Flat) → IsTied tree.old f
-        → first_unmet (caller_asks f by ++ msr_asks f by.part name) ≡ Some rule) }
+        → first_unmet (caller_asks f by ++ msr_asks f by.part (name_of_msr msr)) ≡ Some rule) }
 {
-    let vp = match own_vp(tree, by, name) {
+    let vp = match own_vp(tree, by, msr) {
         Ok(vp) => vp,
         Err(rule) => return Err(rule),
     };
-    let Some(name) = name else {
-        return Ok(0);
-    };
-    match vp.read_reg(name) {
+    match vp.read_msr(msr) {
         Ok(value) => Ok(value),
         Err(_) => Ok(0),
     }
 }
 
-// P1 to P3 and P25 to P27, and then a register is written.
+// P1 to P3, P25 and P26, and then a write, by which the processor tells P27: what it doesn't take changes nothing.
 #[inline(always)]
 #[tactic(auto, using(hv_tree::proofs::Laws::unchanged))]
 pub fn write_own<A: Allocator>(
     tree: &mut Partitions<A>,
     by: Caller,
-    name: Option<u32>,
+    msr: u32,
     value: u64,
 ) -> Result<(), Rule>
-    ensures written { OnOk result ((register : ℕ) → name ≡ Some register
-        → tree.new ≡ change tree.old by.part (with_state_of by.vp (written register value))) }
+    ensures written { OnOk result (tree.new
+        ≡ change tree.old by.part (with_state_of by.vp (written_msr (name_of_msr msr) value))) }
     ensures kept { OnErr result (tree.new ≡ tree.old) }
-    ensures met { IfOk result (λ _. (f : Flat) → IsTied tree.old f
-        → (first_unmet (caller_asks f by) ≡ None) × (first_unmet (write_asks f by.part name value) ≡ None)) }
+    ensures met { IfOk result (λ _. (f : Flat) → IsTied tree.old f → (first_unmet (caller_asks f by) ≡ None)
+        × (first_unmet (write_asks f by.part (name_of_msr msr) value) ≡ None)) }
     ensures unmet { IfErr result (λ rule. (f : Flat) → IsTied tree.old f
-        → first_unmet (caller_asks f by ++ write_asks f by.part name value) ≡ Some rule) }
+        → first_unmet (caller_asks f by ++ write_asks f by.part (name_of_msr msr) value) ≡ Some rule) }
 {
-    let vp = match own_vp(tree, by, name) {
+    let vp = match own_vp(tree, by, msr) {
         Ok(vp) => vp,
         Err(rule) => return Err(rule),
     };
-    let Some(name) = name else {
-        return Err(Rule::MsrKnown);
-    };
-    if !takes(name, value) {
-        return Err(Rule::MsrWrite);
+    match vp.write_msr(msr, value) {
+        Ok(()) => Ok(()),
+        Err(_) => Err(Rule::MsrWrite),
     }
-    // What is asked is that the register takes it.
-    let _ = vp.write_reg(name, value);
-    Ok(())
 }
 
 // P1 to P3, P25 and P26, and the processor that makes the access, to be read or changed; else the first of them that
 // isn't met, with the partitions as they were.
 #[inline(always)]
 #[tactic(auto, using(hv_tree::proofs::Laws::unchanged))]
-fn own_vp<A: Allocator>(
-    tree: &mut Partitions<A>,
-    by: Caller,
-    name: Option<u32>,
-) -> Result<&mut Vp<A>, Rule>
+fn own_vp<A: Allocator>(tree: &mut Partitions<A>, by: Caller, msr: u32) -> Result<&mut Vp<A>, Rule>
     ensures* writes_back { sem 𝓛 (LendsIfOk (tree_row (partition_row A.row A.Allocator) A.row A.Allocator)
         (vp_row A.row A.Allocator) tree.entry result (λ w. change tree.old by.part (λ p. with_vp_of p by.vp w)) tree.old) }
     ensures there { IfOk result (λ vp. IfSome (content tree.old by.part) (λ p. get p.vps.vps by.vp ≡ Some vp.now)) }
     ensures met { IfOk result (λ _. (f : Flat) → IsTied tree.old f
-        → (first_unmet (caller_asks f by) ≡ None) × (first_unmet (msr_asks f by.part name) ≡ None)) }
+        → (first_unmet (caller_asks f by) ≡ None) × (first_unmet (msr_asks f by.part (name_of_msr msr)) ≡ None)) }
     ensures unmet { IfErr result (λ rule. (f : Flat) → IsTied tree.old f
-        → first_unmet (caller_asks f by ++ msr_asks f by.part name) ≡ Some rule) }
+        → first_unmet (caller_asks f by ++ msr_asks f by.part (name_of_msr msr)) ≡ Some rule) }
 {
     let Some(caller) = tree.get_mut(by.part) else {
         return Err(Rule::CallerExists);
@@ -112,7 +95,7 @@ fn own_vp<A: Allocator>(
     let Some(vp) = caller.vp_mut(by.vp) else {
         return Err(Rule::CallerVpExists);
     };
-    match unmet_by_mask(mask, name) {
+    match unmet_by_mask(mask, msr) {
         None => Ok(vp),
         Some(rule) => Err(rule),
     }
@@ -120,11 +103,11 @@ fn own_vp<A: Allocator>(
 
 // P25 and P26 of a partition with this mask: the first of them that isn't met.
 #[inline(always)]
-fn unmet_by_mask(mask: Privileges, name: Option<u32>) -> Option<Rule>
+fn unmet_by_mask(mask: Privileges, msr: u32) -> Option<Rule>
     ensures { (f : Flat) (rows : Rows PartitionState) (id : ℕ) (p : PartitionState) → content rows id ≡ Some p
-        → p.mask ≡ mask → IsTied rows f → result ≡ first_unmet (msr_asks f id name) }
+        → p.mask ≡ mask → IsTied rows f → result ≡ first_unmet (msr_asks f id (name_of_msr msr)) }
 {
-    let Some(name) = name else {
+    let Some(name) = name_of_msr(msr) else {
         return Some(Rule::MsrKnown);
     };
     match privilege_of(name) {

@@ -1,51 +1,43 @@
 -- Messages that become shown at SINTs, and the write of EOM.
-use Rattle.std.proofs.Common.{◌≡◌, ℕ, zero, suc, ◌+◌, ◌-◌, ◌<◌, ◌≤◌, Bool, Ok, Err, None, inl, inr, refl, sym, ap, ◌∙◌, arith, add-one, add-zero}
-use Rattle.std.specs.FinMap.{get}
+use Rattle.std.proofs.Common.{◌≡◌, ℕ, zero, suc, ◌+◌, Bool, Result, Ok, Err, inl, inr, refl, sym, ap, ◌∙◌, arith, add-one}
 use Rattle.std.proofs.lemmas.Bool.{cases_eq, ne_eqb}
+use Rattle.std.specs.FinMap.{FinMap}
+use Rattle.std.specs.Result.{OnErr}
+use Rattle.std.specs.Ordering.{nat_cmp}
 use Rattle.hv_defs.specs.Registers.{after_write, kept, row_of}
 use Rattle.hv_defs.specs.declared.registers.RegFault.{RegFault}
 use Rattle.hv_defs.specs.declared.registers.TheConstants.{EOM}
-use Rattle.hv_mail.proofs.Queues.{same_absent}
-use Rattle.hv_mail.specs.Mail.{Mail, at, has_next, mail_or_none, with_at, with_next}
+use Rattle.hv_mail.proofs.Shows.{at-all_next}
+use Rattle.hv_mail.specs.Mail.{Mail, all_next, at, has_next, with_at, with_next}
 use Rattle.hv_vp.specs.Registers.{answer}
-use Rattle.hv_vp.specs.Vp.{VpState, raised_if, shown, shown_each, written}
+use Rattle.hv_vp.specs.Vp.{VpState, raised_if, shown_each, written}
 
--- Show at a SINT, by whether a message became shown there
-pub shown-by : (sint : ℕ) (v : VpState) (mail : Mail) (did : Bool) → mail ≡ with_at v.mail sint (with_next (at v.mail sint)) → did ≡ has_next (at v.mail sint)
-    → raised_if did sint (record v { mail = mail }) ≡ shown sint v
-shown-by sint v mail did moved same = rw (moved, same) refl
+-- Show at the first SINTs shows in the mail what it shows there
+pub mail-shown_each : (n : ℕ) (v : VpState) → (shown_each n v).mail ≡ all_next n v.mail
+unfolding shown_each all_next
+mail-shown_each zero v = refl
+mail-shown_each (suc n) v = ap (λ m. with_at m n (with_next (at m n))) (mail-shown_each n v)
 
--- Show at the first SINTs: none of them
-pub shown_each-zero : (v : VpState) → shown_each 0 v ≡ v
+-- all messages are shown before any SINT raises its vector
+none_raised : (v : VpState) (mail : Mail) → record v { mail = mail } ≡ record (shown_each 0 v) { mail = mail }
 unfolding shown_each
-shown_each-zero v = refl
+none_raised v mail = refl
 
--- and one more
-pub shown_each-more : (sint : ℕ) (first v : VpState) → v ≡ shown_each sint first → shown sint v ≡ shown_each (sint + 1) first
+pub first_raised : (n : ℕ) (first before : VpState) (mail : Mail) → before ≡ first → mail ≡ all_next n before.mail → record before { mail = mail } ≡ record (shown_each 0 first) { mail = all_next n first.mail }
+first_raised n first before mail is moved = rw (moved, is) (none_raised first (all_next n first.mail))
+
+-- then the next one does, if a message became shown there
+pub next_raised : (sint : ℕ) (first v : VpState) (mail : Mail) (did : Bool) → v ≡ record (shown_each sint first) { mail = mail } → did ≡ has_next (at first.mail sint)
+    → raised_if did sint v ≡ record (shown_each (sint + 1) first) { mail = mail }
 unfolding shown_each
-shown_each-more sint first v is = ap (shown sint) is ∙ ap (λ n. shown_each n first) (sym (add-one sint))
+next_raised sint first v mail did is same =
+    let here : has_next (at first.mail sint) ≡ has_next (at (shown_each sint first).mail sint) =
+    ap has_next (sym (at-all_next sint first.mail sint (omega arith)) ∙ ap (λ m. at m sint) (sym (mail-shown_each sint first))) in
+    rw (is, same, here, add-one) refl
 
--- Show at a SINT without a row changes nothing
-shown-none : (sint : ℕ) (v : VpState) → get v.mail sint ≡ None → shown sint v ≡ v
-shown-none sint v none =
-    let here = same_absent v.mail sint with_next refl none in
-    ap (λ did. raised_if did sint (record v { mail = with_at v.mail sint (with_next (at v.mail sint)) })) (ap (λ o. has_next (mail_or_none o)) none)
-    ∙ ap (λ mail. record v { mail = mail }) (sym here)
-
--- so those that have none may be passed over
-module _ (first : VpState) (from : ℕ) (v : VpState) (is : v ≡ shown_each from first) where
-  stretch : (n : ℕ) → ((k : ℕ) → from ≤ k → k < from + n → get v.mail k ≡ None) → v ≡ shown_each (from + n) first
-  stretch zero none = is ∙ ap (λ n. shown_each n first) (sym (add-zero from))
-  stretch (suc n) none =
-      let before = stretch n (λ k above below. none k above (omega arith)) in
-      let next : from + n + 1 ≡ from + suc n = omega arith in
-      sym (shown-none (from + n) v (none (from + n) (omega arith) (omega arith)))
-      ∙ shown_each-more (from + n) first v before ∙ ap (λ n. shown_each n first) next
-
-  pub shown_on : (to : ℕ) → from ≤ to → ((k : ℕ) → from ≤ k → k < to → get v.mail k ≡ None) → v ≡ shown_each to first
-  shown_on to order none =
-      let end : from + (to - from) ≡ to = omega arith in
-      stretch (to - from) (λ k above below. none k above (omega arith)) ∙ ap (λ n. shown_each n first) end
+-- and after the last it is Show at each
+pub all_raised : (n : ℕ) (v : VpState) → record (shown_each n v) { mail = all_next n v.mail } ≡ shown_each n v
+all_raised n v = ap (λ m. record (shown_each n v) { mail = m }) (sym (mail-shown_each n v))
 
 -- EOM takes each value
 eom-kept : (value : ℕ) → kept (row_of EOM) value ≡ Ok 0
@@ -63,3 +55,16 @@ written-refused name value fault v refused =
           cc
       | inr apart ↦ rw (ne_eqb name EOM apart) refl
     ]
+
+-- and changes nothing
+kept_err : (registers : FinMap nat_cmp ℕ) (name : ℕ) (k : Result ℕ RegFault) (fault : RegFault) → answer k ≡ Err fault → after_write registers name k ≡ registers
+kept_err registers name (Ok value) fault refused = cc
+kept_err registers name (Err why) fault refused = refl
+
+on_err : {T E P : Type 0} (r : Result T E) → P → OnErr r P
+on_err (Ok x) p = tt
+on_err (Err e) p = p
+
+pub unchanged : (name value : ℕ) (fault : RegFault) (v : VpState) (r : Result (Unit {0}) RegFault) → answer (kept (row_of name) value) ≡ Err fault
+    → OnErr r (record v { registers = after_write v.registers name (kept (row_of name) value) } ≡ v)
+unchanged name value fault v r refused = on_err r (ap (λ registers. record v { registers = registers }) (kept_err v.registers name (kept (row_of name) value) fault refused))

@@ -4,7 +4,7 @@ use Rattle.std.specs.List.{zip, position_from}
 use lib.ListN.{get_or}
 use Rattle.std.specs.Ordering.{nat_cmp}
 use Rattle.std.specs.FinMap.{FinMap, from_entries, get}
-use Rattle.hv_defs.specs.Registers.{has_msr}
+use Rattle.hv_defs.specs.Registers.{has_msr, kept, row_of}
 use Rattle.hv_defs.specs.declared.registers.RegFault.{RegFault}
 use Rattle.hv_defs.specs.declared.registers.RegFault.TheVariants.{Unknown}
 use Rattle.hv_defs.specs.declared.registers.RegisterRow.{RegisterRow}
@@ -24,6 +24,16 @@ found (Some value) = Ok value
 
 abbrev pub read_of : FinMap nat_cmp ℕ → ℕ → Result ℕ RegFault
 read_of registers name = found (get registers name)
+
+-- the answer to a read of a model-specific register, by the name that it has in a call
+abbrev pub read_of_msr : FinMap nat_cmp ℕ → Option ℕ → Result ℕ RegFault
+read_of_msr registers None = Err Unknown
+read_of_msr registers (Some name) = read_of registers name
+
+-- what a model-specific register keeps of a value that is written, or why it doesn't take it
+abbrev pub kept_msr : Option ℕ → ℕ → Result ℕ RegFault
+kept_msr None value = Err Unknown
+kept_msr (Some name) value = kept (row_of name) value
 
 -- the place of a register in the table
 unfoldable pub place_of : ℕ → Option ℕ

@@ -1,5 +1,5 @@
 -- A virtual processor as contracts see it.
-use Rattle.std.specs.Prelude.{ℕ, zero, suc, ◌==◌, not, Bool, false, cond, refl}
+use Rattle.std.specs.Prelude.{ℕ, zero, suc, ◌==◌, not, Bool, false, cond, Option, None, Some, refl}
 use Rattle.std.specs.Coded.{Coded, code_by, coded×, coded_bool, coded_ℕ}
 use Rattle.std.specs.FinMap as map
 use Rattle.std.specs.FinSet as set
@@ -57,6 +57,11 @@ ended_if is v = cond is (ended v) v
 -- once a value was written to the register with this name, if it took it; the write of EOM ends a message
 abbrev pub written : ℕ → ℕ → VpState → VpState
 written name value v = ended_if (name == EOM) (record v { registers = after_write v.registers name (kept (row_of name) value) })
+
+-- once a value was written to a model-specific register, by the name that it has in a call
+abbrev pub written_msr : Option ℕ → ℕ → VpState → VpState
+written_msr None value v = v
+written_msr (Some name) value v = written name value v
 
 -- once a message was posted: it goes last at its SINT, and then Show there
 abbrev pub posted : ℕ → Message → VpState → VpState

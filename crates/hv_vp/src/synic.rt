@@ -1,7 +1,6 @@
 // A processor's messages, event flags and pending vectors.
-ghost use Rattle.std.specs.Prelude.{◌≡◌, ◌<◌, true, IsOk, OnOk, OnErr, length};
+ghost use Rattle.std.specs.Prelude.{◌≡◌, ◌<◌, true, IsOk, OnOk, OnErr};
 ghost use Rattle.hv_defs.specs.Flags.{flag_bytes};
-ghost use Rattle.hv_defs.specs.Slot.{zeros};
 ghost use Rattle.hv_defs.specs.Vectors.{highest};
 ghost use Rattle.hv_defs.specs.declared.sizes.TheConstants.{EVENT_FLAGS, SINTS};
 ghost use Rattle.hv_mail.specs.Mail.{at, count_of};
@@ -11,7 +10,7 @@ ghost use Rattle.hv_vp.specs.Vp.{slot_cleared};
 
 use crate::Vp;
 use hv_defs::{SINT0, SINTS};
-use hv_mail::Posting;
+use hv_mail::Message;
 use std::alloc::{AllocError, Allocator};
 
 impl<A: Allocator> Vp<A> {
@@ -35,10 +34,10 @@ impl<A: Allocator> Vp<A> {
     /// Adds a message behind those that stand at a SINT below 16, and uses up the room that is
     /// reserved. Where the SINT shows none, the oldest is shown, and the SINT raises its vector (TLFS
     /// 4.0, "Messages"). Whether the processor takes messages is not asked.
-    pub fn post(&mut self, sint: u8, message: &Posting<'_>)
+    pub fn post(&mut self, sint: u8, message: Message)
         requires sint { sint < SINTS }
         requires room { self.old.room ≡ true }
-        ensures { self.new ≡ posted sint message.now self.old }
+        ensures { self.new ≡ posted sint message self.old }
     {
         self.room = false;
         if self.mailbox.post(sint, message) {
@@ -58,16 +57,13 @@ impl<A: Allocator> Vp<A> {
         }
     }
 
-    /// Writes the 256 bytes of the message slot of a SINT below 16 into zeros, as which it reads where it shows no
-    /// message (TLFS 4.0, "Messages"). [`hv_mail::Mailbox::read_slot`] says how they are laid out.
-    #[inline(always)]
-    pub fn read_slot(&self, sint: u8, bytes: &mut [u8; 256])
-        requires sint { sint < SINTS }
-        requires zeros { bytes.old ≡ zeros 256 }
-        ensures bytes { bytes.new ≡ slot_bytes (at self.now.mail sint) }
-        ensures size { length bytes.new ≡ 256 }
+    /// The 256 bytes of the message slot of a SINT below 16, which are zeros where it shows no message
+    /// (TLFS 4.0, "Messages"). [`hv_mail::Mailbox::slot`] says how they are laid out.
+    pub fn slot(&self, sint: u8) -> [u8; 256]
+        requires { sint < SINTS }
+        ensures { result ≡ slot_bytes (at self.now.mail sint) }
     {
-        self.mailbox.read_slot(sint, bytes);
+        self.mailbox.slot(sint)
     }
 
     /// The 256 bytes of the event flags of a SINT below 16: flag f is bit f % 8 of byte f / 8 (TLFS
@@ -113,18 +109,17 @@ impl<A: Allocator> Vp<A> {
         self.mailbox.of_port(port, born)
     }
 
-    // Where it takes messages, each SINT in turn shows its next one, and raises its vector if one
-    // became shown. Those that have none are passed over.
+    // Where it takes messages, each SINT shows its next one, and each at which one became shown raises its
+    // vector, in their order.
     pub(crate) fn end_message(&mut self)
         ensures { self.new ≡ ended self.old }
     {
         if self.ready_for_messages() {
-            let mut sint = self.mailbox.next_from(0);
-            while sint < SINTS as u8 {
-                if self.mailbox.advance(sint) {
+            let shown = self.mailbox.advance_all();
+            for sint in 0..SINTS as u8 {
+                if shown >> sint & 1 == 1 {
                     self.raise(sint);
                 }
-                sint = self.mailbox.next_from(sint + 1);
             }
         }
     }

@@ -1,11 +1,12 @@
 // The virtual processor, and its registers.
-ghost use Rattle.std.specs.Prelude.{◌≡◌, IfOk};
-ghost use Rattle.hv_defs.specs.Registers.{is_on, kept, row_of, takes_flags, takes_messages};
-ghost use Rattle.hv_vp.specs.Registers.{answer, read_of};
-ghost use Rattle.hv_vp.specs.Vp.{new_vp, written};
+ghost use Rattle.std.specs.Prelude.{◌≡◌, IfOk, OnErr};
+ghost use Rattle.hv_defs.specs.Registers.{is_on, kept, name_of_msr, row_of, takes_flags, takes_messages};
+ghost use Rattle.hv_vp.specs.Registers.{answer, kept_msr, read_of, read_of_msr};
+ghost use Rattle.hv_vp.specs.Vp.{new_vp, written, written_msr};
 ghost use Rattle.hv_vp.specs.Vps.{is_ready};
 
 use crate::registers::Registers;
+use crate::table::name_of_msr;
 use hv_defs::{EOM, PortKind, RegFault, SCONTROL, SIEFP, SIMP};
 use hv_mail::{Flags, Mailbox, Pending};
 use std::alloc::{AllocError, Allocator};
@@ -79,12 +80,36 @@ impl<A: Allocator> Vp<A> {
     pub fn write_reg(&mut self, name: u32, value: u64) -> Result<(), RegFault>
         ensures answer { result ≡ answer (kept (row_of name) value) }
         ensures state { self.new ≡ written name value self.old }
+        ensures unchanged { OnErr result (self.new ≡ self.old) }
     {
         self.registers.write(name, value)?;
         if name == EOM {
             self.end_message();
         }
         Ok(())
+    }
+
+    /// The value of the model-specific register with this number.
+    pub fn read_msr(&self, msr: u32) -> Result<u64, RegFault>
+        ensures { result ≡ read_of_msr self.now.registers (name_of_msr msr) }
+    {
+        match name_of_msr(msr) {
+            Some(name) => self.read_reg(name),
+            None => Err(RegFault::Unknown),
+        }
+    }
+
+    /// Writes the model-specific register with this number, by the rules of [`Vp::write_reg`]. A fault
+    /// changes nothing.
+    pub fn write_msr(&mut self, msr: u32, value: u64) -> Result<(), RegFault>
+        ensures answer { result ≡ answer (kept_msr (name_of_msr msr) value) }
+        ensures state { self.new ≡ written_msr (name_of_msr msr) value self.old }
+        ensures unchanged { OnErr result (self.new ≡ self.old) }
+    {
+        match name_of_msr(msr) {
+            Some(name) => self.write_reg(name, value),
+            None => Err(RegFault::Unknown),
+        }
     }
 
     /// Whether it takes messages: its synthetic interrupt controller and its message page are on.

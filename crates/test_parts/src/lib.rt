@@ -5,6 +5,8 @@
 #[cfg(test)]
 mod copies;
 #[cfg(test)]
+mod frames;
+#[cfg(test)]
 mod large_tree;
 #[cfg(test)]
 mod mail;

@@ -1,12 +1,21 @@
 // SINTs that show their next messages, one after another.
 
-use hv_mail::{Mailbox, Posting};
+use arrayvec::ArrayVec;
+use hv_mail::{Mailbox, Message};
 use std::alloc::{AllocError, Global};
 use std::test::Fail;
 
 // A message of port 0x654321, with two bytes of payload.
-fn message(kind: u32) -> Posting<'static> {
-    Posting::new(0x0065_4321, 0xFEDC_BA98_7654_3210, kind, &[0xA5, 0xC3])
+fn message(kind: u32) -> Message {
+    let mut payload = ArrayVec::new();
+    payload.push(0xA5);
+    payload.push(0xC3);
+    Message {
+        port: 0x0065_4321,
+        born: 0xFEDC_BA98_7654_3210,
+        kind,
+        payload,
+    }
 }
 
 // Posts a message at each of the SINTs, and answers whether each is shown as it must be.
@@ -14,7 +23,7 @@ fn post_all(mailbox: &mut Mailbox<Global>, posts: &[(u8, u32, bool)]) -> Result<
     let mut are_right = true;
     for (sint, kind, shown) in posts {
         mailbox.reserve_one()?;
-        let posted = *sint < 16 && mailbox.post(*sint, &message(*kind)) == *shown;
+        let posted = *sint < 16 && mailbox.post(*sint, message(*kind)) == *shown;
         are_right = are_right && posted;
     }
     Ok(are_right)
@@ -45,38 +54,19 @@ const SHOWN_AT_15: [u8; 18] = [
     0xA9, 0xCB, 0xED, 0x7F, 2, 0, 0, 0, 0x21, 0x43, 0x65, 0, 0, 0, 0, 0, 0xA5, 0xC3,
 ];
 
-fn slot(mailbox: &Mailbox<Global>, sint: u8) -> [u8; 256] {
-    let mut bytes = [0; 256];
-    if sint < 16 {
-        mailbox.read_slot(sint, &mut bytes);
-    }
-    bytes
-}
-
 fn are_shown(mailbox: &Mailbox<Global>) -> bool {
-    &slot(mailbox, 2)[..18] == SHOWN_AT_2.as_slice()
-        && &slot(mailbox, 15)[..18] == SHOWN_AT_15.as_slice()
-        && slot(mailbox, 7)[0] == 0
-}
-
-// The SINTs at which a message became shown.
-fn advance_each(mailbox: &mut Mailbox<Global>) -> u16 {
-    let mut shown = 0;
-    for sint in 0u8..16 {
-        if mailbox.advance(sint) {
-            shown |= 1 << sint;
-        }
-    }
-    shown
+    &mailbox.slot(2)[..18] == SHOWN_AT_2.as_slice()
+        && &mailbox.slot(15)[..18] == SHOWN_AT_15.as_slice()
+        && mailbox.slot(7)[0] == 0
 }
 
 #[test]
 fn each_sint_shows_its_next_message(rt: HostRuntime) -> Result<(), Fail> {
     let mut mailbox = Mailbox::new(rt.alloc());
     let are_posted = post_all(&mut mailbox, &POSTS)?;
-    let early = advance_each(&mut mailbox);
+    let early = mailbox.advance_all();
     clear_all(&mut mailbox);
-    let shown = advance_each(&mut mailbox);
+    let shown = mailbox.advance_all();
     let is_right = early == 0 && shown == 0x8004 && are_shown(&mailbox);
     assert!(rt; are_posted && is_right);
     Ok(())

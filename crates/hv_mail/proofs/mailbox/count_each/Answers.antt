@@ -1,30 +1,30 @@
-use Rattle.std.proofs.Common.{◌≡◌, ◌+◌, ℕ, ap, sym, get_or, arith}
+use Rattle.std.proofs.Common.{◌≡◌, ℕ, ◌∙◌, get_or, sym, ap, arith}
 use Rattle.std.proofs.lemmas.List.Sums.{sum_by_more}
-use Rattle.hv_mail.proofs.Bits.{counted_on}
+use Rattle.std.proofs.lemmas.Nat.Bits.{shr_and_one}
+use Rattle.hv_mail.proofs.Totals.{none_at}
 use Rattle.hv_mail.specs.Mail.{count_at}
 use Rattle.hv_mail.specs.Queue.{QueueState}
 use Rattle.hv_mail.proofs.mailbox.count_each.Goals as goal
+use Rattle.hv_mail.proofs.mailbox.count_each.Goals.{then-busy-sint-ne0, else-busy-sint-ne0}
 
-pub loop-count-init : goal.loop-count-init
-loop-count-init g c = record {
-  within = c.next_busy-sint.ensures.within;
-  total = sym (counted_on c.args.port c.args.born c.args.busy c.args.queues.now c.requires.few c.requires.quiet 0 c.next_busy-sint.result c.next_busy-sint.ensures.from c.next_busy-sint.ensures.clear);
-  small = omega arith;
-}
-
-pub loop-count-preserved : goal.loop-count-preserved
-loop-count-preserved g c =
+pub loop-sint-preserved : goal.loop-sint-preserved
+loop-sint-preserved g c =
     let queues = c.args.queues.now in
-    let sint = c.loop-count.sint in
-    let queue = c.index-queues-from.result in
+    let sint = c.loop-sint.sint in
+    let queue = c.index-queues-sint.result in
     let count : QueueState → ℕ = λ q. count_at c.args.port c.args.born q.mail in
-    let next = c.next_busy-sint-in-loop-count in
-    let at = c.from-in-loop-count.ensures in
-    let more = sum_by_more count queues sint queue (omega (arith, c.loop-count-test.true, c.from.ensures)) in
-    let here : count queue ≡ count (get_or queues sint queue) = ap count (rw at at c.index-queues-from.is) in
-    let on = counted_on c.args.port c.args.born c.args.busy queues c.requires.few c.requires.quiet (sint + 1) next.result next.ensures.from next.ensures.clear in
-    record {
-      within = next.ensures.within;
-      total = omega (arith, c.loop-count.invariant.total, c.count_of-count.ensures.count, more, here, on);
-      small = omega (arith, c.loop-count.invariant.small, c.count_of-count.ensures.small, next.ensures.from);
-    }
+    let more = sum_by_more count queues sint queue c.loop-sint-test.true in
+    let here : count queue ≡ count (get_or queues sint queue) = ap count c.index-queues-sint.is in
+    elim c.if-busy-sint-ne0.branch [
+      | then-busy-sint-ne0 w ↦ record {
+        total = omega (arith, w.count-is, w.count_of-count.ensures.count, c.loop-sint.invariant.total, more, here);
+        small = omega (arith, w.count-is, w.count_of-count.ensures.small, c.loop-sint.invariant.small);
+      }
+      | else-busy-sint-ne0 w ↦
+          let clear = sym (shr_and_one c.args.busy sint) ∙ w.if-busy-sint-ne0.false in
+          let none = none_at c.args.port c.args.born queues sint queue c.loop-sint-test.true c.index-queues-sint.is (c.requires.quiet sint (omega arith) clear) in
+          record {
+            total = omega (arith, w.count-is, c.loop-sint.invariant.total, more, here, none);
+            small = omega (arith, w.count-is, c.loop-sint.invariant.small);
+          }
+    ]

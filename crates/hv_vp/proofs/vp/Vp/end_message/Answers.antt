@@ -1,30 +1,37 @@
-use Rattle.std.proofs.Common.{◌≡◌, ◌+◌, true, false, ◌∙◌, sym, ap}
-use Rattle.hv_vp.specs.Vp.{shown, shown_each}
-use Rattle.hv_vp.proofs.Shown.{shown-by, shown_each-zero, shown_each-more, shown_on}
-use Rattle.hv_vp.proofs.vp.Vp.end_message.Goals.{then-advance, else-advance}
+use Rattle.std.proofs.Common.{◌≡◌, ◌==◌, true, false, cond, sym, ap, ◌∙◌, arith}
+use Rattle.std.specs.Int.{bit_at}
+use Rattle.std.proofs.lemmas.Bool.{ne_eqb}
+use Rattle.std.proofs.lemmas.Nat.Bits.{shr_and_one}
+use Rattle.hv_defs.specs.Registers.{takes_messages}
+use Rattle.hv_mail.specs.Mail.{all_next, at, has_next}
+use Rattle.hv_vp.specs.Vp.{VpState, shown_each}
+use Rattle.hv_vp.proofs.Shown.{first_raised, next_raised, all_raised}
+use Rattle.hv_vp.proofs.vp.Vp.end_message.Goals.{then-shown-sint-eq1, else-shown-sint-eq1}
 use Rattle.hv_vp.proofs.vp.Vp.end_message.Goals as goal
 
 pub loop-sint-init : goal.loop-sint-init
-loop-sint-init g c =
-    let next = c.next_from-sint in
-    record {
-      within = next.ensures.within;
-      shown = shown_on c.args.self.now 0 c.args.self.now (sym (shown_each-zero c.args.self.now)) next.result next.ensures.from (λ k above below. rw (← c.self.view_is) (next.ensures.quiet k above below));
-    }
+loop-sint-init g c = first_raised 16 c.args.self.now _ c.advance_all-shown.new.self.mail c.self.view_is c.advance_all-shown.ensures.mail
 
 pub loop-sint-preserved : goal.loop-sint-preserved
 loop-sint-preserved g c =
+    let first = c.args.self.now in
     let sint = c.loop-sint.sint in
-    let one = ap (shown sint) c.self-in-loop-sint.view_is ∙ shown_each-more sint c.args.self.now c.loop-sint.self c.loop-sint.invariant.shown in
-    let made : c.if-advance.self ≡ shown_each (sint + 1) c.args.self.now =
-    elim c.if-advance.branch [
-      | then-advance w ↦
-          w.self-is ∙ w.raise.ensures ∙ shown-by sint _ c.advance.new.self.mail true c.advance.ensures.mail (sym w.if-advance.true ∙ c.advance.ensures.shown) ∙ one
-      | else-advance w ↦ w.self-is ∙ shown-by sint _ c.advance.new.self.mail false c.advance.ensures.mail (sym w.if-advance.false ∙ c.advance.ensures.shown) ∙ one
+    let bits = c.advance_all-shown.result in
+    let told : (bit_at bits sint == 1) ≡ has_next (at first.mail sint) =
+    c.advance_all-shown.ensures.shown sint c.loop-sint-test.true ∙ ap {A = VpState} (λ v. has_next (at v.mail sint)) c.self.view_is in
+    elim c.if-shown-sint-eq1.branch [
+      | then-shown-sint-eq1 w ↦
+          let set : (bit_at bits sint == 1) ≡ true = ap (λ b. b == 1) (sym (shr_and_one bits sint) ∙ w.if-shown-sint-eq1.true) in
+          w.self-is ∙ w.raise.ensures ∙ next_raised sint first c.loop-sint.self _ true c.loop-sint.invariant (sym set ∙ told)
+      | else-shown-sint-eq1 w ↦
+          let clear : (bit_at bits sint == 1) ≡ false = ne_eqb (bit_at bits sint) 1 (λ e. w.if-shown-sint-eq1.false (shr_and_one bits sint ∙ e)) in
+          w.self-is ∙ next_raised sint first c.loop-sint.self _ false c.loop-sint.invariant (sym clear ∙ told)
     ]
-    in
-    let next = c.next_from-sint-in-loop-sint in
-    record {
-      within = next.ensures.within;
-      shown = shown_on c.args.self.now (sint + 1) c.if-advance.self made next.result next.ensures.from (λ k above below. rw (← c.self-in-loop-sint-2.view_is) (next.ensures.quiet k above below));
-    }
+
+pub returns-after-loop-sint : goal.returns-after-loop-sint
+returns-after-loop-sint g c =
+    let first = c.args.self.now in
+    let last : c.loop-sint.sint ≡ 16 = omega arith in
+    let takes : takes_messages first.registers ≡ true = sym c.ready_for_messages.ensures ∙ c.if-ready_for_messages.true in
+    c.loop-sint.invariant ∙ ap (λ n. record (shown_each n first) { mail = all_next 16 first.mail }) last ∙ all_raised 16 first
+    ∙ sym (ap (λ b. cond b (shown_each 16 first) first) takes)

@@ -1,0 +1,53 @@
+-- Show at each SINT, one after the other, and the bits that tell where a message became shown.
+use Rattle.std.proofs.Common.{◌≡◌, ℕ, zero, suc, ◌+◌, ◌*◌, ◌%◌, ◌^◌, ◌<◌, ◌≤◌, ◌==◌, ◌&&◌, nat_lt, Bool, true, false, cond, inl, inr, refl, sym, ap, ◌∙◌, arith, add-one}
+use Rattle.std.specs.Int.{bit_at, w16}
+use Rattle.std.specs.Int.RustNames.{bit_or}
+use Rattle.std.proofs.lemmas.Bool.{cases_eq, cases_lt, ne_eqb, lt-ltb, le-ltb}
+use Rattle.std.proofs.lemmas.Nat.Bits.{bit_at-zero, bit_at_set_same, bit_at_set_other}
+use Rattle.hv_mail.proofs.Rows.{at-with_at}
+use Rattle.hv_mail.specs.Mail.{Mail, all_next, at, with_at, with_next}
+
+-- Show at the first SINTs: none of them
+pub all_next-zero : (mail : Mail) → all_next 0 mail ≡ mail
+unfolding all_next
+all_next-zero mail = refl
+
+-- and one more
+pub all_next-more : (sint : ℕ) (first mail : Mail) → mail ≡ all_next sint first → with_at mail sint (with_next (at mail sint)) ≡ all_next (sint + 1) first
+unfolding all_next
+all_next-more sint first mail is = ap (λ m. with_at m sint (with_next (at m sint))) is ∙ ap (λ n. all_next n first) (sym (add-one sint))
+
+-- at the others stands what stood there
+pub at-all_next : (n : ℕ) (mail : Mail) (k : ℕ) → n ≤ k → at (all_next n mail) k ≡ at mail k
+unfolding all_next
+at-all_next zero mail k above = refl
+at-all_next (suc n) mail k above =
+    let there = with_next (at (all_next n mail) n) in
+    at-with_at (all_next n mail) n there k ∙ ap (λ b. cond b there (at (all_next n mail) k)) (ne_eqb k n (λ e. omega (arith, e))) ∙ at-all_next n mail k (omega arith)
+
+-- no bit is set at first
+pub none_set : (test : ℕ → Bool) (k : ℕ) → (bit_at 0 k == 1) ≡ (nat_lt k 0 && test k)
+none_set test k = rw (bit_at-zero k, le-ltb k 0 (omega arith)) refl
+
+-- the bits of the SINTs below one, and then with its own
+module _ (test : ℕ → Bool) (shown sint : ℕ) (fits : sint < 16) (so_far : (k : ℕ) → k < 16 → (bit_at shown k == 1) ≡ (nat_lt k sint && test k)) where
+  other : (k : ℕ) → (k ≡ sint → ⊥) → (nat_lt k sint && test k) ≡ (nat_lt k (sint + 1) && test k)
+  other k apart =
+      elim (cases_lt k sint) [
+        | inl below ↦ rw (lt-ltb k sint below, lt-ltb k (sint + 1) (omega arith)) refl
+        | inr past ↦ rw (le-ltb k sint past, le-ltb k (sint + 1) (omega arith)) refl
+      ]
+
+  pub set_more : test sint ≡ true → (k : ℕ) → k < 16 → (bit_at (bit_or shown (1 * 2 ^ sint % 2 ^ 16)) k == 1) ≡ (nat_lt k (sint + 1) && test k)
+  set_more is k low =
+      elim (cases_eq k sint) [
+        | inl same ↦ rw (same, bit_at_set_same w16 shown sint fits, lt-ltb sint (sint + 1) (omega arith), is) refl
+        | inr apart ↦ ap (λ b. b == 1) (bit_at_set_other w16 shown sint fits k apart) ∙ so_far k low ∙ other k apart
+      ]
+
+  pub keep_more : test sint ≡ false → (k : ℕ) → k < 16 → (bit_at shown k == 1) ≡ (nat_lt k (sint + 1) && test k)
+  keep_more is k low =
+      elim (cases_eq k sint) [
+        | inl same ↦ so_far k low ∙ rw (same, le-ltb sint sint (omega arith), lt-ltb sint (sint + 1) (omega arith), is) refl
+        | inr apart ↦ so_far k low ∙ other k apart
+      ]
