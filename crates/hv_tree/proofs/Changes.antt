@@ -134,15 +134,18 @@ module _ {T A : Type 0} where
         let p = (out-Node T A w).id in
         let N = node_lines w in
         let all = lifted (λ es new. IsNest new × (has_row p new ≡ true) × (AreDistinct new → (children_in p new ≡ children_in p N) × AreDistinct N))
-            (λ own c ks i k lt at dist ns new h.
-                let kn = with_value k new in
-                let lt2 : i < length (set ks i kn) = omega (arith, lt, len-set ks i kn) in
-                let at2 : kn ≡ get_or (set ks i kn) i kn = sym (get_or-set_same ks i kn kn lt) in
-                let ns2 : AreNests (set ks i kn) = AreNests-set ks i kn h.0 ns in
-                (IsNest-view own c (set ks i kn) ns2, or_right (p == own) (has-in p own (set ks i kn) i kn lt2 at2 h.1), λ d2.
-                    let sub = h.2 (AreDistinct-child own (set ks i kn) i kn lt2 at2 c d2) in
-                    (kids-child own (set ks i kn) i kn lt2 at2 c d2 p h.1 ns2 ∙ sub.0, sub.1)))
-            is b n w e d (λ _. (nest-node w, subst (λ x. has_row x (node_lines w) ≡ true) (top-node w) (has-nest (node_lines w) (nest-node w)), λ d2. (refl, d2))) in
+        (λ own c ks i k lt at dist ns new h.
+        let kn = with_value k new in
+        let lt2 : i < length (set ks i kn) = omega (arith, lt, len-set ks i kn) in
+        let at2 : kn ≡ get_or (set ks i kn) i kn = sym (get_or-set_same ks i kn kn lt) in
+        let ns2 : AreNests (set ks i kn) = AreNests-set ks i kn h.0 ns in (
+          IsNest-view own c (set ks i kn) ns2,
+          or_right (p == own) (has-in p own (set ks i kn) i kn lt2 at2 h.1),
+          λ d2.
+              let sub = h.2 (AreDistinct-child own (set ks i kn) i kn lt2 at2 c d2) in
+              (kids-child own (set ks i kn) i kn lt2 at2 c d2 p h.1 ns2 ∙ sub.0, sub.1),
+        ))
+        is b n w e d (λ _. (nest-node w, subst (λ x. has_row x (node_lines w) ≡ true) (top-node w) (has-nest (node_lines w) (nest-node w)), λ d2. (refl, d2))) in
         λ d2. (let h = all.2 d2 in subst (λ l. IsNonDecreasing l) (sym (h.0 ∙ kids-node w h.1)) (up-map (λ k. id_of k.value) (children_of w) up))
 
     -- a leaf is taken out
@@ -156,7 +159,7 @@ module _ {T A : Type 0} where
         lifted (λ es new. IsWithout q (Some c) es new)
         (λ p v ks i m lt at dist ns new h. IsWithout-child p ks i m lt at v dist ns q (Some c) new h)
         is b n w e d (λ dn. subst (λ es. IsWithout q (Some c) es (node_lines w)) (sym (node-lines n)) (subst (λ es. IsWithout q (Some c) (row ∷ below own ks) es) (sym new)
-            (IsWithout-here own ks s.at (boxed_lines s.child) placed.0 placed.1 (Some (content_of n)) (subst (λ es. AreDistinct es) (node-lines n) dn) (nests (children_of n)) q (Some c) s.leaf)))
+        (IsWithout-here own ks s.at (boxed_lines s.child) placed.0 placed.1 (Some (content_of n)) (subst (λ es. AreDistinct es) (node-lines n) dn) (nests (children_of n)) q (Some c) s.leaf)))
 
     -- the contents from the node down are edited
     pub lines-edited : (f : T → T) (w : Node T A) → node_lines w ≡ edited_in f (λ _. true) (node_lines n) → IsEditedFrom f (out-Node T A n).id (lines b) (lines (put_far is b w))
@@ -177,14 +180,14 @@ module _ {T A : Type 0} where
         let kids : children_in q (lines b) ≡ children_in q (node_lines m) = subst (λ x. children_in x (lines b) ≡ children_in x (node_lines m)) name found.part.same in
         let dm : AreDistinct (((out-Node T A m).id, (None, Some (content_of m))) ∷ below (out-Node T A m).id (map boxed_lines (children_of m))) = subst (λ es. AreDistinct es) (node-lines m) found.part.distinct in
         let long : length (children_in q (node_lines m)) ≡ length (map boxed_lines (children_of m)) =
-            ap (λ x. length (children_in x (node_lines m))) (sym h.here) ∙ ap (λ es. length (children_in (out-Node T A m).id es)) (node-lines m) ∙ length-kids (out-Node T A m).id (Some (content_of m)) (map boxed_lines (children_of m)) dm (nests (children_of m)) in
+        ap (λ x. length (children_in x (node_lines m))) (sym h.here) ∙ ap (λ es. length (children_in (out-Node T A m).id es)) (node-lines m) ∙ length-kids (out-Node T A m).id (Some (content_of m)) (map boxed_lines (children_of m)) dm (nests (children_of m)) in
         omega (arith, h.many, ap length kids, long, length-map (children_of m) boxed_lines)
 
   -- the parent has the child
   pub child-named : (up : ℕ → Option ℕ) (b : Branch T A) (p q : ℕ) (n : Node T A) → IsReached up p b n → option_map (λ r. r.0) (look q (lines b)) ≡ Some (Some p) → HasChild q n
   child-named up b p q n r e =
       let kids : children_in p (lines b) ≡ map (λ k. id_of k.value) (children_of n) =
-          r.found.part.same ∙ ap (λ x. children_in x (node_lines n)) (sym r.here) ∙ kids-node n r.found.part.distinct in
+      r.found.part.same ∙ ap (λ x. children_in x (node_lines n)) (sym r.here) ∙ kids-node n r.found.part.distinct in
       let (j, lt, at) = subst (λ l. Contains l q) kids (kid_in q p (lines b) e) in
       let (y, lo, a, g) = keyed (λ k. id_of k.value) (children_of n) j q lt in
       record { at = j; child = y; within = lo; is = g; here = sym a ∙ at }

@@ -28,7 +28,7 @@ at-mapped f (y ∷ xs) (suc i) x e = let rest = at-mapped f xs i x e in (omega (
 -- what holds of a child's rows holds of its parent's
 abbrev pub Rises : {T : Type 0} → (A : Type 0) → (List (Line T) → List (Line T) → Type 0) → Type 0
 Rises {T} A R = (own : ℕ) (c : Option T) (ks : List (Box (List (Line T)) A)) (i : ℕ) (k : Box (List (Line T)) A) → i < length ks → k ≡ get_or ks i k → AreDistinct ((own, (None, c)) ∷ below own ks) → AreNests ks
-      → (new : List (Line T)) → R k.value new → R ((own, (None, c)) ∷ below own ks) ((own, (None, c)) ∷ below own (set ks i (with_value k new)))
+    → (new : List (Line T)) → R k.value new → R ((own, (None, c)) ∷ below own ks) ((own, (None, c)) ∷ below own (set ks i (with_value k new)))
 
 module _ {T A : Type 0} (R : List (Line T) → List (Line T) → Type 0) where
   pub lifted : Rises A R → (is : List ℕ) (b : Branch T A) (n w : Node T A) → reach is b ≡ Some n → AreDistinct (lines b) → (AreDistinct (node_lines n) → R (node_lines n) (node_lines w)) → R (lines b) (lines (put_far is b w))
@@ -58,7 +58,7 @@ module _ {T A : Type 0} (R : List (Line T) → List (Line T) → Type 0) where
           let new = put_far is x.value w in
           let sub = lower x.value g (AreDistinct-child own ks i k placed.0 placed.1 content dw) in
           let step : lines (put_node b (put_child (node_of b) i new)) ≡ (own, (None, content)) ∷ below own (set ks i (with_value k (lines new))) =
-              lines-put_child b i x new at
-              ∙ ap (λ zs. (own, (None, content)) ∷ below own zs) (map-set boxed_lines (out-Node T A (node_of b)).children.items i (with_value x new)) in
+          lines-put_child b i x new at
+          ∙ ap (λ zs. (own, (None, content)) ∷ below own zs) (map-set boxed_lines (out-Node T A (node_of b)).children.items i (with_value x new)) in
           let up = rise own content ks i k placed.0 placed.1 dw (nests (out-Node T A (node_of b)).children.items) (lines new) sub in
           subst (λ es. R es (lines (put_node b (put_child (node_of b) i new)))) (sym (whole b)) (subst (λ es. R ((own, (None, content)) ∷ below own ks) es) (sym step) up)

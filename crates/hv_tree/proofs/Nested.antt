@@ -17,9 +17,9 @@ module _ {T A : Type 0} where
   pub nest : (b : Branch T A) → IsNest (lines b)
   nest = ind-Branch T A (λ b. IsNest (lines b)) (λ n. IsNest (node_lines n))
       (λ x y e. subst (λ es. IsNest es) (sym (fold-roll-Branch T A (List (Line T)) (List (Line T)) (λ s. s.node) (λ s. (s.id, (None, Some s.content)) ∷ below s.id s.children.items) x))
-          (subst (λ n. IsNest (node_lines n)) (ap (λ s. s.node) e) y.node.1))
+      (subst (λ n. IsNest (node_lines n)) (ap (λ s. s.node) e) y.node.1))
       (λ x y e. subst (λ es. IsNest es) (sym (fold-roll-Node T A (List (Line T)) (List (Line T)) (λ s. s.node) (λ s. (s.id, (None, Some s.content)) ∷ below s.id s.children.items) x))
-          (IsNest-view x.id (Some x.content) (map boxed_lines x.children.items) (subst (λ ks. AreNests (map boxed_lines ks)) (ap (λ s. s.children.items) e) (held y.children.items))))
+      (IsNest-view x.id (Some x.content) (map boxed_lines x.children.items) (subst (λ ks. AreNests (map boxed_lines ks)) (ap (λ s. s.children.items) e) (held y.children.items))))
 
   pub nests : (ks : List (Box (Branch T A) A)) → AreNests (map boxed_lines ks)
   nests [] = tt

@@ -162,7 +162,7 @@ module _ {T A : Type 0} where
       let found = reach-found is b n e d in
       let dn : AreDistinct ((own, (None, Some (content_of n))) ∷ below own ks) = subst (λ es. AreDistinct es) (node-lines n) found.part.distinct in
       let kids : children_in (top (node_lines n)) (lines b) ≡ map (λ k. top k.value) ks =
-          found.part.same ∙ ap (λ es. children_in (top es) es) (node-lines n) ∙ kids-view own (Some (content_of n)) ks dn (nests (children_of n)) in
+      found.part.same ∙ ap (λ es. children_in (top es) es) (node-lines n) ∙ kids-view own (Some (content_of n)) ks dn (nests (children_of n)) in
       let up : IsNonDecreasing (map (λ k. top k.value) ks) = subst (λ l. IsNonDecreasing l) kids (r (top (node_lines n))) in
       ranked own (Some (content_of n)) (children_of n) dn up i j x lt lj
 
@@ -193,7 +193,7 @@ module _ {T A : Type 0} where
       let deep = depth-child own c ks st.index (boxed_lines x) placed.0 placed.1 dw ns (subst (λ es. IsNest es) (whole b) (nest b)) s q mine hd in
       let below_it = way-child up q own c ks w st.index (boxed_lines x) placed.0 placed.1 mine in
       let rest = way-found up most q s x.value (AreDistinct-child own ks st.index (boxed_lines x) placed.0 placed.1 c dw) below_it.agrees (omega (arith, len, size, length-child own ks st.index (boxed_lines x) placed.0 placed.1))
-          (rising-child b r [] (node_of b) (step up most q (node_of b)) x.value refl child) mine deep in
+      (rising-child b r [] (node_of b) (step up most q (node_of b)) x.value refl child) mine deep in
       (rest.0, ap (λ o. option_and_then (reach (further (way up most q s) o)) o) child ∙ rest.1, rest.2)
     where
       not_own : (own : ℕ) (c : Option T) (ks : List (Box (List (Line T)) A)) (q p : ℕ) → option_map (λ r. r.0) (look q ((own, (None, c)) ∷ below own ks)) ≡ Some (Some p) → (q == own) ≡ false

@@ -96,5 +96,4 @@ pub(crate) fn place_toward<T, A: Allocator>(
 type Twice7<D> = Twice<Twice<Twice<Twice<Twice<Twice<Twice<D>>>>>>>;
 
 /// Goes 2⁶³ - 1 steps, which no tree has.
-pub(crate) type Down =
-    Twice7<Twice7<Twice7<Twice7<Twice7<Twice7<Twice7<Twice7<Twice7<Stay>>>>>>>>>;
+pub(crate) type Down = Twice7<Twice7<Twice7<Twice7<Twice7<Twice7<Twice7<Twice7<Twice7<Stay>>>>>>>>>;

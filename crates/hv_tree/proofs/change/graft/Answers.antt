@@ -63,8 +63,8 @@ returns-clause-rising g c =
     let slice : c.deref-2.result.now ≡ children_of n = c.deref-2.ensures.value ∙ room in
     let own = ap (λ x. id_of x) c.deref.ensures in
     let rising : IsNonDecreasingBy (λ k. id_of k.value) (insert (children_of n) i c.args.child) =
-        IsNonDecreasingBy-insert (λ k. id_of k.value) (children_of n) i c.args.child (rising-non_decreasing n r.rising) (rw (← slice) c.first_above-at.ensures.bound)
-        (λ k d h. rw (← slice, ← own) (c.first_above-at.ensures.place.0 k d (omega arith) h))
-        (λ k d h l. rw (← slice, ← own) (omega (arith, c.first_above-at.ensures.place.1 k d h (rw slice l)))) in
+    IsNonDecreasingBy-insert (λ k. id_of k.value) (children_of n) i c.args.child (rising-non_decreasing n r.rising) (rw (← slice) c.first_above-at.ensures.bound)
+    (λ k d h. rw (← slice, ← own) (c.first_above-at.ensures.place.0 k d (omega arith) h))
+    (λ k d h l. rw (← slice, ← own) (omega (arith, c.first_above-at.ensures.place.1 k d h (rw slice l)))) in
     subst (λ p. AreDistinct (lines (put_far (way_to up c.args.parent b) b w)) → IsNonDecreasing (children_in p (lines (put_far (way_to up c.args.parent b) b w)))) (id ∙ r.here)
     (kids-changed (way_to up c.args.parent b) b n r.led c.requires.laid.distinct w (subst (λ l. IsNonDecreasingBy (λ k. id_of k.value) l) (sym kids) rising))

@@ -22,6 +22,7 @@ returns g c =
     let up = parents c.args.index.now in
     let b = c.args.root.now in
     let led : option_copied_mut c.toward.result ≡ reach (way_to up c.args.id b) b = c.toward.ensures.value ∙ ap (λ s. reach (way up MOST c.args.id s b) b) c.depth_in.ensures in
-    let all = reached up b c.requires c.args.id (sym c.is_there.ensures ∙ c.if-not-is_there.false) (option_copied_mut c.toward.result) led in
-    (ap (λ s. read_of (ghost_name_of c.toward.result) (put_far (way up MOST c.args.id s b) b) b) c.depth_in.ensures,
-    record { writes_back = tt; found = some_copied_mut (λ n. IsReached up c.args.id b n) c.toward.result all.0; none = none_copied_mut (has_row c.args.id (lines b) ≡ false) c.toward.result all.1 })
+    let all = reached up b c.requires c.args.id (sym c.is_there.ensures ∙ c.if-not-is_there.false) (option_copied_mut c.toward.result) led in (
+      ap (λ s. read_of (ghost_name_of c.toward.result) (put_far (way up MOST c.args.id s b) b) b) c.depth_in.ensures,
+      record { writes_back = tt; found = some_copied_mut (λ n. IsReached up c.args.id b n) c.toward.result all.0; none = none_copied_mut (has_row c.args.id (lines b) ≡ false) c.toward.result all.1 },
+    )

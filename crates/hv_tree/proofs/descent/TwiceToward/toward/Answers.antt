@@ -65,7 +65,7 @@ returns g c =
     let child : child_of n i ≡ Some k = sym c.in_ok-child.ensures.value in
     let next : child_of n (step up MOST c.args.id n) ≡ Some k = ap (λ j. child_of n j) (sym at) ∙ child in
     let whole : way up MOST c.args.id c.args.steps b ≡ before ++ i ∷ after =
-        ap (λ l. way up MOST c.args.id l b) len ∙ way_split up MOST c.args.id first rest b n k above next ∙ ap (λ j. before ++ j ∷ after) (sym at) in
+    ap (λ l. way up MOST c.args.id l b) len ∙ way_split up MOST c.args.id first rest b n k above next ∙ ap (λ j. before ++ j ∷ after) (sym at) in
     let none : put_far before b (put_child n i k) ≡ b = ap (put_far before b) (same_child n i k child) ∙ same_far before b n above in
     let some = λ (w : Node g.row.T.Denot g.row.A.Denot). sym (ap (λ is. put_far is b w) whole ∙ far_two before after i b n k w above child) in
     let there = split_some up MOST c.args.id first rest c.args.steps b n k len (sym above) (sym next) in

@@ -34,12 +34,14 @@ loop-i-preserved g t c =
     let placed = at-box boxed_lines cs i k lt is in
     let new = put_node k.value c.edit_all.new.self in
     let rows : lines new ≡ edited_in f (λ _. true) (lines k.value) =
-        lines-put k.value c.edit_all.new.self ∙ c.edit_all.ensures ∙ ap (λ b. edited_in f (λ _. true) (node_lines (node_of b))) c.deref_mut.ensures.value ∙ ap (edited_in f (λ _. true)) (sym (lines-node k.value)) in
+    lines-put k.value c.edit_all.new.self ∙ c.edit_all.ensures ∙ ap (λ b. edited_in f (λ _. true) (node_lines (node_of b))) c.deref_mut.ensures.value ∙ ap (edited_in f (λ _. true)) (sym (lines-node k.value)) in
     let back = out-roll-Node _ _ (record (out-Node _ _ s) { children = with_item (out-Node _ _ s).children i (with_value k new) }) in
     let items = ap (λ r. r.children.items) back in
     record {
-      unvisited = (ap length items ∙ len-set now i (with_value k new) ∙ inv.unvisited.0,
-          λ x d le. ap (λ l. get_or l x d) items ∙ get_or-set_other now i x (with_value k new) d (λ e. omega (arith, e, le)) ∙ inv.unvisited.1 x d (omega (arith, le)));
+      unvisited = (
+        ap length items ∙ len-set now i (with_value k new) ∙ inv.unvisited.0,
+        λ x d le. ap (λ l. get_or l x d) items ∙ get_or-set_other now i x (with_value k new) d (λ e. omega (arith, e, le)) ∙ inv.unvisited.1 x d (omega (arith, le)),
+      );
       kids = ap (map boxed_lines) items ∙ map-set boxed_lines now i (with_value k new) ∙ ap (λ l. set l i (with_value (boxed_lines k) (lines new))) inv.kids
           ∙ ap (λ es. set (edited_kids f (take i ks) ++ drop i ks) i (with_value (boxed_lines k) es)) rows ∙ (rw add-one (edited_more f ks i (boxed_lines k) placed.0 placed.1));
       own = ap (λ r. r.id) back ∙ inv.own;

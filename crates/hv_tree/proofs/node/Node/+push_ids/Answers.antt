@@ -24,7 +24,7 @@ loop-child-preserved g t c =
     let own = (out-Node _ _ c.args.self.now).id in
     let more = ids-more 0 ks i (boxed_lines k) placed.0 placed.1 in
     let added : c.push_ids.new.ids.items ≡ c.loop-child.ids.items ++ ids_of (lines k.value) =
-        c.in_ok-push_ids.ensures ∙ ap (λ b. c.loop-child.ids.items ++ ids_of (node_lines (node_of b))) c.deref.ensures ∙ ap (λ es. c.loop-child.ids.items ++ ids_of es) (sym (lines-node k.value)) in
+    c.in_ok-push_ids.ensures ∙ ap (λ b. c.loop-child.ids.items ++ ids_of (node_lines (node_of b))) c.deref.ensures ∙ ap (λ es. c.loop-child.ids.items ++ ids_of es) (sym (lines-node k.value)) in
     added ∙ ap (λ l. l ++ ids_of (lines k.value)) c.loop-child.invariant ∙ append_assoc c.args.ids.now.items (own ∷ ids_of (below 0 (take i ks))) (ids_of (lines k.value))
     ∙ ap (λ l. c.args.ids.now.items ++ (own ∷ l)) (sym more)
 

@@ -24,5 +24,5 @@ returns g c =
     let n = c.args.self.now in
     let b = c.in_ok-child.child.now in
     let at : slice_get (out-Node _ _ n).children.items c.args.at ≡ Some b =
-        slice_get-get_or (out-Node _ _ n).children.items c.args.at b (omega (arith, c.in_ok-child.ensures.variant.0 refl, (out-Node _ _ n).children.ok.0)) ∙ ap Some (sym c.in_ok-child.ensures.value) in
+    slice_get-get_or (out-Node _ _ n).children.items c.args.at b (omega (arith, c.in_ok-child.ensures.variant.0 refl, (out-Node _ _ n).children.ok.0)) ∙ ap Some (sym c.in_ok-child.ensures.value) in
     (λ t. inl (c.deref_mut.result.ghost_name, λ w. put_there n c.args.at b w at t), record { writes_back = tt; value = rw at (ap Some c.deref_mut.ensures.value) })

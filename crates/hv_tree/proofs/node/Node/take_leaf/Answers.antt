@@ -36,7 +36,10 @@ returns-clause-gone g c =
     let content : c.into_content.result ≡ content_of m = c.into_content.ensures ∙ ap (λ x. content_of (node_of x)) (c.into_inner.ensures ∙ ap (λ x. x.value) taken ∙ sym c.deref-2.ensures) in
     let name : (out-Node _ _ m).id ≡ c.args.id = ap (λ x. id_of x) c.deref-2.ensures ∙ here in
     record {
-      at = i; child = k; within = lt; is = is;
+      at = i;
+      child = k;
+      within = lt;
+      is = is;
       leaf = ap (λ x. lines x) (sym c.deref-2.ensures) ∙ whole b ∙ (rw (name, bare, ← content) refl);
       id = ap (λ s. s.id) back;
       content = ap (λ s. s.content) back;
