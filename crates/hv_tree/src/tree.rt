@@ -1,5 +1,5 @@
 //! The tree, seen as its rows.
-ghost use Rattle.std.specs.Prelude.{◌≡◌, ◌<◌, ◌↔◌, [], None, Some, true, false, length, is_some};
+ghost use Rattle.std.specs.Prelude.{◌≡◌, ◌<◌, ◌↔◌, [], ◌∷◌, None, Some, true, false, length, is_some};
 ghost use Rattle.std.specs.Prelude.{ℕ, IfSome, IfNone, OnSome, IfOk, IfErr, OnOk, OnErr};
 ghost use Rattle.std.specs.Option.{option_copied, option_copied_mut, option_map};
 ghost use Rattle.std.specs.Borrow.{LendsIf, sem};
@@ -9,12 +9,13 @@ ghost use Rattle.hv_tree.specs.Rows.{change, content, parent, children, is_leaf,
 ghost use Rattle.hv_tree.specs.Rows.{IsTree};
 ghost use Rattle.hv_tree.specs.Refused.{Refuses};
 ghost use Rattle.hv_tree.specs.Subtree.{IsInSubtree};
+ghost use Rattle.hv_tree.specs.Lines.{lines};
 
+use crate::change::{edit_below, graft, prune, reserve};
 use crate::edit::Edit;
-use crate::nodes::{
-    GUESSES, Guesses, Node, Nodes, edit_below, first_above, graft, ids_of, is_noted, note_place,
-    place_of, prune, seek,
-};
+use crate::index::{Index, MOST, depth_in, forget, parent_in};
+use crate::look_up::{content_at, is_there, seek};
+use crate::node::Branch;
 use crate::refused::{InsertRefused, ReserveRefused};
 use indexmap::IndexMap;
 use std::alloc::{AllocError, AllocFailed, Allocator};
@@ -22,17 +23,20 @@ use std::marker::Model;
 
 /// A tree whose nodes have ids of their own, each with a content. One node, the root, has no parent.
 ///
-/// The nodes stand in one hash map by their ids. Each has its depth and the ids of its parent and its children,
-/// so that no look-up climbs. A look-up of a node that was noted takes one look at its place, and no hash.
+/// Each node owns its children in boxes, by rising id. Beside them an index names each node's parent, and tells
+/// the way down to a node.
 #[derive(Drop)]
 pub struct IdTree<T, A: Allocator> {
-    nodes: Nodes<T, A>,
-    // A guess is looked at before it is trusted.
-    guesses: Guesses,
+    root: Branch<T, A>,
+    // The parent of each node but the root.
+    index: Index<A>,
+    // How many nodes there are.
+    count: u64,
     alloc: A,
 }
 
 impl<T, A: Allocator> Model for IdTree<T, A> {
+    ghost use Rattle.std.specs.Prelude.{None};
     ghost use Rattle.std.specs.Coded.{coded_ℕ, coded_option, coded×};
     ghost use Rattle.std.specs.FinMap as map;
     ghost use Rattle.hv_tree.specs.Rows.{Rows};
@@ -41,11 +45,13 @@ impl<T, A: Allocator> Model for IdTree<T, A> {
 
     ghost coded = { map.code coded_ℕ (coded× (coded_option coded_ℕ) T.code) };
 
-    ghost use Rattle.hv_tree.specs.Flat.{look, rows, IsSound};
+    ghost use Rattle.hv_tree.specs.Full.{full};
+    ghost use Rattle.hv_tree.specs.Index.{parents, IsKept};
+    ghost use Rattle.hv_tree.specs.Lines.{lines};
 
-    ghost view = { λ a. rows a.nodes.entries };
+    ghost view = { λ a. map.from_entries (full None (lines a.root)) };
 
-    ghost invariant = { λ a. IsSound (rows a.nodes.entries) (look a.nodes.entries) };
+    ghost invariant = { λ a. IsKept (lines a.root) a.count (parents a.index) };
 }
 
 impl<T, A: Allocator> IdTree<T, A> {
@@ -55,14 +61,14 @@ impl<T, A: Allocator> IdTree<T, A> {
         ensures none { result ≡ false → children self.now id ≡ [] }
         ensures tree { IsTree self.now }
     {
-        seek(&self.nodes, &self.guesses, id).is_some()
+        is_there(&self.root, &self.index, id)
     }
 
     /// The content of a node.
     pub fn get(&self, id: u64) -> Option<&T>
         ensures { option_copied result ≡ content self.now id }
     {
-        match seek(&self.nodes, &self.guesses, id) {
+        match seek(&self.root, &self.index, id) {
             Some(node) => Some(&node.content),
             None => None,
         }
@@ -73,10 +79,7 @@ impl<T, A: Allocator> IdTree<T, A> {
         ensures value { result ≡ parent self.now id }
         ensures tree { IsTree self.now }
     {
-        match seek(&self.nodes, &self.guesses, id) {
-            Some(node) => node.parent,
-            None => None,
-        }
+        parent_in(&self.index, id)
     }
 
     /// How many nodes are above a node: 0 for the root, and `None` where no node has the id.
@@ -85,10 +88,10 @@ impl<T, A: Allocator> IdTree<T, A> {
         ensures depth { IfSome result (HasDepth self.now id) }
         ensures tree { IsTree self.now }
     {
-        match seek(&self.nodes, &self.guesses, id) {
-            Some(node) => Some(node.depth),
-            None => None,
+        if !self.contains(id) {
+            return None;
         }
+        Some(depth_in(&self.index, id))
     }
 
     /// How many children a node has, or `None` where no node has the id.
@@ -98,7 +101,7 @@ impl<T, A: Allocator> IdTree<T, A> {
         ensures none { IfNone result (children self.now id ≡ []) }
         ensures tree { IsTree self.now }
     {
-        match seek(&self.nodes, &self.guesses, id) {
+        match seek(&self.root, &self.index, id) {
             Some(node) => Some(node.children.len() as u32),
             None => None,
         }
@@ -110,56 +113,30 @@ impl<T, A: Allocator> IdTree<T, A> {
         ensures value { IsLeastAbove previous (children self.now parent) result }
         ensures tree { IsTree self.now }
     {
-        let Some(node) = seek(&self.nodes, &self.guesses, parent) else {
+        let Some(node) = seek(&self.root, &self.index, parent) else {
             return None;
         };
-        let children = node.children.as_slice();
-        match children.get(first_above(children, previous)) {
-            Some(child) => Some(*child),
-            None => None,
-        }
+        node.child_after(previous)
     }
 
-    /// Notes the place of a node, so that a look-up of it takes one look there. That holds until another node
-    /// with the same lowest bits of its id is noted, or the removal of one moves this one. It changes no answer.
+    /// Says that a node is to be looked up often. It changes no answer.
     pub fn note(&mut self, id: u64)
         ensures { self.new ≡ self.old }
-    {
-        if !is_noted(&self.nodes, &self.guesses, id) {
-            self.note_anew(id);
-        }
-    }
+    {}
 
-    // Not inlined, since mostly a node is noted.
-    #[inline(never)]
-    fn note_anew(&mut self, id: u64)
-        ensures { self.new ≡ self.old }
-    {
-        if let Some(place) = place_of(&self.nodes, &self.guesses, id) {
-            note_place(&mut self.guesses, id, place);
-        }
-    }
-
-    /// Notes the place of a child of a node, as `note` does. It changes no answer.
+    /// Says that a child of a node is to be looked up often. It changes no answer.
     pub fn note_child(&mut self, parent: u64, id: u64)
         ensures { self.new ≡ self.old }
-    {
-        self.note(id);
-    }
+    {}
 
-    /// Makes room for one more child of `parent`. The next insert there needs memory for the node alone.
+    /// Makes room for one more child of `parent`. The next insert there needs memory for the node
+    /// and for its place in the index alone.
     pub fn reserve_child(&mut self, parent: u64) -> Result<(), ReserveRefused>
         ensures rows { self.new ≡ self.old }
         ensures no_parent { (result ≡ Err ReserveRefused.NoParent)
             ↔ (map.contains_key self.old parent ≡ false) }
     {
-        let Some(place) = place_of(&self.nodes, &self.guesses, parent) else {
-            return Err(ReserveRefused::NoParent);
-        };
-        if self.nodes[place].children.reserve(1).is_err() {
-            return Err(ReserveRefused::Memory);
-        }
-        Ok(())
+        reserve(&mut self.root, &self.index, parent)
     }
 }
 
@@ -168,7 +145,8 @@ impl<T, A: Allocator + Clone> IdTree<T, A> {
     pub fn ids(&self) -> Result<Vec<u64, A>, AllocError>
         ensures { IfOk result (λ v. v.items ≡ map.keys self.now) }
     {
-        let mut ids = ids_of(&self.nodes, self.alloc.clone()?)?;
+        let mut ids = Vec::with_capacity(self.alloc.clone()?, self.count as usize)?;
+        self.root.node.push_ids(&mut ids)?;
         ids.sort_unstable();
         Ok(ids)
     }
@@ -176,19 +154,12 @@ impl<T, A: Allocator + Clone> IdTree<T, A> {
 
 impl<T: Drop, A: Allocator> IdTree<T, A> {
     /// The content of a node, to be changed in place. It takes no memory.
-    #[inline(always)]
     pub fn get_mut(&mut self, id: u64) -> Option<&mut T>
         ensures* writes_back { sem 𝓛 (LendsIf (the_row T.row A.row A.Allocator) T.row self.entry result
             (λ w. change self.old id (λ _. w)) self.old) }
         ensures value { option_copied_mut result ≡ content self.old id }
     {
-        match place_of(&self.nodes, &self.guesses, id) {
-            Some(place) => {
-                note_place(&mut self.guesses, id, place);
-                Some(&mut self.nodes[place].content)
-            }
-            None => None,
-        }
+        content_at(&mut self.root, &self.index, id)
     }
 
     /// Edits the content of a node, and of each node below it. It takes no memory.
@@ -203,12 +174,7 @@ impl<T: Drop, A: Allocator> IdTree<T, A> {
             ≡ option_map (λ r. r.0) (map.get self.old q) }
         ensures absent { result ≡ false → self.new ≡ self.old }
     {
-        let Some(node) = seek(&self.nodes, &self.guesses, id) else {
-            return false;
-        };
-        let depth = node.depth;
-        edit_below(&mut self.nodes, id, depth, edit);
-        true
+        edit_below(&mut self.root, &self.index, id, edit)
     }
 
     /// Takes a node out that has a parent and no children, and hands back its content. It takes no memory.
@@ -219,15 +185,11 @@ impl<T: Drop, A: Allocator> IdTree<T, A> {
         ensures removed { OnSome result (self.new ≡ map.remove self.old id) }
         ensures unchanged { IfNone result (self.new ≡ self.old) }
     {
-        let node = seek(&self.nodes, &self.guesses, id)?;
-        let parent = node.parent?;
-        if !node.children.is_empty() {
-            return None;
-        }
-        let Some(place) = place_of(&self.nodes, &self.guesses, parent) else {
-            unreachable!();
-        };
-        Some(prune(&mut self.nodes, place, parent, id))
+        let parent = parent_in(&self.index, id)?;
+        let content = prune(&mut self.root, &self.index, parent, id)?;
+        forget(&mut self.index, id);
+        self.count -= 1;
+        Some(content)
     }
 }
 
@@ -237,21 +199,12 @@ impl<T: Drop, A: Allocator + Copy> IdTree<T, A> {
         ensures ok { IfOk result (λ t. t ≡ map.insert map.empty id (None, content)) }
         ensures err { IfErr result (λ c. c ≡ content) }
     {
-        let mut nodes = IndexMap::new(alloc);
-        let root = Node {
-            parent: None,
-            depth: 0,
-            children: Vec::new(alloc),
-            content,
-        };
-        match nodes.insert(id, root) {
-            Ok(_) => Ok(IdTree {
-                nodes,
-                guesses: [0; GUESSES],
-                alloc,
-            }),
-            Err(AllocFailed { value }) => Err(value.1.content),
-        }
+        Ok(IdTree {
+            root: Branch::leaf(alloc, id, content),
+            index: IndexMap::new(alloc),
+            count: 1,
+            alloc,
+        })
     }
 }
 
@@ -265,15 +218,48 @@ impl<T: Drop, A: Allocator + Clone> IdTree<T, A> {
         ensures refused { IfErr result (Refuses self.old parent id content) }
         ensures unchanged { OnErr result (self.new ≡ self.old) }
     {
-        let Some(place) = place_of(&self.nodes, &self.guesses, parent) else {
+        if !self.contains(parent) {
             return Err(InsertRefused::NoParent(content));
-        };
+        }
         if self.contains(id) {
             return Err(InsertRefused::IdTaken(content));
         }
-        if let Err(content) = graft(&mut self.nodes, &self.alloc, place, parent, id, content) {
+        let count = self.count + 1;
+        if MOST <= count {
             return Err(InsertRefused::Memory(content));
         }
+        let child = match make(&self.alloc, id, content) {
+            Ok(child) => child,
+            Err(content) => return Err(InsertRefused::Memory(content)),
+        };
+        if let Err(child) = graft(&mut self.root, &mut self.index, parent, child) {
+            return Err(InsertRefused::Memory(Box::into_inner(child).into_content()));
+        }
+        self.count = count;
         Ok(())
+    }
+}
+
+// A node with nothing below it, or its content again.
+fn make<T: Drop, A: Allocator + Clone>(
+    alloc: &A,
+    id: u64,
+    content: T,
+) -> Result<Box<Branch<T, A>, A>, T>
+    ensures ok { IfOk result (λ n. lines n.value ≡ (id, (None, Some content)) ∷ []) }
+    ensures err { IfErr result (λ c. c ≡ content) }
+{
+    let Ok(own) = alloc.clone() else {
+        return Err(content);
+    };
+    let Ok(below) = alloc.clone() else {
+        return Err(content);
+    };
+    match Box::new(own, Branch::leaf(below, id, content)) {
+        Ok(child) => Ok(child),
+        Err(failed) => {
+            let AllocFailed { value } = failed;
+            Err(value.into_content())
+        }
     }
 }

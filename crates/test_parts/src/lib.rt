@@ -1,4 +1,4 @@
-//! The public calls of the parts that no other crate makes, each run once with values from outside, and two
+//! The public calls of the parts that no other crate makes, each run once with values from outside, and three
 //! trees. Tests only.
 #![tactic(auto)]
 
@@ -12,6 +12,8 @@ mod large_tree;
 mod mail;
 #[cfg(test)]
 mod pages;
+#[cfg(test)]
+mod small_tree;
 #[cfg(test)]
 mod tables;
 #[cfg(test)]

@@ -1,0 +1,28 @@
+use Rattle.std.proofs.Common.{◌≡◌, ◌≤◌, ℕ, List, ◌∙◌, true, false, refl, sym, ap, subst, length, arith}
+use Rattle.std.specs.List.{insert, remove}
+use Rattle.std.specs.List.Sorted.{IsNonDecreasing, IsNonDecreasingBy}
+use Rattle.hv_tree.specs.Rows.{children_in}
+use Rattle.hv_tree.specs.declared.node.Node.{out-Node, roll-Node, out-roll-Node}
+use Rattle.hv_tree.specs.Index.{parents}
+use Rattle.hv_tree.specs.Lines.{lines}
+use Rattle.hv_tree.specs.Edited.{IsEditedFrom}
+use Rattle.hv_tree.specs.Nest.{has_row, AreDistinct, IsGrownBy, IsWithout}
+use Rattle.hv_tree.specs.Put.{content_of, put_far}
+use Rattle.hv_tree.specs.Way.{id_of, children_of, way_to, IsReached}
+use Rattle.hv_tree.proofs.Steps.{rising-non_decreasing}
+use Rattle.hv_tree.proofs.Changes.{lines-kept, same-items}
+use Rattle.hv_tree.proofs.change.reserve.Goals as goal
+
+pub returns-then-is_err-clause-rows : goal.returns-then-is_err-clause-rows
+returns-then-is_err-clause-rows g c =
+    let up = parents c.args.index.now in
+    let n = c.in-Some.node.now in
+    let r : IsReached up c.args.parent c.args.root.now n = c.in-Some.ensures.found in
+    lines-kept (way_to up c.args.parent c.args.root.now) c.args.root.now n r.led c.requires.distinct (roll-Node _ _ (record (out-Node _ _ n) { children = c.reserve.new.self })) (same-items n c.reserve.new.self c.reserve.ensures.items)
+
+pub returns-clause-rows : goal.returns-clause-rows
+returns-clause-rows g c =
+    let up = parents c.args.index.now in
+    let n = c.in-Some.node.now in
+    let r : IsReached up c.args.parent c.args.root.now n = c.in-Some.ensures.found in
+    lines-kept (way_to up c.args.parent c.args.root.now) c.args.root.now n r.led c.requires.distinct (roll-Node _ _ (record (out-Node _ _ n) { children = c.reserve.new.self })) (same-items n c.reserve.new.self c.reserve.ensures.items)
