@@ -24,44 +24,13 @@ use hv_processors::{
     create_vp, delete_vp, get_vp_registers, read_msr, set_vp_registers, write_msr,
 };
 use hv_properties::{get_partition_property, set_partition_property};
-use hv_tie::{Partitions, Refused, target};
+use hv_tie::{Partitions, Refused};
 use std::alloc::Allocator;
 
 // Hands a call for which P1 to P10 are met to its chapter. `next` is the id that the next partition gets,
 // and `served` how many events were served.
 #[inline(always)]
 pub fn dispatch<A: Allocator + Clone>(
-    tree: &mut Partitions<A>,
-    alloc: &A,
-    caller: u64,
-    next: u64,
-    served: u64,
-    call: &Call<'_>,
-) -> Result<CallOutput, Refused>
-    requires admitted { (a : IsAdmitted tree.old caller call.now) × (a.rows.flat.next ≡ next) }
-    requires count { served < MAX_SERVED }
-    ensures { (f : Flat) → IsTied tree.old f → f.next ≡ next → f.served ≡ served
-        → IsOutcome f caller call.now tree.old result tree.new }
-{
-    note_parties(tree, caller, call);
-    hand_on(tree, alloc, caller, next, served, call)
-}
-
-// Notes where the caller and the target are, for the chapter's look-ups. Nothing changes.
-#[inline(always)]
-fn note_parties<A: Allocator>(tree: &mut Partitions<A>, caller: u64, call: &Call<'_>)
-    ensures { tree.new ≡ tree.old }
-{
-    tree.note(caller);
-    let target = target(caller, call);
-    if target != caller {
-        tree.note_child(caller, target);
-    }
-}
-
-// The chapter of each call.
-#[inline(always)]
-fn hand_on<A: Allocator + Clone>(
     tree: &mut Partitions<A>,
     alloc: &A,
     caller: u64,

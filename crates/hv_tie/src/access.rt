@@ -107,9 +107,9 @@ fn is_kin<A: Allocator>(tree: &Partitions<A>, kin: Kin, caller: u64, id: u64) ->
     }
 }
 
-/// The partition that a call of this caller is about.
+// The partition that a call of this caller is about.
 #[inline(always)]
-pub fn target(caller: u64, call: &Call<'_>) -> u64
+fn target(caller: u64, call: &Call<'_>) -> u64
     ensures { result ≡ target_of call.now caller }
 {
     match call {

@@ -13,7 +13,7 @@ mod partitions;
 mod refused;
 mod rules;
 
-pub use access::{caller_in, caller_vp, target, unmet_by_target};
+pub use access::{caller_in, caller_vp, unmet_by_target};
 pub use partitions::Partitions;
 pub use refused::Refused;
 pub use rules::{

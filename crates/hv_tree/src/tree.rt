@@ -119,16 +119,6 @@ impl<T, A: Allocator> IdTree<T, A> {
         node.child_after(previous)
     }
 
-    /// Says that a node is to be looked up often. It changes no answer.
-    pub fn note(&mut self, id: u64)
-        ensures { self.new ≡ self.old }
-    {}
-
-    /// Says that a child of a node is to be looked up often. It changes no answer.
-    pub fn note_child(&mut self, parent: u64, id: u64)
-        ensures { self.new ≡ self.old }
-    {}
-
     /// Makes room for one more child of `parent`. The next insert there needs memory for the node
     /// and for its place in the index alone.
     pub fn reserve_child(&mut self, parent: u64) -> Result<(), ReserveRefused>

@@ -1,4 +1,8 @@
+use Rattle.std.proofs.Common.{◌≡◌, subst}
+use Rattle.hv_calls.specs.declared.call.Call.{Call}
+use Rattle.hv_tie.specs.Served.{IsAdmitted}
 use Rattle.hv_machine.proofs.dispatch.dispatch.Goals as goal
 
-pub hand_on-requires-clause-admitted : goal.hand_on-requires-clause-admitted
-hand_on-requires-clause-admitted g c = rw c.note_parties.ensures c.requires.admitted
+pub create_partition-requires : goal.create_partition-requires
+create_partition-requires g c =
+    subst (λ (call : Call). (a : IsAdmitted c.args.tree.now c.args.caller call) × (a.rows.flat.next ≡ c.args.next)) c.in-CreatePartition.is c.requires.admitted
