@@ -1,9 +1,9 @@
 -- The calls and accesses of this chapter, carried over to the flat state.
-use Rattle.std.proofs.Common.{◌≡◌, ℕ, ◌+◌, ◌<◌, ◌≤◌, false, Bool, cond, List, Option, Some, None, refl, sym, ap, subst, ◌∙◌}
-use Rattle.std.proofs.lemmas.Bool.{eqb-true}
-use Rattle.std.specs.FinMap.{get}
+use Rattle.std.proofs.Common.{◌≡◌, ℕ, ◌+◌, ◌<◌, ◌≤◌, true, false, Bool, cond, is_some, List, [], ◌∷◌, Option, Some, None, refl, sym, ap, subst, ◌∙◌}
+use Rattle.std.proofs.lemmas.Bool.{eqb-true, false≢true}
+use Rattle.std.specs.FinMap.{contains_key, get}
 use Rattle.std.specs.FinSet as set
-use Rattle.std.specs.Option.{option_map, option_map_or}
+use Rattle.std.specs.Option.{IfSome, option_map, option_map_or}
 use Rattle.hv_calls.specs.declared.call.Call.TheVariants.{PostMessage, SignalEvent}
 use Rattle.hv_defs.specs.declared.aim.Aim.{Aim}
 use Rattle.hv_defs.specs.declared.aim.Aim.TheVariants.{One, Any}
@@ -17,6 +17,9 @@ use Rattle.hv_partition.specs.Partition.{PartitionState}
 use Rattle.hv_policy.specs.Aim.{Aimed, flag_taker, is_ready_for_flags, is_ready_for_messages, message_taker, taker}
 use Rattle.hv_policy.specs.Effect.{call_effect, post, post_at, post_to, signal_at, signal_to, with_vp}
 use Rattle.hv_policy.specs.Flat.{Flat, MailRow, VpRow}
+use Rattle.hv_policy.specs.Met.{is_running}
+use Rattle.hv_policy.specs.Rules.{caller_asks, first_unmet}
+use Rattle.hv_policy.specs.declared.rule.Rule.TheVariants.{CallerActive, CallerExists, CallerVpExists}
 use Rattle.hv_policy.proofs.SameMail.{kept_same}
 use Rattle.hv_policy.specs.Mail.{cleared, kept_of, place_at}
 use Rattle.hv_policy.specs.declared.event.Caller.{Caller}
@@ -24,7 +27,7 @@ use Rattle.hv_ports.specs.declared.ports.Conn.{Conn}
 use Rattle.hv_ports.specs.declared.ports.Port.{Port}
 use Rattle.hv_tie.proofs.Kept.{kept_by_any, kept_by_one}
 use Rattle.hv_tie.proofs.Mailed.{flag_cleared_tied, interrupted_tied, posted_tied, signalled_tied, slot_cleared_tied}
-use Rattle.hv_tie.proofs.Staff.{vp_in}
+use Rattle.hv_tie.proofs.Staff.{vp_in, vp_there}
 use Rattle.hv_tie.proofs.Takers.{lowest_gone, lowest_there, one_there, taker_there}
 use Rattle.hv_tie.specs.Served.{AreLawful}
 use Rattle.hv_tie.specs.Tie.{IsTied, here, mail_row, port_row_of, vp_row_of}
@@ -34,6 +37,23 @@ use Rattle.hv_vp.specs.Vps.{is_ready, kept_by_all, lowest}
 use Rattle.hv_vp.specs.Vp.{VpState, flag_cleared, interrupted, posted, signalled, slot_cleared}
 use Rattle.hv_messages.specs.Aimed.{IsReached, aim_row, taker_of}
 use Rattle.hv_messages.specs.declared.aims.Target.{Target}
+
+-- where P3 is met, the processor that was looked up is the one that makes the access
+module _ (rows : Rows PartitionState) (f : Flat) (flat : IsTied rows f) (by : Caller) (v : VpState) where
+  p3_met : (p1 p2 p3 : Bool) → first_unmet ((CallerExists, p1) ∷ (CallerActive, p2) ∷ (CallerVpExists, p3) ∷ []) ≡ None → p3 ≡ true
+  p3_met true true true met = refl
+  p3_met true true false met = cc
+  p3_met true false p3 met = cc
+  p3_met false p2 p3 met = cc
+
+  pub caller_there : IfSome (content rows by.part) (λ p. get p.vps.vps by.vp ≡ Some v) → first_unmet (caller_asks f by) ≡ None → vp_in by.vp (get rows by.part) ≡ Some v
+  caller_there there met = found (get rows by.part) refl there
+    where
+      found : (o : Option (Row PartitionState)) → get rows by.part ≡ o → IfSome (option_map (λ r. r.1) o) (λ p. get p.vps.vps by.vp ≡ Some v) → vp_in by.vp o ≡ Some v
+      found None gone there =
+          let none : is_some (get f.vp (by.part, by.vp)) ≡ false = ap is_some (vp_there rows f flat by.part by.vp ∙ ap (λ o. option_map vp_row_of (vp_in by.vp o)) gone) in
+          absurd (false≢true (sym none ∙ p3_met (contains_key f.part by.part) (is_running f by.part) (contains_key f.vp (by.part, by.vp)) met))
+      found (Some r) is there = there
 
 module _ (rows new : Rows PartitionState) (f : Flat) (flat : IsTied rows f) (by : Caller) where
   pub slot_gone : (sint : ℕ) → new ≡ change rows by.part (with_state_of by.vp (slot_cleared sint)) → IsTied new (record f { mail = cleared (place_at by sint) f.mail })

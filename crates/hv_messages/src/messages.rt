@@ -1,5 +1,5 @@
 // The calls of this chapter.
-ghost use Rattle.std.specs.Prelude.{◌≡◌, ◌≤◌, ◌&&◌, ◌<◌, ℕ, List, length, nat_lt, None, Some, IfOk, IfErr};
+ghost use Rattle.std.specs.Prelude.{◌≡◌, ◌&&◌, ◌<◌, ℕ, List, nat_lt, None, Some, IfOk, IfErr};
 ghost use Rattle.hv_calls.specs.declared.call.Call.TheVariants as call;
 ghost use Rattle.hv_defs.specs.declared.port_kind.PortKind.TheVariants as port_type;
 ghost use Rattle.hv_policy.specs.Flat.{Flat};
@@ -12,7 +12,7 @@ use crate::aims::{Target, has_message_room, reach, taker};
 use crate::rows::{post, signal};
 use hv_calls::Payload;
 use hv_defs::PortKind;
-use hv_mail::Posting;
+use hv_mail::Message;
 use hv_policy::{CallOutput, Rule};
 use hv_ports::Port;
 use hv_tie::{Partitions, Refused};
@@ -32,60 +32,18 @@ pub fn post_message<A: Allocator + Clone>(
     ensures { (f : Flat) → IsTied tree.old f
         → IsOutcome f caller (call.PostMessage connection message_type payload.now) tree.old result tree.new }
 {
-    // Mostly all of the payload is there, and then it is copied once.
-    match payload.whole() {
-        Some(bytes) => post_bytes(tree, caller, connection, message_type, bytes),
-        None => post_padded(tree, caller, connection, message_type, payload),
-    }
-}
-
-// The same where some of the payload isn't there. Not inlined, since it holds a copy of the payload.
-#[inline(never)]
-fn post_padded<A: Allocator + Clone>(
-    tree: &mut Partitions<A>,
-    caller: u64,
-    connection: u32,
-    message_type: u32,
-    payload: &Payload<'_>,
-) -> Result<CallOutput, Refused>
-    requires { IsAdmitted tree.old caller (call.PostMessage connection message_type payload.now) }
-    ensures { (f : Flat) → IsTied tree.old f
-        → IsOutcome f caller (call.PostMessage connection message_type payload.now) tree.old result tree.new }
-{
-    post_bytes(
-        tree,
-        caller,
-        connection,
-        message_type,
-        payload.to_array().as_slice(),
-    )
-}
-
-// The same with a payload of these bytes.
-fn post_bytes<A: Allocator + Clone>(
-    tree: &mut Partitions<A>,
-    caller: u64,
-    connection: u32,
-    message_type: u32,
-    payload: &[u8],
-) -> Result<CallOutput, Refused>
-    requires admitted { IsAdmitted tree.old caller (call.PostMessage connection message_type payload.now) }
-    requires fits { length payload.now ≤ 240 }
-    ensures { (f : Flat) → IsTied tree.old f
-        → IsOutcome f caller (call.PostMessage connection message_type payload.now) tree.old result tree.new }
-{
     let target = match ask_post(tree, caller, connection) {
         Ok(target) => target,
         Err(rule) => return Err(Refused::Unmet(rule)),
     };
-    let message = Posting::new(target.conn.port, target.conn.born, message_type, payload);
-    match post(
-        tree,
-        target.conn.part,
-        target.vp,
-        target.port.sint as u8,
-        &message,
-    ) {
+    let message = Message {
+        port: target.conn.port,
+        born: target.conn.born,
+        kind: message_type,
+        payload: payload.to_array(),
+    };
+    let sint = target.port.sint as u8;
+    match post(tree, target.conn.part, target.vp, sint, message) {
         Ok(()) => Ok(CallOutput::new()),
         Err(AllocError) => Err(Refused::Memory),
     }

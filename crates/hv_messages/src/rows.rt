@@ -11,7 +11,7 @@ ghost use Rattle.hv_tie.specs.Vp.{with_state_of};
 ghost use Rattle.hv_tree.specs.Rows.{change as changed};
 ghost use Rattle.hv_vp.specs.Vp.{flag_cleared, interrupted, posted, signalled, slot_cleared};
 
-use hv_mail::Posting;
+use hv_mail::Message;
 use hv_policy::{Caller, Output, Rule};
 use hv_tie::{Partitions, caller_vp};
 use std::alloc::{AllocError, Allocator};
@@ -23,11 +23,11 @@ pub fn post<A: Allocator + Clone>(
     id: u64,
     index: u32,
     sint: u8,
-    message: &Posting<'_>,
+    message: Message,
 ) -> Result<(), AllocError>
     requires { sint < SINTS }
     ensures posted { OnOk result (tree.new
-        ≡ changed tree.old id (with_state_of index (posted sint message.now))) }
+        ≡ changed tree.old id (with_state_of index (posted sint message))) }
     ensures kept { OnErr result (tree.new ≡ tree.old) }
 {
     if let Some(partition) = tree.get_mut(id) {
@@ -142,9 +142,7 @@ pub fn slot<A: Allocator>(
         Ok(vp) => vp,
         Err(rule) => return Err(rule),
     };
-    let mut bytes = [0; 256];
-    vp.read_slot(sint, &mut bytes);
-    output.extend_from_slice(&bytes);
+    output.extend_from_slice(&vp.slot(sint));
     Ok(())
 }
 

@@ -3,7 +3,7 @@ use Rattle.std.specs.FinMap.{get}
 use Rattle.std.specs.Option.{option_map}
 use Rattle.hv_tie.specs.Room.{bare}
 use Rattle.hv_messages.proofs.Outcomes.{message_posted, sint_bound}
-use Rattle.hv_messages.proofs.messages.post_bytes.Goals as goal
+use Rattle.hv_messages.proofs.messages.post_message.Goals as goal
 
 pub returns-in-Err : goal.returns-in-Err
 returns-in-Err g c f flat = (c.in-Err.ensures.first f c.args.message_type c.args.payload.now flat, refl)
@@ -11,7 +11,7 @@ returns-in-Err g c f flat = (c.in-Err.ensures.first f c.args.message_type c.args
 pub returns-in-Ok-post : goal.returns-in-Ok-post
 returns-in-Ok-post g c f flat =
     let reached = c.in-Ok.ensures.reached in
-    let low = sint_bound c.args.tree.now c.requires.admitted.rows (c.args.caller, c.args.connection) c.in-Ok.target.conn c.in-Ok.target.port reached in
+    let low = sint_bound c.args.tree.now c.requires.rows (c.args.caller, c.args.connection) c.in-Ok.target.conn c.in-Ok.target.port reached in
     record {
       met = c.in-Ok.ensures.met f c.args.message_type c.args.payload.now flat;
       output = search rules;
