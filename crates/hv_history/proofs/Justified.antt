@@ -21,6 +21,8 @@ pub justified : {A : Type 0} (config : Config) (history : List (Entry A)) (m : S
 justified config history m flat replies = record {
   ports = λ id number port there. done.ports (id, number) port ((flat.tied.rows id).port number ∙ there);
   conns = λ id number conn there. done.conns (id, number) conn ((flat.tied.rows id).conn number ∙ there);
+  peers = λ id number conn port there leads same.
+      done.peers (id, number) conn port ((flat.tied.rows id).conn number ∙ there) ((flat.tied.rows conn.part).port conn.port ∙ leads) same;
   mail = λ id vp sint.
       subst (WerePosted (states_in config history) (deeds_in history) 0) ((flat.tied.rows id).mail vp sint)
       (mail_of _ _ (stands_at (here id vp sint)) f.mail 0 0 (omega arith) done.mail);

@@ -20,15 +20,18 @@ deeds_in history = deeds_of (events_of history) (replies_of history)
 abbrev pub states_in : {A : Type 0} → Config → List (Entry A) → ℕ → Flat
 states_in config history = state_before config (events_of history)
 
--- Each port and each connection has the entry that made it and none since that ended it. Each message at a
--- SINT, the slot's and those that wait, has the entry that posted it, a later one than the message before it;
--- and each event flag that is set has the entry that set it, and none since that cleared it. Either stands at
--- the processor that took it in the state in which that entry's event came.
+-- Each port and each connection has the entry that made it and none since that ended it, and a connection that
+-- keeps its port's birth is of that port's peer. Each message at a SINT, the slot's and those that wait, has the
+-- entry that posted it, by the partition for which its port was made, a later one than the message before it; and
+-- each event flag that is set has the entry that set it, by such a partition, and none since that cleared it.
+-- Either stands at the processor that took it in the state in which that entry's event came.
 pub record IsJustified (states : ℕ → Flat) (deeds : List Deed) (rows : Rows PartitionState) : Type 0 where
   pub ports : (id number : ℕ) (port : PortRow) → port_row number (get rows id) ≡ Some port
       → WasMade deeds (id, number) port
   pub conns : (id number : ℕ) (conn : ConnRow) → conn_row number (get rows id) ≡ Some conn
       → WasConnected deeds (id, number) conn
+  pub peers : (id number : ℕ) (conn : ConnRow) (port : PortRow) → conn_row number (get rows id) ≡ Some conn
+      → port_row conn.port (get rows conn.part) ≡ Some port → port.born ≡ conn.born → port.peer ≡ id
   pub mail : (id vp sint : ℕ)
       → WerePosted states deeds 0 (rows_of (here id vp sint) (mail_there vp sint (get rows id)))
   pub flags : (id vp sint flag : ℕ)

@@ -1,3 +1,4 @@
+pub mod Beside
 pub mod History
 pub mod Justified
 pub mod Kept

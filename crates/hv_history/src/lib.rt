@@ -6,6 +6,7 @@
 //! its numbers are this project's own.
 #![tactic(auto)]
 
+mod beside;
 mod entry;
 mod expected;
 mod history;
@@ -15,6 +16,7 @@ mod row;
 mod run;
 mod same;
 
+pub use beside::members_are_answered_alike;
 pub use entry::{Asked, Entry, EntryRef};
 pub use expected::Expected;
 pub use hv_machine::{Answer, HostRefused};

@@ -2,9 +2,12 @@
 use Rattle.std.proofs.Common.{◌≡◌, ℕ, ◌==◌, ◌&&◌, not, Bool, true, false, cond, Option, None, Some, refl, sym, ap, ◌∙◌}
 use Rattle.std.proofs.lemmas.Bool.{eqb-true}
 use Rattle.std.specs.FinMap.{get}
+use Rattle.hv_confine.proofs.Apart.{both}
 use Rattle.hv_confine.proofs.Carried.{nothing_carried, step_carried}
 use Rattle.hv_confine.specs.Confined.{IsConfined}
 use Rattle.hv_confine.specs.Same.{HasSame, held_by}
+use Rattle.hv_isolation.proofs.Beside.{misses}
+use Rattle.hv_isolation.specs.Misses.{LeavesOthers}
 use Rattle.hv_partition.specs.Partition.{PartitionState}
 use Rattle.hv_policy.specs.Flat.{Flat, PageRow}
 use Rattle.hv_policy.specs.Step.{step}
@@ -44,7 +47,7 @@ shows_same id f g row s t = record {
   mail = λ vp sint. s.mail vp sint ∙ sym (t.mail vp sint);
 }
 
-flat_same : (m : State) (f g : Flat) → IsFlat m f → IsFlat m g → (id : ℕ) → HasSame id f g
+pub flat_same : (m : State) (f g : Flat) → IsFlat m f → IsFlat m g → (id : ℕ) → HasSame id f g
 flat_same m f g s t id = shows_same id f g (get m.rows id) (s.tied.rows id) (t.tied.rows id)
 
 module _ {A : Type 0} (n : State) (e : Event A) (f g : Flat) where
@@ -54,3 +57,10 @@ module _ {A : Type 0} (n : State) (e : Event A) (f g : Flat) where
 
   pub nothing_is_confined : IsFlat n f → IsFlat n g → IsConfined e f g
   nothing_is_confined s t = nothing_carried f g e (flat_same n f g s t)
+
+  -- and what an event isn't about is as it was
+  pub step_leaves : IsFlat n (step f e).0 → IsFlat n g → LeavesOthers e f g
+  step_leaves s t id missed = both id f (step f e).0 g (misses f e id missed) (flat_same n (step f e).0 g s t id)
+
+  pub nothing_leaves : IsFlat n f → IsFlat n g → LeavesOthers e f g
+  nothing_leaves s t id missed = flat_same n f g s t id

@@ -22,7 +22,7 @@ use Rattle.hv_policy.specs.declared.reply.Reply.{Reply}
 use Rattle.hv_policy.specs.declared.rule.Rule.{Rule}
 use Rattle.hv_tie.specs.Served.{unmet_further}
 use Rattle.hv_tie.specs.declared.refused.Refused.TheVariants as refused
-use Rattle.hv_machine.proofs.Confined.{nothing_is_confined, step_is_confined}
+use Rattle.hv_machine.proofs.Confined.{nothing_is_confined, nothing_leaves, step_is_confined, step_leaves}
 use Rattle.hv_machine.proofs.Sound.{sound}
 use Rattle.hv_machine.specs.IsFlat.{IsFlat}
 use Rattle.hv_machine.specs.Lasting.{IsLasting}
@@ -50,6 +50,7 @@ module _ {A : Type 0} (event : Event A) (old : State) (was : IsLasting old) wher
         cause = tt;
         kept = tt;
         confined = λ f g flat. step_is_confined new event f g (is f flat).1;
+        others = λ f g flat. step_leaves new event f g (is f flat).1;
         asked = subst (NamesAsked event) (sym told) (names_asked was.flat event);
         result = λ frame what. subst HasResult (sym (told ∙ ap (λ what. (step {A = A} was.flat (record { by = event.by; what = what })).1) what)) (has_result was.flat event.by frame);
         lasting = now;
@@ -75,6 +76,7 @@ module _ {A : Type 0} (event : Event A) (old : State) (was : IsLasting old) wher
     cause = refl;
     kept = same;
     confined = λ f g flat. nothing_is_confined new event f g (subst (λ m. IsFlat m f) (sym same) flat);
+    others = λ f g flat. nothing_leaves new event f g (subst (λ m. IsFlat m f) (sym same) flat);
     asked = tt;
     result = λ frame what. tt;
     lasting = subst IsLasting (sym same) was;

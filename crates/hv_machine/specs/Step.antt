@@ -3,6 +3,7 @@ use Rattle.std.specs.Prelude.{◌≡◌, None, IsTrue, IfOk, IfErr, OnOk, OnErr}
 use Rattle.std.specs.declared.result.Result.{Result}
 use Rattle.hv_abi.specs.declared.frame.Frame.{Frame}
 use Rattle.hv_confine.specs.Confined.{IsConfined}
+use Rattle.hv_isolation.specs.Misses.{LeavesOthers}
 use Rattle.hv_policy.specs.Call.{may_take_memory}
 use Rattle.hv_policy.specs.Flat.{Flat}
 use Rattle.hv_policy.specs.Result.{HasResult}
@@ -28,6 +29,7 @@ pub record IsStep {A : Type 0} (event : Event A) (old : State) (became : Result 
   pub cause : IfErr became (λ why. why ≡ Memory)
   pub kept : OnErr became (new ≡ old)
   pub confined : (f g : Flat) → IsFlat old f → IsFlat new g → IsConfined event f g
+  pub others : (f g : Flat) → IsFlat old f → IsFlat new g → LeavesOthers event f g
   pub asked : IfOk became (NamesAsked event)
   pub result : (frame : Frame A) → event.what ≡ Hypercall frame → IfOk became HasResult
   pub lasting : IsLasting new

@@ -7,6 +7,7 @@ ghost use Rattle.hv_confine.specs.Confined.{IsConfined};
 ghost use Rattle.hv_laws.specs.Bounded.{IsBounded};
 ghost use Rattle.hv_policy.specs.Call.{IsCall, call_event, may_take_memory};
 ghost use Rattle.hv_policy.specs.Flat.{Flat};
+ghost use Rattle.hv_isolation.specs.Misses.{LeavesOthers};
 ghost use Rattle.hv_policy.specs.Result.{HasResult};
 ghost use Rattle.hv_policy.specs.Step.{NamesAsked, step};
 ghost use Rattle.hv_policy.specs.Rules.{unmet};
@@ -91,6 +92,11 @@ impl<A: Allocator + Clone> Machine<A> {
         // Nothing changes of a partition that is neither the caller nor a child of it, before or after,
         // but for what a post or a signal adds where its connection's port aims.
         ensures confined { (f g : Flat) → IsFlat self.old f → IsFlat self.new g → IsConfined event.now f g }
+
+        // Nor of a partition that the event isn't about: that is neither its target nor made by it, nor
+        // where it sends to, nor below a mask that it narrows, nor the caller where it moves the
+        // caller's pages.
+        ensures others { (f g : Flat) → IsFlat self.old f → IsFlat self.new g → LeavesOthers event.now f g }
 
         // A refusal names a rule that is asked, and a reply to a hypercall has a result value.
         ensures asked { IfOk result (NamesAsked event.now) }

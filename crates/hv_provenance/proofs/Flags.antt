@@ -21,7 +21,7 @@ use Rattle.hv_policy.specs.Met as event
 use Rattle.hv_policy.specs.Needs.{meant_id}
 use Rattle.hv_policy.specs.Rules.{IsAllowed}
 use Rattle.hv_provenance.specs.Deed.{Deed, ClearsFlag, DeletesVp, Finalizes, Signals}
-use Rattle.hv_provenance.specs.Justified.{WasMade, WasSignalled, has_flag}
+use Rattle.hv_provenance.specs.Justified.{AreOfPeers, WasMade, WasSignalled, has_flag}
 use Rattle.hv_provenance.proofs.Deeds.{did_last, last, more, not_after}
 use Rattle.hv_provenance.proofs.Keeping.{post_flags, register_keeps, set_in, test_vp, tied}
 use Rattle.hv_provenance.proofs.Mails.{Reaches, kind_is, reached, tested}
@@ -107,7 +107,7 @@ module _ (states : ℕ → Flat) (deeds : List Deed) (e : Deed) (vps : FinMap pa
           by_flag (tied (id, vp) at at_it) row row_is (eq_by_cmp pair_cmp (sint, flag) (at_sint, set_flag)) refl (sym (contains-insert pair_cmp_total row.flags (at_sint, set_flag) (sint, flag)) ∙ there)
       by false at_it row row_is there = old there
 
-module _ (states : ℕ → Flat) (deeds : List Deed) (f : Flat) (now : states (length deeds + 1) ≡ f) (made : AreMade deeds f.port) (connected : AreConnected deeds f.conn) (were : AreSignalled states deeds f.vp) (caller : ℕ) where
+module _ (states : ℕ → Flat) (deeds : List Deed) (f : Flat) (now : states (length deeds + 1) ≡ f) (made : AreMade deeds f.port) (connected : AreConnected deeds f.conn) (peers : AreOfPeers f) (were : AreSignalled states deeds f.vp) (caller : ℕ) where
   signal_flags : (connection number : ℕ) → on_aim f (caller, connection) is_same_birth ≡ true → on_aim f (caller, connection) (event.has_flag number) ≡ true → on_aim f (caller, connection) (event.has_flag_taker f) ≡ true
       → AreSignalled states (more deeds (Signals caller connection number)) (signal_to (aim_of f (caller, connection)) number f).vp
   signal_flags connection number born takes taken = by (flag_taker f aim) refl (tested f key (event.has_flag_taker f) r taken)
@@ -140,7 +140,7 @@ module _ (states : ℕ → Flat) (deeds : List Deed) (f : Flat) (now : states (l
         sender = caller;
         connection = connection;
         number = number;
-        way = way_of deeds e key r.conn r.port was (connected key r.conn r.conn_is) r.conn.born r.same refl port_type.Event kind;
+        way = way_of deeds e key r.conn r.port was (connected key r.conn r.conn_is) r.conn.born r.same refl (peers key r.conn r.port r.conn_is r.port_is r.same) port_type.Event kind;
         taken = ap (λ g. flag_taker g aim) now ∙ is;
         signalled = did_last deeds e (last deeds e) refl;
         is = ap (λ n. n + number) (subst (λ k. r.port.base ≡ flags_of k was.base) kind was.first);

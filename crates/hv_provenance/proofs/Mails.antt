@@ -15,7 +15,7 @@ use Rattle.hv_policy.specs.Met.{has_message_taker, is_for_messages, is_kind}
 use Rattle.hv_policy.specs.Needs.{meant_id}
 use Rattle.hv_policy.specs.Rules.{IsAllowed}
 use Rattle.hv_provenance.specs.Deed.{Deed, DeletesVp, Finalizes, Posts}
-use Rattle.hv_provenance.specs.Justified.{WasMade, WasPosted, WerePosted}
+use Rattle.hv_provenance.specs.Justified.{AreOfPeers, WasMade, WasPosted, WerePosted}
 use Rattle.hv_provenance.proofs.Deeds.{did_last, last, more, not_after}
 use Rattle.hv_provenance.proofs.Keeping.{register_keeps, signal_mail}
 use Rattle.hv_provenance.proofs.Ports.{AreConnected, AreMade, after_call, left_by, other}
@@ -62,7 +62,7 @@ kind_is port_type.Message port_type.Event h = cc
 kind_is port_type.Event port_type.Message h = cc
 kind_is port_type.Event port_type.Event h = refl
 
-module _ (states : ℕ → Flat) (deeds : List Deed) (f : Flat) (now : states (length deeds + 1) ≡ f) (made : AreMade deeds f.port) (connected : AreConnected deeds f.conn) (were : WerePosted states deeds 0 f.mail) (caller : ℕ) where
+module _ (states : ℕ → Flat) (deeds : List Deed) (f : Flat) (now : states (length deeds + 1) ≡ f) (made : AreMade deeds f.port) (connected : AreConnected deeds f.conn) (peers : AreOfPeers f) (were : WerePosted states deeds 0 f.mail) (caller : ℕ) where
   post_mail : (connection type : ℕ) (payload : List ℕ) → on_aim f (caller, connection) is_same_birth ≡ true → on_aim f (caller, connection) is_for_messages ≡ true → on_aim f (caller, connection) (has_message_taker f) ≡ true
       → WerePosted states (more deeds (Posts caller connection type payload)) 0 (post_to (aim_of f (caller, connection)) type payload f).mail
   post_mail connection type payload born takes taken = by (message_taker f aim) refl (tested f key (has_message_taker f) r taken)
@@ -100,7 +100,7 @@ module _ (states : ℕ → Flat) (deeds : List Deed) (f : Flat) (now : states (l
         base = was.base;
         sender = caller;
         connection = connection;
-        way = way_of deeds e key r.conn r.port was (connected key r.conn r.conn_is) r.conn.born r.same refl port_type.Message (kind_is r.port.kind port_type.Message (tested f key is_for_messages r takes));
+        way = way_of deeds e key r.conn r.port was (connected key r.conn r.conn_is) r.conn.born r.same refl (peers key r.conn r.port r.conn_is r.port_is r.same) port_type.Message (kind_is r.port.kind port_type.Message (tested f key is_for_messages r takes));
         taken = ap (λ g. message_taker g aim) now ∙ is;
         posted = did_last deeds e (last deeds e) refl;
         kept = not_after deeds e (last deeds e) (DeletesVp r.conn.part vp) refl;

@@ -74,7 +74,7 @@ module _ (deeds : List Deed) (e : Deed) where
       by false at_it there = connected_still deeds e key conn (λ h. (let first : key.0 ≡ at.0 = cc in let second : key.1 ≡ at.1 = cc in apart key at at_it first second)) (λ h. cc) (were key conn there)
 
   -- one comes
-  pub port_made : (at : ℕ × ℕ) (new : PortRow) (base : ℕ) → new.base ≡ flags_of new.kind base → e ≡ MakesPort at.0 at.1 new.kind new.sint new.vp base → new.born ≡ all_served deeds + 1
+  pub port_made : (at : ℕ × ℕ) (new : PortRow) (base : ℕ) → new.base ≡ flags_of new.kind base → e ≡ MakesPort at.0 at.1 new.peer new.kind new.sint new.vp base → new.born ≡ all_served deeds + 1
       → (ports : FinMap pair_cmp PortRow) → AreMade deeds ports → AreMade (more deeds e) (insert ports at new)
   port_made at new base first is born ports were key port there = by (eq_by_cmp pair_cmp key at) refl (sym (get-insert pair_cmp_total ports at new key) ∙ there)
     where

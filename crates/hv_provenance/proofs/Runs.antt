@@ -1,6 +1,6 @@
 -- Where everything comes from in each state of a run.
-use Rattle.std.proofs.Common.{◌≡◌, ℕ, ◌+◌, ◌==◌, ◌&&◌, not, nat_lt, Bool, true, false, cond, List, [], ◌∷◌, ◌++◌, suc, length, take, Option, Some, None, refl, sym, ap, subst, ◌∙◌, arith, add-one, add-zero, zero-add, append_assoc, append-nil, length-append}
-use Rattle.std.specs.FinMap.{get-empty}
+use Rattle.std.proofs.Common.{◌≡◌, ℕ, ◌+◌, ◌≤◌, ◌==◌, ◌&&◌, not, nat_lt, Bool, true, false, cond, List, [], ◌∷◌, ◌++◌, suc, length, take, Option, Some, None, refl, sym, ap, subst, ◌∙◌, arith, add-one, add-zero, zero-add, append_assoc, append-nil, length-append}
+use Rattle.std.specs.FinMap.{get, get-empty}
 use Rattle.std.specs.FinSet.{contains, contains-empty}
 use Rattle.hv_abi.specs.Check.{call_of}
 use Rattle.hv_calls.specs.declared.call.Call.{Call}
@@ -28,11 +28,12 @@ use Rattle.hv_policy.specs.Rule.{rule_status}
 use Rattle.hv_abi.specs.declared.status.Status.{Status}
 use Rattle.hv_policy.specs.declared.rule.Rule.{Rule}
 use Rattle.hv_provenance.specs.Deed.{Deed, IsRefused, action_deed, call_deed, called_deed, deed_of, deeds_of, served_deed, served_to, was_served}
-use Rattle.hv_provenance.specs.Justified.{WerePosted, state_before}
-use Rattle.hv_provenance.proofs.Deeds.{all_served, counted_one, counts, more, served_all}
+use Rattle.hv_provenance.specs.Justified.{AreOfPeers, WerePosted, state_before}
+use Rattle.hv_provenance.proofs.Deeds.{all_served, counted_one, counts, did_within, more, served_all, served_rises}
 use Rattle.hv_provenance.proofs.Flags.{AreSignalled, flags_call, flags_cleared, flags_still}
 use Rattle.hv_provenance.proofs.Keeping.{msr_keeps, set_kept, test_vp}
 use Rattle.hv_provenance.proofs.Mails.{mail_call}
+use Rattle.hv_provenance.proofs.Peers.{call_peers, peers_still}
 use Rattle.hv_provenance.proofs.Ports.{AreConnected, AreMade, conns_call, conns_still, ports_call, ports_still}
 use Rattle.hv_provenance.proofs.Standing.{mail_left, mail_still}
 
@@ -41,6 +42,7 @@ pub record IsKnown (states : ℕ → Flat) (deeds : List Deed) (f : Flat) : Type
   pub served : f.served ≡ all_served deeds
   pub ports : AreMade deeds f.port
   pub conns : AreConnected deeds f.conn
+  pub peers : AreOfPeers f
   pub mail : WerePosted states deeds 0 f.mail
   pub flags : AreSignalled states deeds f.vp
 
@@ -48,6 +50,7 @@ pub record IsKnown (states : ℕ → Flat) (deeds : List Deed) (f : Flat) : Type
 record IsTold (states : ℕ → Flat) (deeds : List Deed) (f : Flat) : Type 0 where
   ports : AreMade deeds f.port
   conns : AreConnected deeds f.conn
+  peers : AreOfPeers f
   mail : WerePosted states deeds 0 f.mail
   flags : AreSignalled states deeds f.vp
 
@@ -86,9 +89,20 @@ known_refused states deeds f k = record {
   served = (let before = k.served in let more_served = counted_one deeds IsRefused in omega (arith, before, more_served));
   ports = ports_still deeds _ f.port _ refl (λ key h. cc) (λ key h. cc) k.ports;
   conns = conns_still deeds _ f.conn _ refl (λ key h. cc) (λ key h. cc) k.conns;
+  peers = k.peers;
   mail = mail_still deeds _ states (λ row h. cc) (λ row h. cc) f.mail 0 k.mail;
   flags = flags_still states deeds _ f.vp k.flags f.vp (λ id vp sint flag. refl) (λ id vp h. cc) (λ id h. cc) (λ id vp sint flag h. cc);
 }
+
+-- the births that connections keep are past
+births_past : (states : ℕ → Flat) (deeds : List Deed) (f : Flat) → IsKnown states deeds f → (key : ℕ × ℕ) (conn : ConnRow) → get f.conn key ≡ Some conn → conn.born ≤ f.served
+births_past states deeds f k key conn is =
+    let was = k.conns key conn is in
+    let rises = served_rises deeds was.at (length deeds) (did_within deeds _ _ was.connected) in
+    let whole = served_all deeds (length deeds) (omega arith) in
+    let after = was.after in
+    let same = k.served in
+    omega (arith, rises, whole, after, same)
 
 -- where the event of the next entry comes in this state
 module _ {A : Type 0} (states : ℕ → Flat) (deeds : List Deed) (f : Flat) (now : states (length deeds + 1) ≡ f) (k : IsKnown states deeds f) where
@@ -99,38 +113,44 @@ module _ {A : Type 0} (states : ℕ → Flat) (deeds : List Deed) (f : Flat) (no
       (record {
         ports = ports_call deeds f by.part k.served k.ports served.call;
         conns = conns_call deeds f by.part k.served k.ports k.conns served.call;
-        mail = mail_call states deeds f now k.ports k.conns k.mail by.part served.call served.granted;
-        flags = flags_call states deeds f now k.ports k.conns k.flags by.part served.call served.granted;
+        peers = call_peers f k.peers (births_past states deeds f k) by.part served.call served.granted;
+        mail = mail_call states deeds f now k.ports k.conns k.peers k.mail by.part served.call served.granted;
+        flags = flags_call states deeds f now k.ports k.conns k.peers k.flags by.part served.call served.granted;
       })
   by_action by (WriteMsr msr value) h =
       let keeps = msr_keeps by.part by.vp (name_of_msr msr) value f in
       record {
         ports = ports_still deeds _ f.port _ keeps.port (λ key h. cc) (λ key h. cc) k.ports;
         conns = conns_still deeds _ f.conn _ keeps.conn (λ key h. cc) (λ key h. cc) k.conns;
+        peers = peers_still f k.peers (births_past states deeds f k) _ _ keeps.port keeps.conn;
         mail = keeps.mail states _ 0 (mail_still deeds _ states (λ row h. cc) (λ row h. cc) f.mail 0 k.mail);
         flags = flags_still states deeds _ f.vp k.flags _ keeps.flags (λ id vp h. cc) (λ id h. cc) (λ id vp sint flag h. cc);
       }
   by_action by (ClearSlot sint) h = record {
     ports = ports_still deeds _ f.port _ refl (λ key h. cc) (λ key h. cc) k.ports;
     conns = conns_still deeds _ f.conn _ refl (λ key h. cc) (λ key h. cc) k.conns;
+    peers = k.peers;
     mail = mail_left deeds _ states (λ row. not (stands_at (place_at by sint) row && row.shown)) (λ row is h. cc) (λ row is h. cc) f.mail 0 0 (omega arith) k.mail;
     flags = flags_still states deeds _ f.vp k.flags f.vp (λ id vp sint flag. refl) (λ id vp h. cc) (λ id h. cc) (λ id vp sint flag h. cc);
   }
   by_action by (ClearFlag sint flag) h = record {
     ports = ports_still deeds _ f.port _ refl (λ key h. cc) (λ key h. cc) k.ports;
     conns = conns_still deeds _ f.conn _ refl (λ key h. cc) (λ key h. cc) k.conns;
+    peers = k.peers;
     mail = mail_still deeds _ states (λ row h. cc) (λ row h. cc) f.mail 0 k.mail;
     flags = flags_cleared states deeds _ f.vp k.flags by.part by.vp sint flag refl;
   }
   by_action by TakeInterrupt h = record {
     ports = ports_still deeds _ f.port _ refl (λ key h. cc) (λ key h. cc) k.ports;
     conns = conns_still deeds _ f.conn _ refl (λ key h. cc) (λ key h. cc) k.conns;
+    peers = k.peers;
     mail = mail_still deeds _ states (λ row h. cc) (λ row h. cc) f.mail 0 k.mail;
     flags = flags_still states deeds _ f.vp k.flags _ (set_kept f.vp (by.part, by.vp) _ (λ row. refl)) (λ id vp h. cc) (λ id h. cc) (λ id vp sint flag h. cc);
   }
   by_action by what h = record {
     ports = ports_still deeds _ f.port _ refl (λ key h. cc) (λ key h. cc) k.ports;
     conns = conns_still deeds _ f.conn _ refl (λ key h. cc) (λ key h. cc) k.conns;
+    peers = k.peers;
     mail = mail_still deeds _ states (λ row h. cc) (λ row h. cc) f.mail 0 k.mail;
     flags = flags_still states deeds _ f.vp k.flags f.vp (λ id vp sint flag. refl) (λ id vp h. cc) (λ id h. cc) (λ id vp sint flag h. cc);
   }
@@ -148,6 +168,7 @@ module _ {A : Type 0} (states : ℕ → Flat) (deeds : List Deed) (f : Flat) (no
             omega (arith, same, before, more_served, one));
         ports = told.ports;
         conns = told.conns;
+        peers = told.peers;
         mail = told.mail;
         flags = told.flags;
       }
@@ -183,10 +204,14 @@ known_boot states config = record {
   served = refl;
   ports = λ key port is. (let none = get-empty {X = PortRow} pair_cmp key in cc);
   conns = λ key conn is. (let none = get-empty {X = ConnRow} pair_cmp key in cc);
+  peers = λ key conn port is there same. absent key conn port.peer key.0 is;
   mail = tt;
   flags = λ id vp sint flag is. by sint flag (id == 1) (nat_lt vp config.vps) vp (sym (ap (test_vp (λ row. contains row.flags (sint, flag))) (vp_at config id vp)) ∙ is);
 }
   where
+    absent : (key : ℕ × ℕ) (conn : ConnRow) (n m : ℕ) → get (boot config).conn key ≡ Some conn → n ≡ m
+    absent key conn n m is = let clash = sym (get-empty {X = ConnRow} pair_cmp key) ∙ is in cc
+
     by : (sint flag : ℕ) (b c : Bool) (vp : ℕ) {P : Type 0} → test_vp (λ row. contains row.flags (sint, flag)) (cond b (cond c (Some (start_vp vp)) None) None) ≡ true → P
     by sint flag true true vp is = let none = contains-empty pair_cmp (sint, flag) in absurd (cc)
     by sint flag true false vp is = absurd (cc)

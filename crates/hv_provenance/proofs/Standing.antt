@@ -47,11 +47,13 @@ module _ (deeds : List Deed) (e : Deed) where
   }
 
   -- a port that is there and a connection to it that was made later are a way for the next event
-  pub way_of : (key : ℕ × ℕ) (conn : ConnRow) (port : PortRow) (made : WasMade deeds (conn.part, conn.port) port) → WasConnected deeds key conn → (born : ℕ) → port.born ≡ born → conn.born ≡ born → (kind : PortKind) → port.kind ≡ kind
+  pub way_of : (key : ℕ × ℕ) (conn : ConnRow) (port : PortRow) (made : WasMade deeds (conn.part, conn.port) port) → WasConnected deeds key conn → (born : ℕ) → port.born ≡ born → conn.born ≡ born → port.peer ≡ key.0 → (kind : PortKind) → port.kind ≡ kind
       → HasWay (more deeds e) (last deeds e) conn.part conn.port born kind port.sint port.vp made.base key.0 key.1
-  way_of key conn port made connected born is same kind takes = record {
+  way_of key conn port made connected born is same peer kind takes = record {
     from = made.at;
-    made = subst (λ k. DidAt (more deeds e) made.at (MakesPort conn.part conn.port k port.sint port.vp made.base)) takes (did_still deeds e _ _ made.made);
+    made =
+        subst (λ sender. DidAt (more deeds e) made.at (MakesPort conn.part conn.port sender kind port.sint port.vp made.base)) peer
+        (subst (λ k. DidAt (more deeds e) made.at (MakesPort conn.part conn.port port.peer k port.sint port.vp made.base)) takes (did_still deeds e _ _ made.made));
     birth = served_still deeds e made.at (did_within deeds _ _ made.made) ∙ made.birth ∙ is;
     at = connected.at;
     connected = did_still deeds e _ _ connected.connected;

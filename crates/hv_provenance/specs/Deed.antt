@@ -15,15 +15,15 @@ use Rattle.hv_policy.specs.declared.event.Event.{Event}
 use Rattle.hv_policy.specs.declared.reply.Reply.{Reply}
 use Rattle.hv_policy.specs.declared.reply.Reply.TheVariants.{Served, More, Denied, Fault}
 
--- What an entry did, with each partition by its id: HvCreatePort makes a port of a partition, for what it
--- takes, with its SINT, the processor at which it aims, or any, and the first of its flags; HvDeletePort
+-- What an entry did, with each partition by its id: HvCreatePort makes a port of a partition, for a peer and for
+-- what it takes, with its SINT, the processor at which it aims, or any, and the first of its flags; HvDeletePort
 -- deletes it; HvConnectPort makes a connection of a partition to a port, HvDisconnectPort deletes it;
 -- HvPostMessage posts a message through a connection of a partition, HvSignalEvent sets the flag with a
 -- number through one; HvDeleteVp deletes a processor of a partition, HvFinalizePartition ends a partition; a
 -- processor clears a flag of its own. An event that is served may do none of these, and one that is refused
 -- does nothing.
 pub data Deed : Type 0 where
-  MakesPort : (id port : ℕ) (kind : PortKind) (sint : ℕ) (aim : Aim) (base : ℕ) → Deed
+  MakesPort : (id port peer : ℕ) (kind : PortKind) (sint : ℕ) (aim : Aim) (base : ℕ) → Deed
   DeletesPort : (id port : ℕ) → Deed
   Connects : (id connection port_id port : ℕ) → Deed
   Disconnects : (id connection : ℕ) → Deed
@@ -38,7 +38,7 @@ pub data Deed : Type 0 where
 -- of a call by a processor of a partition
 abbrev pub call_deed : Call → ℕ → Deed
 call_deed (CreatePort partition port peer port_kind sint vp base count) caller =
-    MakesPort (meant_id caller partition) port port_kind sint vp base
+    MakesPort (meant_id caller partition) port (meant_id caller peer) port_kind sint vp base
 call_deed (DeletePort partition port) caller = DeletesPort (meant_id caller partition) port
 call_deed (ConnectPort partition connection port_partition port port_kind) caller =
     Connects (meant_id caller partition) connection (meant_id caller port_partition) port

@@ -1,5 +1,6 @@
 -- Where ports, connections, messages and event flags come from.
 use Rattle.std.specs.Prelude.{◌≡◌, ℕ, zero, suc, ◌+◌, ◌<◌, Bool, take, List, [], ◌∷◌, Some}
+use Rattle.std.specs.FinMap.{get}
 use Rattle.std.specs.FinSet as set
 use Rattle.hv_defs.specs.declared.aim.Aim.{Aim}
 use Rattle.hv_defs.specs.declared.port_kind.PortKind.{PortKind}
@@ -32,7 +33,7 @@ pub record WasMade (deeds : List Deed) (key : ℕ × ℕ) (port : PortRow) : Typ
   pub at : ℕ
   pub base : ℕ
   pub first : port.base ≡ flags_of port.kind base
-  pub made : DidAt deeds at (MakesPort key.0 key.1 port.kind port.sint port.vp base)
+  pub made : DidAt deeds at (MakesPort key.0 key.1 port.peer port.kind port.sint port.vp base)
   pub birth : served_to deeds at ≡ port.born
   pub kept : HasNotSince deeds at (DeletesPort key.0 key.1)
   pub alive : HasNotSince deeds at (Finalizes key.0)
@@ -46,12 +47,12 @@ pub record WasConnected (deeds : List Deed) (key : ℕ × ℕ) (conn : ConnRow) 
   pub kept : HasNotSince deeds at (Disconnects key.0 key.1)
   pub alive : HasNotSince deeds at (Finalizes key.0)
 
--- a port of a partition, which an entry made that gave it its birth, and a connection of the sender to it,
--- which was made later, both stood until the entry of number k: nothing ended either in between
+-- a port of a partition, which an entry made for the sender and gave its birth, and a connection of the sender to
+-- it, which was made later, both stood until the entry of number k: nothing ended either in between
 pub record HasWay (deeds : List Deed) (k id port born : ℕ) (kind : PortKind) (sint : ℕ) (aim : Aim)
     (base sender connection : ℕ) : Type 0 where
   pub from : ℕ
-  pub made : DidAt deeds from (MakesPort id port kind sint aim base)
+  pub made : DidAt deeds from (MakesPort id port sender kind sint aim base)
   pub birth : served_to deeds from ≡ born
   pub at : ℕ
   pub connected : DidAt deeds at (Connects sender connection id port)
@@ -104,6 +105,11 @@ pub record WasSignalled (states : ℕ → Flat) (deeds : List Deed) (id vp sint 
   pub kept : HasNotSince deeds k (DeletesVp id vp)
   pub alive : HasNotSince deeds k (Finalizes id)
   pub set : HasNotSince deeds k (ClearsFlag id vp sint flag)
+
+-- a connection that keeps the birth of the port to which it leads is of that port's peer
+abbrev pub AreOfPeers : Flat → Type 0
+AreOfPeers f = (key : ℕ × ℕ) (conn : ConnRow) (port : PortRow) → get f.conn key ≡ Some conn
+    → get f.port (conn.part, conn.port) ≡ Some port → port.born ≡ conn.born → port.peer ≡ key.0
 
 -- whether a flag of a SINT is set, of the processor with this row
 abbrev pub has_flag : ℕ → ℕ → VpRow → Bool

@@ -14,8 +14,8 @@ ghost use Rattle.hv_policy.specs.Step.{run};
 ghost use Rattle.hv_policy.specs.declared.config.Config.{Config};
 ghost use Rattle.hv_policy.specs.declared.event.Event.{Event};
 ghost use Rattle.hv_provenance.specs.Deed.{deeds_of, served_to};
-ghost use Rattle.hv_provenance.specs.Justified.{WasConnected, WasMade, WasSignalled, WerePosted, is_flag_set};
-ghost use Rattle.hv_provenance.specs.Justified.{state_before};
+ghost use Rattle.hv_provenance.specs.Justified.{AreOfPeers, WasConnected, WasMade, WasSignalled, WerePosted};
+ghost use Rattle.hv_provenance.specs.Justified.{is_flag_set, state_before};
 
 /// In every state of a run each port that is there was made by the entry with which the served events were as
 /// many as its birth says, and each connection by an entry after the birth that it keeps; nothing has ended
@@ -33,10 +33,17 @@ pub fn every_port_and_connection_has_its_making<A>()
         → WasConnected (deeds_of events (run config events).1) key conn }
 {}
 
-/// In every state of a run each message was posted, through a connection to the port of its birth while both
-/// stood, to the processor that took it then: the one at which the port aims, or the lowest that was ready
-/// for messages where it aims at any. That processor has stood since. The messages of a place stand in the
-/// order in which they were posted, each of a post of its own; and so do all messages.
+/// In every state of a run a connection that keeps the birth of the port to which it leads is of that port's peer:
+/// so what comes to a port comes from the partition for which the port was made.
+pub fn each_connection_is_of_its_ports_peer<A>()
+    ensures { (config : Config) (events : List (Event A)) → AreOfPeers (run config events).0 }
+{}
+
+/// In every state of a run each message was posted, by the partition for which the port of its birth was made and
+/// through a connection to that port while both stood, to the processor that took it then: the one at which the
+/// port aims, or the lowest that was ready for messages where it aims at any. That processor has stood since. The
+/// messages of a place stand in the order in which they were posted, each of a post of its own; and so do all
+/// messages.
 pub fn every_message_was_posted<A>()
     ensures all { (config : Config) (events : List (Event A))
         → WerePosted (state_before config events) (deeds_of events (run config events).1) 0
@@ -46,9 +53,9 @@ pub fn every_message_was_posted<A>()
         (mail_at place (run config events).0.mail) }
 {}
 
-/// In every state of a run each event flag that is set was signalled, through a connection to an event port
-/// while both stood, to the processor that took it then; and since then that one has stood and hasn't cleared
-/// it.
+/// In every state of a run each event flag that is set was signalled, by the partition for which an event port was
+/// made and through a connection to that port while both stood, to the processor that took it then; and since then
+/// that one has stood and hasn't cleared it.
 pub fn every_flag_was_signalled<A>()
     ensures flags { (config : Config) (events : List (Event A)) (id vp sint flag : ℕ)
         → is_flag_set (run config events).0 id vp sint flag ≡ true

@@ -22,3 +22,15 @@ returns-in-Ok-hypercall-clause-state g c = (same_event (call_event_is c.args.eve
 
 pub returns-in-Ok-hypercall-clause-asked : goal.returns-in-Ok-hypercall-clause-asked
 returns-in-Ok-hypercall-clause-asked g c = subst (NamesAsked c.args.event.now) (sym c.to_reply.ensures) (same_event (call_event_is c.args.event.now c.in-Err.frame.now (sym c.in-Err.ensures.call)) c.in-Ok-hypercall.ensures).asked
+
+pub returns-in-Ok-access-clause-others : goal.returns-in-Ok-access-clause-others
+returns-in-Ok-access-clause-others g c = (same_event (access_event_is c.args.event.now c.in-Ok.access c.in-Ok.ensures.access) c.in-Ok-access.ensures).others
+
+pub returns-in-Err-access-clause-others : goal.returns-in-Err-access-clause-others
+returns-in-Err-access-clause-others g c = (same_event (access_event_is c.args.event.now c.in-Ok.access c.in-Ok.ensures.access) c.in-Err-access.ensures).others
+
+pub returns-in-Ok-hypercall-clause-others : goal.returns-in-Ok-hypercall-clause-others
+returns-in-Ok-hypercall-clause-others g c = (same_event (call_event_is c.args.event.now c.in-Err.frame.now (sym c.in-Err.ensures.call)) c.in-Ok-hypercall.ensures).others
+
+pub returns-in-Err-hypercall-clause-others : goal.returns-in-Err-hypercall-clause-others
+returns-in-Err-hypercall-clause-others g c = (same_event (call_event_is c.args.event.now c.in-Err.frame.now (sym c.in-Err.ensures.call)) c.in-Err-hypercall.ensures).others

@@ -1,0 +1,6 @@
+pub mod Alike
+pub mod Looks
+pub mod Misses
+pub mod Tenant
+pub mod Turns
+pub mod Within
