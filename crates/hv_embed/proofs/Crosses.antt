@@ -7,7 +7,7 @@ use Rattle.hv_machine.specs.contracts.machine.Machine as Machine
 use Rattle.hv_mail.specs.contracts.mailbox.Mailbox as Mailbox
 use Rattle.hv_pages.specs.contracts.page_set.PageSet as PageSet
 use Rattle.hv_partition.specs.contracts.partition.Partition as Partition
-use Rattle.hv_tree.specs.contracts.nodes.Node as Node
+use Rattle.hv_tree.proofs.node.Branch.TheLaws.TheKnot as knot
 use Rattle.hv_tree.specs.contracts.tree.IdTree as IdTree
 use Rattle.hv_vp.specs.contracts.vp.Vp as Vp
 use Rattle.hv_vp.specs.contracts.vps.Vps as Vps
@@ -28,11 +28,8 @@ vps-send = search (sendable, crosses, vp-send) depth 40
 partition-send : IsSend (Partition.the_row Heap.the_row ghosts)
 partition-send = search (sendable, crosses, vps-send, pages-send) depth 60 fits 20000
 
-node-send : IsSend (Node.the_row (Partition.the_row Heap.the_row ghosts) Heap.the_row ghosts)
-node-send = search (partition-send, crosses, sendable) depth 60 fits 20000
-
 tree-send : IsSend (IdTree.the_row (Partition.the_row Heap.the_row ghosts) Heap.the_row ghosts)
-tree-send = search (node-send, crosses, sendable) depth 60 fits 20000
+tree-send = search (partition-send, crosses, knot.crosses, sendable) depth 60 fits 20000
 
 bare-send : IsSend (Machine.the_row Heap.the_row ghosts)
 bare-send = search (tree-send, crosses, sendable) depth 40

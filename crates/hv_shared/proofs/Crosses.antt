@@ -18,7 +18,7 @@ use Rattle.hv_shared.specs.contracts.held.Held.TheInside as InHeld
 use Rattle.hv_shared.specs.contracts.shared.Shared.TheInside as InShared
 use Rattle.std.proofs.sync.ledger.Book.TheSendSync as book
 use Rattle.hv_shared.specs.contracts.shared.Shared as Shared
-use Rattle.hv_tree.specs.contracts.nodes.Node as Node
+use Rattle.hv_tree.proofs.node.Branch.TheLaws.TheKnot as knot
 use Rattle.hv_tree.specs.contracts.tree.IdTree as IdTree
 use Rattle.hv_vp.specs.contracts.vp.Vp as Vp
 use Rattle.hv_vp.specs.contracts.vps.Vps as Vps
@@ -38,11 +38,8 @@ vps-send = search (sendable, crosses, vp-send) depth 40
 pub partition-send : IsSend (Partition.the_row Heap.the_row ghosts)
 partition-send = search (sendable, crosses, vps-send, pages-send) depth 60 fits 20000
 
-pub node-send : IsSend (Node.the_row (Partition.the_row Heap.the_row ghosts) Heap.the_row ghosts)
-node-send = search (partition-send, crosses, sendable) depth 60 fits 20000
-
 pub tree-send : IsSend (IdTree.the_row (Partition.the_row Heap.the_row ghosts) Heap.the_row ghosts)
-tree-send = search (node-send, crosses, sendable) depth 60 fits 20000
+tree-send = search (partition-send, crosses, knot.crosses, sendable) depth 60 fits 20000
 
 pub machine-send : IsSend (Machine.the_row Heap.the_row ghosts)
 machine-send = search (tree-send, crosses, sendable) depth 40

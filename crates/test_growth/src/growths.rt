@@ -74,7 +74,7 @@ fn assert_blocks(
     Ok(())
 }
 
-const GROWTHS: [(Growth, u64); 26] = [
+const GROWTHS: [(Growth, u64); 25] = [
     (Growth::Pages, 1),
     // The list of queues grows to 16, and each queue gets its room.
     (Growth::Mail, 19),
@@ -89,12 +89,10 @@ const GROWTHS: [(Growth, u64); 26] = [
     (Growth::Room(Room::Ports), 1),
     (Growth::Room(Room::Connections), 1),
     (Growth::Tree(Wanted::Room, 1), 1),
-    // The list of children: the map has room for more nodes than the root from the start.
-    (Growth::Tree(Wanted::Child, 0), 1),
+    // The node, the list of children, and the tables of the index.
+    (Growth::Tree(Wanted::Child, 0), 6),
     // Four children fill the first block of their list.
-    (Growth::Tree(Wanted::Child, 4), 1),
-    // Eight fill the second, and with the root the map's first tables.
-    (Growth::Tree(Wanted::Child, 8), 5),
+    (Growth::Tree(Wanted::Child, 4), 2),
     (Growth::Tree(Wanted::Ids, 2), 1),
     (Growth::Event(Asked::Bytes), 1),
     (Growth::Event(Asked::Frame), 1),
@@ -102,10 +100,9 @@ const GROWTHS: [(Growth, u64); 26] = [
     (Growth::Event(Asked::Event), 1),
     // Its rows, heads, inputs and outputs.
     (Growth::Event(Asked::Entries), 4),
-    // The root's own, its loose and its pooled pages, the flags of a processor, the list of processors, and the
-    // four tables of the map.
-    (Growth::Whole(Whole::Machine), 9),
-    (Growth::Whole(Whole::Kept), 9),
+    // The root's own, its loose and its pooled pages, the flags of a processor, and the list of processors.
+    (Growth::Whole(Whole::Machine), 5),
+    (Growth::Whole(Whole::Kept), 5),
     // A call's bytes; its processor, the place of its line, its turn, the block of inputs, its head and its row.
     (Growth::Whole(Whole::Script), 7),
     (Growth::Table, 1),

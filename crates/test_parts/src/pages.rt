@@ -76,7 +76,7 @@ const RUNS: [(u32, u64); 4] = [
 
 // Puts a run into an empty set, with room for one change. Another set takes it over and gives its lowest page.
 fn put_run(alloc: Global, start: u32, length: u64) -> Result<bool, AllocError> {
-    if length < 1 || u64::from(start) + length > 0x1_0000_0000 {
+    if length < 1 || length > 0x1_0000_0000 - u64::from(start) {
         return Ok(false);
     }
     let mut set = PageSet::new(alloc);
