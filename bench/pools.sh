@@ -75,20 +75,16 @@ make_random_script() {
     done
 }
 
-for pages in 4096 8192 16384 32768 65536; do
-    moved=$((pages - 8 < 60000 ? pages - 8 : 60000))
-    make_script "$pages" "$moved" >"$folder/pools.hv"
-    echo "== $pages pages, $((2 * moved)) events, $(stat -c %s "$folder/pools.hv") bytes"
+# Runs the script that the words from $2 on make, whose pages are as $1 says.
+measure_script() {
+    "${@:2}" >"$folder/pools.hv"
+    echo "== $1, $(stat -c %s "$folder/pools.hv") bytes"
     measure "$program" "$folder/pools.hv"
-done
-for pages in 4096 8192 16384 32768 65536; do
-    make_scattered_script "$pages" >"$folder/scattered.hv"
-    echo "== every second of $pages pages, $(((pages - 8 + 1) / 2)) events, $(stat -c %s "$folder/scattered.hv") bytes"
-    measure "$program" "$folder/scattered.hv"
-done
+}
+
 for pages in 4096 8192 16384 32768 65536; do
     moved=$((pages - 8 < 60000 ? pages - 8 : 60000))
-    make_random_script "$pages" "$moved" >"$folder/random.hv"
-    echo "== $moved of $pages pages in a random order, $(stat -c %s "$folder/random.hv") bytes"
-    measure "$program" "$folder/random.hv"
+    measure_script "$pages pages, $((2 * moved)) events" make_script "$pages" "$moved"
+    measure_script "every second of $pages pages, $(((pages - 8 + 1) / 2)) events" make_scattered_script "$pages"
+    measure_script "$moved of $pages pages in a random order" make_random_script "$pages" "$moved"
 done
