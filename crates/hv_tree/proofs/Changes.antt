@@ -1,12 +1,12 @@
 -- What a change of the node where a way leads is to the rows of the tree.
-use Rattle.std.proofs.lemmas.Bool.{cases_Bool, eqb-true, eqb-false, eq-eqb}
-use Rattle.std.proofs.Common.{◌≡◌, ℕ, zero, suc, ◌+◌, ◌<◌, ◌≤◌, Bool, true, false, cond, ◌==◌, inl, inr, Option, None, Some, List, [], ◌∷◌, ◌++◌, Box, Vec, length, map, set, get_or, slice_get, refl, sym, ap, subst, ◌∙◌, arith}
+use Rattle.std.proofs.lemmas.Bool.{cases_Bool, eqb-true, eq-eqb}
+use Rattle.std.proofs.Common.{◌≡◌, ℕ, zero, suc, ◌<◌, ◌≤◌, Bool, true, false, cond, ◌==◌, inl, inr, Option, None, Some, List, [], ◌∷◌, ◌++◌, Box, Vec, length, map, set, get_or, refl, sym, ap, subst, ◌∙◌, arith}
 use Rattle.std.specs.Box.{with_value}
 use Rattle.std.specs.List.{Contains, insert, remove}
 use Rattle.std.specs.List.Sorted.{IsNonDecreasing, IsNonDecreasingBy}
 use Rattle.std.specs.Option.{option_map}
 use Rattle.std.proofs.lemmas.List.{get_or-set_same, length-map}
-use Rattle.hv_tree.specs.Rows.{children_in, is_parent}
+use Rattle.hv_tree.specs.Rows.{children_in}
 use Rattle.hv_tree.specs.declared.node.Branch.{Branch}
 use Rattle.hv_tree.specs.declared.node.Node.{Node, out-Node, roll-Node, out-roll-Node}
 use Rattle.hv_tree.specs.Nest.{Line, has_row, look, top, put_at, AreDistinct, IsNest, IsFound, IsGrownBy, IsWithout}
@@ -14,7 +14,7 @@ use Rattle.hv_tree.specs.Below.{below, AreNests}
 use Rattle.hv_tree.specs.Edited.{edited_in, IsEditedFrom}
 use Rattle.hv_tree.specs.Lines.{lines, node_lines, boxed_lines}
 use Rattle.hv_tree.specs.Put.{node_of, content_of, child_of, put_content, put_far, reach}
-use Rattle.hv_tree.specs.Way.{id_of, children_of, way_to, IsReached, IsShorn, HasChild, HasParent}
+use Rattle.hv_tree.specs.Way.{id_of, children_of, IsReached, IsShorn, HasChild, HasParent}
 use Rattle.hv_tree.proofs.Lists.{set-same, get_or_any}
 use Rattle.hv_tree.proofs.Kids.{kids-view, length-kids, AreNests-set, IsNest-view}
 use Rattle.hv_tree.proofs.Child.{AreDistinct-child, grown-here, grown-child, kids-child}
@@ -24,7 +24,7 @@ use Rattle.hv_tree.proofs.Search.{keyed}
 use Rattle.hv_tree.proofs.Toward.{has-in, or_right}
 use Rattle.hv_tree.proofs.Edits.{edited_child, edited_whole}
 use Rattle.hv_tree.proofs.Levels.{node-lines, top-lines, top-node}
-use Rattle.hv_tree.proofs.Nested.{nest, nests, nest-node}
+use Rattle.hv_tree.proofs.Nested.{nests, nest-node}
 use Rattle.hv_tree.proofs.Lifted.{lifted}
 use Rattle.hv_tree.proofs.Reached.{reach-found}
 use Rattle.hv_tree.proofs.Steps.{slice-some}

@@ -1,15 +1,15 @@
 -- The rows of a node, around those of one child.
 use Rattle.std.proofs.lemmas.Bool.{cases_Bool}
-use Rattle.std.proofs.Common.{◌≡◌, ℕ, ◌+◌, ◌<◌, ◌≤◌, zero, suc, true, false, ◌==◌, inl, inr, Option, None, Some, is_some, List, [], ◌∷◌, ◌++◌, Box, refl, sym, ap, ◌∙◌, arith, length, take, drop, set, get_or, add-one, append_assoc, append-nil, length-append, eq-eqb}
+use Rattle.std.proofs.Common.{◌≡◌, ℕ, ◌+◌, ◌<◌, ◌≤◌, suc, true, false, ◌==◌, inl, inr, Option, None, Some, is_some, List, ◌∷◌, ◌++◌, Box, refl, sym, ap, ◌∙◌, arith, length, take, drop, set, get_or, append_assoc, append-nil, length-append}
 use Rattle.std.specs.Option.{option_or, option_map}
 use Rattle.std.specs.Box.{with_value}
 use Rattle.std.specs.List.{insert}
 use Rattle.std.proofs.lemmas.List.{take-append-drop}
 use Rattle.hv_tree.specs.Rows.{children_in}
-use Rattle.hv_tree.specs.Nest.{Line, has_row, look, uses, AreDistinct, hang, put_at, taken, HasDepthIn, IsPart, IsGrownBy}
+use Rattle.hv_tree.specs.Nest.{Line, has_row, look, uses, AreDistinct, hang, put_at, IsPart, IsGrownBy}
 use Rattle.hv_tree.specs.Below.{below, AreNests, length-hang}
-use Rattle.hv_tree.proofs.Lists.{parted, set-parted, take_more, take_whole}
-use Rattle.hv_tree.proofs.Lines.{has-append, has-hang, has-below, has-look, look-none, look-append, look-hang, hung, uses-append, uses-hang, used, has-unused, one_if, below-append, hang-append, hang-hang, put-append, put-hang, taken-append, taken-hang}
+use Rattle.hv_tree.proofs.Lists.{parted, set-parted}
+use Rattle.hv_tree.proofs.Lines.{has-hang, has-look, look-none, look-append, look-hang, hung, uses-append, uses-hang, used, has-unused, one_if, below-append, hang-append, hang-hang, put-append, put-hang}
 use Rattle.hv_tree.proofs.Kids.{kids-append, kids-hang, closed-below, AreNests-take, AreNests-drop}
 
 -- a child is put in
@@ -33,13 +33,6 @@ found_has {X = X} q es f y e = has-look q es ∙ some_of (look q es) e
     some_of None e = cc
     some_of (Some x) e = refl
 
-pub missed_has : {X Y : Type 0} (q : ℕ) (es : List (ℕ × X)) (f : X → Y) → None ≡ option_map f (look q es) → has_row q es ≡ false
-missed_has {X = X} q es f e = has-look q es ∙ none_of (look q es) e
-  where
-    none_of : (o : Option X) → None ≡ option_map f o → is_some o ≡ false
-    none_of None e = refl
-    none_of (Some x) e = cc
-
 -- k is the child at i
 module _ {T A : Type 0} (p : ℕ) (ks : List (Box (List (Line T)) A)) (i : ℕ) (k : Box (List (Line T)) A) (lt : i < length ks) (is : k ≡ get_or ks i k) where
   pub around : below p ks ≡ below p (take i ks) ++ (hang p k.value ++ below p (drop (suc i) ks))
@@ -53,15 +46,6 @@ module _ {T A : Type 0} (p : ℕ) (ks : List (Box (List (Line T)) A)) (i : ℕ) 
 
   -- where no earlier child has the id
   module _ (q : ℕ) (none : has_row q (below p (take i ks)) ≡ false) where
-    pub none-more : has_row q k.value ≡ false → has_row q (below p (take (i + 1) ks)) ≡ false
-    none-more n = rw add-one (ap (λ l. has_row q (below p l)) (take_more ks i k lt is) ∙ ap (has_row q) (below-append p (take i ks) (k ∷ [])) ∙ has-append q (below p (take i ks)) (below p (k ∷ [])) ∙ (rw none (has-below q p k [] ∙ (rw n refl))))
-
-    pub has-child : has_row q k.value ≡ true → has_row q (below p ks) ≡ true
-    has-child has =
-        ap (has_row q) around
-        ∙ has-append q (below p (take i ks)) (hang p k.value ++ below p (drop (suc i) ks))
-        ∙ (rw (none, has-append q (hang p k.value) (below p (drop (suc i) ks)), has-hang q p k.value, has) refl)
-
     some_or : {X : Type 0} (o b : Option X) → is_some o ≡ true → option_or o b ≡ o
     some_or None b e = cc
     some_or (Some x) b e = refl
@@ -97,12 +81,6 @@ module _ {T A : Type 0} (p : ℕ) (ks : List (Box (List (Line T)) A)) (i : ℕ) 
         ap (put_at q h) around
         ∙ put-append q h (below p (take i ks)) (hang p k.value ++ below p (drop (suc i) ks))
         ∙ (rw (none, put-append q h (hang p k.value) (below p (drop (suc i) ks)), has-hang q p k.value, has, put-hang q p h k.value) (sym (around-set (put_at q h k.value))))
-
-    pub taken-child : (h : Option T) → has_row q k.value ≡ true → taken q h (below p ks) ≡ taken q h k.value
-    taken-child h has =
-        ap (taken q h) around
-        ∙ taken-append q h (below p (take i ks)) (hang p k.value ++ below p (drop (suc i) ks))
-        ∙ (rw (none, taken-append q h (hang p k.value) (below p (drop (suc i) ks)), has-hang q p k.value, has) (taken-hang q p h k.value))
 
   -- a child grows
   pub grown-child : (row : Line T) (r : ℕ) (es new : List (Line T)) → IsGrownBy r es k.value new → IsGrownBy r es (row ∷ below p ks) (row ∷ below p (set ks i (with_value k new)))
@@ -150,12 +128,3 @@ module _ {T A : Type 0} (p : ℕ) (ks : List (Box (List (Line T)) A)) (i : ℕ) 
 
     pub above-row : (q : ℕ) (r : Option ℕ) → option_map (λ (r : Option ℕ × Option T). r.0) (look q k.value) ≡ Some r → option_map (λ r. r.0) (look q ((p, (None, c)) ∷ below p ks)) ≡ Some (option_or r (Some p))
     above-row q r e = let has = found_has q k.value (λ r. r.0) r (sym e) in parent-row q (off_before q has) c (off_own q has) has ∙ ap (option_map (λ a. option_or a (Some p))) e
-
-    -- a row is one deeper than within the child
-    pub HasDepthIn-child : (n q : ℕ) → HasDepthIn k.value q n → HasDepthIn ((p, (None, c)) ∷ below p ks) q (suc n)
-    HasDepthIn-child zero q h = (p, above-row q None h, rw (eq-eqb p p refl) refl)
-    HasDepthIn-child (suc n) q (r, e, h) = (r, above-row q (Some r) e, HasDepthIn-child n r h)
-
--- no child has the id
-pub none-all : {T A : Type 0} (q p : ℕ) (ks : List (Box (List (Line T)) A)) (i : ℕ) → length ks ≤ i → has_row q (below p (take i ks)) ≡ false → has_row q (below p ks) ≡ false
-none-all q p ks i h n = ap (λ l. has_row q (below p l)) (sym (take_whole ks i h)) ∙ n

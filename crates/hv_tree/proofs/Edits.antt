@@ -22,11 +22,6 @@ module _ {T : Type 0} (f : T → T) (part : ℕ → Bool) where
   edited-hang p [] = refl
   edited-hang p (e ∷ es) = ap (λ l. edited_in f part (hang p (e ∷ [])) ++ l) (edited-hang p es)
 
-  -- an edit keeps the first id
-  pub top-edited : (es : List (Line T)) → top (edited_in f part es) ≡ top es
-  top-edited [] = refl
-  top-edited (e ∷ es) = refl
-
   -- rows outside the part stay
   pub edited-none : (es : List (Line T)) → ((q : ℕ) → has_row q es ≡ true → part q ≡ false) → edited_in f part es ≡ es
   edited-none [] h = refl
@@ -57,23 +52,11 @@ edited_more f [] i k lt is = absurd (omega arith)
 edited_more f (x ∷ ks) zero k lt is = ap (λ b. with_value b (edited_in f (λ _. true) b.value) ∷ ks) is
 edited_more f (x ∷ ks) (suc i) k lt is = ap (λ l. with_value x (edited_in f (λ _. true) x.value) ∷ l) (edited_more f ks i k (omega arith) is)
 
--- the child at i is yet as it was
-pub edited_at : {T A : Type 0} (f : T → T) (ks : List (Box (List (Line T)) A)) (i : ℕ) (d : Box (List (Line T)) A) → i < length ks → get_or (edited_kids f (take i ks) ++ drop i ks) i d ≡ get_or ks i d
-edited_at f [] i d lt = absurd (omega arith)
-edited_at f (x ∷ ks) zero d lt = refl
-edited_at f (x ∷ ks) (suc i) d lt = edited_at f ks i d (omega arith)
-
 pub drop_whole : {X : Type 0} (xs : List X) (i : ℕ) → length xs ≤ i → drop i xs ≡ []
 drop_whole [] zero h = refl
 drop_whole [] (suc i) h = refl
 drop_whole (x ∷ xs) zero h = absurd (omega arith)
 drop_whole (x ∷ xs) (suc i) h = drop_whole xs i (omega arith)
-
-pub length-edited_kids : {T A : Type 0} (f : T → T) (ks : List (Box (List (Line T)) A)) (i : ℕ) → i ≤ length ks → length (edited_kids f (take i ks) ++ drop i ks) ≡ length ks
-length-edited_kids f [] zero h = refl
-length-edited_kids f [] (suc i) h = refl
-length-edited_kids f (x ∷ ks) zero h = refl
-length-edited_kids f (x ∷ ks) (suc i) h = omega (arith, length-edited_kids f ks i (omega arith))
 
 -- the subtree of the first row is all
 pub edited_whole : {T : Type 0} (f : T → T) (id : ℕ) (es new : List (Line T)) → id ≡ top es → new ≡ edited_in f (λ _. true) es → IsEditedFrom f id es new

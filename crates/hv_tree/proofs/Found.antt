@@ -1,11 +1,11 @@
--- A node that is found below a child is found below the child's parent, and so is a content that is swapped there.
+-- A node that is found below a child is found below the child's parent, and so is a content that is written there.
 use Rattle.std.proofs.Common.{◌≡◌, ℕ, ◌<◌, ◌∙◌, true, false, Bool, cond, refl, sym, ap, Option, None, List, ◌∷◌, Box, length, get_or, take, set, [], Some, is_some, Bor, MutBor, IfSome, IfNone}
 use Rattle.std.specs.Box.{with_value}
 use Rattle.std.specs.Option.{option_map, option_copied, option_copied_mut}
 use Rattle.std.proofs.lemmas.Bool.{eq-eqb}
-use Rattle.hv_tree.specs.Nest.{Line, AreDistinct, HasTop, IsFound, IsNest, first_content, has_row, look, put_at, taken, top}
+use Rattle.hv_tree.specs.Nest.{Line, AreDistinct, HasTop, IsFound, IsNest, first_content, has_row, look, put_at, top}
 use Rattle.hv_tree.specs.Below.{below, AreNests}
-use Rattle.hv_tree.proofs.Child.{held-row, off_own, off_before, put-child, taken-child, IsPart-child}
+use Rattle.hv_tree.proofs.Child.{held-row, off_own, off_before, put-child, IsPart-child}
 use Rattle.hv_tree.proofs.Gone.{has-nest}
 use Rattle.hv_tree.proofs.Lists.{set-same}
 use Rattle.hv_tree.proofs.Toward.{has-in, or_right}
@@ -42,10 +42,6 @@ module _ {T A : Type 0} (own : ℕ) (ks : List (Box (List (Line T)) A)) (i : ℕ
       → (own, (None, content)) ∷ below own (set ks i (with_value k new)) ≡ cond did (put_at q h ((own, (None, content)) ∷ below own ks)) ((own, (None, content)) ∷ below own ks)
   put-found true h new has e = rw (off_own own ks i k lt is content distinct q (has refl), e) (ap (λ l. (own, (None, content)) ∷ l) (sym (put-child own ks i k lt is q (before (has refl)) h (has refl))))
   put-found false h new has e = ap (λ s. (own, (None, content)) ∷ below own s) (ap (λ v. set ks i (with_value k v)) e ∙ set-same ks i k lt is)
-
-  pub taken-found : (did : Bool) (h new : Option T) → (did ≡ true → has_row q k.value ≡ true) → new ≡ cond did (taken q h k.value) h → new ≡ cond did (taken q h ((own, (None, content)) ∷ below own ks)) h
-  taken-found true h new has e = rw (off_own own ks i k lt is content distinct q (has refl)) (e ∙ sym (taken-child own ks i k lt is q (before (has refl)) h (has refl)))
-  taken-found false h new has e = e
 
 -- what holds of a result's copy
 pub some_copied : {X : Type 0} (P : X → Type 0) (o : Option (Bor X)) → IfSome (option_copied o) P → IfSome o (λ r. P r.now)

@@ -1,11 +1,10 @@
 -- The rows of a node, once a row without children is taken out.
-use Rattle.std.proofs.Common.{◌≡◌, ℕ, ◌+◌, ◌<◌, ◌≤◌, zero, suc, Bool, true, false, ◌==◌, ◌||◌, ◌⊎◌, inl, inr, Option, None, Some, List, [], ◌∷◌, ◌++◌, Box, refl, ap, ◌∙◌, arith, length, take, drop, set, get_or, add-one, append_assoc, eq-eqb}
+use Rattle.std.proofs.Common.{◌≡◌, ℕ, ◌<◌, ◌≤◌, zero, suc, Bool, true, false, ◌==◌, ◌||◌, Option, None, Some, List, [], ◌∷◌, ◌++◌, Box, refl, ap, ◌∙◌, arith, length, take, drop, set, get_or, append_assoc, eq-eqb}
 use Rattle.std.specs.Box.{with_value}
 use Rattle.std.specs.List.{remove}
 use Rattle.hv_tree.specs.Nest.{Line, has_row, top, AreDistinct, HasTop, hang, IsNest, IsWithout}
 use Rattle.hv_tree.specs.Below.{below, AreNests}
-use Rattle.hv_tree.proofs.Lists.{take_more}
-use Rattle.hv_tree.proofs.Lines.{has-append, has-below, below-append, hang-append}
+use Rattle.hv_tree.proofs.Lines.{has-append, below-append, hang-append}
 use Rattle.hv_tree.proofs.Child.{around, around-set, kids-child}
 
 itself : (q : ℕ) → (q == q) ≡ true
@@ -14,10 +13,6 @@ itself q = eq-eqb q q refl
 or_right : (a : Bool) → (a || true) ≡ true
 or_right true = refl
 or_right false = refl
-
-pub or_true : (a b : Bool) → (a || b) ≡ true → (a ≡ true) ⊎ (b ≡ true)
-or_true true b e = inl refl
-or_true false b e = inr e
 
 pub has-top : {X : Type 0} (es : List (ℕ × X)) → 1 ≤ length es → has_row (top es) es ≡ true
 has-top [] h = absurd (omega arith)
@@ -37,13 +32,6 @@ has-nest es n = has-top es (HasTop-some es n.topped)
 
 -- k is the child at i
 module _ {T A : Type 0} (p : ℕ) (ks : List (Box (List (Line T)) A)) (i : ℕ) (k : Box (List (Line T)) A) (lt : i < length ks) (is : k ≡ get_or ks i k) where
-  pub has-more : (q : ℕ) → has_row q (below p (take (i + 1) ks)) ≡ (has_row q (below p (take i ks)) || has_row q k.value)
-  has-more q = rw add-one (ap (λ l. has_row q (below p l)) (take_more ks i k lt is) ∙ ap (has_row q) (below-append p (take i ks) (k ∷ [])) ∙ has-append q (below p (take i ks)) (below p (k ∷ [])) ∙ ap (λ b. has_row q (below p (take i ks)) || b) (has-below q p k [] ∙ or_none (has_row q k.value)))
-    where
-      or_none : (b : Bool) → (b || false) ≡ b
-      or_none true = refl
-      or_none false = refl
-
   -- where no two rows of the node have one id
   module _ (c : Option T) (d : AreDistinct ((p, (None, c)) ∷ below p ks)) (ns : AreNests ks) (q : ℕ) (v : Option T) where
     -- the child is the row

@@ -1,15 +1,12 @@
 -- An index of the parents, once the rows change.
-use Rattle.std.proofs.Common.{◌≡◌, ℕ, true, false, cond, ◌==◌, inl, inr, Option, None, Some, IfSome, List, [], ◌∷◌, ◌++◌, refl, sym, ap, ◌∙◌, is_some}
+use Rattle.std.proofs.Common.{◌≡◌, ℕ, true, false, cond, ◌==◌, inl, inr, Option, None, Some, List, [], ◌∷◌, ◌++◌, refl, sym, ◌∙◌}
 use Rattle.std.specs.Option.{option_map, option_and_then}
 use Rattle.std.proofs.lemmas.Bool.{cases_Bool, eqb-true, eqb-false, eq-eqb, ne_eqb}
-use Rattle.hv_tree.specs.Nest.{Line, has_row, look, uses, AreDistinct, put_at, IsGrownBy}
-use Rattle.hv_tree.specs.Full.{IsLent, settled}
-use Rattle.hv_tree.specs.Index.{IsIndexOf, IsWay}
-use Rattle.hv_tree.proofs.Lines.{has-look, unused}
-use Rattle.hv_tree.proofs.Child.{found_has}
+use Rattle.hv_tree.specs.Nest.{Line, has_row, look, uses, put_at, IsGrownBy}
+use Rattle.hv_tree.specs.Index.{IsIndexOf}
+use Rattle.hv_tree.proofs.Lines.{unused}
 use Rattle.hv_tree.proofs.Grown.{look-grown}
-use Rattle.hv_tree.proofs.Lent.{look-put}
-use Rattle.hv_tree.proofs.Toward.{way-there}
+use Rattle.hv_tree.proofs.Written.{look-put}
 
 -- one row is new, with the parent p
 pub index-grown : {T : Type 0} (es new : List (Line T)) (up later : ℕ → Option ℕ) (p q : ℕ) (c : Option T) → IsGrownBy p ((q, (None, c)) ∷ []) es new → has_row q es ≡ false → IsIndexOf es up → ((x : ℕ) → later x ≡ cond (q == x) (Some p) (up x)) → IsIndexOf new later
@@ -38,20 +35,3 @@ index-put q h es up f x = f x ∙ (rw (look-put x q h es) (elim (cases_Bool (x =
   | inl t ↦ rw t (sym (above_kept h (look x es)))
   | inr t ↦ rw t refl
 ]))
-
-pub index-settled : {T : Type 0} (l : Option (ℕ × T)) (es : List (Line T)) (up : ℕ → Option ℕ) → IsIndexOf es up → IsIndexOf (settled l es) up
-index-settled None es up f = f
-index-settled (Some e) es up f = index-put e.0 (Some e.1) es up f
-
--- the way to the node whose content is lent
-pub lent-way : {T : Type 0} (l : Option (ℕ × T)) (es : List (Line T)) (up : ℕ → Option ℕ) → AreDistinct es → IsIndexOf es up → IsLent l es → IfSome l (λ e. IsWay up e.0 es)
-lent-way None es up d f h = tt
-lent-way (Some e) es up d f h = way-there e.0 es up d f (found_has e.0 es (λ r. r.1) None (sym h))
-
-some_above : {C : Type 0} (o : Option (Option ℕ × C)) → is_some (option_and_then (λ r. r.0) o) ≡ true → is_some o ≡ true
-some_above None h = cc
-some_above (Some r) h = refl
-
--- an id that the index has is there
-pub has-named : {T : Type 0} (q : ℕ) (es : List (Line T)) (up : ℕ → Option ℕ) → IsIndexOf es up → is_some (up q) ≡ true → has_row q es ≡ true
-has-named q es up f h = has-look q es ∙ some_above (look q es) (ap is_some (sym (f q)) ∙ h)

@@ -2,7 +2,6 @@
 use Rattle.std.proofs.lemmas.Bool.{cases_Bool}
 use Rattle.std.proofs.Common.{◌≡◌, ℕ, Bool, true, false, cond, ◌==◌, ◌||◌, inl, inr, Option, None, Some, List, [], ◌∷◌, ◌++◌, Box, refl, sym, ap, ◌∙◌, arith, eq-eqb, map, length, zero, suc, take, drop, set}
 use Rattle.std.specs.Option.{option_or}
-use Rattle.std.specs.List.{insert, remove}
 use Rattle.std.proofs.lemmas.List.{length-map}
 use Rattle.hv_tree.specs.Rows.{is_parent, children_in}
 use Rattle.hv_tree.specs.Nest.{Line, AreDistinct, has_row, hang, top, orphans, HasTop, IsNest}
@@ -99,18 +98,6 @@ pub AreNests-set : {T A : Type 0} (ks : List (Box (List (Line T)) A)) (i : ℕ) 
 AreNests-set [] i y h ns = tt
 AreNests-set (k ∷ ks) zero y h ns = (h, ns.1)
 AreNests-set (k ∷ ks) (suc i) y h ns = (ns.0, AreNests-set ks i y h ns.1)
-
-pub AreNests-insert : {T A : Type 0} (ks : List (Box (List (Line T)) A)) (i : ℕ) (y : Box (List (Line T)) A) → IsNest y.value → AreNests ks → AreNests (insert ks i y)
-AreNests-insert [] zero y h ns = (h, ns)
-AreNests-insert [] (suc i) y h ns = (h, ns)
-AreNests-insert (k ∷ ks) zero y h ns = (h, ns)
-AreNests-insert (k ∷ ks) (suc i) y h ns = (ns.0, AreNests-insert ks i y h ns.1)
-
-pub AreNests-remove : {T A : Type 0} (ks : List (Box (List (Line T)) A)) (i : ℕ) → AreNests ks → AreNests (remove ks i)
-AreNests-remove [] zero ns = tt
-AreNests-remove [] (suc i) ns = tt
-AreNests-remove (k ∷ ks) zero ns = ns.1
-AreNests-remove (k ∷ ks) (suc i) ns = (ns.0, AreNests-remove ks i ns.1)
 
 -- where no two rows have one id
 module _ {T A : Type 0} (p : ℕ) (c : Option T) (ks : List (Box (List (Line T)) A)) (d : AreDistinct ((p, (None, c)) ∷ below p ks)) where

@@ -10,7 +10,7 @@ use Rattle.std.proofs.lemmas.List.Sorted.{IsPermutation-refl, IsPermutation-cons
 use Rattle.std.proofs.lemmas.Bool.{eq-eqb}
 use Rattle.hv_tree.specs.Rows.{Row, Rows, is_parent, children_in, children, IsLeastAbove}
 use Rattle.hv_tree.specs.Nest.{Line, uses, AreDistinct}
-use Rattle.hv_tree.specs.Full.{pick, add, full, IsWhole}
+use Rattle.hv_tree.specs.Full.{add, full, IsWhole}
 use Rattle.hv_tree.proofs.ChildLaws.{swap_heads, kids_put}
 use Rattle.hv_tree.proofs.Lists.{no_items}
 use Rattle.hv_tree.proofs.Lines.{look-none, has-unused, one_if}
@@ -59,37 +59,37 @@ kids_added : {T : Type 0} (q x : ℕ) (p : Option ℕ) (o : Option T) (es : List
 kids_added q x p None es h = cc
 kids_added q x p (Some c) es h = refl
 
-kids_full : {T : Type 0} (q : ℕ) (l : Option (ℕ × T)) (es : List (Line T)) → AreDistinct es → IsWhole l es → children_in q (full l es) ≡ children_in q es
-kids_full q l [] d w = refl
-kids_full q l (e ∷ es) d w = kids_added q e.0 e.1.0 (pick l e.0 e.1.1) (full l es) (whole_first l e es w) ∙ ap (λ k. cond (is_parent q e.1.0) (e.0 ∷ k) k) (kids_full q l es (λ x. omega (arith, d x)) (whole_tail l e es d w))
+kids_full : {T : Type 0} (q : ℕ) (es : List (Line T)) → AreDistinct es → IsWhole es → children_in q (full es) ≡ children_in q es
+kids_full q [] d w = refl
+kids_full q (e ∷ es) d w = kids_added q e.0 e.1.0 e.1.1 (full es) (whole_first e es w) ∙ ap (λ k. cond (is_parent q e.1.0) (e.0 ∷ k) k) (kids_full q es (λ x. omega (arith, d x)) (whole_tail e es d w))
 
 uses_added : {T : Type 0} (q x : ℕ) (p : Option ℕ) (o : Option T) (es : List (ℕ × Row T)) → is_some o ≡ true → uses q (add x p o es) ≡ cond (q == x) 1 0 + uses q es
 uses_added q x p None es h = cc
 uses_added q x p (Some c) es h = refl
 
-uses_full : {T : Type 0} (q : ℕ) (l : Option (ℕ × T)) (es : List (Line T)) → AreDistinct es → IsWhole l es → uses q (full l es) ≡ uses q es
-uses_full q l [] d w = refl
-uses_full q l (e ∷ es) d w = uses_added q e.0 e.1.0 (pick l e.0 e.1.1) (full l es) (whole_first l e es w) ∙ ap (λ k. cond (q == e.0) 1 0 + k) (uses_full q l es (λ x. omega (arith, d x)) (whole_tail l e es d w))
+uses_full : {T : Type 0} (q : ℕ) (es : List (Line T)) → AreDistinct es → IsWhole es → uses q (full es) ≡ uses q es
+uses_full q [] d w = refl
+uses_full q (e ∷ es) d w = uses_added q e.0 e.1.0 e.1.1 (full es) (whole_first e es w) ∙ ap (λ k. cond (q == e.0) 1 0 + k) (uses_full q es (λ x. omega (arith, d x)) (whole_tail e es d w))
 
 ids_added : {T : Type 0} (x : ℕ) (p : Option ℕ) (o : Option T) (es : List (ℕ × Row T)) → is_some o ≡ true → ids_of (add x p o es) ≡ x ∷ ids_of es
 ids_added x p None es h = cc
 ids_added x p (Some c) es h = refl
 
-ids_full : {T : Type 0} (l : Option (ℕ × T)) (es : List (Line T)) → AreDistinct es → IsWhole l es → ids_of (full l es) ≡ ids_of es
-ids_full l [] d w = refl
-ids_full l (e ∷ es) d w = ids_added e.0 e.1.0 (pick l e.0 e.1.1) (full l es) (whole_first l e es w) ∙ ap (λ k. e.0 ∷ k) (ids_full l es (λ x. omega (arith, d x)) (whole_tail l e es d w))
+ids_full : {T : Type 0} (es : List (Line T)) → AreDistinct es → IsWhole es → ids_of (full es) ≡ ids_of es
+ids_full [] d w = refl
+ids_full (e ∷ es) d w = ids_added e.0 e.1.0 e.1.1 (full es) (whole_first e es w) ∙ ap (λ k. e.0 ∷ k) (ids_full es (λ x. omega (arith, d x)) (whole_tail e es d w))
 
-pub AreDistinct-full : {T : Type 0} (l : Option (ℕ × T)) (es : List (Line T)) → AreDistinct es → IsWhole l es → AreDistinct (full l es)
-AreDistinct-full l es d w = λ q. rw (uses_full q l es d w) (d q)
+pub AreDistinct-full : {T : Type 0} (es : List (Line T)) → AreDistinct es → IsWhole es → AreDistinct (full es)
+AreDistinct-full es d w = λ q. rw (uses_full q es d w) (d q)
 
-module _ {T : Type 0} {l : Option (ℕ × T)} {es : List (Line T)} {n : ℕ} {m : Rows T} (s : IsShown l es n m) where
+module _ {T : Type 0} {es : List (Line T)} {n : ℕ} {m : Rows T} (s : IsShown es n m) where
   -- the children of a row, in another order
   pub kids-seen : (q : ℕ) → IsPermutation (children_in q es) (children m q)
-  kids-seen q = rw (← s.seen, ← kids_full q l es s.sound.distinct s.sound.whole) (kids_permute q (full l es) (AreDistinct-full l es s.sound.distinct s.sound.whole))
+  kids-seen q = rw (← s.seen, ← kids_full q es s.sound.distinct s.sound.whole) (kids_permute q (full es) (AreDistinct-full es s.sound.distinct s.sound.whole))
 
   -- the ids of the rows, in another order
   pub ids-seen : IsPermutation (ids_of es) (keys m)
-  ids-seen = rw (← s.seen, ← ids_full l es s.sound.distinct s.sound.whole) (IsPermutation-map (λ e. e.0) (full l es) (entries (from_entries {R = nat_cmp} (full l es))) (entries_permute (full l es) (AreDistinct-full l es s.sound.distinct s.sound.whole)))
+  ids-seen = rw (← s.seen, ← ids_full es s.sound.distinct s.sound.whole) (IsPermutation-map (λ e. e.0) (full es) (entries (from_entries {R = nat_cmp} (full es))) (entries_permute (full es) (AreDistinct-full es s.sound.distinct s.sound.whole)))
 
   pub count-seen : (q : ℕ) → length (children m q) ≡ length (children_in q es)
   count-seen q = length_permutation (children_in q es) (children m q) (kids-seen q)

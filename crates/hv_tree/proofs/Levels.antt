@@ -1,8 +1,8 @@
 -- The rows of a branch, one level at a time.
-use Rattle.std.proofs.Common.{◌≡◌, ℕ, Option, None, Some, List, [], ◌∷◌, ◌++◌, Box, map, slice_get, slice_set, refl, sym, ap, ◌∙◌}
+use Rattle.std.proofs.Common.{◌≡◌, ℕ, None, Some, List, ◌∷◌, Box, map, slice_get, slice_set, ap, ◌∙◌}
 use Rattle.hv_tree.specs.declared.node.Branch.{Branch, out-Branch, out-roll-Branch, fold_out-Branch}
 use Rattle.hv_tree.specs.declared.node.Node.{Node, out-Node, out-roll-Node, fold_out-Node}
-use Rattle.hv_tree.specs.Put.{node_of, content_of, put_node, put_content, put_child, put_in}
+use Rattle.hv_tree.specs.Put.{node_of, content_of, put_node, put_child, put_in}
 use Rattle.std.specs.Vec.{with_item}
 use Rattle.std.specs.Box.{with_value}
 use Rattle.hv_tree.specs.Nest.{Line, top}
@@ -18,13 +18,6 @@ module _ {T A : Type 0} where
 
   pub node_of-put : (b : Branch T A) (n : Node T A) → node_of (put_node b n) ≡ n
   node_of-put b n = ap (λ s. s.node) (out-roll-Branch T A (record (out-Branch T A b) { node = n }))
-
-  -- a content is written to the branch's own node
-  pub lines-put_content : (b : Branch T A) (c : T) → lines (put_node b (put_content (node_of b) c)) ≡ ((out-Node T A (node_of b)).id, (None, Some c)) ∷ below (out-Node T A (node_of b)).id (map boxed_lines (out-Node T A (node_of b)).children.items)
-  lines-put_content b c =
-      let n = node_of b in
-      lines-node (put_node b (put_content n c)) ∙ ap (λ m. node_lines m) (node_of-put b (put_content n c)) ∙ node-lines (put_content n c)
-      ∙ ap (λ s. (s.id, (None, Some s.content)) ∷ below s.id (map boxed_lines s.children.items)) (out-roll-Node T A (record (out-Node T A n) { content = c }))
 
   -- a child is written
   pub lines-put_child : (b : Branch T A) (i : ℕ) (x : Box (Branch T A) A) (k : Branch T A) → slice_get (out-Node T A (node_of b)).children.items i ≡ Some x

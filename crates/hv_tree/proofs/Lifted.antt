@@ -4,12 +4,12 @@ use Rattle.std.specs.Box.{with_value}
 use Rattle.std.specs.Option.{option_map, option_and_then}
 use Rattle.hv_tree.specs.declared.node.Branch.{Branch}
 use Rattle.hv_tree.specs.declared.node.Node.{Node, out-Node}
-use Rattle.hv_tree.specs.Nest.{Line, AreDistinct, IsFound}
+use Rattle.hv_tree.specs.Nest.{Line, AreDistinct}
 use Rattle.hv_tree.specs.Below.{below, AreNests}
 use Rattle.hv_tree.specs.Put.{node_of, content_of, put_node, put_child, put_far, reach, below as under}
 use Rattle.hv_tree.specs.Lines.{lines, node_lines, boxed_lines}
-use Rattle.hv_tree.proofs.Levels.{lines-node, lines-put, lines-put_child, node-lines, top-node, whole}
-use Rattle.hv_tree.proofs.Nested.{nest, nests}
+use Rattle.hv_tree.proofs.Levels.{lines-node, lines-put, lines-put_child, whole}
+use Rattle.hv_tree.proofs.Nested.{nests}
 use Rattle.hv_tree.proofs.Child.{AreDistinct-child}
 
 pub map-set : {X Y : Type 0} (f : X → Y) (xs : List X) (i : ℕ) (y : X) → map f (set xs i y) ≡ set (map f xs) i (f y)

@@ -2,7 +2,7 @@
 use Rattle.std.proofs.lemmas.Bool.{cases_Bool}
 use Rattle.std.proofs.Common.{◌≡◌, ℕ, ◌+◌, ◌≤◌, Bool, true, false, cond, ◌==◌, ◌||◌, inl, inr, Option, None, Some, List, [], ◌∷◌, ◌++◌, Box, refl, sym, ap, ◌∙◌, is_some, arith, append_assoc}
 use Rattle.std.specs.Option.{option_or, option_map}
-use Rattle.hv_tree.specs.Nest.{Line, has_row, look, uses, hang, put_at, taken, top}
+use Rattle.hv_tree.specs.Nest.{Line, has_row, look, uses, hang, put_at}
 use Rattle.hv_tree.specs.Below.{below}
 
 pub or_assoc : (a b c : Bool) → (a || (b || c)) ≡ ((a || b) || c)
@@ -19,11 +19,6 @@ has-hang q p (e ∷ es) = ap (λ b. q == e.0 || b) (has-hang q p es)
 
 pub has-below : {T A : Type 0} (q p : ℕ) (k : Box (List (Line T)) A) (ks : List (Box (List (Line T)) A)) → has_row q (below p (k ∷ ks)) ≡ (has_row q k.value || has_row q (below p ks))
 has-below q p k ks = has-append q (hang p k.value) (below p ks) ∙ ap (λ b. b || has_row q (below p ks)) (has-hang q p k.value)
-
--- whether an id is there does not depend on what the rows hang below
-pub has-shift : {T A : Type 0} (q p r : ℕ) (ks : List (Box (List (Line T)) A)) → has_row q (below p ks) ≡ has_row q (below r ks)
-has-shift q p r [] = refl
-has-shift q p r (k ∷ ks) = has-below q p k ks ∙ ap (λ b. has_row q k.value || b) (has-shift q p r ks) ∙ sym (has-below q r k ks)
 
 pub has-look : {X : Type 0} (q : ℕ) (es : List (ℕ × X)) → has_row q es ≡ is_some (look q es)
 has-look q [] = refl
@@ -126,33 +121,4 @@ put-hang q p h [] = refl
 put-hang q p h (e ∷ es) = elim (cases_Bool (q == e.0)) [
   | inl s ↦ rw s refl
   | inr s ↦ rw s (ap (λ l. (e.0, hung p e.1) ∷ l) (put-hang q p h es))
-]
-
-pub put-absent : {T : Type 0} (q : ℕ) (h : Option T) (es : List (Line T)) → has_row q es ≡ false → put_at q h es ≡ es
-put-absent q h [] n = refl
-put-absent q h (e ∷ es) n = elim (cases_Bool (q == e.0)) [
-  | inl s ↦ absurd (let y : has_row q (e ∷ es) ≡ true = rw s refl in cc)
-  | inr s ↦ rw s (ap (λ l. e ∷ l) (put-absent q h es (rw s at n)))
-]
-
-pub top-put : {T : Type 0} (q : ℕ) (h : Option T) (es : List (Line T)) → top (put_at q h es) ≡ top es
-top-put q h [] = refl
-top-put q h (e ∷ es) = elim (cases_Bool (q == e.0)) [ inl s ↦ rw s refl | inr s ↦ rw s refl ]
-
-pub taken-append : {T : Type 0} (q : ℕ) (h : Option T) (xs ys : List (Line T)) → taken q h (xs ++ ys) ≡ cond (has_row q xs) (taken q h xs) (taken q h ys)
-taken-append q h [] ys = refl
-taken-append q h (e ∷ xs) ys = elim (cases_Bool (q == e.0)) [
-  | inl s ↦ rw s refl
-  | inr s ↦ rw s (taken-append q h xs ys)
-]
-
-pub taken-hang : {T : Type 0} (q p : ℕ) (h : Option T) (es : List (Line T)) → taken q h (hang p es) ≡ taken q h es
-taken-hang q p h [] = refl
-taken-hang q p h (e ∷ es) = ap (cond (q == e.0) e.1.1) (taken-hang q p h es)
-
-pub taken-absent : {T : Type 0} (q : ℕ) (h : Option T) (es : List (Line T)) → has_row q es ≡ false → taken q h es ≡ h
-taken-absent q h [] n = refl
-taken-absent q h (e ∷ es) n = elim (cases_Bool (q == e.0)) [
-  | inl s ↦ absurd (let y : has_row q (e ∷ es) ≡ true = rw s refl in cc)
-  | inr s ↦ rw s (taken-absent q h es (rw s at n))
 ]

@@ -1,13 +1,11 @@
 -- The rows of a branch are those of one node and of all below it.
-use Rattle.std.proofs.Common.{◌≡◌, ℕ, None, Some, List, [], ◌∷◌, Box, map, refl, sym, ap, subst, ◌∙◌}
+use Rattle.std.proofs.Common.{None, Some, List, [], ◌∷◌, Box, map, sym, ap, subst}
 use Rattle.hv_tree.specs.declared.node.Branch.{Branch, ind-Branch, roll-Branch, fold-roll-Branch}
-use Rattle.hv_tree.specs.declared.node.Node.{Node, out-Node, fold-roll-Node}
+use Rattle.hv_tree.specs.declared.node.Node.{Node, fold-roll-Node}
 use Rattle.hv_tree.specs.Nest.{Line, IsNest}
 use Rattle.hv_tree.specs.Below.{below, AreNests}
 use Rattle.hv_tree.specs.Lines.{lines, node_lines, boxed_lines}
-use Rattle.hv_tree.specs.Put.{node_of}
 use Rattle.hv_tree.proofs.Kids.{IsNest-view}
-use Rattle.hv_tree.proofs.Levels.{lines-node}
 
 module _ {T A : Type 0} where
   held : (ys : List (Box ((b : Branch T A) × IsNest (lines b)) A)) → AreNests (map boxed_lines (map (λ y. record { ptr = y.ptr; alloc = y.alloc; value = y.value.0 }) ys))

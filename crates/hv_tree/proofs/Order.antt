@@ -44,9 +44,6 @@ named p x None rest h e = cc
 named p x (Some (None, c)) rest h e = inl cc
 named p x (Some (Some y, c)) rest h e = inr e
 
-none_or : {X : Type 0} (a b : Option X) → a ≡ None → option_or a b ≡ b
-none_or a b e = rw e refl
-
 -- among the rows of the children, a parent stands first
 pub falls-below : {T A : Type 0} (p : ℕ) (ks : List (Box (List (Line T)) A)) → AreNests ks → (q x : ℕ) → option_map (λ r. r.0) (look q (below p ks)) ≡ Some (Some x) → (x ≡ p) ⊎ (place x (below p ks) < place q (below p ks))
 falls-below p [] ns q x e = cc

@@ -1,9 +1,8 @@
 -- The way that an index tells leads to the node.
-use Rattle.std.proofs.lemmas.Bool.{cases_Bool, eqb-true, eqb-false, eq-eqb, ne_eqb, ltb-true, ltb-false}
+use Rattle.std.proofs.lemmas.Bool.{cases_Bool, eqb-true, eqb-false, ltb-true, ltb-false}
 use Rattle.std.proofs.Math.Dec.{ltb}
-use Rattle.std.proofs.Common.{◌≡◌, ◌≢◌, ℕ, zero, suc, ◌+◌, ◌<◌, ◌≤◌, ◌^◌, true, false, cond, ◌==◌, ◌⊎◌, inl, inr, Option, None, Some, List, [], ◌∷◌, Box, refl, sym, ap, subst, ◌∙◌, is_some, arith, add-one, length, map, get_or, slice_get, IfSome}
-use Rattle.std.specs.Box.{with_value}
-use Rattle.std.specs.Option.{option_map, option_and_then, option_or}
+use Rattle.std.proofs.Common.{◌≡◌, ◌≢◌, ℕ, zero, suc, ◌+◌, ◌<◌, ◌≤◌, true, false, ◌==◌, inl, inr, Option, None, Some, List, [], ◌∷◌, Box, refl, sym, ap, subst, ◌∙◌, is_some, arith, length, map, get_or, slice_get, IfSome}
+use Rattle.std.specs.Option.{option_map, option_and_then}
 use Rattle.std.specs.List.Sorted.{IsNonDecreasing}
 use Rattle.std.proofs.lemmas.List.{length-map}
 use Rattle.hv_tree.specs.Rows.{children_in}
@@ -13,12 +12,11 @@ use Rattle.hv_tree.specs.declared.node.Node.{Node, out-Node}
 use Rattle.hv_tree.specs.Nest.{Line, has_row, look, top, place, uses, AreDistinct, HasDepthIn, IsFound, IsNest}
 use Rattle.hv_tree.specs.Below.{below, AreNests}
 use Rattle.hv_tree.specs.Lines.{lines, node_lines, boxed_lines}
-use Rattle.hv_tree.specs.Put.{node_of, content_of, child_of, reach, put_far}
+use Rattle.hv_tree.specs.Put.{node_of, content_of, child_of, reach}
 use Rattle.hv_tree.specs.Index.{Agrees, IsIndexOf, IsPath, IsWay, IsLaid}
-use Rattle.hv_tree.specs.Way.{climb, climb_from, depth, depth_from, id_of, children_of, place_by, place_to, step, further, way, way_to, IsRising, AreRising, IsReached}
+use Rattle.hv_tree.specs.Way.{climb, climb_from, depth, depth_from, id_of, children_of, place_to, step, further, way, way_to, AreRising, IsReached}
 use Rattle.hv_tree.proofs.Climb.{climb-more, depth-more, depth-zero}
 use Rattle.hv_tree.proofs.Steps.{place-found, rising-child, slice-some}
-use Rattle.hv_tree.proofs.Ways.{same_far}
 use Rattle.hv_tree.proofs.Levels.{whole, top-lines, node-lines, top-node}
 use Rattle.hv_tree.proofs.Nested.{nest, nests, nest-node}
 use Rattle.hv_tree.proofs.Lifted.{lifted, at-mapped}
@@ -29,7 +27,7 @@ use Rattle.hv_tree.proofs.Child.{AreDistinct-child, above-row, off_own, length-c
 use Rattle.hv_tree.proofs.Gone.{AreNests-get, has-nest}
 use Rattle.hv_tree.proofs.Found.{IsFound-self, IsFound-child}
 use Rattle.hv_tree.proofs.Seen.{root_only, root_top}
-use Rattle.hv_tree.proofs.Toward.{IsIn, start, same_child, not_lost, arrived, climbs, climbs-child, falls, climbed, path, way-child, way-there, agrees_all, at_top, over, has-over, lower}
+use Rattle.hv_tree.proofs.Toward.{IsIn, start, same_child, not_lost, arrived, climbs, climbs-child, falls, climbed, path, way-child, agrees_all, at_top, over, has-over, lower}
 
 -- how deep a row is, by the climb
 module _ {T : Type 0} (up : ℕ → Option ℕ) (es : List (Line T)) (n : IsNest es) (f : IsIndexOf es up) where

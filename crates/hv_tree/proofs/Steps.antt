@@ -1,15 +1,14 @@
 -- The way down to a node, in two parts and one step between.
-use Rattle.std.proofs.Common.{◌≡◌, ◌≢◌, ℕ, zero, suc, ◌+◌, ◌<◌, ◌≤◌, ◌==◌, true, false, cond, inl, inr, Option, None, Some, List, [], ◌∷◌, ◌++◌, Box, length, get_or, slice_get, refl, sym, ap, ◌∙◌, arith, eq-eqb}
+use Rattle.std.proofs.Common.{◌≡◌, ◌≢◌, ℕ, zero, suc, ◌+◌, ◌<◌, ◌≤◌, ◌==◌, false, inl, inr, Option, None, Some, List, [], ◌∷◌, ◌++◌, Box, length, get_or, slice_get, refl, sym, ap, ◌∙◌, arith, eq-eqb}
 use Rattle.std.specs.List.{All}
 use Rattle.std.specs.List.Sorted.{IsNonDecreasingBy}
 use Rattle.std.specs.Option.{option_map, option_and_then}
-use Rattle.std.proofs.lemmas.Bool.{cases_Bool, ne_eqb, eqb-true, ltb-true, ltb-false}
+use Rattle.std.proofs.lemmas.Bool.{cases_Bool, ne_eqb, ltb-true, ltb-false}
 use Rattle.std.proofs.Math.Dec.{ltb}
 use Rattle.hv_tree.specs.declared.node.Branch.{Branch}
-use Rattle.hv_tree.specs.declared.node.Node.{Node, out-Node}
+use Rattle.hv_tree.specs.declared.node.Node.{Node}
 use Rattle.hv_tree.specs.Put.{node_of, child_of, reach}
 use Rattle.hv_tree.specs.Way.{id_of, children_of, place_by, place_to, step, further, way, IsRising, AreRising}
-use Rattle.hv_tree.proofs.Lists.{get_or_any}
 use Rattle.hv_tree.proofs.Ways.{reach_two}
 
 pub none-past : {X : Type 0} (xs : List X) (i : ℕ) → length xs ≤ i → slice_get xs i ≡ None

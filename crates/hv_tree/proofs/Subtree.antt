@@ -40,18 +40,18 @@ module _ {T : Type 0} (f : T → T) (part : ℕ → Bool) where
   length-edited [] = refl
   length-edited (e ∷ es) = omega (arith, length-edited es)
 
-IsFilled-edited : {T : Type 0} (f : T → T) (b : Bool) (x : ℕ) (o : Option (Option ℕ × Option T)) → IsFilled None x o → IsFilled None x (option_map (edited_line f b) o)
-IsFilled-edited f b x None h = tt
-IsFilled-edited f b x (Some (p, None)) h = cc
-IsFilled-edited f true x (Some (p, Some c)) h = refl
-IsFilled-edited f false x (Some (p, Some c)) h = refl
+IsFilled-edited : {T : Type 0} (f : T → T) (b : Bool) (o : Option (Option ℕ × Option T)) → IsFilled o → IsFilled (option_map (edited_line f b) o)
+IsFilled-edited f b None h = tt
+IsFilled-edited f b (Some (p, None)) h = cc
+IsFilled-edited f true (Some (p, Some c)) h = refl
+IsFilled-edited f false (Some (p, Some c)) h = refl
 
-filled-edited : {T : Type 0} (f : T → T) (b : Bool) (x : ℕ) (o : Option (Option ℕ × Option T)) → filled None x (option_map (edited_line f b) o) ≡ option_map (edited_row f b) (filled None x o)
-filled-edited f b x None = refl
-filled-edited f true x (Some (p, None)) = refl
-filled-edited f false x (Some (p, None)) = refl
-filled-edited f true x (Some (p, Some c)) = refl
-filled-edited f false x (Some (p, Some c)) = refl
+filled-edited : {T : Type 0} (f : T → T) (b : Bool) (o : Option (Option ℕ × Option T)) → filled (option_map (edited_line f b) o) ≡ option_map (edited_row f b) (filled o)
+filled-edited f b None = refl
+filled-edited f true (Some (p, None)) = refl
+filled-edited f false (Some (p, None)) = refl
+filled-edited f true (Some (p, Some c)) = refl
+filled-edited f false (Some (p, Some c)) = refl
 
 above_edited : {C : Type 0} (g : C → C) (o : Option (Option ℕ × C)) → option_map (λ (r : Option ℕ × C). r.0) (option_map {T = Option ℕ × C} {U = Option ℕ × C} (λ r. (r.0, g r.1)) o) ≡ option_map (λ r. r.0) o
 above_edited g None = refl
@@ -61,9 +61,9 @@ parent_edited : {C : Type 0} (g : C → C) (o : Option (Option ℕ × C)) → op
 parent_edited g None = refl
 parent_edited g (Some r) = refl
 
--- the map that rows are seen as, where no content is lent
+-- the map that rows are seen as
 abbrev pub shown : {T : Type 0} → List (Line T) → Rows T
-shown es = from_entries (full None es)
+shown es = from_entries (full es)
 
 unedited : {T : Type 0} (f : T → T) (o : Option (Row T)) → option_map (edited_row f false) o ≡ o
 unedited f None = refl
@@ -73,15 +73,14 @@ unedited f (Some r) = refl
 pub index-edited : {T : Type 0} {f : T → T} {id : ℕ} {es new : List (Line T)} (up : ℕ → Option ℕ) → IsEditedFrom f id es new → IsIndexOf es up → IsIndexOf new up
 index-edited {f = f} {es = es} up w known x = known x ∙ (rw (w.is, look-edited f w.part x es) (sym (parent_edited (λ o. cond (w.part x) (option_map f o) o) (look x es))))
 
-module _ {T : Type 0} {f : T → T} {id : ℕ} {es new : List (Line T)} {n : ℕ} {m : Rows T} (s : IsShown None es n m) (w : IsEditedFrom f id es new) (nest : IsNest new) where
+module _ {T : Type 0} {f : T → T} {id : ℕ} {es new : List (Line T)} {n : ℕ} {m : Rows T} (s : IsShown es n m) (w : IsEditedFrom f id es new) (nest : IsNest new) where
   -- the rows are seen as some map
-  pub edited-shown : IsShown None new n (shown new)
+  pub edited-shown : IsShown new n (shown new)
   edited-shown = record {
     sound = record {
       distinct = λ x. rw (w.is, uses-edited f w.part x es) (s.sound.distinct x);
       nest = nest;
-      whole = λ x. rw (w.is, look-edited f w.part x es) (IsFilled-edited f (w.part x) x (look x es) (s.sound.whole x));
-      slot = tt;
+      whole = λ x. rw (w.is, look-edited f w.part x es) (IsFilled-edited f (w.part x) (look x es) (s.sound.whole x));
       counted = rw (w.is, length-edited f w.part es) s.sound.counted;
       fits = rw (w.is, length-edited f w.part es) s.sound.fits;
       few = λ x. rw (w.is, kids-edited f w.part x es) (s.sound.few x);
@@ -90,7 +89,7 @@ module _ {T : Type 0} {f : T → T} {id : ℕ} {es new : List (Line T)} {n : ℕ
   }
 
   get-edited : (x : ℕ) → get (shown new) x ≡ option_map (edited_row f (w.part x)) (get m x)
-  get-edited x = get-seen edited-shown x ∙ (rw (w.is, look-edited f w.part x es, get-seen s x) (filled-edited f (w.part x) x (look x es)))
+  get-edited x = get-seen edited-shown x ∙ (rw (w.is, look-edited f w.part x es, get-seen s x) (filled-edited f (w.part x) (look x es)))
 
   -- what has a chain to the id is in the part
   in_part : (k x : ℕ) → LeadsUp (parent m) x id k → w.part x ≡ true

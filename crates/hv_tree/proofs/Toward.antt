@@ -1,8 +1,8 @@
 -- The way from an id up to the child that it is below.
 use Rattle.std.proofs.lemmas.Bool.{cases_Bool, eqb-true, eqb-false, eq-eqb}
-use Rattle.std.proofs.Common.{◌≡◌, ◌≢◌, ℕ, zero, suc, ◌<◌, ◌≤◌, true, false, ◌==◌, ◌||◌, ◌⊎◌, inl, inr, Option, None, Some, Result, Ok, Err, OnOk, OnErr, IfSome, IfNone, List, [], ◌∷◌, Box, refl, sym, ap, ◌∙◌, is_some, arith, length, get_or}
+use Rattle.std.proofs.Common.{◌≡◌, ◌≢◌, ℕ, zero, suc, ◌<◌, ◌≤◌, true, false, ◌==◌, ◌||◌, ◌⊎◌, inl, inr, Option, None, Some, IfSome, IfNone, List, [], ◌∷◌, Box, refl, sym, ap, ◌∙◌, is_some, arith, length, get_or}
 use Rattle.std.specs.Option.{option_map, option_and_then}
-use Rattle.hv_tree.specs.Nest.{Line, has_row, look, uses, top, place, hang, AreDistinct, IsNest}
+use Rattle.hv_tree.specs.Nest.{Line, has_row, look, uses, top, place, hang, IsNest}
 use Rattle.hv_tree.specs.Below.{below, AreNests}
 use Rattle.hv_tree.specs.Index.{IsIndexOf, Agrees, IsWay, IsPath}
 use Rattle.hv_tree.proofs.Lists.{get_or_any}
@@ -156,10 +156,6 @@ has-indexed {T = T} q es up n f = ap (λ o. q == top es || is_some o) (f q) ∙ 
     by (Some (None, c)) e = rw (root_only q es n.topped (ap (option_map (λ r. r.0)) e), eq-eqb (top es) (top es) refl) refl
     by (Some (Some p, c)) e = or_right (q == top es) refl
 
--- the way to an id that is there
-pub way-there : {T : Type 0} (q : ℕ) (es : List (Line T)) (up : ℕ → Option ℕ) → AreDistinct es → IsIndexOf es up → has_row q es ≡ true → IsWay up q es
-way-there q es up d f has = record { distinct = d; agrees = agrees_all es up f; has = has }
-
 -- the depth of a row, by the climb
 module _ {T : Type 0} (up : ℕ → Option ℕ) (es : List (Line T)) (n : IsNest es) (f : IsIndexOf es up) (at : ℕ) (has : has_row at es ≡ true) where
   above_none : (o : Option (Option ℕ × Option T)) → is_some o ≡ true → option_and_then (λ r. r.0) o ≡ None → option_map (λ r. r.0) o ≡ Some None
@@ -181,15 +177,6 @@ module _ {T : Type 0} (up : ℕ → Option ℕ) (es : List (Line T)) (n : IsNest
 
   pub lower : (r : ℕ) → up at ≡ Some r → place r es < place at es
   lower r e = n.ordered at r (over r e)
-
--- what follows on one side of an outcome
-pub on_ok : {X Y A B : Type 0} (r : Result X Y) → (A → B) → OnOk r A → OnOk r B
-on_ok (Ok x) f h = f h
-on_ok (Err e) f h = tt
-
-pub on_err : {X Y A B : Type 0} (r : Result X Y) → (A → B) → OnErr r A → OnErr r B
-on_err (Ok x) f h = tt
-on_err (Err e) f h = f h
 
 pub if_some : {X : Type 0} {P Q : X → Type 0} (o : Option X) → ((x : X) → P x → Q x) → IfSome o P → IfSome o Q
 if_some None f h = tt

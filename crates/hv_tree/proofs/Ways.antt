@@ -1,5 +1,5 @@
 -- What is put in where a way leads.
-use Rattle.std.proofs.Common.{◌≡◌, ℕ, zero, suc, ◌<◌, ◌≤◌, Option, None, Some, List, [], ◌∷◌, ◌++◌, length, slice_get, slice_set, Vec, Box, refl, sym, ap, ◌∙◌}
+use Rattle.std.proofs.Common.{◌≡◌, ℕ, ◌≤◌, Option, None, Some, List, [], ◌∷◌, ◌++◌, length, slice_get, slice_set, Vec, Box, refl, sym, ap, ◌∙◌}
 use Rattle.std.proofs.lemmas.Option.{get_or_from_slice_get}
 use Rattle.std.proofs.lemmas.List.{set-get_or}
 use Rattle.std.specs.Option.{option_map, option_and_then}
@@ -8,7 +8,7 @@ use Rattle.std.specs.Box.{with_value}
 use mathlib.Core.HLevel.{is_prop→PathP}
 use native.Mathlib.Nat.{ℕ_set}
 use native.Mathlib.Bridge.{le_prop}
-use Rattle.hv_tree.specs.declared.node.Branch.{Branch, out-Branch, roll-Branch, roll-out-Branch}
+use Rattle.hv_tree.specs.declared.node.Branch.{Branch, roll-out-Branch}
 use Rattle.hv_tree.specs.declared.node.Node.{Node, out-Node, roll-Node, roll-out-Node}
 use Rattle.hv_tree.specs.Put.{node_of, put_node, child_of, put_in, put_child, reach, below, put_far}
 
@@ -59,18 +59,6 @@ module _ {T A : Type 0} where
       by : ((k : Branch T A) → reach is k ≡ Some n → put_far is k n ≡ k) → (o : Option (Branch T A)) → child_of (node_of b) i ≡ o → option_and_then (reach is) o ≡ Some n → put_node b (put_child (node_of b) i (below b (λ k. put_far is k n) o)) ≡ b
       by below-is None at h = cc
       by below-is (Some k) at h = ap (λ m. put_node b (put_child (node_of b) i m)) (below-is k h) ∙ ap (put_node b) (same_child (node_of b) i k at) ∙ same_node b
-
-  -- one step, and the rest of a way
-  pub far_step : (i : ℕ) (is : List ℕ) (b k : Branch T A) (w : Node T A) → child_of (node_of b) i ≡ Some k
-      → put_far (i ∷ is) b w ≡ put_node b (put_child (node_of b) i (put_far is k w))
-  far_step i is b k w e = ap (λ o. put_node b (put_child (node_of b) i (below b (λ m. put_far is m w) o))) e
-
-  pub reach_step : (i : ℕ) (is : List ℕ) (b k : Branch T A) → child_of (node_of b) i ≡ Some k → reach (i ∷ is) b ≡ reach is k
-  reach_step i is b k e = ap (option_and_then (reach is)) e
-
-  -- a child is put back as it was, in its branch
-  pub same_below : (i : ℕ) (b k : Branch T A) → child_of (node_of b) i ≡ Some k → put_node b (put_child (node_of b) i k) ≡ b
-  same_below i b k e = ap (put_node b) (same_child (node_of b) i k e) ∙ same_node b
 
   -- a way in two parts
   pub far_two : (is js : List ℕ) (i : ℕ) (b : Branch T A) (n : Node T A) (k : Branch T A) (w : Node T A) → reach is b ≡ Some n → child_of n i ≡ Some k

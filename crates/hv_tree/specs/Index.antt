@@ -42,6 +42,6 @@ pub record IsLaid {T : Type 0} (es : List (Line T)) (up : ℕ → Option ℕ) : 
 
 -- what a tree keeps: sound rows, an index of just their parents, and children that rise
 pub record IsKept {T : Type 0} (es : List (Line T)) (count : ℕ) (up : ℕ → Option ℕ) : Type 0 where
-  pub sound : IsSound None es count
+  pub sound : IsSound es count
   pub indexed : IsIndexOf es up
   pub rising : (q : ℕ) → IsNonDecreasing (children_in q es)

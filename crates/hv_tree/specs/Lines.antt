@@ -1,5 +1,5 @@
 -- The rows of a branch, in preorder: a parent comes before its children.
-use Rattle.std.specs.Prelude.{◌≡◌, ℕ, None, Some, List, ◌∷◌, Box}
+use Rattle.std.specs.Prelude.{None, Some, List, ◌∷◌, Box}
 use Rattle.hv_tree.specs.declared.node.Branch.{Branch, fold-Branch}
 use Rattle.hv_tree.specs.declared.node.Node.{Node, fold-Node}
 use Rattle.hv_tree.specs.Nest.{Line}
@@ -15,6 +15,3 @@ module _ {T A : Type 0} where
   -- a box, seen as the rows of what is in it
   abbrev pub boxed_lines : Box (Branch T A) A → Box (List (Line T)) A
   boxed_lines b = record { ptr = b.ptr; alloc = b.alloc; value = lines b.value }
-
-  abbrev pub IsFirstId : ℕ → Branch T A → Type 0
-  IsFirstId q b = (e : Line T) × ((es : List (Line T)) × ((lines b ≡ e ∷ es) × (e.0 ≡ q)))

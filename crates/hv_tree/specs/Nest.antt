@@ -3,7 +3,7 @@ use Rattle.std.specs.Prelude.{◌≡◌, ℕ, zero, suc, ◌+◌, ◌≤◌, ◌
 use Rattle.std.specs.Option.{option_or, option_map}
 use Rattle.hv_tree.specs.Rows.{children_in}
 
--- a node's id, its parent where that is in the list, and its content unless that is lent
+-- a node's id, its parent where that is in the list, and its content, which each row of a tree has
 abbrev pub Line : Type 0 → Type 0
 Line T = ℕ × (Option ℕ × Option T)
 
@@ -91,11 +91,6 @@ pub record IsFound {T : Type 0} (q : ℕ) (es sub : List (Line T)) : Type 0 wher
 abbrev pub put_at : {T : Type 0} → ℕ → Option T → List (Line T) → List (Line T)
 put_at q h [] = []
 put_at q h (e ∷ es) = cond (q == e.0) ((e.0, (e.1.0, h)) ∷ es) (e ∷ put_at q h es)
-
--- the content of the first row with the id q, or h where there is none
-abbrev pub taken : {T : Type 0} → ℕ → Option T → List (Line T) → Option T
-taken q h [] = h
-taken q h (e ∷ es) = cond (q == e.0) e.1.1 (taken q h es)
 
 -- new is old with the rows es below p, somewhere
 abbrev pub IsGrownBy : {T : Type 0} → ℕ → List (Line T) → List (Line T) → List (Line T) → Type 0

@@ -3,7 +3,8 @@ use Rattle.std.specs.List.{remove}
 use Rattle.std.specs.Prelude.{◌≡◌, ℕ, zero, suc, ◌+◌, ◌<◌, ◌≤◌, ◌==◌, cond, length, List, [], ◌∷◌, Option, None, Some, Box, get_or}
 use Rattle.hv_tree.specs.declared.node.Branch.{Branch}
 use Rattle.hv_tree.specs.declared.node.Node.{Node, out-Node}
-use Rattle.hv_tree.specs.declared.index.TheConstants.{MOST}
+use Rattle.hv_tree.specs.declared.index.TheConstants.{MOST, NOTED}
+use Rattle.hv_tree.specs.declared.index.Climb.{Climb}
 use Rattle.hv_tree.specs.Nest.{IsFound}
 use Rattle.hv_tree.specs.Lines.{lines, node_lines}
 use Rattle.hv_tree.specs.Put.{node_of, child_of, content_of, reach}
@@ -26,6 +27,19 @@ depth_from f (Some p) = f p + 1
 unfoldable pub depth : (ℕ → Option ℕ) → ℕ → ℕ → ℕ
 depth up zero at = 0
 depth up (suc n) at = depth_from (depth up n) (up at)
+
+abbrev pub above_from : (ℕ → List ℕ) → Option ℕ → List ℕ
+above_from f None = []
+above_from f (Some p) = p ∷ f p
+
+-- the ids above at, from its parent up, so many at most
+unfoldable pub above : (ℕ → Option ℕ) → ℕ → ℕ → List ℕ
+above up zero at = []
+above up (suc n) at = above_from (above up n) (up at)
+
+-- the climb notes the ids above its own
+abbrev pub IsClimb : (ℕ → Option ℕ) → Climb → Type 0
+IsClimb up c = c.parents.items ≡ above up NOTED c.id
 
 module _ {T A : Type 0} where
   abbrev pub id_of : Branch T A → ℕ

@@ -9,10 +9,10 @@ ghost use Rattle.hv_tree.specs.contracts.node.Branch.{the_row as branch_row};
 ghost use Rattle.hv_tree.specs.contracts.node.Node.{the_row as node_row};
 ghost use Rattle.hv_tree.specs.declared.index.TheConstants.{MOST};
 ghost use Rattle.hv_tree.specs.Index.{parents};
-ghost use Rattle.hv_tree.specs.Put.{child_of, put_far, reach};
-ghost use Rattle.hv_tree.specs.Way.{way, step, IsRising, AreRising};
+ghost use Rattle.hv_tree.specs.Put.{child_of, put_child, put_far, reach};
+ghost use Rattle.hv_tree.specs.Way.{way, step, IsClimb, IsRising, AreRising};
 
-use crate::index::{Index, child_toward};
+use crate::index::{Climb, Index};
 use crate::node::{Branch, Node, search_child};
 use std::alloc::Allocator;
 
@@ -21,20 +21,21 @@ pub(crate) trait Toward {
     // How many steps it can go.
     ghost most: { ℕ };
 
-    /// The node that is so many steps down on the way to the one with the id.
+    /// The node that is so many steps down on the way to the one with the climb's id.
     fn toward<'n, T, A: Allocator>(
         branch: &'n mut Branch<T, A>,
         index: &Index<A>,
-        id: u64,
+        climb: &Climb,
         steps: u64,
     ) -> Option<&'n mut Node<T, A>>
         requires rising { AreRising branch.old }
+        requires climb { IsClimb (parents index.now) climb.now }
         requires few { steps ≤ most }
         ensures* writes_back { sem 𝓛 (LendsIf (branch_row T.row A.row A.Allocator)
             (node_row T.row A.row A.Allocator) branch.entry result
-            (put_far (way (parents index.now) MOST id steps branch.old) branch.old) branch.old) }
+            (put_far (way (parents index.now) MOST climb.now.id steps branch.old) branch.old) branch.old) }
         ensures value { option_copied_mut result
-            ≡ reach (way (parents index.now) MOST id steps branch.old) branch.old };
+            ≡ reach (way (parents index.now) MOST climb.now.id steps branch.old) branch.old };
 }
 
 /// Goes no step.
@@ -46,7 +47,7 @@ impl Toward for Stay {
     fn toward<'n, T, A: Allocator>(
         branch: &'n mut Branch<T, A>,
         index: &Index<A>,
-        id: u64,
+        climb: &Climb,
         steps: u64,
     ) -> Option<&'n mut Node<T, A>> {
         Some(branch.node_mut())
@@ -62,31 +63,49 @@ impl<D: Toward> Toward for Twice<D> {
     fn toward<'n, T, A: Allocator>(
         branch: &'n mut Branch<T, A>,
         index: &Index<A>,
-        id: u64,
+        climb: &Climb,
         steps: u64,
     ) -> Option<&'n mut Node<T, A>> {
         if steps == 0 {
             return Some(branch.node_mut());
         }
         let first = steps / 2;
-        let above = D::toward(branch, index, id, first)?;
-        let at = place_toward(above, index, id)?;
-        let child = above.child_mut(at)?;
-        D::toward(child, index, id, steps - first - 1)
+        let above = D::toward(branch, index, climb, first)?;
+        let child = step_toward(above, index, climb)?;
+        D::toward(child, index, climb, steps - first - 1)
     }
 }
 
-/// The place of the child that is the node with the id, or has it below.
+// The child that is the node with the climb's id, or has it below.
+fn step_toward<'n, T, A: Allocator>(
+    node: &'n mut Node<T, A>,
+    index: &Index<A>,
+    climb: &Climb,
+) -> Option<&'n mut Branch<T, A>>
+    requires rising { IsRising node.old }
+    requires climb { IsClimb (parents index.now) climb.now }
+    ensures* writes_back { sem 𝓛 (LendsIf (node_row T.row A.row A.Allocator)
+        (branch_row T.row A.row A.Allocator) node.entry result
+        (put_child node.old (step (parents index.now) MOST climb.now.id node.old)) node.old) }
+    ensures value { option_copied_mut result
+        ≡ child_of node.old (step (parents index.now) MOST climb.now.id node.old) }
+{
+    let at = place_toward(node, index, climb)?;
+    node.child_mut(at)
+}
+
+/// The place of the child that is the node with the climb's id, or has it below.
 pub(crate) fn place_toward<T, A: Allocator>(
     node: &Node<T, A>,
     index: &Index<A>,
-    id: u64,
+    climb: &Climb,
 ) -> Option<usize>
-    requires { IsRising node.now }
-    ensures some { IfSome result (λ i. i ≡ step (parents index.now) MOST id node.now) }
-    ensures none { IfNone result (child_of node.now (step (parents index.now) MOST id node.now) ≡ None) }
+    requires rising { IsRising node.now }
+    requires climb { IsClimb (parents index.now) climb.now }
+    ensures some { IfSome result (λ i. i ≡ step (parents index.now) MOST climb.now.id node.now) }
+    ensures none { IfNone result (child_of node.now (step (parents index.now) MOST climb.now.id node.now) ≡ None) }
 {
-    let next = child_toward(index, node.id, id)?;
+    let next = climb.child_toward(index, node.id)?;
     match search_child(&node.children, next) {
         Ok(at) => Some(at),
         Err(_) => None,

@@ -13,7 +13,7 @@ ghost use Rattle.hv_tree.specs.Lines.{lines};
 
 use crate::change::{edit_below, graft, prune, reserve};
 use crate::edit::Edit;
-use crate::index::{Index, MOST, depth_in, forget, parent_in};
+use crate::index::{Climb, Index, MOST, forget, parent_in};
 use crate::look_up::{content_at, is_there, seek};
 use crate::node::Branch;
 use crate::refused::{InsertRefused, ReserveRefused};
@@ -49,7 +49,7 @@ impl<T, A: Allocator> Model for IdTree<T, A> {
     ghost use Rattle.hv_tree.specs.Index.{parents, IsKept};
     ghost use Rattle.hv_tree.specs.Lines.{lines};
 
-    ghost view = { λ a. map.from_entries (full None (lines a.root)) };
+    ghost view = { λ a. map.from_entries (full (lines a.root)) };
 
     ghost invariant = { λ a. IsKept (lines a.root) a.count (parents a.index) };
 }
@@ -61,7 +61,7 @@ impl<T, A: Allocator> IdTree<T, A> {
         ensures none { result ≡ false → children self.now id ≡ [] }
         ensures tree { IsTree self.now }
     {
-        is_there(&self.root, &self.index, id)
+        is_there(&self.root, id, parent_in(&self.index, id))
     }
 
     /// The content of a node.
@@ -88,10 +88,11 @@ impl<T, A: Allocator> IdTree<T, A> {
         ensures depth { IfSome result (HasDepth self.now id) }
         ensures tree { IsTree self.now }
     {
-        if !self.contains(id) {
+        let climb = Climb::new(&self.index, id);
+        if !is_there(&self.root, id, climb.parent_of(&self.index, id, 0)) {
             return None;
         }
-        Some(depth_in(&self.index, id))
+        Some(climb.depth(&self.index))
     }
 
     /// How many children a node has, or `None` where no node has the id.
@@ -198,6 +199,24 @@ impl<T: Drop, A: Allocator + Copy> IdTree<T, A> {
     }
 }
 
+impl<T, A: Allocator> IdTree<T, A> {
+    // Hands the content on where a node may be put below the parent with this id.
+    fn admit(&self, parent: u64, id: u64, content: T) -> Result<T, InsertRefused<T>>
+        ensures content { IfOk result (λ c. c ≡ content) }
+        ensures has_parent { OnOk result (map.contains_key self.now parent ≡ true) }
+        ensures is_free { OnOk result (map.contains_key self.now id ≡ false) }
+        ensures refused { IfErr result (Refuses self.now parent id content) }
+    {
+        if !self.contains(parent) {
+            return Err(InsertRefused::NoParent(content));
+        }
+        if self.contains(id) {
+            return Err(InsertRefused::IdTaken(content));
+        }
+        Ok(content)
+    }
+}
+
 impl<T: Drop, A: Allocator + Clone> IdTree<T, A> {
     /// Puts a new node below `parent`, or hands its content back and leaves the tree as it was.
     pub fn insert_child(&mut self, parent: u64, id: u64, content: T) -> Result<(), InsertRefused<T>>
@@ -208,12 +227,7 @@ impl<T: Drop, A: Allocator + Clone> IdTree<T, A> {
         ensures refused { IfErr result (Refuses self.old parent id content) }
         ensures unchanged { OnErr result (self.new ≡ self.old) }
     {
-        if !self.contains(parent) {
-            return Err(InsertRefused::NoParent(content));
-        }
-        if self.contains(id) {
-            return Err(InsertRefused::IdTaken(content));
-        }
+        let content = self.admit(parent, id, content)?;
         let count = self.count + 1;
         if MOST <= count {
             return Err(InsertRefused::Memory(content));

@@ -1,15 +1,9 @@
-use Rattle.std.proofs.Common.{◌≡◌, ◌≤◌, ℕ, List, ◌∙◌, true, false, refl, sym, ap, subst, length, arith}
-use Rattle.std.specs.List.{insert, remove}
-use Rattle.std.specs.List.Sorted.{IsNonDecreasing, IsNonDecreasingBy}
-use Rattle.hv_tree.specs.Rows.{children_in}
-use Rattle.hv_tree.specs.declared.node.Node.{out-Node, roll-Node, out-roll-Node}
+use Rattle.std.proofs.Common.{subst}
 use Rattle.hv_tree.specs.Index.{parents}
 use Rattle.hv_tree.specs.Lines.{lines}
 use Rattle.hv_tree.specs.Edited.{IsEditedFrom}
-use Rattle.hv_tree.specs.Nest.{has_row, AreDistinct, IsGrownBy, IsWithout}
-use Rattle.hv_tree.specs.Put.{content_of, put_far}
-use Rattle.hv_tree.specs.Way.{id_of, children_of, way_to, IsReached}
-use Rattle.hv_tree.proofs.Steps.{rising-non_decreasing}
+use Rattle.hv_tree.specs.Put.{put_far}
+use Rattle.hv_tree.specs.Way.{way_to, IsReached}
 use Rattle.hv_tree.proofs.Changes.{lines-edited}
 use Rattle.hv_tree.proofs.change.edit_below.Goals as goal
 

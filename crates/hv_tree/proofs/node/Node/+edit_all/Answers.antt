@@ -2,12 +2,11 @@ use Rattle.std.proofs.Common.{true, ◌≡◌, ◌<◌, ◌≤◌, ◌++◌, ◌
 use Rattle.std.specs.Box.{with_value}
 use Rattle.std.specs.Vec.{with_item}
 use Rattle.std.proofs.lemmas.List.{get_or-set_other, length-map}
-use Rattle.hv_tree.specs.declared.node.Branch.{roll-Branch}
 use Rattle.hv_tree.specs.declared.node.Node.{out-Node, roll-Node, out-roll-Node}
 use Rattle.hv_tree.specs.Below.{below}
 use Rattle.hv_tree.specs.Edited.{edited_in}
 use Rattle.hv_tree.specs.Lines.{lines, node_lines, boxed_lines}
-use Rattle.hv_tree.specs.Put.{node_of, content_of, put_node}
+use Rattle.hv_tree.specs.Put.{node_of, put_node}
 use Rattle.hv_tree.specs.Way.{children_of}
 use Rattle.hv_tree.proofs.Lists.{take_whole}
 use Rattle.hv_tree.proofs.Levels.{lines-node, lines-put, node-lines}

@@ -1,10 +1,9 @@
-use Rattle.std.proofs.Common.{◌≡◌, ◌∷◌, ◌∙◌, ◌++◌, ◌≤◌, refl, sym, ap, take, map, length, append_assoc, arith}
+use Rattle.std.proofs.Common.{◌≡◌, ◌∷◌, ◌∙◌, ◌++◌, ◌≤◌, sym, ap, take, map, length, append_assoc, arith}
 use Rattle.std.proofs.lemmas.List.{length-map}
 use Rattle.hv_tree.specs.declared.node.Node.{out-Node}
 use Rattle.hv_tree.specs.Below.{below}
 use Rattle.hv_tree.specs.Lines.{lines, node_lines, boxed_lines}
 use Rattle.hv_tree.specs.Put.{node_of}
-use Rattle.hv_tree.specs.Way.{children_of}
 use Rattle.hv_tree.proofs.Lists.{take_whole}
 use Rattle.hv_tree.proofs.Levels.{lines-node, node-lines}
 use Rattle.hv_tree.proofs.Changes.{at-box}

@@ -1,4 +1,4 @@
-use Rattle.std.proofs.Common.{◌≡◌, ◌<◌, ◌≤◌, ◌∷◌, [], None, Some, length, get_or, refl, sym, ap, ◌∙◌, arith}
+use Rattle.std.proofs.Common.{◌≡◌, ◌<◌, ◌≤◌, [], length, get_or, refl, sym, ap, ◌∙◌, arith}
 use Rattle.hv_tree.specs.declared.node.Node.{out-Node, out-roll-Node}
 use Rattle.hv_tree.specs.Put.{node_of, content_of}
 use Rattle.hv_tree.specs.Way.{id_of, children_of}
