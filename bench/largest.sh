@@ -3,8 +3,8 @@
 # 255 elements; messages that are posted, read and cleared; partitions that are made and deleted; and lines of which each names
 # another processor, 64 in a phase. Beside time and memory it prints the instructions of an event, as valgrind counts them, which
 # are the same on every machine: those of the whole script less those of its first line. Of the first four kinds peak memory
-# should stay within that of one line, twice the script's bytes, and 64 bytes for each event and its output, and no event should
-# be refused. Of the last each is, since the processors aren't there.
+# should stay within that of one line and twenty times the script's bytes, and no event should be refused. Of the last each is,
+# since the processors aren't there.
 set -eu
 
 root=$(cd -- "$(dirname -- "${BASH_SOURCE[0]}")/.." && pwd)

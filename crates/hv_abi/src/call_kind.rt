@@ -63,6 +63,7 @@ pub const ALL_CALLS: [CallKind; 21] = [
 
 impl CallKind {
     /// The call with this code, or `None` where the profile has none.
+    // Inlined: calls for the own id in bench/embed.sh.
     #[inline(always)]
     pub fn of(code: u16) -> Option<CallKind>
         ensures kind { result ≡ kind_of code }
@@ -96,7 +97,6 @@ impl CallKind {
     }
 
     /// The call's row in the table.
-    #[inline(always)]
     pub fn row(self) -> CallRow
         ensures { result ≡ row_of self }
     {
@@ -133,7 +133,6 @@ impl CallKind {
     }
 
     /// Whether it is a rep call, one element of whose lists is served at a time.
-    #[inline(always)]
     pub fn is_rep(self) -> bool
         ensures { result ≡ (row_of self).rep }
     {

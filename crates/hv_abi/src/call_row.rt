@@ -45,7 +45,6 @@ impl CallRow {
     /// Whether a call with this row takes the input value: no reserved bit is set, the fast bit is set
     /// only where the row accepts it, a simple call has neither rep count nor start index, and a rep
     /// call starts below its count.
-    #[inline(always)]
     pub fn takes(self, rcx: u64) -> bool
         ensures { result ≡ is_input_valid self rcx }
     {

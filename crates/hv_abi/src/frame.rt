@@ -64,8 +64,8 @@ impl<A: Allocator> Frame<A> {
         self.check_as(CallKind::of(InputValue::read(self.rcx).call))
     }
 
-    /// The same where the call that the frame names, if it names one, is known. Inlined, since where the source
-    /// names the call its row is known, too.
+    /// The same where the call that the frame names, if it names one, is known.
+    // Inlined: calls for the own id in bench/embed.sh.
     #[inline(always)]
     pub fn check_as(&self, named: Option<CallKind>) -> Result<Shape, AbiFault>
         requires { call_of self.now ≡ named }
@@ -98,6 +98,7 @@ impl<A: Allocator> Frame<A> {
     }
 
     // Whether the lists of a call with this row may stand at their addresses.
+    // Inlined: calls for the own id in bench/embed.sh.
     #[inline(always)]
     fn places_lists(&self, row: CallRow) -> bool
         ensures { result ≡ are_lists_placed row self.now }

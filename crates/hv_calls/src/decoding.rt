@@ -25,8 +25,8 @@ pub struct Malformed;
 
 /// The call that a frame holds, with its parameters, or Malformed where one of them is so by itself.
 /// Bytes that the frame lacks at its end read as zero. The shape is to be this frame's, from
-/// [`Frame::check`]. It is marked as inlined for who knows the call by its name; the compiler does so unless that
-/// grows too large.
+/// [`Frame::check`].
+// Inlined: calls for the own id in bench/embed.sh.
 #[inline(always)]
 pub fn decode<'f, A: Allocator>(frame: &'f Frame<A>, shape: &Shape) -> Result<Call<'f>, Malformed>
     requires { IsShape frame.now shape.now }
@@ -39,7 +39,6 @@ pub fn decode<'f, A: Allocator>(frame: &'f Frame<A>, shape: &Shape) -> Result<Ca
 }
 
 // The place of the element at a start index, of a call with this row.
-#[inline(always)]
 fn element_at(row: CallRow, start: u16) -> usize
     ensures place { result ≡ row.input + start * row.input_element }
     ensures near { result < 2 ^ 32 }
@@ -48,6 +47,7 @@ fn element_at(row: CallRow, start: u16) -> usize
 }
 
 // The call of a frame, by the decoder of its own call.
+// Inlined: calls for the own id in bench/embed.sh.
 #[inline(always)]
 fn decode_named<'f, A: Allocator>(frame: &'f Frame<A>, shape: &Shape) -> Result<Call<'f>, Malformed>
     ensures { result ≡ decoded shape.now.kind (input_of frame.now shape.now.fast)
@@ -90,7 +90,6 @@ fn decode_named<'f, A: Allocator>(frame: &'f Frame<A>, shape: &Shape) -> Result<
     }
 }
 
-#[inline(always)]
 fn get_partition_property<A: Allocator>(frame: &Frame<A>, shape: &Shape) -> Call<'static>
     ensures { result ≡ call_in CallKind.GetPartitionProperty (input_of frame.now shape.now.fast) 0 }
 {
@@ -100,7 +99,6 @@ fn get_partition_property<A: Allocator>(frame: &Frame<A>, shape: &Shape) -> Call
     }
 }
 
-#[inline(always)]
 fn set_partition_property<A: Allocator>(frame: &Frame<A>, shape: &Shape) -> Call<'static>
     ensures { result ≡ call_in CallKind.SetPartitionProperty (input_of frame.now shape.now.fast) 0 }
 {
@@ -111,7 +109,6 @@ fn set_partition_property<A: Allocator>(frame: &Frame<A>, shape: &Shape) -> Call
     }
 }
 
-#[inline(always)]
 fn get_next_child_partition<A: Allocator>(frame: &Frame<A>, shape: &Shape) -> Call<'static>
     ensures { result ≡ call_in CallKind.GetNextChildPartition (input_of frame.now shape.now.fast) 0 }
 {
@@ -121,7 +118,6 @@ fn get_next_child_partition<A: Allocator>(frame: &Frame<A>, shape: &Shape) -> Ca
     }
 }
 
-#[inline(always)]
 fn deposit_memory<A: Allocator>(frame: &Frame<A>, shape: &Shape) -> Call<'static>
     ensures { result ≡ call_in CallKind.DepositMemory (input_of frame.now shape.now.fast)
         (place_of_element CallKind.DepositMemory shape.now.start) }
@@ -132,7 +128,6 @@ fn deposit_memory<A: Allocator>(frame: &Frame<A>, shape: &Shape) -> Call<'static
     }
 }
 
-#[inline(always)]
 fn create_vp<A: Allocator>(frame: &Frame<A>, shape: &Shape) -> Call<'static>
     ensures { result ≡ call_in CallKind.CreateVp (input_of frame.now shape.now.fast) 0 }
 {
@@ -142,7 +137,6 @@ fn create_vp<A: Allocator>(frame: &Frame<A>, shape: &Shape) -> Call<'static>
     }
 }
 
-#[inline(always)]
 fn delete_vp<A: Allocator>(frame: &Frame<A>, shape: &Shape) -> Call<'static>
     ensures { result ≡ call_in CallKind.DeleteVp (input_of frame.now shape.now.fast) 0 }
 {
@@ -152,7 +146,6 @@ fn delete_vp<A: Allocator>(frame: &Frame<A>, shape: &Shape) -> Call<'static>
     }
 }
 
-#[inline(always)]
 fn get_vp_registers<A: Allocator>(frame: &Frame<A>, shape: &Shape) -> Call<'static>
     ensures { result ≡ call_in CallKind.GetVpRegisters (input_of frame.now shape.now.fast)
         (place_of_element CallKind.GetVpRegisters shape.now.start) }
@@ -212,7 +205,6 @@ fn disconnect_port<A: Allocator>(
     })
 }
 
-#[inline(always)]
 fn post_message<'f, A: Allocator>(frame: &'f Frame<A>, shape: &Shape) -> Result<Call<'f>, Malformed>
     ensures { result ≡ decoded CallKind.PostMessage (input_of frame.now shape.now.fast) 0 }
 {
@@ -227,7 +219,6 @@ fn post_message<'f, A: Allocator>(frame: &'f Frame<A>, shape: &Shape) -> Result<
     })
 }
 
-#[inline(always)]
 fn signal_event<A: Allocator>(frame: &Frame<A>, shape: &Shape) -> Result<Call<'static>, Malformed>
     ensures { result ≡ decoded CallKind.SignalEvent (input_of frame.now shape.now.fast) 0 }
 {

@@ -9,7 +9,6 @@ use hv_abi::{Frame, Shape};
 use std::alloc::Allocator;
 
 // The 8 bytes at a place as a number.
-#[inline]
 pub fn u64_at<A: Allocator>(frame: &Frame<A>, shape: &Shape, at: usize) -> u64
     requires { at < 2 ^ 33 }
     ensures { result ≡ field (input_of frame.now shape.now.fast) at 8 }
@@ -25,7 +24,6 @@ pub fn u64_at<A: Allocator>(frame: &Frame<A>, shape: &Shape, at: usize) -> u64
 }
 
 // The 4 bytes at a place as a number.
-#[inline]
 pub fn u32_at<A: Allocator>(frame: &Frame<A>, shape: &Shape, at: usize) -> u32
     requires { at < 2 ^ 33 }
     ensures { result ≡ field (input_of frame.now shape.now.fast) at 4 }
@@ -41,7 +39,6 @@ pub fn u32_at<A: Allocator>(frame: &Frame<A>, shape: &Shape, at: usize) -> u32
 }
 
 // The 2 bytes at a place as a number.
-#[inline]
 pub fn u16_at<A: Allocator>(frame: &Frame<A>, shape: &Shape, at: usize) -> u16
     requires { at < 2 ^ 33 }
     ensures { result ≡ field (input_of frame.now shape.now.fast) at 2 }
@@ -56,8 +53,7 @@ pub fn u16_at<A: Allocator>(frame: &Frame<A>, shape: &Shape, at: usize) -> u16
     LittleEndian::read_u16(&input[at..at + 2])
 }
 
-// The first 4 bytes as a number. Inlined for a fast call, whose first bytes are those of RDX.
-#[inline(always)]
+// The first 4 bytes as a number. Those of a fast call are RDX's.
 pub fn first_u32<A: Allocator>(frame: &Frame<A>, shape: &Shape) -> u32
     ensures { result ≡ field (input_of frame.now shape.now.fast) 0 4 }
 {
@@ -68,7 +64,6 @@ pub fn first_u32<A: Allocator>(frame: &Frame<A>, shape: &Shape) -> u32
 }
 
 // The 2 bytes after them as a number, alike.
-#[inline(always)]
 pub fn second_u16<A: Allocator>(frame: &Frame<A>, shape: &Shape) -> u16
     ensures { result ≡ field (input_of frame.now shape.now.fast) 4 2 }
 {
@@ -78,8 +73,7 @@ pub fn second_u16<A: Allocator>(frame: &Frame<A>, shape: &Shape) -> u16
     (frame.rdx / 0x1_0000_0000 % 0x1_0000) as u16
 }
 
-// The 4 bytes at 0, at 8 and at 12 as numbers. Inlined for a list in memory that has them.
-#[inline(always)]
+// The 4 bytes at 0, at 8 and at 12 as numbers, looked for once in a list that has them all.
 pub fn head_u32s<A: Allocator>(frame: &Frame<A>, shape: &Shape) -> (u32, u32, u32)
     ensures first { result.0 ≡ field (input_of frame.now shape.now.fast) 0 4 }
     ensures second { result.1 ≡ field (input_of frame.now shape.now.fast) 8 4 }
@@ -102,7 +96,6 @@ pub fn head_u32s<A: Allocator>(frame: &Frame<A>, shape: &Shape) -> (u32, u32, u3
 
 // The number of so many bytes at a place of RDX and then R8, by shifts. No field of a fast call stands in both of
 // them.
-#[inline(always)]
 fn fast_number(rdx: u64, r8: u64, at: usize, size: usize) -> u64
     requires place { at < 2 ^ 33 }
     requires few { size ≤ 8 }
@@ -129,7 +122,6 @@ fn both(first: u64, second: u64) -> [u8; 16]
 }
 
 // The number of so many bytes of a number from a place on.
-#[inline(always)]
 fn low_bytes(number: u64, at: usize, size: usize) -> u64
     requires { at + size ≤ 8 }
     ensures { result ≡ number / 256 ^ at % 256 ^ size }
@@ -145,7 +137,6 @@ fn low_bytes(number: u64, at: usize, size: usize) -> u64
 
 // The number of so many bytes at a place of a list, where those past its end are 0. From the last on that is there,
 // in a register: bytes that are written to memory and read as a number are waited for.
-#[inline(never)]
 fn last_number(input: &[u8], at: usize, size: usize) -> u64
     requires { size ≤ 8 }
     ensures number { result ≡ field input.now at size }

@@ -1,5 +1,5 @@
 // The payload of a message.
-ghost use Rattle.std.specs.Prelude.{◌≡◌, ◌≤◌, drop, length, IfSome};
+ghost use Rattle.std.specs.Prelude.{◌≡◌, ◌≤◌, drop, length};
 ghost use Rattle.hv_abi.specs.Check.{input_of};
 ghost use Rattle.hv_calls.specs.Bytes.{bytes_at};
 
@@ -45,22 +45,7 @@ impl<'f> Payload<'f> {
         }
     }
 
-    /// The bytes where the frame holds them, unless the last of them are missing there, which read as zeros.
-    #[inline(always)]
-    pub fn whole(&self) -> Option<&'f [u8]>
-        ensures bytes { IfSome result (λ bytes. bytes.now ≡ self.now) }
-        ensures fits { IfSome result (λ bytes. length bytes.now ≤ 240) }
-    {
-        let rest = self.rest;
-        if self.len <= rest.len() {
-            Some(&rest[..self.len])
-        } else {
-            None
-        }
-    }
-
     /// A copy of the bytes.
-    #[inline(always)]
     pub fn to_array(&self) -> ArrayVec<u8, 240>
         ensures { result.items ≡ self.now }
     {

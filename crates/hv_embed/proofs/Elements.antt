@@ -1,8 +1,6 @@
 -- Where the elements of a call have come to after one more.
-use Rattle.std.proofs.Common.{IsTrue, IfNone, Option, None, Some, is_some, false, nat_le, ◌||◌, ◌<◌, ◌≡◌, ℕ, ◌+◌, ◌≤◌, List, ◌++◌, length, take, refl, sym, subst, ap, ◌∙◌, arith, add-one, below_more, length-take}
-use Rattle.std.proofs.lemmas.Bool.Decides.{nat_tests}
+use Rattle.std.proofs.Common.{IsTrue, false, ◌<◌, ◌≡◌, ℕ, ◌+◌, ◌≤◌, List, ◌++◌, length, take, refl, sym, subst, ap, ◌∙◌, arith, add-one, below_more, length-take}
 use Rattle.std.specs.Global.{Global}
-use Rattle.hv_abi.specs.InputValue.{restarted}
 use Rattle.hv_abi.specs.declared.frame.Frame.{Frame}
 use Rattle.hv_defs.specs.declared.sizes.TheConstants.{REPS_END}
 use Rattle.hv_history.specs.Row.{next_in}
@@ -15,7 +13,6 @@ use Rattle.hv_policy.specs.Step.{step}
 use Rattle.hv_policy.specs.declared.event.Action.TheVariants.{Hypercall}
 use Rattle.hv_policy.specs.declared.event.Caller.{Caller}
 use Rattle.hv_policy.specs.declared.reply.Reply.{Reply}
-use Rattle.hv_policy.specs.declared.reply.Reply.TheVariants.{More}
 use Rattle.hv_embed.specs.Answer.{IsAnswer}
 use Rattle.hv_embed.specs.Run.{HasRun, IsAt, IsAtMore, Ran, on, output_in, run}
 use Rattle.hv_embed.specs.Taken.{is_used_up}
@@ -43,16 +40,6 @@ module _ (by : Caller) (m new : State) (last next : Frame Global) (told answer :
     stands = subst (λ k. IsAt (run k by ran) new next answer longer) (sym (add-one n)) (on_at (run n by ran) out longer is put at.stands);
   }
 
--- where the host refused the frame at the element that the last reply names, it refused the next element
-pub may_take : (by : Caller) (last : Frame Global) (told : Reply) (next rcx : ℕ) (output : List ℕ) → told ≡ More next output → rcx ≡ restarted last.rcx next → IsTrue (may_take_memory (call_event by (record last { rcx = rcx })))
-    → IsTrue (may_take_memory (call_event by (restart last (next_in told))))
-may_take by last told next rcx output more is may =
-    subst (λ (f : Frame Global). IsTrue (may_take_memory (call_event by f))) (ap (λ (x : ℕ). record last { rcx = x }) is ∙ ap (λ (r : Reply). restart last (next_in r)) (sym more)) may
-
--- a test whether more events are counted, as numbers
-pub more_free : (a b c d : ℕ) → (nat_le a b || nat_le c d) ≡ false → (b < a) × (d < c)
-more_free a b c d free = (grind (arith, nat_tests), grind (arith, nat_tests))
-
 -- what C is answered once no more are taken
 pub has_run : (by : Caller) (start : Ran) (before n : ℕ) (m : State) (last : Frame Global) (told : Reply) (answer : HvReply) (outputs : List ℕ) (at : ℕ) → IsAtMore n by start m last told (take at outputs) → at ≤ length outputs
     → IsAnswer answer (Hypercall last) told
@@ -74,8 +61,3 @@ has_run by start before n m last told answer outputs at is within says stopped =
           subst (λ (f : Frame Global). IsTrue (may_take_memory (call_event by f))) (ap (λ (f : Frame Global). restart f (next_in told)) now.frame ∙ ap (λ (r : Reply). restart (run n by start).frame (next_in r)) now.reply)
           (stopped (subst IsMore (sym now.reply) more) (omega arith) free few);
     }
-
--- what holds where there is no value, of one that isn't there
-pub none_of : {A P : Type 0} (o : Option A) → is_some o ≡ false → IfNone o P → P
-none_of None is holds = holds
-none_of (Some x) is holds = cc

@@ -1,4 +1,3 @@
 mod AsBox
 mod Crosses
 mod Elements
-mod Outputs

@@ -46,17 +46,20 @@ pub record HasLine (buffer : List ℕ) (count : ℕ) (line : List ℕ) : Type 0 
   pub some : 0 < length buffer → take count buffer ≡ line
   pub len : 0 < length buffer → count ≡ length line
 
--- The event was taken. Of each flat state that the machine stood for, the answer and the line are those of
--- the flat step's reply, and the machine now stands for that step's state. It stands for a lawful one, is
--- sound, and has as many pages; one event more is counted, whose number the line has.
+-- The event was taken. Of each flat state that the machine stood for, the answer and the line with the
+-- event's number are those of the flat step's reply, and the machine now stands for that step's state. It
+-- stands for a lawful one, is sound, and has as many pages.
+pub record IsStepped (event : Event Global) (number : ℕ) (old new : State) (answer : HvReply) (buffer : List ℕ) : Type 0 where
+  pub reply : (f : Flat) → IsFlat old f → IsAnswer answer event.what (step f event).1
+  pub line : (f : Flat) → IsFlat old f → HasLine buffer answer.line_len (line_text number event (step f event).1)
+  pub state : (f : Flat) → IsFlat old f → IsFlat new (step f event).0
+  pub pages : new.pages ≡ old.pages
+  pub lasting : IsLasting new
+  pub sound : IsSound new
+
+-- the machine of a handle took it, and one event more is counted, whose number the line has
 pub record IsTaken (event : Event Global) (old new : HvMachine) (answer : HvReply) (buffer : List ℕ) : Type 0 where
-  pub reply : (f : Flat) → IsFlat old.held.machine f → IsAnswer answer event.what (step f event).1
-  pub line : (f : Flat) → IsFlat old.held.machine f
-      → HasLine buffer answer.line_len (line_text new.events event (step f event).1)
-  pub state : (f : Flat) → IsFlat old.held.machine f → IsFlat new.held.machine (step f event).0
-  pub pages : new.held.machine.pages ≡ old.held.machine.pages
-  pub lasting : IsLasting new.held.machine
-  pub sound : IsSound new.held.machine
+  pub step : IsStepped event new.events old.held.machine new.held.machine answer buffer
   pub events : new.events ≡ old.events + 1
   pub live : new.live ≡ true
 

@@ -1,224 +1,138 @@
 // The answer to an event, as C reads it.
-ghost use Rattle.std.specs.Prelude.{◌≡◌, ◌<◌, ◌≤◌, [], length, take, false};
+ghost use Rattle.std.specs.Prelude.{◌≡◌, ◌<◌, ◌≤◌, ℕ, List, [], length, false};
+ghost use Rattle.std.specs.Global.{Global};
 ghost use Rattle.hv_defs.specs.declared.sizes.TheConstants.{REPS_END};
-ghost use Rattle.hv_history.specs.Row.{next_in};
-ghost use Rattle.hv_machine.specs.Access.{access_event, access_reply};
+ghost use Rattle.hv_history.specs.History.{entry_by};
+ghost use Rattle.hv_history.specs.Row.{action_of, next_in};
 ghost use Rattle.hv_policy.specs.Call.{action_of as action_by, call_event};
 ghost use Rattle.hv_policy.specs.Parts.{reply_of};
 ghost use Rattle.hv_policy.specs.declared.event.Action.TheVariants.{Hypercall};
-ghost use Rattle.hv_policy.specs.declared.reply.Reply.TheVariants.{Fault, Served};
-ghost use Rattle.hv_embed.specs.Answer.{HasOutput, IsAnswer, Says, line_text};
+ghost use Rattle.hv_embed.specs.Answer.{HasOutput, IsAnswer, Says, line_text, result_in as result_by};
 ghost use Rattle.hv_embed.specs.Taken.{HasLine, is_short as is_short_len};
 
-use crate::housed::no_frame;
 use crate::layout::{DENIED, FAULT, HvReply, MORE, SERVED};
 use hv_abi::Frame;
-use hv_history::{answer_of, frame_of};
-use hv_machine::{Access, Action, Answer, Caller, Event, Rule};
+use hv_history::{Asked, EntryRef};
+use hv_machine::{Access, Answer, Caller};
 use hv_text::{LINE, Scratch, audit_line, result_value};
 use std::alloc::Global;
-use std::mem::replace;
 
-// Answers the call of a frame with its reply, in its parts, and puts the audit's line into a buffer that has
-// bytes.
+// Answers an event with its reply, and puts the audit's line with this number into a buffer that has bytes.
 pub(crate) fn answer(
-    alloc: Global,
-    by: Caller,
-    frame: &mut Frame<Global>,
+    entry: &EntryRef<'_>,
     number: u64,
-    told: Answer,
-    output: [u8; 16],
-    len: usize,
     scratch: &mut Scratch,
     reply: &mut HvReply,
     line: &mut [u8],
 )
     requires room { is_short_len (length line.old) ≡ false }
-    requires most { len ≤ 16 }
-    requires index { next_in (reply_of told []) < REPS_END }
-    ensures answer { IsAnswer reply.new (Hypercall frame.old) (reply_of told (take len output)) }
-    ensures line { HasLine line.new reply.new.line_len
-        (line_text number (call_event by frame.old) (reply_of told (take len output))) }
+    requires most { length entry.now.output.now ≤ 256 }
+    requires index { next_in (reply_of entry.now.answer []) < REPS_END }
+    ensures answer { IsAnswer reply.new (action_of entry.now.asked entry.now.input.now)
+        (reply_of entry.now.answer entry.now.output.now) }
+    ensures line { HasLine line.new reply.new.line_len (line_text number
+        (entry_by entry.now).event (entry_by {A = Global} entry.now).reply) }
 {
-    say_call(told, output, len, reply);
-    reply.result = result_value::<Global>(frame.rcx, told);
+    say(entry.answer, entry.output, reply);
+    reply.result = result_in(entry.asked, entry.answer);
     reply.line_len = if line.is_empty() {
         0
     } else {
-        put_call_line(
-            alloc,
-            scratch,
-            line,
-            by,
-            frame,
-            number,
-            told,
-            &output[..len],
-        )
+        audit_line::<Global>(scratch, line, number, entry) as u32
     };
 }
 
-// Answers an access alike, of which this became. It is made an event only where a line is asked for.
-#[inline(always)]
-pub(crate) fn answer_access(
+// Answers the call of a frame with its reply, in its two parts, as `answer` does.
+pub(crate) fn answer_call(
     by: Caller,
-    access: Access,
-    number: u64,
-    became: Result<(), Rule>,
+    frame: &Frame<Global>,
+    told: Answer,
     output: &[u8],
+    number: u64,
     scratch: &mut Scratch,
     reply: &mut HvReply,
     line: &mut [u8],
 )
     requires room { is_short_len (length line.old) ≡ false }
     requires most { length output.now ≤ 256 }
-    ensures answer { IsAnswer reply.new (action_by access) (access_reply became output.now) }
+    requires index { next_in (reply_of told []) < REPS_END }
+    ensures answer { IsAnswer reply.new (Hypercall frame.now) (reply_of told output.now) }
     ensures line { HasLine line.new reply.new.line_len
-        (line_text number (access_event by access) (access_reply became output.now)) }
+        (line_text number (call_event by frame.now) (reply_of told output.now)) }
 {
-    match became {
-        Ok(()) => serve(output, reply),
-        Err(rule) => refuse(rule, reply),
-    }
-    reply.result = 0;
-    reply.line_len = if line.is_empty() {
-        0
-    } else {
-        let event = Event {
-            by,
-            what: action_of(access),
-        };
-        put_line(scratch, line, &event, number, answer_of(became), output)
-    };
-}
-
-// Puts the audit's line into a buffer with room for any, and answers its length. Not inlined, so that an
-// event without a line makes no room for what it needs.
-#[inline(never)]
-fn put_line(
-    scratch: &mut Scratch,
-    line: &mut [u8],
-    event: &Event<Global>,
-    number: u64,
-    told: Answer,
-    output: &[u8],
-) -> u32
-    requires room { LINE ≤ length line.old }
-    requires most { length output.now ≤ 256 }
-    requires index { next_in (reply_of told []) < REPS_END }
-    ensures text { take result line.new ≡ line_text number event.now (reply_of told output.now) }
-    ensures most { result ≤ LINE }
-{
-    audit_line(scratch, line, number, event, told, output) as u32
-}
-
-// Puts the audit's line of the call of a frame alike. The frame is an event only as long as that takes.
-#[inline(never)]
-fn put_call_line(
-    alloc: Global,
-    scratch: &mut Scratch,
-    line: &mut [u8],
-    by: Caller,
-    frame: &mut Frame<Global>,
-    number: u64,
-    told: Answer,
-    output: &[u8],
-) -> u32
-    requires room { LINE ≤ length line.old }
-    requires most { length output.now ≤ 256 }
-    requires index { next_in (reply_of told []) < REPS_END }
-    ensures text { take result line.new
-        ≡ line_text number (call_event by frame.old) (reply_of told output.now) }
-    ensures most { result ≤ LINE }
-{
-    let event = Event {
+    let entry = EntryRef {
         by,
-        what: Action::Hypercall(replace(frame, no_frame(alloc))),
+        asked: Asked::Hypercall {
+            rcx: frame.rcx,
+            rdx: frame.rdx,
+            r8: frame.r8,
+        },
+        input: frame.input.as_slice(),
+        answer: told,
+        output,
     };
-    let len = put_line(scratch, line, &event, number, told, output);
-    *frame = frame_of(event);
-    len
+    answer(&entry, number, scratch, reply, line);
 }
 
-// An access as an action.
-fn action_of(access: Access) -> Action<Global>
-    ensures { result ≡ action_by access }
+// What an access asks for.
+pub(crate) fn asked_of(access: Access) -> Asked
+    ensures { (input : List ℕ) → action_of {A = Global} result input ≡ action_by access }
 {
     match access {
-        Access::ReadMsr(msr) => Action::ReadMsr(msr),
-        Access::WriteMsr(msr, value) => Action::WriteMsr(msr, value),
-        Access::ReadSlot(sint) => Action::ReadSlot(sint),
-        Access::ClearSlot(sint) => Action::ClearSlot(sint),
-        Access::ReadFlags(sint) => Action::ReadFlags(sint),
-        Access::ClearFlag(sint, flag) => Action::ClearFlag(sint, flag),
-        Access::TakeInterrupt => Action::TakeInterrupt,
+        Access::ReadMsr(msr) => Asked::ReadMsr(msr),
+        Access::WriteMsr(msr, value) => Asked::WriteMsr(msr, value),
+        Access::ReadSlot(sint) => Asked::ReadSlot(sint),
+        Access::ClearSlot(sint) => Asked::ClearSlot(sint),
+        Access::ReadFlags(sint) => Asked::ReadFlags(sint),
+        Access::ClearFlag(sint, flag) => Asked::ClearFlag(sint, flag),
+        Access::TakeInterrupt => Asked::TakeInterrupt,
     }
 }
 
-// Says that an access was served and put this out. The bytes of the reply's output past those stay.
-#[inline(always)]
-fn serve(output: &[u8], reply: &mut HvReply)
+// Says how an event ended, and what it put out.
+fn say(answer: Answer, output: &[u8], reply: &mut HvReply)
     requires { length output.now ≤ 256 }
-    ensures { Says reply.new (Served output.now) }
+    ensures { Says reply.new (reply_of answer output.now) }
 {
-    reply.kind = SERVED;
-    reply.rule = 0;
-    reply.next = 0;
-    // What accesses put out is copied by known lengths.
-    match output.len() {
-        0 => {}
-        1 => reply.output[0] = output[0],
-        8 => reply.output[..8].copy_from_slice(output),
-        256 => reply.output.copy_from_slice(output),
-        len => reply.output[..len].copy_from_slice(output),
-    }
-    reply.output_len = output.len() as u32;
-}
-
-// Says that an access was refused by this rule.
-#[inline(always)]
-fn refuse(rule: Rule, reply: &mut HvReply)
-    ensures { Says reply.new (Fault rule) }
-{
-    reply.kind = FAULT;
-    reply.rule = u32::from(rule.number());
-    reply.next = 0;
-    reply.output_len = 0;
-}
-
-// Says how a call ended, and what it put out: the first of these bytes.
-pub(crate) fn say_call(told: Answer, output: [u8; 16], len: usize, reply: &mut HvReply)
-    requires { len ≤ 16 }
-    ensures { Says reply.new (reply_of told (take len output)) }
-{
-    match told {
-        Answer::Served => put_call(reply, SERVED, 0, 0, output, len),
-        Answer::More { next } => put_call(reply, MORE, 0, u32::from(next), output, len),
-        Answer::Denied { rule, .. } => put_call(
-            reply,
-            DENIED,
-            u32::from(rule.number()),
-            0,
-            output,
-            0,
-        ),
-        Answer::Fault { rule } => put_call(reply, FAULT, u32::from(rule.number()), 0, output, 0),
+    match answer {
+        Answer::Served => put(SERVED, 0, 0, output, reply),
+        Answer::More { next } => put(MORE, 0, u32::from(next), output, reply),
+        Answer::Denied { rule, .. } => put(DENIED, u32::from(rule.number()), 0, &[], reply),
+        Answer::Fault { rule } => put(FAULT, u32::from(rule.number()), 0, &[], reply),
     }
 }
 
-// Puts these into a reply, of the output all bytes that there may be, which is a copy of a known length.
-fn put_call(reply: &mut HvReply, kind: u32, rule: u32, next: u32, output: [u8; 16], len: usize)
-    requires { len ≤ 16 }
+// Puts these into a reply. The bytes of its output past those stay.
+fn put(kind: u32, rule: u32, next: u32, output: &[u8], reply: &mut HvReply)
+    requires { length output.now ≤ 256 }
     ensures kind { reply.new.kind ≡ kind }
     ensures rule { reply.new.rule ≡ rule }
     ensures next { reply.new.next ≡ next }
-    ensures output { HasOutput reply.new (take len output) }
+    ensures output { HasOutput reply.new output.now }
 {
     reply.kind = kind;
     reply.rule = rule;
     reply.next = next;
-    reply.output[..16].copy_from_slice(&output);
-    reply.output_len = len as u32;
+    reply.output[..output.len()].copy_from_slice(output);
+    reply.output_len = output.len() as u32;
+}
+
+// The result value of a call that was answered so. An access has none.
+fn result_in(asked: Asked, answer: Answer) -> u64
+    requires { next_in (reply_of answer []) < REPS_END }
+    ensures { (input output : List ℕ)
+        → result ≡ result_by (action_of asked input) (reply_of answer output) }
+{
+    match asked {
+        Asked::Hypercall { rcx, .. } => result_value::<Global>(rcx, answer),
+        Asked::ReadMsr(_)
+        | Asked::WriteMsr(_, _)
+        | Asked::ReadSlot(_)
+        | Asked::ClearSlot(_)
+        | Asked::ReadFlags(_)
+        | Asked::ClearFlag(_, _)
+        | Asked::TakeInterrupt => 0,
+    }
 }
 
 // Whether a buffer has bytes, but not for every line.

@@ -18,12 +18,13 @@ ghost use Rattle.hv_embed.specs.Taken.{is_short as is_short_len, readiness};
 ghost use Rattle.hv_embed.specs.declared.layout.TheConstants.{ELEMENT_OUTPUT};
 ghost use Rattle.hv_embed.specs.declared.status.TheConstants.{DONE, MEMORY, OCCUPIED};
 
+use crate::answer::is_short;
 use crate::handle::HvMachine;
 use crate::housed::Housed;
-use crate::layout::{HvCaller, HvConfig, HvRegisters, HvReply, HvRun};
-use crate::run::take_run;
-use crate::status::{DONE, OCCUPIED, status_of};
-use crate::take::{take_access, take_call};
+use crate::layout::{ELEMENT_OUTPUT, HvCaller, HvConfig, HvRegisters, HvReply, HvRun};
+use crate::run::step_run;
+use crate::status::{DONE, EMPTY, OCCUPIED, SHORT, status_of};
+use crate::take::{caller_of, step_call, take_access};
 use hv_machine::{Access, BootRefused, Config, Machine};
 use hv_privs::Privileges;
 use std::alloc::Global;
@@ -89,7 +90,26 @@ pub extern "C" fn hv_embed_hypercall(
     ensures memory { result ≡ MEMORY
         → (machine.old.live ≡ true) × (is_short_len (length line.old) ≡ false) }
 {
-    take_call(alloc, machine, by, registers, input, reply, line)
+    if !machine.live {
+        return EMPTY;
+    }
+    if is_short(line) {
+        return SHORT;
+    }
+    let mut events = machine.events;
+    let mut housed = replace(machine, HvMachine::none(alloc)).open();
+    let status = step_call(
+        &mut housed,
+        &mut events,
+        caller_of(by),
+        registers,
+        input,
+        reply,
+        line,
+    );
+    housed.trim(alloc);
+    replace(machine, HvMachine::full(housed, events)).let_go();
+    status
 }
 
 /// Takes a hypercall of a processor as [`hv_embed_hypercall`] does, and of a rep call the elements after it,
@@ -117,7 +137,28 @@ pub extern "C" fn hv_embed_run(
     ensures status { result ≢ MEMORY → result ≡ run_readiness machine.old (length outputs.old) }
     ensures memory { result ≡ MEMORY → (machine.old.live ≡ true) × (ELEMENT_OUTPUT ≤ length outputs.old) }
 {
-    take_run(alloc, machine, by, registers, input, reply, outputs, done)
+    if !machine.live {
+        return EMPTY;
+    }
+    if outputs.len() < ELEMENT_OUTPUT {
+        return SHORT;
+    }
+    let mut events = machine.events;
+    let mut housed = replace(machine, HvMachine::none(alloc)).open();
+    let status = step_run(
+        alloc,
+        &mut housed,
+        &mut events,
+        caller_of(by),
+        registers,
+        input,
+        reply,
+        outputs,
+        done,
+    );
+    housed.trim(alloc);
+    replace(machine, HvMachine::full(housed, events)).let_go();
+    status
 }
 
 /// Reads an MSR of a processor, of 8 bytes.

@@ -45,6 +45,15 @@ impl Housed {
             scratch: Scratch::new(),
         }
     }
+
+    // Keeps the frame's memory for the next call, unless that is more than is kept.
+    pub(crate) fn trim(&mut self, alloc: Global)
+        ensures { self.new ≡ self.old }
+    {
+        if self.frame.input.capacity() > MOST_SPARE {
+            self.frame = no_frame(alloc);
+        }
+    }
 }
 
 // A frame without memory.
@@ -69,11 +78,4 @@ pub(crate) fn refill(
     frame.rdx = registers.rdx;
     frame.r8 = registers.r8;
     frame.input.refill(input)
-}
-
-// Lets a frame keep its memory for the next call, unless that is more than is kept.
-pub(crate) fn trim(alloc: Global, frame: &mut Frame<Global>) {
-    if frame.input.capacity() > MOST_SPARE {
-        *frame = no_frame(alloc);
-    }
 }

@@ -19,7 +19,6 @@ mod parts;
 mod run;
 mod status;
 mod take;
-mod told;
 
 pub use exports::{
     hv_embed_boot, hv_embed_clear_flag, hv_embed_clear_slot, hv_embed_destroy, hv_embed_hypercall,

@@ -1,5 +1,5 @@
 -- A run that goes on by one event.
-use Rattle.std.proofs.Common.{◌≡◌, ℕ, ◌≤◌, ◌<◌, List, [], ◌∷◌, ◌++◌, length, None, true, false, IsTrue, refl, sym, subst, ap, ◌∙◌, arith, length-append}
+use Rattle.std.proofs.Common.{◌≡◌, ℕ, ◌≤◌, ◌<◌, List, [], ◌∷◌, ◌++◌, length, None, Ok, true, false, IsTrue, refl, sym, subst, ap, ◌∙◌, arith, length-append}
 use Rattle.std.proofs.lemmas.List.{length-map, map-append}
 use Rattle.hv_laws.proofs.Counted.{run_few}
 use Rattle.hv_laws.proofs.Replies.{goes_on}
@@ -21,9 +21,10 @@ use Rattle.hv_defs.specs.declared.sizes.TheConstants.{REPS_END}
 use Rattle.hv_machine.specs.IsFlat.{IsFlat}
 use Rattle.hv_machine.specs.Sound.{IsSound}
 use Rattle.hv_machine.specs.State.{State}
+use Rattle.hv_machine.specs.Step.{IsStep}
 use Rattle.hv_history.proofs.Justified.{justified}
 use Rattle.hv_history.specs.Row.{events_of, next_in, replies_of}
-use Rattle.hv_history.specs.Kept.{HasStepped, HasTaken, Kept, IsRun}
+use Rattle.hv_history.specs.Kept.{IsRun, IsTaken, Kept}
 use Rattle.hv_history.specs.declared.entry.Entry.{Entry}
 
 pub run-push : {A : Type 0} (f : Flat) (events : List (Event A)) (e : Event A)
@@ -86,7 +87,7 @@ started {A = A} config limit m flat boots pages sound = record {
 }
 
 -- a call goes on with an element that has an index
-pub has_index : {A : Type 0} (what : Action A) (reply : Reply) → GoesOn what reply → next_in reply < REPS_END
+has_index : {A : Type 0} (what : Action A) (reply : Reply) → GoesOn what reply → next_in reply < REPS_END
 has_index what (Served output) on = omega arith
 has_index (Hypercall frame) (More next output) on = on.1
 has_index (ReadMsr msr) (More next output) on = absurd on
@@ -99,38 +100,34 @@ has_index TakeInterrupt (More next output) on = absurd on
 has_index what (Denied rule status reps) on = omega arith
 has_index what (Fault rule) on = omega arith
 
--- and that index is the same whatever was put out
-pub any_output : (answer : Answer) (output : List ℕ) → next_in (reply_of answer output) ≡ next_in (reply_of answer [])
+-- whatever was put out
+any_output : (answer : Answer) (output : List ℕ) → next_in (reply_of answer output) ≡ next_in (reply_of answer [])
 any_output answer.Served output = refl
 any_output (answer.More next) output = refl
 any_output (answer.Denied rule status reps) output = refl
 any_output (answer.Fault rule) output = refl
 
-module _ {A : Type 0} (f : Flat) (event : Event A) (reply : Reply) (told : reply ≡ (step f event).1) where
+module _ {A : Type 0} (k : Kept A) (event : Event A) (reply : Reply) (is : IsRun k) (told : (f : Flat) → IsFlat k.machine f → reply ≡ (step f event).1) where
   -- a call goes on with the element after the one that was served
   pub on : GoesOn event.what reply
-  on = subst (GoesOn event.what) (sym told) (goes_on f event)
+  on = subst (GoesOn event.what) (sym (told _ is.machine)) (goes_on (run k.config (events_of k.history)).0 event)
 
-  pub reply_index : next_in reply < REPS_END
-  reply_index = has_index event.what reply on
+  pub reply_index : (answer : Answer) (output : List ℕ) → reply_of answer output ≡ reply → next_in (reply_of answer []) < REPS_END
+  reply_index answer output same = subst (λ n. n < REPS_END) (ap next_in (sym same) ∙ any_output answer output) (has_index event.what reply on)
 
--- whatever was put out
-pub next_index : (reply : Reply) → next_in reply < REPS_END → (answer : Answer) (output : List ℕ) → reply_of answer output ≡ reply → next_in (reply_of answer []) < REPS_END
-next_index reply less answer output same = subst (λ n. n < REPS_END) (ap next_in (sym same) ∙ any_output answer output) less
-
-module _ {A : Type 0} (k : Kept A) (event : Event A) (m : State) (history : List (Entry A)) (took : HasStepped event k.machine k.history m history) where
+-- the machine took an event, and the history has it more
+module _ {A : Type 0} (k : Kept A) (event : Event A) (reply : Reply) (m : State) (is : IsRun k) (took : IsStep event k.machine (Ok reply) m)
+    (history : List (Entry A)) (pushed : history ≡ k.history ++ record { event = event; reply = reply } ∷ []) where
   abbrev pub new_of : Kept A
   new_of = record { config = k.config; limit = k.limit; history = history; machine = m }
 
-  -- a run whose machine took an event is a run with that event more
-  pub is_run : IsRun k → length k.history < k.limit → IsRun new_of
-  is_run is room = rw (took.pushed) (longer k event took.reply m is room took.told took.made took.pages took.sound)
+  pub is_run : length k.history < k.limit → IsRun new_of
+  is_run room = rw pushed (longer k event reply m is room took.reply took.state took.pages took.sound)
 
-  pub has_taken : IsRun k → HasTaken event k new_of
-  has_taken is = record {
-    reply = took.reply;
-    gained = record { history = took.pushed; config = refl; limit = refl };
+  pub is_taken : IsTaken event reply k new_of
+  is_taken = record {
+    gained = record { history = pushed; config = refl; limit = refl };
     asked = took.asked;
     result = took.result;
-    next = on (run k.config (events_of k.history)).0 event took.reply (took.told _ is.machine);
+    next = on k event reply is took.reply;
   }

@@ -2,10 +2,9 @@
 use Rattle.std.specs.Prelude.{ℕ, ◌≡◌, ◌≤◌, List, [], ◌∷◌, ◌++◌, length, None}
 use Rattle.hv_abi.specs.declared.frame.Frame.{Frame}
 use Rattle.hv_policy.specs.BootFault.{boot_fault}
-use Rattle.hv_policy.specs.Flat.{Flat}
 use Rattle.hv_policy.specs.Next.{GoesOn}
 use Rattle.hv_policy.specs.Result.{HasResult}
-use Rattle.hv_policy.specs.Step.{NamesAsked, run, step}
+use Rattle.hv_policy.specs.Step.{NamesAsked, run}
 use Rattle.hv_policy.specs.declared.config.Config.{Config}
 use Rattle.hv_policy.specs.declared.event.Action.TheVariants.{Hypercall}
 use Rattle.hv_policy.specs.declared.event.Event.{Event}
@@ -43,28 +42,10 @@ pub record HasGained {A : Type 0} (event : Event A) (reply : Reply) (old new : K
   pub config : new.config ≡ old.config
   pub limit : new.limit ≡ old.limit
 
--- an event more at the end, with a reply: a refusal by a rule names one that is asked, a reply to a hypercall has a result
+-- an event more at the end, with this reply: a refusal by a rule names one that is asked, a reply to a hypercall has a result
 -- value, and a call goes on with the element after the one that was served
-pub record HasTaken {A : Type 0} (event : Event A) (old new : Kept A) : Type 0 where
-  pub reply : Reply
+pub record IsTaken {A : Type 0} (event : Event A) (reply : Reply) (old new : Kept A) : Type 0 where
   pub gained : HasGained event reply old new
   pub asked : NamesAsked event reply
   pub result : (frame : Frame A) → event.what ≡ Hypercall frame → HasResult reply
   pub next : GoesOn event.what reply
-
--- the machine stands for some flat state
-pub record Stands (m : State) : Type 0 where
-  pub flat : Flat
-  pub is : IsFlat m flat
-
--- a machine took an event, and the history has it more, with its reply: of each flat state that the machine stood for, the
--- reply is the flat step's, and the machine now stands for that step's state, is sound, and has as many pages
-pub record HasStepped {A : Type 0} (event : Event A) (old : State) (before : List (Entry A)) (new : State) (after : List (Entry A)) : Type 0 where
-  pub reply : Reply
-  pub told : (f : Flat) → IsFlat old f → reply ≡ (step f event).1
-  pub made : (f : Flat) → IsFlat old f → IsFlat new (step f event).0
-  pub pages : new.pages ≡ old.pages
-  pub sound : IsSound new
-  pub pushed : after ≡ before ++ record { event = event; reply = reply } ∷ []
-  pub asked : NamesAsked event reply
-  pub result : (frame : Frame A) → event.what ≡ Hypercall frame → HasResult reply

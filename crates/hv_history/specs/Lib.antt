@@ -2,6 +2,5 @@ pub mod Beside
 pub mod History
 pub mod Justified
 pub mod Kept
-pub mod Output
 pub mod Row
 pub mod Run

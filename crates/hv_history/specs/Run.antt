@@ -3,10 +3,9 @@ use Rattle.std.specs.Prelude.{ℕ, ◌≡◌, ◌+◌, ◌≤◌, ◌<◌, List,
 use Rattle.hv_abi.specs.InputValue.{input_value, restarted}
 use Rattle.hv_abi.specs.declared.frame.Frame.{Frame}
 use Rattle.hv_defs.specs.declared.sizes.TheConstants.{REPS_END}
-use Rattle.hv_policy.specs.Parts.{reply_of}
+use Rattle.hv_policy.specs.Next.{GoesOn}
 use Rattle.hv_policy.specs.Result.{HasResult}
 use Rattle.hv_policy.specs.Step.{NamesAsked}
-use Rattle.hv_policy.specs.declared.answer.Answer.{Answer}
 use Rattle.hv_policy.specs.declared.event.Action.TheVariants.{Hypercall}
 use Rattle.hv_policy.specs.declared.event.Caller.{Caller}
 use Rattle.hv_policy.specs.declared.event.Event.{Event}
@@ -49,16 +48,6 @@ AreElements by frame [] now = now ≡ frame
 AreElements by frame (e ∷ es) now =
     (e.event ≡ element by frame) × GoesOnAt (start_of frame + 1) e.reply × AreElements by (restart frame (start_of frame + 1)) es now
 
--- the event asks for the element with which the call of the last event goes on, as the reply to that says
-pub record GoesOnWithLast {A : Type 0} (event : Event A) (history : List (Entry A)) : Type 0 where
-  pub before : List (Entry A)
-  pub by : Caller
-  pub frame : Frame A
-  pub next : ℕ
-  pub output : List ℕ
-  pub is : history ≡ before ++ record { event = element by frame; reply = More next output } ∷ []
-  pub event_is : event ≡ element by (restart frame next)
-
 -- The history has so many elements of a call more, from this frame on, in order: all but the last are answered that the call
 -- goes on, and the last, that of the frame `last`, has this reply. They are as many as there may be, or the call ended.
 pub record HasRun {A : Type 0} (by : Caller) (frame : Frame A) (reply : Reply) (events most : ℕ) (old new : Kept A) : Type 0 where
@@ -73,6 +62,7 @@ pub record HasRun {A : Type 0} (by : Caller) (frame : Frame A) (reply : Reply) (
   pub ends : events < most → IsMore reply → ⊥
   pub asked : NamesAsked (element by last) reply
   pub result : HasResult reply
+  pub next : GoesOn (Hypercall last) reply
 
 -- The history has so many elements of a call more, from this frame on, in order, all of which are answered that the call goes
 -- on. They are fewer than there may be.
@@ -85,34 +75,3 @@ pub record HasStopped {A : Type 0} (by : Caller) (frame : Frame A) (events most 
   pub limit : new.limit ≡ old.limit
   pub count : events ≡ length before
   pub within : events < most
-
--- so far the elements of a call are all answered that it goes on, fewer than there may be, and this event asks for the next
-pub record IsRunning {A : Type 0} (by : Caller) (frame : Frame A) (event : Event A) (events most : ℕ) (old now : Kept A) : Type 0 where
-  pub so_far : HasStopped by frame events most old now
-  pub event_is : event ≡ element by so_far.now
-
--- the history has so many elements of a call more, the last of which is this event and has a reply of this answer
-pub record HasRunFor {A : Type 0} (by : Caller) (frame : Frame A) (event : Event A) (answer : Answer) (events most : ℕ) (old new : Kept A) : Type 0 where
-  pub output : List ℕ
-  pub run : HasRun by frame (reply_of answer output) events most old new
-  pub event_is : event ≡ element by run.last
-
--- The history has the elements of a call more from this frame on, in order, to its end: all but the last, that of the frame
--- `last`, are answered that the call goes on, and the last is not.
-pub record HasFinished {A : Type 0} (by : Caller) (frame last : Frame A) (old new : Kept A) : Type 0 where
-  pub before : List (Entry A)
-  pub reply : Reply
-  pub elements : AreElements by frame before last
-  pub history : new.history ≡ old.history ++ (before ++ record { event = element by last; reply = reply } ∷ [])
-  pub config : new.config ≡ old.config
-  pub limit : new.limit ≡ old.limit
-  pub ends : IsMore reply → ⊥
-
--- The history has elements of a call more from this frame on, in order, all of which are answered that the call goes on. The
--- next would be that of the frame `now`.
-pub record HasBegun {A : Type 0} (by : Caller) (frame now : Frame A) (old new : Kept A) : Type 0 where
-  pub before : List (Entry A)
-  pub elements : AreElements by frame before now
-  pub history : new.history ≡ old.history ++ before
-  pub config : new.config ≡ old.config
-  pub limit : new.limit ≡ old.limit

@@ -1,8 +1,7 @@
 // An event with its reply, as contracts and callers see it.
 ghost use Rattle.std.specs.Prelude.{◌≡◌, ◌↔◌, IsTrue};
 
-use crate::output::OutputRef;
-use hv_machine::{Answer, Caller, Event, Reply};
+use hv_machine::{Action, Answer, Caller, Event, Reply};
 use std::alloc::Allocator;
 
 /// One event with its reply, as contracts see what happened.
@@ -33,6 +32,34 @@ pub enum Asked {
     TakeInterrupt,
 }
 
+impl Asked {
+    ghost use Rattle.hv_history.specs.Row.{action_of, with_rcx};
+
+    // What an action asks for, with this RCX where it is a call, and the bytes of its input list. An access has
+    // none.
+    pub(crate) fn of<A: Allocator>(what: &Action<A>, rcx: u64) -> (Asked, &[u8])
+        ensures { action_of result.0 result.1.now ≡ with_rcx what.now rcx }
+    {
+        match what {
+            Action::Hypercall(frame) => (
+                Asked::Hypercall {
+                    rcx,
+                    rdx: frame.rdx,
+                    r8: frame.r8,
+                },
+                frame.input.as_slice(),
+            ),
+            Action::ReadMsr(msr) => (Asked::ReadMsr(*msr), &[]),
+            Action::WriteMsr(msr, value) => (Asked::WriteMsr(*msr, *value), &[]),
+            Action::ReadSlot(sint) => (Asked::ReadSlot(*sint), &[]),
+            Action::ClearSlot(sint) => (Asked::ClearSlot(*sint), &[]),
+            Action::ReadFlags(sint) => (Asked::ReadFlags(*sint), &[]),
+            Action::ClearFlag(sint, flag) => (Asked::ClearFlag(*sint, *flag), &[]),
+            Action::TakeInterrupt => (Asked::TakeInterrupt, &[]),
+        }
+    }
+}
+
 /// An event with its reply, borrowed from a history.
 #[derive(Clone, Copy)]
 pub struct EntryRef<'h> {
@@ -43,12 +70,11 @@ pub struct EntryRef<'h> {
     pub input: &'h [u8],
     pub answer: Answer,
     /// The bytes that the event put out, at most 256.
-    pub output: OutputRef<'h>,
+    pub output: &'h [u8],
 }
 
 impl<'h> EntryRef<'h> {
     ghost use Rattle.hv_history.specs.History.{entry_by};
-    ghost use Rattle.hv_history.specs.Output.{shown};
     ghost use Rattle.hv_history.specs.Row.{action_of};
     ghost use Rattle.hv_policy.specs.Parts.{reply_of};
 
@@ -78,13 +104,13 @@ impl<'h> EntryRef<'h> {
 
     // Whether both are answered the same. Only what is served puts something out.
     fn is_answered_the_same(&self, other: &EntryRef<'_>) -> bool
-        ensures { IsTrue result ↔ (reply_of self.now.answer (shown self.now.output)
-            ≡ reply_of other.now.answer (shown other.now.output)) }
+        ensures { IsTrue result ↔ (reply_of self.now.answer self.now.output.now
+            ≡ reply_of other.now.answer other.now.output.now) }
     {
         match (self.answer, other.answer) {
-            (Answer::Served, Answer::Served) => self.output.is_same(&other.output),
+            (Answer::Served, Answer::Served) => self.output == other.output,
             (Answer::More { next }, Answer::More { next: other_next }) => {
-                next == other_next && self.output.is_same(&other.output)
+                next == other_next && self.output == other.output
             }
             (
                 Answer::Denied { rule, status, reps },

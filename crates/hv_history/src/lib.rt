@@ -8,19 +8,14 @@
 
 mod beside;
 mod entry;
-mod expected;
 mod history;
 mod kept;
-mod output;
 mod row;
 mod run;
-mod same;
 
 pub use beside::members_are_answered_alike;
 pub use entry::{Asked, Entry, EntryRef};
-pub use expected::Expected;
-pub use hv_machine::{Answer, HostRefused};
-pub use kept::{Kept, answer_of};
-pub use output::OutputRef;
+pub use hv_machine::Answer;
+pub use kept::{HostRefused, Kept, answer_of};
 pub use row::History;
-pub use run::{RunDone, at_element, frame_of, next_of};
+pub use run::{RunDone, next_of};

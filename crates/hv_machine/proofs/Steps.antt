@@ -47,7 +47,6 @@ module _ {A : Type 0} (event : Event A) (old : State) (was : IsLasting old) wher
         state = λ f flat. (is f flat).1;
         refused = λ f flat. tt;
         memory = tt;
-        cause = tt;
         kept = tt;
         confined = λ f g flat. step_is_confined new event f g (is f flat).1;
         others = λ f g flat. step_leaves new event f g (is f flat).1;
@@ -73,7 +72,6 @@ module _ {A : Type 0} (event : Event A) (old : State) (was : IsLasting old) wher
     state = λ f flat. tt;
     refused = met;
     memory = takes;
-    cause = refl;
     kept = same;
     confined = λ f g flat. nothing_is_confined new event f g (subst (λ m. IsFlat m f) (sym same) flat);
     others = λ f g flat. nothing_leaves new event f g (subst (λ m. IsFlat m f) (sym same) flat);

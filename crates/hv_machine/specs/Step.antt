@@ -1,5 +1,5 @@
 -- What an event makes of a machine.
-use Rattle.std.specs.Prelude.{◌≡◌, None, IsTrue, IfOk, IfErr, OnOk, OnErr}
+use Rattle.std.specs.Prelude.{◌≡◌, None, IsTrue, IfOk, OnOk, OnErr}
 use Rattle.std.specs.declared.result.Result.{Result}
 use Rattle.hv_abi.specs.declared.frame.Frame.{Frame}
 use Rattle.hv_confine.specs.Confined.{IsConfined}
@@ -17,7 +17,6 @@ use Rattle.hv_machine.specs.Lasting.{IsLasting}
 use Rattle.hv_machine.specs.Sound.{IsSound}
 use Rattle.hv_machine.specs.State.{State}
 use Rattle.hv_machine.specs.declared.machine.HostRefused.{HostRefused}
-use Rattle.hv_machine.specs.declared.machine.HostRefused.TheVariants.{Memory}
 
 -- The machine took the event, or the host refused it: what `Machine::step` promises, clause by clause, of an event, the machine's
 -- state before, what became of it, and the state after.
@@ -26,7 +25,6 @@ pub record IsStep {A : Type 0} (event : Event A) (old : State) (became : Result 
   pub state : (f : Flat) → IsFlat old f → OnOk became (IsFlat new (step f event).0)
   pub refused : (f : Flat) → IsFlat old f → OnErr became (unmet f event ≡ None)
   pub memory : OnErr became (IsTrue (may_take_memory event))
-  pub cause : IfErr became (λ why. why ≡ Memory)
   pub kept : OnErr became (new ≡ old)
   pub confined : (f g : Flat) → IsFlat old f → IsFlat new g → IsConfined event f g
   pub others : (f g : Flat) → IsFlat old f → IsFlat new g → LeavesOthers event f g

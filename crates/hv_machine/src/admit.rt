@@ -19,6 +19,7 @@ use std::alloc::Allocator;
 impl<A: Allocator> Machine<A> {
     // The call that a frame holds where P1 to P10 are met, and what its input value says; else the first
     // of them that isn't met. The call that the frame names, if it names one, is known.
+    // Inlined: calls for the own id in bench/embed.sh.
     #[inline(always)]
     pub fn admit<'f>(
         &self,

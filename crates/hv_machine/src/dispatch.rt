@@ -29,6 +29,7 @@ use std::alloc::Allocator;
 
 // Hands a call for which P1 to P10 are met to its chapter. `next` is the id that the next partition gets,
 // and `served` how many events were served.
+// Inlined: calls for the own id in bench/embed.sh.
 #[inline(always)]
 pub fn dispatch<A: Allocator + Clone>(
     tree: &mut Partitions<A>,
@@ -129,7 +130,6 @@ pub fn dispatch<A: Allocator + Clone>(
 
 // Hands an access to its chapter, which asks P1 to P3, too. What it puts out is added to an output that is empty
 // before.
-#[inline(always)]
 pub fn dispatch_access<A: Allocator>(
     tree: &mut Partitions<A>,
     by: Caller,
@@ -152,7 +152,6 @@ pub fn dispatch_access<A: Allocator>(
 }
 
 // The id that the next partition gets after a call.
-#[inline(always)]
 pub fn next_after(call: &Call<'_>, next: u64) -> u64
     requires { next < 2 ^ 64 - 1 }
     ensures { result ≡ next_id_after call.now next }

@@ -1,5 +1,5 @@
 // The machine and its one step.
-ghost use Rattle.std.specs.Prelude.{◌≡◌, ◌<◌, [], None, IsTrue, IfOk, IfErr, OnOk, OnErr};
+ghost use Rattle.std.specs.Prelude.{◌≡◌, ◌<◌, [], None, IsTrue, IfOk, OnOk, OnErr};
 ghost use Rattle.hv_defs.specs.declared.sizes.TheConstants.{MAX_SERVED};
 ghost use Rattle.hv_abi.specs.Check.{IsShape, call_of};
 ghost use Rattle.hv_abi.specs.declared.frame.Frame.{Frame as CallFrame};
@@ -61,12 +61,9 @@ impl<A: Allocator> Model for Machine<A> {
     }) };
 }
 
-/// Why the host couldn't let an event happen, in the order in which the causes are looked for. Nothing
-/// changed.
+/// Why the host couldn't let an event happen. Nothing changed.
 #[derive(Clone, Copy, PartialEq, Eq, Debug)]
 pub enum HostRefused {
-    /// The history is as long as its limit. No rule was asked. A machine by itself has no limit.
-    HistoryFull,
     /// The host has no memory for it.
     Memory,
 }
@@ -86,7 +83,6 @@ impl<A: Allocator + Clone> Machine<A> {
         // changes.
         ensures refused { (f : Flat) → IsFlat self.old f → OnErr result (unmet f event.now ≡ None) }
         ensures memory { OnErr result (IsTrue (may_take_memory event.now)) }
-        ensures cause { IfErr result (λ why. why ≡ HostRefused.Memory) }
         ensures kept { OnErr result (self.new ≡ self.old) }
 
         // Nothing changes of a partition that is neither the caller nor a child of it, before or after,
@@ -165,6 +161,7 @@ impl<A: Allocator + Clone> Machine<A> {
     }
 
     // The same where the call that the frame names, if it names one, is known.
+    // Inlined: calls for the own id in bench/embed.sh.
     #[inline(always)]
     fn take(
         &mut self,
@@ -185,6 +182,7 @@ impl<A: Allocator + Clone> Machine<A> {
     }
 
     // Serves a call for which P1 to P10 are met, where its own rules are met too, and answers.
+    // Inlined: calls for the own id in bench/embed.sh.
     #[inline(always)]
     fn answer(
         &mut self,
@@ -213,7 +211,6 @@ impl<A: Allocator + Clone> Machine<A> {
 
     /// Takes one access of a processor, as [`Machine::step`] takes it as an event, with the same promises. What
     /// it puts out is added to `output`, which is empty before. The host refuses none.
-    #[inline(always)]
     pub fn access(&mut self, by: Caller, access: Access, output: &mut Output) -> Result<(), Rule>
         requires count { self.old.served < MAX_SERVED }
         requires empty { output.old ≡ [] }
@@ -230,6 +227,7 @@ impl<A: Allocator + Clone> Machine<A> {
     }
 
     // Serves a call for which P1 to P10 are met, where its own rules are met too.
+    // Inlined: calls for the own id in bench/embed.sh.
     #[inline(always)]
     fn serve(&mut self, by: Caller, call: &Call<'_>) -> Result<CallOutput, Refused>
         requires count { self.old.served < MAX_SERVED }

@@ -39,7 +39,6 @@ impl Pending {
     }
 
     /// Removes the highest vector, and returns it.
-    #[inline(always)]
     pub fn take_highest(&mut self) -> Option<u8>
         ensures vector { result ≡ highest self.old }
         ensures vectors { self.new ≡ without self.old (highest self.old) }

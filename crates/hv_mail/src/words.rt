@@ -30,7 +30,6 @@ pub(crate) fn clear_bit(words: &mut [u64], at: usize)
 }
 
 // The highest bit that is set.
-#[inline(always)]
 pub(crate) fn highest_bit(words: &[u64]) -> Option<usize>
     requires { length words.now ≤ 4 }
     ensures none { IsNone result → (k : ℕ) → has_bit words.now k ≡ false }

@@ -17,7 +17,6 @@ use hv_tie::{Partitions, caller_in};
 use std::alloc::Allocator;
 
 /// A read of the message slot of one of the caller's SINTs, in 256 bytes.
-#[inline(always)]
 pub fn read_slot<A: Allocator>(
     tree: &mut Partitions<A>,
     by: Caller,
@@ -35,7 +34,6 @@ pub fn read_slot<A: Allocator>(
 }
 
 /// The message that one of the caller's SINTs shows is removed, if it shows one. None is shown in its place.
-#[inline(always)]
 pub fn clear_slot<A: Allocator>(tree: &mut Partitions<A>, by: Caller, sint: u8) -> Result<(), Rule>
     ensures { (f : Flat) → IsTied tree.old f → IsAnswered {A = A} f by (action.ClearSlot sint) tree.old
         (result_map_both (λ _. []) (λ rule. rule) result) tree.new }
@@ -67,7 +65,6 @@ pub fn read_flags<A: Allocator>(
 }
 
 /// An event flag of one of the caller's SINTs is cleared.
-#[inline(always)]
 pub fn clear_flag<A: Allocator>(
     tree: &mut Partitions<A>,
     by: Caller,
@@ -87,7 +84,6 @@ pub fn clear_flag<A: Allocator>(
 }
 
 /// The highest of the vectors that are pending at the caller is taken, in 1 byte, which is 0 where none is.
-#[inline(always)]
 pub fn take_interrupt<A: Allocator>(
     tree: &mut Partitions<A>,
     by: Caller,
@@ -107,7 +103,6 @@ pub fn take_interrupt<A: Allocator>(
 }
 
 // The first unmet rule of an access to a SINT or a flag that no processor has: one of P1 to P3, or else P21.
-#[inline(never)]
 fn no_subject<A: Allocator>(tree: &Partitions<A>, by: Caller) -> Rule
     ensures { (f : Flat) → IsTied tree.now f
         → first_unmet (caller_asks f by ++ ((rule.Subject, false) ∷ [])) ≡ Some result }

@@ -35,7 +35,6 @@ pub struct Target {
 
 // P16, P17 and P19 of a post or a signal: where the caller's connection leads and the partition of the port, or
 // the first of them that isn't met. What is asked of the port's partition is asked of the one that was found.
-#[inline(always)]
 pub fn reach<'t, A: Allocator>(
     tree: &'t Partitions<A>,
     caller: u64,
@@ -63,7 +62,6 @@ pub fn reach<'t, A: Allocator>(
 }
 
 // A partition's connection with this id, if it has one.
-#[inline(always)]
 fn conn_of<A: Allocator>(tree: &Partitions<A>, id: u64, connection: u32) -> Option<Conn>
     ensures { (f : Flat) → IsTied tree.now f → option_map conn_row_of result ≡ get f.conn (id, connection) }
 {
@@ -74,7 +72,6 @@ fn conn_of<A: Allocator>(tree: &Partitions<A>, id: u64, connection: u32) -> Opti
 }
 
 // A partition's port with this id, if it has one, and the partition.
-#[inline(always)]
 fn port_of<'t, A: Allocator>(
     tree: &'t Partitions<A>,
     id: u64,
@@ -106,7 +103,6 @@ fn has_target<A: Allocator>(home: &Partition<A>, aim: Aim) -> bool
 
 // P22: the processor of the port's partition that takes what a port of this kind takes, if there is one: the
 // one at which the port aims, if it is ready, and for any the lowest of those that are.
-#[inline(always)]
 pub fn taker<A: Allocator>(home: &Partition<A>, aimed: Aimed, kind: PortKind) -> Option<u32>
     ensures { (f : Flat) (rows : Rows PartitionState) → content rows aimed.conn.part ≡ Some home.now
         → IsTied rows f → result ≡ taker_of kind f (aim_row aimed.conn aimed.port) }
@@ -124,7 +120,6 @@ pub fn taker<A: Allocator>(home: &Partition<A>, aimed: Aimed, kind: PortKind) ->
 
 // P23: whether fewer than the most messages of the port and its birth are kept. They stand at the processor
 // at which the port aims, and for any at processors of its partition.
-#[inline(always)]
 pub fn has_message_room<A: Allocator>(home: &Partition<A>, aimed: Aimed) -> bool
     ensures { (f : Flat) (rows : Rows PartitionState) (caller connection : ℕ)
         → content rows aimed.conn.part ≡ Some home.now → AreLawful rows

@@ -51,7 +51,6 @@ pub fn post_message<A: Allocator + Clone>(
 
 // P16, P17, P19, P21, P22 and P23: where the connection leads and the processor that takes the message, or the
 // first of them that isn't met.
-#[inline(always)]
 fn ask_post<A: Allocator>(
     tree: &Partitions<A>,
     caller: u64,
@@ -127,7 +126,6 @@ pub fn signal_event<A: Allocator>(
 
 // P16, P17, P19, P21 and P22: where the connection leads and the processor that takes the event flag, or the
 // first of them that isn't met.
-#[inline(always)]
 fn ask_signal<A: Allocator>(
     tree: &Partitions<A>,
     caller: u64,

@@ -55,7 +55,6 @@ pub fn signal<A: Allocator>(tree: &mut Partitions<A>, id: u64, index: u32, sint:
 
 // Removes the message that a SINT of the calling processor shows.
 #[tactic(auto, using(hv_tree::proofs::Laws::unchanged))]
-#[inline(always)]
 pub fn clear<A: Allocator>(tree: &mut Partitions<A>, by: Caller, sint: u8) -> Result<(), Rule>
     requires { sint < SINTS }
     ensures cleared { OnOk result (tree.new ≡ changed tree.old by.part (with_state_of by.vp (slot_cleared sint))) }
@@ -74,7 +73,6 @@ pub fn clear<A: Allocator>(tree: &mut Partitions<A>, by: Caller, sint: u8) -> Re
 
 // Clears an event flag of a SINT of the calling processor.
 #[tactic(auto, using(hv_tree::proofs::Laws::unchanged))]
-#[inline(always)]
 pub fn clear_one_flag<A: Allocator>(
     tree: &mut Partitions<A>,
     by: Caller,
@@ -100,7 +98,6 @@ pub fn clear_one_flag<A: Allocator>(
 
 // Takes the highest vector that is pending at the calling processor, or 0 where none is.
 #[tactic(auto, using(hv_tree::proofs::Laws::unchanged))]
-#[inline(always)]
 pub fn take<A: Allocator>(tree: &mut Partitions<A>, by: Caller) -> Result<u8, Rule>
     ensures vector { IfOk result (λ vector. (f : Flat) → IsTied tree.old f
         → vector ≡ vector_of (get f.vp (by.part, by.vp))) }
@@ -122,7 +119,6 @@ pub fn take<A: Allocator>(tree: &mut Partitions<A>, by: Caller) -> Result<u8, Ru
 
 // Puts out the message slot of a SINT of the calling processor.
 #[tactic(auto, using(hv_tree::proofs::Laws::unchanged))]
-#[inline(always)]
 pub fn slot<A: Allocator>(
     tree: &mut Partitions<A>,
     by: Caller,
@@ -148,7 +144,6 @@ pub fn slot<A: Allocator>(
 
 // Puts out the event flags of a SINT of the calling processor.
 #[tactic(auto, using(hv_tree::proofs::Laws::unchanged))]
-#[inline(always)]
 pub fn flags<A: Allocator>(
     tree: &mut Partitions<A>,
     by: Caller,

@@ -9,7 +9,6 @@ use std::alloc::{AllocError, Allocator};
 // The ports. What a call needs of them, and what it promises of them, is what their table asks and promises.
 impl<A: Allocator> Partition<A> {
     /// The port with this id, or `None` where the partition has none.
-    #[inline(always)]
     pub fn port(&self, id: u32) -> Option<Port>
         ensures { result ≡ map.get self.now.ports.rows id }
     {
@@ -66,7 +65,6 @@ impl<A: Allocator> Partition<A> {
 // promises.
 impl<A: Allocator> Partition<A> {
     /// The connection with this id, or `None` where the partition has none.
-    #[inline(always)]
     pub fn conn(&self, id: u32) -> Option<Conn>
         ensures { result ≡ map.get self.now.conns.rows id }
     {

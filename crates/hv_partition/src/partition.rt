@@ -213,7 +213,6 @@ impl<A: Allocator> Partition<A> {
 // The processors. What a call needs of them, and what it promises of them, is what `Vps` asks and promises.
 impl<A: Allocator> Partition<A> {
     /// The processor with this index, or `None` where the partition has none.
-    #[inline(always)]
     pub fn vp(&self, index: u32) -> Option<&Vp<A>>
         ensures { option_copied result ≡ map.get self.now.vps.vps index }
     {
@@ -221,7 +220,6 @@ impl<A: Allocator> Partition<A> {
     }
 
     /// The processor with this index, to be changed.
-    #[inline(always)]
     pub fn vp_mut(&mut self, index: u32) -> Option<&mut Vp<A>>
         ensures* writes_back { sem 𝓛 (LendsIf (the_row A.row A.Allocator) (vp_row A.row A.Allocator)
             self.entry result

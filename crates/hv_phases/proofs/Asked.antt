@@ -16,7 +16,7 @@ use Rattle.hv_shared.specs.ByCaller.{is_caller}
 use Rattle.hv_history.specs.Run.{restart, start_of}
 use Rattle.hv_shared.specs.Drive.{AreElements}
 use Rattle.hv_shared.specs.Pass.{receipt}
-use Rattle.hv_shared.specs.Perform.{AreWhole, IsAccess, IsWhole}
+use Rattle.hv_threads.specs.Perform.{AreWhole, IsAccess, IsWhole}
 use Rattle.hv_shared.specs.declared.receipts.Receipt.{Receipt}
 
 pub asked_by-append : (by : Caller) (xs ys : List (Line Global)) → asked_by by (xs ++ ys) ≡ asked_by by xs ++ asked_by by ys
@@ -58,7 +58,8 @@ access_by : (by : Caller) (what : Action Global) (list : List Receipt) → IsAcc
 access_by by what list access =
     subst (All (IsBy by)) (sym access.all) (All-cons (IsBy by) (receipt access.number (record { by = by; what = what }) access.reply) [] refl (All-nil (IsBy by)))
 
-action_by : (by : Caller) (what : Action Global) (list : List Receipt) → IsWhole by what list → All (IsBy by) list
+-- receipts of a whole action are by its caller
+pub action_by : (by : Caller) (what : Action Global) (list : List Receipt) → IsWhole by what list → All (IsBy by) list
 action_by by (Hypercall frame) list whole =
     let w = whole.whole in
     let last = receipt w.number (record { by = by; what = Hypercall whole.last }) whole.reply in

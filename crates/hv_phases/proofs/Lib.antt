@@ -1,8 +1,9 @@
-pub mod Alone
 pub mod Asked
 pub mod Crews
 pub mod Handing
+pub mod InOrder
+pub mod Lending
+pub mod Members
 pub mod Named
 pub mod Settled
-pub mod Stops
-pub mod Telling
+pub mod Written

@@ -1,5 +1,5 @@
 -- A settled run of lines.
-use Rattle.std.proofs.Common.{◌≡◌, ℕ, zero, suc, ◌<◌, List, [], ◌∷◌, length, get_or, refl, sym, ◌∙◌, subst, arith, Bool, true, false, ◌⊎◌, inl, inr}
+use Rattle.std.proofs.Common.{◌≡◌, ℕ, zero, suc, ◌<◌, List, [], ◌∷◌, length, get_or, refl, sym, ap, ◌∙◌, subst, arith, Bool, true, false, ◌⊎◌, inl, inr}
 use Rattle.std.specs.Prelude.{map, All}
 use Rattle.std.specs.List.{Contains}
 use Rattle.std.proofs.lemmas.Bool.{false≢true}
@@ -8,7 +8,7 @@ use Rattle.std.specs.declared.alloc.Global.{Global}
 use Rattle.hv_history.specs.declared.entry.Entry.{Entry}
 use Rattle.hv_policy.specs.declared.event.Action.{Action}
 use Rattle.hv_policy.specs.declared.event.Caller.{Caller}
-use Rattle.hv_phases.specs.Crew.{HaveRun}
+use Rattle.hv_phases.specs.Crew.{AreCallersOf, HaveRun}
 use Rattle.hv_phases.specs.Lines.{AreRun, asked_by}
 use Rattle.hv_phases.proofs.Asked.{asked_by_none, whole_by}
 use Rattle.hv_script.specs.declared.line.Line.{Line}
@@ -16,7 +16,7 @@ use Rattle.hv_shared.proofs.Callers.{is_itself, same_caller, receipts_of_pass, n
 use Rattle.hv_shared.specs.ByCaller.{is_caller, receipts_by}
 use Rattle.hv_shared.specs.Merge.{IsMerge, receipts_of}
 use Rattle.hv_shared.specs.PassValue.{PassValue}
-use Rattle.hv_shared.specs.Perform.{AreWhole}
+use Rattle.hv_threads.specs.Perform.{AreWhole}
 use Rattle.hv_shared.specs.declared.receipts.Receipt.{Receipt}
 
 -- whether a caller is among these
@@ -29,7 +29,7 @@ is_among_at c x xs false is (inr none) = inr (λ there. not_there c x xs is none
     not_there c x xs is none zero h same = false≢true (sym is ∙ is_itself c x same)
     not_there c x xs is none (suc k) h same = none (k, omega arith, same)
 
-is_among : (c : Caller) (xs : List Caller) → Contains xs c ⊎ (Contains xs c → ⊥)
+pub is_among : (c : Caller) (xs : List Caller) → Contains xs c ⊎ (Contains xs c → ⊥)
 is_among c [] = inr (λ there. let h = there.1 in omega arith)
 is_among c (x ∷ xs) = is_among_at c x xs (is_caller c x) refl (is_among c xs)
 
@@ -37,7 +37,7 @@ module _ (lines : List (Line Global)) (passes : List PassValue) (history : List 
   abbrev callers : List Caller
   callers = map (λ (p : PassValue). p.caller) passes
 
-  many : length (receipts_of passes) ≡ length callers
+  pub many : length (receipts_of passes) ≡ length callers
   many = length-map passes (λ (p : PassValue). p.receipts) ∙ sym (length-map passes (λ (p : PassValue). p.caller))
 
   pass_at : (j : ℕ) (p : PassValue) (d : Caller) → j < length callers → AreWhole (get_or callers j d) (asked_by (get_or callers j d) lines) (get_or (receipts_of passes) j [])
@@ -48,7 +48,7 @@ module _ (lines : List (Line Global)) (passes : List PassValue) (history : List 
       subst (λ (c : Caller). AreWhole c (asked_by c lines) (get_or (receipts_of passes) j [])) (sym by_is)
       (subst (λ (l : List Receipt). AreWhole (get_or passes j p).caller (asked_by (get_or passes j p).caller lines) l) (sym list_is) (ran.run j p there))
 
-  some_pass : 0 < length callers → PassValue
+  pub some_pass : 0 < length callers → PassValue
   some_pass h = first passes (let m = length-map passes (λ (p : PassValue). p.caller) in omega arith)
     where
       first : (ps : List PassValue) → 0 < length ps → PassValue
@@ -58,7 +58,7 @@ module _ (lines : List (Line Global)) (passes : List PassValue) (history : List 
   whole_at : (j : ℕ) (d : Caller) → j < length callers → AreWhole (get_or callers j d) (asked_by (get_or callers j d) lines) (get_or (receipts_of passes) j [])
   whole_at j d h = pass_at j (some_pass (omega arith)) d h
 
-  own : (j : ℕ) (d : Caller) → j < length callers → All (λ r. r.event.by ≡ get_or callers j d) (get_or (receipts_of passes) j [])
+  pub own : (j : ℕ) (d : Caller) → j < length callers → All (λ r. r.event.by ≡ get_or callers j d) (get_or (receipts_of passes) j [])
   own j d h = whole_by (get_or callers j d) (asked_by (get_or callers j d) lines) (get_or (receipts_of passes) j []) (whole_at j d h)
 
   by_caller : (c : Caller) → Contains callers c ⊎ (Contains callers c → ⊥) → AreWhole c (asked_by c lines) (receipts_by c 1 history)
@@ -74,3 +74,10 @@ module _ (lines : List (Line Global)) (passes : List PassValue) (history : List 
   -- each caller's entries are what its lines ask for
   pub settled : AreRun lines history
   settled c = by_caller c (is_among c callers)
+
+-- nothing is asked for where nobody is named
+pub nobody : (lines : List (Line Global)) (callers : List Caller) (history : List (Entry Global)) → AreCallersOf lines callers → callers ≡ [] → history ≡ [] → AreRun lines history
+nobody lines callers history of none empty c =
+    let absent : Contains callers c → ⊥ = λ there. let k = subst (λ (xs : List Caller). Contains xs c) none there in omega (arith, k.1) in
+    subst (λ (l : List Receipt). AreWhole c (asked_by c lines) l) (sym (ap (receipts_by c 1) empty))
+    (subst (λ (l : List (Action Global)). AreWhole c l []) (sym (asked_by_none c callers lines of.named absent)) refl)

@@ -1,16 +1,21 @@
--- The tasks of a script's processors while its lines run.
-use Rattle.std.specs.Prelude.{ℕ, ◌≡◌, ◌≤◌, ◌<◌, List, [], ◌∷◌, ◌++◌, length, map, reverse, All, slice_index_or}
-use Rattle.std.specs.List.Sorted.{IsPermutation}
+-- What the processors of a script hold while its lines run. Only contracts of private functions cite these words.
+use Rattle.std.specs.Prelude.{ℕ, ◌≡◌, ◌+◌, ◌==◌, ◌&&◌, ◌⊎◌, ◌↔◌, false, true, Bool, if◌then◌else◌, List, [], ◌∷◌, ◌++◌, length, map, reverse, All, Option, None, Some, IfSome, IsSome}
 use Rattle.std.specs.List.{Contains}
 use Rattle.std.specs.declared.alloc.Global.{Global}
+use Rattle.hv_history.specs.declared.entry.Entry.{Entry}
 use Rattle.hv_policy.specs.declared.event.Caller.{Caller}
 use Rattle.hv_script.specs.declared.line.Line.{Line}
-use Rattle.hv_phases.specs.Lines.{asked_by}
-use Rattle.hv_shared.specs.ByCaller.{AreDifferent}
+use Rattle.hv_phases.specs.Lines.{AreInOrder, asked_by}
+use Rattle.hv_phases.specs.declared.crew.Member.{Member}
+use Rattle.hv_shared.specs.ByCaller.{AreDifferent, receipts_by}
 use Rattle.hv_shared.specs.PassValue.{PassValue}
-use Rattle.hv_shared.specs.Perform.{AreWhole}
+use Rattle.hv_shared.specs.declared.receipts.Receipt.{Receipt}
+use Rattle.hv_threads.specs.Perform.{AreWhole}
+use Rattle.hv_threads.specs.declared.phase.Done.{Done}
 use Rattle.hv_threads.specs.declared.phase.End.TheVariants.{Finished}
-use Rattle.hv_threads.specs.declared.phase.Task.{Task}
+use Rattle.hv_threads.specs.declared.phase.Work.{Work}
+use Rattle.indexmap.specs.IndexMap.{IndexMap, get}
+use Rattle.indexmap.specs.IndexSet.{IndexSet, contains}
 
 -- each processor stands there once, and so does each that a line names
 pub record AreCallersOf (lines : List (Line Global)) (callers : List Caller) : Type 0 where
@@ -23,60 +28,158 @@ pub record HasCaller (by : Caller) (old new : List Caller) : Type 0 where
   pub there : Contains new by
   pub kept : (c : Caller) → Contains old c → Contains new c
 
-abbrev pub caller_of : {L : Type 0} → Task L → Caller
-caller_of task = task.work.pass.caller
+-- the key of a processor, and whether two are one
+abbrev pub key_of : Caller → ℕ × ℕ
+key_of by = (by.part, by.vp)
 
-abbrev pub callers_in : {L : Type 0} → List (Task L) → List Caller
-callers_in tasks = map caller_of tasks
+abbrev pub is_key : ℕ × ℕ → ℕ × ℕ → Bool
+is_key one other = (one.0 == other.0) && (one.1 == other.1)
 
-abbrev pub passes_in : {L : Type 0} → List (Task L) → List PassValue
-passes_in tasks = map (λ task. task.work.pass) tasks
+-- these are the keys of these processors
+abbrev pub IsSetOf : {S : Type 0} → IndexSet (ℕ × ℕ) S → List Caller → Type 0
+IsSetOf seen callers = (c : Caller) → (contains is_key seen (key_of c) ≡ true) ↔ Contains callers c
 
 -- the pass has a receipt of each of its caller's events that these lines ask for, in order, and no other
 abbrev pub HasRun : List (Line Global) → PassValue → Type 0
 HasRun lines pass = AreWhole pass.caller (asked_by pass.caller lines) pass.receipts
-
--- what is to be done next is what these lines ask for
-abbrev pub IsGiven : {L : Type 0} → List (Line Global) → Task L → Type 0
-IsGiven lines task = task.work.actions ≡ asked_by task.work.pass.caller lines
-
--- the host didn't stop it
-abbrev pub IsGoing : {L : Type 0} → Task L → Type 0
-IsGoing task = task.end ≡ Finished
-
--- from this place on nothing is to be done
-abbrev pub AreIdleFrom : {L : Type 0} → ℕ → List (Task L) → Type 0
-AreIdleFrom {L} members tasks = (i : ℕ) (d : Task L) → members ≤ i → i < length tasks → (slice_index_or tasks i d).work.actions ≡ []
-
--- the host stopped none from this place on
-abbrev pub AreGoingFrom : {L : Type 0} → ℕ → List (Task L) → Type 0
-AreGoingFrom {L} members tasks = (i : ℕ) (d : Task L) → members ≤ i → i < length tasks → IsGoing (slice_index_or tasks i d)
-
--- the tasks of these lines' processors, before any line is run
-pub record AreReady {L : Type 0} (lines : List (Line Global)) (tasks : List (Task L)) : Type 0 where
-  pub callers : AreCallersOf lines (callers_in tasks)
-  pub going : All IsGoing tasks
-  pub idle : AreIdleFrom 0 tasks
-  pub run : All (λ task. HasRun [] task.work.pass) tasks
 
 -- the passes of these lines' processors, which have run them
 pub record HaveRun (lines : List (Line Global)) (passes : List PassValue) : Type 0 where
   pub callers : AreCallersOf lines (map (λ pass. pass.caller) passes)
   pub run : All (HasRun lines) passes
 
--- the task at one place has one action more to do; tasks may have changed places
-pub record HasGiven {L : Type 0} (line : Line Global) (old new : List (Task L)) : Type 0 where
-  pub callers : IsPermutation (callers_in old) (callers_in new)
-  pub going : All IsGoing old → All IsGoing new
-  pub run : (lines : List (Line Global)) → All (λ task. HasRun lines task.work.pass) old → All (λ task. HasRun lines task.work.pass) new
-  pub given : (taken : List (Line Global)) → All (IsGiven taken) old → All (IsGiven (taken ++ line ∷ [])) new
+-- the receipts of the pass are those of what its processor did by this history
+abbrev pub IsToldOf : List (Entry Global) → PassValue → Type 0
+IsToldOf history pass = pass.receipts ≡ receipts_by pass.caller 1 history
 
--- the first lines of those that were left, one at least, are to be done next; `left` has the first line last
-pub record HasHandedOut {L : Type 0} (left_old left_new : List (Line Global)) (old new : List (Task L)) : Type 0 where
-  pub first : Line Global
-  pub more : List (Line Global)
-  pub order : reverse left_old ≡ first ∷ more ++ reverse left_new
-  pub callers : IsPermutation (callers_in old) (callers_in new)
-  pub going : All IsGoing old → All IsGoing new
-  pub run : (lines : List (Line Global)) → All (λ task. HasRun lines task.work.pass) old → All (λ task. HasRun lines task.work.pass) new
-  pub given : All (IsGiven (first ∷ more)) new
+-- the passes have the receipts of a history in which the entries of each of these lines stand behind those of the line before it
+pub record HaveRunInOrder (lines : List (Line Global)) (passes : List PassValue) : Type 0 where
+  pub history : List (Entry Global)
+  pub order : AreInOrder 1 lines history
+  pub told : All (IsToldOf history) passes
+
+-- the number of the last event after these receipts, if they have the numbers behind this one, in turn
+abbrev pub last_in_turn : ℕ → List Receipt → Option ℕ
+last_in_turn last [] = Some last
+last_in_turn last (r ∷ receipts) = if r.number == last + 1 then last_in_turn (last + 1) receipts else None
+
+-- the pass's processor has run the first of these lines, is to do what the others ask for, and wasn't stopped
+pub record IsGiven {L : Type 0} (ran taken : List (Line Global)) (member : Member L) : Type 0 where
+  pub run : HasRun ran member.pass
+  pub asked : member.asked.items ≡ asked_by member.pass.caller taken
+  pub going : member.stopped ≡ false
+
+-- it has nothing to do
+abbrev pub IsReady : {L : Type 0} → List (Line Global) → Member L → Type 0
+IsReady ran member = IsGiven ran [] member
+
+-- the work is what these lines ask of a processor that has run the lines before them
+pub record IsWorkOf {L : Type 0} (ran taken : List (Line Global)) (work : Work L) : Type 0 where
+  pub run : HasRun ran work.pass
+  pub asked : work.actions.items ≡ asked_by work.pass.caller taken
+
+-- what each processor holds, by its key
+abbrev pub Crew : Type 0 → Type 0 → Type 0
+Crew L S = IndexMap (ℕ × ℕ) (Member L) S
+
+module _ {L S : Type 0} where
+  -- what a processor holds
+  abbrev pub member_of : Caller → Crew L S → Option (Member L)
+  member_of by crew = get is_key crew (key_of by)
+
+  abbrev pub IsThere : Crew L S → Caller → Type 0
+  IsThere crew c = IsSome (member_of c crew)
+
+  abbrev pub HaveMembers : List Caller → Crew L S → Type 0
+  HaveMembers callers crew = (c : Caller) → Contains callers c → IsThere crew c
+
+  -- each holds the pass of its processor, and this is so of it
+  abbrev pub Each : (Member L → Type 0) → Crew L S → Type 0
+  Each P crew = (c : Caller) (m : Member L) → member_of c crew ≡ Some m → (m.pass.caller ≡ c) × P m
+
+  abbrev pub AreKeyed : Crew L S → Type 0
+  AreKeyed crew = (c : Caller) (m : Member L) → member_of c crew ≡ Some m → m.pass.caller ≡ c
+
+  -- the pass joined, with nothing to do
+  pub record HasJoined (pass : PassValue) (stopped : Bool) (old new : Crew L S) : Type 0 where
+    pub member : Member L
+    pub here : member_of pass.caller new ≡ Some member
+    pub pass_is : member.pass ≡ pass
+    pub idle : member.asked.items ≡ []
+    pub stopped_is : member.stopped ≡ stopped
+    pub others : (c : Caller) → (c ≡ pass.caller → ⊥) → member_of c new ≡ member_of c old
+
+  -- somebody in the crew holds the pass
+  pub record IsHeld (crew : Crew L S) (pass : PassValue) : Type 0 where
+    pub by : Caller
+    pub member : Member L
+    pub here : member_of by crew ≡ Some member
+    pub pass_is : member.pass ≡ pass
+
+  -- the passes are those of these processors, if each of them has one
+  pub record IsBack (crew : Crew L S) (order : List Caller) (passes : List PassValue) : Type 0 where
+    pub callers : AreDifferent order → AreKeyed crew → HaveMembers order crew → map (λ pass. pass.caller) passes ≡ order
+    pub each : All (IsHeld crew) passes
+
+  -- whoever was there is there
+  abbrev pub StayThere : Crew L S → Crew L S → Type 0
+  StayThere old new = (c : Caller) → IsThere old c → IsThere new c
+
+  -- a line was run
+  pub record HasDone (line : Line Global) (old new : Crew L S) : Type 0 where
+    pub each : (ran : List (Line Global)) → IsThere old line.by → Each (IsReady ran) old → Each (IsReady (ran ++ line ∷ [])) new
+    pub there : StayThere old new
+
+  -- all lines were run
+  pub record HasRunAll (lines : List (Line Global)) (old new : Crew L S) : Type 0 where
+    pub each : Each (IsReady lines) new
+    pub there : StayThere old new
+
+  -- the crew has the receipts of a history in which the entries of each of these lines stand behind those of the line before it
+  pub record HasRunInOrder (lines : List (Line Global)) (crew : Crew L S) : Type 0 where
+    pub history : List (Entry Global)
+    pub order : AreInOrder 1 lines history
+    pub told : Each (λ member. IsToldOf history member.pass) crew
+
+  -- the crew has such receipts of these lines, and the last event has this number, unless a receipt wasn't in its turn
+  abbrev pub IsTurn : List (Line Global) → Option ℕ → Crew L S → Type 0
+  IsTurn lines turn crew = IfSome turn (λ last. (run : HasRunInOrder lines crew) × (length run.history ≡ last))
+
+  -- what a line's processor did stands behind what was done before
+  abbrev pub KeepsOrder : Line Global → Option ℕ → Option ℕ → Crew L S → Crew L S → Type 0
+  KeepsOrder line turn_old turn_new old new =
+      (ran : List (Line Global)) → IsThere old line.by → Each (IsReady ran) old → IsTurn ran turn_old old → IsTurn (ran ++ line ∷ []) turn_new new
+
+  -- who isn't among these has nothing to do
+  abbrev pub AreBusy : List Caller → Crew L S → Type 0
+  AreBusy members crew = (c : Caller) (m : Member L) → member_of c crew ≡ Some m → Contains members c ⊎ (m.asked.items ≡ [])
+
+  -- a line was handed to its processor
+  pub record HasGiven (line : Line Global) (members_old members_new : List Caller) (old new : Crew L S) : Type 0 where
+    pub each : (ran taken : List (Line Global)) → Each (IsGiven ran taken) old → Each (IsGiven ran (taken ++ line ∷ [])) new
+    pub busy : AreBusy members_old old → AreBusy members_new new
+    pub there : StayThere old new
+
+  -- a line and the next ones of those that are left, of which the first stands last, were handed to their processors
+  pub record HasHandedOut (first : Line Global) (left_old left_new : List (Line Global)) (members : List Caller) (old new : Crew L S) : Type 0 where
+    pub more : List (Line Global)
+    pub order : reverse left_old ≡ more ++ reverse left_new
+    pub each : (ran : List (Line Global)) → Each (IsReady ran) old → Each (IsGiven ran (first ∷ more)) new × AreBusy members new
+    pub there : StayThere old new
+
+  -- the works of these processors were taken out, but for those that are left
+  pub record HasLent (members left : List Caller) (works : List (Work L)) (old new : Crew L S) : Type 0 where
+    pub each : (ran taken : List (Line Global)) → Each (IsGiven ran taken) old → Each (IsGiven ran taken) new × All (IsWorkOf ran taken) works
+    pub idle : AreBusy members old → AreBusy left new
+    pub there : AreKeyed old → AreKeyed new × ((c : Caller) → IsThere old c → IsThere new c ⊎ Contains (map (λ work. work.pass.caller) works) c)
+
+  -- what was done came back, and the host stopped nobody
+  pub record HasTaken (dones : List (Done L)) (old new : Crew L S) : Type 0 where
+    pub ended : All (λ done. done.end ≡ Finished) dones
+    pub each : (ran : List (Line Global)) → All (λ done. HasRun ran done.pass) dones → Each (IsReady ran) old → Each (IsReady ran) new
+    pub there : (c : Caller) → IsThere old c ⊎ Contains (map (λ done. done.pass.caller) dones) c → IsThere new c
+
+  -- what was handed to these processors was done
+  pub record HasRunPhase (members : List Caller) (old new : Crew L S) : Type 0 where
+    pub each : (ran taken : List (Line Global)) → Each (IsGiven ran taken) old → AreBusy members old → Each (IsReady (ran ++ taken)) new
+    pub there : AreKeyed old → StayThere old new

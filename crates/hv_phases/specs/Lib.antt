@@ -1,4 +1,2 @@
 pub mod Crew
 pub mod Lines
-pub mod Places
-pub mod Stop

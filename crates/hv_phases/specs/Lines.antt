@@ -1,14 +1,12 @@
 -- What the lines of a script come to.
 use Rattle.std.specs.Prelude.{ℕ, ◌≡◌, ◌+◌, List, [], ◌∷◌, ◌++◌, length, map, filter, All}
 use Rattle.std.specs.declared.alloc.Global.{Global}
-use Rattle.hv_history.specs.Kept.{Kept}
 use Rattle.hv_history.specs.declared.entry.Entry.{Entry}
 use Rattle.hv_policy.specs.declared.event.Action.{Action}
 use Rattle.hv_policy.specs.declared.event.Caller.{Caller}
 use Rattle.hv_script.specs.declared.line.Line.{Line}
-use Rattle.hv_script.specs.declared.lines.Turn.{Turn}
 use Rattle.hv_shared.specs.ByCaller.{is_caller, receipts_by}
-use Rattle.hv_shared.specs.Perform.{AreWhole, IsWhole}
+use Rattle.hv_threads.specs.Perform.{AreWhole, IsWhole}
 
 -- what the lines of this processor ask for, in order
 abbrev pub asked_by : Caller → List (Line Global) → List (Action Global)
@@ -26,20 +24,3 @@ AreInOrder n [] entries = entries ≡ []
 AreInOrder n (line ∷ lines) entries =
     (own : List (Entry Global)) × (rest : List (Entry Global)) × (entries ≡ own ++ rest) × All (λ e. e.event.by ≡ line.by) own
     × IsWhole line.by line.action (receipts_by line.by n own) × AreInOrder (n + length own) lines rest
-
--- The history has entries more, all by this caller, which are those of an action that came to its end. It has the configuration
--- and the limit that it had.
-pub record HasDone (by : Caller) (what : Action Global) (old new : Kept Global) : Type 0 where
-  pub more : List (Entry Global)
-  pub history : new.history ≡ old.history ++ more
-  pub own : All (λ e. e.event.by ≡ by) more
-  pub whole : IsWhole by what (receipts_by by (length old.history + 1) more)
-  pub config : new.config ≡ old.config
-  pub limit : new.limit ≡ old.limit
-
--- whose line is the next of those that are left, of which the first is the last
-pub record IsNextTurn (left : List (Line Global)) (turn : Turn) : Type 0 where
-  pub rest : List (Line Global)
-  pub line : Line Global
-  pub order : left ≡ rest ++ line ∷ []
-  pub by : turn.by ≡ line.by

@@ -1,109 +1,127 @@
-// The lines of a script in its order, with no thread.
-ghost use Rattle.std.specs.Prelude.{◌≡◌, [], None, IfNone, IfOk, OnOk};
-ghost use Rattle.std.specs.declared.alloc.Global.{Global};
-ghost use Rattle.hv_policy.specs.declared.event.Action.{Action};
-ghost use Rattle.hv_phases.specs.Lines.{AreInOrder, AreRun, HasDone};
-ghost use Rattle.hv_phases.specs.Stop.{IsStopped};
+// The lines of a script in its order, by one thread.
+ghost use Rattle.std.specs.Prelude.{◌≡◌, [], All, IfNone, IsSome, OnErr, OnOk, drop};
+ghost use Rattle.std.specs.Prelude.{option_and_then};
+ghost use Rattle.hv_phases.specs.Crew.{Each, HasDone, HasRunAll, HasRunInOrder, IsReady, KeepsOrder};
+ghost use Rattle.hv_phases.specs.Crew.{last_in_turn, member_of};
+ghost use Rattle.hv_shared.specs.Receipts.{list_of};
+ghost use Rattle.hv_threads.specs.Perform.{HasBegun, HasPerformed};
 
-use crate::stopped::Stops;
-use hv_actions::give_back;
-use hv_history::{HostRefused, Kept};
-use hv_policy::{Action, Caller, Event};
-use hv_script::Lines;
-use std::alloc::{AllocError, Global};
+use crate::crew::{Crew, key_of};
+use crate::run::Unfinished;
+use hv_history::HostRefused;
+use hv_policy::Action;
+use hv_script::Line;
+use hv_threads::{Gate, Pass, Receipts, SettleFault, Shared};
+use std::alloc::Global;
+use std::sync::Wait;
+use std::sync::ledger::Ledger;
 
-/// Runs the lines one after the other, and tells why the host stopped a processor, of all that it stopped the
-/// first among these callers. A processor that was stopped does no line more, and no phase begins after one in
-/// which a processor was stopped. One thread makes all of it happen, so that nobody has to be told what
-/// happened, and there is nothing to settle: the history has what the lines ask for by the contract.
-pub fn run_in_order(
-    kept: &mut Kept<Global>,
-    callers: &[Caller],
-    lines: Lines<Global>,
-) -> Option<HostRefused>
-    requires { kept.old.history ≡ [] }
-    ensures config { kept.new.config ≡ kept.old.config }
-    ensures limit { kept.new.limit ≡ kept.old.limit }
-    ensures lines { IfNone result (AreRun lines kept.new.history) }
-    ensures order { IfNone result (AreInOrder 1 lines kept.new.history) }
+/// Runs the lines one after the other, and tells why the host stopped the first processor that it stopped, if
+/// it stopped one. A processor that was stopped does no line more, and no phase begins after one in which a
+/// processor was stopped. A pass knows nothing of what other processors did, so the numbers of receipts are
+/// compared: those of each line follow those of the line before it, or the run doesn't count.
+pub fn run_in_order<L: Ledger, R: Wait, G: Gate>(
+    rt: &R,
+    gate: &G,
+    shared: &Shared<L>,
+    crew: &mut Crew<L>,
+    lines: Vec<Line<Global>>,
+) -> Option<Unfinished>
+    requires ready { Each (IsReady []) crew.old }
+    requires named { All (λ line. IsSome (member_of line.by crew.old)) lines.items }
+    ensures run { IfNone result (HasRunAll lines.items crew.old crew.new) }
+    ensures order { IfNone result (HasRunInOrder lines.items crew.new) }
 {
     let mut left = lines;
     left.reverse();
-    let mut spare = Vec::new(*left.allocator());
-    let mut stops = Stops::new(*left.allocator());
     let mut phase = 0;
-    while let Some(turn) = left.last() {
-        if turn.phase != phase {
-            if let Some(why) = stops.first() {
-                return Some(why);
+    let mut turn = Some(0);
+    let mut stop = None;
+    while let Some(line) = left.pop() {
+        if line.phase != phase {
+            if let Some(why) = stop {
+                return Some(Unfinished::Host(why));
             }
-            phase = turn.phase;
+            phase = line.phase;
         }
-        let action = left.take_last(&mut spare);
-        run_line(kept, &mut spare, callers, &mut stops, turn.by, action);
-        left.give_back();
+        if let Err(why) = run_line(rt, gate, shared, crew, line, &mut turn) {
+            stop = stop.or(Some(why));
+        }
     }
-    stops.first()
-}
-
-// Runs a processor's line, unless the processor was stopped. Where the host refuses an event of it, or had no
-// memory to take out what it asks for, it is stopped.
-#[inline(always)]
-fn run_line(
-    kept: &mut Kept<Global>,
-    spare: &mut Vec<u8>,
-    callers: &[Caller],
-    stops: &mut Stops,
-    by: Caller,
-    action: Result<Action<Global>, AllocError>,
-)
-    ensures config { kept.new.config ≡ kept.old.config }
-    ensures limit { kept.new.limit ≡ kept.old.limit }
-    ensures stopped { IsStopped by stops.old → (kept.new ≡ kept.old) × (stops.new ≡ stops.old) }
-    ensures going { stops.new.first ≡ None → stops.old.first ≡ None }
-    ensures done { (what : Action Global) → IfOk action (λ action. action ≡ what) → stops.new.first ≡ None
-        → HasDone by what kept.old kept.new }
-{
-    if stops.has(by) {
-        return;
-    }
-    let Ok(action) = action else {
-        stops.note(callers, by, HostRefused::Memory);
-        return;
-    };
-    if let Err(why) = act(kept, spare, by, action) {
-        stops.note(callers, by, why);
+    match (stop, turn) {
+        (None, Some(_)) => None,
+        (None, None) => Some(Unfinished::Settlement(SettleFault::Differs)),
+        (Some(why), _) => Some(Unfinished::Host(why)),
     }
 }
 
-// Lets a processor do one thing, a hypercall element by element to its end, and keeps the memory of a call's
-// input for the next.
-#[inline(always)]
-fn act(
-    kept: &mut Kept<Global>,
-    spare: &mut Vec<u8>,
-    by: Caller,
-    what: Action<Global>,
+// Runs a line, unless its processor was stopped. `turn` is the number of the last event, or None once a
+// receipt's number wasn't the next one.
+fn run_line<L: Ledger, R: Wait, G: Gate>(
+    rt: &R,
+    gate: &G,
+    shared: &Shared<L>,
+    crew: &mut Crew<L>,
+    line: Line<Global>,
+    turn: &mut Option<u64>,
 ) -> Result<(), HostRefused>
-    ensures config { kept.new.config ≡ kept.old.config }
-    ensures limit { kept.new.limit ≡ kept.old.limit }
-    ensures done { OnOk result (HasDone by what kept.old kept.new) }
+    ensures done { OnOk result (HasDone line crew.old crew.new) }
+    ensures order { OnOk result (KeepsOrder line turn.old turn.new crew.old crew.new) }
 {
-    match what {
-        Action::Hypercall(frame) => {
-            let (last, done) = kept.take_call(by, frame);
-            give_back(spare, last);
-            done
-        }
+    let Line { by, action, .. } = line;
+    let Some(member) = crew.get_mut(&key_of(by)) else {
+        return Ok(());
+    };
+    if member.stopped {
+        return Ok(());
+    }
+    let before = member.pass.receipts().len();
+    let done = act(rt, shared, gate, &mut member.pass, action);
+    *turn = last_in_turn(member.pass.receipts(), before, *turn);
+    member.stopped = done.is_err();
+    done
+}
+
+// Lets one action come to its end: drives a hypercall, and calls for anything else.
+fn act<L: Ledger, R: Wait, G: Gate>(
+    rt: &R,
+    shared: &Shared<L>,
+    gate: &G,
+    pass: &mut Pass<L>,
+    action: Action<Global>,
+) -> Result<(), HostRefused>
+    ensures performed { OnOk result (HasPerformed action pass.old pass.new) }
+    ensures refused { OnErr result (HasBegun action pass.old pass.new) }
+{
+    match action {
+        Action::Hypercall(frame) => match shared.drive(rt, pass, gate, frame) {
+            Ok(_) => Ok(()),
+            Err(refused) => Err(refused.why),
+        },
         Action::ReadMsr(_)
         | Action::WriteMsr(_, _)
         | Action::ReadSlot(_)
         | Action::ClearSlot(_)
         | Action::ReadFlags(_)
         | Action::ClearFlag(_, _)
-        | Action::TakeInterrupt => match kept.take(&Event { by, what }, false) {
+        | Action::TakeInterrupt => match shared.call(rt, pass, gate, action) {
             Ok(_) => Ok(()),
             Err(why) => Err(why),
         },
     }
+}
+
+// The number of the last event, if the receipts from a place on have the numbers after this one in turn.
+fn last_in_turn(receipts: &Receipts, from: usize, turn: Option<u64>) -> Option<u64>
+    ensures { result ≡ option_and_then (λ last. last_in_turn last (drop from (list_of receipts.now))) turn }
+{
+    let mut last = turn?;
+    for at in from..receipts.len() {
+        let number = receipts.number(at);
+        if number.saturating_sub(last) != 1 {
+            return None;
+        }
+        last = number;
+    }
+    Some(last)
 }

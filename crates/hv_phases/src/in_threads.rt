@@ -1,156 +1,167 @@
 // The phases of a script, each processor of a phase in a thread of its own.
-ghost use Rattle.std.specs.Prelude.{◌≡◌, ◌≤◌, ◌<◌, ◌++◌, ◌∷◌, [], ℕ, All, IfNone, IfOk, IfSome, OnOk};
-ghost use Rattle.std.specs.Prelude.{length, slice_index_or};
-ghost use Rattle.std.specs.List.{Contains};
-ghost use Rattle.std.specs.declared.alloc.Global.{Global};
-ghost use Rattle.hv_phases.specs.Crew.{AreIdleFrom, AreReady, HasGiven, HasHandedOut, HaveRun};
-ghost use Rattle.hv_phases.specs.Crew.{callers_in, passes_in};
-ghost use Rattle.hv_phases.specs.Lines.{IsNextTurn};
-ghost use Rattle.hv_phases.specs.Places.{Tells};
-ghost use Rattle.hv_script.specs.declared.line.Line.{Line};
-ghost use Rattle.hv_shared.specs.ByCaller.{AreDifferent};
-ghost use Rattle.hv_threads.specs.Phase.{IsDoneAt};
-ghost use Rattle.hv_threads.specs.declared.phase.Task.{Task};
+ghost use Rattle.std.specs.Prelude.{◌≡◌, ◌++◌, ◌∷◌, [], All, IfNone, IfOk, IfSome, IsSome, OnOk};
+ghost use Rattle.hv_phases.specs.Crew.{AreBusy, Each, HasGiven, HasHandedOut, HasLent, HasRunAll, HasRunPhase};
+ghost use Rattle.hv_phases.specs.Crew.{HasTaken, IsReady, member_of};
 
-use crate::places::Places;
-use crate::tasks::{enlist, first_stop};
+use crate::crew::{Crew, Member, join, key_of};
 use hv_history::HostRefused;
-use hv_policy::{Action, Caller};
-use hv_script::{Lines, Turn};
-use hv_threads::{Gate, Shared, Task, run_tasks};
+use hv_policy::Caller;
+use hv_script::Line;
+use hv_threads::{Done, End, Gate, Shared, Work, run_phase};
 use std::alloc::{AllocError, Global};
 use std::sync::Wait;
 use std::sync::ledger::Ledger;
 use std::thread::Threads;
 
-/// Runs the lines phase by phase, and tells why the host stopped a processor, of all that it stopped the
-/// first among these callers. No phase begins after one in which a processor was stopped, and none that there
-/// is no memory for.
+/// Runs the lines phase by phase, and tells why the host stopped a processor, of all that it stopped in a phase
+/// the first. No phase begins after one in which a processor was stopped, and none that there is no memory for.
 pub fn run_in_threads<L: Ledger + Send + Sync, R: Threads + Wait + Sync, G: Gate>(
     rt: &R,
     gate: &G,
     shared: &Shared<L>,
-    callers: &[Caller],
-    tasks: &mut [Task<L>],
-    places: &mut Places,
-    lines: Lines<Global>,
+    crew: &mut Crew<L>,
+    lines: Vec<Line<Global>>,
 ) -> Option<HostRefused>
-    requires ready { AreReady lines tasks.old }
-    requires index { Tells places.old (callers_in tasks.old) }
-    ensures { IfNone result (HaveRun lines (passes_in tasks.new)) }
+    requires ready { Each (IsReady []) crew.old }
+    requires named { All (λ line. IsSome (member_of line.by crew.old)) lines.items }
+    ensures { IfNone result (HasRunAll lines.items crew.old crew.new) }
 {
     let mut left = lines;
     left.reverse();
-    while let Some(first) = left.last() {
-        let Ok(members) = hand_out(tasks, places, &mut left, first) else {
+    while let Some(first) = left.pop() {
+        let Ok(members) = hand_out(crew, first, &mut left) else {
             return Some(HostRefused::Memory);
         };
-        run_members(rt, gate, shared, tasks, members);
-        if let Some(why) = first_stop(&tasks[..members], callers) {
+        if let Some(why) = run_members(rt, gate, shared, crew, &members) {
             return Some(why);
         }
     }
     None
 }
 
-// Hands the lines of a phase, of which this is the first, to the tasks of their processors, and tells how
-// many of the first tasks have something to do.
+// Hands out the lines of a phase, of which this is the first, and tells whom they name, in the order of their
+// first lines. The lines that are left stand with the next one last.
 fn hand_out<L: Ledger>(
-    tasks: &mut [Task<L>],
-    places: &mut Places,
-    left: &mut Lines<Global>,
-    first: Turn,
-) -> Result<usize, AllocError>
-    requires different { AreDifferent (callers_in tasks.old) }
-    requires first { IsNextTurn left.old first }
-    requires named { All (λ line. Contains (callers_in tasks.old) line.by) left.old }
-    requires idle { AreIdleFrom 0 tasks.old }
-    requires index { Tells places.old (callers_in tasks.old) }
-    ensures index { OnOk result (Tells places.new (callers_in tasks.new)) }
-    ensures handed_out { OnOk result (HasHandedOut left.old left.new tasks.old tasks.new) }
-    ensures idle { IfOk result (λ members. (members ≤ length tasks.new) × AreIdleFrom members tasks.new) }
+    crew: &mut Crew<L>,
+    first: Line<Global>,
+    left: &mut Vec<Line<Global>>,
+) -> Result<Vec<Caller>, AllocError>
+    requires first { IsSome (member_of first.by crew.old) }
+    requires left { All (λ line. IsSome (member_of line.by crew.old)) left.old.items }
+    ensures { IfOk result (λ members. HasHandedOut first left.old.items left.new.items members.items crew.old
+        crew.new) }
 {
-    let mut spare = Vec::new(*left.allocator());
-    let seat = left.seat();
-    let action = left.take_last(&mut spare)?;
-    let mut members = give(tasks, places, 0, 0, first.by, action)?;
-    while let Some(turn) = next_of(left, first.phase) {
-        let likely = left.seat().wrapping_sub(seat);
-        let action = left.take_last(&mut spare)?;
-        members = give(tasks, places, members, likely, turn.by, action)?;
+    let phase = first.phase;
+    let mut members = Vec::new(*left.allocator());
+    give(crew, &mut members, first)?;
+    while let Some(line) = next_of(left, phase) {
+        give(crew, &mut members, line)?;
     }
     Ok(members)
 }
 
-// Whose the next line is, if there is one and it is of this phase.
-fn next_of(left: &Lines<Global>, phase: u32) -> Option<Turn>
-    ensures { IfSome result (λ turn. IsNextTurn left.now turn) }
+// Takes out the next line, if there is one and it is of this phase.
+fn next_of(left: &mut Vec<Line<Global>>, phase: u32) -> Option<Line<Global>>
+    ensures some { IfSome result (λ line. left.old.items ≡ left.new.items ++ line ∷ []) }
+    ensures none { IfNone result (left.new ≡ left.old) }
 {
     match left.last() {
-        Some(turn) => {
-            if turn.phase == phase {
-                Some(turn)
-            } else {
-                None
-            }
-        }
-        None => None,
+        Some(line) if line.phase == phase => left.pop(),
+        _ => None,
     }
 }
 
-// Hands what a processor's line asks for to its task, which may stand at the place `likely`. Tells how many of
-// the first tasks have something to do.
+// Hands a line to its processor, and notes it among the members of the phase where it had nothing to do yet.
 fn give<L: Ledger>(
-    tasks: &mut [Task<L>],
-    places: &mut Places,
-    members: usize,
-    likely: usize,
-    by: Caller,
-    action: Action<Global>,
-) -> Result<usize, AllocError>
-    requires different { AreDifferent (callers_in tasks.old) }
-    requires named { Contains (callers_in tasks.old) by }
-    requires within { members ≤ length tasks.old }
-    requires idle { AreIdleFrom members tasks.old }
-    requires index { Tells places.old (callers_in tasks.old) }
-    ensures index { OnOk result (Tells places.new (callers_in tasks.new)) }
-    ensures given { OnOk result ((line : Line Global) → by ≡ line.by → action ≡ line.action
-        → HasGiven line tasks.old tasks.new) }
-    ensures idle { IfOk result (λ told. (told ≤ length tasks.new) × AreIdleFrom told tasks.new) }
+    crew: &mut Crew<L>,
+    members: &mut Vec<Caller>,
+    line: Line<Global>,
+) -> Result<(), AllocError>
+    requires { IsSome (member_of line.by crew.old) }
+    ensures { OnOk result (HasGiven line members.old.items members.new.items crew.old crew.new) }
 {
-    let place = enlist(tasks, places, members, likely, by);
-    push_action(&mut tasks[place], action)?;
-    if place < members {
-        Ok(members)
-    } else {
-        Ok(place + 1)
+    let Line { by, action, .. } = line;
+    let Some(member) = crew.get_mut(&key_of(by)) else {
+        return Ok(());
+    };
+    if member.asked.is_empty() {
+        members.push(by)?;
     }
-}
-
-// One action more is to be done.
-fn push_action<L: Ledger>(task: &mut Task<L>, action: Action<Global>) -> Result<(), AllocError>
-    ensures action { OnOk result (task.new.work.actions ≡ task.old.work.actions ++ action ∷ []) }
-    ensures pass { task.new.work.pass ≡ task.old.work.pass }
-    ensures end { task.new.end ≡ task.old.end }
-{
-    task.work.actions.push(&action)?;
+    member.asked.push(action)?;
     Ok(())
 }
 
-// Does the first tasks, each in a thread of its own.
+// Does what was handed to these processors, each in a thread of its own, and tells why the host stopped the
+// first of those that it stopped.
 fn run_members<L: Ledger + Send + Sync, R: Threads + Wait + Sync, G: Gate>(
     rt: &R,
     gate: &G,
     shared: &Shared<L>,
-    tasks: &mut [Task<L>],
-    members: usize,
-)
-    requires { members ≤ length tasks.old }
-    ensures done { (i : ℕ) (d : Task L) → i < members
-        → IsDoneAt (slice_index_or tasks.old i d) (slice_index_or tasks.new i d) }
-    ensures rest { (i : ℕ) (d : Task L) → members ≤ i → i < length tasks.old
-        → slice_index_or tasks.new i d ≡ slice_index_or tasks.old i d }
+    crew: &mut Crew<L>,
+    members: &[Caller],
+) -> Option<HostRefused>
+    ensures { IfNone result (HasRunPhase members.now crew.old crew.new) }
 {
-    let (front, _) = tasks.split_at_mut(members);
-    run_tasks(rt, shared, gate, front);
+    let Ok(works) = works_of(crew, members) else {
+        return Some(HostRefused::Memory);
+    };
+    match run_phase(rt, shared, gate, works) {
+        Ok(dones) => take_back(crew, dones),
+        Err(refused) => {
+            put_back(crew, refused.work);
+            Some(HostRefused::Memory)
+        }
+    }
+}
+
+// Takes out of the crew what these processors are to do.
+fn works_of<L: Ledger>(crew: &mut Crew<L>, members: &[Caller]) -> Result<Vec<Work<L>>, AllocError>
+    ensures { IfOk result (λ works. HasLent members.now [] works.items crew.old
+        crew.new) }
+{
+    let mut works = Vec::with_capacity(*crew.allocator(), members.len())?;
+    for at in 0..members.len() {
+        if let Some(member) = crew.swap_remove(&key_of(members[at])) {
+            let Member { pass, asked, .. } = member;
+            works.push(Work {
+                pass,
+                actions: asked,
+            })?;
+        }
+    }
+    Ok(works)
+}
+
+// Takes back what was done, and tells why the host stopped the first of those that it stopped.
+fn take_back<L: Ledger>(crew: &mut Crew<L>, dones: Vec<Done<L>>) -> Option<HostRefused>
+    ensures { IfNone result (HasTaken dones.items crew.old crew.new) }
+{
+    let mut left = dones;
+    let mut stop = None;
+    while let Some(done) = left.pop() {
+        let Done { pass, end, .. } = done;
+        let stopped = match end {
+            End::Finished => false,
+            End::Host(why) => {
+                stop = Some(why);
+                true
+            }
+        };
+        if join(crew, pass, stopped).is_err() {
+            stop = Some(HostRefused::Memory);
+        }
+    }
+    stop
+}
+
+// Takes back what wasn't begun.
+fn put_back<L: Ledger>(crew: &mut Crew<L>, works: Vec<Work<L>>) {
+    let mut left = works;
+    while let Some(work) = left.pop() {
+        let Work { pass, actions } = work;
+        drop(actions);
+        if join(crew, pass, true).is_err() {
+            return;
+        }
+    }
 }

@@ -11,8 +11,8 @@ use hv_calls::{Call, Malformed, decode};
 use std::alloc::Allocator;
 
 /// P4 to P7: the call that a frame holds, and what its input value says; else the first of them that
-/// isn't met. The call that the frame names, if it names one, is known. Inlined, since where the source names
-/// that call most of this is known, too.
+/// isn't met. The call that the frame names, if it names one, is known.
+// Inlined: calls for the own id in bench/embed.sh.
 #[inline(always)]
 pub fn ask_frame<A: Allocator>(
     frame: &Frame<A>,

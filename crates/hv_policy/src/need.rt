@@ -53,7 +53,8 @@ pub struct Need {
 }
 
 /// The row of a call in the table of needs. One cell looks at the call's parameters: the life states in
-/// which a property may be set. Inlined, so that a call needn't be put into memory to be looked at.
+/// which a property may be set.
+// Inlined: calls for the own id in bench/embed.sh.
 #[inline(always)]
 pub fn needs(call: &Call) -> Need
     ensures { result ≡ needs_of call.now }

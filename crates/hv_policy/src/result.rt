@@ -33,7 +33,6 @@ pub fn result_of<A: Allocator>(frame: &Frame<A>, reply: &Reply) -> ResultValue
 }
 
 /// The reply to an element that is served: more are to come, or it is the last, as a simple call is.
-#[inline(always)]
 pub fn served_reply<A: Allocator>(frame: &Frame<A>, shape: Shape, output: CallOutput) -> CallReply
     requires shape { IsShape frame.now shape }
     requires named { call_of frame.now ≡ Some shape.kind }
@@ -49,8 +48,7 @@ pub fn served_reply<A: Allocator>(frame: &Frame<A>, shape: Shape, output: CallOu
     CallReply { answer, output }
 }
 
-/// The reply to a call that this rule refuses. Not inlined, since many places answer so.
-#[inline(never)]
+/// The reply to a call that this rule refuses.
 pub fn refused_reply<A: Allocator>(frame: &Frame<A>, rule: Rule) -> CallReply
     ensures { result ≡ refusal (Hypercall frame.now) rule }
 {
@@ -71,6 +69,7 @@ pub fn refused_reply<A: Allocator>(frame: &Frame<A>, rule: Rule) -> CallReply
 }
 
 // The call that an input value names, if there is one with its code.
+// Inlined: calls for the own id in bench/embed.sh.
 #[inline(always)]
 fn kind_of(rcx: u64) -> Option<CallKind>
     ensures { result ≡ kind_in rcx }
@@ -80,7 +79,6 @@ fn kind_of(rcx: u64) -> Option<CallKind>
 
 /// The reps completed of a call with this input value that was refused: its start index where P4 and P5
 /// are met, else 0.
-#[inline(never)]
 pub fn refused_reps(rcx: u64) -> u16
     ensures value { result ≡ refused_reps_of rcx }
     ensures fits { result < REPS_END }
@@ -93,7 +91,6 @@ pub fn refused_reps(rcx: u64) -> u16
 
 /// The reps completed of a call with this input value whose last element was served: all of them, and
 /// none of a simple call.
-#[inline(always)]
 pub fn completed_reps(rcx: u64) -> u16
     ensures value { result ≡ completed_reps_of rcx }
     ensures fits { result < REPS_END }

@@ -15,7 +15,6 @@ use hv_tie::{
 use std::alloc::{AllocError, Allocator};
 
 /// HvDepositMemory: the page, a loose page of the caller, goes to the target's pool.
-#[inline(always)]
 pub fn deposit_memory<A: Allocator>(
     tree: &mut Partitions<A>,
     caller: u64,
@@ -60,7 +59,6 @@ fn unmet_deposit<A: Allocator>(
 }
 
 /// HvWithdrawMemory: the lowest pooled page of the target becomes a loose page of the caller.
-#[inline(always)]
 pub fn withdraw_memory<A: Allocator>(
     tree: &mut Partitions<A>,
     caller: u64,

@@ -46,7 +46,6 @@ impl<R: Copy, A: Allocator> Table<R, A> {
     }
 
     /// The row with this id. The time is proportional to the logarithm of the count at most.
-    #[inline(always)]
     pub fn find(&self, id: u32) -> Option<R>
         ensures { result ≡ map.get self.now.rows id }
     {
@@ -120,7 +119,6 @@ impl<R: Copy, A: Allocator> Table<R, A> {
 
 // The place of the row with this id, or where it would go. It is looked for first at the last place at which it may
 // stand, since each id is higher than the one before.
-#[inline(always)]
 fn place_of<R: Copy>(slots: &[(u32, R)], id: u32) -> Result<usize, usize>
     requires { IsRising slots.now }
     ensures within { IsSearchInRange result (length slots.now) }
@@ -137,7 +135,6 @@ fn place_of<R: Copy>(slots: &[(u32, R)], id: u32) -> Result<usize, usize>
 }
 
 // The same wherever it stands.
-#[inline(never)]
 fn search<R: Copy>(slots: &[(u32, R)], id: u32) -> Result<usize, usize>
     requires { IsRising slots.now }
     ensures within { IsSearchInRange result (length slots.now) }

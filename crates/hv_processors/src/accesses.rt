@@ -12,7 +12,6 @@ use hv_tie::Partitions;
 use std::alloc::Allocator;
 
 /// A read of one of the caller's model-specific registers: its value, in 8 bytes.
-#[inline(always)]
 pub fn read_msr<A: Allocator>(
     tree: &mut Partitions<A>,
     by: Caller,
@@ -33,7 +32,6 @@ pub fn read_msr<A: Allocator>(
 }
 
 /// A write to one of the caller's model-specific registers, which keeps what it keeps of the value.
-#[inline(always)]
 pub fn write_msr<A: Allocator>(
     tree: &mut Partitions<A>,
     by: Caller,

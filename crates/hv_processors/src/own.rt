@@ -24,7 +24,6 @@ use hv_vp::{Vp, name_of_msr, privilege_of};
 use std::alloc::Allocator;
 
 // P1 to P3, P25 and P26, and then the register's value.
-#[inline(always)]
 #[tactic(auto, using(hv_tree::proofs::Laws::unchanged))]
 pub fn read_own<A: Allocator>(tree: &mut Partitions<A>, by: Caller, msr: u32) -> Result<u64, Rule>
     ensures value { IfOk result (λ value. (f : Flat) → IsTied tree.old f
@@ -46,7 +45,6 @@ pub fn read_own<A: Allocator>(tree: &mut Partitions<A>, by: Caller, msr: u32) ->
 }
 
 // P1 to P3, P25 and P26, and then a write, by which the processor tells P27: what it doesn't take changes nothing.
-#[inline(always)]
 #[tactic(auto, using(hv_tree::proofs::Laws::unchanged))]
 pub fn write_own<A: Allocator>(
     tree: &mut Partitions<A>,
@@ -74,7 +72,6 @@ pub fn write_own<A: Allocator>(
 
 // P1 to P3, P25 and P26, and the processor that makes the access, to be read or changed; else the first of them that
 // isn't met, with the partitions as they were.
-#[inline(always)]
 #[tactic(auto, using(hv_tree::proofs::Laws::unchanged))]
 fn own_vp<A: Allocator>(tree: &mut Partitions<A>, by: Caller, msr: u32) -> Result<&mut Vp<A>, Rule>
     ensures* writes_back { sem 𝓛 (LendsIfOk (tree_row (partition_row A.row A.Allocator) A.row A.Allocator)
@@ -102,7 +99,6 @@ fn own_vp<A: Allocator>(tree: &mut Partitions<A>, by: Caller, msr: u32) -> Resul
 }
 
 // P25 and P26 of a partition with this mask: the first of them that isn't met.
-#[inline(always)]
 fn unmet_by_mask(mask: Privileges, msr: u32) -> Option<Rule>
     ensures { (f : Flat) (rows : Rows PartitionState) (id : ℕ) (p : PartitionState) → content rows id ≡ Some p
         → p.mask ≡ mask → IsTied rows f → result ≡ first_unmet (msr_asks f id (name_of_msr msr)) }

@@ -93,7 +93,6 @@ pub fn delete_vp<A: Allocator>(
 
 /// HvGetVpRegisters, one element: the value of a register of the target's processor, in the lower half of
 /// 16 bytes.
-#[inline(always)]
 pub fn get_vp_registers<A: Allocator>(
     tree: &Partitions<A>,
     caller: u64,

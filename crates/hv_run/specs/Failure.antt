@@ -3,7 +3,7 @@ use Rattle.std.specs.Prelude.{◌≡◌, ◌⊎◌, ℕ}
 use Rattle.hv_script.specs.declared.fault.FaultKind.{FaultKind}
 use Rattle.hv_script.specs.declared.fault.FaultKind.TheVariants.{Memory}
 use Rattle.hv_script.specs.declared.fault.ScriptFault.{ScriptFault}
-use Rattle.hv_machine.specs.declared.machine.HostRefused.TheVariants as refused
+use Rattle.hv_history.specs.declared.kept.HostRefused.TheVariants as refused
 use Rattle.hv_phases.specs.declared.run.Unfinished.{Unfinished}
 use Rattle.hv_phases.specs.declared.run.Unfinished.TheVariants as unfinished
 use Rattle.hv_shared.specs.declared.fault.SettleFault.TheVariants as fault

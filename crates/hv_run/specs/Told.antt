@@ -1,5 +1,5 @@
--- What a run that ended well wrote.
-use Rattle.std.specs.Prelude.{◌≡◌, ℕ, Bool, List, [], ◌++◌, if◌then◌else◌, IsTrue, Option, Ok}
+-- What a run wrote.
+use Rattle.std.specs.Prelude.{◌≡◌, ◌⊎◌, ℕ, Bool, List, [], ◌++◌, if◌then◌else◌, IsTrue, Option, Ok}
 use Rattle.std.specs.Io.KnownBytes.{Appends}
 use Rattle.std.specs.declared.alloc.Global.{Global}
 use Rattle.hv_history.specs.Kept.{Kept, IsRun}
@@ -33,3 +33,20 @@ pub record HasToldOf (text : List ℕ) (serial with_table : Bool) (old new : Opt
   pub said : Said Global
   pub is : script_of text ≡ Ok said
   pub told : HasTold said serial with_table old new
+
+-- the writer got the first bytes of a text, and where no write failed all of them
+pub record HasPart (text : List ℕ) (old new : Option (List ℕ)) : Type 0 where
+  pub part : List ℕ
+  pub rest : List ℕ
+  pub whole : part ++ rest ≡ text
+  pub told : Appends old new part
+
+-- the same of the audit, and of the table if it is asked for, of a history that is a run
+pub record HasToldKept (with_table : Bool) (old new : Option (List ℕ)) : Type 0 where
+  pub kept : Kept Global
+  pub run : IsRun kept
+  pub told : HasPart (told_by with_table kept) old new
+
+-- what a run wrote that didn't end well: what is kept, or nothing where no machine was booted
+abbrev pub HasToldPart : Bool → Option (List ℕ) → Option (List ℕ) → Type 0
+HasToldPart with_table old new = (new ≡ old) ⊎ HasToldKept with_table old new

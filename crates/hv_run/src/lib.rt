@@ -1,10 +1,9 @@
 //! A run of a script, from its bytes to the exit status of the program `hvpm`: reading, running, and
 //! printing the audit and the table.
 //!
-//! [`run_reader`] reads a script to its end and runs it on a machine of its own over two writers;
-//! [`run_text`] does so with a script that is in memory, and [`run_gated`] with a gate that is told of
-//! each event; [`tell_usage`] tells of a command line that asks for no run. Nothing here opens a file or
-//! ends the process.
+//! [`read_script`] reads a script's bytes; [`run_text`] runs them on a machine of its own over two writers, and
+//! [`run_gated`] does so with a gate that is told of each hold of the machine's lock; [`tell_usage`] tells of a
+//! command line that asks for no run. Nothing here opens a file or ends the process.
 #![tactic(auto)]
 
 mod failure;
@@ -13,6 +12,6 @@ mod run;
 mod usage;
 
 pub use failure::{Exit, Failure, tell};
-pub use reading::unread;
-pub use run::{run_gated, run_reader, run_text};
+pub use reading::{read_script, unread};
+pub use run::{run_gated, run_text};
 pub use usage::tell_usage;

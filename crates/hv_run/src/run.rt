@@ -1,19 +1,17 @@
 // A whole run, from the script's bytes to the exit status.
-ghost use Rattle.std.specs.Prelude.{◌≡◌, ◌≢◌, ◌<◌, length, IfErr, IfOk, IfSome, IsErr, IsNone, IsSome, OnOk};
-ghost use Rattle.std.specs.Prelude.{Ok};
+ghost use Rattle.std.specs.Prelude.{◌≡◌, ◌≢◌, ◌<◌, length, IfErr, IsErr, IsNone, IsSome, OnErr, OnOk};
 ghost use Rattle.std.specs.Io.KnownBytes.{Appends};
 ghost use Rattle.hv_history.specs.Kept.{IsRun};
 ghost use Rattle.hv_history.specs.Row.{events_of};
 ghost use Rattle.hv_policy.specs.Step.{run};
 ghost use Rattle.hv_script.specs.Reading.{said};
-ghost use Rattle.hv_script.specs.Script.{script_of};
 ghost use Rattle.hv_script.specs.declared.script.TheConstants.{MOST_BYTES as MOST};
+ghost use Rattle.hv_text.specs.Fault.{IsCut};
 ghost use Rattle.hv_text.specs.Table.{table_text};
 ghost use Rattle.hv_run.specs.Failure.{exit_of};
-ghost use Rattle.hv_run.specs.Told.{HasTold, HasToldOf, told_by};
+ghost use Rattle.hv_run.specs.Told.{HasPart, HasTold, HasToldOf, HasToldPart, told_by};
 
 use crate::failure::{Exit, Failure, tell};
-use crate::reading::read_script;
 use hv_history::Kept;
 use hv_options::Options;
 use hv_phases::{Unfinished, run_lines};
@@ -21,38 +19,15 @@ use hv_script::{Script, parse};
 use hv_text::{PrintFault, audit, table};
 use hv_threads::{Gate, Open};
 use std::alloc::Global;
-use std::io::{Read, Write};
+use std::io::Write;
 use std::sync::Wait;
 use std::thread::Threads;
-
-/// Reads a script to its end and runs it, as [`run_text`] does. A script that is too long, or whose
-/// reader fails in mid-stream, isn't run, however it begins.
-pub fn run_reader<T: Threads + Wait + Sync, R: Read + Drop, W: Write, E: Write>(
-    rt: &T,
-    alloc: Global,
-    reader: R,
-    options: &Options<'_>,
-    out: &mut W,
-    err: &mut E,
-) -> Exit
-    ensures told { result ≡ Exit.Done → IfSome (R.remaining reader)
-        (λ text. HasToldOf text options.now.serial options.now.table (W.contents out.old) (W.contents out.new)) }
-    ensures long { IfSome (R.remaining reader) (λ text. MOST < length text → out.new ≡ out.old) }
-    ensures long_status { IfSome (R.remaining reader) (λ text. MOST < length text → result ≢ Exit.Done) }
-    ensures silent { result ≡ Exit.Script → out.new ≡ out.old }
-    ensures no_usage { result ≢ Exit.Usage }
-{
-    match read_parsed(alloc, reader) {
-        Ok(script) => finish(rt, alloc, script, options, &Open, out, err),
-        Err(failure) => tell(failure, err),
-    }
-}
 
 /// Runs a script and prints its audit on `out`, and with `--table` its table. Why it didn't all run goes
 /// to `err`, in one line.
 ///
 /// After a fault of the script or a refused boot nothing is written to `out`. A processor whose event is
-/// refused by the host stops, and the others of its phase go on: the audit then has what happened.
+/// refused by the host stops, and the others of its phase go on. The audit of what is kept is written then, too.
 pub fn run_text<T: Threads + Wait + Sync, W: Write, E: Write>(
     rt: &T,
     alloc: Global,
@@ -63,6 +38,8 @@ pub fn run_text<T: Threads + Wait + Sync, W: Write, E: Write>(
 ) -> Exit
     ensures told { result ≡ Exit.Done → HasToldOf script.now options.now.serial options.now.table
         (W.contents out.old) (W.contents out.new) }
+    ensures unfinished { result ≡ Exit.Host → HasToldPart options.now.table (W.contents out.old)
+        (W.contents out.new) }
     ensures long { MOST < length script.now → result ≡ Exit.Script }
     ensures silent { result ≡ Exit.Script → out.new ≡ out.old }
     ensures no_usage { result ≢ Exit.Usage }
@@ -71,8 +48,7 @@ pub fn run_text<T: Threads + Wait + Sync, W: Write, E: Write>(
 }
 
 /// Runs a script as [`run_text`] does, with a gate that is told of each hold before the machine's lock is
-/// taken and after the receipts are kept. With `--serial`, or where one processor has all lines, there is no
-/// lock, and the gate is told nothing.
+/// taken and after the receipts are kept.
 pub fn run_gated<T: Threads + Wait + Sync, G: Gate, W: Write, E: Write>(
     rt: &T,
     alloc: Global,
@@ -84,6 +60,8 @@ pub fn run_gated<T: Threads + Wait + Sync, G: Gate, W: Write, E: Write>(
 ) -> Exit
     ensures told { result ≡ Exit.Done → HasToldOf script.now options.now.serial options.now.table
         (W.contents out.old) (W.contents out.new) }
+    ensures unfinished { result ≡ Exit.Host → HasToldPart options.now.table (W.contents out.old)
+        (W.contents out.new) }
     ensures long { MOST < length script.now → result ≡ Exit.Script }
     ensures silent { result ≡ Exit.Script → out.new ≡ out.old }
     ensures no_usage { result ≢ Exit.Usage }
@@ -92,25 +70,6 @@ pub fn run_gated<T: Threads + Wait + Sync, G: Gate, W: Write, E: Write>(
         Ok(script) => finish(rt, alloc, script, options, gate, out, err),
         Err(fault) => tell(Failure::from(fault), err),
     }
-}
-
-// Reads a script's bytes and then its lines. The bytes are given back before anything runs.
-fn read_parsed<R: Read + Drop>(alloc: Global, reader: R) -> Result<Script<Global>, Failure>
-    ensures script { IfOk result (λ script. IfSome (R.remaining reader) (λ text. script_of text
-        ≡ Ok (said script))) }
-{
-    let text = read_script(alloc, reader)?;
-    let script = parse(alloc, text.as_slice())?;
-    give_back(text);
-    Ok(script)
-}
-
-// Gives a script's bytes back, all but one before the rest: a whole large block that comes back makes the
-// C library's allocator keep later ones instead of giving them back.
-fn give_back(text: Vec<u8>) {
-    let mut text = text;
-    text.clear();
-    text.shrink_to(1);
 }
 
 // Runs a script that has no fault, and tells why it didn't all run.
@@ -125,6 +84,8 @@ fn finish<T: Threads + Wait + Sync, G: Gate, W: Write, E: Write>(
 ) -> Exit
     ensures told { result ≡ Exit.Done → HasTold (said script) options.now.serial options.now.table
         (W.contents out.old) (W.contents out.new) }
+    ensures unfinished { result ≡ Exit.Host → HasToldPart options.now.table (W.contents out.old)
+        (W.contents out.new) }
     ensures silent { result ≡ Exit.Script → out.new ≡ out.old }
     ensures no_usage { result ≢ Exit.Usage }
 {
@@ -145,6 +106,7 @@ fn run_script<T: Threads + Wait + Sync, G: Gate, W: Write>(
 ) -> Result<(), Failure>
     ensures told { OnOk result (HasTold (said script) options.now.serial options.now.table
         (W.contents out.old) (W.contents out.new)) }
+    ensures unfinished { OnErr result (HasToldPart options.now.table (W.contents out.old) (W.contents out.new)) }
     ensures silent { IfErr result (λ failure. exit_of failure ≡ Exit.Script → out.new ≡ out.old) }
 {
     let Script {
@@ -161,6 +123,7 @@ fn run_script<T: Threads + Wait + Sync, G: Gate, W: Write>(
 fn print<W: Write>(kept: &Kept<Global>, with_table: bool, out: &mut W) -> Result<(), Failure>
     ensures told { OnOk result (Appends (W.contents out.old) (W.contents out.new)
         (told_by with_table kept.now)) }
+    ensures part { HasPart (told_by with_table kept.now) (W.contents out.old) (W.contents out.new) }
     ensures host { IfErr result (λ failure. exit_of failure ≡ Exit.Host) }
     ensures run { IsRun kept.now }
 {
@@ -175,7 +138,9 @@ fn print<W: Write>(kept: &Kept<Global>, with_table: bool, out: &mut W) -> Result
 
 // Prints the table, which is that of the state in which the run of what happened ends.
 fn print_table<W: Write>(kept: &Kept<Global>, out: &mut W) -> Result<(), PrintFault>
-    ensures { OnOk result (Appends (W.contents out.old) (W.contents out.new)
+    ensures ok { OnOk result (Appends (W.contents out.old) (W.contents out.new)
+        (table_text (run kept.now.config (events_of kept.now.history)).0)) }
+    ensures cut { IfErr result (IsCut (W.contents out.old) (W.contents out.new)
         (table_text (run kept.now.config (events_of kept.now.history)).0)) }
 {
     // The proof reads here that what is kept is a run.

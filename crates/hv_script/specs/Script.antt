@@ -1,5 +1,5 @@
 -- The script that a text says.
-use Rattle.std.specs.Prelude.{ℕ, ◌+◌, ◌==◌, ◌++◌, ◌∷◌, [], List, length, nat_lt, codes, if◌then◌else◌, Option, Some, None, Result, Ok, Err}
+use Rattle.std.specs.Prelude.{ℕ, ◌≡◌, ◌+◌, ◌==◌, ◌++◌, ◌∷◌, [], List, length, nat_lt, codes, if◌then◌else◌, Option, Some, None, Result, Ok, Err}
 use Rattle.hv_policy.specs.declared.config.Config.{Config}
 use Rattle.hv_policy.specs.declared.event.Action.{Action}
 use Rattle.hv_policy.specs.declared.event.Caller.{Caller}
@@ -41,12 +41,17 @@ abbrev pub with_line : {A : Type 0} → SoFar A → Caller → Action A → SoFa
 with_line so_far by action =
     record so_far { lines = so_far.lines ++ record { phase = so_far.phase; by = by; action = action } ∷ [] }
 
+-- a line of a processor is taken where the phase has room for it
+abbrev pub taken : {A : Type 0} → SoFar A → Caller → Action A → Result (SoFar A) FaultKind
+taken so_far by action =
+    if have_room (callers_of so_far.phase so_far.lines) by then Ok (with_line so_far by action) else Err TooMany
+
 -- a line of a processor
 unfoldable pub processor_line : {A : Type 0} → SoFar A → List (List ℕ) → Result (SoFar A) FaultKind
 processor_line so_far words = do
   by ← processor_of (word_at words 0)
   action ← action_of words
-  if have_room (callers_of so_far.phase so_far.lines) by then Ok (with_line so_far by action) else Err TooMany
+  taken so_far by action
 
 -- any line after the first
 unfoldable pub later_line : {A : Type 0} → SoFar A → List (List ℕ) → Result (SoFar A) FaultKind

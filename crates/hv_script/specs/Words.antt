@@ -1,21 +1,11 @@
 -- The lines of a text, and the words of a line.
-use Rattle.std.specs.Prelude.{ℕ, ◌+◌, ◌==◌, ◌&&◌, ◌||◌, not, nat_eq, nat_le, List, [], length, filter, codes, slice_index_or, Bool, Option, None, Some}
-use Rattle.std.specs.List.{list_all, slice_split, starts_with}
+use Rattle.std.specs.Prelude.{ℕ, ◌≡◌, ◌+◌, ◌<◌, ◌≤◌, ◌==◌, ◌&&◌, ◌||◌, ◌∷◌, not, nat_eq, nat_le, List, [], length, filter, codes, slice_index_or, Bool, true, false, Option, None, Some, get_or}
+use Rattle.std.specs.List.{before_first, list_all, slice_split, starts_with}
 use Rattle.std.specs.Str.{bytes_eq}
 
 -- the lines, which end at a line feed or at the end of the text
 abbrev pub lines_of : List ℕ → List (List ℕ)
 lines_of text = slice_split (λ byte. byte == 10) text
-
--- the lines of what is left of a text, of which there may be nothing
-abbrev pub lines_left : Option (List ℕ) → List (List ℕ)
-lines_left None = []
-lines_left (Some text) = lines_of text
-
--- how many lines that may be at most
-abbrev pub most_left : Option (List ℕ) → ℕ
-most_left None = 0
-most_left (Some text) = length text + 1
 
 -- the words, which stand between spaces
 unfoldable pub words_of : List ℕ → List (List ℕ)

@@ -1,23 +1,16 @@
 // Reading a script line by line.
-ghost use Rattle.std.specs.Prelude.{◌≡◌, ◌≤◌, All, length, nat_lt};
+ghost use Rattle.std.specs.Prelude.{◌≡◌, ◌≤◌, All};
 ghost use Rattle.hv_script.specs.Callers.{callers_of, is_among};
 
 use crate::boot::{Boot, read_boot};
-use crate::cut::{CutLine, next_line};
+use crate::cut::CutLine;
 use crate::fault::FaultKind;
-use crate::front::asked_line;
-use crate::line::{action, processor};
-use crate::lines::Lines;
-use hv_actions::{give_back, make_room};
+use crate::line::{Line, action, processor};
 use hv_policy::{Action, Caller};
 use std::alloc::Allocator;
 
 /// The most processors that a phase has.
 pub const MOST_PROCESSORS: usize = 64;
-
-// About so many bytes a line has in the mean, or fewer: of shorter lines the room that is made for them grows
-// once or twice.
-const BYTES_A_LINE: usize = 32;
 
 /// What was read of a script, from its first line on.
 #[derive(Drop)]
@@ -27,105 +20,42 @@ pub struct Reading<A: Allocator> {
     pub(crate) phase: u32,
     /// The processors of the phase.
     pub(crate) callers: Vec<Caller, A>,
-    // Where among them that of the last line stands, since a processor mostly goes on, or they take turns.
-    last: usize,
-    // How many turns the lines had when the phase began. Those of its processors stand behind in their order.
-    first: usize,
-    pub(crate) lines: Lines<A>,
-    ghost named: { callers.items ≡ callers_of phase lines },
-    ghost phases: { All (λ line. line.phase ≤ phase) lines },
+    pub(crate) lines: Vec<Line<A>, A>,
+    ghost named: { callers.items ≡ callers_of phase lines.items },
+    ghost phases: { All (λ line. line.phase ≤ phase) lines.items },
 }
 
 impl<A: Allocator + Clone> Reading<A> {
-    ghost use Rattle.std.specs.Prelude.{◌≡◌, ◌≢◌, ◌+◌, ◌<◌, ◌≤◌, ◌^◌, IfErr, IfOk, OnOk, Ok, length, not};
-    ghost use Rattle.std.specs.Option.{option_copied};
-    ghost use Rattle.hv_script.specs.Callers.{is_among};
+    ghost use Rattle.std.specs.Prelude.{◌≡◌, ◌+◌, ◌<◌, ◌≤◌, ◌^◌, IfOk, Ok, OnOk, false, true, length, not};
     ghost use Rattle.hv_script.specs.Fault.{IsRead};
-    ghost use Rattle.hv_script.specs.Front.{FailsBy, ReadsTo, taken};
     ghost use Rattle.hv_script.specs.Reading.{phase_by, read_by, so_far};
+    ghost use Rattle.hv_script.specs.Callers.{is_among};
     ghost use Rattle.hv_script.specs.Script.{first_line, later_line, phase_line, processor_line, read_line};
-    ghost use Rattle.hv_script.specs.Script.{with_line};
-    ghost use Rattle.hv_script.specs.Words.{lines_left, lines_of, most_left, words_of};
+    ghost use Rattle.hv_script.specs.Script.{taken, with_line};
+    ghost use Rattle.hv_script.specs.Words.{has_good_bytes, is_skipped, words_of};
 
-    /// Reads the first line of a text, and gives what stands after its line feed, if it has one. The spare
-    /// vector's memory is lent to an input while its line is read.
-    #[inline(always)]
-    pub fn read_next<'a>(
-        alloc: &A,
-        reading: &mut Option<Reading<A>>,
-        spare: &mut Vec<u8, A>,
-        text: &'a [u8],
-    ) -> Result<Option<&'a [u8]>, FaultKind>
-        requires phases { phase_by reading.old + 1 < 2 ^ 32 }
-        ensures read { IfOk result (λ rest. ReadsTo (lines_of text.now) (read_by reading.old)
-            (lines_left (option_copied rest)) (read_by reading.new)) }
-        ensures fault { IfErr result (λ kind. kind ≢ FaultKind.Memory → FailsBy (lines_of text.now)
-            (read_by reading.old) kind) }
-        ensures shorter { IfOk result (λ rest. most_left (option_copied rest) ≤ length text.now) }
-        ensures phase { OnOk result (phase_by reading.new ≤ phase_by reading.old + 1) }
-    {
-        if let Some(reading) = reading {
-            if let Some((by, action, rest)) = asked_line(spare, text)? {
-                reading.take_line(by, &action)?;
-                if let Action::Hypercall(frame) = action {
-                    give_back(spare, frame);
-                }
-                return Ok(Some(rest));
-            }
-        }
-        Reading::read_cut(alloc, reading, text)
-    }
-
-    // The same of any line, which is cut into its words. Not inlined, as few lines are read so, and the cut
-    // line is large.
-    #[inline(never)]
-    fn read_cut<'a>(
-        alloc: &A,
-        reading: &mut Option<Reading<A>>,
-        text: &'a [u8],
-    ) -> Result<Option<&'a [u8]>, FaultKind>
-        requires phases { phase_by reading.old + 1 < 2 ^ 32 }
-        ensures read { IfOk result (λ rest. ReadsTo (lines_of text.now) (read_by reading.old)
-            (lines_left (option_copied rest)) (read_by reading.new)) }
-        ensures fault { IfErr result (λ kind. kind ≢ FaultKind.Memory → FailsBy (lines_of text.now)
-            (read_by reading.old) kind) }
-        ensures shorter { IfOk result (λ rest. most_left (option_copied rest) ≤ length text.now) }
-        ensures phase { OnOk result (phase_by reading.new ≤ phase_by reading.old + 1) }
-    {
-        let (line, rest) = next_line(text);
-        Reading::read_line(alloc, reading, &line, text.len())?;
-        Ok(rest)
-    }
-
-    // Reads a line after what was read before it. If it is the first, room is made for the lines of about
-    // so many bytes of text.
+    /// Reads a line that isn't skipped after what was read before it.
     #[tactic(auto, unfolding(crate::specs::Script::read_line))]
-    fn read_line(
+    pub fn read_line(
         alloc: &A,
         reading: &mut Option<Reading<A>>,
         line: &CutLine<'_>,
-        text_len: usize,
     ) -> Result<(), FaultKind>
         requires phases { phase_by reading.old + 1 < 2 ^ 32 }
+        requires read { is_skipped (words_of line.now) ≡ false }
+        requires good { has_good_bytes line.now ≡ true }
         ensures read { IsRead result (λ _. read_by reading.new) (read_line (read_by reading.old) line.now) }
         ensures phase { OnOk result (phase_by reading.new ≤ phase_by reading.old + 1) }
     {
-        if line.is_skipped() {
-            return Ok(());
-        }
-        if !line.is_good() {
-            return Err(FaultKind::Byte);
-        }
         match reading {
-            None => *reading = Some(Reading::first_line(alloc, line, text_len)?),
+            None => *reading = Some(Reading::first_line(alloc, line)?),
             Some(reading) => reading.later_line(alloc, line)?,
         }
         Ok(())
     }
 
-    // Reads the first line, which is a `boot` line, and makes room for the lines of about so many bytes of
-    // text. An input has two digits a byte.
-    fn first_line(alloc: &A, line: &CutLine<'_>, text_len: usize) -> Result<Reading<A>, FaultKind>
+    // Reads the first line, which is a `boot` line.
+    fn first_line(alloc: &A, line: &CutLine<'_>) -> Result<Reading<A>, FaultKind>
         ensures read { IsRead result so_far (first_line (words_of line.now)) }
         ensures phase { IfOk result (λ reading. reading.phase ≡ 0) }
     {
@@ -134,17 +64,12 @@ impl<A: Allocator + Clone> Reading<A> {
         }
         let boot = read_boot(line)?;
         let callers = alloc.clone().map_err(|_| FaultKind::Memory)?;
-        let mut lines = Lines::new(alloc).map_err(|_| FaultKind::Memory)?;
-        lines
-            .reserve(text_len / BYTES_A_LINE, text_len / 2)
-            .map_err(|_| FaultKind::Memory)?;
+        let lines = alloc.clone().map_err(|_| FaultKind::Memory)?;
         Ok(Reading {
             boot,
             phase: 0,
             callers: Vec::new(callers),
-            last: 0,
-            first: 0,
-            lines,
+            lines: Vec::new(lines),
         })
     }
 
@@ -177,12 +102,11 @@ impl<A: Allocator + Clone> Reading<A> {
             return Err(FaultKind::Count);
         }
         self.callers.clear();
-        self.first = self.lines.turns();
         self.phase += 1;
         Ok(())
     }
 
-    // Reads a line of a processor.
+    // Reads a line of a processor, and takes it if the phase has room for it.
     #[tactic(auto, unfolding(crate::specs::Script::processor_line))]
     fn processor_line(&mut self, alloc: &A, line: &CutLine<'_>) -> Result<(), FaultKind>
         ensures read { IsRead result (λ _. so_far self.new) (processor_line (so_far self.old)
@@ -191,45 +115,35 @@ impl<A: Allocator + Clone> Reading<A> {
     {
         let by = processor(line.word(0))?;
         let action = action(alloc, line)?;
-        self.take_line(by, &action)
+        self.take_line(by, action)
     }
 
     // Takes a line of a processor, if the phase has room for it.
-    #[inline(always)]
-    fn take_line(&mut self, by: Caller, action: &Action<A>) -> Result<(), FaultKind>
-        ensures read { IsRead result (λ _. so_far self.new) (taken (so_far self.old) by action.now) }
+    fn take_line(&mut self, by: Caller, action: Action<A>) -> Result<(), FaultKind>
+        ensures read { IsRead result (λ _. so_far self.new) (taken (so_far self.old) by action) }
         ensures phase { self.new.phase ≡ self.old.phase }
     {
-        let is_new = !self.names(by);
+        let is_new = !is_among(&self.callers, by);
         if is_new && self.callers.len() >= MOST_PROCESSORS {
             return Err(FaultKind::TooMany);
         }
         self.add_line(is_new, by, action)
     }
 
-    // Whether the phase has this processor.
-    fn names(&mut self, by: Caller) -> bool
-        ensures named { result ≡ is_among self.old.callers.items by }
-        ensures callers { self.new.callers ≡ self.old.callers }
-        ensures so_far { so_far self.new ≡ so_far self.old }
-    {
-        self.last = place_after(&self.callers, self.last, by);
-        self.last < self.callers.len()
-    }
-
     // Adds a line of a processor, which is new in the phase or not.
-    #[inline(always)]
-    fn add_line(&mut self, is_new: bool, by: Caller, action: &Action<A>) -> Result<(), FaultKind>
+    fn add_line(&mut self, is_new: bool, by: Caller, action: Action<A>) -> Result<(), FaultKind>
         requires { is_new ≡ not (is_among self.old.callers.items by) }
-        ensures read { IsRead result (λ _. so_far self.new) (Ok (with_line (so_far self.old) by
-            action.now)) }
+        ensures read { IsRead result (λ _. so_far self.new) (Ok (with_line (so_far self.old) by action)) }
         ensures phase { self.new.phase ≡ self.old.phase }
     {
         // With the processor's room made first, nothing fails after the line is added.
-        make_room(&mut self.callers).map_err(|_| FaultKind::Memory)?;
-        let likely = self.first.wrapping_add(self.last);
+        self.callers.reserve(1).map_err(|_| FaultKind::Memory)?;
         self.lines
-            .push(self.phase, by, action, likely)
+            .push(Line {
+                phase: self.phase,
+                by,
+                action,
+            })
             .map_err(|_| FaultKind::Memory)?;
         if is_new {
             self.callers.push_reserved(by);
@@ -238,24 +152,15 @@ impl<A: Allocator + Clone> Reading<A> {
     }
 }
 
-// Where a processor stands among others, or how many they are where it is none of them. It is looked for
-// first at this place, then behind it, or at the front where that is the last.
+// Whether a processor is one of these.
 #[tactic(auto, using(std::proofs::lemmas::List::Folds::list_any_at))]
-fn place_after(callers: &[Caller], last: usize, by: Caller) -> usize
-    ensures { nat_lt result (length callers.now) ≡ is_among callers.now by }
+fn is_among(callers: &[Caller], by: Caller) -> bool
+    ensures { result ≡ is_among callers.now by }
 {
-    if last < callers.len() && callers[last] == by {
-        return last;
-    }
-    let next = last.wrapping_add(1);
-    let next = if next < callers.len() { next } else { 0 };
-    if next < callers.len() && callers[next] == by {
-        return next;
-    }
     for at in 0..callers.len() {
         if callers[at] == by {
-            return at;
+            return true;
         }
     }
-    callers.len()
+    false
 }

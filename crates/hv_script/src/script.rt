@@ -1,12 +1,16 @@
 // Scripts.
-ghost use Rattle.std.specs.Prelude.{◌≡◌, ◌≢◌, ◌<◌, ◌≤◌, IfErr, IfOk, length};
-ghost use Rattle.hv_script.specs.Reading.{read_by, said};
+ghost use Rattle.std.specs.Prelude.{◌≡◌, ◌≢◌, ◌+◌, ◌<◌, ◌≤◌, ◌^◌, IfErr, IfOk, OnOk, length};
+ghost use Rattle.std.specs.Option.{option_copied};
+ghost use Rattle.hv_script.specs.Reading.{phase_by, read_by, said};
 ghost use Rattle.hv_script.specs.Script.{read_lines, script_of};
+ghost use Rattle.hv_script.specs.Cursor.{FailsBy, ReadsTo};
 ghost use Rattle.hv_script.specs.Words.{lines_of};
+ghost use Rattle.hv_script.specs.Cursor.{lines_left, most_left};
 ghost use Rattle.hv_script.specs.declared.script.TheConstants.{MOST_BYTES as MOST};
 
+use crate::cut::next_line;
 use crate::fault::{FaultKind, ScriptFault};
-use crate::lines::Lines;
+use crate::line::Line;
 use crate::reading::Reading;
 use hv_policy::Config;
 use std::alloc::Allocator;
@@ -22,7 +26,7 @@ pub struct Script<A: Allocator> {
     /// The most events that the history keeps.
     pub limit: u32,
     /// The lines of its processors, in the text's order.
-    pub lines: Lines<A>,
+    pub lines: Vec<Line<A>, A>,
 }
 
 /// Reads a script, or finds its first fault: the first line with a fault decides, and in a line the
@@ -65,20 +69,35 @@ fn read_lines<A: Allocator + Clone>(
         → read_lines {A = A} 1 None (lines_of text.now) ≡ Err fault) }
 {
     let mut reading = None;
-    let Ok(spare) = alloc.clone() else {
-        return Err(ScriptFault {
-            line: 1,
-            kind: FaultKind::Memory,
-        });
-    };
-    let mut spare = Vec::new(spare);
     let mut number = 0usize;
     let mut left = Some(text);
     'lines: while let Some(here) = left {
         number += 1;
-        left = Reading::read_next(alloc, &mut reading, &mut spare, here).map_err(
-            |kind| ScriptFault { line: number, kind },
-        )?;
+        left = read_next(alloc, &mut reading, here).map_err(|kind| ScriptFault {
+            line: number,
+            kind,
+        })?;
     }
     Ok(reading)
+}
+
+// Reads the first line of a text, and gives what stands after its line feed, if it has one.
+fn read_next<'a, A: Allocator + Clone>(
+    alloc: &A,
+    reading: &mut Option<Reading<A>>,
+    text: &'a [u8],
+) -> Result<Option<&'a [u8]>, FaultKind>
+    requires phases { phase_by reading.old + 1 < 2 ^ 32 }
+    ensures read { IfOk result (λ rest. ReadsTo (lines_of text.now) (read_by reading.old)
+        (lines_left (option_copied rest)) (read_by reading.new)) }
+    ensures fault { IfErr result (λ kind. kind ≢ FaultKind.Memory → FailsBy (lines_of text.now)
+        (read_by reading.old) kind) }
+    ensures shorter { IfOk result (λ rest. most_left (option_copied rest) ≤ length text.now) }
+    ensures phase { OnOk result (phase_by reading.new ≤ phase_by reading.old + 1) }
+{
+    let (line, rest) = next_line(text)?;
+    if let Some(line) = line {
+        Reading::read_line(alloc, reading, &line)?;
+    }
+    Ok(rest)
 }

@@ -1,30 +1,32 @@
 -- A call that goes on from hold to hold.
-use Rattle.std.proofs.Common.{◌≡◌, ℕ, ◌+◌, ◌≤◌, ◌<◌, List, [], ◌∷◌, ◌++◌, length, refl, sym, ap, ◌∙◌, subst, arith, append_assoc, append-nil}
+use Rattle.std.proofs.Common.{◌≡◌, ℕ, ◌+◌, ◌-◌, ◌≤◌, ◌<◌, IfOk, OnErr, Result, Ok, Err, List, [], ◌∷◌, ◌++◌, length, refl, sym, ap, ◌∙◌, subst, arith, append_assoc, append-nil}
 use Rattle.std.specs.Prelude.{map}
 use Rattle.std.proofs.lemmas.List.{length-append, length-map, map-append}
 use Rattle.std.specs.declared.alloc.Global.{Global}
 use Rattle.hv_abi.specs.InputValue.{input_value}
 use Rattle.hv_abi.specs.declared.frame.Frame.{Frame}
-use Rattle.hv_history.proofs.Elements.{as_many, of_last, start_restart}
-use Rattle.hv_history.specs.History.{IsOfLastCall}
-use Rattle.hv_history.specs.Run.{AreElements as AreAsked, IsMore, element, restart, start_of}
+use Rattle.hv_defs.specs.declared.sizes.TheConstants.{REPS_END}
+use Rattle.hv_history.proofs.Elements.{as_many, start_restart}
+use Rattle.hv_history.specs.Run.{AreElements as AreAsked, GoesOnAt, HasRun, HasStopped as HasStoppedAt, IsMore, element, restart, start_of}
 use Rattle.hv_history.specs.declared.entry.Entry.{Entry}
 use Rattle.hv_policy.specs.Next.{GoesOn}
-use Rattle.hv_policy.specs.Parts.{reply_of}
-use Rattle.hv_policy.specs.Result.{HasResult, result_of}
-use Rattle.hv_policy.specs.declared.answer.Answer.{Answer}
+use Rattle.hv_policy.specs.Result.{result_of}
 use Rattle.hv_policy.specs.declared.event.Action.TheVariants.{Hypercall}
 use Rattle.hv_policy.specs.declared.event.Caller.{Caller}
 use Rattle.hv_policy.specs.declared.reply.Reply.{Reply}
-use Rattle.hv_policy.specs.declared.reply.Reply.TheVariants.{More}
-use Rattle.hv_shared.specs.Drive.{AreElements, HasDriven, HasFinished, HasStopped, IsWholeCall, entry_in}
+use Rattle.hv_policy.specs.declared.reply.Reply.TheVariants.{Served, More, Denied, Fault}
+use Rattle.hv_shared.specs.Drive.{AreElements, HasAsked, HasDriven, HasStopped, entry_in}
 use Rattle.hv_shared.specs.HeldValue.{HeldValue}
-use Rattle.hv_shared.specs.Hold.{HasHeldFor, HasHeldUpTo}
+use Rattle.hv_shared.specs.Hold.{HasHeld}
 use Rattle.hv_shared.specs.Pass.{HasReceipts, IsAsBefore, receipt}
 use Rattle.hv_shared.specs.PassValue.{PassValue}
-use Rattle.hv_shared.specs.Told.{IsAsked}
 use Rattle.hv_shared.specs.declared.receipts.Receipt.{Receipt}
-use Rattle.hv_shared.proofs.Elements.{push}
+
+has_index_at : (n : ℕ) (reply : Reply) → GoesOnAt n reply → n < REPS_END
+has_index_at n (More next output) is = is.1
+has_index_at n (Served output) is = absurd is
+has_index_at n (Denied rule status reps) is = absurd is
+has_index_at n (Fault rule) is = absurd is
 
 asked-append : (by : Caller) (frame mid now : Frame Global) (es more : List (Entry Global)) → AreAsked by frame es mid → AreAsked by mid more now → AreAsked by frame (es ++ more) now
 asked-append by frame mid now [] more is then = subst (λ (f : Frame Global). AreAsked by f more now) is then
@@ -32,10 +34,6 @@ asked-append by frame mid now (e ∷ es) more is then = (is.0, is.1, asked-appen
 
 pub append : (by : Caller) (frame mid now : Frame Global) (rs more : List Receipt) → AreElements by frame rs mid → AreElements by mid more now → AreElements by frame (rs ++ more) now
 append by frame mid now rs more is then = rw (map-append entry_in rs more) (asked-append by frame mid now (map entry_in rs) (map entry_in more) is then)
-
--- elements don't go back
-onward-asked : (by : Caller) (frame now : Frame Global) (es : List (Entry Global)) → AreAsked by frame es now → start_of frame ≤ start_of now
-onward-asked by frame now es is = let many = as_many by frame es now is in omega arith
 
 -- the same receipts more, where the room alone changed before
 from_before : (more : List Receipt) (old mid new : PassValue) → IsAsBefore old mid → HasReceipts more mid new → HasReceipts more old new
@@ -46,30 +44,114 @@ from_before more old mid new same is =
       caller = is.caller ∙ same.caller;
     }
 
--- a hold that came to an answer
-pub asked_in : (frame last : Frame Global) (answer : Answer) (most : ℕ) (h k : HeldValue) (old mid new : PassValue) → IsAsBefore old mid → HasHeldFor frame last answer most h k mid new → IsAsked frame last answer old new
-asked_in frame last answer most h k old mid new same is =
-    let to = is.to in
+-- the element after so many has that start index
+pub at_end : (by : Caller) (frame : Frame Global) (es : List (Entry Global)) (now : Frame Global) (n : ℕ) → AreAsked by frame es now → n ≡ start_of frame + length es → now ≡ restart frame n
+at_end by frame [] now n is count =
+    let start : n ≡ start_of frame = count ∙ omega arith in
+    let rcx : frame.rcx ≡ (restart frame n).rcx = omega arith in
+    is ∙ (λ i. record frame { rcx = rcx i })
+at_end by frame (e ∷ es) now n is count =
+    let less = has_index_at (start_of frame + 1) e.reply is.1 in
+    let start : start_of (restart frame (start_of frame + 1)) ≡ start_of frame + 1 = start_restart frame (start_of frame + 1) less in
+    let rest = at_end by (restart frame (start_of frame + 1)) es now n is.2 (omega arith) in
+    let rcx : (restart (restart frame (start_of frame + 1)) n).rcx ≡ (restart frame n).rcx = omega arith in
+    rest ∙ (λ i. record frame { rcx = rcx i })
+
+-- receipts with the same entries as a list that ends in this one end in one of it
+record IsSplit (rs : List Receipt) (before : List (Entry Global)) (last : Entry Global) : Type 0 where
+  front : List Receipt
+  number : ℕ
+  entries : map entry_in front ≡ before
+  all : rs ≡ front ++ receipt number last.event last.reply ∷ []
+
+split : (rs : List Receipt) (before : List (Entry Global)) (last : Entry Global) → map entry_in rs ≡ before ++ last ∷ [] → IsSplit rs before last
+split [] [] last is = cc
+split [] (e ∷ before) last is = cc
+split (r ∷ []) [] last is =
+    let one : entry_in r ≡ last = cc in
     record {
-      before = to.before;
-      number = to.number;
-      output = is.output;
-      elements = subst (λ (by : Caller). AreElements by frame to.before last) same.caller to.elements;
-      gained = subst (λ (by : Caller). HasReceipts (to.before ++ receipt to.number (element by last) (reply_of answer is.output) ∷ []) old new) same.caller
-          (from_before (to.before ++ receipt to.number (element mid.caller last) (reply_of answer is.output) ∷ []) old mid new same to.held.gained);
-      result = to.result;
-      goes_on = to.goes_on;
+      front = [];
+      number = r.number;
+      entries = refl;
+      all = λ i. receipt r.number (one i).event (one i).reply ∷ [];
+    }
+split (r ∷ s ∷ rs) [] last is = cc
+split (r ∷ rs) (e ∷ before) last is =
+    let one : entry_in r ≡ e = cc in
+    let others : map entry_in rs ≡ before ++ last ∷ [] = cc in
+    let rest = split rs before last others in
+    record {
+      front = r ∷ rest.front;
+      number = rest.number;
+      entries = λ i. one i ∷ rest.entries i;
+      all = ap (λ (xs : List Receipt). r ∷ xs) rest.all;
+    }
+
+cancel : {X : Type 0} (xs ys zs : List X) → xs ++ ys ≡ xs ++ zs → ys ≡ zs
+cancel [] ys zs same = same
+cancel (x ∷ xs) ys zs same = cancel xs ys zs (cc)
+
+-- a hold that came to an answer
+pub asked_in : (frame : Frame Global) (reply : Reply) (events most : ℕ) (h k : HeldValue) (old new : PassValue) → HasHeld h k old new → HasRun old.caller frame reply events most h.kept k.kept → HasAsked frame reply events old new
+asked_in frame reply events most h k old new held run =
+    let last : Entry Global = record { event = element old.caller run.last; reply = reply } in
+    let parts = split held.more run.before last (cancel h.kept.history _ _ (sym held.history ∙ run.history)) in
+    record {
+      before = parts.front;
+      last = run.last;
+      number = parts.number;
+      elements = subst (λ (es : List (Entry Global)). AreAsked old.caller frame es run.last) (sym parts.entries) run.elements;
+      gained = subst (λ (rs : List Receipt). HasReceipts rs old new) parts.all held.gained;
+      count = run.count ∙ ap (λ n. n + 1) (ap length (sym parts.entries) ∙ length-map parts.front entry_in);
+      result = run.result;
+      next = run.next;
     }
 
 -- a hold that the host ended
-pub stopped_in : (frame now : Frame Global) (most start : ℕ) (h k : HeldValue) (old mid new : PassValue) → IsAsBefore old mid → HasHeldUpTo frame now most h k mid new → start ≡ (input_value now.rcx).start → HasStopped frame start old new
-stopped_in frame now most start h k old mid new same is start_is =
+pub stopped_in : (frame : Frame Global) (events most : ℕ) (h k : HeldValue) (old new : PassValue) → HasHeld h k old new → HasStoppedAt old.caller frame events most h.kept k.kept → HasStopped frame (start_of frame + events) old new
+stopped_in frame events most h k old new held run =
+    let same : map entry_in held.more ≡ run.before = cancel h.kept.history _ _ (sym held.history ∙ run.history) in
     record {
-      more = is.before;
-      now = now;
-      elements = subst (λ (by : Caller). AreElements by frame is.before now) same.caller is.elements;
-      next_is = start_is;
-      gained = from_before is.before old mid new same is.held.gained;
+      more = held.more;
+      now = run.now;
+      elements = subst (λ (es : List (Entry Global)). AreAsked old.caller frame es run.now) (sym same) run.elements;
+      next_is = let many = as_many old.caller frame run.before run.now run.elements in let count = run.count in omega arith;
+      gained = held.gained;
+    }
+
+pub if_asked : {E : Type 0} (last : Result Reply E) (frame : Frame Global) (events most : ℕ) (h k : HeldValue) (old new : PassValue) → HasHeld h k old new
+    → IfOk last (λ reply. HasRun old.caller frame reply events most h.kept k.kept) → IfOk last (λ reply. HasAsked frame reply events old new)
+if_asked (Ok reply) frame events most h k old new held run = asked_in frame reply events most h k old new held run
+if_asked (Err why) frame events most h k old new held run = run
+
+pub if_stopped : {E : Type 0} (last : Result Reply E) (frame : Frame Global) (events most : ℕ) (h k : HeldValue) (old new : PassValue) → HasHeld h k old new
+    → OnErr last (HasStoppedAt old.caller frame events most h.kept k.kept) → OnErr last (HasStopped frame (start_of frame + events) old new)
+if_stopped (Ok reply) frame events most h k old new held run = run
+if_stopped (Err why) frame events most h k old new held run = stopped_in frame events most h k old new held run
+
+-- where the room alone changed before
+pub asked_after : (frame : Frame Global) (reply : Reply) (events : ℕ) (old mid new : PassValue) → IsAsBefore old mid → HasAsked frame reply events mid new → HasAsked frame reply events old new
+asked_after frame reply events old mid new same is =
+    record {
+      before = is.before;
+      last = is.last;
+      number = is.number;
+      elements = subst (λ (by : Caller). AreElements by frame is.before is.last) same.caller is.elements;
+      gained = subst (λ (by : Caller). HasReceipts (is.before ++ receipt is.number (element by is.last) reply ∷ []) old new) same.caller
+          (from_before (is.before ++ receipt is.number (element mid.caller is.last) reply ∷ []) old mid new same is.gained);
+      count = is.count;
+      result = is.result;
+      next = is.next;
+    }
+
+pub stopped_after : (frame : Frame Global) (next : ℕ) (old mid new : PassValue) → IsAsBefore old mid → HasStopped frame next mid new → HasStopped frame next old new
+stopped_after frame next old mid new same is =
+    record {
+      more = is.more;
+      now = is.now;
+      elements = subst (λ (by : Caller). AreElements by frame is.more is.now) same.caller is.elements;
+      next_is = is.next_is;
+      gained = from_before is.more old mid new same is.gained;
     }
 
 -- no hold was begun
@@ -92,122 +174,92 @@ gained-twice a b old mid new first second =
       caller = second.caller ∙ first.caller;
     }
 
-module _ (frame now : Frame Global) (answer : Answer) (old mid : PassValue) (asked : IsAsked frame now answer old mid) where
-  abbrev pub told : Receipt
-  told = receipt asked.number (element old.caller now) (reply_of answer asked.output)
+-- the pass has the receipts more of the elements of a call up to the one that is to be asked now
+pub record IsDriving (frame now : Frame Global) (old pass : PassValue) : Type 0 where
+  pub so_far : List Receipt
+  pub elements : AreElements old.caller frame so_far now
+  pub gained : HasReceipts so_far old pass
 
-  abbrev pub all : List Receipt
-  all = asked.before ++ told ∷ []
+pub begun : (frame : Frame Global) (pass : PassValue) → IsDriving frame frame pass pass
+begun frame pass = record { so_far = []; elements = refl; gained = record { receipts = sym (append-nil pass.receipts); share = omega arith; caller = refl } }
 
-  -- the last element
-  pub finished : ((output : List ℕ) → IsMore (reply_of answer output) → ⊥) → HasFinished frame now old mid
-  finished ends =
+module _ (frame now : Frame Global) (old mid : PassValue) (is : IsDriving frame now old mid) where
+  -- the host refused an element
+  pub stopped : (next : ℕ) (new : PassValue) → HasStopped now next mid new → HasStopped frame next old new
+  stopped next new part =
       record {
-        more = all;
-        reply = reply_of answer asked.output;
-        whole = record { before = asked.before; number = asked.number; elements = asked.elements; all = refl; ends = ends asked.output };
-        gained = asked.gained;
-        result = asked.result;
+        more = is.so_far ++ part.more;
+        now = part.now;
+        elements = append old.caller frame now part.now is.so_far part.more is.elements (subst (λ (by : Caller). AreElements by now part.more part.now) is.gained.caller part.elements);
+        next_is = part.next_is;
+        gained = gained-twice is.so_far part.more old mid new is.gained part.gained;
       }
 
-  module _ (next : ℕ) (more : (output : List ℕ) → reply_of answer output ≡ More next output) (later : Frame Global) (later_is : later ≡ restart now next) where
-    pub elements : AreElements old.caller frame all later
-    elements =
-        subst (λ (f : Frame Global). AreElements old.caller frame all f) (sym later_is)
-        (push old.caller frame asked.before now asked.number next asked.output (reply_of answer asked.output) asked.elements (more asked.output) asked.goes_on)
+  module _ (reply : Reply) (events : ℕ) (new : PassValue) (asked : HasAsked now reply events mid new) where
+    abbrev own : Receipt
+    own = receipt asked.number (element mid.caller asked.last) reply
 
-    -- the pass's last receipt is of the element before
-    pub told_before : IsOfLastCall (element mid.caller later) (map entry_in mid.receipts)
-    told_before =
-        let receipts : map entry_in mid.receipts ≡ map entry_in old.receipts ++ map entry_in all =
-        ap (map entry_in) asked.gained.receipts ∙ map-append entry_in old.receipts all in
-        subst (λ (by : Caller). IsOfLastCall (element by later) (map entry_in mid.receipts)) (sym asked.gained.caller)
-        (subst (IsOfLastCall (element old.caller later)) (sym receipts)
-        (of_last old.caller frame (map entry_in all) later elements (omega (arith, length-map all entry_in, length-append asked.before (told ∷ []))) (map entry_in old.receipts)))
+    -- so many elements on stands the last
+    pub last_is : (n : ℕ) → n ≡ start_of now + events - 1 → restart now n ≡ asked.last
+    last_is n at =
+        let count = asked.count in
+        sym (at_end mid.caller now (map entry_in asked.before) asked.last n asked.elements (omega (arith, length-map asked.before entry_in)))
 
-    goes : GoesOn (Hypercall now) (More next asked.output)
-    goes = subst (GoesOn (Hypercall now)) (more asked.output) asked.goes_on
+    pub has_index : start_of now + events ≤ 4096
+    has_index =
+        let many = as_many mid.caller now (map entry_in asked.before) asked.last asked.elements in
+        let count = asked.count in
+        omega (arith, length-map asked.before entry_in)
 
-    later_start : start_of later ≡ start_of now + 1
-    later_start =
-        let on = goes in
-        let at = start_restart now next on.1 in
-        let same = ap start_of later_is in
-        omega (arith, on.0)
+    pub some : 0 < events
+    some = let count = asked.count in omega arith
 
-    -- the next hold
-    pub asked_next : (last : Frame Global) (then : Answer) (new : PassValue) → IsAsked later last then mid new → IsAsked frame last then old new
-    asked_next last then new is =
-        let same = asked.gained.caller in
-        let own : List Receipt = is.before ++ receipt is.number (element mid.caller last) (reply_of then is.output) ∷ [] in
+    elements : AreElements old.caller frame (is.so_far ++ asked.before) asked.last
+    elements = append old.caller frame now asked.last is.so_far asked.before is.elements (subst (λ (by : Caller). AreElements by now asked.before asked.last) is.gained.caller asked.elements)
+
+    gained : HasReceipts ((is.so_far ++ asked.before) ++ receipt asked.number (element old.caller asked.last) reply ∷ []) old new
+    gained =
+        subst (λ (rs : List Receipt). HasReceipts rs old new)
+        (sym (append_assoc is.so_far asked.before (own ∷ []))
+        ∙ ap (λ (by : Caller). (is.so_far ++ asked.before) ++ receipt asked.number (element by asked.last) reply ∷ []) is.gained.caller)
+        (gained-twice is.so_far (asked.before ++ own ∷ []) old mid new is.gained asked.gained)
+
+    -- it was the last of the call
+    pub driven : (last : Frame Global) (value : ℕ) → last ≡ asked.last → (IsMore reply → ⊥) → value ≡ result_of last reply → HasDriven frame value reply old new
+    driven last value same ends value_is =
         record {
-          before = all ++ is.before;
-          number = is.number;
-          output = is.output;
-          elements = append old.caller frame later last all is.before elements (subst (λ (by : Caller). AreElements by later is.before last) same is.elements);
-          gained =
-              subst (λ (rs : List Receipt). HasReceipts rs old new)
-              (sym (append_assoc all is.before (receipt is.number (element mid.caller last) (reply_of then is.output) ∷ []))
-              ∙ ap (λ (by : Caller). (all ++ is.before) ++ receipt is.number (element by last) (reply_of then is.output) ∷ []) same)
-              (gained-twice all own old mid new asked.gained is.gained);
-          result = is.result;
-          goes_on = is.goes_on;
+          more = (is.so_far ++ asked.before) ++ receipt asked.number (element old.caller asked.last) reply ∷ [];
+          last = asked.last;
+          whole = record { before = is.so_far ++ asked.before; number = asked.number; elements = elements; all = refl; ends = ends };
+          value_is = value_is ∙ ap (λ (f : Frame Global). result_of f reply) same;
+          gained = gained;
         }
 
-    -- it ends further on
-    pub further : (last : Frame Global) (then : Answer) (new : PassValue) → IsAsked later last then mid new → start_of now < start_of last
-    further last then new is =
-        let on = onward-asked mid.caller later last (map entry_in is.before) is.elements in
-        let at = later_start in
-        omega arith
+    -- the call goes on
+    module _ (next : ℕ) (output : List ℕ) (more : reply ≡ More next output) where
+      goes : GoesOn (Hypercall asked.last) (More next output)
+      goes = subst (GoesOn (Hypercall asked.last)) more asked.next
 
-    -- the host refused an element of it
-    pub stopped : (start : ℕ) (new : PassValue) → HasStopped later start mid new → HasStopped frame start old new
-    stopped start new is =
-        record {
-          more = all ++ is.more;
-          now = is.now;
-          elements = append old.caller frame later is.now all is.more elements (subst (λ (by : Caller). AreElements by later is.more is.now) asked.gained.caller is.elements);
-          next_is = is.next_is;
-          gained = gained-twice all is.more old mid new asked.gained is.gained;
-        }
+      pub index : next < 4096
+      index = goes.1
 
-    -- and its end, where it is known
-    pub call_after : (last : Frame Global) (reply : Reply) (rest : List Receipt) → IsWholeCall mid.caller later rest last reply → IsWholeCall old.caller frame (all ++ rest) last reply
-    call_after last reply rest is =
-        let same = asked.gained.caller in
-        record {
-          before = all ++ is.before;
-          number = is.number;
-          elements = append old.caller frame later last all is.before elements (subst (λ (by : Caller). AreElements by later is.before last) same is.elements);
-          all = ap (λ (rs : List Receipt). all ++ rs) is.all ∙ sym (append_assoc all is.before (receipt is.number (element mid.caller last) reply ∷ []))
-              ∙ ap (λ (by : Caller). (all ++ is.before) ++ receipt is.number (element by last) reply ∷ []) same;
-          ends = is.ends;
-        }
+      goes_at : GoesOnAt (start_of asked.last + 1) reply
+      goes_at = subst (GoesOnAt (start_of asked.last + 1)) (sym more) (goes.0, (let less = goes.1 in let same = goes.0 in omega arith))
 
-    pub part_after : (at : Frame Global) (rest : List Receipt) → AreElements mid.caller later rest at → AreElements old.caller frame (all ++ rest) at
-    part_after at rest is = append old.caller frame later at all rest elements (subst (λ (by : Caller). AreElements by later rest at) asked.gained.caller is)
+      pub goes_on : (last later : Frame Global) → last ≡ asked.last → later ≡ restart last next → IsDriving frame later old new
+      goes_on last later same later_is =
+          record {
+            so_far = (is.so_far ++ asked.before) ++ receipt asked.number (element old.caller asked.last) reply ∷ [];
+            elements =
+                rw (map-append entry_in (is.so_far ++ asked.before) (receipt asked.number (element old.caller asked.last) reply ∷ []), later_is, same, goes.0)
+                (asked-append old.caller frame asked.last (restart asked.last (start_of asked.last + 1)) (map entry_in (is.so_far ++ asked.before)) (record { event = element old.caller asked.last; reply = reply } ∷ []) elements
+                (refl, goes_at, refl));
+            gained = gained;
+          }
 
-module _ (frame last : Frame Global) (old new : PassValue) (is : HasFinished frame last old new) where
-  -- its receipt is the pass's last
-  at_last : new.receipts ≡ (old.receipts ++ is.whole.before) ++ receipt is.whole.number (element old.caller last) is.reply ∷ []
-  at_last =
-      is.gained.receipts ∙ ap (λ (rs : List Receipt). old.receipts ++ rs) is.whole.all
-      ∙ sym (append_assoc old.receipts is.whole.before (receipt is.whole.number (element old.caller last) is.reply ∷ []))
-
-  module _ (reply : Reply) (told : (before : List Receipt) (r : Receipt) → new.receipts ≡ before ++ r ∷ [] → reply ≡ r.reply) where
-    reply_is : reply ≡ is.reply
-    reply_is = told _ _ at_last
-
-    pub last_result : HasResult reply
-    last_result = subst HasResult (sym reply_is) is.result
-
-    pub driven : (value : ℕ) → value ≡ result_of last reply → HasDriven frame value reply old new
-    driven value value_is =
-        record {
-          more = is.more;
-          last = last;
-          whole = subst (λ (r : Reply). IsWholeCall old.caller frame is.more last r) (sym reply_is) is.whole;
-          value_is = value_is;
-          gained = is.gained;
-        }
+      pub further : (last later : Frame Global) → last ≡ asked.last → later ≡ restart last next → start_of now < start_of later
+      further last later same later_is =
+          let many = as_many mid.caller now (map entry_in asked.before) asked.last asked.elements in
+          let at : start_of later ≡ next = ap start_of later_is ∙ start_restart last next index in
+          let is_next = goes.0 in
+          omega arith

@@ -1,54 +1,97 @@
--- One event under the lock.
-use Rattle.std.proofs.Common.{◌≡◌, ℕ, ◌-◌, ◌<◌, List, [], ◌∷◌, ◌++◌, Some, length, refl, sym, ap, subst, ◌∙◌, arith, length-append}
-use Rattle.std.specs.List.{slice_get}
+-- Several elements of a call under the lock.
+use Rattle.std.proofs.Common.{◌≡◌, ℕ, ◌+◌, IfOk, OnErr, Result, Ok, Err, List, [], ◌∷◌, ◌++◌, length, take, drop, refl, sym, ap, subst, ◌∙◌, arith}
+use Rattle.std.specs.Prelude.{All}
+use Rattle.std.proofs.lemmas.List.{length-append}
 use Rattle.std.specs.declared.alloc.Global.{Global}
-use Rattle.hv_history.specs.Kept.{HasGained, HasTaken, Kept}
+use Rattle.hv_abi.specs.declared.frame.Frame.{Frame}
+use Rattle.hv_history.specs.Kept.{IsRun, Kept}
+use Rattle.hv_history.specs.Row.{events_of, replies_of}
+use Rattle.hv_history.specs.Run.{HasRun, HasStopped, element}
 use Rattle.hv_history.specs.declared.entry.Entry.{Entry}
-use Rattle.hv_policy.specs.Next.{GoesOn}
-use Rattle.hv_policy.specs.Parts.{reply_of}
-use Rattle.hv_policy.specs.Result.{HasResult}
-use Rattle.hv_policy.specs.Step.{NamesAsked}
-use Rattle.hv_policy.specs.declared.answer.Answer.{Answer}
+use Rattle.hv_policy.specs.Boot.{boot}
+use Rattle.hv_policy.specs.Flat.{Flat}
+use Rattle.hv_policy.specs.Step.{run_from}
+use Rattle.hv_policy.specs.declared.event.Caller.{Caller}
 use Rattle.hv_policy.specs.declared.event.Event.{Event}
 use Rattle.hv_policy.specs.declared.reply.Reply.{Reply}
-use Rattle.hv_shared.specs.Held.{IsHeld}
-use Rattle.hv_shared.specs.Pass.{HasReceipt}
+use Rattle.hv_shared.specs.Copies.{AreCopies}
+use Rattle.hv_shared.specs.HeldValue.{HeldValue}
+use Rattle.hv_shared.specs.Hold.{HasHeld}
 use Rattle.hv_shared.specs.PassValue.{PassValue}
-use Rattle.hv_shared.specs.Room.{HasUsedOne}
+use Rattle.hv_shared.specs.Receipts.{numbered}
+use Rattle.hv_shared.specs.declared.receipts.Receipt.{Receipt}
+use Rattle.hv_shared.proofs.Copies.{enough, later, sooner, told, told_last}
+use Rattle.hv_shared.proofs.Numbers.{are_numbered, count, entries_in, owned, owned_last}
 
--- where the pass has a receipt of the reply that the history has
-pub held : (event : Event Global) (answer : Answer) (output : List ℕ) (old new : Kept Global) (pass told : PassValue) (is : HasTaken event old new) → reply_of answer output ≡ is.reply
-    → HasReceipt (length new.history) event (reply_of answer output) pass told → HasUsedOne event pass.room told.room → IsHeld event answer old new pass told
-held event answer output old new pass told is same receipt room =
+-- the history has so many entries more, which ask for what the first copies ask, all by the caller
+pub record IsGained (by : Caller) (events : ℕ) (old new : Kept Global) (copies : List (Event Global)) : Type 0 where
+  pub more : List (Entry Global)
+  pub history : new.history ≡ old.history ++ more
+  pub many : length more ≡ events
+  pub copied : take events copies ≡ events_of more
+  pub own : (n : ℕ) → All (λ (r : Receipt). r.event.by ≡ by) (numbered n more)
+
+module _ (by : Caller) (frame : Frame Global) (events most : ℕ) (old new : Kept Global) (copies : List (Event Global)) (run_is : IsRun new) (are : AreCopies by frame most copies) where
+  -- what was gained is itself a run
+  onward : (more : List (Entry Global)) → new.history ≡ old.history ++ more → (g : Flat) × (replies_of more ≡ (run_from g (events_of more)).1)
+  onward more history =
+      later (boot new.config) old.history more (subst (λ (es : List (Entry Global)). replies_of es ≡ (run_from (boot new.config) (events_of es)).1) history run_is.replies)
+
+  ran : (reply : Reply) → HasRun by frame reply events most old new → IsGained by events old new copies
+  ran reply is =
+      let last : Entry Global = record { event = element by is.last; reply = reply } in
+      let on = onward (is.before ++ last ∷ []) is.history in
+      let many = is.count in
+      let within = is.within in
+      let some = enough on.0 by frame is.before is.last most copies are is.elements (sooner on.0 is.before last on.1) (omega arith) in
+      record {
+        more = is.before ++ last ∷ [];
+        history = is.history;
+        many = omega (arith, length-append is.before (last ∷ []));
+        copied = told_last by frame is.before is.last last copies events is.elements refl are.asking many (omega arith);
+        own = λ n. owned_last by frame is.before is.last last n is.elements refl;
+      }
+
+  stopped : HasStopped by frame events most old new → IsGained by events old new copies
+  stopped is =
+      let on = onward is.before is.history in
+      let many = is.count in
+      let within = is.within in
+      let some = enough on.0 by frame is.before is.now most copies are is.elements on.1 (omega arith) in
+      record {
+        more = is.before;
+        history = is.history;
+        many = sym many;
+        copied = told by frame is.before is.now copies events is.elements are.asking many (omega arith);
+        own = λ n. owned by frame is.before is.now n is.elements;
+      }
+
+  pub gained : {E : Type 0} (last : Result Reply E) → IfOk last (λ reply. HasRun by frame reply events most old new) → OnErr last (HasStopped by frame events most old new) → IsGained by events old new copies
+  gained (Ok reply) is other = ran reply is
+  gained (Err why) other is = stopped is
+
+pub tail_is : (all old more : List (Entry Global)) (from : ℕ) → all ≡ old ++ more → from ≡ length old → drop from all ≡ more
+tail_is all old more from is at = (λ i. drop (at i) (is i)) ∙ past old more
+  where
+    past : (old more : List (Entry Global)) → drop (length old) (old ++ more) ≡ more
+    past [] more = refl
+    past (e ∷ old) more = past old more
+
+-- the receipts of what was gained
+pub held : (by : Caller) (events : ℕ) (copies : List (Event Global)) (h k : HeldValue) (p q : PassValue) → IsGained by events h.kept k.kept copies → k.count ≡ h.count + events
+    → (all : List (Entry Global)) (from : ℕ) → all ≡ k.kept.history → from ≡ length h.kept.history → q.receipts ≡ p.receipts ++ numbered (from + 1) (drop from all) → q.share ≡ p.share + events → q.caller ≡ p.caller → HasHeld h k p q
+held by events copies h k p q is counted all from all_is at receipts share caller =
+    let n = length h.kept.history + 1 in
+    let tail = tail_is all h.kept.history is.more from (all_is ∙ is.history) at in
+    let many : events ≡ length (numbered n is.more) = sym (count n is.more ∙ is.many) in
     record {
-      output = output;
-      gained = subst (λ (r : Reply). HasGained event r old new) (sym same) is.gained;
-      receipt = receipt;
-      asked = subst (NamesAsked event) (sym same) is.asked;
-      result = λ frame call. subst HasResult (sym same) (is.result frame call);
-      room = room;
-      next = subst (GoesOn event.what) (sym same) is.next;
+      more = numbered n is.more;
+      history = is.history ∙ ap (λ (es : List (Entry Global)). h.kept.history ++ es) (sym (entries_in n is.more));
+      numbers = are_numbered n is.more;
+      count = counted ∙ ap (λ (m : ℕ). h.count + m) many;
+      gained = record {
+        receipts = receipts ∙ (λ i. p.receipts ++ numbered (at i + 1) (tail i));
+        share = share ∙ ap (λ (m : ℕ). p.share + m) many;
+        caller = caller;
+      };
     }
-
-last_at : (es : List (Entry Global)) (e : Entry Global) → slice_get (es ++ e ∷ []) (length es) ≡ Some e
-last_at [] e = refl
-last_at (x ∷ es) e = last_at es e
-
-one_value : {X : Type 0} (x y : X) → Some x ≡ Some y → x ≡ y
-one_value x y is = cc
-
--- the entry at the last place is the one that was added
-pub last_entry : (event : Event Global) (old new : Kept Global) (is : HasTaken event old new) (all : List (Entry Global)) (at : ℕ) (last : Entry Global) → all ≡ new.history → at ≡ length all - 1 → slice_get all at ≡ Some last
-    → last ≡ record { event = event; reply = is.reply }
-last_entry event old new is all at last same place found =
-    let entry : Entry Global = record { event = event; reply = is.reply } in
-    let whole : all ≡ old.history ++ entry ∷ [] = same ∙ is.gained.history in
-    let end : at ≡ length old.history = let n = ap length whole in omega (arith, length-append old.history (entry ∷ [])) in
-    let there : slice_get all at ≡ Some entry = rw (whole, end) (last_at old.history entry) in
-    one_value last entry (sym found ∙ there)
-
--- and there is one
-pub has_last : (event : Event Global) (old new : Kept Global) (is : HasTaken event old new) (all : List (Entry Global)) → all ≡ new.history → 0 < length all
-has_last event old new is all same =
-    let n = ap length (same ∙ is.gained.history) in
-    omega (arith, length-append old.history (record { event = event; reply = is.reply } ∷ []))

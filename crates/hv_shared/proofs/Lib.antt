@@ -6,12 +6,11 @@ pub mod Merging
 pub mod Merged
 pub mod Packed
 pub mod Passes
-pub mod Rooms
 pub mod Opened
-pub mod Elements
-pub mod Driving
+pub mod Copies
+pub mod Numbers
 pub mod Holding
-pub mod Performing
+pub mod Driving
 pub mod Crosses
 pub mod Callers
 pub mod Counting

@@ -1,18 +1,14 @@
 -- What stands in packed receipts.
-use Rattle.std.proofs.Common.{◌≡◌, ℕ, suc, zero, Some, ◌<◌, ◌≤◌, ◌==◌, List, [], ◌∷◌, ◌++◌, length, drop, get_or, false, refl, sym, ap, subst, ◌∙◌, ◌+◌, ◌-◌, arith}
+use Rattle.std.proofs.Common.{◌≡◌, ℕ, suc, zero, Some, ◌<◌, ◌≤◌, ◌==◌, List, [], ◌∷◌, ◌++◌, length, drop, get_or, false, refl, sym, ap, subst, ◌∙◌, ◌+◌, arith}
 use Rattle.std.proofs.lemmas.List.{drop_all, length-append}
-use Rattle.std.proofs.lemmas.List.Elements.{All-push}
+use Rattle.std.proofs.lemmas.List.Elements.{All-append}
 use Rattle.std.proofs.lemmas.Option.{slice_get-get_or}
 use Rattle.std.specs.List.{slice_get}
-use Rattle.std.specs.Prelude.{map, option_map}
+use Rattle.std.specs.Prelude.{All, option_map}
 use Rattle.std.specs.declared.alloc.Global.{Global}
 use Rattle.hv_history.specs.declared.entry.Entry.{Entry}
 use Rattle.hv_policy.specs.declared.event.Caller.{Caller}
-use Rattle.hv_policy.specs.declared.event.Event.{Event}
-use Rattle.hv_policy.specs.declared.reply.Reply.{Reply}
-use Rattle.hv_shared.specs.Drive.{entry_in}
-use Rattle.hv_shared.specs.Merge.{AreAlikeBefore, IsOf, next_is}
-use Rattle.hv_shared.specs.Pass.{receipt}
+use Rattle.hv_shared.specs.Merge.{IsOf, next_is}
 use Rattle.hv_shared.specs.PassValue.{IsPass}
 use Rattle.hv_shared.specs.Receipts.{receipt_of, receipts_from}
 use Rattle.hv_shared.specs.declared.receipts.Receipt.{Receipt}
@@ -42,13 +38,6 @@ more [] (d ∷ es) n e same = cc
 more (m ∷ ns) [] n e same = cc
 more (m ∷ ns) (d ∷ es) n e same = ap (λ (rs : List Receipt). receipt_of m d ∷ rs) (more ns es n e (omega (arith, same)))
 
--- the entries of receipts are those that they are packed as
-pub entries_in : (ns : List ℕ) (es : List (Entry Global)) → length ns ≡ length es → map entry_in (receipts_from ns es) ≡ es
-entries_in [] [] same = refl
-entries_in [] (e ∷ es) same = cc
-entries_in (n ∷ ns) [] same = cc
-entries_in (n ∷ ns) (e ∷ es) same = ap (λ (xs : List (Entry Global)). e ∷ xs) (entries_in ns es (omega (arith, same)))
-
 pub past_all : (rs : List Receipt) (k : ℕ) → length rs ≤ k → drop k rs ≡ []
 past_all rs k past = drop_all k rs past
 
@@ -69,8 +58,8 @@ next_of (r ∷ rs) zero n own e is =
     rw same (λ h. (ap (λ (x : Entry Global). x.event) h, ap (λ (x : Entry Global). x.reply) h), λ h. λ i. record { event = h.0 i; reply = h.1 i })
 next_of (r ∷ rs) (suc k) n own e is = next_of rs k n own e is
 
-injective : (x y : Entry Global) → Some x ≡ Some y → x ≡ y
-injective x y same = cc
+pub one_value : (x y : Entry Global) → Some x ≡ Some y → x ≡ y
+one_value x y same = cc
 
 -- and that one is of an entry where the packed entry beside its number is
 pub next_is_of : (ns : List ℕ) (es : List (Entry Global)) (k : ℕ) (e : Entry Global) → length ns ≡ length es → k < length es
@@ -79,21 +68,7 @@ next_is_of ns es k e same less =
     let own : slice_get es k ≡ Some (get_or es k e) = slice_get-get_or es k e less in
     let number : slice_get ns k ≡ Some (get_or ns k 0) = slice_get-get_or ns k 0 (omega arith) in
     let next = next_of (receipts_from ns es) k (get_or ns k 0) (get_or es k e) e (place ns es k (get_or ns k 0) (get_or es k e) number own) in
-    (λ is. next.0 (injective (get_or es k e) e (sym own ∙ is)), λ of. own ∙ ap Some (next.1 of))
-
--- there is an entry at each place
-pub there_is : (es : List (Entry Global)) (k : ℕ) → k < length es → (e : Entry Global) × (slice_get es k ≡ Some e)
-there_is [] k less = absurd (omega arith)
-there_is (e ∷ es) zero less = (e, refl)
-there_is (e ∷ es) (suc k) less = there_is es k (omega arith)
-
--- the packed entry before a place is that of the history before another, where the receipt is of it
-pub before_is : (ns : List ℕ) (es history : List (Entry Global)) (k n : ℕ) → length ns ≡ length es → k < length es → n < length history → AreAlikeBefore history n (receipts_from ns es) k → slice_get es (k - 1) ≡ slice_get history (n - 1)
-before_is ns es history k n same less there alike =
-    let some = alike.receipt in
-    let first = alike.entry in
-    let e = there_is history (n - 1) (omega arith) in
-    (next_is_of ns es (k - 1) e.0 same (omega arith)).1 (alike.same e.0 e.1) ∙ sym e.1
+    (λ is. next.0 (one_value (get_or es k e) e (sym own ∙ is)), λ of. own ∙ ap Some (next.1 of))
 
 pub none_next : (rs : List Receipt) (k : ℕ) (e : Entry Global) → length rs ≤ k → IsOf e (drop k rs) → ⊥
 none_next rs k e past is = subst (IsOf e) (past_all rs k past) is
@@ -103,14 +78,19 @@ all_past [] k none = omega arith
 all_past (r ∷ rs) zero none = cc
 all_past (r ∷ rs) (suc k) none = let rest = all_past rs k none in omega (arith, rest)
 
--- one receipt more, which is counted
-pub one_more : (by : Caller) (old mid new : List Receipt) (parts amount new_parts new_amount number : ℕ) (event : Event Global) (reply : Reply) → IsPass by old parts amount
-    → mid ≡ old → new ≡ mid ++ receipt number event reply ∷ [] → new_parts ≡ parts → new_amount ≡ amount + 1 → event.by ≡ by → IsPass by new new_parts new_amount
-one_more by old mid new parts amount new_parts new_amount number event reply is same pushed parts_is amount_is own =
-    let all : new ≡ old ++ receipt number event reply ∷ [] = pushed ∙ ap (λ (rs : List Receipt). rs ++ receipt number event reply ∷ []) same in
+-- there is an entry at each place
+pub there_is : (es : List (Entry Global)) (k : ℕ) → k < length es → (e : Entry Global) × (slice_get es k ≡ Some e)
+there_is [] k less = absurd (omega arith)
+there_is (e ∷ es) zero less = (e, refl)
+there_is (e ∷ es) (suc k) less = there_is es k (omega arith)
+
+-- receipts more, which are counted
+pub some_more : (by : Caller) (old new more : List Receipt) (parts amount new_parts new_amount : ℕ) → IsPass by old parts amount → new ≡ old ++ more → new_parts ≡ parts → new_amount ≡ amount + length more
+    → All (λ r. r.event.by ≡ by) more → IsPass by new new_parts new_amount
+some_more by old new more parts amount new_parts new_amount is all parts_is amount_is own =
     rw all
     (record {
       one = parts_is ∙ is.one;
-      counted = let counted = is.counted in omega (arith, length-append old (receipt number event reply ∷ []));
-      own = All-push (λ (r : Receipt). r.event.by ≡ by) old (receipt number event reply) is.own own;
+      counted = let counted = is.counted in omega (arith, length-append old more);
+      own = All-append (λ (r : Receipt). r.event.by ≡ by) old more is.own own;
     })

@@ -1,6 +1,5 @@
 -- When a history is made of the passes' receipts.
-use Rattle.std.specs.Prelude.{ℕ, ◌≡◌, ◌≢◌, ◌+◌, ◌-◌, ◌<◌, ◌==◌, Bool, true, false, ◌⊎◌, if◌then◌else◌, Some, List, [], ◌∷◌, length, drop, map, All, slice_index_or, slice_set}
-use Rattle.std.specs.List.{slice_get}
+use Rattle.std.specs.Prelude.{ℕ, ◌≡◌, ◌≢◌, ◌+◌, ◌<◌, ◌==◌, Bool, true, false, ◌⊎◌, if◌then◌else◌, List, [], ◌∷◌, length, drop, map, All, slice_index_or, slice_set}
 use Rattle.std.specs.declared.alloc.Global.{Global}
 use Rattle.hv_history.specs.declared.entry.Entry.{Entry}
 use Rattle.hv_shared.specs.Pass.{receipt}
@@ -35,12 +34,6 @@ next_is n (r ∷ rs) = r.number == n
 abbrev pub IsOf : Entry Global → List Receipt → Type 0
 IsOf e [] = ⊥
 IsOf e (r ∷ rs) = (r.event ≡ e.event) × (r.reply ≡ e.reply)
-
--- the receipt before place k is of the entry before place n
-pub record AreAlikeBefore (history : List (Entry Global)) (n : ℕ) (receipts : List Receipt) (k : ℕ) : Type 0 where
-  pub entry : 0 < n
-  pub receipt : 0 < k
-  pub same : (e : Entry Global) → slice_get history (n - 1) ≡ Some e → IsOf e (drop (k - 1) receipts)
 
 abbrev pub IsNext : ℕ → List (List Receipt) → ℕ → Type 0
 IsNext n lists i = next_is n (slice_index_or lists i []) ≡ true
@@ -92,7 +85,3 @@ rests_of passes = map rest_of passes
 
 abbrev pub shares_of : List PassValue → List ℕ
 shares_of passes = map (λ p. p.share) passes
-
--- where there is a first pass, the receipt that the settlement came past in it last is of the entry before place n
-abbrev pub IsFirstAlike : List (Entry Global) → ℕ → List PassValue → Type 0
-IsFirstAlike history n passes = (p : PassValue) → slice_get passes 0 ≡ Some p → AreAlikeBefore history n p.receipts p.settled

@@ -1,7 +1,6 @@
 -- What a pass is seen as.
 use Rattle.std.specs.Prelude.{ℕ, ◌≡◌, List, length, All}
 use Rattle.hv_policy.specs.declared.event.Caller.{Caller}
-use Rattle.hv_shared.specs.Room.{Room}
 use Rattle.hv_shared.specs.declared.receipts.Receipt.{Receipt}
 
 -- a caller, the receipts of its events, its share of the count, how many receipts the settlement has come past, at which number
@@ -12,7 +11,7 @@ pub record PassValue : Type 0 where
   pub share : ℕ
   pub settled : ℕ
   pub due : ℕ
-  pub room : Room
+  pub room : ℕ
 
 -- a pass has one part of the count, in which its receipts are counted, and each of them is of an event by its caller
 pub record IsPass (caller : Caller) (receipts : List Receipt) (parts amount : ℕ) : Type 0 where

@@ -1,10 +1,9 @@
 -- What packed receipts stand for.
-use Rattle.std.specs.Prelude.{ℕ, ◌-◌, List, [], ◌∷◌, vec_len, vec_capacity}
+use Rattle.std.specs.Prelude.{ℕ, ◌+◌, ◌-◌, min, List, [], ◌∷◌, vec_len, vec_capacity}
 use Rattle.std.specs.declared.alloc.Global.{Global}
 use Rattle.hv_history.specs.History.{entries, entry_by, room_of}
 use Rattle.hv_history.specs.declared.entry.Entry.{Entry}
 use Rattle.hv_shared.specs.Pass.{receipt}
-use Rattle.hv_shared.specs.Room.{Room}
 use Rattle.hv_shared.specs.declared.receipts.Receipt.{Receipt}
 use Rattle.hv_shared.specs.declared.receipts.ReceiptRef.{ReceiptRef}
 use Rattle.hv_shared.specs.declared.receipts.Receipts.{Receipts}
@@ -27,6 +26,11 @@ list_of r = receipts_from r.numbers.items (entries r.packed)
 abbrev pub receipt_by : ReceiptRef → Receipt
 receipt_by r = receipt_of r.number (entry_by r.entry)
 
--- how much more they have room for
-abbrev pub room_in : Receipts → Room
-room_in r = record { numbers = vec_capacity r.numbers - vec_len r.numbers; entries = room_of r.packed }
+-- each entry under its number, from this one on
+abbrev pub numbered : ℕ → List (Entry Global) → List Receipt
+numbered n [] = []
+numbered n (e ∷ entries) = receipt_of n e ∷ numbered (n + 1) entries
+
+-- for how many more there is room
+abbrev pub room_in : Receipts → ℕ
+room_in r = min (vec_capacity r.numbers - vec_len r.numbers) (room_of r.packed)

@@ -1,16 +1,16 @@
 // A hypercall from its first element to its last.
-ghost use Rattle.std.specs.Prelude.{◌<◌, ◌≤◌, IfOk, IfErr, IsTrue, map};
-ghost use Rattle.hv_history.specs.History.{IsOfLastCall};
-ghost use Rattle.hv_history.specs.Run.{element};
-ghost use Rattle.hv_shared.specs.Drive.{HasDriven, HasFinished, HasStopped, entry_in};
+ghost use Rattle.std.specs.Prelude.{◌≡◌, ◌<◌, IfOk, IfErr, vec_len, ◌≤◌};
+ghost use Rattle.hv_shared.specs.Copies.{AreCopies, elements_in};
+ghost use Rattle.hv_shared.specs.Drive.{HasAsked, HasDriven, HasStopped};
+ghost use Rattle.hv_shared.specs.Pass.{IsAsBefore};
 
 use crate::gate::Gate;
 use crate::held::Pass;
 use crate::shared::Shared;
-use hv_abi::{Frame, InputValue, ResultValue};
+use hv_abi::{CallKind, Frame, InputValue, ResultValue};
 use hv_history::{HostRefused, next_of};
-use hv_policy::{Reply, result_of};
-use std::alloc::Global;
+use hv_policy::{Action, Event, Reply, result_of};
+use std::alloc::{AllocError, Global};
 use std::sync::Wait;
 use std::sync::ledger::Ledger;
 
@@ -23,28 +23,54 @@ pub struct DriveRefused {
 }
 
 // The most elements of a call for which the lock is taken once.
-const MOST_IN_A_HOLD: u16 = 16;
+pub(crate) const MOST_IN_A_HOLD: u32 = 16;
 
-// For how many elements of a call the lock is taken once: as many as are left from the start index on, at
-// most 16, and one of a simple call.
-#[inline(always)]
-pub(crate) fn elements_in_a_hold(rcx: u64) -> u32
-    ensures some { 0 < result }
-    ensures few { result ≤ 16 }
+// How many elements there are from the start index on of the call that an input value names, at most so
+// many. A simple call is one, and so is what P4 or P5 denies.
+fn elements_in(rcx: u64, most: u32) -> u32
+    ensures { result ≡ elements_in rcx most }
 {
-    if rcx < 1 << 32 {
-        return 1;
+    let InputValue {
+        call,
+        reps,
+        start,
+        ..
+    } = InputValue::read(rcx);
+    match CallKind::of(call) {
+        Some(kind) => {
+            let row = kind.row();
+            if row.rep && row.takes(rcx) {
+                u32::from(reps - start).min(most)
+            } else {
+                1
+            }
+        }
+        None => 1,
     }
-    let InputValue { reps, start, .. } = InputValue::read(rcx);
-    if reps <= start {
-        return 1;
+}
+
+// A second frame, and a copy of the event of each element that one hold may serve. The pass has room for
+// their receipts.
+pub(crate) fn prepare<L: Ledger>(
+    pass: &mut Pass<L>,
+    frame: &Frame<Global>,
+) -> Result<(Frame<Global>, Vec<Event<Global>>), AllocError>
+    ensures frame { IfOk result (λ r. r.0 ≡ frame.now) }
+    ensures copies { IfOk result (λ r. AreCopies pass.old.caller frame.now MOST_IN_A_HOLD r.1.items) }
+    ensures room { IfOk result (λ r. vec_len r.1 ≤ pass.new.room) }
+    ensures same { IsAsBefore pass.old pass.new }
+{
+    let count = elements_in(frame.rcx, MOST_IN_A_HOLD);
+    pass.reserve(count as usize)?;
+    let InputValue { start, .. } = InputValue::read(frame.rcx);
+    let by = pass.caller();
+    let mut copies = Vec::new(pass.receipts().allocator());
+    copies.reserve(count as usize)?;
+    for i in 0..count as u16 {
+        let what = Action::Hypercall(frame.copy()?.with_start(start + i));
+        copies.push_reserved(Event { by, what });
     }
-    let left = reps - start;
-    if left < MOST_IN_A_HOLD {
-        u32::from(left)
-    } else {
-        u32::from(MOST_IN_A_HOLD)
-    }
+    Ok((frame.copy()?, copies))
 }
 
 impl<L: Ledger> Shared<L> {
@@ -62,33 +88,48 @@ impl<L: Ledger> Shared<L> {
         ensures driven { IfOk result (λ r. HasDriven frame r.0 r.1 pass.old pass.new) }
         ensures refused { IfErr result (λ e. HasStopped frame e.next pass.old pass.new) }
     {
-        let last = finish(self, rt, pass, gate, frame, false)?;
-        let reply = pass.last_reply();
-        Ok((result_of(&last, &reply), reply))
+        let mut frame = frame;
+        loop {
+            let start = InputValue::read(frame.rcx).start;
+            let (events, reply) = self.ask(rt, pass, gate, &frame)?;
+            let last = frame.with_start(start + events - 1);
+            let Some(next) = next_of(reply.parts().0) else {
+                return Ok((result_of(&last, &reply), reply));
+            };
+            frame = last.with_start(next);
+        }
     }
-}
 
-// Drives a hypercall to its end, and gives back the frame of its last element. The replies stand in the
-// receipts. `is_told` says that the pass's last receipt is known to be of this call.
-pub(crate) fn finish<L: Ledger, R: Wait, G: Gate>(
-    shared: &Shared<L>,
-    rt: &R,
-    pass: &mut Pass<L>,
-    gate: &G,
-    frame: Frame<Global>,
-    is_told: bool,
-) -> Result<Frame<Global>, DriveRefused>
-    requires { IsTrue is_told → IsOfLastCall (element pass.old.caller frame)
-        (map entry_in pass.old.receipts) }
-    ensures finished { IfOk result (λ last. HasFinished frame last pass.old pass.new) }
-    ensures refused { IfErr result (λ e. HasStopped frame e.next pass.old pass.new) }
-{
-    let (mut last, mut answer) = shared.ask(rt, pass, gate, frame, is_told)?;
-    while let Some(next) = next_of(answer) {
-        let later = last.with_start(next);
-        let (asked, told) = shared.ask(rt, pass, gate, later, true)?;
-        last = asked;
-        answer = told;
+    // Asks for the elements of a call from the frame's start index on in one hold. Answers how many happened,
+    // and the reply to the last.
+    fn ask<R: Wait, G: Gate>(
+        &self,
+        rt: &R,
+        pass: &mut Pass<L>,
+        gate: &G,
+        frame: &Frame<Global>,
+    ) -> Result<(u16, Reply), DriveRefused>
+        ensures asked { IfOk result (λ r. HasAsked frame.now r.1 r.0 pass.old pass.new) }
+        ensures refused { IfErr result (λ e. HasStopped frame.now e.next pass.old pass.new) }
+    {
+        let start = InputValue::read(frame.rcx).start;
+        let Ok((own, copies)) = prepare(pass, frame) else {
+            return Err(DriveRefused {
+                why: HostRefused::Memory,
+                next: start,
+            });
+        };
+        let turn = pass.receipts().len() as u64;
+        gate.enter(rt, pass.caller(), turn);
+        let done = self.hold_run(rt, pass, own, copies);
+        gate.leave(rt, pass.caller(), turn);
+        let events = done.events as u16;
+        match done.last {
+            Ok(reply) => Ok((events, reply)),
+            Err(why) => Err(DriveRefused {
+                why,
+                next: start + events,
+            }),
+        }
     }
-    Ok(last)
 }

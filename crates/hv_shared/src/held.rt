@@ -1,32 +1,35 @@
-// What the lock holds, what each thread holds, and the one step that changes both. The fields of `Held`
-// and `Pass` are private to this file.
-ghost use Rattle.std.specs.Prelude.{◌≡◌, ◌<◌, ◌≤◌, ◌+◌, ◌++◌, [], ◌∷◌, ℕ, List, IsTrue, ◌↔◌, IfOk, OnOk};
-ghost use Rattle.std.specs.Prelude.{OnErr, IsErrOf, IfErr, Some, length, map, slice_get, vec_len};
+// What the lock holds, what each thread holds, and the steps that change both. The fields of `Held` and
+// `Pass` are private to this file and the settlement.
+ghost use Rattle.std.specs.Prelude.{◌≡◌, ◌<◌, ◌≤◌, ◌+◌, [], IsTrue, ◌↔◌, IfOk, OnOk, OnErr, IsErrOf};
+ghost use Rattle.std.specs.Prelude.{IfErr, Some, length, slice_get, vec_len};
 ghost use Rattle.hv_abi.specs.declared.frame.Frame.{Frame};
 ghost use Rattle.hv_policy.specs.Next.{GoesOn};
 ghost use Rattle.hv_policy.specs.Result.{HasResult};
 ghost use Rattle.hv_policy.specs.Step.{NamesAsked};
 ghost use Rattle.hv_policy.specs.declared.event.Action.TheVariants.{Hypercall};
-ghost use Rattle.hv_history.specs.History.{IsOfLastCall, entries};
+ghost use Rattle.hv_history.specs.History.{entries};
 ghost use Rattle.hv_history.specs.Kept.{HasGained, IsRun};
-ghost use Rattle.hv_history.specs.Run.{GoesOnWithLast};
+ghost use Rattle.hv_history.specs.Run.{HasRun, HasStopped};
 ghost use Rattle.hv_history.specs.declared.entry.Entry.{Entry};
-ghost use Rattle.hv_shared.specs.Drive.{entry_in};
+ghost use Rattle.hv_shared.specs.Copies.{AreCopies};
 ghost use Rattle.hv_shared.specs.Due.{IsDueAfter};
-ghost use Rattle.hv_shared.specs.Held.{IsHeld};
-ghost use Rattle.hv_shared.specs.Merge.{AreAlikeBefore, IsOf, rest_of};
+ghost use Rattle.hv_shared.specs.Hold.{HasHeld};
+ghost use Rattle.hv_shared.specs.Merge.{IsOf, rest_of};
 ghost use Rattle.hv_shared.specs.Pass.{HasReceipt, IsAsBefore};
 ghost use Rattle.hv_shared.specs.Receipts.{list_of};
-ghost use Rattle.hv_shared.specs.Room.{HasRoom};
 ghost use Rattle.hv_shared.specs.Shared.{AreOpened};
-ghost use Rattle.hv_shared.specs.declared.receipts.Receipt.{Receipt};
 
 use crate::receipts::Receipts;
-use hv_history::{Answer, Expected, History, HostRefused, Kept};
+use hv_abi::Frame;
+use hv_history::{History, HostRefused, Kept, RunDone};
 use hv_policy::{Caller, Event, Reply};
 use std::alloc::{AllocError, Global};
 use std::marker::Model;
 use std::sync::ledger::{Blank, Book, Ledger, Share};
+
+mod settlement;
+
+pub use settlement::settle;
 
 // No number of an event.
 pub(crate) const NEVER: u64 = u64::MAX;
@@ -63,7 +66,7 @@ impl<L: Ledger> Model for Pass<L> {
 }
 
 /// What the lock of a [`Shared`](crate::Shared) holds: the machine with its history, and the count of the
-/// history's events. Who has one thread, or one lock of his own, uses it without a `Shared`.
+/// history's events.
 #[derive(Drop)]
 pub struct Held<L: Ledger> {
     kept: Kept<Global>,
@@ -100,40 +103,27 @@ impl<L: Ledger> Pass<L> {
         &self.receipts
     }
 
-    /// Makes room for so many more receipts of this event, or of others that ask for other elements of
-    /// its call.
-    #[inline(always)]
-    pub fn reserve(&mut self, event: &Event<Global>, more: u32) -> Result<(), AllocError>
-        ensures room { OnOk result (HasRoom more self.new.room event.now) }
+    /// For how many more receipts there is room, whatever their events are.
+    pub fn room(&self) -> usize
+        ensures { result ≡ self.now.room }
+    {
+        self.receipts.room()
+    }
+
+    /// Makes room for so many more receipts, whatever their events are.
+    pub fn reserve(&mut self, more: usize) -> Result<(), AllocError>
+        ensures room { OnOk result (more ≤ self.new.room) }
         ensures same { IsAsBefore self.old self.new }
     {
-        self.receipts.reserve(event, more)
+        self.receipts.reserve(more)
     }
 
-    /// For how many more receipts of this event, or of others that ask for other elements of its call,
-    /// there is room.
-    pub fn room(&self, event: &Event<Global>) -> usize
-        ensures fits { HasRoom result self.now.room event.now }
-        ensures most { (count : ℕ) → HasRoom count self.now.room event.now → count ≤ result }
-    {
-        self.receipts.room(event)
-    }
-}
-
-impl<L: Ledger> Pass<L> {
-    // A pass without receipts, which has room for those of so much, with one part of the count.
-    fn open(
-        alloc: Global,
-        caller: Caller,
-        expected: Expected,
-        share: Share<L>,
-    ) -> Result<Pass<L>, AllocError>
+    // A pass without receipts, with one part of the count.
+    fn open(alloc: Global, caller: Caller, share: Share<L>) -> Result<Pass<L>, AllocError>
         requires { (share.parts ≡ 1) × (share.amount ≡ 0) }
         ensures { IfOk result (λ pass. (pass.caller ≡ caller) × (pass.receipts ≡ []) × (pass.share ≡ 0)) }
     {
-        let mut receipts = Receipts::new(alloc);
-        receipts.expect(expected)?;
-        let receipts = Box::new(alloc, receipts)?;
+        let receipts = Box::new(alloc, Receipts::new(alloc))?;
         Ok(Pass {
             caller,
             receipts,
@@ -144,38 +134,34 @@ impl<L: Ledger> Pass<L> {
     }
 
     // The number at which the settlement finds the next receipt, or `NEVER`.
-    #[inline(always)]
-    pub(crate) fn due(&self) -> u64
+    fn due(&self) -> u64
         ensures { result ≡ self.now.due }
     {
         self.due
     }
 
-    // Whether the next receipt has the event and the reply at this place of a history. `is_after` says that
-    // the receipt before it is known to have those at the place before.
-    pub(crate) fn agrees(&self, history: &History<Global>, at: usize, is_after: bool) -> bool
-        requires place { at < length (entries history.now) }
-        requires after { IsTrue is_after → AreAlikeBefore (entries history.now) at self.now.receipts
-            self.now.settled }
+    // Whether the next receipt has the event and the reply at this place of a history.
+    fn agrees(&self, history: &History<Global>, at: usize) -> bool
+        requires { at < length (entries history.now) }
         ensures { (entry : Entry Global) → slice_get (entries history.now) at ≡ Some entry
             → (IsTrue result ↔ IsOf entry (rest_of self.now)) }
     {
         if self.settled < self.receipts.len() {
-            self.receipts.is_of(self.settled, history, at, is_after)
+            self.receipts.is_of(self.settled, history, at)
         } else {
             false
         }
     }
 
     // Whether the settlement has come past all receipts.
-    pub(crate) fn is_settled(&self) -> bool
+    fn is_settled(&self) -> bool
         ensures { IsTrue result ↔ (rest_of self.now ≡ []) }
     {
         self.receipts().len() <= self.settled
     }
 
     // Comes past the next receipt, which is that of the event with this number.
-    pub(crate) fn advance(&mut self, number: u64)
+    fn advance(&mut self, number: u64)
         requires there { self.old.settled < length self.old.receipts }
         requires never { number < NEVER }
         ensures past { self.new ≡ record self.old { settled = self.old.settled + 1; due = self.new.due } }
@@ -188,7 +174,7 @@ impl<L: Ledger> Pass<L> {
     }
 
     // Comes back to the first receipt.
-    pub(crate) fn begin(&mut self)
+    fn begin(&mut self)
         ensures back { self.new ≡ record self.old { settled = 0; due = self.new.due } }
         ensures due { IsDueAfter 0 self.new }
     {
@@ -211,18 +197,7 @@ impl<L: Ledger> Pass<L> {
         }
     }
 
-    // The reply of the last receipt.
-    pub(crate) fn last_reply(&self) -> Reply
-        requires { 0 < length self.now.receipts }
-        ensures { (before : List Receipt) (last : Receipt) → self.now.receipts ≡ before ++ last ∷ []
-            → result ≡ last.reply }
-    {
-        let last = self.receipts.get(self.receipts.len() - 1);
-        let output = last.entry.output.to_output();
-        Reply::of(last.entry.answer, output.as_slice())
-    }
-
-    pub(crate) fn into_share(self) -> Share<L>
+    fn into_share(self) -> Share<L>
         ensures { (result.parts ≡ 1) × (result.amount ≡ self.share) }
     {
         self.share
@@ -230,14 +205,12 @@ impl<L: Ledger> Pass<L> {
 }
 
 impl<L: Ledger> Held<L> {
-    /// A machine to which nothing happened yet, and a pass for each caller, in order. The blank has as many
-    /// parts as there are callers. Each pass has room for what is expected of its caller, where that stands
-    /// in the same order. For want of memory the machine comes back.
-    pub fn open(
+    // A machine to which nothing happened yet, and a pass for each caller, in order. The blank has as many
+    // parts as there are callers. For want of memory the machine comes back.
+    pub(crate) fn open(
         kept: Kept<Global>,
         blank: Blank,
         callers: Vec<Caller>,
-        expected: &[Expected],
     ) -> Result<(Held<L>, Vec<Pass<L>>), Kept<Global>>
         requires empty { kept.history ≡ [] }
         requires ledger { (blank.name ≡ L.name) × (blank.parts ≡ L.parts) × (blank.parts ≡ vec_len callers) }
@@ -252,8 +225,7 @@ impl<L: Ledger> Held<L> {
         let (count, mut rest) = blank.open::<L>();
         for i in 0..callers.len() {
             let share = rest.split_off(1, 0);
-            let own = expected.get(i).copied().unwrap_or(Expected::NOTHING);
-            let Ok(pass) = Pass::open(*callers.allocator(), callers[i], own, share) else {
+            let Ok(pass) = Pass::open(*callers.allocator(), callers[i], share) else {
                 return Err(kept);
             };
             passes.push_reserved(pass);
@@ -261,15 +233,22 @@ impl<L: Ledger> Held<L> {
         Ok((Held { kept, count }, passes))
     }
 
-    /// Lets an event by the pass's caller happen and keeps its receipt, for which there is room.
-    pub fn hold(&mut self, pass: &mut Pass<L>, event: &Event<Global>) -> Result<Reply, HostRefused>
-        requires by { event.now.by ≡ pass.old.caller }
-        requires room { HasRoom 1 pass.old.room event.now }
+    /// Lets an event by the pass's caller happen and keeps its receipt, for which there is room. The copy is
+    /// equal to the event, and becomes the receipt's.
+    pub fn hold(
+        &mut self,
+        pass: &mut Pass<L>,
+        event: Event<Global>,
+        copy: Event<Global>,
+    ) -> Result<Reply, HostRefused>
+        requires by { event.by ≡ pass.old.caller }
+        requires copy { copy ≡ event }
+        requires room { 1 ≤ pass.old.room }
 
         // The history has the event with its reply more, and the pass a receipt of it. Both are counted.
-        ensures kept { IfOk result (λ r. HasGained event.now r self.old.kept self.new.kept) }
+        ensures kept { IfOk result (λ r. HasGained event r self.old.kept self.new.kept) }
         ensures count { OnOk result (self.new.count ≡ self.old.count + 1) }
-        ensures receipt { IfOk result (λ r. HasReceipt (length self.new.kept.history) event.now r pass.old
+        ensures receipt { IfOk result (λ r. HasReceipt (length self.new.kept.history) event r pass.old
             pass.new) }
         ensures run { IsRun self.new.kept }
 
@@ -281,62 +260,59 @@ impl<L: Ledger> Held<L> {
 
         // A refusal by a rule names one that is asked, a reply to a hypercall has a result value, and a
         // call goes on with the element after the one that was served.
-        ensures asked { IfOk result (λ r. NamesAsked event.now r) }
-        ensures result { (frame : Frame Global) → event.now.what ≡ Hypercall frame → IfOk result HasResult }
-        ensures next { IfOk result (λ r. GoesOn event.now.what r) }
+        ensures asked { IfOk result (λ r. NamesAsked event r) }
+        ensures result { (frame : Frame Global) → event.what ≡ Hypercall frame → IfOk result HasResult }
+        ensures next { IfOk result (λ r. GoesOn event.what r) }
     {
-        match self.take(pass, event, false, false) {
-            Ok(_) => Ok(pass.last_reply()),
-            Err(why) => Err(why),
-        }
-    }
-
-    // Lets an event happen as `hold` does, and answers its reply without the output, which stands in the
-    // pass's receipt. `goes_on` says that it is known to ask for the element with which the call of the last
-    // event goes on, and `is_told` that it is known to go on with that of the pass's last receipt.
-    #[inline(always)]
-    pub(crate) fn take(
-        &mut self,
-        pass: &mut Pass<L>,
-        event: &Event<Global>,
-        goes_on: bool,
-        is_told: bool,
-    ) -> Result<Answer, HostRefused>
-        requires by { event.now.by ≡ pass.old.caller }
-        requires room { HasRoom 1 pass.old.room event.now }
-        requires call { IsTrue goes_on → GoesOnWithLast event.now self.old.kept.history }
-        requires told { IsTrue is_told → IsOfLastCall event.now (map entry_in pass.old.receipts) }
-        ensures held { IfOk result (λ answer. IsHeld event.now answer self.old.kept self.new.kept pass.old
-            pass.new) }
-        ensures count { OnOk result (self.new.count ≡ self.old.count + 1) }
-        ensures run { IsRun self.new.kept }
-        ensures full { IsErrOf result HostRefused.HistoryFull
-            ↔ (length self.old.kept.history ≡ self.old.kept.limit) }
-        ensures refused { OnErr result (self.new ≡ self.old) }
-        ensures pass { OnErr result (pass.new ≡ pass.old) }
-    {
-        match self.kept.take(event, goes_on) {
-            Ok(number) => {
+        match self.kept.apply(event) {
+            Ok((number, reply)) => {
                 self.count.add(&mut pass.share, 1);
                 // The proof reads here that a history's length fits 32 bits.
                 let _limit = self.kept.limit();
-                let history = self.kept.history();
-                let entry = history.entry(history.len() - 1);
-                pass.receipts.push(number as u32, event, history, is_told);
-                Ok(entry.answer)
+                let (answer, output) = reply.parts();
+                pass.receipts.push(number as u32, copy, answer, output);
+                Ok(reply)
             }
             Err(why) => Err(why),
         }
     }
 
-    /// The machine with its history.
-    pub fn into_kept(self) -> Kept<Global>
-        ensures { result ≡ self.kept }
+    /// Lets the elements of a call by the pass's caller happen as [`Kept::apply_run`](hv_history::Kept) does,
+    /// and keeps their receipts, for which there is room. The copies are the caller's events of the frame at
+    /// its start index, then at each next one, up to `most` of them or to the last element, and one alone of
+    /// a simple call or where P4 or P5 denies the frame. Those of the elements that happen become the
+    /// receipts'.
+    pub fn hold_run(
+        &mut self,
+        pass: &mut Pass<L>,
+        frame: Frame<Global>,
+        copies: Vec<Event<Global>>,
+        most: u32,
+    ) -> RunDone
+        requires some { 0 < most }
+        requires copies { AreCopies pass.old.caller frame most copies.items }
+        requires room { vec_len copies ≤ pass.old.room }
+        ensures held { HasHeld self.old self.new pass.old pass.new }
+        ensures ran { IfOk result.last (λ reply. HasRun pass.old.caller frame reply result.events most
+            self.old.kept self.new.kept) }
+        ensures stopped { OnErr result.last (HasStopped pass.old.caller frame result.events most self.old.kept
+            self.new.kept) }
+        ensures run { IsRun self.new.kept }
+        ensures full { IfErr result.last (λ why. (why ≡ HostRefused.HistoryFull)
+            ↔ (length self.new.kept.history ≡ self.new.kept.limit)) }
     {
-        self.kept
+        let from = self.kept.history().len();
+        let done = self.kept.apply_run(pass.caller, frame, most);
+        self.count.add(&mut pass.share, u64::from(done.events));
+        // The proof reads here that a history's length fits 32 bits.
+        let _limit = self.kept.limit();
+        let mut told = copies;
+        told.truncate(done.events as usize);
+        pass.receipts.push_all(self.kept.history(), from, told);
+        done
     }
 
-    pub(crate) fn into_parts(self) -> (Kept<Global>, Book<L>)
+    fn into_parts(self) -> (Kept<Global>, Book<L>)
         ensures kept { result.0 ≡ self.kept }
         ensures count { result.1.total ≡ length self.kept.history }
     {

@@ -1,11 +1,13 @@
 // What a thread was told of its events, packed as a history is, with a number beside each entry.
-ghost use Rattle.std.specs.Prelude.{◌≡◌, ◌<◌, ◌≤◌, ◌-◌, ◌++◌, ◌↔◌, [], ◌∷◌, ℕ, IsTrue, OnOk, Some, drop};
-ghost use Rattle.std.specs.Prelude.{length, map, option_map, slice_get, vec_len};
-ghost use Rattle.hv_history.specs.History.{IsOfLastCall, entries};
-ghost use Rattle.hv_history.specs.Output.{shown};
+ghost use Rattle.std.specs.Prelude.{◌≡◌, ◌+◌, ◌<◌, ◌≤◌, ◌^◌, ◌++◌, ◌↔◌, [], ◌∷◌, IsTrue, OnOk, Some, drop};
+ghost use Rattle.std.specs.Prelude.{length, option_map, slice_get, vec_len};
+ghost use Rattle.hv_defs.specs.declared.sizes.TheConstants.{REPS_END};
+ghost use Rattle.hv_policy.specs.Parts.{reply_of};
+ghost use Rattle.hv_history.specs.History.{entries};
+ghost use Rattle.hv_history.specs.Row.{events_of, next_in};
 ghost use Rattle.hv_history.specs.declared.entry.Entry.{Entry};
 
-use hv_history::{EntryRef, Expected, History};
+use hv_history::{Answer, EntryRef, History};
 use hv_policy::{Event, Reply};
 use std::alloc::{AllocError, Global};
 
@@ -34,10 +36,9 @@ pub struct Receipts {
 }
 
 impl Receipts {
-    ghost use Rattle.hv_shared.specs.Drive.{entry_in};
-    ghost use Rattle.hv_shared.specs.Merge.{AreAlikeBefore, IsOf};
-    ghost use Rattle.hv_shared.specs.Receipts.{list_of, receipt_by, receipt_of, room_in};
-    ghost use Rattle.hv_shared.specs.Room.{HasRoom, HasUsedOne};
+    ghost use Rattle.hv_shared.specs.Merge.{IsOf};
+    ghost use Rattle.hv_shared.specs.Pass.{receipt};
+    ghost use Rattle.hv_shared.specs.Receipts.{list_of, numbered, receipt_by, room_in};
 
     // No receipts.
     pub(crate) fn new(alloc: Global) -> Receipts
@@ -68,7 +69,7 @@ impl Receipts {
     pub fn get(&self, at: usize) -> ReceiptRef<'_>
         requires { at < length (list_of self.now) }
         ensures receipt { slice_get (list_of self.now) at ≡ Some (receipt_by result) }
-        ensures most { length (shown result.entry.output) ≤ 256 }
+        ensures most { length result.entry.output.now ≤ 256 }
     {
         ReceiptRef {
             number: u64::from(self.numbers[at]),
@@ -76,82 +77,73 @@ impl Receipts {
         }
     }
 
-    // Whether the one at a place is of the event at a place of a history, with the same reply. Where the
-    // one before it is known to be of the event before that, less is compared.
-    #[inline(always)]
-    pub(crate) fn is_of(
-        &self,
-        at: usize,
-        history: &History<Global>,
-        place: usize,
-        is_after: bool,
-    ) -> bool
+    // Whether the one at a place is of the event at a place of a history, with the same reply.
+    pub(crate) fn is_of(&self, at: usize, history: &History<Global>, place: usize) -> bool
         requires here { at < length (list_of self.now) }
         requires there { place < length (entries history.now) }
-        requires after { IsTrue is_after → AreAlikeBefore (entries history.now) place (list_of self.now) at }
         ensures { (entry : Entry Global) → slice_get (entries history.now) place ≡ Some entry
             → (IsTrue result ↔ IsOf entry (drop at (list_of self.now))) }
     {
-        if is_after {
-            self.packed.is_same_after(at, history, place)
-        } else {
-            self.packed.is_same(at, history, place)
-        }
+        let own = self.packed.entry(at);
+        own.is_same::<Global>(&history.entry(place))
     }
 
-    // Makes room for so many receipts of this event, or of others that ask for other elements of its call.
-    #[inline(always)]
-    pub(crate) fn reserve(&mut self, event: &Event<Global>, count: u32) -> Result<(), AllocError>
-        ensures same { list_of self.new ≡ list_of self.old }
-        ensures room { OnOk result (HasRoom count (room_in self.new) event.now) }
-    {
-        let more = count as usize;
-        if self.numbers.capacity() - self.numbers.len() < more {
-            self.numbers.reserve(more)?;
-        }
-        self.packed.reserve(event, count)
+    // The allocator that they are on.
+    pub(crate) fn allocator(&self) -> Global {
+        *self.numbers.allocator()
     }
 
-    // Makes room for the receipts of about so many more events.
-    pub(crate) fn expect(&mut self, expected: Expected) -> Result<(), AllocError>
-        ensures { list_of self.new ≡ list_of self.old }
-    {
-        self.numbers.reserve(expected.events)?;
-        self.packed.expect(expected)
-    }
-
-    // For how many such receipts there is room.
-    pub(crate) fn room(&self, event: &Event<Global>) -> usize
-        ensures fits { HasRoom result (room_in self.now) event.now }
-        ensures most { (count : ℕ) → HasRoom count (room_in self.now) event.now → count ≤ result }
+    // For how many more there is room.
+    pub(crate) fn room(&self) -> usize
+        ensures { result ≡ room_in self.now }
     {
         let numbers = self.numbers.capacity() - self.numbers.len();
-        let entries = self.packed.room(event);
-        if numbers < entries { numbers } else { entries }
+        numbers.min(self.packed.room())
     }
 
-    // Adds a receipt of the last event of a history, for which there is room. `goes_on` says that the event
-    // is known to go on with the call of the last receipt.
-    #[inline(always)]
-    pub(crate) fn push(
-        &mut self,
-        number: u32,
-        event: &Event<Global>,
-        history: &History<Global>,
-        goes_on: bool,
-    )
-        requires some { 0 < length (entries history.now) }
-        requires last { (entry : Entry Global)
-            → slice_get (entries history.now) (length (entries history.now) - 1) ≡ Some entry → entry.event
-            ≡ event.now }
-        requires room { HasRoom 1 (room_in self.old) event.now }
-        requires call { IsTrue goes_on → IsOfLastCall event.now (map entry_in (list_of self.old)) }
-        ensures room { HasUsedOne event.now (room_in self.old) (room_in self.new) }
-        ensures pushed { (entry : Entry Global)
-            → slice_get (entries history.now) (length (entries history.now) - 1) ≡ Some entry
-            → list_of self.new ≡ list_of self.old ++ receipt_of number entry ∷ [] }
+    // Makes room for so many more.
+    pub(crate) fn reserve(&mut self, more: usize) -> Result<(), AllocError>
+        ensures same { list_of self.new ≡ list_of self.old }
+        ensures room { OnOk result (more ≤ room_in self.new) }
+    {
+        self.numbers.reserve(more)?;
+        self.packed.reserve(more)
+    }
+
+    // Adds one, for which there is room.
+    pub(crate) fn push(&mut self, number: u32, event: Event<Global>, answer: Answer, output: &[u8])
+        requires room { 1 ≤ room_in self.old }
+        requires most { length output.now ≤ 256 }
+        requires index { next_in (reply_of answer []) < REPS_END }
+        ensures pushed { list_of self.new ≡ list_of self.old
+            ++ receipt number event (reply_of answer output.now) ∷ [] }
+        ensures room { room_in self.old ≤ room_in self.new + 1 }
     {
         self.numbers.push_reserved(number);
-        self.packed.push_last(event, history, goes_on);
+        self.packed.push(event, answer, output);
+    }
+
+    // Adds one of each event of a history from a place on, of each of which there is a copy.
+    pub(crate) fn push_all(
+        &mut self,
+        history: &History<Global>,
+        from: usize,
+        copies: Vec<Event<Global>>,
+    )
+        requires copies { copies.items ≡ events_of (drop from (entries history.now)) }
+        requires within { from ≤ length (entries history.now) }
+        requires few { length (entries history.now) < 2 ^ 32 }
+        requires room { vec_len copies ≤ room_in self.old }
+        ensures { list_of self.new ≡ list_of self.old
+            ++ numbered (from + 1) (drop from (entries history.now)) }
+    {
+        let mut left = copies;
+        left.reverse();
+        let mut at = from;
+        while let Some(copy) = left.pop() {
+            let entry = history.entry(at);
+            at += 1;
+            self.push(at as u32, copy, entry.answer, entry.output);
+        }
     }
 }

@@ -1,23 +1,20 @@
 // The one lock.
-ghost use Rattle.std.specs.Prelude.{◌≡◌, ◌<◌, [], IfOk, IfErr, IsTrue, OnErr, map, vec_len};
-ghost use Rattle.hv_abi.specs.InputValue.{input_value};
-ghost use Rattle.hv_abi.specs.declared.frame.Frame.{Frame};
-ghost use Rattle.hv_history.specs.History.{IsOfLastCall};
-ghost use Rattle.hv_history.specs.Run.{element};
+ghost use Rattle.std.specs.Prelude.{◌≡◌, ◌<◌, ◌≤◌, ◌+◌, [], IfOk, IfErr, OnErr, vec_len};
+ghost use Rattle.hv_abi.specs.declared.frame.Frame.{Frame as CallFrame};
+ghost use Rattle.hv_history.specs.Run.{start_of};
 ghost use Rattle.hv_policy.specs.Next.{GoesOn};
 ghost use Rattle.hv_policy.specs.Result.{HasResult};
 ghost use Rattle.hv_policy.specs.declared.event.Action.TheVariants.{Hypercall};
-ghost use Rattle.hv_shared.specs.Drive.{HasStopped, entry_in};
+ghost use Rattle.hv_shared.specs.Copies.{AreCopies};
+ghost use Rattle.hv_shared.specs.Drive.{HasAsked, HasStopped};
 ghost use Rattle.hv_shared.specs.Pass.{HasCalled, IsAsBefore};
-ghost use Rattle.hv_shared.specs.Room.{HasRoom};
 ghost use Rattle.hv_shared.specs.Shared.{AreOpened};
-ghost use Rattle.hv_shared.specs.Told.{IsAsked, IsTold};
 
-use crate::drive::{DriveRefused, elements_in_a_hold};
+use crate::drive::MOST_IN_A_HOLD;
 use crate::gate::Gate;
 use crate::held::{Held, Pass};
-use hv_abi::{Frame, InputValue};
-use hv_history::{Answer, Expected, HostRefused, Kept, frame_of};
+use hv_abi::Frame;
+use hv_history::{HostRefused, Kept, RunDone};
 use hv_policy::{Action, Caller, Config, Event, Reply};
 use std::alloc::Global;
 use std::marker::Model;
@@ -46,14 +43,12 @@ impl<L: Ledger> Model for Shared<L> {
 }
 
 impl<L: Ledger> Shared<L> {
-    /// A lock round a machine to which nothing happened yet, and a pass for each caller, in order, with room
-    /// for what is expected of the caller, where that is said. The blank has as many parts as there are
-    /// callers. For want of memory the machine comes back.
+    /// A lock round a machine to which nothing happened yet, and a pass for each caller, in order. The blank
+    /// has as many parts as there are callers. For want of memory the machine comes back.
     pub fn new(
         kept: Kept<Global>,
         blank: Blank,
         callers: Vec<Caller>,
-        expected: &[Expected],
     ) -> Result<(Shared<L>, Vec<Pass<L>>), Kept<Global>>
         requires empty { kept.history ≡ [] }
         requires some { 0 < vec_len callers }
@@ -67,7 +62,7 @@ impl<L: Ledger> Shared<L> {
         let passes = callers.len();
         let config = kept.config();
         let limit = kept.limit();
-        let (held, opened) = Held::open(kept, blank, callers, expected)?;
+        let (held, opened) = Held::open(kept, blank, callers)?;
         let shared = Shared {
             held: Mutex::new(held),
             passes,
@@ -77,7 +72,8 @@ impl<L: Ledger> Shared<L> {
         Ok((shared, opened))
     }
 
-    /// Lets the pass's caller do one thing, and keeps its receipt.
+    /// Lets the pass's caller do one thing, and keeps its receipt. Room for the receipt and a copy of the event
+    /// are made before the gate is asked.
     pub fn call<R: Wait, G: Gate>(
         &self,
         rt: &R,
@@ -90,14 +86,22 @@ impl<L: Ledger> Shared<L> {
 
         // A reply to a hypercall has a result value, and a call goes on with the element after the one
         // that was served.
-        ensures result { (frame : Frame Global) → what ≡ Hypercall frame → IfOk result HasResult }
+        ensures result { (frame : CallFrame Global) → what ≡ Hypercall frame → IfOk result HasResult }
         ensures next { IfOk result (λ r. GoesOn what r) }
     {
         let by = pass.caller();
-        match self.happen(rt, pass, gate, &Event { by, what }) {
-            Ok(_) => Ok(pass.last_reply()),
-            Err(why) => Err(why),
+        let event = Event { by, what };
+        let Ok(copy) = event.copy() else {
+            return Err(HostRefused::Memory);
+        };
+        if pass.reserve(1).is_err() {
+            return Err(HostRefused::Memory);
         }
+        let turn = pass.receipts().len() as u64;
+        gate.enter(rt, by, turn);
+        let told = self.hold(rt, pass, event, copy);
+        gate.leave(rt, by, turn);
+        told
     }
 
     // What the lock held at last, how many passes there are, and with what the history was begun.
@@ -110,130 +114,43 @@ impl<L: Ledger> Shared<L> {
         (self.held.into_inner(), self.passes, self.config, self.limit)
     }
 
-    // Lets an event by the pass's caller happen, and keeps its receipt. Answers its reply without the output.
-    // Room for the receipt is made before the gate is asked.
-    #[inline(always)]
-    pub(crate) fn happen<R: Wait, G: Gate>(
-        &self,
-        rt: &R,
-        pass: &mut Pass<L>,
-        gate: &G,
-        event: &Event<Global>,
-    ) -> Result<Answer, HostRefused>
-        requires { event.now.by ≡ pass.old.caller }
-        ensures told { IfOk result (λ answer. IsTold event.now.what answer pass.old pass.new) }
-        ensures refused { OnErr result (IsAsBefore pass.old pass.new) }
-    {
-        if pass.reserve(event, 1).is_err() {
-            return Err(HostRefused::Memory);
-        }
-        let turn = pass.receipts().len() as u64;
-        gate.enter(rt, event.by, turn);
-        let answer = self.keep(rt, pass, event);
-        gate.leave(rt, event.by, turn);
-        answer
-    }
-
-    // Asks for the elements of a call from the frame's start index on, up to 16 of them, in one hold. Room for
-    // their receipts is made before the gate is asked. `is_told` says that the pass's last receipt is known to
-    // be of this call. Answers the frame of the last element, and its reply without the output.
-    #[inline(always)]
-    pub(crate) fn ask<R: Wait, G: Gate>(
-        &self,
-        rt: &R,
-        pass: &mut Pass<L>,
-        gate: &G,
-        frame: Frame<Global>,
-        is_told: bool,
-    ) -> Result<(Frame<Global>, Answer), DriveRefused>
-        requires { IsTrue is_told → IsOfLastCall (element pass.old.caller frame)
-            (map entry_in pass.old.receipts) }
-        ensures asked { IfOk result (λ r. IsAsked frame r.0 r.1 pass.old pass.new) }
-        ensures refused { IfErr result (λ e. HasStopped frame e.next pass.old pass.new) }
-    {
-        let by = pass.caller();
-        let most = elements_in_a_hold(frame.rcx);
-        let event = Event {
-            by,
-            what: Action::Hypercall(frame),
-        };
-        let room = pass.reserve(&event, most);
-        let frame = frame_of(event);
-        if room.is_err() {
-            return Err(DriveRefused {
-                why: HostRefused::Memory,
-                next: InputValue::read(frame.rcx).start,
-            });
-        }
-        self.ask_held(rt, pass, gate, frame, most, is_told)
-    }
-
-    // Asks for so many elements in one hold. There is room for their receipts.
-    #[inline(always)]
-    fn ask_held<R: Wait, G: Gate>(
-        &self,
-        rt: &R,
-        pass: &mut Pass<L>,
-        gate: &G,
-        frame: Frame<Global>,
-        most: u32,
-        is_told: bool,
-    ) -> Result<(Frame<Global>, Answer), DriveRefused>
-        requires some { 0 < most }
-        requires room { HasRoom most pass.old.room (element pass.old.caller frame) }
-        requires told { IsTrue is_told → IsOfLastCall (element pass.old.caller frame)
-            (map entry_in pass.old.receipts) }
-        ensures asked { IfOk result (λ r. IsAsked frame r.0 r.1 pass.old pass.new) }
-        ensures refused { IfErr result (λ e. HasStopped frame e.next pass.old pass.new) }
-    {
-        let by = pass.caller();
-        let turn = pass.receipts().len() as u64;
-        gate.enter(rt, by, turn);
-        let (last, told) = self.keep_run(rt, pass, frame, most, is_told);
-        gate.leave(rt, by, turn);
-        match told {
-            Ok(answer) => Ok((last, answer)),
-            Err(why) => Err(DriveRefused {
-                why,
-                next: InputValue::read(last.rcx).start,
-            }),
-        }
-    }
-
     // Takes the lock for one event.
-    #[inline(always)]
-    fn keep<R: Wait>(
+    fn hold<R: Wait>(
         &self,
         rt: &R,
         pass: &mut Pass<L>,
-        event: &Event<Global>,
-    ) -> Result<Answer, HostRefused>
-        requires by { event.now.by ≡ pass.old.caller }
-        requires room { HasRoom 1 pass.old.room event.now }
-        ensures told { IfOk result (λ answer. IsTold event.now.what answer pass.old pass.new) }
+        event: Event<Global>,
+        copy: Event<Global>,
+    ) -> Result<Reply, HostRefused>
+        requires by { event.by ≡ pass.old.caller }
+        requires copy { copy ≡ event }
+        requires room { 1 ≤ pass.old.room }
+        ensures called { IfOk result (λ r. HasCalled event.what r pass.old pass.new) }
         ensures refused { OnErr result (pass.new ≡ pass.old) }
+        ensures result { (frame : CallFrame Global) → event.what ≡ Hypercall frame
+            → IfOk result HasResult }
+        ensures next { IfOk result (λ r. GoesOn event.what r) }
     {
-        self.held.lock(rt).take(pass, event, false, false)
+        self.held.lock(rt).hold(pass, event, copy)
     }
 
-    // Takes the lock for several elements of a call.
-    #[inline(always)]
-    fn keep_run<R: Wait>(
+    // Takes the lock for the elements of a call of which there are copies.
+    pub(crate) fn hold_run<R: Wait>(
         &self,
         rt: &R,
         pass: &mut Pass<L>,
         frame: Frame<Global>,
-        most: u32,
-        is_told: bool,
-    ) -> (Frame<Global>, Result<Answer, HostRefused>)
-        requires some { 0 < most }
-        requires room { HasRoom most pass.old.room (element pass.old.caller frame) }
-        requires told { IsTrue is_told → IsOfLastCall (element pass.old.caller frame)
-            (map entry_in pass.old.receipts) }
-        ensures asked { IfOk result.1 (λ answer. IsAsked frame result.0 answer pass.old pass.new) }
-        ensures refused { OnErr result.1 (HasStopped frame (input_value result.0.rcx).start pass.old
+        copies: Vec<Event<Global>>,
+    ) -> RunDone
+        requires copies { AreCopies pass.old.caller frame MOST_IN_A_HOLD copies.items }
+        requires room { vec_len copies ≤ pass.old.room }
+        ensures asked { IfOk result.last (λ r. HasAsked frame r result.events pass.old pass.new) }
+        ensures refused { OnErr result.last (HasStopped frame (start_of frame + result.events) pass.old
             pass.new) }
+        ensures few { result.events ≤ MOST_IN_A_HOLD }
     {
-        self.held.lock(rt).take_run(pass, frame, most, is_told)
+        self.held
+            .lock(rt)
+            .hold_run(pass, frame, copies, MOST_IN_A_HOLD)
     }
 }

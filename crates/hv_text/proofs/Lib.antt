@@ -1,10 +1,7 @@
-pub mod Counting
 pub mod Cuts
-pub mod Eights
 pub mod Entries
-pub mod Lanes
+pub mod Outputs
 pub mod Rows
 pub mod Runs
-pub mod TableCuts
+pub mod Sent
 pub mod Tied
-pub mod Zeros

@@ -1,5 +1,5 @@
 -- The rows of a tree, each where its id stands among the ids.
-use Rattle.std.proofs.Common.{◌≡◌, ℕ, zero, suc, ◌+◌, ◌<◌, ◌≤◌, true, false, cond, T, List, [], ◌∷◌, length, map, take, get_or, Some, refl, sym, ap, ◌∙◌, arith, take_all}
+use Rattle.std.proofs.Common.{◌≡◌, ℕ, zero, suc, ◌+◌, ◌<◌, ◌≤◌, true, false, cond, T, List, [], ◌∷◌, ◌++◌, length, map, take, get_or, codes, decimal, Some, refl, sym, ap, ◌∙◌, arith, take_all}
 use Rattle.std.proofs.lemmas.Bool.{eq-eqb, ne_eqb}
 use Rattle.std.proofs.lemmas.List.{length-map}
 use Rattle.std.proofs.lemmas.Option.{slice_get-get_or, slice_get-map}
@@ -14,8 +14,9 @@ use Rattle.std.specs.declared.cmp.Ordering.TheVariants.{Less, Equal, Greater}
 use Rattle.hv_defs.proofs.Counts.{both_parts}
 use Rattle.hv_partition.specs.Partition.{PartitionState}
 use Rattle.hv_tree.specs.Rows.{Row, Rows}
-use Rattle.hv_text.specs.Rows.{pages_in, pages_of, row_line}
-use Rattle.hv_text.specs.Table.{Line}
+use Rattle.hv_text.specs.Rows.{pages_in, pages_of, row_line, rows_text}
+use Rattle.hv_text.specs.Table.{Line, lines_text, partition_text, text_of}
+use Rattle.hv_text.proofs.Sent.{ended, joined}
 
 low : (x y : ℕ) (r : Ordering) → r ≡ nat_cmp x y → T (is_lt r) → x < y
 low x y Less e t = ranked x y Less e
@@ -46,6 +47,18 @@ row-at (e ∷ es) h (suc i) k is =
     let apart : eq_by_cmp nat_cmp k e.0 ≡ false = unsigned_tied k e.0 ∙ ne_eqb k e.0 (λ same. omega arith) in
     (rest.0, rest.1, ap (λ b. cond b (Some e.1) (find nat_cmp k es)) apart ∙ rest.2)
 
+-- a line with its line feed
+abbrev pub line_text : Line → List ℕ
+line_text line = partition_text line.0 line.1.0 line.1.1 ++ codes "\n"
+
+-- the last line
+abbrev pub end_of : ℕ → List ℕ
+end_of pages = codes "pages " ++ decimal pages ++ codes "\n"
+
+joined-lines : (lines : List Line) → lines_text lines ≡ joined (map line_text lines)
+joined-lines [] = refl
+joined-lines (line ∷ lines) = ap (λ t. line_text line ++ t) (joined-lines lines)
+
 module _ (tree : Rows PartitionState) where
   -- the row of the partition whose id stands there
   pub row-of : (ids : List ℕ) (i : ℕ) → ids ≡ keys tree → i < length ids
@@ -59,11 +72,23 @@ module _ (tree : Rows PartitionState) where
   abbrev pub all_lines : List Line
   all_lines = map (row_line tree) (entries tree)
 
-  pub line-at : (i : ℕ) (e : ℕ × Row PartitionState) → slice_get (entries tree) i ≡ Some e → slice_get all_lines i ≡ Some (row_line tree e)
-  line-at i e is = slice_get-map (row_line tree) (entries tree) i ∙ ap (option_map (row_line tree)) is
+  -- their texts
+  abbrev pub lines_of : List (List ℕ)
+  lines_of = map line_text all_lines
 
-  pub past-ids : (ids : List ℕ) (i : ℕ) → ids ≡ keys tree → length ids ≤ i → length all_lines ≤ i
-  past-ids ids i is past = omega (arith, ap length is, length-map (entries tree) (λ e. e.0), length-map (entries tree) (row_line tree))
+  pub whole : rows_text tree ≡ joined lines_of ++ end_of (pages_in (entries tree))
+  unfolding rows_text text_of
+  whole =
+      let pages = pages_in (entries tree) in
+      ended (lines_text all_lines) (codes "pages ") (decimal pages) (codes "\n") ∙ ap (λ t. t ++ end_of pages) (joined-lines all_lines)
+
+  pub line-at : (i : ℕ) (e : ℕ × Row PartitionState) → slice_get (entries tree) i ≡ Some e → slice_get lines_of i ≡ Some (line_text (row_line tree e))
+  line-at i e is =
+      slice_get-map line_text all_lines i ∙ ap (option_map line_text) (slice_get-map (row_line tree) (entries tree) i ∙ ap (option_map (row_line tree)) is)
+
+  pub past-ids : (ids : List ℕ) (i : ℕ) → ids ≡ keys tree → length ids ≤ i → length lines_of ≤ i
+  past-ids ids i is past =
+      omega (arith, ap length is, length-map (entries tree) (λ e. e.0), length-map (entries tree) (row_line tree), length-map all_lines line_text)
 
   -- the pages of the first rows and of one more
   more-in : (es : List (ℕ × Row PartitionState)) (i : ℕ) (e : ℕ × Row PartitionState) → slice_get es i ≡ Some e

@@ -5,7 +5,6 @@ ghost use Rattle.std.specs.Io.KnownBytes.{Appends};
 ghost use Rattle.hv_abi.specs.declared.frame.Frame.{Frame};
 ghost use Rattle.hv_defs.specs.declared.sizes.TheConstants.{REPS_END};
 ghost use Rattle.hv_history.specs.History.{entries, entry_by};
-ghost use Rattle.hv_history.specs.Output.{shown};
 ghost use Rattle.hv_history.specs.Row.{action_of, next_in};
 ghost use Rattle.hv_policy.specs.Parts.{reply_of};
 ghost use Rattle.hv_policy.specs.Result.{result_of};
@@ -14,15 +13,13 @@ ghost use Rattle.hv_text.specs.Audit.{audit_text, caller_text, entry_text, hex_3
 ghost use Rattle.hv_text.specs.Audit.{reply_text, result_text, what_text};
 ghost use Rattle.hv_text.specs.Fault.{IsCut};
 ghost use Rattle.hv_text.specs.declared.audit_text.TheConstants.{ASKED, CALLER, OUTPUT, REPLY, RESULT, RULE};
-ghost use Rattle.hv_text.specs.declared.numeral.TheConstants.{MOST_DIGITS};
-ghost use Rattle.hv_text.specs.declared.text.TheConstants.{LINE, ROOM};
+ghost use Rattle.hv_text.specs.declared.text.TheConstants.{LINE, MOST_DIGITS};
 
 use crate::fault::PrintFault;
-use crate::numeral::{MOST_DIGITS, Numeral};
 use crate::put::put;
-use crate::text::Text;
+use crate::text::{MOST_DIGITS, Text};
 use hv_abi::{ResultValue, Status};
-use hv_history::{Answer, Asked, EntryRef, History, Kept, OutputRef};
+use hv_history::{Answer, Asked, EntryRef, History, Kept};
 use hv_policy::{Caller, Rule, completed_reps, refused_reps};
 use std::alloc::Allocator;
 use std::io::Write;
@@ -56,17 +53,11 @@ pub fn audit<W: Write, A: Allocator>(out: &mut W, kept: &Kept<A>) -> Result<(), 
 {
     // The proof reads here that a history's length fits 32 bits.
     let _limit = kept.limit();
-    let mut lines = Text::new();
-    put_history(out, &mut lines, kept.history())
+    put_history(out, kept.history())
 }
 
-// Writes the audit of a history, as many lines at a time as there is room for.
-fn put_history<W: Write, A: Allocator>(
-    out: &mut W,
-    lines: &mut Text,
-    history: &History<A>,
-) -> Result<(), PrintFault>
-    requires empty { lines.old ≡ [] }
+// Writes the audit of a history.
+fn put_history<W: Write, A: Allocator>(out: &mut W, history: &History<A>) -> Result<(), PrintFault>
     requires few { length (entries history.now) < 2 ^ 32 }
     ensures ok { OnOk result
         (Appends (W.contents out.old) (W.contents out.new) (audit_text (entries history.now))) }
@@ -74,52 +65,50 @@ fn put_history<W: Write, A: Allocator>(
         (IsCut (W.contents out.old) (W.contents out.new) (audit_text (entries history.now))) }
     ensures write { result ≢ Err PrintFault.Memory }
 {
+    let mut line = Text::new();
     let mut written = 0;
-    let mut number = Numeral::zero();
     for at in 0..history.len() {
-        number.advance();
-        push_entry::<A>(lines, &number, &history.entry(at));
-        lines.push_text(b"\n");
-        if !lines.has_room() {
-            written = put(out, lines.as_slice(), written)?;
-            lines.clear();
-        }
+        line.clear();
+        push_entry::<A>(&mut line, at as u64 + 1, &history.entry(at));
+        written = put(out, line.as_slice(), written)?;
     }
-    push_end(lines, history.len() as u64);
-    put(out, lines.as_slice(), written)?;
+    line.clear();
+    push_end(&mut line, history.len() as u64);
+    put(out, line.as_slice(), written)?;
     Ok(())
 }
 
-// The last line, with its line feed.
+// Adds the last line, with its line feed.
 fn push_end(line: &mut Text, count: u64)
-    requires { length line.old + LINE ≤ ROOM }
-    ensures text { line.new ≡ line.old ++ codes "events " ++ decimal count ++ codes "\n" }
-    ensures most { length line.new ≤ length line.old + LINE }
+    requires empty { line.old ≡ [] }
+    ensures text { line.new ≡ codes "events " ++ decimal count ++ codes "\n" }
+    ensures most { length line.new ≤ LINE }
 {
     line.push_text(b"events ");
     line.push_decimal(count);
     line.push_text(b"\n");
 }
 
-// The line of an event with its number, without its line feed.
-pub(crate) fn push_entry<A: Allocator>(line: &mut Text, number: &Numeral, entry: &EntryRef<'_>)
+// Adds the line of an event with its number, with its line feed.
+pub(crate) fn push_entry<A: Allocator>(line: &mut Text, number: u64, entry: &EntryRef<'_>)
     requires index { next_in (reply_of entry.now.answer []) < REPS_END }
-    requires room { length line.old + LINE ≤ ROOM }
-    ensures text { line.new ≡ line.old ++ entry_text number.now (entry_by {A = A} entry.now) }
-    ensures most { length line.new < length line.old + LINE }
+    requires output { length entry.now.output.now ≤ 256 }
+    requires empty { line.old ≡ [] }
+    ensures text { line.new ≡ entry_text number (entry_by {A = A} entry.now) ++ codes "\n" }
+    ensures most { length line.new ≤ LINE }
 {
-    line.push_numeral(number);
+    line.push_decimal(number);
     line.push_text(b" ");
     push_caller(line, entry.by);
     line.push_text(b" ");
     push_asked::<A>(line, entry.asked, entry.input);
     line.push_text(b" ");
     push_reply::<A>(line, entry);
+    line.push_text(b"\n");
 }
 
-#[inline(always)]
 fn push_caller(line: &mut Text, by: Caller)
-    requires { length line.old + CALLER ≤ ROOM }
+    requires { length line.old + CALLER ≤ LINE }
     ensures text { line.new ≡ line.old ++ caller_text by }
     ensures most { length (caller_text by) ≤ CALLER }
 {
@@ -129,9 +118,8 @@ fn push_caller(line: &mut Text, by: Caller)
 }
 
 // What an event asked for. The bytes of its input aren't shown.
-#[inline(always)]
 fn push_asked<A: Allocator>(line: &mut Text, asked: Asked, input: &[u8])
-    requires { length line.old + ASKED ≤ ROOM }
+    requires { length line.old + ASKED ≤ LINE }
     ensures text { line.new ≡ line.old ++ what_text (action_of {A = A} asked input.now) }
     ensures most { length (what_text (action_of {A = A} asked input.now)) ≤ ASKED }
 {
@@ -154,9 +142,8 @@ fn push_asked<A: Allocator>(line: &mut Text, asked: Asked, input: &[u8])
 }
 
 // Adds a word and a number in decimal.
-#[inline]
 fn push_named(line: &mut Text, name: &[u8], number: u64)
-    requires { length line.old + length name.now + MOST_DIGITS ≤ ROOM }
+    requires { length line.old + length name.now + MOST_DIGITS ≤ LINE }
     ensures text { line.new ≡ line.old ++ (name.now ++ decimal number) }
     ensures most { length (decimal number) ≤ MOST_DIGITS }
 {
@@ -165,9 +152,8 @@ fn push_named(line: &mut Text, name: &[u8], number: u64)
 }
 
 // Adds a word and a number of 32 bits in hexadecimal.
-#[inline]
 fn push_named_32(line: &mut Text, name: &[u8], number: u32)
-    requires { length line.old + length name.now + 8 ≤ ROOM }
+    requires { length line.old + length name.now + 8 ≤ LINE }
     ensures text { line.new ≡ line.old ++ (name.now ++ hex_32 number) }
     ensures most { length (hex_32 number) ≤ 8 }
 {
@@ -176,9 +162,8 @@ fn push_named_32(line: &mut Text, name: &[u8], number: u32)
 }
 
 // Adds a word and a number of 64 bits in hexadecimal.
-#[inline]
 fn push_named_64(line: &mut Text, name: &[u8], number: u64)
-    requires { length line.old + length name.now + 16 ≤ ROOM }
+    requires { length line.old + length name.now + 16 ≤ LINE }
     ensures text { line.new ≡ line.old ++ (name.now ++ hex_64 number) }
     ensures most { length (hex_64 number) ≤ 16 }
 {
@@ -187,14 +172,14 @@ fn push_named_64(line: &mut Text, name: &[u8], number: u64)
 }
 
 // How an event was answered.
-#[inline(always)]
 fn push_reply<A: Allocator>(line: &mut Text, entry: &EntryRef<'_>)
     requires index { next_in (reply_of entry.now.answer []) < REPS_END }
-    requires room { length line.old + REPLY ≤ ROOM }
+    requires output { length entry.now.output.now ≤ 256 }
+    requires room { length line.old + REPLY ≤ LINE }
     ensures text { line.new ≡ line.old ++ reply_text (action_of {A = A} entry.now.asked entry.now.input.now)
-        (reply_of entry.now.answer (shown entry.now.output)) }
+        (reply_of entry.now.answer entry.now.output.now) }
     ensures most { length (reply_text (action_of {A = A} entry.now.asked entry.now.input.now)
-        (reply_of entry.now.answer (shown entry.now.output))) ≤ REPLY }
+        (reply_of entry.now.answer entry.now.output.now)) ≤ REPLY }
 {
     match entry.answer {
         Answer::Served => {
@@ -223,14 +208,13 @@ fn push_reply<A: Allocator>(line: &mut Text, entry: &EntryRef<'_>)
 }
 
 // A space and the result value, of a hypercall alone.
-#[inline(always)]
 fn push_result<A: Allocator>(line: &mut Text, entry: &EntryRef<'_>)
     requires index { next_in (reply_of entry.now.answer []) < REPS_END }
-    requires room { length line.old + RESULT ≤ ROOM }
+    requires room { length line.old + RESULT ≤ LINE }
     ensures text { line.new ≡ line.old ++ result_text (action_of {A = A} entry.now.asked entry.now.input.now)
-        (reply_of entry.now.answer (shown entry.now.output)) }
+        (reply_of entry.now.answer entry.now.output.now) }
     ensures most { length (result_text (action_of {A = A} entry.now.asked entry.now.input.now)
-        (reply_of entry.now.answer (shown entry.now.output))) ≤ RESULT }
+        (reply_of entry.now.answer entry.now.output.now)) ≤ RESULT }
 {
     match entry.asked {
         Asked::Hypercall { rcx, .. } => {
@@ -261,24 +245,21 @@ pub fn result_value<A: Allocator>(rcx: u64, answer: Answer) -> u64
 }
 
 // The bytes that an event put out, or a dash where there are none.
-#[inline(always)]
-fn push_output(line: &mut Text, output: OutputRef<'_>)
-    requires { length line.old + OUTPUT ≤ ROOM }
-    ensures text { line.new ≡ line.old ++ output_text (shown output.entry) }
-    ensures most { length (output_text (shown output.entry)) ≤ OUTPUT }
+fn push_output(line: &mut Text, output: &[u8])
+    requires most { length output.now ≤ 256 }
+    requires room { length line.old + OUTPUT ≤ LINE }
+    ensures text { line.new ≡ line.old ++ output_text output.now }
+    ensures most { length (output_text output.now) ≤ OUTPUT }
 {
-    if output.zeros > 0 {
-        line.push_bytes(output.bytes);
-        line.push_zeros(output.zeros);
-    } else if output.bytes.is_empty() {
+    if output.is_empty() {
         line.push_text(b"-");
     } else {
-        line.push_bytes(output.bytes);
+        line.push_bytes(output);
     }
 }
 
 fn push_rule(line: &mut Text, rule: Rule)
-    requires { length line.old + RULE ≤ ROOM }
+    requires { length line.old + RULE ≤ LINE }
     ensures text { line.new ≡ line.old ++ rule_name rule }
     ensures most { length (rule_name rule) ≤ RULE }
 {

@@ -1,5 +1,7 @@
-//! The texts that the program `hvpm` writes: the audit of a history and the table of its partitions.
+//! The texts of the program `hvpm`: the script that it reads, the audit of a history and the table of its
+//! partitions.
 //!
+//! [`parse`] reads a script, and is `hv_script`'s, whose names stand here too.
 //! [`audit`] writes a line for each event of a history, and [`table`] a line for each partition that its
 //! machine has. Both write exactly the bytes that `specs/` define, and after a write that failed tell how
 //! many of the first bytes went out. [`audit_line`] puts the line of one event into a buffer, for whoever
@@ -7,16 +9,15 @@
 #![tactic(auto)]
 
 mod audit_text;
-mod digits;
 mod fault;
 mod line;
-mod numeral;
 mod put;
 mod table_text;
 mod text;
 
 pub use audit_text::{audit, result_value};
 pub use fault::PrintFault;
+pub use hv_script::{Line, Script, ScriptFault, parse};
 pub use line::{Scratch, audit_line};
 pub use table_text::table;
 pub use text::LINE;

@@ -14,9 +14,8 @@ ghost use Rattle.hv_text.specs.Audit.{hex_64};
 ghost use Rattle.hv_text.specs.Fault.{IsCut};
 ghost use Rattle.hv_text.specs.Rows.{kept_counts, pages_of, rows_text};
 ghost use Rattle.hv_text.specs.Table.{life_text, parent_text, partition_text, table_text};
-ghost use Rattle.hv_text.specs.declared.numeral.TheConstants.{MOST_DIGITS};
 ghost use Rattle.hv_text.specs.declared.table_text.TheConstants.{LIFE, PART};
-ghost use Rattle.hv_text.specs.declared.text.TheConstants.{LINE, ROOM};
+ghost use Rattle.hv_text.specs.declared.text.TheConstants.{LINE, MOST_DIGITS};
 
 use crate::fault::PrintFault;
 use crate::put::put;
@@ -67,7 +66,6 @@ fn put_rows<W: Write, A: Allocator>(
     let mut pages = 0;
     for id in ids {
         pages += set_row(&mut line, tree, *id);
-        line.push_text(b"\n");
         written = put(out, line.as_slice(), written)?;
     }
     set_end(&mut line, pages);
@@ -86,15 +84,15 @@ fn set_end(line: &mut Text, pages: u128)
     line.push_text(b"\n");
 }
 
-// Makes the line that of the partition with this id, without its line feed, and answers how many pages it
-// holds.
+// Makes the line that of the partition with this id, with its line feed, and answers how many pages it holds.
 fn set_row<A: Allocator>(line: &mut Text, tree: &Partitions<A>, id: u64) -> u128
     requires { IsSome (map.get tree.now id) }
     ensures text { (row : Row PartitionState) → map.get tree.now id ≡ Some row
-        → line.new ≡ partition_text id (part_row row) (kept_counts (length (children tree.now id)) row.1) }
+        → line.new ≡ partition_text id (part_row row) (kept_counts (length (children tree.now id)) row.1)
+        ++ codes "\n" }
     ensures pages { (row : Row PartitionState) → map.get tree.now id ≡ Some row → result ≡ pages_of row.1 }
     ensures few { result < 2 ^ 65 }
-    ensures most { length line.new < LINE }
+    ensures most { length line.new ≤ LINE }
 {
     let Some(partition) = tree.get(id) else {
         unreachable!()
@@ -108,7 +106,7 @@ fn set_row<A: Allocator>(line: &mut Text, tree: &Partitions<A>, id: u64) -> u128
     u128::from(loose) + u128::from(pooled)
 }
 
-// Makes the line that of a partition with this id, this parent and so many children, without its line feed.
+// Makes the line that of a partition with this id, this parent and so many children, with its line feed.
 fn set_partition<A: Allocator>(
     line: &mut Text,
     id: u64,
@@ -117,12 +115,14 @@ fn set_partition<A: Allocator>(
     partition: &Partition<A>,
 )
     ensures text { line.new
-        ≡ partition_text id (part_row (parent, partition.now)) (kept_counts count partition.now) }
-    ensures most { length line.new < LINE }
+        ≡ partition_text id (part_row (parent, partition.now)) (kept_counts count partition.now)
+        ++ codes "\n" }
+    ensures most { length line.new ≤ LINE }
 {
     set_head(line, id, parent, partition);
     push_pages(line, count, partition);
     push_counts(line, partition);
+    line.push_text(b"\n");
 }
 
 // Makes it the first part of that line, as far as the mask.
@@ -146,7 +146,7 @@ fn set_head<A: Allocator>(line: &mut Text, id: u64, parent: Option<u64>, partiti
 
 // Adds how many pages a partition with so many children has, and how many of them it uses.
 fn push_pages<A: Allocator>(line: &mut Text, count: u32, partition: &Partition<A>)
-    requires { length line.old + PART ≤ ROOM }
+    requires { length line.old + PART ≤ LINE }
     ensures text { line.new
         ≡ line.old ++ codes " loose " ++ decimal (set.len partition.now.loose.pages)
         ++ codes " pooled " ++ decimal (set.len partition.now.pooled.pages)
@@ -163,7 +163,7 @@ fn push_pages<A: Allocator>(line: &mut Text, count: u32, partition: &Partition<A
 
 // Adds how many processors, ports and connections a partition has.
 fn push_counts<A: Allocator>(line: &mut Text, partition: &Partition<A>)
-    requires { length line.old + PART ≤ ROOM }
+    requires { length line.old + PART ≤ LINE }
     ensures text { line.new
         ≡ line.old ++ codes " vps " ++ decimal (map.len partition.now.vps.vps)
         ++ codes " ports " ++ decimal (map.len partition.now.ports.rows)
@@ -180,7 +180,7 @@ fn push_counts<A: Allocator>(line: &mut Text, partition: &Partition<A>)
 
 // The root has no parent.
 fn push_parent(line: &mut Text, parent: Option<u64>)
-    requires { length line.old + MOST_DIGITS ≤ ROOM }
+    requires { length line.old + MOST_DIGITS ≤ LINE }
     ensures text { line.new ≡ line.old ++ parent_text parent }
     ensures most { length (parent_text parent) ≤ MOST_DIGITS }
 {
@@ -191,7 +191,7 @@ fn push_parent(line: &mut Text, parent: Option<u64>)
 }
 
 fn push_life(line: &mut Text, life: Life)
-    requires { length line.old + LIFE ≤ ROOM }
+    requires { length line.old + LIFE ≤ LINE }
     ensures text { line.new ≡ line.old ++ life_text life }
     ensures most { length (life_text life) ≤ LIFE }
 {

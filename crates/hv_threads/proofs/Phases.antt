@@ -38,7 +38,7 @@ module _ {L : Type 0} (works : List (Work L)) (tasks ran : List (Task L)) (same 
       let l = long in
       let j = length works - 1 - i in
       subst (λ (x : Work L). IsDone x (get_or (map done_of (reverse ran)) i d).pass (get_or (map done_of (reverse ran)) i d).done (get_or (map done_of (reverse ran)) i d).end) (sym (work_at i w s h))
-      (subst (λ (x : Done L). IsDone (get_or tasks j s).work x.pass x.done x.end) (sym (done_at i d s h)) (did j s (omega arith)).done)
+      (subst (λ (x : Done L). IsDone (get_or tasks j s).work x.pass x.done x.end) (sym (done_at i d s h)) (did j s (omega arith)))
 
 some_task : {L : Type 0} (tasks : List (Task L)) → 0 < length tasks → Task L
 some_task [] h = absurd (omega arith)

@@ -3,39 +3,24 @@ use Rattle.std.proofs.Common.{◌≡◌, ℕ, ◌+◌, ◌<◌, List, [], ◌∷
 use Rattle.std.specs.Prelude.{reverse}
 use Rattle.std.proofs.lemmas.List.{length-append, reverse-append}
 use Rattle.std.specs.declared.alloc.Global.{Global}
-use Rattle.hv_machine.specs.declared.machine.HostRefused.{HostRefused}
+use Rattle.hv_history.specs.declared.kept.HostRefused.{HostRefused}
 use Rattle.hv_policy.specs.declared.event.Action.{Action}
 use Rattle.hv_policy.specs.declared.event.Action.TheVariants.{Hypercall, ReadMsr, WriteMsr, ReadSlot, ClearSlot, ReadFlags, ClearFlag, TakeInterrupt}
 use Rattle.hv_policy.specs.declared.event.Caller.{Caller}
 use Rattle.hv_shared.specs.Pass.{HasReceipts}
 use Rattle.hv_shared.specs.PassValue.{PassValue}
-use Rattle.hv_shared.specs.Perform.{AreWhole, HasBegun, HasPerformed, IsStopped, IsWhole}
+use Rattle.hv_threads.specs.Perform.{AreWhole, HasBegun, HasPerformed, IsStopped, IsWhole}
 use Rattle.hv_threads.specs.Phase.{IsDone}
 use Rattle.hv_shared.proofs.Driving.{gained-twice}
 use Rattle.hv_shared.specs.declared.receipts.Receipt.{Receipt}
 use Rattle.hv_threads.specs.declared.phase.End.TheVariants.{Finished, Host}
 use Rattle.hv_threads.specs.declared.phase.Work.{Work}
 
--- a list with something in it is its last element behind the others
-pub last_and_rest : {X : Type 0} (xs : List X) → 0 < length xs → (rest : List X) × (last : X) × (xs ≡ rest ++ last ∷ [])
-last_and_rest [] h = absurd (omega arith)
-last_and_rest (x ∷ []) h = ([], x, refl)
-last_and_rest {X} (x ∷ y ∷ ys) h =
-    let more = last_and_rest (y ∷ ys) (omega arith) in
-    (x ∷ more.0, more.1, ap (λ (l : List X). x ∷ l) more.2)
-
--- the last element was taken out
-pub taken_out : {X : Type 0} (all left : List X) (what : X) → 0 < length all → ((rest : List X) (last : X) → all ≡ rest ++ last ∷ [] → (left ≡ rest) × (what ≡ last)) → all ≡ left ++ what ∷ []
-taken_out {X} all left what some took =
-    let split = last_and_rest all some in
-    let is = took split.0 split.1 split.2 in
-    split.2 ∙ ap (λ (l : List X). l ++ split.1 ∷ []) (sym is.0) ∙ ap (λ (x : X). left ++ x ∷ []) (sym is.1)
-
 -- so many actions came to their end, and these are left, the last one first
 pub record IsWorking {L : Type 0} (work : Work L) (pass : PassValue) (done : ℕ) (left : List (Action Global)) : Type 0 where
   pub did : List (Action Global)
   pub whole : List Receipt
-  pub in_order : did ++ reverse left ≡ work.actions
+  pub in_order : did ++ reverse left ≡ work.actions.items
   pub count : length did ≡ done
   pub are_whole : AreWhole work.pass.caller did whole
   pub gained : HasReceipts whole work.pass pass
@@ -46,27 +31,16 @@ whole-push by [] list what own is whole = (own, [], ap (λ (l : List Receipt). l
 whole-push by (x ∷ did) list what own is whole =
     (is.0, is.1 ++ own, ap (λ (l : List Receipt). l ++ own) is.2 ∙ append_assoc is.0 is.1 own, is.3, whole-push by did is.1 what own is.4 whole)
 
--- no receipt of an action that was stopped before it began
-stopped-none : (by : Caller) (what : Action Global) → IsStopped by what []
-stopped-none by (Hypercall frame) = record { now = frame; elements = refl }
-stopped-none by (ReadMsr msr) = refl
-stopped-none by (WriteMsr msr value) = refl
-stopped-none by (ReadSlot sint) = refl
-stopped-none by (ClearSlot sint) = refl
-stopped-none by (ReadFlags sint) = refl
-stopped-none by (ClearFlag sint flag) = refl
-stopped-none by TakeInterrupt = refl
-
-gained-none : (old : PassValue) → HasReceipts [] old old
+pub gained-none : (old : PassValue) → HasReceipts [] old old
 gained-none old = record { receipts = sym (append-nil old.receipts); share = omega arith; caller = refl }
 
 -- nothing is done yet
-pub fresh : {L : Type 0} (work : Work L) (left : List (Action Global)) → left ≡ reverse work.actions → reverse left ≡ work.actions → IsWorking work work.pass 0 left
+pub fresh : {L : Type 0} (work : Work L) (left : List (Action Global)) → left ≡ reverse work.actions.items → reverse left ≡ work.actions.items → IsWorking work work.pass 0 left
 fresh work left is back =
     record { did = []; whole = []; in_order = back; count = refl; are_whole = refl; gained = gained-none work.pass }
 
 module _ {L : Type 0} (work : Work L) (mid new : PassValue) (done : ℕ) (all left : List (Action Global)) (what : Action Global) (working : IsWorking work mid done all) (last : all ≡ left ++ what ∷ []) where
-  in_order : working.did ++ what ∷ reverse left ≡ work.actions
+  in_order : working.did ++ what ∷ reverse left ≡ work.actions.items
   in_order = ap (λ (l : List (Action Global)). working.did ++ l) (sym (ap reverse last ∙ reverse-append left (what ∷ []))) ∙ working.in_order
 
   -- one action more
@@ -101,12 +75,6 @@ module _ {L : Type 0} (work : Work L) (mid new : PassValue) (done : ℕ) (all le
         };
         gained = gained-twice working.whole begun.more work.pass mid new working.gained begun.gained;
       }
-
--- it couldn't be taken out
-pub stays : {L : Type 0} (work : Work L) (pass : PassValue) (done : ℕ) (all left : List (Action Global)) (what : Action Global) → IsWorking work pass done all → all ≡ left ++ what ∷ [] → (why : HostRefused)
-    → IsDone work pass done (Host why)
-stays work pass done all left what working last why =
-    stops work pass pass done all left what working last why (record { more = []; stopped = stopped-none pass.caller what; gained = gained-none pass })
 
 -- every action came to its end
 pub ends : {L : Type 0} (work : Work L) (pass : PassValue) (done : ℕ) (left : List (Action Global)) → IsWorking work pass done left → left ≡ [] → IsDone work pass done Finished

@@ -1,1 +1,2 @@
+pub mod Perform
 pub mod Phase

@@ -4,7 +4,7 @@ use Rattle.std.specs.declared.alloc.Global.{Global}
 use Rattle.hv_policy.specs.declared.event.Action.{Action}
 use Rattle.hv_policy.specs.declared.event.Caller.{Caller}
 use Rattle.hv_shared.specs.Pass.{HasReceipts}
-use Rattle.hv_shared.specs.Perform.{AreWhole, IsStopped}
+use Rattle.hv_threads.specs.Perform.{AreWhole, IsStopped}
 use Rattle.hv_shared.specs.PassValue.{PassValue}
 use Rattle.hv_shared.specs.declared.receipts.Receipt.{Receipt}
 use Rattle.hv_threads.specs.declared.phase.Done.{Done}
@@ -35,13 +35,12 @@ pub record IsAccount (by : Caller) (actions : List (Action Global)) (done : ℕ)
 -- the pass has the receipts more of what its thread did
 pub record IsDone {L : Type 0} (work : Work L) (pass : PassValue) (done : ℕ) (end : End) : Type 0 where
   pub more : List Receipt
-  pub account : IsAccount work.pass.caller work.actions done end more
+  pub account : IsAccount work.pass.caller work.actions.items done end more
   pub gained : HasReceipts more work.pass pass
 
--- what a task holds after its thread; nothing is left of it unless the host stopped it
-pub record IsDoneAt {L : Type 0} (old new : Task L) : Type 0 where
-  pub done : IsDone old.work new.work.pass new.done new.end
-  pub idle : new.end ≡ Finished → new.work.actions ≡ []
+-- what a task holds after its thread
+abbrev pub IsDoneAt : {L : Type 0} → Task L → Task L → Type 0
+IsDoneAt old new = IsDone old.work new.work.pass new.done new.end
 
 abbrev pub done_of : {L : Type 0} → Task L → Done L
 done_of task = record { pass = task.work.pass; done = task.done; end = task.end }

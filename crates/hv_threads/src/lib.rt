@@ -5,11 +5,12 @@
 //! whose names are all here, so that a user names this crate alone.
 #![tactic(auto)]
 
+mod action;
 mod phase;
 
 pub use hv_shared::{
     DriveRefused, Gate, Held, Open, Pass, Receipt, ReceiptRef, Receipts, SettleFault,
     SettleRefused, Shared, a_merge_counts_each_number_once, each_caller_did_what_its_pass_has,
-    perform, settle,
+    settle,
 };
-pub use phase::{Done, End, PhaseRefused, Task, Work, run_phase, run_tasks};
+pub use phase::{Done, End, PhaseRefused, Work, run_phase};

@@ -4,9 +4,10 @@ ghost use Rattle.std.specs.Prelude.{vec_len, vec_capacity, slice_index_or, map, 
 ghost use Rattle.hv_threads.specs.Phase.{IsDoneAt, EachDone, done_of};
 ghost use Rattle.hv_threads.specs.declared.phase.Task.{Task};
 
-use hv_actions::{Actions, give_back};
+use crate::action::perform;
 use hv_history::HostRefused;
-use hv_shared::{Gate, Pass, Shared, perform};
+use hv_policy::Action;
+use hv_shared::{Gate, Pass, Shared};
 use std::alloc::Global;
 use std::sync::Wait;
 use std::sync::ledger::Ledger;
@@ -17,7 +18,7 @@ use std::thread::Threads;
 #[derive(Drop)]
 pub struct Work<L: Ledger> {
     pub pass: Pass<L>,
-    pub actions: Actions<Global>,
+    pub actions: Vec<Action<Global>>,
 }
 
 /// How a thread's work ended.
@@ -25,7 +26,7 @@ pub struct Work<L: Ledger> {
 pub enum End {
     /// Every action came to its end.
     Finished,
-    /// The host refused an event, or had no memory to take out an action.
+    /// The host refused an event.
     Host(HostRefused),
 }
 
@@ -43,17 +44,17 @@ pub struct PhaseRefused<L: Ledger> {
     pub work: Vec<Work<L>>,
 }
 
-/// A work while it is done. Threads work on a slice of tasks, which stay where they are, so that no pass
-/// can be lost.
+// A work while it is done. Threads work on a slice of tasks, which stay where they are, so that no pass can
+// be lost.
 #[derive(Drop)]
-pub struct Task<L: Ledger> {
-    pub work: Work<L>,
-    /// How many actions came to their end.
-    pub done: u64,
-    pub end: End,
+struct Task<L: Ledger> {
+    work: Work<L>,
+    // How many actions came to their end.
+    done: u64,
+    end: End,
 }
 
-// Does the actions in order, up to the first that the host refuses or that can't be taken out.
+// Does the actions in order, up to the first that the host refuses.
 fn run_work<L: Ledger, R: Wait, G: Gate>(rt: &R, shared: &Shared<L>, gate: &G, task: &mut Task<L>)
     ensures { IsDoneAt task.old task.new }
 {
@@ -62,24 +63,12 @@ fn run_work<L: Ledger, R: Wait, G: Gate>(rt: &R, shared: &Shared<L>, gate: &G, t
     *done = 0;
     *end = End::Finished;
     actions.reverse();
-    let mut spare = Vec::new(*actions.allocator());
-    for at in 0..actions.len() {
-        let Ok(action) = actions.take_last(&mut spare) else {
-            *end = End::Host(HostRefused::Memory);
+    while let Some(action) = actions.pop() {
+        if let Err(why) = perform(rt, shared, gate, pass, action) {
+            *end = End::Host(why);
             return;
-        };
-        match perform(rt, shared, gate, pass, action) {
-            Ok(last) => {
-                *done = at as u64 + 1;
-                if let Some(frame) = last {
-                    give_back(&mut spare, frame);
-                }
-            }
-            Err(why) => {
-                *end = End::Host(why);
-                return;
-            }
         }
+        *done += 1;
     }
 }
 
@@ -112,30 +101,9 @@ fn dones_of<L: Ledger>(tasks: Vec<Task<L>>, dones: &mut Vec<Done<L>>)
     }
 }
 
-/// Does the tasks, each in a thread of its own, or after another where the system has no thread to give.
-/// A thread stops at the first event that the host refuses; the others go on. What the tasks' `done` and
-/// `end` were before doesn't count.
-pub fn run_tasks<L: Ledger + Send + Sync, R: Threads + Wait + Sync, G: Gate>(
-    rt: &R,
-    shared: &Shared<L>,
-    gate: &G,
-    tasks: &mut [Task<L>],
-)
-    ensures { (i : ℕ) (d : Task L) → i < length tasks.old
-        → IsDoneAt (slice_index_or tasks.old i d) (slice_index_or tasks.new i d) }
-{
-    let count = tasks.len();
-    if count == 0 {
-        return;
-    }
-    let one = |_: usize, task: &mut Task<L>|
-        ensures { IsDoneAt task.entry.now task.exit.now }
-    { run_work(rt, shared, gate, task) };
-    thread::for_each_mut(rt, tasks, count, &one);
-}
-
-/// Does each work, as [`run_tasks`] does, and tells what each did, in order. For want of memory all work
-/// comes back, and no thread was started.
+/// Does each work in a thread of its own, or after another where the system has no thread to give, and tells
+/// what each did, in order. A thread stops at the first event that the host refuses; the others go on. For
+/// want of memory all work comes back, and no thread was started.
 pub fn run_phase<L: Ledger + Send + Sync, R: Threads + Wait + Sync, G: Gate>(
     rt: &R,
     shared: &Shared<L>,
@@ -155,4 +123,24 @@ pub fn run_phase<L: Ledger + Send + Sync, R: Threads + Wait + Sync, G: Gate>(
     run_tasks(rt, shared, gate, tasks.as_mut_slice());
     dones_of(tasks, &mut dones);
     Ok(dones)
+}
+
+// Does the tasks, each in a thread of its own.
+fn run_tasks<L: Ledger + Send + Sync, R: Threads + Wait + Sync, G: Gate>(
+    rt: &R,
+    shared: &Shared<L>,
+    gate: &G,
+    tasks: &mut [Task<L>],
+)
+    ensures { (i : ℕ) (d : Task L) → i < length tasks.old
+        → IsDoneAt (slice_index_or tasks.old i d) (slice_index_or tasks.new i d) }
+{
+    let count = tasks.len();
+    if count == 0 {
+        return;
+    }
+    let one = |_: usize, task: &mut Task<L>|
+        ensures { IsDoneAt task.entry.now task.exit.now }
+    { run_work(rt, shared, gate, task) };
+    thread::for_each_mut(rt, tasks, count, &one);
 }

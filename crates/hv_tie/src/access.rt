@@ -23,9 +23,7 @@ use hv_policy::{Caller, Kin, Rule, needs};
 use hv_vp::Vp;
 use std::alloc::Allocator;
 
-/// P1 to P3: the caller's partition where they are met, and else the first of them that isn't. Inlined, so that the
-/// answer needn't go through memory.
-#[inline(always)]
+/// P1 to P3: the caller's partition where they are met, and else the first of them that isn't.
 pub fn caller_in<A: Allocator>(tree: &Partitions<A>, by: Caller) -> Result<&Partition<A>, Rule>
     ensures met { IfOk result (λ _. (f : Flat) → IsTied tree.now f → first_unmet (caller_asks f by) ≡ None) }
     ensures there { IfOk result (λ caller. content tree.now by.part ≡ Some caller.now) }
@@ -46,7 +44,6 @@ pub fn caller_in<A: Allocator>(tree: &Partitions<A>, by: Caller) -> Result<&Part
 
 /// P1 to P3 of an access, and the processor that makes it, to be read or changed; else the first of them that isn't
 /// met, with the partitions as they were.
-#[inline(always)]
 #[tactic(auto, using(hv_tree::proofs::Laws::unchanged))]
 pub fn caller_vp<A: Allocator>(tree: &mut Partitions<A>, by: Caller) -> Result<&mut Vp<A>, Rule>
     ensures* writes_back { sem 𝓛 (LendsIfOk (tree_row (partition_row A.row A.Allocator) A.row A.Allocator)
@@ -68,8 +65,8 @@ pub fn caller_vp<A: Allocator>(tree: &mut Partitions<A>, by: Caller) -> Result<&
     }
 }
 
-/// P8 to P10: the first of them that isn't met. The caller's partition is the one that was found. Inlined, since
-/// of a call that the source names it is known what is asked.
+/// P8 to P10: the first of them that isn't met. The caller's partition is the one that was found.
+// Inlined: calls for the own id in bench/embed.sh.
 #[inline(always)]
 pub fn unmet_by_target<A: Allocator>(
     tree: &Partitions<A>,
@@ -96,6 +93,7 @@ pub fn unmet_by_target<A: Allocator>(
 }
 
 // Whether a call that allows this kin may name the partition.
+// Inlined: calls for the own id in bench/embed.sh.
 #[inline(always)]
 fn is_kin<A: Allocator>(tree: &Partitions<A>, kin: Kin, caller: u64, id: u64) -> bool
     ensures { (f : Flat) → IsTied tree.now f → result ≡ is_kin_of kin f caller id }
@@ -108,7 +106,6 @@ fn is_kin<A: Allocator>(tree: &Partitions<A>, kin: Kin, caller: u64, id: u64) ->
 }
 
 // The partition that a call of this caller is about.
-#[inline(always)]
 fn target(caller: u64, call: &Call<'_>) -> u64
     ensures { result ≡ target_of call.now caller }
 {

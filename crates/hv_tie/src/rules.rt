@@ -30,7 +30,6 @@ pub fn meant(caller: u64, id: u64) -> u64
 }
 
 /// Whether `id` is a child of `parent`.
-#[inline(always)]
 pub fn is_child<A: Allocator>(tree: &Partitions<A>, parent: u64, id: u64) -> bool
     ensures { (f : Flat) → IsTied tree.now f → result ≡ is_child_of f parent id }
 {

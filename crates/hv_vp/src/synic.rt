@@ -93,7 +93,6 @@ impl<A: Allocator> Vp<A> {
     }
 
     /// Removes the highest of the vectors that wait and returns it, or returns `None` where none waits.
-    #[inline(always)]
     pub fn take_interrupt(&mut self) -> Option<u8>
         ensures vector { result ≡ highest self.old.pending }
         ensures state { self.new ≡ interrupted self.old }

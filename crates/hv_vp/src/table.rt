@@ -25,7 +25,6 @@ const _: () = prove!(REGISTERS[SINT0_PLACE].name == SINT0);
 
 // The place of a register in the table. Where it stands if there is one is known by its name, and the table
 // tells whether it does.
-#[inline(always)]
 pub fn place_of(name: u32) -> Option<usize>
     ensures place { result ≡ place_of name }
     ensures within { IfSome result (λ place. place < 40) }
@@ -39,7 +38,6 @@ pub fn place_of(name: u32) -> Option<usize>
 }
 
 // A place at which a register with this name would stand.
-#[inline(always)]
 fn likely_place(name: u32) -> usize
     ensures { result < 40 }
 {
@@ -54,7 +52,6 @@ fn likely_place(name: u32) -> usize
 }
 
 // The place of a register in the table, wherever it stands.
-#[inline(never)]
 #[tactic(auto, unfolding(crate::specs::Registers::place_of))]
 fn scan(name: u32) -> Option<usize>
     ensures place { result ≡ place_of name }
@@ -139,7 +136,6 @@ const SCONTROL_MSR: u32 = 0x4000_0080;
 const SCONTROL_PLACE: usize = SINT0_PLACE + 16;
 
 // The place of a model-specific register in the table, looked for first where it would stand.
-#[inline(always)]
 fn msr_place(msr: u32) -> Option<usize>
     ensures place { result ≡ msr_place msr }
     ensures within { IfSome result (λ place. place < 40) }
@@ -153,7 +149,6 @@ fn msr_place(msr: u32) -> Option<usize>
 }
 
 // A place at which a model-specific register with this number would stand.
-#[inline(always)]
 fn likely_msr_place(msr: u32) -> usize
     ensures { result < 40 }
 {
@@ -168,7 +163,6 @@ fn likely_msr_place(msr: u32) -> usize
 }
 
 // The place of a model-specific register in the table, wherever it stands.
-#[inline(never)]
 #[tactic(auto, unfolding(crate::specs::Registers::msr_place))]
 fn scan_msr(msr: u32) -> Option<usize>
     ensures place { result ≡ msr_place msr }

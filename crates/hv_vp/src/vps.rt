@@ -56,7 +56,6 @@ impl<A: Allocator> Vps<A> {
     }
 
     /// The processor with this index.
-    #[inline(always)]
     pub fn get(&self, index: u32) -> Option<&Vp<A>>
         ensures { option_copied result ≡ map.get self.now.vps index }
     {
@@ -67,7 +66,6 @@ impl<A: Allocator> Vps<A> {
     }
 
     /// The processor with this index, to be changed.
-    #[inline(always)]
     pub fn get_mut(&mut self, index: u32) -> Option<&mut Vp<A>>
         ensures* writes_back { sem 𝓛 (LendsIf (the_row A.row A.Allocator)
             (vp_row A.row A.Allocator) self.entry result

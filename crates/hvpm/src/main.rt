@@ -1,12 +1,12 @@
 //! The program `hvpm`: runs a script of hypercalls and accesses on the partition manager, and prints an audit
 //! of what happened.
 //!
-//! [`hv_options::options`] reads the words of the command line and [`hv_run::run_reader`] reads and runs a
-//! script over two writers. What stands here only fetches both, and gives back the exit status.
+//! [`hv_options::options`] reads the words of the command line, and [`hv_run::run_text`] runs a script's bytes
+//! over two writers. What stands here only fetches both, and gives back the exit status.
 #![tactic(auto)]
 
 use hv_options::{Options, Usage, options};
-use hv_run::{Exit, Failure, run_reader, tell, tell_usage, unread};
+use hv_run::{Exit, Failure, read_script, run_text, tell, tell_usage, unread};
 use std::env;
 use std::fs::File;
 use std::io::{BufWriter, ErrorKind, Write};
@@ -51,18 +51,26 @@ fn read_words<R: Env + AllocGlobal>(rt: &R) -> Result<Vec<String>, Usage> {
     }
 }
 
-// Runs the script that the words name: standard input where they say `-`, and else a file.
+// Runs the script that the words name.
 fn run_named<R: Files + Input + AllocGlobal + Threads + Wait + Sync, W: Write, E: Write>(
     rt: &R,
     options: &Options<'_>,
     out: &mut W,
     err: &mut E,
 ) -> Exit {
-    if options.script == "-" {
-        return run_reader(rt, rt.alloc(), rt.reader(), options, out, err);
+    match read_named(rt, options.script) {
+        Ok(script) => run_text(rt, rt.alloc(), script.as_slice(), options, out, err),
+        Err(failure) => tell(failure, err),
     }
-    match File::open(rt, options.script) {
-        Ok(file) => run_reader(rt, rt.alloc(), file, options, out, err),
-        Err(error) => tell(unread(&error), err),
+}
+
+// The bytes of the script of this name: of standard input at `-`, and else of a file.
+fn read_named<R: Files + Input + AllocGlobal>(rt: &R, name: &str) -> Result<Vec<u8>, Failure> {
+    if name == "-" {
+        return read_script(rt.alloc(), rt.reader());
+    }
+    match File::open(rt, name) {
+        Ok(file) => read_script(rt.alloc(), file),
+        Err(error) => Err(unread(&error)),
     }
 }

@@ -34,7 +34,7 @@ pub(crate) fn call<'h>(
     Ok(Event { by: ROOT, what })
 }
 
-// Which copy is made of an event, or that a history makes room for three of it.
+// Which copy is made of an event, or that a history makes room for three.
 #[derive(Clone, Copy)]
 pub(crate) enum Asked {
     Bytes,
@@ -53,7 +53,7 @@ fn is_served<'h>(event: &Event<&'h Heap>, history: &mut History<&'h Heap>, asked
         Asked::Frame => frame.copy().is_ok(),
         Asked::Action => event.what.copy().is_ok(),
         Asked::Event => event.copy().is_ok(),
-        Asked::Entries => history.reserve(event, 3).is_ok(),
+        Asked::Entries => history.reserve(3).is_ok(),
     }
 }
 

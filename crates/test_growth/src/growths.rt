@@ -98,13 +98,13 @@ const GROWTHS: [(Growth, u64); 25] = [
     (Growth::Event(Asked::Frame), 1),
     (Growth::Event(Asked::Action), 1),
     (Growth::Event(Asked::Event), 1),
-    // Its rows, heads, inputs and outputs.
-    (Growth::Event(Asked::Entries), 4),
+    // Its rows, heads and outputs.
+    (Growth::Event(Asked::Entries), 3),
     // The root's own, its loose and its pooled pages, the flags of a processor, and the list of processors.
     (Growth::Whole(Whole::Machine), 5),
     (Growth::Whole(Whole::Kept), 5),
-    // A call's bytes; its processor, the place of its line, its turn, the block of inputs, its head and its row.
-    (Growth::Whole(Whole::Script), 7),
+    // A call's bytes, its processor and its line.
+    (Growth::Whole(Whole::Script), 3),
     (Growth::Table, 1),
 ];
 

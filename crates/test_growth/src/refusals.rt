@@ -8,13 +8,13 @@ use hv_policy::{Config, Event};
 use std::process::Abort;
 use std::test::Fail;
 
-// Lets the event happen with so many blocks, and where it is refused again with all. In between the table is
+// Lets an event happen with so many blocks, and where it is refused its copy with all. In between the table is
 // as before. Answers whether it was refused.
 fn apply_again<'h>(
     rt: &impl Abort,
     heap: &Heap,
     kept: &mut Kept<&'h Heap>,
-    event: &Event<&'h Heap>,
+    (event, again): (Event<&'h Heap>, Event<&'h Heap>),
     blocks: u64,
     before: &[u8],
 ) -> Result<bool, HostRefused> {
@@ -26,7 +26,7 @@ fn apply_again<'h>(
     }
     let is_same = has_table(heap.inner(), kept, before);
     assert!(rt; is_same && refused == Some(HostRefused::Memory));
-    kept.apply(event)?;
+    kept.apply(again)?;
     Ok(true)
 }
 
@@ -38,7 +38,8 @@ fn apply<'h>(
     blocks: u64,
 ) -> Result<bool, Fail> {
     let before = table_of(heap.inner(), kept)?;
-    Ok(apply_again(rt, heap, kept, event, blocks, &before)?)
+    let both = (event.copy()?, event.copy()?);
+    Ok(apply_again(rt, heap, kept, both, blocks, &before)?)
 }
 
 // Lets all events happen, the one at a place with so many blocks. Either way the whole script is told as it
@@ -56,7 +57,7 @@ fn apply_all<'h>(
         if at == place {
             refused = apply(rt, heap, kept, event, blocks)?;
         } else {
-            kept.apply(event)?;
+            kept.apply(event.copy()?)?;
         }
     }
     let is_audit = has_audit(heap.inner(), kept, row.audit.as_bytes());

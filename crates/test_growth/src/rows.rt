@@ -57,7 +57,7 @@ partition 1 parent - Active mask 000000f700000044 loose 20 pooled 12 inuse 6 vps
 partition 2 parent 1 Created mask 0000003000000044 loose 0 pooled 0 inuse 0 vps 0 ports 0 connections 0
 pages 32
 ",
-    blocks: &[11, 1, 1],
+    blocks: &[10, 1, 0],
     wants: &[0],
 };
 
@@ -87,7 +87,7 @@ partition 4 parent 1 Created mask 0000003000000044 loose 0 pooled 0 inuse 0 vps 
 partition 5 parent 1 Created mask 0000003000000044 loose 0 pooled 0 inuse 0 vps 0 ports 0 connections 0
 pages 32
 ",
-    blocks: &[11, 3, 2, 2, 1],
+    blocks: &[10, 3, 2, 2, 1],
     wants: &[0, 1, 2, 3],
 };
 
@@ -120,7 +120,7 @@ events 8
 partition 1 parent - Active mask 000000f700000044 loose 20 pooled 12 inuse 4 vps 1 ports 0 connections 0
 pages 32
 ",
-    blocks: &[11, 2, 1, 0, 1, 0, 1, 0],
+    blocks: &[10, 2, 0, 0, 1, 0, 1, 0],
     wants: &[0, 1],
 };
 
@@ -145,7 +145,7 @@ partition 1 parent - Active mask 000000f700000044 loose 20 pooled 12 inuse 6 vps
 partition 2 parent 1 Created mask 0000003000000044 loose 0 pooled 0 inuse 0 vps 0 ports 0 connections 0
 pages 32
 ",
-    blocks: &[11, 2, 1, 0],
+    blocks: &[10, 2, 0, 0],
     wants: &[0, 1],
 };
 
@@ -172,7 +172,7 @@ events 5
 partition 1 parent - Active mask 000000f700000044 loose 1 pooled 11 inuse 4 vps 1 ports 0 connections 0
 pages 12
 ",
-    blocks: &[5, 8, 2, 0, 3],
+    blocks: &[4, 8, 1, 0, 2],
     wants: &[0, 1, 2],
 };
 
@@ -216,7 +216,7 @@ partition 2 parent 1 Active mask 000000f700000044 loose 0 pooled 6 inuse 6 vps 1
 partition 3 parent 2 Created mask 0000003000000044 loose 0 pooled 0 inuse 0 vps 0 ports 0 connections 0
 pages 32
 ",
-    blocks: &[11, 1, 0, 2, 2, 1, 0, 0, 2, 2, 4, 0, 0],
+    blocks: &[10, 1, 0, 1, 2, 0, 0, 0, 2, 2, 3, 0, 0],
     wants: &[0, 3, 9, 10],
 };
 
@@ -265,7 +265,7 @@ partition 1 parent - Active mask 000000f700000044 loose 14 pooled 12 inuse 7 vps
 partition 2 parent 1 Active mask 0000003000000044 loose 0 pooled 6 inuse 5 vps 1 ports 1 connections 0
 pages 32
 ",
-    blocks: &[11, 0, 2, 1, 3, 0, 0, 1, 4, 1, 1, 0, 1, 0, 0, 0],
+    blocks: &[10, 1, 1, 0, 2, 0, 0, 0, 4, 1, 1, 0, 0, 0, 0, 0],
     wants: &[0, 2, 8, 9, 10],
 };
 
@@ -332,7 +332,7 @@ partition 1 parent - Active mask 000000f700000044 loose 14 pooled 12 inuse 7 vps
 partition 2 parent 1 Active mask 0000003000000044 loose 0 pooled 6 inuse 5 vps 1 ports 1 connections 0
 pages 32
 ",
-    blocks: &[11, 0, 2, 1, 3, 0, 0, 1, 4, 1, 1, 1, 0, 0, 0, 20, 1, 2, 0],
+    blocks: &[10, 1, 1, 0, 2, 0, 0, 0, 4, 1, 1, 0, 0, 0, 0, 19, 2, 1, 0],
     wants: &[0, 2, 8, 9, 10, 15],
 };
 

@@ -3,7 +3,7 @@
 use crate::rationed::Heap;
 use hv_history::Kept;
 use hv_policy::{Config, Event};
-use hv_script::{Lines, Script, parse};
+use hv_script::{Line, Script, parse};
 use hv_text::{PrintFault, audit, table};
 use std::alloc::{AllocError, Global};
 use std::test::Fail;
@@ -11,20 +11,14 @@ use std::test::Fail;
 // The events that lines ask for.
 fn events_of<'h>(
     alloc: Global,
-    lines: Lines<&'h Heap>,
+    lines: Vec<Line<&'h Heap>, &'h Heap>,
 ) -> Result<Vec<Event<&'h Heap>>, AllocError> {
-    let mut left = lines;
-    left.reverse();
-    let mut events = Vec::new(alloc);
-    let mut spare = Vec::new(*left.allocator());
-    for _ in 0..left.len() {
-        let count = left.len();
-        if count == 0 {
-            return Ok(events);
-        }
-        let by = left.turn(count - 1).by;
-        let what = left.take_last(&mut spare)?;
-        events.push(Event { by, what })?;
+    let mut events = Vec::with_capacity(alloc, lines.len())?;
+    for line in lines {
+        events.push(Event {
+            by: line.by,
+            what: line.action,
+        })?;
     }
     Ok(events)
 }

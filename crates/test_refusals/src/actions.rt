@@ -2,8 +2,7 @@
 
 use crate::ended::{Fault, must};
 use hv_abi::{Bytes, Frame};
-use hv_actions::Actions;
-use hv_policy::{Action, Event};
+use hv_policy::Action;
 use hv_threads::Pass;
 use std::alloc::Global;
 use std::sync::ledger::Ledger;
@@ -22,15 +21,6 @@ fn call(rcx: u64, input: Vec<u8>) -> Frame<Global> {
 pub(crate) fn two_actions(alloc: Global) -> Result<Vec<Action<Global>>, Fault> {
     let own_id = Action::Hypercall(call(0x46, Vec::new(alloc)));
     let actions = vec![in alloc; own_id, Action::ReadMsr(0x4000_0084)]?;
-    Ok(actions)
-}
-
-// The same, as a work has them.
-pub(crate) fn two_to_do(alloc: Global) -> Result<Actions<Global>, Fault> {
-    let mut actions = Actions::new(&alloc)?;
-    for action in two_actions(alloc)? {
-        actions.push(&action)?;
-    }
     Ok(actions)
 }
 
@@ -64,11 +54,7 @@ pub(crate) fn must_have<L: Ledger>(
     must(gained == Some(usize::from(more)), Fault::Receipts)
 }
 
-// There is room for a receipt of this action.
-pub(crate) fn must_have_room<L: Ledger>(pass: &Pass<L>, what: Action<Global>) -> Result<(), Fault> {
-    let event = Event {
-        by: pass.caller(),
-        what,
-    };
-    must(pass.room(&event) > 0, Fault::Room)
+// There is room for a receipt.
+pub(crate) fn must_have_room<L: Ledger>(pass: &Pass<L>) -> Result<(), Fault> {
+    must(pass.room() > 0, Fault::Room)
 }

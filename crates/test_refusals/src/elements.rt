@@ -5,8 +5,8 @@ use crate::ended::{Fault, Refusal, Side, must};
 use crate::gate::Count;
 use hv_abi::{Frame, ResultValue};
 use hv_history::HostRefused;
-use hv_policy::{Action, Reply};
-use hv_threads::{DriveRefused, Open, Pass, Shared, perform};
+use hv_policy::Reply;
+use hv_threads::{DriveRefused, Open, Pass, Shared};
 use std::alloc::Global;
 use std::sync::Wait;
 use std::sync::ledger::Ledger;
@@ -26,16 +26,11 @@ fn is_whole(told: &Result<(ResultValue, Reply), DriveRefused>) -> bool {
 
 // On which side of the gate an element was refused. The room for a hold is made before the gate, so that an
 // element in the middle of one is refused behind it.
-fn refused_at<L: Ledger>(
-    alloc: Global,
-    gate: &Count,
-    pass: &Pass<L>,
-    element: u16,
-) -> Result<Side, Fault> {
+fn refused_at<L: Ledger>(gate: &Count, pass: &Pass<L>, element: u16) -> Result<Side, Fault> {
     let side = gate.side_after(u64::from(element / IN_A_HOLD))?;
     match side {
         Side::Before => must(element % IN_A_HOLD == 0, Fault::Element)?,
-        Side::Behind => must_have_room(pass, Action::Hypercall(rest_from(alloc, element)?))?,
+        Side::Behind => must_have_room(pass)?,
     }
     Ok(side)
 }
@@ -69,7 +64,7 @@ pub(crate) fn try_drive<L: Ledger, R: Wait>(
             must(refused.why == HostRefused::Memory, Fault::Reason)?;
             let element = refused.next;
             must_have(pass, before, element)?;
-            let side = refused_at(alloc, &gate, pass, element)?;
+            let side = refused_at(&gate, pass, element)?;
             drive_on(rt, alloc, shared, pass, element)?;
             Some(Refusal::Drive { element, side })
         }
@@ -87,53 +82,4 @@ fn drive_on<L: Ledger, R: Wait>(
 ) -> Result<(), Fault> {
     let told = shared.drive(rt, pass, &Open, rest_from(alloc, element)?);
     must(is_whole(&told), Fault::Again)
-}
-
-// Lets the call come to its end. What is refused shows in the receipts alone.
-pub(crate) fn try_perform<L: Ledger, R: Wait>(
-    rt: &R,
-    alloc: Global,
-    shared: &Shared<L>,
-    pass: &mut Pass<L>,
-) -> Result<Option<Refusal>, Fault> {
-    let gate = Count::new();
-    let before = pass.receipts().len();
-    let action = Action::Hypercall(forty_reads(alloc)?);
-    let refusal = match perform(rt, shared, &gate, pass, action) {
-        Ok(_) => {
-            gate.must_have(HOLDS)?;
-            None
-        }
-        Err(why) => {
-            must(why == HostRefused::Memory, Fault::Reason)?;
-            let element = gained(pass, before)?;
-            let side = refused_at(alloc, &gate, pass, element)?;
-            perform_on(rt, alloc, shared, pass, element)?;
-            Some(Refusal::Perform { element, side })
-        }
-    };
-    must_have(pass, before, FORTY)?;
-    Ok(refusal)
-}
-
-// How many receipts a pass has more than so many.
-fn gained<L: Ledger>(pass: &Pass<L>, before: usize) -> Result<u16, Fault> {
-    let gained = pass.receipts().len().saturating_sub(before);
-    if gained < usize::from(FORTY) {
-        Ok(gained as u16)
-    } else {
-        Err(Fault::Element)
-    }
-}
-
-fn perform_on<L: Ledger, R: Wait>(
-    rt: &R,
-    alloc: Global,
-    shared: &Shared<L>,
-    pass: &mut Pass<L>,
-    element: u16,
-) -> Result<(), Fault> {
-    let rest = Action::Hypercall(rest_from(alloc, element)?);
-    let told = perform(rt, shared, &Open, pass, rest);
-    must(told.is_ok(), Fault::Again)
 }

@@ -29,8 +29,6 @@ pub(crate) enum Refusal {
     Denial(Side),
     #[error("drive: element {element}, {side}")]
     Drive { element: u16, side: Side },
-    #[error("perform: element {element}, {side}")]
-    Perform { element: u16, side: Side },
 }
 
 // What isn't as it must be.

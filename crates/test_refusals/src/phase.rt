@@ -1,10 +1,11 @@
 // A phase of two threads.
 
-use crate::actions::{two_actions, two_to_do};
+use crate::actions::two_actions;
 use crate::ended::{Fault, Refusal, must};
 use crate::gate::Count;
 use hv_history::HostRefused;
-use hv_threads::{Done, End, Open, Pass, Shared, Work, perform, run_phase};
+use hv_policy::Action;
+use hv_threads::{Done, End, Open, Pass, Shared, Work, run_phase};
 use std::alloc::Global;
 use std::sync::Wait;
 use std::sync::ledger::Ledger;
@@ -24,7 +25,7 @@ pub(crate) fn works_of<L: Ledger>(
 ) -> Result<Vec<Work<L>>, Fault> {
     let mut works = Vec::new(alloc);
     for pass in passes {
-        let actions = two_to_do(alloc)?;
+        let actions = two_actions(alloc)?;
         works.push(Work { pass, actions })?;
     }
     Ok(works)
@@ -163,8 +164,11 @@ fn finish<L: Ledger, R: Wait>(
     gate.side_after(if stop.done == 0 { 2 } else { 3 })?;
     for (at, action) in two_actions(alloc)?.into_iter().enumerate() {
         if at as u64 >= stop.done {
-            let told = perform(rt, shared, &Open, pass, action);
-            must(told.is_ok(), Fault::Again)?;
+            let is_done = match action {
+                Action::Hypercall(frame) => shared.drive(rt, pass, &Open, frame).is_ok(),
+                access => shared.call(rt, pass, &Open, access).is_ok(),
+            };
+            must(is_done, Fault::Again)?;
         }
     }
     must(pass.receipts().len() == 2, Fault::Receipts)?;

@@ -29,7 +29,7 @@ fn make<L: Ledger, R: Wait>(
         }
         Err(why) => {
             must_have(pass, before, 0)?;
-            let side = refused_at(alloc, &gate, pass, why)?;
+            let side = refused_at(&gate, pass, why)?;
             let reply = make_again(rt, alloc, shared, pass)?;
             must_have(pass, before, 1)?;
             Ok((reply, Some(side)))
@@ -38,16 +38,11 @@ fn make<L: Ledger, R: Wait>(
 }
 
 // On which side of the gate the call was refused, for want of memory. Before it room for a receipt is made.
-fn refused_at<L: Ledger>(
-    alloc: Global,
-    gate: &Count,
-    pass: &Pass<L>,
-    why: HostRefused,
-) -> Result<Side, Fault> {
+fn refused_at<L: Ledger>(gate: &Count, pass: &Pass<L>, why: HostRefused) -> Result<Side, Fault> {
     must(why == HostRefused::Memory, Fault::Reason)?;
     let side = gate.side_after(0)?;
     if side == Side::Behind {
-        must_have_room(pass, create(alloc)?)?;
+        must_have_room(pass)?;
     }
     Ok(side)
 }
@@ -79,8 +74,8 @@ pub(crate) fn try_call<L: Ledger, R: Wait>(
 // How often a call is denied until there is room for another receipt and another entry of it.
 const TIMES: u32 = 2;
 
-// Asks for another partition, for which there are no pages. The machine itself wants no memory for that, so
-// that once there is room for its receipt and its entry the call is denied and never refused.
+// Asks for another partition, for which there are no pages. The machine itself wants no memory for that. So once
+// there is room for its receipt and its entry, the call is refused for want of its copy alone, before the gate.
 pub(crate) fn try_denials<L: Ledger, R: Wait>(
     rt: &R,
     alloc: Global,
@@ -95,8 +90,8 @@ pub(crate) fn try_denials<L: Ledger, R: Wait>(
     }
     let (reply, side) = make(rt, alloc, shared, pass)?;
     is_denied(&reply)?;
-    must(side.is_none(), Fault::Denial)?;
-    Ok(refusal.map(Refusal::Denial))
+    must(side != Some(Side::Behind), Fault::Denial)?;
+    Ok(refusal.or(side).map(Refusal::Denial))
 }
 
 fn is_denied(reply: &Reply) -> Result<(), Fault> {

@@ -1,7 +1,7 @@
 // All trials, one after another, in one lock.
 ghost use Rattle.std.specs.Prelude.{◌≡◌, [], IfErr, IfOk, vec_len};
 
-use crate::elements::{try_drive, try_perform};
+use crate::elements::try_drive;
 use crate::ended::{Ended, Fault, Refusal, must};
 use crate::phase::{try_phase, works_of};
 use crate::single::{try_call, try_denials};
@@ -91,7 +91,7 @@ fn in_lock_of<L: Ledger + Send + Sync, R: Threads + Wait + Sync>(
     requires callers { vec_len callers ≡ 4 }
     ensures { IfOk result (λ told. IfErr told (λ back. back ≡ kept)) }
 {
-    match Shared::<L>::new(kept, blank, callers, &[]) {
+    match Shared::<L>::new(kept, blank, callers) {
         Ok((shared, passes)) => Ok(Ok(try_in(rt, alloc, shared, passes)?)),
         Err(kept) => Ok(Err(kept)),
     }
@@ -139,6 +139,5 @@ fn try_calls<L: Ledger, R: Wait>(
     let call = try_call(rt, alloc, shared, first)?;
     let denial = try_denials(rt, alloc, shared, second)?;
     let drive = try_drive(rt, alloc, shared, first)?;
-    let perform = try_perform(rt, alloc, shared, second)?;
-    Ok(call.or(denial).or(drive).or(perform))
+    Ok(call.or(denial).or(drive))
 }

@@ -64,7 +64,7 @@ fn call(rcx: u64, alloc: Global) -> Action<Global> {
 }
 
 fn happens(kept: &mut Kept<Global>, by: Caller, what: Action<Global>) -> Result<(), Fail> {
-    kept.apply(&Event { by, what })?;
+    kept.apply(Event { by, what })?;
     Ok(())
 }
 

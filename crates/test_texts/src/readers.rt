@@ -1,7 +1,7 @@
 // Scripts as they are read: all bytes or none are run.
 
 use crate::writers::{SERIAL, text_of};
-use hv_run::{Exit, run_reader};
+use hv_run::{Exit, read_script, run_text, tell};
 use std::alloc::Global;
 use std::io;
 use std::io::{ErrorKind, Read};
@@ -26,7 +26,10 @@ fn assert_read<R: Read + Drop>(
 ) {
     let mut out: Vec<u8> = Vec::new(alloc);
     let mut err: Vec<u8> = Vec::new(alloc);
-    let exit = run_reader(rt, alloc, reader, &SERIAL, &mut out, &mut err);
+    let exit = match read_script(alloc, reader) {
+        Ok(script) => run_text(rt, alloc, script.as_slice(), &SERIAL, &mut out, &mut err),
+        Err(failure) => tell(failure, &mut err),
+    };
     assert_eq!(rt; (exit, text_of(&out), text_of(&err)), wanted);
 }
 

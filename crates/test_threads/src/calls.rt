@@ -2,7 +2,6 @@
 ghost use Rattle.std.specs.Prelude.{◌≡◌, ◌<◌, [], IfOk, vec_len};
 
 use hv_abi::{Bytes, Frame};
-use hv_actions::Actions;
 use hv_history::Kept;
 use hv_pages::PageSet;
 use hv_partition::PageKind;
@@ -65,16 +64,19 @@ pub(crate) fn delete(alloc: Global) -> Frame<Global> {
     }
 }
 
-// A machine that was just booted with two processors.
-pub(crate) fn boot(alloc: Global, limit: u32) -> Result<Kept<Global>, Fail>
-    ensures { IfOk result (λ kept. kept.history ≡ []) }
-{
-    let config = Config {
-        pages: 60,
-        pool: 20,
+// 32 pages, 12 of them pooled, and two processors.
+pub(crate) fn small() -> Config {
+    Config {
+        pages: 32,
+        pool: 12,
         vps: 2,
         mask: Privileges::of(0x0000_00f7_0000_0044),
-    };
+    }
+}
+
+pub(crate) fn boot(alloc: Global, config: Config, limit: u32) -> Result<Kept<Global>, Fail>
+    ensures { IfOk result (λ kept. kept.history ≡ []) }
+{
     let kept = Kept::boot(alloc, config, limit)?;
     Ok(kept)
 }
@@ -84,12 +86,13 @@ pub(crate) fn open<L: Ledger>(
     rt: &impl Abort,
     alloc: Global,
     blank: Blank,
+    config: Config,
     limit: u32,
 ) -> Result<(Shared<L>, Pass<L>, Pass<L>), Fail>
     requires { (blank.name ≡ L.name) × (blank.parts ≡ L.parts) × (blank.parts ≡ 2) }
 {
     let callers = vec![in alloc; root(0), root(1)]?;
-    let kept = boot(alloc, limit)?;
+    let kept = boot(alloc, config, limit)?;
     let (shared, mut passes) = lock(rt, kept, blank, callers);
     let second = last_of(rt, &mut passes);
     let first = last_of(rt, &mut passes);
@@ -106,7 +109,7 @@ fn lock<L: Ledger>(
     requires some { 0 < vec_len callers }
     requires ledger { (blank.name ≡ L.name) × (blank.parts ≡ L.parts) × (blank.parts ≡ vec_len callers) }
 {
-    match Shared::<L>::new(kept, blank, callers, &[]) {
+    match Shared::<L>::new(kept, blank, callers) {
         Ok(opened) => opened,
         Err(_) => panic!(rt; "no memory"),
     }
@@ -122,8 +125,7 @@ pub(crate) fn last_of<L: Ledger>(rt: &impl Abort, passes: &mut Vec<Pass<L>>) -> 
 
 // What a processor with one call has to do.
 fn work<L: Ledger>(alloc: Global, pass: Pass<L>, frame: Frame<Global>) -> Result<Work<L>, Fail> {
-    let mut actions = Actions::new(&alloc)?;
-    actions.push(&Action::Hypercall(frame))?;
+    let actions = vec![in alloc; Action::Hypercall(frame)]?;
     Ok(Work { pass, actions })
 }
 

@@ -1,7 +1,9 @@
 // A processor that another one deletes while it makes a rep call.
 ghost use Rattle.std.specs.Prelude.{◌≡◌};
 
-use crate::calls::{assert_events, both, call, delete, forty_reads, open, phase, root, settled};
+use crate::calls::{
+    assert_events, both, call, delete, forty_reads, open, phase, root, settled, small,
+};
 use crate::gates::Halt;
 use hv_abi::Status;
 use hv_history::{Answer, Asked};
@@ -73,7 +75,7 @@ fn deleted_as<L: Ledger + Send + Sync, R: Abort + Clock + Threads + Wait + Sync>
     requires { (blank.name ≡ L.name) × (blank.parts ≡ L.parts) × (blank.parts ≡ 2) }
 {
     let reads = forty_reads(alloc, 1)?;
-    let (shared, first, second) = open::<L>(rt, alloc, blank, 100)?;
+    let (shared, first, second) = open::<L>(rt, alloc, blank, small(), 100)?;
     let works = both(alloc, (first, delete(alloc)), (second, reads))?;
     let gate = Halt::new(rt);
     let passes = phase(rt, alloc, &shared, &gate, works)?;

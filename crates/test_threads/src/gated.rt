@@ -1,10 +1,18 @@
-// A script whose processors are at work at the same time.
+// Processors that are at work at the same time, in a phase and in a script.
+ghost use Rattle.std.specs.Prelude.{◌≡◌};
 
-use crate::gates::Meeting;
+use crate::calls::{OWN_ID, assert_events, both, call, open, phase, settled, small};
+use crate::gates::{Handover, Meeting};
 use hv_options::Options;
 use hv_run::{Exit, run_gated};
+use hv_threads::Gate;
+use std::alloc::Global;
+use std::marker::Brand;
 use std::process::Abort;
+use std::sync::Wait;
+use std::sync::ledger::{Blank, Ledger};
 use std::test::Fail;
+use std::thread::Threads;
 
 const SCRIPT: &[u8] =
     b"boot 32 12 2 0x000000f700000044 9\n1.0 call 0x46 0 0 -\n1.1 call 0x46 0 0 -\n";
@@ -20,6 +28,12 @@ const ONE_FIRST: &[u8] = b"1 1.1 call 0000000000000046 ok 0000000000000000 01000
 events 2
 ";
 
+const IN_THREADS: Options<'static> = Options {
+    script: "",
+    serial: false,
+    table: false,
+};
+
 fn assert_done(rt: &impl Abort, exit: Exit, out: &[u8], err: &[u8]) {
     assert_eq!(rt; exit, Exit::Done);
     assert_eq!(rt; err, b"".as_slice());
@@ -30,15 +44,92 @@ fn assert_done(rt: &impl Abort, exit: Exit, out: &[u8], err: &[u8]) {
 fn scripts_overlap(rt: HostRuntime) -> Result<(), Fail> {
     let alloc = rt.alloc();
     let gate = Meeting::new(&rt);
-    let options = Options {
-        script: "",
-        serial: false,
-        table: false,
-    };
     let mut out: Vec<u8> = Vec::new(alloc);
     let mut err: Vec<u8> = Vec::new(alloc);
-    let exit = run_gated(&rt, alloc, SCRIPT, &options, &gate, &mut out, &mut err);
+    let exit = run_gated(&rt, alloc, SCRIPT, &IN_THREADS, &gate, &mut out, &mut err);
     gate.assert_in_time(&rt);
     assert_done(&rt, exit, &out, &err);
+    Ok(())
+}
+
+const ONE_EVENT: &[u8] =
+    b"boot 32 12 2 0x000000f700000044 1\n1.0 call 0x46 0 0 -\n1.1 call 0x46 0 0 -\n";
+
+const OF_ZERO: &[u8] = b"1 1.0 call 0000000000000046 ok 0000000000000000 0100000000000000
+events 1
+";
+
+const OF_ONE: &[u8] = b"1 1.1 call 0000000000000046 ok 0000000000000000 0100000000000000
+events 1
+";
+
+fn assert_full(rt: &impl Abort, exit: Exit, out: &[u8], err: &[u8]) {
+    assert_eq!(rt; exit, Exit::Host);
+    assert_eq!(rt; err, b"hvpm: history full\n".as_slice());
+    assert!(rt; out == OF_ZERO || out == OF_ONE);
+}
+
+// Both processors ask at once, and the history has room for one of them.
+#[test]
+fn scripts_fill(rt: HostRuntime) -> Result<(), Fail> {
+    let alloc = rt.alloc();
+    let gate = Meeting::new(&rt);
+    let mut out: Vec<u8> = Vec::new(alloc);
+    let mut err: Vec<u8> = Vec::new(alloc);
+    let exit = run_gated(
+        &rt,
+        alloc,
+        ONE_EVENT,
+        &IN_THREADS,
+        &gate,
+        &mut out,
+        &mut err,
+    );
+    gate.assert_in_time(&rt);
+    assert_full(&rt, exit, &out, &err);
+    Ok(())
+}
+
+// A phase in which each processor asks for its own id.
+fn ask_both<L: Ledger + Send + Sync, R: Abort + Threads + Wait + Sync, G: Gate>(
+    rt: &R,
+    alloc: Global,
+    blank: Blank,
+    gate: &G,
+) -> Result<(), Fail>
+    requires { (blank.name ≡ L.name) × (blank.parts ≡ L.parts) × (blank.parts ≡ 2) }
+{
+    let (shared, first, second) = open::<L>(rt, alloc, blank, small(), 9)?;
+    let own = (call(OWN_ID, Vec::new(alloc)), call(OWN_ID, Vec::new(alloc)));
+    let works = both(alloc, (first, own.0), (second, own.1))?;
+    let passes = phase(rt, alloc, &shared, gate, works)?;
+    assert_events(rt, &settled(rt, shared, passes), 2);
+    Ok(())
+}
+
+#[test]
+fn phases_overlap(rt: HostRuntime) -> Result<(), Fail> {
+    let gate = Meeting::new(&rt);
+    ask_both::<Brand, HostRuntime, Meeting<'_, HostRuntime>>(
+        &rt,
+        rt.alloc(),
+        Blank::new(2),
+        &gate,
+    )?;
+    gate.assert_in_time(&rt);
+    Ok(())
+}
+
+// The lock is free when a gate is told that a hold is over.
+#[test]
+fn leaves_the_lock_first(rt: HostRuntime) -> Result<(), Fail> {
+    let gate = Handover::new(&rt);
+    ask_both::<Brand, HostRuntime, Handover<'_, HostRuntime>>(
+        &rt,
+        rt.alloc(),
+        Blank::new(2),
+        &gate,
+    )?;
+    gate.assert_in_time(&rt);
     Ok(())
 }

@@ -1,4 +1,4 @@
-// Gates: two at which the root's processors 0 and 1 wait for one another, for a while, and one that notes
+// Gates: some at which the root's processors 0 and 1 wait for one another, for a while, and one that notes
 // its turns.
 
 use hv_policy::Caller;
@@ -105,6 +105,49 @@ impl<'a, C: Clock + Sync> Gate for Halt<'a, C> {
     fn leave<R: Wait>(&self, _rt: &R, by: Caller, _turn: u64) {
         if by.vp == 0 {
             self.done.store(true, Ordering::SeqCst);
+        }
+    }
+}
+
+// Holds processor 0 back after its hold until processor 1 had one, too. Processor 1 begins its own no sooner. So
+// each comes in time only where the lock is free when `leave` is called.
+#[derive(Drop)]
+pub(crate) struct Handover<'a, C: Clock + Sync> {
+    clock: &'a C,
+    zero: AtomicBool,
+    one: AtomicBool,
+    late: AtomicBool,
+}
+
+impl<'a, C: Clock + Sync> Handover<'a, C> {
+    pub(crate) fn new(clock: &'a C) -> Handover<'a, C> {
+        Handover {
+            clock,
+            zero: AtomicBool::new(false),
+            one: AtomicBool::new(false),
+            late: AtomicBool::new(false),
+        }
+    }
+
+    // Each processor came in time.
+    pub(crate) fn assert_in_time(&self, rt: &impl Abort) {
+        assert!(rt; !self.late.load(Ordering::SeqCst));
+    }
+}
+
+impl<'a, C: Clock + Sync> Gate for Handover<'a, C> {
+    fn enter<R: Wait>(&self, _rt: &R, by: Caller, _turn: u64) {
+        if by.vp == 1 {
+            wait_for(self.clock, &self.zero, &self.late);
+        }
+    }
+
+    fn leave<R: Wait>(&self, _rt: &R, by: Caller, _turn: u64) {
+        if by.vp == 0 {
+            self.zero.store(true, Ordering::SeqCst);
+            wait_for(self.clock, &self.one, &self.late);
+        } else {
+            self.one.store(true, Ordering::SeqCst);
         }
     }
 }

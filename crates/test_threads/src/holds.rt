@@ -1,7 +1,7 @@
 // Rep calls of one processor alone and of two, which go on by sixteen elements at a time.
 ghost use Rattle.std.specs.Prelude.{◌≡◌};
 
-use crate::calls::{assert_events, both, forty_reads, open, phase, root, settled};
+use crate::calls::{assert_events, both, forty_reads, open, phase, root, settled, small};
 use crate::gates::{Alternation, Notes};
 use hv_abi::Frame;
 use hv_history::{Answer, History};
@@ -59,7 +59,7 @@ fn reads_alone_as<L: Ledger, R: Abort + Wait>(
     requires { (blank.name ≡ L.name) × (blank.parts ≡ L.parts) × (blank.parts ≡ 2) }
 {
     let reads = forty_reads(alloc, 1)?;
-    let (shared, other, mut pass) = open::<L>(rt, alloc, blank, 100)?;
+    let (shared, other, mut pass) = open::<L>(rt, alloc, blank, small(), 100)?;
     read_forty(rt, &shared, &mut pass, reads)?;
     let kept = settled(rt, shared, vec![in alloc; other, pass]?);
     assert_events(rt, &kept, 40);
@@ -98,7 +98,7 @@ fn takes_turns_as<L: Ledger + Send + Sync, R: Abort + Clock + Threads + Wait + S
     requires { (blank.name ≡ L.name) × (blank.parts ≡ L.parts) × (blank.parts ≡ 2) }
 {
     let reads = (forty_reads(alloc, 0)?, forty_reads(alloc, 1)?);
-    let (shared, first, second) = open::<L>(rt, alloc, blank, 100)?;
+    let (shared, first, second) = open::<L>(rt, alloc, blank, small(), 100)?;
     let works = both(alloc, (first, reads.0), (second, reads.1))?;
     let gate = Alternation::new(rt);
     let passes = phase(rt, alloc, &shared, &gate, works)?;

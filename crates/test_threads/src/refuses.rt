@@ -1,12 +1,14 @@
 // What the host refuses, since the history is full.
 ghost use Rattle.std.specs.Prelude.{◌≡◌};
 
-use crate::calls::{OWN_ID, assert_events, call, forty_reads, open, settled};
+use crate::calls::{
+    OWN_ID, assert_events, assert_pooled, call, forty_reads, numbers, open, settled, small,
+};
 use crate::gates::Notes;
 use hv_abi::{Frame, ResultValue};
 use hv_history::{Answer, HostRefused};
 use hv_policy::{Action, Reply};
-use hv_threads::{DriveRefused, Pass, Receipts, Shared};
+use hv_threads::{DriveRefused, Open, Pass, Receipts, Shared};
 use std::alloc::Global;
 use std::marker::Brand;
 use std::process::Abort;
@@ -68,7 +70,7 @@ fn refuses_as<L: Ledger, R: Abort + Wait>(rt: &R, alloc: Global, blank: Blank) -
     requires { (blank.name ≡ L.name) × (blank.parts ≡ L.parts) × (blank.parts ≡ 2) }
 {
     let reads = forty_reads(alloc, 1)?;
-    let (shared, other, mut pass) = open::<L>(rt, alloc, blank, 20)?;
+    let (shared, other, mut pass) = open::<L>(rt, alloc, blank, small(), 20)?;
     let gate = Notes::new();
     read_twenty(rt, &shared, &gate, &mut pass, reads);
     ask_once(rt, &shared, &gate, &mut pass, call(OWN_ID, Vec::new(alloc)));
@@ -82,4 +84,44 @@ fn refuses_as<L: Ledger, R: Abort + Wait>(rt: &R, alloc: Global, blank: Blank) -
 #[test]
 fn refuses(rt: HostRuntime) -> Result<(), Fail> {
     refuses_as::<Brand, HostRuntime>(&rt, rt.alloc(), Blank::new(2))
+}
+
+// Partition 2 is made, and gets two of three pages. The history has no room for the third.
+fn fill<L: Ledger, R: Abort + Wait>(
+    rt: &R,
+    alloc: Global,
+    shared: &Shared<L>,
+    pass: &mut Pass<L>,
+) -> Result<(), Fail> {
+    let create = call(0x40, numbers(alloc, 0, 0..0)?);
+    let (made, _) = shared.drive(rt, pass, &Open, create)?;
+    assert_eq!(rt; made.bits(), 0);
+    let deposits = call(0x3_0000_0048, numbers(alloc, 2, 12..15)?);
+    let wanted = DriveRefused {
+        why: HostRefused::HistoryFull,
+        next: 2,
+    };
+    match shared.drive(rt, pass, &Open, deposits) {
+        Ok(_) => panic!(rt; "the history has room for two elements"),
+        Err(refused) => assert_eq!(rt; refused, wanted),
+    }
+    Ok(())
+}
+
+fn fills_as<L: Ledger, R: Abort + Wait>(rt: &R, alloc: Global, blank: Blank) -> Result<(), Fail>
+    requires { (blank.name ≡ L.name) × (blank.parts ≡ L.parts) × (blank.parts ≡ 2) }
+{
+    let (shared, mut pass, other) = open::<L>(rt, alloc, blank, small(), 3)?;
+    fill(rt, alloc, &shared, &mut pass)?;
+    assert_eq!(rt; pass.receipts().len(), 3);
+    let kept = settled(rt, shared, vec![in alloc; pass, other]?);
+    assert_events(rt, &kept, 3);
+    assert_pooled(rt, &kept, 2, 12..14);
+    Ok(())
+}
+
+// A call that makes and one that gives pages fill the history in mid-call.
+#[test]
+fn fills(rt: HostRuntime) -> Result<(), Fail> {
+    fills_as::<Brand, HostRuntime>(&rt, rt.alloc(), Blank::new(2))
 }

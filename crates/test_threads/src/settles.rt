@@ -2,11 +2,13 @@
 // and without one.
 ghost use Rattle.std.specs.Prelude.{◌≡◌};
 
-use crate::calls::{assert_pooled, both, call, last_of, numbers, open, phase, root, settled};
+use crate::calls::{
+    assert_pooled, both, call, last_of, numbers, open, phase, root, settled, small,
+};
 use hv_abi::Frame;
 use hv_history::{Answer, Asked, EntryRef, Kept};
-use hv_policy::{Action, Reply};
-use hv_threads::{Open, Pass, SettleFault, SettleRefused, Shared, Work, perform, settle};
+use hv_policy::{Action, Config, Reply};
+use hv_threads::{Open, Pass, SettleFault, SettleRefused, Shared, Work, settle};
 use std::alloc::Global;
 use std::marker::Brand;
 use std::ops::Range;
@@ -33,7 +35,7 @@ fn make_two<L: Ledger, R: Abort + Wait>(
     let made = shared.call(rt, pass, &Open, create)?;
     assert!(rt; matches!(made, Reply::Served(_)));
     let create = Action::Hypercall(call(CREATE, Vec::new(alloc)));
-    perform(rt, shared, &Open, pass, create)?;
+    shared.call(rt, pass, &Open, create)?;
     Ok(())
 }
 
@@ -61,7 +63,12 @@ fn fill<L: Ledger + Send + Sync, R: Abort + Threads + Wait + Sync>(
 ) -> Result<(Shared<L>, Vec<Pass<L>>), Fail>
     requires { (blank.name ≡ L.name) × (blank.parts ≡ L.parts) × (blank.parts ≡ 2) }
 {
-    let (shared, mut first, second) = open::<L>(rt, alloc, blank, 1000)?;
+    let config = Config {
+        pages: 60,
+        pool: 20,
+        ..small()
+    };
+    let (shared, mut first, second) = open::<L>(rt, alloc, blank, config, 1000)?;
     make_two(rt, alloc, &shared, &mut first)?;
     let works = works_of(alloc, first, second)?;
     let passes = phase(rt, alloc, &shared, &Open, works)?;

@@ -1,4 +1,8 @@
-use Rattle.std.proofs.Common.{◌≡◌, take, subst, arith, ◌∙◌}
+use Rattle.std.proofs.Common.{◌≡◌, List, ℕ, take, subst, sym, refl, ap, arith, ◌∙◌}
+use Rattle.hv_history.specs.Row.{next_in}
+use Rattle.hv_history.specs.Run.{IsMore, restart}
+use Rattle.hv_policy.specs.declared.reply.Reply.{Reply}
+use Rattle.hv_policy.specs.declared.reply.Reply.TheVariants.{More}
 use Rattle.hv_embed.specs.Run.{IsAtMore}
 use Rattle.hv_embed.proofs.Elements.{one_more}
 use Rattle.hv_embed.proofs.run.run_on.Goals as goal
@@ -7,16 +11,17 @@ pub loop-more-preserved : goal.loop-more-preserved
 loop-more-preserved c =
     let l = c.loop-more in
     let was = l.invariant in
-    let told = c.in-Some.told in
-    let taken = c.in-Some.ensures in
-    let m = c.take_next.new.machine in
-    let next = c.take_next.new.frame in
+    let taken = c.in-Ok.ensures in
+    let output : List ℕ = take c.parts.result.2 c.parts.result.1 in
+    let more : l.last ≡ More c.in-Some.next output = sym c.parts.ensures.reply ∙ c.in-Some.ensures.some output in
+    let next : c.restart.new.frame ≡ restart l.frame (next_in l.last) = c.restart.ensures ∙ ap (λ (r : Reply). restart l.frame (next_in r)) (sym more) in
     record {
-      ran = λ ran at. one_more c.args.by l.machine m l.frame next l.last told taken.reply taken.state l.more ran (take l.at l.outputs) (take c.put_out.result c.put_out.new.outputs) taken.frame taken.more
-          c.put_out.ensures.bytes (was.ran ran at);
+      ran = λ ran at. one_more c.args.by l.machine c.hypercall.new.self l.frame c.restart.new.frame l.last c.in-Ok.reply taken.reply taken.state l.more ran (take l.at l.outputs) (take c.put_out.result c.put_out.new.outputs)
+          next (subst IsMore (sym more) tt) c.put_out.ensures.bytes (was.ran ran at);
+      count = omega arith;
       place = omega arith;
       few = omega arith;
-      index = taken.index;
+      index = taken.result c.restart.new.frame refl;
       pages = taken.pages ∙ was.pages;
       lasting = taken.lasting;
       sound = taken.sound;
@@ -25,5 +30,5 @@ loop-more-preserved c =
 pub returns-clause-ran : goal.returns-clause-ran
 returns-clause-ran c = λ ran at.
     let l = c.loop-more in
-    let all : l.more ≡ c.args.most = omega arith in
+    let all : l.more ≡ c.from.result = omega arith in
     subst (λ n. IsAtMore n c.args.by ran l.machine l.frame l.last (take l.at l.outputs)) all (l.invariant.ran ran at)

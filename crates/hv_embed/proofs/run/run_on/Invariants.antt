@@ -8,6 +8,7 @@ use Rattle.hv_embed.proofs.run.run_on.Given as goal
 abbrev pub invariant-loop-more : goal.invariant-loop-more
 invariant-loop-more l = record {
   ran : (ran : Ran) → IsAt ran l.fn.machine l.fn.frame l.fn.last (take l.fn.at l.fn.outputs) → IsAtMore l.more l.by ran l.machine l.frame l.last (take l.at l.outputs);
+  count : l.events ≡ l.fn.events + l.more;
   place : l.at ≤ length l.outputs;
   few : l.at ≤ l.fn.at + 16 * l.more;
   index : HasResult l.last;

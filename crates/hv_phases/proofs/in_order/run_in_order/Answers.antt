@@ -1,36 +1,29 @@
-use Rattle.std.proofs.Common.{◌≡◌, [], rules, ap, subst, ◌∙◌}
-use Rattle.std.specs.Prelude.{reverse}
-use Rattle.std.proofs.lemmas.List.{reverse-reverse}
-use Rattle.hv_policy.specs.declared.event.Caller.{Caller}
-use Rattle.hv_phases.specs.Lines.{HasDone, IsNextTurn}
-use Rattle.hv_phases.proofs.Alone.{alone_ends, alone_first, alone_more}
-use Rattle.hv_phases.proofs.Handing.{if_none, some_left, taken}
+use Rattle.std.proofs.Common.{◌≡◌, None, Some, refl, [], ◌∷◌, ◌++◌, rules}
+use Rattle.std.specs.declared.alloc.Global.{Global}
+use Rattle.hv_phases.specs.Crew.{IsThere}
+use Rattle.hv_phases.proofs.Handing.{all_turned, before_last, between_ends, last_of}
+use Rattle.hv_phases.proofs.InOrder.{in_turn_first, in_turn_line}
 use Rattle.hv_phases.proofs.in_order.run_in_order.Goals as goal
+use Rattle.hv_script.specs.declared.line.Line.{Line}
 
-pub loop-turn-init : goal.loop-turn-init
-loop-turn-init c = alone_first _ _ _ _ (ap reverse c.reverse.ensures ∙ reverse-reverse c.args.lines) c.requires
+pub loop-line-init : goal.loop-line-init
+loop-line-init g c = record {
+  between = λ none. in_turn_first c.args.lines.items c.reverse.new.self.items (Some 0) c.args.crew.now c.reverse.ensures.items refl c.requires.ready;
+  named = all_turned (λ (line : Line Global). IsThere c.args.crew.now line.by) c.args.lines.items c.reverse.new.self.items c.reverse.ensures.items c.requires.named;
+}
 
-pub take_last-action-requires : goal.take_last-action-requires
-take_last-action-requires c =
-    let last = c.in-Some.ensures.some in
-    let next : IsNextTurn c.loop-turn.left c.in-Some.turn = record { rest = last.0; line = last.1; order = last.2; by = last.4 } in
-    record { some = some_left _ _ next }
+pub loop-line-preserved : goal.loop-line-preserved
+loop-line-preserved g c =
+    let i = c.loop-line.invariant in
+    let popped : c.loop-line.left.items ≡ c.pop.new.self.items ++ c.in-Some.line ∷ [] = c.in-Some.ensures.items in
+    let there = last_of (λ (line : Line Global). IsThere c.args.crew.now line.by) c.loop-line.left.items c.pop.new.self.items c.in-Some.line popped i.named in
+    record {
+      between = λ none. in_turn_line _ _ _ c.in-Some.line _ _ _ _ _ (i.between none) popped there c.in_default-run_line.ensures.done c.in_default-run_line.ensures.order;
+      named = before_last (λ (line : Line Global). IsThere c.args.crew.now line.by) c.loop-line.left.items c.pop.new.self.items c.in-Some.line popped i.named;
+    }
 
-pub loop-turn-preserved : goal.loop-turn-preserved
-loop-turn-preserved c =
-    let last = c.in-Some.ensures.some in
-    let next : IsNextTurn c.loop-turn.left c.in-Some.turn = record { rest = last.0; line = last.1; order = last.2; by = last.4 } in
-    let took = c.take_last-action.ensures last.0 last.1 last.2 in
-    let ran = c.run_line.ensures in
-    alone_more _ _ _ _ _ _ _ _ _ c.loop-turn.invariant (taken _ _ _ next (c.give_back.ensures ∙ took.0)) ran.config ran.limit ran.going
-    (λ none. subst (λ (by : Caller). HasDone by last.1.action c.loop-turn.kept c.run_line.new.kept) last.4 (ran.done last.1.action took.1 none))
-
-pub returns-clause-lines : goal.returns-clause-lines
-returns-clause-lines c =
-    let none : c.loop-turn.left ≡ [] = search rules in
-    if_none c.first-2.result _ _ (λ is. (alone_ends _ _ _ _ _ c.loop-turn.invariant none is).0) c.first-2.ensures
-
-pub returns-clause-order : goal.returns-clause-order
-returns-clause-order c =
-    let none : c.loop-turn.left ≡ [] = search rules in
-    if_none c.first-2.result _ _ (λ is. (alone_ends _ _ _ _ _ c.loop-turn.invariant none is).1) c.first-2.ensures
+pub returns-in-None-Some-clause-run : goal.returns-in-None-Some-clause-run
+returns-in-None-Some-clause-run g c =
+    let none : c.loop-line.left.items ≡ [] = search rules in
+    let is : c.loop-line.stop ≡ None = search rules in
+    between_ends _ _ _ _ (c.loop-line.invariant.between is).between none

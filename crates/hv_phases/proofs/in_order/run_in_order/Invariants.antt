@@ -1,9 +1,14 @@
-use Rattle.std.proofs.Common.{length}
-use Rattle.hv_phases.proofs.Alone.{IsAlone}
+use Rattle.std.proofs.Common.{◌≡◌, None, length}
+use Rattle.std.specs.Prelude.{All}
+use Rattle.hv_phases.specs.Crew.{IsThere}
+use Rattle.hv_phases.proofs.InOrder.{IsBetweenInTurn}
 use Rattle.hv_phases.proofs.in_order.run_in_order.Given as goal
 
-abbrev pub invariant-loop-turn : goal.invariant-loop-turn
-invariant-loop-turn l = IsAlone l.fn.lines l.left l.stops.first l.fn.kept l.kept
+abbrev pub invariant-loop-line : goal.invariant-loop-line
+invariant-loop-line g l = record {
+  between : l.stop ≡ None → IsBetweenInTurn l.fn.lines.items l.left.items l.turn l.fn.crew l.crew;
+  named : All (λ line. IsThere l.fn.crew line.by) l.left.items;
+}
 
-abbrev pub decreases-loop-turn : goal.decreases-loop-turn
-decreases-loop-turn l = length l.left
+abbrev pub decreases-loop-line : goal.decreases-loop-line
+decreases-loop-line g l = length l.left.items

@@ -1,23 +1,39 @@
-use Rattle.std.proofs.Common.{ap}
-use Rattle.hv_shared.specs.PassValue.{PassValue}
-use Rattle.hv_phases.proofs.Crews.{given}
-use Rattle.hv_phases.proofs.Telling.{tells_set}
+use Rattle.std.proofs.Common.{◌≡◌, List, [], ◌∷◌, ◌++◌, None, Some, ap, length, refl, rules, sym, subst, ◌∙◌}
+use Rattle.std.specs.Prelude.{is_some}
+use Rattle.std.specs.List.{Contains}
+use Rattle.std.proofs.lemmas.List.Elements.{Contains-append_left, Contains-push}
+use Rattle.hv_policy.specs.declared.event.Caller.{Caller}
+use Rattle.hv_phases.specs.Crew.{member_of}
+use Rattle.hv_phases.specs.declared.crew.Member.{Member}
+use Rattle.hv_phases.proofs.Members.{given_more, none_there}
+use Rattle.hv_phases.proofs.Written.{found_at, here, not_empty, others}
 use Rattle.hv_phases.proofs.in_threads.give.Goals as goal
+use Rattle.hv_phases.proofs.in_threads.give.Goals.{then-is_empty+in_ok-push, else-is_empty}
 
-pub returns-then-place-members-clause-given : goal.returns-then-place-members-clause-given
-returns-then-place-members-clause-given g c = λ line by action.
-    let is = c.enlist-place.ensures in
-    let did = c.in_ok-push_action.ensures in
-    given _ _ _ _ _ _ is.same is.there.1 is.by (ap (λ (p : PassValue). p.caller) did.pass) c.requires.different line by _ action did.pass did.end did.action
+pub returns-in_default : goal.returns-in_default
+returns-in_default g c =
+    absurd (none_there (member_of c.args.line.by c.args.crew.now) (found_at c.args.line.by c.key_of.result c.key_of.ensures c.args.crew.now None c.in_default.ensures.value) c.requires)
 
-pub returns-else-place-members-clause-given : goal.returns-else-place-members-clause-given
-returns-else-place-members-clause-given g c = λ line by action.
-    let is = c.enlist-place.ensures in
-    let did = c.in_ok-push_action.ensures in
-    given _ _ _ _ _ _ is.same is.there.1 is.by (ap (λ (p : PassValue). p.caller) did.pass) c.requires.different line by _ action did.pass did.end did.action
-
-pub returns-then-place-members-clause-index : goal.returns-then-place-members-clause-index
-returns-then-place-members-clause-index g c = tells_set c.enlist-place.new.places c.enlist-place.new.tasks _ _ _ (ap (λ (p : PassValue). p.caller) c.in_ok-push_action.ensures.pass) c.enlist-place.ensures.index
-
-pub returns-else-place-members-clause-index : goal.returns-else-place-members-clause-index
-returns-else-place-members-clause-index g c = tells_set c.enlist-place.new.places c.enlist-place.new.tasks _ _ _ (ap (λ (p : PassValue). p.caller) c.in_ok-push_action.ensures.pass) c.enlist-place.ensures.index
+pub returns : goal.returns
+returns g c =
+    let m = c.in-Some.member.now in
+    let n : Member g.row.L.Denot = record { pass = m.pass; asked = c.push-2.new.self; stopped = m.stopped } in
+    let by = c.args.line.by in
+    let key = c.key_of.result in
+    let old = c.args.crew.now in
+    let new = c.get_mut.follows.lender n in
+    let did = (c.get_mut.follows.holds n).3 (ap is_some (sym c.in-Some.ensures.value)) in
+    let xs = c.args.members.now.items in
+    let ys = c.if-is_empty.members.items in
+    let kept : (x : Caller) → Contains xs x → Contains ys x = λ x there.
+    elim c.if-is_empty.branch [
+      | then-is_empty+in_ok-push w ↦ let is : ys ≡ xs ++ by ∷ [] = search rules in subst (λ (zs : List Caller). Contains zs x) (sym is) (Contains-append_left xs (by ∷ []) x there)
+      | else-is_empty w ↦ let is : ys ≡ xs = search rules in subst (λ (zs : List Caller). Contains zs x) (sym is) there
+    ] in
+    let noted : m.asked.items ≡ [] → Contains ys by = λ idle.
+    elim c.if-is_empty.branch [
+      | then-is_empty+in_ok-push w ↦ let is : ys ≡ xs ++ by ∷ [] = search rules in subst (λ (zs : List Caller). Contains zs by) (sym is) (Contains-push xs by)
+      | else-is_empty w ↦ absurd (not_empty m.asked.len c.is_empty.result c.is_empty.ensures w.if-is_empty.false (m.asked.ok.0 ∙ ap length idle))
+    ] in
+    given_more c.args.line old new m n (found_at by key c.key_of.ensures old (Some m) c.in-Some.ensures.value)
+    (here by key c.key_of.ensures old new (Some n) did) (others by key c.key_of.ensures old new (Some n) did) refl refl c.in_ok-push-2.ensures.items xs ys kept noted

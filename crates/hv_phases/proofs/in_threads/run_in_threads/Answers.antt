@@ -1,31 +1,26 @@
-use Rattle.std.proofs.Common.{◌≡◌, [], rules, subst, sym}
-use Rattle.hv_phases.specs.Places.{Tells}
-use Rattle.hv_phases.proofs.Crews.{going_after, same_callers}
-use Rattle.hv_phases.proofs.Handing.{between_ends, between_more, handed_fewer, named_left}
+use Rattle.std.proofs.Common.{◌≡◌, List, [], ◌∷◌, ◌++◌, rules, subst}
+use Rattle.std.specs.declared.alloc.Global.{Global}
+use Rattle.hv_policy.specs.declared.event.Caller.{Caller}
+use Rattle.hv_phases.specs.Crew.{HasRunPhase, IsThere}
+use Rattle.hv_phases.proofs.Handing.{before_last, between_ends, between_more, named_after}
 use Rattle.hv_phases.proofs.in_threads.run_in_threads.Goals as goal
-
-pub hand_out-requires-clause-first : goal.hand_out-requires-clause-first
-hand_out-requires-clause-first g c = let last = c.in-Some.ensures.some in record { rest = last.0; line = last.1; order = last.2; by = last.4 }
-
-pub hand_out-requires-clause-named : goal.hand_out-requires-clause-named
-hand_out-requires-clause-named g c = named_left _ _ _ _ c.loop-first.invariant.between.order c.loop-first.invariant.between.callers
-
-pub loop-first-smaller : goal.loop-first-smaller
-loop-first-smaller g c = handed_fewer _ _ _ _ c.in-Ok.ensures.handed_out
+use Rattle.hv_script.specs.declared.line.Line.{Line}
 
 pub loop-first-preserved : goal.loop-first-preserved
 loop-first-preserved g c =
-    let between = c.loop-first.invariant.between in
+    let i = c.loop-first.invariant in
+    let rest = c.pop.new.self.items in
+    let after = c.hand_out.new.left.items in
     let handed = c.in-Ok.ensures in
-    let long = c.run_members.auto.tasks in
-    let did = c.run_members.ensures in
+    let popped : c.loop-first.left.items ≡ rest ++ c.in-Some.first ∷ [] = c.in-Some.ensures.items in
     record {
-      between = between_more _ _ _ _ _ _ c.in-Ok.members between handed.handed_out handed.idle.1 long did.done did.rest
-          (going_after _ _ c.in-Ok.members long did.done did.rest handed.idle.0 (handed.handed_out.going between.going) c.in_default-first_stop.ensures.none);
-      index = subst (Tells c.hand_out.new.places) (sym (same_callers _ _ c.in-Ok.members long did.done did.rest)) handed.index;
+      between = between_more _ _ rest after c.in-Some.first c.in-Ok.members.items _ _ c.hand_out.new.crew _ i.between popped handed
+          (subst (λ (ms : List Caller). HasRunPhase ms c.hand_out.new.crew c.run_members.new.crew) c.deref.ensures.value c.in_default-run_members.ensures);
+      named = named_after (λ (line : Line Global). IsThere c.args.crew.now line.by) rest after handed.more handed.order
+          (before_last (λ (line : Line Global). IsThere c.args.crew.now line.by) c.loop-first.left.items rest c.in-Some.first popped i.named);
     }
 
 pub returns : goal.returns
 returns g c =
-    let none : c.loop-first.left ≡ [] = search rules in
-    between_ends _ _ _ c.loop-first.invariant.between none
+    let none : c.loop-first.left.items ≡ [] = search rules in
+    between_ends _ _ _ _ c.loop-first.invariant.between none

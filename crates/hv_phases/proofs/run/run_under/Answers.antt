@@ -1,5 +1,6 @@
 use Rattle.std.proofs.Common.{Option, Some, None, IfNone}
 use Rattle.std.specs.Prelude.{IsNone}
+use Rattle.hv_phases.proofs.InOrder.{settled_in_order}
 use Rattle.hv_phases.proofs.Settled.{settled}
 use Rattle.hv_phases.proofs.run.run_under.Goals as goal
 
@@ -9,6 +10,15 @@ both None None P Q R f none p q = f p q
 both None (Some y) P Q R f none p q = cc
 both (Some x) s P Q R f none p q = tt
 
+and_none : {Y : Type 0} (s : Option Y) (P Q : Type 0) → IfNone s P → IfNone s Q → IfNone s (P × Q)
+and_none None P Q p q = (p, q)
+and_none (Some y) P Q p q = tt
+
 pub returns-in-Ok-new-clause-lines : goal.returns-in-Ok-new-clause-lines
 returns-in-Ok-new-clause-lines g c =
-    both c.finish.result.1 c.run_on-stop.result _ _ _ (λ ran merge. settled c.args.lines _ _ ran merge) c.finish.ensures.stop c.run_on-stop.ensures c.finish.ensures.merge
+    both c.finish.result.1 c.run_on-stop.result _ _ _ (λ ran merge. settled c.args.lines.items _ _ ran merge) c.finish.ensures.stop c.run_on-stop.ensures.run c.finish.ensures.merge
+
+pub returns-in-Ok-new-clause-order : goal.returns-in-Ok-new-clause-order
+returns-in-Ok-new-clause-order g c = λ serial.
+    both c.finish.result.1 c.run_on-stop.result _ _ _ (λ run merge. settled_in_order c.args.lines.items _ _ run.0 merge run.1) c.finish.ensures.stop
+    (and_none c.run_on-stop.result _ _ c.run_on-stop.ensures.run (c.run_on-stop.ensures.order serial)) c.finish.ensures.merge

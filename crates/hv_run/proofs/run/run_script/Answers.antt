@@ -1,4 +1,4 @@
-use Rattle.std.proofs.Common.{◌≡◌, ◌∙◌, Option, None, Some, Result, Ok, Err, IfErr, IfNone, OnOk, IsSome, IsNone, IsErr, refl, subst, sym}
+use Rattle.std.proofs.Common.{◌≡◌, ◌∙◌, Option, None, Some, Result, Ok, Err, IfErr, IfNone, OnErr, OnOk, IsSome, IsNone, IsErr, inr, refl, subst, sym}
 use Rattle.hv_run.specs.Failure.{exit_of}
 use Rattle.hv_run.specs.declared.failure.Exit.TheVariants.{Host, Script}
 use Rattle.hv_run.specs.declared.failure.Failure.{Failure}
@@ -32,6 +32,11 @@ whole : {S : Type 0} (unfinished : Option S) (P : Type 0) → IsNone unfinished 
 whole None P none holds = holds
 whole (Some why) P none holds = cc
 
+-- what holds in any case
+in_any : {T F : Type 0} (result : Result T F) (P : Type 0) → P → OnErr result P
+in_any (Ok value) P holds = tt
+in_any (Err failure) P holds = holds
+
 pub returns-clause-told : goal.returns-clause-told
 returns-clause-told g c =
     let ran = c.run_lines-kept.ensures in
@@ -49,3 +54,6 @@ returns-clause-told g c =
 
 pub returns-clause-silent : goal.returns-clause-silent
 returns-clause-silent g c = on_err _ _ _ _ c.ended.ensures.stop c.ended.ensures.written c.print.ensures.host
+
+pub returns-clause-unfinished : goal.returns-clause-unfinished
+returns-clause-unfinished g c = in_any _ _ (inr (record { kept = c.run_lines-kept.result.0; run = c.print.ensures.run; told = c.print.ensures.part }))

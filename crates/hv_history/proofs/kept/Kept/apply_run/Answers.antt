@@ -1,17 +1,25 @@
-use Rattle.hv_history.proofs.Elements.{ran_with, some_last}
+use Rattle.std.proofs.Common.{◌≡◌, ◌≢◌, ◌+◌, ◌++◌, refl, sym, ◌∙◌, rules}
+use Rattle.hv_policy.specs.declared.reply.Reply.TheVariants.{More}
+use Rattle.hv_history.proofs.Elements.{ends_in, goes_on, stopped}
+use Rattle.hv_history.specs.Run.{element}
 use Rattle.hv_history.proofs.kept.Kept.apply_run.Goals as goal
 
-pub last_reply-requires : goal.last_reply-requires
-last_reply-requires g c =
-    let did = rw c.in-Ok.is at c.take_run-events.ensures.ran in
-    some_last c.args.by c.args.frame _ c.in-Ok.field-0 _ c.args.most c.args.self.now c.take_run-events.new.self did
+pub returns-in-Err-apply_next-clause-stopped : goal.returns-in-Err-apply_next-clause-stopped
+returns-in-Err-apply_next-clause-stopped g c =
+    let l = c.loop-next in
+    let more : l.last ≡ More c.in-Some.next c.parts.result.1.now = sym c.parts.ensures.reply ∙ c.in-Some.ensures.some c.parts.result.1.now in
+    let fewer : l.events ≢ c.args.most = search rules in
+    stopped c.args.by c.args.frame l.last l.events c.args.most c.args.self.now l.self l.invariant.so_far c.in-Some.next c.parts.result.1.now more c.apply_next.new.self c.in-Err-apply_next.ensures.refused fewer
 
-pub returns-in-Ok-clause-ran : goal.returns-in-Ok-clause-ran
-returns-in-Ok-clause-ran g c =
-    let did = rw c.in-Ok.is at c.take_run-events.ensures.ran in
-    ran_with c.args.by c.args.frame _ c.in-Ok.field-0 _ c.args.most c.args.self.now c.take_run-events.new.self did c.last_reply.result c.last_reply.ensures
-
-pub returns-in-Err-clause-stopped : goal.returns-in-Err-clause-stopped
-returns-in-Err-clause-stopped g c =
-    let did = rw c.in-Err.is at c.take_run-events.ensures.stopped in
-    did.so_far
+pub loop-next-preserved : goal.loop-next-preserved
+loop-next-preserved g c =
+    let l = c.loop-next in
+    let is = l.invariant.so_far in
+    let more : l.last ≡ More c.in-Some.next c.parts.result.1.now = sym c.parts.ensures.reply ∙ c.in-Some.ensures.some c.parts.result.1.now in
+    let fewer : l.events ≢ c.args.most = search rules in
+    let ends = ends_in c.args.by c.args.frame l.last l.events c.args.most c.args.self.now l.self is in
+    let taken = c.in-Ok-apply_next.ensures.applied (c.args.self.now.history ++ is.before) (record { event = element c.args.by is.last; reply = l.last }) is.last ends refl in
+    record {
+      so_far = goes_on c.args.by c.args.frame l.last l.events c.args.most c.args.self.now l.self is c.in-Some.next c.parts.result.1.now more c.in-Ok-apply_next.reply c.apply_next.new.self (l.events + 1) refl fewer taken;
+      run = c.in-Ok-apply_next.ensures.run;
+    }

@@ -1,0 +1,13 @@
+use Rattle.std.proofs.Common.{◌-◌}
+use Rattle.hv_history.proofs.Elements.{HasRunTo}
+use Rattle.hv_history.specs.Kept.{IsRun}
+use Rattle.hv_history.proofs.kept.Kept.apply_run.Given as goal
+
+abbrev pub invariant-loop-next : goal.invariant-loop-next
+invariant-loop-next g l = record {
+  so_far : HasRunTo l.fn.by l.fn.frame l.last l.events l.fn.most l.fn.self l.self;
+  run : IsRun l.self;
+}
+
+abbrev pub decreases-loop-next : goal.decreases-loop-next
+decreases-loop-next g l = l.fn.most - l.events

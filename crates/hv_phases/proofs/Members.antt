@@ -1,0 +1,161 @@
+-- A crew that changes at one processor.
+use Rattle.std.proofs.Common.{◌≡◌, List, [], ◌∷◌, ◌++◌, refl, sym, ap, ◌∙◌, subst, append-nil, Bool, false, Option, Some, None, inl, inr}
+use Rattle.std.specs.Prelude.{IsSome, is_some}
+use Rattle.std.specs.List.{Contains}
+use Rattle.std.proofs.lemmas.Bool.{false≢true}
+use Rattle.std.specs.declared.alloc.Global.{Global}
+use Rattle.hv_policy.specs.declared.event.Action.{Action}
+use Rattle.hv_policy.specs.declared.event.Caller.{Caller}
+use Rattle.hv_phases.specs.Crew.{Crew, Each, HasDone, HasGiven, HasJoined, HasRun, IsGiven, IsReady, IsWorkOf, StayThere, member_of}
+use Rattle.hv_phases.specs.Lines.{asked_by}
+use Rattle.hv_phases.specs.declared.crew.Member.{Member}
+use Rattle.hv_phases.proofs.Asked.{asked_by-append, asked_by_other, asked_by_own, whole-append}
+use Rattle.hv_phases.proofs.Named.{either}
+use Rattle.hv_script.specs.declared.line.Line.{Line}
+use Rattle.hv_shared.specs.PassValue.{PassValue}
+use Rattle.hv_threads.specs.Perform.{AreWhole, HasPerformed}
+use Rattle.hv_shared.specs.declared.receipts.Receipt.{Receipt}
+use Rattle.hv_threads.proofs.Working.{whole-push}
+use Rattle.hv_threads.specs.Phase.{HasEnded, IsDone}
+use Rattle.hv_threads.specs.declared.phase.Done.{Done}
+use Rattle.hv_threads.specs.declared.phase.End.{End}
+use Rattle.hv_threads.specs.declared.phase.End.TheVariants.{Finished}
+use Rattle.hv_threads.specs.declared.phase.Work.{Work}
+
+-- what a line adds to what is asked of its processor, and of another
+asked_more : (c : Caller) (taken : List (Line Global)) (line : Line Global) → line.by ≡ c → asked_by c (taken ++ line ∷ []) ≡ asked_by c taken ++ line.action ∷ []
+asked_more c taken line own = asked_by-append c taken (line ∷ []) ∙ ap (λ (acts : List (Action Global)). asked_by c taken ++ acts) (asked_by_own c line own)
+
+asked_still : (c : Caller) (taken : List (Line Global)) (line : Line Global) → (line.by ≡ c → ⊥) → asked_by c (taken ++ line ∷ []) ≡ asked_by c taken
+asked_still c taken line other =
+    asked_by-append c taken (line ∷ []) ∙ ap (λ (acts : List (Action Global)). asked_by c taken ++ acts) (asked_by_other c line other) ∙ append-nil (asked_by c taken)
+
+-- a line was run
+run_more : (line : Line Global) (ran : List (Line Global)) (p q : PassValue) → line.by ≡ p.caller → HasRun ran p → HasPerformed line.action p q → HasRun (ran ++ line ∷ []) q
+run_more line ran p q own run did =
+    subst (λ (c : Caller). AreWhole c (asked_by c (ran ++ line ∷ [])) q.receipts) (sym did.gained.caller)
+    (subst (λ (rs : List Receipt). AreWhole p.caller (asked_by p.caller (ran ++ line ∷ [])) rs) (sym did.gained.receipts)
+    (subst (λ (acts : List (Action Global)). AreWhole p.caller acts (p.receipts ++ did.more)) (sym (asked_more p.caller ran line own))
+    (whole-push p.caller (asked_by p.caller ran) p.receipts line.action did.more run did.whole)))
+
+-- what a thread did that the host didn't stop
+pub worked : {L : Type 0} (ran taken : List (Line Global)) (work : Work L) (done : Done L) → IsDone work done.pass done.done done.end → done.end ≡ Finished → IsWorkOf ran taken work → HasRun (ran ++ taken) done.pass
+worked ran taken work done did finished is =
+    let by = work.pass.caller in
+    let a = did.account in
+    let e : HasEnded by Finished a.left a.part = subst (λ (end : End). HasEnded by end a.left a.part) finished a.ended in
+    let actions : a.did ≡ asked_by by taken = sym (append-nil a.did) ∙ ap (λ (l : List (Action Global)). a.did ++ l) (sym e.0) ∙ a.in_order ∙ is.asked in
+    let more : a.whole ≡ did.more = sym (append-nil a.whole) ∙ ap (λ (l : List Receipt). a.whole ++ l) (sym e.1) ∙ sym a.all in
+    subst (λ (c : Caller). AreWhole c (asked_by c (ran ++ taken)) done.pass.receipts) (sym did.gained.caller)
+    (subst (λ (rs : List Receipt). AreWhole by (asked_by by (ran ++ taken)) rs) (sym did.gained.receipts)
+    (subst (λ (acts : List (Action Global)). AreWhole by acts (work.pass.receipts ++ did.more)) (sym (asked_by-append by ran taken))
+    (whole-append by (asked_by by ran) (asked_by by taken) work.pass.receipts did.more is.run
+    (subst (λ (acts : List (Action Global)). AreWhole by acts did.more) actions (subst (λ (rs : List Receipt). AreWhole by a.did rs) more a.are_whole)))))
+
+-- nothing was asked of it
+pub idle_given : {L : Type 0} (ran taken : List (Line Global)) (m : Member L) → IsGiven ran taken m → m.asked.items ≡ [] → IsReady (ran ++ taken) m
+idle_given ran taken m given idle =
+    let c = m.pass.caller in
+    record {
+      run = subst (λ (acts : List (Action Global)). AreWhole c acts m.pass.receipts)
+          (sym (asked_by-append c ran taken ∙ ap (λ (acts : List (Action Global)). asked_by c ran ++ acts) (sym given.asked ∙ idle) ∙ append-nil (asked_by c ran))) given.run;
+      asked = idle;
+      going = given.going;
+    }
+
+pub some_is : {X : Type 0} (a b : X) → Some a ≡ Some b → a ≡ b
+some_is a b is = cc
+
+pub some_there : {X : Type 0} (o : Option X) (x : X) → o ≡ Some x → IsSome o
+some_there o x is = ap is_some is
+
+pub there_is : {X : Type 0} (o : Option X) → IsSome o → (x : X) × (o ≡ Some x)
+there_is None there = absurd (false≢true there)
+there_is (Some x) there = (x, refl)
+
+pub none_there : {X : Type 0} (o : Option X) → o ≡ None → IsSome o → ⊥
+none_there o none there = let is = sym none ∙ (there_is o there).1 in cc
+
+module _ {L S : Type 0} (old new : Crew L S) (by : Caller) (others : (c : Caller) → (c ≡ by → ⊥) → member_of c new ≡ member_of c old) where
+  -- what holds of each, where one was changed
+  pub each_changed : (P Q : Member L → Type 0) (n : Member L) → member_of by new ≡ Some n → n.pass.caller ≡ by → Q n
+      → ((c : Caller) (m : Member L) → (c ≡ by → ⊥) → m.pass.caller ≡ c → P m → Q m) → Each P old → Each Q new
+  each_changed P Q n here keyed holds stays each = λ c m is.
+      either by c
+      (λ same.
+      let e : n ≡ m = some_is n m (sym here ∙ ap (λ (x : Caller). member_of x new) (sym same) ∙ is) in
+      subst (λ (x : Member L). (x.pass.caller ≡ c) × Q x) e (keyed ∙ sym same, holds))
+      (λ other. let was = each c m (sym (others c other) ∙ is) in (was.0, stays c m other was.0 was.1))
+
+  -- what holds of each, where one was taken out
+  pub each_without : (P : Member L → Type 0) → member_of by new ≡ None → Each P old → Each P new
+  each_without P none each = λ c m is.
+      either by c
+      (λ same. let wrong = sym none ∙ ap (λ (x : Caller). member_of x new) (sym same) ∙ is in cc)
+      (λ other. each c m (sym (others c other) ∙ is))
+
+  pub stay_changed : (n : Member L) → member_of by new ≡ Some n → StayThere old new
+  stay_changed n here = λ c there.
+      either by c
+      (λ same. some_there (member_of c new) n (ap (λ (x : Caller). member_of x new) same ∙ here))
+      (λ other. subst (λ (o : Option (Member L)). IsSome o) (sym (others c other)) there)
+
+module _ {L S : Type 0} (line : Line Global) (old new : Crew L S) (m n : Member L) (was : member_of line.by old ≡ Some m) (here : member_of line.by new ≡ Some n)
+    (others : (c : Caller) → (c ≡ line.by → ⊥) → member_of c new ≡ member_of c old) where
+  not_own : (c : Caller) (x : Member L) → (c ≡ line.by → ⊥) → x.pass.caller ≡ c → line.by ≡ x.pass.caller → ⊥
+  not_own c x other keyed same = other (sym keyed ∙ sym same)
+
+  -- a line was handed to its processor
+  pub given_more : n.pass ≡ m.pass → n.stopped ≡ m.stopped → n.asked.items ≡ m.asked.items ++ line.action ∷ [] → (xs ys : List Caller) → ((c : Caller) → Contains xs c → Contains ys c)
+      → (m.asked.items ≡ [] → Contains ys line.by) → HasGiven line xs ys old new
+  given_more pass stopped asked xs ys kept noted =
+      record {
+        each = λ ran taken each.
+            let g = each line.by m was in
+            let same : n.pass.caller ≡ m.pass.caller = ap (λ (p : PassValue). p.caller) pass in
+            each_changed old new line.by others (IsGiven ran taken) (IsGiven ran (taken ++ line ∷ [])) n here (same ∙ g.0)
+            (record {
+              run = subst (HasRun ran) (sym pass) g.1.run;
+              asked = asked ∙ ap (λ (l : List (Action Global)). l ++ line.action ∷ []) g.1.asked ∙ sym (asked_more m.pass.caller taken line (sym g.0))
+                  ∙ ap (λ (c : Caller). asked_by c (taken ++ line ∷ [])) (sym same);
+              going = stopped ∙ g.1.going;
+            })
+            (λ c x other keyed is. record { run = is.run; asked = is.asked ∙ sym (asked_still x.pass.caller taken line (not_own c x other keyed)); going = is.going })
+            each;
+        busy = λ busy c x is.
+            either line.by c
+            (λ same. inl (subst (Contains ys) (sym same) (elim (busy line.by m was) [
+              | inl there ↦ kept line.by there
+              | inr idle ↦ noted idle
+            ])))
+            (λ other. elim (busy c x (sym (others c other) ∙ is)) [
+              | inl there ↦ inl (kept c there)
+              | inr idle ↦ inr idle
+            ]);
+        there = stay_changed old new line.by others n here;
+      }
+
+  -- a line was run
+  pub done_more : HasPerformed line.action m.pass n.pass → n.asked.items ≡ m.asked.items → n.stopped ≡ false → HasDone line old new
+  done_more did asked going =
+      record {
+        each = λ ran there each.
+            let g = each line.by m was in
+            each_changed old new line.by others (IsReady ran) (IsReady (ran ++ line ∷ [])) n here (did.gained.caller ∙ g.0)
+            (record { run = run_more line ran m.pass n.pass (sym g.0) g.1.run did; asked = asked ∙ g.1.asked; going = going })
+            (λ c x other keyed is. record {
+              run = subst (λ (acts : List (Action Global)). AreWhole x.pass.caller acts x.pass.receipts) (sym (asked_still x.pass.caller ran line (not_own c x other keyed))) is.run;
+              asked = is.asked;
+              going = is.going;
+            })
+            each;
+        there = stay_changed old new line.by others n here;
+      }
+
+-- a pass joined that has run these lines
+pub joined : {L S : Type 0} (pass : PassValue) (stopped : Bool) (old new : Crew L S) → HasJoined pass stopped old new → stopped ≡ false → (ran : List (Line Global)) → HasRun ran pass
+    → Each (IsReady ran) old → Each (IsReady ran) new
+joined pass stopped old new is going ran run each =
+    each_changed old new pass.caller is.others (IsReady ran) (IsReady ran) is.member is.here (ap (λ (p : PassValue). p.caller) is.pass_is)
+    (record { run = subst (HasRun ran) (sym is.pass_is) run; asked = is.idle; going = is.stopped_is ∙ going })
+    (λ c m other keyed ready. ready) each
