@@ -8,7 +8,8 @@
 # 0, nothing is told on standard error, the numbers of its audit rise from 1 by one to `events 5000`, and each processor's
 # lines are, but for their numbers, those of a run with --serial, in that order. The WORDs go to each run that is counted: with
 # --serial no threads run, and what passes is this script. HVPM, where it is set, is the program that is run, which is not
-# built then. The last line is 'N passed, M failed', and the status is 1 where a run failed.
+# built then. The last line is 'N passed, M failed', and the status is 1 where a run failed. It is 1, too, where a run before
+# these starts no thread for each processor but one, which the main thread may run, or with --serial any.
 set -eu
 
 root=$(cd -- "$(dirname -- "${BASH_SOURCE[0]}")/.." && pwd)
@@ -81,6 +82,16 @@ average() {
     awk '{ all += $1 + $2 } END { printf "%.1f ms", all * 1000 / NR }' "$1"
 }
 
+# Whether a run with the words starts a thread for each processor but one, or with --serial none.
+starts_threads() {
+    local started
+    : >"$folder/started"
+    STARTED="$folder/started" LD_PRELOAD="$folder/threads.so" run "$folder/counted_times" "$@"
+    started=$(wc -c <"$folder/started")
+    echo "threads that a run starts: $started"
+    if [[ " $* " == *" --serial "* ]]; then ((started == 0)); else ((started >= processors - 1)); fi
+}
+
 # The serial runs. Each event is served, so that none of the lines is there for a mistake of the script.
 for ((i = 0; i < runs && i < 100; i++)); do run "$folder/serial_times" --serial; done
 cp -- "$folder/audit" "$folder/serial"
@@ -89,6 +100,9 @@ if [[ $(<"$folder/status") != 0 || $(tail -n 1 -- "$folder/serial") != "events $
     echo "the serial run is not $events events that are served"
     exit 1
 fi
+
+"${CC:-cc}" -std=c11 -Wall -Wextra -Werror -O2 -fPIC -shared "$root/bench/threads.c" -o "$folder/threads.so" -ldl
+starts_threads "$@" || { echo "these are not the threads of $processors processors"; exit 1; }
 
 failed=0
 others=0
