@@ -117,6 +117,16 @@ def a_command_that_cannot_run_is_told_once():
 
 
 @test
+def the_two_runs_of_a_made_script_have_a_file_each():
+    with tempfile.TemporaryDirectory() as room:
+        log = Path(room) / "scripts"
+        note = 'for last; do :; done; echo "$last" >>"$0"; echo events 0'
+        run("-j", "2", "--case", "interface/ports/many", "sh", "-c", note, str(log))
+        scripts = [line for line in log.read_text().splitlines() if line.endswith("/many.hv")]
+        assert len(scripts) == 2 and len(set(scripts)) == 2, f"the scripts were {scripts}"
+
+
+@test
 def names_of_rules_are_compared_where_they_are_wanted():
     must(oracle("rules"), 1, "\n0 passed, 1 failed\n")
     must(oracle("rules", "--no-rules"), 0, "\n1 passed, 0 failed\n")
