@@ -90,6 +90,8 @@ impl<A: Allocator + Copy> Kept<A> {
 impl<A: Allocator + Clone> Kept<A> {
     /// Lets an event happen, and answers its number and its reply. Numbers count from 1, in the order in
     /// which events happen. An event that the host refuses is let go.
+    // Inlined: calls for the own id in bench/largest.sh.
+    #[inline(always)]
     pub fn apply(&mut self, event: Event<A>) -> Result<(u64, Reply), HostRefused>
         // The history has the event with its reply more, and is a run still, so that the reply and the
         // new state are those of the flat step. The number is its place.

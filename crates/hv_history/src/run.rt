@@ -23,6 +23,8 @@ impl<A: Allocator + Clone> Kept<A> {
     /// Lets the elements of a call happen from the frame's start index on, each as [`Kept::apply`] would.
     /// It stops after `most` of them, after one that is answered otherwise than that the call goes on, or
     /// where the host refuses one.
+    // Inlined: calls for the own id in bench/largest.sh.
+    #[inline(always)]
     pub fn apply_run(&mut self, by: Caller, frame: Frame<A>, most: u32) -> RunDone
         requires { 0 < most }
         ensures ran { IfOk result.last (λ reply. HasRun by frame reply result.events most self.old self.new) }

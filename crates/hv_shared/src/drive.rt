@@ -78,6 +78,8 @@ impl<L: Ledger> Shared<L> {
     /// on, each an event of its own, of which all rules are asked, and up to 16 of them while the lock is
     /// taken once. It ends with the last element, or with one that a rule refuses. Answers the result
     /// value of the whole call, and the reply to its last event.
+    // Inlined: calls for the own id in bench/largest.sh.
+    #[inline(always)]
     pub fn drive<R: Wait, G: Gate>(
         &self,
         rt: &R,
@@ -102,6 +104,8 @@ impl<L: Ledger> Shared<L> {
 
     // Asks for the elements of a call from the frame's start index on in one hold. Answers how many happened,
     // and the reply to the last.
+    // Inlined: calls for the own id in bench/largest.sh.
+    #[inline(always)]
     fn ask<R: Wait, G: Gate>(
         &self,
         rt: &R,

@@ -235,6 +235,8 @@ impl<L: Ledger> Held<L> {
 
     /// Lets an event by the pass's caller happen and keeps its receipt, for which there is room. The copy is
     /// equal to the event, and becomes the receipt's.
+    // Inlined: messages in bench/largest.sh.
+    #[inline(always)]
     pub fn hold(
         &mut self,
         pass: &mut Pass<L>,
@@ -282,6 +284,8 @@ impl<L: Ledger> Held<L> {
     /// its start index, then at each next one, up to `most` of them or to the last element, and one alone of
     /// a simple call or where P4 or P5 denies the frame. Those of the elements that happen become the
     /// receipts'.
+    // Inlined: calls for the own id in bench/largest.sh.
+    #[inline(always)]
     pub fn hold_run(
         &mut self,
         pass: &mut Pass<L>,

@@ -74,6 +74,8 @@ impl<L: Ledger> Shared<L> {
 
     /// Lets the pass's caller do one thing, and keeps its receipt. Room for the receipt and a copy of the event
     /// are made before the gate is asked.
+    // Inlined: messages in bench/largest.sh.
+    #[inline(always)]
     pub fn call<R: Wait, G: Gate>(
         &self,
         rt: &R,
@@ -115,6 +117,8 @@ impl<L: Ledger> Shared<L> {
     }
 
     // Takes the lock for one event.
+    // Inlined: messages in bench/largest.sh.
+    #[inline(always)]
     fn hold<R: Wait>(
         &self,
         rt: &R,
@@ -135,6 +139,8 @@ impl<L: Ledger> Shared<L> {
     }
 
     // Takes the lock for the elements of a call of which there are copies.
+    // Inlined: calls for the own id in bench/largest.sh.
+    #[inline(always)]
     pub(crate) fn hold_run<R: Wait>(
         &self,
         rt: &R,
