@@ -71,7 +71,7 @@ def must(result, status, *parts):
 @test
 def a_right_program_passes():
     must(run("-j", "4", "--group", "interface/flags", *ORACLE, "none"), 0, "\n5 passed, 0 failed\n")
-    must(run("-j", "2", "--batch", "--group", "interface/boot", *ORACLE, "none"), 0, "\n30 passed, 0 failed\n")
+    must(run("-j", "2", "--batch", "--group", "interface/boot", *ORACLE, "none"), 0, "\n33 passed, 0 failed\n")
 
 
 @test
@@ -216,8 +216,8 @@ def files_that_belong_to_no_case_fail():
 def the_example_of_a_driver_has_its_known_counts():
     driver = [*PYTHON, str(HOME / "driver_example.py")]
     words = "--group", "interface/boot", "--no-tables"
-    must(run("-j", "4", *words, *driver), 1, "\n17 passed, 6 failed\n")
-    must(run("--batch", *words, *driver), 1, "\n17 passed, 6 failed\n")
+    must(run("-j", "4", *words, *driver), 1, "\n19 passed, 7 failed\n")
+    must(run("--batch", *words, *driver), 1, "\n19 passed, 7 failed\n")
 
 
 @test
