@@ -39,15 +39,28 @@ def late(lines):
     return [f"{number} {event}" for number, event in enumerate(events, 1)] + lines[-1:]
 
 
-def spoil(fault, text):
-    """The output with a fault."""
+def spoil(fault, text, name):
+    """The output with a fault, of the case with that name."""
     lines = text.splitlines(keepends=True)
     if len(lines) < 2:
         return text
-    if fault == "byte":
+    last = next(at for at, line in enumerate(lines) if line.startswith("events "))
+    if fault == "byte" or fault == "once" and name == "of_processors":
         return text.replace("ok 0000000000000000 0", "ok 0000000000000000 f", 1)
     if fault == "extra":
         return text + "one line more\n"
+    if fault == "again":
+        return "".join([*lines[:last], f"{last + 1} {lines[last - 1].split(' ', 1)[1]}", *lines[last:]])
+    if fault == "tail":
+        return text + " "
+    if fault == "nothing":
+        return ""
+    if fault == "end":
+        return "".join(lines[:last] + lines[last + 1 :])
+    if fault == "event":
+        return "".join(lines[: last - 1] + lines[last:])
+    if fault == "cell":
+        return text.replace(" parent - ", " parent 0 ", 1)
     if fault == "phase":
         return lines[0] + "phase\n" + "".join(lines[1:])
     if fault == "feed":
@@ -61,22 +74,24 @@ def spoil(fault, text):
 
 def tell(fault, script, table):
     """Tells of a script; gives the status and the line on standard error."""
-    out, status, error = wanted(script.removesuffix(".hv"), table)
-    is_probe = os.path.basename(script) == "probe.hv"
-    if fault == "usage":
-        out = "usage: oracle\n"
-    sys.stdout.write(out if is_probe else spoil(fault, out))
+    name = os.path.basename(script).removesuffix(".hv")
+    out, status, error = wanted(script.removesuffix(".hv"), table and fault != "table")
+    if name == "probe":
+        sys.stdout.write("usage: oracle\n" if fault == "usage" else out)
+        return status, error
+    sys.stdout.write(spoil(fault, out, name))
     sys.stdout.flush()
-    if fault == "endless" and not is_probe:
+    if fault == "endless":
         while True:
             sys.stdout.write("x" * (1 << 20))
-    if fault == "asleep" and not is_probe:
+    if fault == "asleep":
         time.sleep(60)
-    if fault == "crash" and not is_probe:
+    if fault == "crash":
         os.kill(os.getpid(), signal.SIGSEGV)
-    if fault == "noise" and not is_probe:
-        error = "noise"
-    return (3 if fault == "status" and not is_probe else status), error
+    if fault == "exit":
+        os._exit(7)
+    status = {"status": 3, "zero": 0}.get(fault, status)
+    return status, "noise" if fault == "noise" else error
 
 
 def main(fault, words):

@@ -46,6 +46,8 @@ def run(*words, home=HOME):
             status = RUNNER.main()
         except SystemExit as end:
             status = end.code
+        finally:
+            RUNNER.HOME = HOME
     return status, told.getvalue()
 
 
@@ -65,46 +67,121 @@ def must(result, status, *parts):
         assert part in result[1], f"not told: {part}\nbut:\n{result[1]}"
 
 
+def must_count(result, passed, failed, *parts):
+    """Whether the runner's last line has these counts, its status is that of them, and it told each of the parts."""
+    must(result, 0 if failed == 0 else 1, *parts)
+    last = result[1].splitlines()[-1]
+    assert last == f"{passed} passed, {failed} failed", f"not {passed} passed, {failed} failed:\n{result[1]}"
+
+
 # ---- What the runner finds ----
 
 
 @test
 def a_right_program_passes():
-    must(run("-j", "4", "--group", "interface/flags", *ORACLE, "none"), 0, "\n5 passed, 0 failed\n")
-    must(run("-j", "2", "--batch", "--group", "interface/boot", *ORACLE, "none"), 0, "\n33 passed, 0 failed\n")
+    must_count(run("-j", "4", "--group", "interface/flags", *ORACLE, "none"), 5, 0)
+    must_count(run("-j", "2", "--batch", "--group", "interface/boot", *ORACLE, "none"), 33, 0)
 
 
 @test
 def a_wrong_byte_fails_with_its_line():
     told = "\n    1.0 call 0x46 0 0x1f000 -\n", "wanted: 1 1.0 call", "told:   1 1.0 call", "byte 0: 01 wanted, f1 told; 1 of 8"
     name = "interface/calls/46_get_partition_id"
-    must(oracle("byte"), 1, f"FAILED {name}\n", *told, f"\nfailed: {name}\n", "\n0 passed, 1 failed\n")
-    must(oracle("byte", "--batch"), 1, *told)
+    must_count(oracle("byte"), 0, 1, f"FAILED {name}\n", *told, f"\nfailed: {name}\n")
+    must_count(oracle("byte", "--batch"), 0, 1, *told)
+
+
+@test
+def one_case_that_fails_is_enough():
+    told = "interface/flags: 4 passed, 1 failed\n", "\nfailed: interface/flags/of_processors\n"
+    must_count(run("-j", "4", "--group", "interface/flags", *ORACLE, "once"), 4, 1, *told)
+    must_count(run("--batch", "--group", "interface/flags", *ORACLE, "once"), 4, 1, *told)
+
+
+@test
+def each_byte_counts():
+    for name, table in (("interface/flags/worked", False), ("program/history/worked_rep", True), ("threads/worked", True)):
+        path = HOME / f"{name}.hv"
+        case = RUNNER.Case(path, RUNNER.read_ends(path.parent))
+        text = case.wanted(table).replace("\nphase\n", "\n")
+        assert not RUNNER.compare_output(case, table, text, True), name
+        for at, char in enumerate(text):
+            for other in {chr(ord(char) ^ 1), char.swapcase()} - {char}:
+                wrong = text[:at] + other + text[at + 1 :]
+                assert RUNNER.compare_output(case, table, wrong, True), f"{name}: byte {at} may be {other!r}"
+
+
+@test
+def the_runner_by_itself_ends_with_its_status():
+    words = "--case", "interface/calls/46_get_partition_id", *ORACLE
+    must_count(run_by_itself(*words, "none"), 1, 0)
+    must_count(run_by_itself(*words, "byte"), 0, 1)
 
 
 @test
 def a_crash_behind_the_last_line_fails():
     crash = "it was ended by signal 11 (SIGSEGV)"
-    must(oracle("crash"), 1, crash, "\n0 passed, 1 failed\n")
-    told = run("--batch", "--group", "interface/flags", *ORACLE, "crash")
-    must(told, 1, f"{crash} before its line `end`", "\n0 passed, 5 failed\n")
-    must(oracle("ending", "--batch"), 1, "it ended with status 7 behind the last script", "\n1 passed, 1 failed\n")
+    must_count(oracle("crash"), 0, 1, crash)
+    must_count(run("--batch", "--group", "interface/flags", *ORACLE, "crash"), 0, 5, f"{crash} before its line `end`")
+    must_count(oracle("exit"), 0, 1, "it ended with status 7, and not with status 0")
+    must_count(oracle("exit", "--batch"), 0, 1, "it ended with status 7 before its line `end`")
+    must_count(oracle("ending", "--batch"), 1, 1, "it ended with status 7 behind the last script")
+
+
+@test
+def a_wrong_status_or_line_on_standard_error_fails():
+    fault = "script/faults/worked_bad_hex"
+    must_count(oracle("status"), 0, 1, "it ended with status 3, and not with status 0")
+    must_count(oracle("status", "--batch"), 0, 1, "it ended with status 3, and not with status 0")
+    must_count(oracle("zero", case=fault), 0, 1, "it ended with status 0, and not with status 1")
+    must_count(oracle("noise"), 0, 1, "standard error isn't empty: oracle: noise")
+    must_count(oracle("noise", case=fault), 0, 1, "standard error wanted: NAME: line 2: bad hex", "told:   oracle: noise")
 
 
 @test
 def too_much_fails():
-    must(oracle("extra"), 1, "wanted: nothing more", "told:   one line more")
-    must(oracle("extra", "--batch"), 1, "wanted: nothing more")
-    must(oracle("noise"), 1, "standard error isn't empty: oracle: noise")
-    must(oracle("endless"), 1, "it was stopped after 16777216 bytes of output")
+    must_count(oracle("extra"), 0, 1, "wanted: nothing more", "told:   one line more")
+    must_count(oracle("extra", "--batch"), 0, 1, "wanted: nothing more")
+    must_count(oracle("again"), 0, 1, "wanted: events ")
+    must_count(oracle("tail"), 0, 1, "wanted: nothing more")
+    must_count(oracle("endless"), 0, 1, "it was stopped after 16777216 bytes of output")
 
 
 @test
 def too_little_fails():
-    must(oracle("feed"), 1, "the line feed at its end is missing")
-    must(oracle("status"), 1, "it ended with status 3, and not with status 0")
-    must(oracle("asleep", "--timeout", "0.3"), 1, "it had not ended after 0.3 seconds")
-    must(oracle("asleep", "--timeout", "0.3", "--batch"), 1, "it had not ended after 0.3 seconds")
+    must_count(oracle("feed"), 0, 1, "the line feed at its end is missing")
+    must_count(oracle("end"), 0, 1, "wanted: events ", "told:   nothing more")
+    must_count(oracle("event"), 0, 1, "told:   events ")
+    must_count(oracle("nothing"), 0, 1, "wanted: 1 1.0 call", "told:   nothing more")
+    must_count(oracle("nothing", "--batch"), 0, 1, "told:   nothing more")
+    must_count(oracle("asleep", "--timeout", "0.3"), 0, 1, "it had not ended after 0.3 seconds")
+    must_count(oracle("asleep", "--timeout", "0.3", "--batch"), 0, 1, "it had not ended after 0.3 seconds")
+
+
+@test
+def a_runner_that_lets_all_pass_is_found():
+    main = RUNNER.main
+    blind = {
+        "differences": lambda *_: [],
+        "main": lambda: main() and 0,
+        "show_count": lambda results, tap, before="": print(f"{before}{len(results)} passed, 0 failed"),
+    }
+    for name, wrong in blind.items():
+        right = getattr(RUNNER, name)
+        setattr(RUNNER, name, wrong)
+        try:
+            told = oracle("byte")
+        finally:
+            setattr(RUNNER, name, right)
+        must_fail(must_count, told, 0, 1)
+
+
+def must_fail(check, *words):
+    try:
+        check(*words)
+    except AssertionError:
+        return
+    raise AssertionError(f"{check.__name__} lets this pass: {words}")
 
 
 @test
@@ -128,18 +205,29 @@ def the_two_runs_of_a_made_script_have_a_file_each():
 
 @test
 def names_of_rules_are_compared_where_they_are_wanted():
-    must(oracle("rules"), 1, "\n0 passed, 1 failed\n")
-    must(oracle("rules", "--no-rules"), 0, "\n1 passed, 0 failed\n")
-    must(oracle("rules", case="tlfs/links"), 0, "\n1 passed, 0 failed\n")
-    must(oracle("rules", "--rules", case="tlfs/links"), 1, "\n0 passed, 1 failed\n")
+    for case in ("interface/calls/46_get_partition_id", "interface/accesses/rdmsr"):
+        must_count(oracle("rules", case=case), 0, 1)
+        must_count(oracle("rules", "--no-rules", case=case), 1, 0)
+        must_count(oracle("byte", "--no-rules", case=case), 0, 1)
+    must_count(oracle("rules", case="tlfs/links"), 1, 0)
+    must_count(oracle("rules", "--rules", case="tlfs/links"), 0, 1)
+
+
+@test
+def tables_are_compared_where_they_are_wanted():
+    name = "interface/boot/mask"
+    for fault, told in (("table", "told:   nothing more"), ("cell", "told:   partition 1 parent 0 ")):
+        must_count(oracle(fault, case=name), 1, 1, f"FAILED {name} --table\n", told)
+        must_count(oracle(fault, "--batch", case=name), 1, 1, f"FAILED {name} --table\n", told)
+        must_count(oracle(fault, "--no-tables", case=name), 1, 0)
 
 
 @test
 def threads_may_mix_but_not_across_phases():
-    must(oracle("none", "--no-tables", case="threads/deposits"), 0, "\n1 passed, 0 failed\n")
-    must(oracle("late", "--no-tables", case="threads/sixty_four"), 0, "\n1 passed, 0 failed\n")
-    must(oracle("late", "--no-tables", case="threads/deposits"), 1, "\n0 passed, 1 failed\n")
-    must(oracle("phase", "--no-tables", case="threads/deposits"), 1, "told:   phase", "\n0 passed, 1 failed\n")
+    must_count(oracle("none", "--no-tables", case="threads/deposits"), 1, 0)
+    must_count(oracle("late", "--no-tables", case="threads/sixty_four"), 1, 0)
+    must_count(oracle("late", "--no-tables", case="threads/deposits"), 0, 1)
+    must_count(oracle("phase", "--no-tables", case="threads/deposits"), 0, 1, "told:   phase")
 
 
 # ---- The runner's words ----
@@ -148,8 +236,8 @@ def threads_may_mix_but_not_across_phases():
 @test
 def one_case_by_the_path_of_its_file():
     file = str(HOME / "interface" / "boot" / "mask.hv")
-    must(run("--case", file, *ORACLE, "none"), 0, "\n2 passed, 0 failed\n")
-    must(run("--case", file, "--no-tables", *ORACLE, "none"), 0, "\n1 passed, 0 failed\n")
+    must_count(run("--case", file, *ORACLE, "none"), 2, 0)
+    must_count(run("--case", file, "--no-tables", *ORACLE, "none"), 1, 0)
     must(run("--case", "interface/boot/nope", *ORACLE, "none"), 2, "no case interface/boot/nope")
 
 
@@ -213,11 +301,12 @@ def files_that_belong_to_no_case_fail():
 
 
 @test
-def the_example_of_a_driver_has_its_known_counts():
+def the_example_of_a_driver_scores_what_the_readme_says():
+    line = r"^conformance/run (.*) conformance/driver_example\.py +# (\d+) passed, (\d+) failed$"
+    words, passed, failed = re.search(line, (HOME / "README.md").read_text(), re.MULTILINE).groups()
     driver = [*PYTHON, str(HOME / "driver_example.py")]
-    words = "--group", "interface/boot", "--no-tables"
-    must(run("-j", "4", *words, *driver), 1, "\n19 passed, 7 failed\n")
-    must(run("--batch", *words, *driver), 1, "\n19 passed, 7 failed\n")
+    must_count(run("-j", "4", *words.split(), *driver), int(passed), int(failed))
+    must_count(run("--batch", *words.split(), *driver), int(passed), int(failed))
 
 
 @test
@@ -281,17 +370,31 @@ def lists_lie_apart_in_pages_of_boot_that_stay():
                 assert len(set(pages)) == len(pages), f"{path}: {line}"
 
 
-def main():
+@test
+def a_test_that_fails_is_told():
+    def fails():
+        raise AssertionError("on purpose")
+
+    told = io.StringIO()
+    with redirect_stdout(told):
+        status = main([fails, lambda: None])
+    try:
+        must_count((status, told.getvalue()), 1, 1, "FAILED fails: AssertionError: on purpose\n")
+    except AssertionError as error:
+        sys.exit(f"FAILED a_test_that_fails_is_told: {error}")  # where nobody hears of a failed test
+
+
+def main(tests):
     failed = 0
-    for each in TESTS:
+    for each in tests:
         try:
             each()
         except Exception as error:
             failed += 1
             print(f"FAILED {each.__name__}: {type(error).__name__}: {error}")
-    print(f"{len(TESTS) - failed} passed, {failed} failed")
+    print(f"{len(tests) - failed} passed, {failed} failed")
     return 0 if failed == 0 else 1
 
 
 if __name__ == "__main__":
-    sys.exit(main())
+    sys.exit(main(TESTS))
