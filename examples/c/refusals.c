@@ -1,6 +1,7 @@
 /*
- * What the library refuses to its caller: each status once, and that nothing changed then; and that the elements of a call that are
- * taken in a run tell what they tell one by one. Prints what is wrong.
+ * What the library refuses to its caller, but for a null and on a machine that is used up, which tests/embed/functions.c tries with
+ * each function: each status once, and that nothing changed then; and that the elements of a call that are taken in a run tell what
+ * they tell one by one. Prints what is wrong.
  */
 #include "hvpm.h"
 
@@ -41,35 +42,6 @@ static void boots(void) {
     config.vps = 0, refuse_boot("no processors", config, HVPM_VPS);
     config.vps = 4, refuse_boot("processors over the pool", config, HVPM_VPS);
     config.vps = UINT32_MAX, refuse_boot("most processors", config, HVPM_VPS);
-}
-
-/* Calls each function of a handle with each pointer null in turn. */
-static void nulls(hvpm_machine *machine) {
-    hvpm_reply reply;
-    char line[HVPM_LINE];
-    want("boot, no handle", hvpm_boot(NULL, &sound), HVPM_NULL);
-    want("boot, no configuration", hvpm_boot(machine, NULL), HVPM_NULL);
-    want("no handle", hvpm_hypercall(NULL, root, &ask_id, NULL, 0, &reply, NULL, 0), HVPM_NULL);
-    want("no registers", hvpm_hypercall(machine, root, NULL, NULL, 0, &reply, NULL, 0), HVPM_NULL);
-    want("no input", hvpm_hypercall(machine, root, &ask_id, NULL, 1, &reply, NULL, 0), HVPM_NULL);
-    want("no reply", hvpm_hypercall(machine, root, &ask_id, NULL, 0, NULL, line, sizeof line), HVPM_NULL);
-    want("no line", hvpm_hypercall(machine, root, &ask_id, NULL, 0, &reply, NULL, HVPM_LINE), HVPM_NULL);
-    uint8_t outputs[HVPM_OUTPUT];
-    hvpm_run_done done;
-    want("run, no handle", hvpm_run(NULL, root, &ask_id, NULL, 0, &reply, outputs, sizeof outputs, &done), HVPM_NULL);
-    want("run, no registers", hvpm_run(machine, root, NULL, NULL, 0, &reply, outputs, sizeof outputs, &done), HVPM_NULL);
-    want("run, no input", hvpm_run(machine, root, &ask_id, NULL, 1, &reply, outputs, sizeof outputs, &done), HVPM_NULL);
-    want("run, no reply", hvpm_run(machine, root, &ask_id, NULL, 0, NULL, outputs, sizeof outputs, &done), HVPM_NULL);
-    want("run, no outputs", hvpm_run(machine, root, &ask_id, NULL, 0, &reply, NULL, sizeof outputs, &done), HVPM_NULL);
-    want("run, nothing done", hvpm_run(machine, root, &ask_id, NULL, 0, &reply, outputs, sizeof outputs, NULL), HVPM_NULL);
-    want("rdmsr, no reply", hvpm_read_msr(machine, root, 0, NULL, NULL, 0), HVPM_NULL);
-    want("wrmsr, no reply", hvpm_write_msr(machine, root, 0, 0, NULL, NULL, 0), HVPM_NULL);
-    want("slot, no handle", hvpm_read_slot(NULL, root, 0, &reply, NULL, 0), HVPM_NULL);
-    want("clearslot, no line", hvpm_clear_slot(machine, root, 0, &reply, NULL, 1), HVPM_NULL);
-    want("flags, no reply", hvpm_read_flags(machine, root, 0, NULL, NULL, 0), HVPM_NULL);
-    want("clearflag, no reply", hvpm_clear_flag(machine, root, 0, 0, NULL, NULL, 0), HVPM_NULL);
-    want("interrupt, no handle", hvpm_take_interrupt(NULL, root, &reply, NULL, 0), HVPM_NULL);
-    hvpm_destroy(NULL);
 }
 
 static void shorts(hvpm_machine *machine) {
@@ -185,7 +157,6 @@ int main(void) {
     want("boot", hvpm_boot(&machine, &sound), HVPM_DONE);
     const hvpm_machine booted = machine;
     want("boot again", hvpm_boot(&machine, &sound), HVPM_OCCUPIED);
-    nulls(&machine);
     shorts(&machine);
     holds("refusals leave the handle", machine.live && machine.events == 0 && machine.at == booted.at);
     events(&machine);

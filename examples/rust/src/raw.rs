@@ -1,5 +1,5 @@
 //! The library's functions and structs, written by hand from `include/hvpm.h`, with which the layout of each is compared below.
-//! Nothing compares the functions' types.
+//! `tests/embed/compare` compares the fields and the functions, with their types.
 
 use std::mem::{offset_of, size_of};
 

@@ -1,0 +1,309 @@
+/*
+ * Calls each function of hvpm.h with each of its pointers null in turn, and each function that takes an event
+ * on a machine that takes no more of them. Each must answer what the header says, and change nothing: neither
+ * what it is given nor the machine, whose next events are answered as if there had been no call. Each case is
+ * a line of standard output, the names of the function and of the argument, which `compare` lays beside the
+ * header. What is wrong goes to standard error.
+ *
+ * A machine takes no more events after 2^64 - 1, or after 2^32 - 1 that are served. The first count stands
+ * in the handle, so this test writes it there, which the header leaves to the library. No test reaches the
+ * second: the status is the same, and `compare` finds its number in the library.
+ */
+#include "hvpm.h"
+
+#include <inttypes.h>
+#include <stdio.h>
+#include <string.h>
+
+/* How many cases of a null there are. */
+enum { CASES = 46 };
+
+static int wrong;
+
+static void want(const char *function, const char *what, uint32_t status, uint32_t wanted) {
+    if (status == wanted) return;
+    fprintf(stderr, "%s, %s: status %" PRIu32 ", wanted %" PRIu32 "\n", function, what, status, wanted);
+    wrong = 1;
+}
+
+static void holds(const char *function, const char *what, bool is_so) {
+    if (is_so) return;
+    fprintf(stderr, "%s: %s doesn't hold\n", function, what);
+    wrong = 1;
+}
+
+/* ---- What the functions are called with ---- */
+
+static const hvpm_caller root = {1, 0};
+
+/* Arguments that are pointers, and how long the buffers among them are. */
+enum { MACHINE, CONFIG, REGISTERS, INPUT, REPLY, LINE, OUTPUTS, DONE, ARGUMENTS, END = ARGUMENTS };
+static const char *const names[ARGUMENTS] = {"machine", "config", "registers", "input",
+                                             "reply",   "line",   "outputs",   "done"};
+struct arguments {
+    void *at[ARGUMENTS];
+    size_t len[ARGUMENTS];
+};
+
+static bool is_buffer(int argument) {
+    return argument == INPUT || argument == LINE || argument == OUTPUTS;
+}
+
+/* Where the arguments lead to: a machine, an empty handle, and what is read and written. */
+struct world {
+    hvpm_machine machine, empty;
+    hvpm_config config;
+    hvpm_registers registers;
+    uint8_t input[8];
+    hvpm_reply reply;
+    char line[HVPM_LINE];
+    uint8_t outputs[4 * HVPM_OUTPUT];
+    hvpm_run_done done;
+};
+
+static void take(struct world *world, uint64_t rcx, uint64_t rdx, const void *input, size_t len) {
+    const hvpm_registers registers = {rcx, rdx, 0};
+    want("the set-up", "call",
+         hvpm_hypercall(&world->machine, root, &registers, input, len, &world->reply, NULL, 0), HVPM_DONE);
+    holds("the set-up", "served", world->reply.kind == HVPM_SERVED);
+}
+
+/*
+ * Boots a machine and takes 11 events: processor 1.0 is ready, its SINT 2 shows a message and raised 0x32,
+ * and flag 5 of its SINT 3 is set and raised 0x33. What functions write is filled with a byte of its own.
+ */
+static void set_up(struct world *world) {
+    static const uint64_t registers[][2] = {{0x80, 1}, {0x82, 1}, {0x83, 1}, {0x92, 0x32}, {0x93, 0x33}};
+    static const uint8_t ports[2][48] = {
+        {[0] = 1, [8] = 2, [16] = 1, [24] = 1, [32] = 2},
+        {[0] = 1, [8] = 3, [16] = 1, [24] = 2, [32] = 3, [42] = 8},
+    };
+    static const uint8_t connections[2][48] = {
+        {[0] = 1, [8] = 2, [16] = 1, [24] = 2, [32] = 1},
+        {[0] = 1, [8] = 3, [16] = 1, [24] = 3, [32] = 2},
+    };
+    static const uint8_t message[17] = {[0] = 2, [8] = 1, [12] = 1, [16] = 0x68};
+    memset(world, 0xA5, sizeof *world);
+    world->machine = world->empty = (hvpm_machine)HVPM_EMPTY;
+    world->config = (hvpm_config){.mask = 0xf700000044, .pages = 32, .pool = 12, .vps = 1};
+    want("the set-up", "boot", hvpm_boot(&world->machine, &world->config), HVPM_DONE);
+    for (size_t i = 0; i < 5; i++) {
+        const uint32_t msr = 0x40000000 + (uint32_t)registers[i][0];
+        want("the set-up", "write",
+             hvpm_write_msr(&world->machine, root, msr, registers[i][1], &world->reply, NULL, 0), HVPM_DONE);
+    }
+    for (size_t i = 0; i < 2; i++) {
+        take(world, 0x95, 0, ports[i], sizeof ports[i]);
+        take(world, 0x96, 0, connections[i], sizeof connections[i]);
+    }
+    take(world, 0x5C, 0, message, sizeof message);
+    take(world, 0x1005D, UINT64_C(5) << 32 | 3, NULL, 0);
+    memset(world->input, 0xFF, sizeof world->input);
+    memset(&world->reply, 0xA5, sizeof world->reply);
+}
+
+/* The arguments of one function, none of them null. A call withdraws two pages from the caller's pool. */
+static struct arguments arguments_of(struct world *world, bool is_event) {
+    world->registers = (hvpm_registers){.rcx = UINT64_C(2) << 32 | 0x49};
+    hvpm_machine *machine = is_event ? &world->machine : &world->empty;
+    return (struct arguments){
+        {machine, &world->config, &world->registers, world->input, &world->reply, world->line, world->outputs,
+         &world->done},
+        {[INPUT] = sizeof world->input, [LINE] = sizeof world->line, [OUTPUTS] = sizeof world->outputs},
+    };
+}
+
+/* What a few events after the 11 of the set-up tell where no other event was between. */
+static void is_calm(const char *function, hvpm_machine *machine) {
+    static const hvpm_registers withdraw = {.rcx = UINT64_C(1) << 32 | 0x49};
+    static const uint8_t self[8] = {0xFF, 0xFF, 0xFF, 0xFF, 0xFF, 0xFF, 0xFF, 0xFF};
+    char told[5 * HVPM_LINE + 1], wanted[sizeof told];
+    size_t len = 0;
+    hvpm_reply reply;
+    want(function, "interrupt", hvpm_take_interrupt(machine, root, &reply, told, HVPM_LINE), HVPM_DONE);
+    len += reply.line_len;
+    want(function, "slot", hvpm_read_slot(machine, root, 2, &reply, told + len, HVPM_LINE), HVPM_DONE);
+    len += reply.line_len;
+    want(function, "flags", hvpm_read_flags(machine, root, 3, &reply, told + len, HVPM_LINE), HVPM_DONE);
+    len += reply.line_len;
+    want(function, "rdmsr", hvpm_read_msr(machine, root, 0x40000092, &reply, told + len, HVPM_LINE),
+         HVPM_DONE);
+    len += reply.line_len;
+    want(function, "call", hvpm_hypercall(machine, root, &withdraw, self, 8, &reply, told + len, HVPM_LINE),
+         HVPM_DONE);
+    told[len + reply.line_len] = 0;
+    snprintf(wanted, sizeof wanted,
+             "12 1.0 interrupt ok 33\n"
+             "13 1.0 slot 2 ok 0100000001000000020000000000000068%0*d\n"
+             "14 1.0 flags 3 ok 20%0*d\n"
+             "15 1.0 rdmsr 40000092 ok 3200000000000000\n"
+             "16 1.0 call 0000000100000049 ok 0000000100000000 0000000000000000\n",
+             512 - 34, 0, 512 - 2, 0);
+    holds(function, "that later events tell what they would have told", strcmp(told, wanted) == 0);
+    holds(function, "that they alone are counted", machine->events == 16);
+}
+
+/* ---- The functions ---- */
+
+static uint32_t boot(const struct arguments *a) {
+    return hvpm_boot(a->at[MACHINE], a->at[CONFIG]);
+}
+
+/* It answers nothing; of a null it is only seen that it does nothing. */
+static uint32_t destroy(const struct arguments *a) {
+    hvpm_destroy(a->at[MACHINE]);
+    return a->at[MACHINE] ? HVPM_DONE : HVPM_NULL;
+}
+
+static uint32_t hypercall(const struct arguments *a) {
+    return hvpm_hypercall(a->at[MACHINE], root, a->at[REGISTERS], a->at[INPUT], a->len[INPUT], a->at[REPLY],
+                          a->at[LINE], a->len[LINE]);
+}
+
+static uint32_t run(const struct arguments *a) {
+    return hvpm_run(a->at[MACHINE], root, a->at[REGISTERS], a->at[INPUT], a->len[INPUT], a->at[REPLY],
+                    a->at[OUTPUTS], a->len[OUTPUTS], a->at[DONE]);
+}
+
+static uint32_t read_msr(const struct arguments *a) {
+    return hvpm_read_msr(a->at[MACHINE], root, 0x40000092, a->at[REPLY], a->at[LINE], a->len[LINE]);
+}
+
+static uint32_t write_msr(const struct arguments *a) {
+    return hvpm_write_msr(a->at[MACHINE], root, 0x40000092, 0x77, a->at[REPLY], a->at[LINE], a->len[LINE]);
+}
+
+static uint32_t read_slot(const struct arguments *a) {
+    return hvpm_read_slot(a->at[MACHINE], root, 2, a->at[REPLY], a->at[LINE], a->len[LINE]);
+}
+
+static uint32_t clear_slot(const struct arguments *a) {
+    return hvpm_clear_slot(a->at[MACHINE], root, 2, a->at[REPLY], a->at[LINE], a->len[LINE]);
+}
+
+static uint32_t read_flags(const struct arguments *a) {
+    return hvpm_read_flags(a->at[MACHINE], root, 3, a->at[REPLY], a->at[LINE], a->len[LINE]);
+}
+
+static uint32_t clear_flag(const struct arguments *a) {
+    return hvpm_clear_flag(a->at[MACHINE], root, 3, 5, a->at[REPLY], a->at[LINE], a->len[LINE]);
+}
+
+static uint32_t take_interrupt(const struct arguments *a) {
+    return hvpm_take_interrupt(a->at[MACHINE], root, a->at[REPLY], a->at[LINE], a->len[LINE]);
+}
+
+static const struct function {
+    const char *name;
+    uint32_t (*call)(const struct arguments *);
+    bool is_event;
+    int takes[7]; /* its pointers in the header's order */
+} functions[] = {
+    {"hvpm_boot", boot, false, {MACHINE, CONFIG, END}},
+    {"hvpm_destroy", destroy, false, {MACHINE, END}},
+    {"hvpm_hypercall", hypercall, true, {MACHINE, REGISTERS, INPUT, REPLY, LINE, END}},
+    {"hvpm_run", run, true, {MACHINE, REGISTERS, INPUT, REPLY, OUTPUTS, DONE, END}},
+    {"hvpm_read_msr", read_msr, true, {MACHINE, REPLY, LINE, END}},
+    {"hvpm_write_msr", write_msr, true, {MACHINE, REPLY, LINE, END}},
+    {"hvpm_read_slot", read_slot, true, {MACHINE, REPLY, LINE, END}},
+    {"hvpm_clear_slot", clear_slot, true, {MACHINE, REPLY, LINE, END}},
+    {"hvpm_read_flags", read_flags, true, {MACHINE, REPLY, LINE, END}},
+    {"hvpm_clear_flag", clear_flag, true, {MACHINE, REPLY, LINE, END}},
+    {"hvpm_take_interrupt", take_interrupt, true, {MACHINE, REPLY, LINE, END}},
+};
+
+/* ---- The cases ---- */
+
+static int cases;
+
+static void tell_case(const struct function *function, int argument, const char *how) {
+    printf("%s %s%s\n", function->name, names[argument], how);
+    cases++;
+}
+
+/* One pointer is null: nothing is written, and nothing happened. */
+static void try_null(const struct function *function, int argument) {
+    struct world world, before;
+    set_up(&world);
+    struct arguments arguments = arguments_of(&world, function->is_event);
+    arguments.at[argument] = NULL;
+    tell_case(function, argument, "");
+    memcpy(&before, &world, sizeof before);
+    want(function->name, names[argument], function->call(&arguments), HVPM_NULL);
+    holds(function->name, "that nothing is written at a null", memcmp(&before, &world, sizeof before) == 0);
+    is_calm(function->name, &world.machine);
+    hvpm_destroy(&world.machine);
+}
+
+/* A buffer of no bytes may be null: no line, an input list that reads as zeros, or no room for outputs. */
+static void try_none(const struct function *function, int argument) {
+    struct world world;
+    set_up(&world);
+    struct arguments arguments = arguments_of(&world, true);
+    arguments.at[argument] = NULL;
+    arguments.len[argument] = 0;
+    tell_case(function, argument, " of no bytes");
+    const uint32_t status = function->call(&arguments);
+    want(function->name, "no bytes", status, argument == OUTPUTS ? HVPM_SHORT : HVPM_DONE);
+    if (argument == LINE)
+        holds(function->name, "no line", world.reply.line_len == 0 && world.reply.rule == 0);
+    if (argument == INPUT)
+        holds(function->name, "that no partition is 0",
+              world.reply.kind == HVPM_DENIED && world.reply.rule == 9);
+    hvpm_destroy(&world.machine);
+}
+
+/* Nothing is null: it is done, so that what is refused above is refused for the null. */
+static void try_all(const struct function *function) {
+    struct world world;
+    set_up(&world);
+    const struct arguments arguments = arguments_of(&world, function->is_event);
+    want(function->name, "nothing null", function->call(&arguments), HVPM_DONE);
+    holds(function->name, "that an event is counted", (world.machine.events > 11) == function->is_event);
+    hvpm_destroy(&world.machine);
+    hvpm_destroy(&world.empty);
+}
+
+/* The handle's count is at its end: nothing is written, and nothing happened. One before, one is taken. */
+static void try_used_up(const struct function *function) {
+    struct world world, before;
+    set_up(&world);
+    const struct arguments arguments = arguments_of(&world, true);
+    world.machine.events = UINT64_MAX;
+    memcpy(&before, &world, sizeof before);
+    want(function->name, "used up", function->call(&arguments), HVPM_USED_UP);
+    holds(function->name, "that nothing is written where it is used up",
+          memcmp(&before, &world, sizeof before) == 0);
+    world.machine.events = 11;
+    is_calm(function->name, &world.machine);
+    world.machine.events = UINT64_MAX - 1;
+    want(function->name, "the last event", function->call(&arguments), HVPM_DONE);
+    holds(function->name, "the last number", world.machine.events == UINT64_MAX);
+    holds(function->name, "a line with it",
+          function->call == run || memcmp(world.line, "18446744073709551615 1.0 ", 25) == 0);
+    if (function->call == run)
+        holds(function->name, "that it goes on",
+              world.reply.kind == HVPM_MORE && world.reply.next == 1 && world.done.events == 1);
+    want(function->name, "used up after it", function->call(&arguments), HVPM_USED_UP);
+    hvpm_destroy(&world.machine);
+}
+
+int main(void) {
+    /* Where a null is read, the last case is told. */
+    setvbuf(stdout, NULL, _IOLBF, BUFSIZ);
+    holds("hvpm_or_none", "that the library gets no null", hvpm_or_none(NULL, 0) != NULL);
+    for (size_t i = 0; i < sizeof functions / sizeof *functions; i++) {
+        const struct function *function = &functions[i];
+        try_all(function);
+        if (function->is_event) try_used_up(function);
+        for (const int *argument = function->takes; *argument != END; argument++) {
+            try_null(function, *argument);
+            if (is_buffer(*argument)) try_none(function, *argument);
+        }
+    }
+    if (cases != CASES) {
+        fprintf(stderr, "%d cases, wanted %d\n", cases, CASES);
+        wrong = 1;
+    }
+    return wrong;
+}
