@@ -1,6 +1,6 @@
 //! Bulqizet's machine from Rust, over the static library `libhv_embed.a`: what `include/hvpm.h` says, in safe types.
 //!
-//! ```no_run
+//! ```
 //! let config = hvpm::Config { mask: 0xf7_0000_0044, pages: 32, pool: 12, vps: 1 };
 //! let mut machine = hvpm::Machine::boot(config)?;
 //! let by = hvpm::Caller { partition: 1, vp: 0 };
@@ -298,5 +298,44 @@ impl Drop for Machine {
 impl Caller {
     fn raw(self) -> raw::Caller {
         raw::Caller { partition: self.partition, vp: self.vp }
+    }
+}
+
+#[cfg(test)]
+mod tests {
+    use super::{Caller, Config, Machine, Refused, done};
+    use std::panic::catch_unwind;
+
+    #[test]
+    fn each_status_has_its_cause() {
+        let causes = [
+            (0, Ok(())),
+            (3, Err(Refused::Short)),
+            (4, Err(Refused::UsedUp)),
+            (5, Err(Refused::Memory)),
+            (6, Err(Refused::Pages)),
+            (7, Err(Refused::Pool)),
+            (8, Err(Refused::Vps)),
+        ];
+        for (status, cause) in causes {
+            assert_eq!(done(status), cause, "status {status}");
+        }
+        // An empty handle, an occupied one, a null, and a number that is no status.
+        for status in [1, 2, 9, 10] {
+            assert!(catch_unwind(|| done(status)).is_err(), "status {status}");
+        }
+    }
+
+    // The count of a handle is its library's to write; no test takes as many events.
+    #[test]
+    fn a_machine_takes_no_more_events_than_are_counted() {
+        let config = Config { mask: 0, pages: 32, pool: 12, vps: 1 };
+        let by = Caller { partition: 1, vp: 0 };
+        let mut machine = Machine::boot(config).expect("it boots");
+        machine.handle.events = u64::MAX - 1;
+        let last = machine.take_interrupt(by).expect("the last event is taken");
+        assert_eq!(last.line(), "18446744073709551615 1.0 interrupt ok 00\n");
+        assert_eq!(machine.take_interrupt(by).err(), Some(Refused::UsedUp));
+        assert_eq!(machine.events(), u64::MAX);
     }
 }
