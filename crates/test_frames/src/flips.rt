@@ -1,56 +1,209 @@
-// Input values with each of their bits changed, as `check` and `decode` answer them.
+// Input values with each of their bits changed, as `check`, `decode` and `step` answer them.
 
-use crate::calls::{BY_0, Call, frame};
+use crate::calls::{
+    BY_0, CONNECTION, CREATE, CREATE_VP, Call, DELETE_PORT, DEPOSIT, INITIALIZE, PORT, Told, boot,
+    drive, frame, make_ready, step,
+};
 use hv_abi::{AbiFault, Frame};
-use hv_calls::{Malformed, decode};
+use hv_calls::decode;
+use hv_machine::{Machine, Rule};
 use std::alloc::{AllocError, Global};
 use std::process::Abort;
 use std::test::Fail;
 
-// An input value, RDX, and what is answered where a bit is changed, by the bit from the lowest on: a call
-// (c), an unknown code (u), a fault of the input value (i) or of an address (a).
-const VALUES: [(u64, u64, &str); 7] = [
+// A call that is driven to its end, what it is answered in the end, and a letter for each bit of its input
+// value, from the lowest on: what the call is answered where that bit is changed.
+type Turn = (Call<'static>, Told, &'static str);
+
+// What a letter stands for. A denial counts the elements before the start index, but not where the input
+// value itself is refused.
+fn told_by(letter: u8, rcx: u64) -> Told {
+    let start = ((rcx >> 48) % 4096) as u16;
+    match letter {
+        b's' => Told::Served,
+        b'm' => Told::More(start + 1),
+        b'u' => Told::Denied(Rule::CallCode, 0),
+        b'i' => Told::Denied(Rule::InputValue, 0),
+        b'a' => Told::Denied(Rule::Alignment, start),
+        b'p' => Told::Denied(Rule::Privilege, start),
+        b't' => Told::Denied(Rule::TargetExists, start),
+        b'l' => Told::Denied(Rule::TargetState, start),
+        b'o' => Told::Denied(Rule::Port, start),
+        b'v' => Told::Denied(Rule::VpExists, start),
+        b'y' => Told::Denied(Rule::Subject, start),
+        b'g' => Told::Denied(Rule::Pages, start),
+        _ => Told::Fault,
+    }
+}
+
+// With a bit changed, 0x46 and 0x40 ask for partition 0, or for a list of no elements.
+const FIRST: &[Turn] = &[
+    // An unknown code comes before all else that is wrong.
     (
-        0x46,
-        0,
-        "ccccuuuuuuuuuuuuiiiiiiiiiiiiiiiiiiiiiiiiiiiiiiiiiiiiiiiiiiiiiiii",
+        Call {
+            rcx: 0x1_0000_7fff,
+            ..BY_0
+        },
+        Told::Denied(Rule::CallCode, 0),
+        "uuuuuuuuuuuuuuuuuuuuuuuuuuuuuuuuuuuuuuuuuuuuuuuuuuuuuuuuuuuuuuuu",
     ),
-    // A list of 259 pages fits a page, and one of 515 doesn't. The elements from 0 to 2 may be the first.
     (
-        0x3_0000_0048,
-        0,
-        "ciuiiuuuuuuuuuuuiiiiiiiiiiiiiiiicccccccccaaaiiiicciiiiiiiiiiiiii",
+        Call { rcx: 0x46, ..BY_0 },
+        Told::Served,
+        "ttttuuuuuuuuuuuuiiiiiiiiiiiiiiiiiiiiiiiiiiiiiiiiiiiiiiiiiiiiiiii",
+    ),
+    // A deposit that starts behind its three elements. With more of them, or from an earlier one on, it is
+    // for partition 0.
+    (
+        Call {
+            rcx: 0x3_0003_0000_0048,
+            ..BY_0
+        },
+        Told::Denied(Rule::InputValue, 0),
+        "iiuiiuuuuuuuuuuuiiiiiiiiiiiiiiiiiitttttttaaaiiiittiiiiiiiiiiiiii",
     ),
     (
-        0x95,
-        0,
-        "uuuuuuuuuuuuuuuuiiiiiiiiiiiiiiiiiiiiiiiiiiiiiiiiiiiiiiiiiiiiiiii",
+        CREATE,
+        Told::Served,
+        "tttiiuuuuuuuuuuuiiiiiiiiiiiiiiiiiiiiiiiiiiiiiiiiiiiiiiiiiiiiiiii",
     ),
+    // Page 12 twice. A list of 259 pages fits a page, and one of 515 doesn't. Of one page the first is the
+    // last. Partition 2 has no page to give back.
     (
-        0x96,
-        0,
-        "uuuuuuuuuuuuuuuuiiiiiiiiiiiiiiiiiiiiiiiiiiiiiiiiiiiiiiiiiiiiiiii",
+        Call {
+            rcx: 0x3_0000_0048,
+            input: &[
+                2, 0, 0, 0, 0, 0, 0, 0, 12, 0, 0, 0, 0, 0, 0, 0, 13, 0, 0, 0, 0, 0, 0, 0, 12, 0, 0,
+                0, 0, 0, 0, 0,
+            ],
+            ..BY_0
+        },
+        Told::Denied(Rule::Subject, 2),
+        "giuiiuuuuuuuuuuuiiiiiiiiiiiiiiiimsmmmmmmmaaaiiiimsiiiiiiiiiiiiii",
     ),
-    // A fast call, whose RDX is no address.
+    // Partition 2 is Created: it may be finalized, and gets no processor.
     (
-        0x10058,
-        2,
-        "uuiiiuuuuuuuuuuuaiiiiiiiiiiiiiiiiiiiiiiiiiiiiiiiiiiiiiiiiiiiiiii",
-    ),
-    (
-        0x5c,
-        0,
-        "cucuuuuuuuuuuuuuiiiiiiiiiiiiiiiiiiiiiiiiiiiiiiiiiiiiiiiiiiiiiiii",
-    ),
-    (
-        0x4a,
-        0,
-        "uiccuuuuuuuuuuuuiiiiiiiiiiiiiiiiiiiiiiiiiiiiiiiiiiiiiiiiiiiiiiii",
+        Call {
+            rcx: 0x4a,
+            input: &[2, 0, 0, 0, 0, 0, 0, 0],
+            ..BY_0
+        },
+        Told::Served,
+        "uilsuuuuuuuuuuuuiiiiiiiiiiiiiiiiiiiiiiiiiiiiiiiiiiiiiiiiiiiiiiii",
     ),
 ];
 
-// What a frame is, by the letters above. A call has the code of the input value, and its block of zeros is
-// well formed.
+// A message port and a connection to it. Where a fast call isn't fast, its RDX is no address of a list.
+const SETUP: &[Turn] = &[
+    (
+        CREATE,
+        Told::Served,
+        "tttiiuuuuuuuuuuuiiiiiiiiiiiiiiiiiiiiiiiiiiiiiiiiiiiiiiiiiiiiiiii",
+    ),
+    // Partition 2 is Created, and may be deleted.
+    (
+        INITIALIZE,
+        Told::Served,
+        "isiiiuuuuuuuuuuuaiiiiiiiiiiiiiiiiiiiiiiiiiiiiiiiiiiiiiiiiiiiiiii",
+    ),
+    (
+        DEPOSIT,
+        Told::Served,
+        "giuiiuuuuuuuuuuuiiiiiiiiiiiiiiiimmmmmmmmmaaaiiiimmmiiiiiiiiiiiii",
+    ),
+    (
+        CREATE_VP,
+        Told::Served,
+        "vuiiuuuuuuuuuuuuaiiiiiiiiiiiiiiiiiiiiiiiiiiiiiiiiiiiiiiiiiiiiiii",
+    ),
+    (
+        PORT,
+        Told::Served,
+        "uuuuuuuuuuuuuuuuiiiiiiiiiiiiiiiiiiiiiiiiiiiiiiiiiiiiiiiiiiiiiiii",
+    ),
+    (
+        CONNECTION,
+        Told::Served,
+        "uuuuuuuuuuuuuuuuiiiiiiiiiiiiiiiiiiiiiiiiiiiiiiiiiiiiiiiiiiiiiiii",
+    ),
+];
+
+// The port is made again. The connection doesn't lead to the new one, neither for a message nor for a flag.
+const MADE_AGAIN: &[Turn] = &[
+    (
+        DELETE_PORT,
+        Told::Served,
+        "uuiiiuuuuuuuuuuuaiiiiiiiiiiiiiiiiiiiiiiiiiiiiiiiiiiiiiiiiiiiiiii",
+    ),
+    (
+        PORT,
+        Told::Served,
+        "uuuuuuuuuuuuuuuuiiiiiiiiiiiiiiiiiiiiiiiiiiiiiiiiiiiiiiiiiiiiiiii",
+    ),
+    (
+        Call {
+            rcx: 0x5c,
+            input: &[7, 0, 0, 0, 0, 0, 0, 0, 1, 0, 0, 0, 0, 0, 0, 0],
+            ..BY_0
+        },
+        Told::Denied(Rule::Port, 0),
+        "outuuuuuuuuuuuuuiiiiiiiiiiiiiiiiiiiiiiiiiiiiiiiiiiiiiiiiiiiiiiii",
+    ),
+    // Partition 2 may neither ask for its id nor make partitions, nor reach pages.
+    (
+        Call {
+            part: 2,
+            rcx: 0x46,
+            ..BY_0
+        },
+        Told::Denied(Rule::Privilege, 0),
+        "ppppuuuuuuuuuuuuiiiiiiiiiiiiiiiiiiiiiiiiiiiiiiiiiiiiiiiiiiiiiiii",
+    ),
+    (
+        Call {
+            part: 2,
+            rcx: 0x4a,
+            input: &[99, 0, 0, 0, 0, 0, 0, 0],
+            ..BY_0
+        },
+        Told::Denied(Rule::Privilege, 0),
+        "uippuuuuuuuuuuuuiiiiiiiiiiiiiiiiiiiiiiiiiiiiiiiiiiiiiiiiiiiiiiii",
+    ),
+];
+
+// A message with a byte too many, and one with as many as there may be. The port takes no flags.
+const POSTS: &[Turn] = &[
+    (
+        Call {
+            rcx: 0x5c,
+            input: &[7, 0, 0, 0, 0, 0, 0, 0, 1, 0, 0, 0, 241, 0, 0, 0],
+            ..BY_0
+        },
+        Told::Denied(Rule::Parameters, 0),
+        "yutuuuuuuuuuuuuuiiiiiiiiiiiiiiiiiiiiiiiiiiiiiiiiiiiiiiiiiiiiiiii",
+    ),
+    (
+        Call {
+            rcx: 0x5c,
+            input: &[7, 0, 0, 0, 0, 0, 0, 0, 1, 0, 0, 0, 240, 0, 0, 0],
+            ..BY_0
+        },
+        Told::Served,
+        "yutuuuuuuuuuuuuuiiiiiiiiiiiiiiiiiiiiiiiiiiiiiiiiiiiiiiiiiiiiiiii",
+    ),
+];
+
+// The turns that come before, whether processor 0 of partition 2 then takes messages, and the turns.
+type Run = (&'static [Turn], bool, &'static [Turn]);
+
+const RUNS: [Run; 4] = [
+    (&[], false, FIRST),
+    (&[], false, SETUP),
+    (SETUP, false, MADE_AGAIN),
+    (SETUP, true, POSTS),
+];
+
+// What `check` and `decode` make of a frame: the letter of a fault, or one for a call with its code.
 fn letter_of(frame: &Frame<Global>) -> u8 {
     match frame.check() {
         Err(AbiFault::UnknownCode) => b'u',
@@ -58,30 +211,119 @@ fn letter_of(frame: &Frame<Global>) -> u8 {
         Err(AbiFault::Alignment) => b'a',
         Ok(shape) => match decode(frame, &shape) {
             Ok(call) if u64::from(call.kind().code()) == frame.rcx & 0xffff => b'c',
-            Ok(_) | Err(Malformed) => b'?',
+            _ => b'?',
         },
     }
 }
 
-fn assert_bits(
+fn assert_frame(
     rt: &impl Abort,
     alloc: Global,
-    value: u64,
-    rdx: u64,
-    wanted: &str,
+    call: Call<'_>,
+    letter: u8,
 ) -> Result<(), AllocError> {
-    for (bit, letter) in wanted.bytes().enumerate() {
-        let rcx = value ^ 1 << (bit % 64);
-        let told = letter_of(&frame(alloc, Call { rcx, rdx, ..BY_0 })?);
-        assert!(rt; told == letter, "{value:#x}, bit {bit}");
+    let wanted = if matches!(letter, b'u' | b'i' | b'a') {
+        letter
+    } else {
+        b'c'
+    };
+    let told = letter_of(&frame(alloc, call)?);
+    assert!(rt; told == wanted, "{:#x}", call.rcx);
+    Ok(())
+}
+
+// Drives the calls to their ends.
+fn take(
+    rt: &impl Abort,
+    alloc: Global,
+    machine: &mut Machine<Global>,
+    turns: &[Turn],
+) -> Result<(), Fail> {
+    for (call, wanted, _) in turns {
+        let told = drive(rt, alloc, machine, *call)?;
+        assert!(rt; told == *wanted, "{:#x}", call.rcx);
     }
     Ok(())
 }
 
+// Makes what comes before some turns, and the first so many of them.
+fn begin(
+    rt: &impl Abort,
+    alloc: Global,
+    machine: &mut Machine<Global>,
+    run: &Run,
+    made: usize,
+) -> Result<(), Fail> {
+    let (before, is_ready, turns) = run;
+    take(rt, alloc, machine, before)?;
+    if *is_ready {
+        make_ready(rt, machine)?;
+    }
+    take(rt, alloc, machine, &turns[..made.min(turns.len())])
+}
+
+// What a call is answered in the place of a turn.
+fn step_at(
+    rt: &impl Abort,
+    alloc: Global,
+    machine: &mut Machine<Global>,
+    run: &Run,
+    made: usize,
+    call: Call<'_>,
+) -> Result<Told, Fail> {
+    begin(rt, alloc, machine, run, made)?;
+    step(rt, alloc, machine, call)
+}
+
+fn assert_step(
+    rt: &impl Abort,
+    alloc: Global,
+    run: &Run,
+    made: usize,
+    call: Call<'_>,
+    letter: u8,
+) -> Result<(), Fail> {
+    let mut machine = boot(alloc, 1)?;
+    let told = step_at(rt, alloc, &mut machine, run, made, call)?;
+    assert!(rt;
+        told == told_by(letter, call.rcx),
+        "{:#x} at {made}",
+        call.rcx
+    );
+    Ok(())
+}
+
+// The call of a turn in its place, with each bit of its input value changed.
+fn assert_bits(
+    rt: &impl Abort,
+    alloc: Global,
+    run: &Run,
+    made: usize,
+    turn: &Turn,
+) -> Result<(), Fail> {
+    let (call, _, letters) = turn;
+    assert!(rt; letters.len() == 64, "{:#x}", call.rcx);
+    for (bit, letter) in letters.bytes().enumerate() {
+        let rcx = call.rcx ^ 1 << (bit % 64);
+        let changed = Call { rcx, ..*call };
+        assert_frame(rt, alloc, changed, letter)?;
+        assert_step(rt, alloc, run, made, changed, letter)?;
+    }
+    Ok(())
+}
+
+fn assert_run(rt: &impl Abort, alloc: Global, run: &Run) -> Result<(), Fail> {
+    for (made, turn) in run.2.iter().enumerate() {
+        assert_bits(rt, alloc, run, made, turn)?;
+    }
+    let mut machine = boot(alloc, 1)?;
+    begin(rt, alloc, &mut machine, run, run.2.len())
+}
+
 #[test]
 fn changed_bits_are_told(rt: HostRuntime) -> Result<(), Fail> {
-    for (rcx, rdx, wanted) in VALUES.iter() {
-        assert_bits(&rt, rt.alloc(), *rcx, *rdx, wanted)?;
+    for run in RUNS.iter() {
+        assert_run(&rt, rt.alloc(), run)?;
     }
     Ok(())
 }

@@ -1,6 +1,9 @@
 // Calls stepped one by one.
 
-use crate::calls::{BY_0, Call, Told, boot, step};
+use crate::calls::{
+    BY_0, CONNECTION, CREATE, CREATE_VP, Call, DELETE_PORT, DEPOSIT, INITIALIZE, PORT, Told, boot,
+    step,
+};
 use hv_machine::{Machine, Rule};
 use std::alloc::Global;
 use std::process::Abort;
@@ -78,74 +81,15 @@ fn a_deleted_processor_reads_no_further(rt: HostRuntime) -> Result<(), Fail> {
     read_on(&rt, rt.alloc(), &mut machine)
 }
 
-// A message port 5 of partition 2 for the root, at SINT 2 of processor 0, and the root's connection 7 to it.
-const PORT: Call<'static> = Call {
-    rcx: 0x95,
-    input: &[
-        2, 0, 0, 0, 0, 0, 0, 0, 5, 0, 0, 0, 0, 0, 0, 0, 1, 0, 0, 0, 0, 0, 0, 0, 1, 0, 0, 0, 0, 0,
-        0, 0, 2, 0, 0, 0, 0, 0, 0, 0, 0, 0, 0, 0, 0, 0, 0, 0,
-    ],
-    ..BY_0
-};
-
-const CONNECTION: Call<'static> = Call {
-    rcx: 0x96,
-    input: &[
-        1, 0, 0, 0, 0, 0, 0, 0, 7, 0, 0, 0, 0, 0, 0, 0, 2, 0, 0, 0, 0, 0, 0, 0, 5, 0, 0, 0, 0, 0,
-        0, 0, 1, 0, 0, 0,
-    ],
-    ..BY_0
-};
-
-// The first of six pages, of which the others follow.
-const DEPOSIT: Call<'static> = Call {
-    rcx: 0x6_0000_0048,
-    input: PAGES,
-    ..BY_0
-};
-
-const PAGES: &[u8] = &[
-    2, 0, 0, 0, 0, 0, 0, 0, 12, 0, 0, 0, 0, 0, 0, 0, 13, 0, 0, 0, 0, 0, 0, 0, 14, 0, 0, 0, 0, 0, 0,
-    0, 15, 0, 0, 0, 0, 0, 0, 0, 16, 0, 0, 0, 0, 0, 0, 0, 17, 0, 0, 0, 0, 0, 0, 0,
-];
-
-const CREATED: [(Call<'static>, Told); 2] = [
-    (Call { rcx: 0x40, ..BY_0 }, Told::Served),
-    (
-        Call {
-            rcx: 0x10041,
-            rdx: 2,
-            ..BY_0
-        },
-        Told::Served,
-    ),
-];
+const CREATED: [(Call<'static>, Told); 2] = [(CREATE, Told::Served), (INITIALIZE, Told::Served)];
 
 const CONNECTED: [(Call<'static>, Told); 3] = [
-    (
-        Call {
-            rcx: 0x1004e,
-            rdx: 2,
-            ..BY_0
-        },
-        Told::Served,
-    ),
+    (CREATE_VP, Told::Served),
     (PORT, Told::Served),
     (CONNECTION, Told::Served),
 ];
 
-const MADE_AGAIN: [(Call<'static>, Told); 2] = [
-    (
-        Call {
-            rcx: 0x10058,
-            rdx: 2,
-            r8: 5,
-            ..BY_0
-        },
-        Told::Served,
-    ),
-    (PORT, Told::Served),
-];
+const MADE_AGAIN: [(Call<'static>, Told); 2] = [(DELETE_PORT, Told::Served), (PORT, Told::Served)];
 
 // The births of port 5 of partition 2, and of the port to which the root's connection 7 goes.
 fn births(machine: &Machine<Global>) -> Option<[u64; 2]> {
