@@ -9,6 +9,8 @@ mod cuts;
 #[cfg(test)]
 mod readers;
 #[cfg(test)]
+mod scripts;
+#[cfg(test)]
 mod words;
 #[cfg(test)]
 mod writers;

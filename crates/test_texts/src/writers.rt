@@ -1,7 +1,7 @@
 // What is told on standard output and standard error, where writes fail too.
 
 use hv_options::{Options, Usage};
-use hv_run::{Exit, run_text, tell_usage};
+use hv_run::{Exit, Failure, run_text, tell, tell_usage};
 use std::alloc::Global;
 use std::io;
 use std::io::{ErrorKind, Write};
@@ -150,4 +150,17 @@ fn unwritten_help(rt: HostRuntime) -> Result<(), Fail> {
     let exit = tell_usage(help, &mut failing_after(0), &mut err);
     assert_eq!(rt; (exit, text_of(&err)), (Exit::Host, "hvpm: write\n"));
     Ok(())
+}
+
+// What a settlement finds wrong, which no script brings about, is told in one line.
+#[test]
+fn settlements_are_told(rt: HostRuntime) {
+    for (failure, line) in [
+        (Failure::Missing, "hvpm: settlement missing\n"),
+        (Failure::Differs, "hvpm: settlement differs\n"),
+    ] {
+        let mut err: Vec<u8> = Vec::new(rt.alloc());
+        let exit = tell(failure, &mut err);
+        assert_eq!(rt; (exit, text_of(&err)), (Exit::Host, line));
+    }
 }
