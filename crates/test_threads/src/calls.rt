@@ -44,24 +44,34 @@ pub(crate) fn numbers(alloc: Global, first: u64, more: Range<u64>) -> Result<Vec
     Ok(input)
 }
 
-// Reads RAX of a processor of the root forty times.
-pub(crate) fn forty_reads(alloc: Global, vp: u32) -> Result<Frame<Global>, Fail> {
+// Reads RAX of a processor so many times.
+pub(crate) fn reads(alloc: Global, part: u64, vp: u32, times: u16) -> Result<Frame<Global>, Fail> {
     let vp = u64::from(vp);
-    let mut input = numbers(alloc, 1, vp..vp + 1)?;
-    for _ in 0..40 {
+    let mut input = numbers(alloc, part, vp..vp + 1)?;
+    for _ in 0..times {
         input.extend_from_slice(&0x2_0000u32.to_le_bytes())?;
     }
-    Ok(call(0x28_0000_0050, input))
+    Ok(call(u64::from(times) << 32 | 0x50, input))
+}
+
+// Reads RAX of a processor of the root forty times.
+pub(crate) fn forty_reads(alloc: Global, vp: u32) -> Result<Frame<Global>, Fail> {
+    reads(alloc, 1, vp, 40)
+}
+
+// A fast call.
+pub(crate) fn fast(alloc: Global, rcx: u64, rdx: u64, r8: u64) -> Frame<Global> {
+    Frame {
+        rcx,
+        rdx,
+        r8,
+        input: Bytes::from_vec(Vec::new(alloc)),
+    }
 }
 
 // Deletes processor 1 of the root.
 pub(crate) fn delete(alloc: Global) -> Frame<Global> {
-    Frame {
-        rcx: 0x1_004f,
-        rdx: 1,
-        r8: 1,
-        input: Bytes::from_vec(Vec::new(alloc)),
-    }
+    fast(alloc, 0x1_004f, 1, 1)
 }
 
 // 32 pages, 12 of them pooled, and two processors.
@@ -91,7 +101,21 @@ pub(crate) fn open<L: Ledger>(
 ) -> Result<(Shared<L>, Pass<L>, Pass<L>), Fail>
     requires { (blank.name ≡ L.name) × (blank.parts ≡ L.parts) × (blank.parts ≡ 2) }
 {
-    let callers = vec![in alloc; root(0), root(1)]?;
+    open_for(rt, alloc, blank, config, limit, [root(0), root(1)])
+}
+
+// A lock round such a machine, and the passes of two processors.
+pub(crate) fn open_for<L: Ledger>(
+    rt: &impl Abort,
+    alloc: Global,
+    blank: Blank,
+    config: Config,
+    limit: u32,
+    callers: [Caller; 2],
+) -> Result<(Shared<L>, Pass<L>, Pass<L>), Fail>
+    requires { (blank.name ≡ L.name) × (blank.parts ≡ L.parts) × (blank.parts ≡ 2) }
+{
+    let callers = vec![in alloc; callers[0], callers[1]]?;
     let kept = boot(alloc, config, limit)?;
     let (shared, mut passes) = lock(rt, kept, blank, callers);
     let second = last_of(rt, &mut passes);
@@ -99,7 +123,8 @@ pub(crate) fn open<L: Ledger>(
     Ok((shared, first, second))
 }
 
-fn lock<L: Ledger>(
+// A lock round a machine to which nothing happened, and a pass for each processor.
+pub(crate) fn lock<L: Ledger>(
     rt: &impl Abort,
     kept: Kept<Global>,
     blank: Blank,
@@ -123,10 +148,25 @@ pub(crate) fn last_of<L: Ledger>(rt: &impl Abort, passes: &mut Vec<Pass<L>>) -> 
     }
 }
 
-// What a processor with one call has to do.
-fn work<L: Ledger>(alloc: Global, pass: Pass<L>, frame: Frame<Global>) -> Result<Work<L>, Fail> {
-    let actions = vec![in alloc; Action::Hypercall(frame)]?;
+// What a processor with one action has to do.
+pub(crate) fn work<L: Ledger>(
+    alloc: Global,
+    pass: Pass<L>,
+    what: Action<Global>,
+) -> Result<Work<L>, Fail> {
+    let actions = vec![in alloc; what]?;
     Ok(Work { pass, actions })
+}
+
+// A phase of two processors, each with one action.
+pub(crate) fn pair<L: Ledger>(
+    alloc: Global,
+    first: (Pass<L>, Action<Global>),
+    second: (Pass<L>, Action<Global>),
+) -> Result<Vec<Work<L>>, Fail> {
+    let first = work(alloc, first.0, first.1)?;
+    let second = work(alloc, second.0, second.1)?;
+    Ok(vec![in alloc; first, second]?)
 }
 
 // A phase of two processors, each with one call.
@@ -135,9 +175,9 @@ pub(crate) fn both<L: Ledger>(
     first: (Pass<L>, Frame<Global>),
     second: (Pass<L>, Frame<Global>),
 ) -> Result<Vec<Work<L>>, Fail> {
-    let first = work(alloc, first.0, first.1)?;
-    let second = work(alloc, second.0, second.1)?;
-    Ok(vec![in alloc; first, second]?)
+    let first = (first.0, Action::Hypercall(first.1));
+    let second = (second.0, Action::Hypercall(second.1));
+    pair(alloc, first, second)
 }
 
 // Does the works, each of which comes to its end, and gives the passes back.

@@ -1,18 +1,22 @@
 // Processors that are at work at the same time, in a phase and in a script.
 ghost use Rattle.std.specs.Prelude.{◌≡◌};
 
-use crate::calls::{OWN_ID, assert_events, both, call, open, phase, settled, small};
-use crate::gates::{Handover, Meeting};
+use crate::calls::{
+    OWN_ID, assert_events, boot, call, lock, open, pair, phase, root, settled, small, work,
+};
+use crate::gates::{Crowd, Handover, Meeting};
 use hv_options::Options;
+use hv_policy::{Action, Caller, Config};
 use hv_run::{Exit, run_gated};
-use hv_threads::Gate;
-use std::alloc::Global;
+use hv_threads::{Gate, Pass, Work};
+use std::alloc::{AllocError, Global};
 use std::marker::Brand;
 use std::process::Abort;
 use std::sync::Wait;
 use std::sync::ledger::{Blank, Ledger};
 use std::test::Fail;
 use std::thread::Threads;
+use std::time::Clock;
 
 const SCRIPT: &[u8] =
     b"boot 32 12 2 0x000000f700000044 9\n1.0 call 0x46 0 0 -\n1.1 call 0x46 0 0 -\n";
@@ -90,21 +94,30 @@ fn scripts_fill(rt: HostRuntime) -> Result<(), Fail> {
     Ok(())
 }
 
-// A phase in which each processor asks for its own id.
+// A phase in which each processor has one action.
 fn ask_both<L: Ledger + Send + Sync, R: Abort + Threads + Wait + Sync, G: Gate>(
     rt: &R,
     alloc: Global,
     blank: Blank,
     gate: &G,
+    actions: (Action<Global>, Action<Global>),
 ) -> Result<(), Fail>
     requires { (blank.name ≡ L.name) × (blank.parts ≡ L.parts) × (blank.parts ≡ 2) }
 {
     let (shared, first, second) = open::<L>(rt, alloc, blank, small(), 9)?;
-    let own = (call(OWN_ID, Vec::new(alloc)), call(OWN_ID, Vec::new(alloc)));
-    let works = both(alloc, (first, own.0), (second, own.1))?;
+    let works = pair(alloc, (first, actions.0), (second, actions.1))?;
     let passes = phase(rt, alloc, &shared, gate, works)?;
     assert_events(rt, &settled(rt, shared, passes), 2);
     Ok(())
+}
+
+// Each asks for its own id.
+fn own_ids(alloc: Global) -> (Action<Global>, Action<Global>) {
+    (own_id(alloc), own_id(alloc))
+}
+
+fn own_id(alloc: Global) -> Action<Global> {
+    Action::Hypercall(call(OWN_ID, Vec::new(alloc)))
 }
 
 #[test]
@@ -115,6 +128,7 @@ fn phases_overlap(rt: HostRuntime) -> Result<(), Fail> {
         rt.alloc(),
         Blank::new(2),
         &gate,
+        own_ids(rt.alloc()),
     )?;
     gate.assert_in_time(&rt);
     Ok(())
@@ -129,7 +143,73 @@ fn leaves_the_lock_first(rt: HostRuntime) -> Result<(), Fail> {
         rt.alloc(),
         Blank::new(2),
         &gate,
+        own_ids(rt.alloc()),
     )?;
     gate.assert_in_time(&rt);
     Ok(())
+}
+
+// Accesses take the lock in another function than hypercalls.
+#[test]
+fn an_access_leaves_the_lock_first(rt: HostRuntime) -> Result<(), Fail> {
+    let gate = Handover::new(&rt);
+    ask_both::<Brand, HostRuntime, Handover<'_, HostRuntime>>(
+        &rt,
+        rt.alloc(),
+        Blank::new(2),
+        &gate,
+        (Action::TakeInterrupt, Action::TakeInterrupt),
+    )?;
+    gate.assert_in_time(&rt);
+    Ok(())
+}
+
+// As many processors as a script's phase may have.
+const MOST: u32 = 64;
+
+fn all_callers(alloc: Global) -> Result<Vec<Caller>, AllocError> {
+    let mut callers = Vec::new(alloc);
+    for vp in 0..MOST {
+        callers.push(root(vp))?;
+    }
+    Ok(callers)
+}
+
+// Each processor asks for its own id.
+fn asks_of<L: Ledger>(alloc: Global, passes: Vec<Pass<L>>) -> Result<Vec<Work<L>>, Fail> {
+    let mut works = Vec::new(alloc);
+    for pass in passes {
+        works.push(work(alloc, pass, own_id(alloc))?)?;
+    }
+    Ok(works)
+}
+
+fn ask_all<L: Ledger + Send + Sync, R: Abort + Clock + Threads + Wait + Sync>(
+    rt: &R,
+    alloc: Global,
+    blank: Blank,
+) -> Result<(), Fail>
+    requires { (blank.name ≡ L.name) × (blank.parts ≡ L.parts) × (blank.parts ≡ 64) }
+{
+    let callers = all_callers(alloc)?;
+    assert!(rt; callers.len() == 64);
+    let config = Config {
+        pages: 256,
+        pool: 256,
+        vps: MOST,
+        ..small()
+    };
+    let kept = boot(alloc, config, MOST)?;
+    let (shared, passes) = lock::<L>(rt, kept, blank, callers);
+    let gate = Crowd::new(rt, 64);
+    let passes = phase(rt, alloc, &shared, &gate, asks_of(alloc, passes)?)?;
+    gate.assert_in_time(rt);
+    assert_events(rt, &settled(rt, shared, passes), 64);
+    Ok(())
+}
+
+// Each processor of a phase has a thread of its own: all of them stand at the gate at once.
+#[test]
+fn a_phase_has_a_thread_for_each(rt: HostRuntime) -> Result<(), Fail> {
+    ask_all::<Brand, HostRuntime>(&rt, rt.alloc(), Blank::new(64))
 }

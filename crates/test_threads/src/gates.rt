@@ -1,5 +1,5 @@
-// Gates: some at which the root's processors 0 and 1 wait for one another, for a while, and one that notes
-// its turns.
+// Gates: some at which the root's processors wait for one another, for a while, and one that notes its
+// turns.
 
 use hv_policy::Caller;
 use hv_threads::Gate;
@@ -10,14 +10,15 @@ use std::thread;
 use std::time::{Clock, Duration};
 
 // How often a thread looks for what it waits for, and the pause after each look.
-const MOST_LOOKS: u32 = 1000;
+const MOST_LOOKS: u32 = 10_000;
 
 const PAUSE_MILLIS: u64 = 1;
 
-// Waits until the flag is raised. After a second or so it goes on, and notes that it was late.
+// Waits until the flag is raised. After ten seconds or so it goes on, and notes that it was late. Where
+// another was, it waits no longer.
 fn wait_for(clock: &impl Clock, flag: &AtomicBool, late: &AtomicBool) {
     for _ in 0..MOST_LOOKS {
-        if flag.load(Ordering::SeqCst) {
+        if flag.load(Ordering::SeqCst) || late.load(Ordering::SeqCst) {
             return;
         }
         thread::sleep(clock, Duration::from_millis(PAUSE_MILLIS));
@@ -66,6 +67,50 @@ impl<'a, C: Clock + Sync> Gate for Meeting<'a, C> {
     fn leave<R: Wait>(&self, _rt: &R, _by: Caller, _turn: u64) {}
 }
 
+// Lets no processor begin its first event before all of them are there.
+#[derive(Drop)]
+pub(crate) struct Crowd<'a, C: Clock + Sync> {
+    clock: &'a C,
+    all: u64,
+    there: AtomicU64,
+    late: AtomicBool,
+}
+
+impl<'a, C: Clock + Sync> Crowd<'a, C> {
+    pub(crate) fn new(clock: &'a C, all: u64) -> Crowd<'a, C> {
+        Crowd {
+            clock,
+            all,
+            there: AtomicU64::new(0),
+            late: AtomicBool::new(false),
+        }
+    }
+
+    // Each processor came in time.
+    pub(crate) fn assert_in_time(&self, rt: &impl Abort) {
+        assert!(rt; !self.late.load(Ordering::SeqCst));
+    }
+}
+
+impl<'a, C: Clock + Sync> Gate for Crowd<'a, C> {
+    fn enter<R: Wait>(&self, _rt: &R, _by: Caller, turn: u64) {
+        if turn > 0 {
+            return;
+        }
+        self.there.fetch_add(1, Ordering::SeqCst);
+        for _ in 0..MOST_LOOKS {
+            let are_there = self.there.load(Ordering::SeqCst) >= self.all;
+            if are_there || self.late.load(Ordering::SeqCst) {
+                return;
+            }
+            thread::sleep(self.clock, Duration::from_millis(PAUSE_MILLIS));
+        }
+        self.late.store(true, Ordering::SeqCst);
+    }
+
+    fn leave<R: Wait>(&self, _rt: &R, _by: Caller, _turn: u64) {}
+}
+
 // Holds processor 0 back until processor 1 comes to its turn 16, and then processor 1 until processor 0
 // has a receipt.
 #[derive(Drop)]
@@ -109,8 +154,8 @@ impl<'a, C: Clock + Sync> Gate for Halt<'a, C> {
     }
 }
 
-// Holds processor 0 back after its hold until processor 1 had one, too. Processor 1 begins its own no sooner. So
-// each comes in time only where the lock is free when `leave` is called.
+// Holds processor 0 back after its hold until processor 1 had one, too. Processor 1 begins its own no sooner.
+// So each comes in time only where the lock is free when `leave` is called.
 #[derive(Drop)]
 pub(crate) struct Handover<'a, C: Clock + Sync> {
     clock: &'a C,
@@ -179,7 +224,8 @@ impl<'a, C: Clock + Sync> Alternation<'a, C> {
 impl<'a, C: Clock + Sync> Gate for Alternation<'a, C> {
     fn enter<R: Wait>(&self, _rt: &R, by: Caller, _turn: u64) {
         for _ in 0..MOST_LOOKS {
-            if self.over.load(Ordering::SeqCst) % 2 == u64::from(by.vp) {
+            let is_next = self.over.load(Ordering::SeqCst) % 2 == u64::from(by.vp);
+            if is_next || self.late.load(Ordering::SeqCst) {
                 return;
             }
             thread::sleep(self.clock, Duration::from_millis(PAUSE_MILLIS));

@@ -9,6 +9,8 @@ mod calls;
 #[cfg(test)]
 mod deleted;
 #[cfg(test)]
+mod finalized;
+#[cfg(test)]
 mod gated;
 #[cfg(test)]
 mod gates;
