@@ -1,66 +1,104 @@
 // Steps of a machine with no memory to be had: a rule refuses as ever, and nothing but what is served then
-// wants memory.
+// wants memory. Beside it stands a machine that has memory, with the history of its events.
 
+use crate::partitions::look;
 use crate::rationed::Heap;
 use crate::rows::Row;
+use crate::texts::{has_audit, has_table, is_told};
+use hv_history::Kept;
 use hv_machine::Machine;
-use hv_policy::{BootRefused, Config, Event, Reply};
+use hv_policy::{Config, Event, Reply};
+use std::alloc::AllocError;
 use std::process::Abort;
+use std::test::Fail;
 
-// Whether a line of the audit tells this reply.
-fn is_told(line: &str, reply: &Reply) -> bool {
-    match reply {
-        Reply::Served(_) => line.contains(" ok"),
-        Reply::More { .. } => line.contains(" more "),
-        Reply::Denied { rule, .. } => line.contains(" denied ") && line.ends_with(rule.name()),
-        Reply::Fault { .. } => false,
+// Whether both have the same partition with this id, or both have none.
+fn has_alike(machine: &Machine<&Heap>, due: &Machine<&Heap>, id: u64) -> bool {
+    let are_below = machine.tree().parent_of(id) == due.tree().parent_of(id);
+    match (machine.tree().get(id), due.tree().get(id)) {
+        (Some(here), Some(there)) => are_below && look(here) == look(there),
+        (None, None) => are_below,
+        _ => false,
     }
 }
 
+// Whether both served as many events, and have the same partitions.
+fn are_alike(machine: &Machine<&Heap>, due: &Machine<&Heap>) -> Result<bool, AllocError> {
+    let (ids, due_ids) = (machine.tree().ids()?, due.tree().ids()?);
+    let mut are_alike = ids.as_slice() == due_ids.as_slice();
+    for id in ids.as_slice() {
+        are_alike = are_alike && has_alike(machine, due, *id);
+    }
+    let counts = (machine.served(), machine.next_id());
+    Ok(are_alike && counts == (due.served(), due.next_id()))
+}
+
 // Makes a step with no block, and where the host refuses it, as it must where it wants memory, again with
-// all. Whether it is answered so.
-fn is_answered<'h>(
+// all. In between the machine is as it is due. Answers the reply, if all is so.
+fn step<'h>(
     heap: &Heap,
     machine: &mut Machine<&'h Heap>,
+    due: &Machine<&'h Heap>,
     event: &Event<&'h Heap>,
     wants: bool,
-    line: &str,
-) -> bool {
+) -> Result<Option<Reply>, AllocError> {
     if machine.served() >= 100 {
-        return false;
+        return Ok(None);
     }
     heap.ration(0);
     let told = machine.step(event);
     heap.lift();
     match told {
-        Ok(reply) => !wants && is_told(line, &reply),
-        Err(_) => wants && machine.step(event).is_ok(),
+        Ok(reply) if !wants => Ok(Some(reply)),
+        Err(_) if wants && are_alike(machine, due)? => Ok(machine.step(event).ok()),
+        _ => Ok(None),
     }
+}
+
+// Makes a step, and lets the event happen where there is memory. Whether it is told alike, and changes alike.
+fn is_answered<'h>(
+    heap: &Heap,
+    machine: &mut Machine<&'h Heap>,
+    kept: &mut Kept<&'h Heap>,
+    event: &Event<&'h Heap>,
+    wants: bool,
+) -> Result<bool, Fail> {
+    let Some(reply) = step(heap, machine, kept.machine(), event, wants)? else {
+        return Ok(false);
+    };
+    kept.apply(event.copy()?)?;
+    let history = kept.history();
+    let last = history.len();
+    let is_told = last > 0 && is_told(&history.entry(last - 1), &reply);
+    Ok(is_told && are_alike(machine, kept.machine())?)
 }
 
 fn step_all<'h>(
     rt: &impl Abort,
     heap: &Heap,
     machine: &mut Machine<&'h Heap>,
+    kept: &mut Kept<&'h Heap>,
     events: &[Event<&'h Heap>],
     row: &Row,
-) {
-    let mut lines = row.audit.lines();
+) -> Result<(), Fail> {
     for (at, event) in events.iter().enumerate() {
-        let line = lines.next().unwrap_or("");
         let wants = row.wants.contains(&at);
-        assert!(rt; is_answered(heap, machine, event, wants, line), "{line}");
+        let is_answered = is_answered(heap, machine, kept, event, wants)?;
+        assert!(rt; is_answered, "event {at}");
     }
+    let is_audit = has_audit(heap.inner(), kept, row.audit.as_bytes());
+    assert!(rt; is_audit && has_table(heap.inner(), kept, row.table.as_bytes()));
+    Ok(())
 }
 
 pub(crate) fn assert_denials<'h>(
     rt: &impl Abort,
     heap: &'h Heap,
-    config: Config,
+    (config, limit): (Config, u32),
     events: &[Event<&'h Heap>],
     row: &Row,
-) -> Result<(), BootRefused> {
+) -> Result<(), Fail> {
     let mut machine = Machine::boot(heap, config)?;
-    step_all(rt, heap, &mut machine, events, row);
-    Ok(())
+    let mut kept = Kept::boot(heap, config, limit)?;
+    step_all(rt, heap, &mut machine, &mut kept, events, row)
 }

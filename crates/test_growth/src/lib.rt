@@ -10,7 +10,13 @@ mod events;
 #[cfg(test)]
 mod growths;
 #[cfg(test)]
-mod parts;
+mod links;
+#[cfg(test)]
+mod mail;
+#[cfg(test)]
+mod pages;
+#[cfg(test)]
+mod partitions;
 pub mod rationed;
 #[cfg(test)]
 mod refusals;
@@ -22,5 +28,7 @@ mod runs;
 mod texts;
 #[cfg(test)]
 mod trees;
+#[cfg(test)]
+mod trial;
 #[cfg(test)]
 mod wholes;

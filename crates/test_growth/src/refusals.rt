@@ -2,32 +2,47 @@
 
 use crate::rationed::Heap;
 use crate::rows::Row;
-use crate::texts::{has_audit, has_table, table_of};
+use crate::texts::{Texts, has_audit, has_table, has_texts, is_told, texts_of};
 use hv_history::{HostRefused, Kept};
-use hv_policy::{Config, Event};
+use hv_policy::{Config, Event, Reply};
 use std::process::Abort;
 use std::test::Fail;
 
-// Lets an event happen with so many blocks, and where it is refused its copy with all. In between the table is
-// as before. Answers whether it was refused.
+// Whether an answer is that of the last entry, with its number.
+fn is_last(kept: &Kept<&Heap>, (number, reply): &(u64, Reply)) -> bool {
+    let history = kept.history();
+    let length = history.len();
+    if length == 0 || *number != length as u64 {
+        return false;
+    }
+    is_told(&history.entry(length - 1), reply)
+}
+
+// Lets an event happen with so many blocks, and where it is refused its copy with all. In between all is as
+// before. Answers whether it was refused.
 fn apply_again<'h>(
     rt: &impl Abort,
     heap: &Heap,
     kept: &mut Kept<&'h Heap>,
     (event, again): (Event<&'h Heap>, Event<&'h Heap>),
     blocks: u64,
-    before: &[u8],
+    before: &Texts,
 ) -> Result<bool, HostRefused> {
     heap.ration(blocks);
-    let refused = kept.apply(event).err();
+    let told = kept.apply(event);
     heap.lift();
-    if refused.is_none() {
-        return Ok(false);
+    match told {
+        Ok(told) => {
+            assert!(rt; is_last(kept, &told));
+            Ok(false)
+        }
+        Err(why) => {
+            assert!(rt; why == HostRefused::Memory && has_texts(heap.inner(), kept, before));
+            let told = kept.apply(again)?;
+            assert!(rt; is_last(kept, &told));
+            Ok(true)
+        }
     }
-    let is_same = has_table(heap.inner(), kept, before);
-    assert!(rt; is_same && refused == Some(HostRefused::Memory));
-    kept.apply(again)?;
-    Ok(true)
 }
 
 fn apply<'h>(
@@ -37,7 +52,7 @@ fn apply<'h>(
     event: &Event<&'h Heap>,
     blocks: u64,
 ) -> Result<bool, Fail> {
-    let before = table_of(heap.inner(), kept)?;
+    let before = texts_of(heap.inner(), kept)?;
     let both = (event.copy()?, event.copy()?);
     Ok(apply_again(rt, heap, kept, both, blocks, &before)?)
 }

@@ -344,7 +344,7 @@ fn assert_row(rt: &impl Abort, heap: &Heap, row: &Row) -> Result<(), Fail> {
     let (config, limit, events) = read(heap, row.script)?;
     assert!(rt; events.len() == row.blocks.len());
     assert_refusals(rt, heap, (config, limit), &events, row)?;
-    assert_denials(rt, heap, config, &events, row)?;
+    assert_denials(rt, heap, (config, limit), &events, row)?;
     Ok(())
 }
 

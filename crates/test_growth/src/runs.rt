@@ -5,7 +5,10 @@ use crate::rationed::{Heap, Rationed};
 use crate::texts::{has_audit, has_table};
 use crate::wholes::boot;
 use hv_abi::Frame;
-use hv_history::Kept;
+use hv_history::{HostRefused, Kept};
+use hv_partition::PageKind;
+use hv_policy::Reply;
+use hv_text::{PrintFault, audit};
 use std::alloc::AllocError;
 use std::process::Abort;
 use std::test::Fail;
@@ -37,33 +40,46 @@ fn deposit(heap: &Heap, start: u32) -> Result<Frame<&Heap>, AllocError> {
     frame(heap, u64::from(start) << 48 | 0x3_0000_0048, &DEPOSITED)
 }
 
-// Runs a call to its end, or to an element that is refused: how many happened before, if one was.
-fn run<'h>(kept: &mut Kept<&'h Heap>, frame: Frame<&'h Heap>) -> Option<u32> {
-    let done = kept.apply_run(ROOT, frame, 16);
-    if done.last.is_err() {
-        Some(done.events)
-    } else {
-        None
-    }
+// Whether just so many pages went, and the audit has the first two events and one for each of them.
+fn has_gone(heap: &Heap, kept: &Kept<&Heap>, events: u32) -> Result<bool, PrintFault> {
+    let mut told: Vec<u8> = Vec::new(heap.inner());
+    audit(&mut told, kept)?;
+    let tree = kept.machine().tree();
+    let (Some(root), Some(child)) = (tree.get(1), tree.get(2)) else {
+        return Ok(false);
+    };
+    let pages = [
+        root.pages(PageKind::Loose).count(),
+        child.pages(PageKind::Pooled).count(),
+    ];
+    let gone = u64::from(events);
+    let length = kept.history().len();
+    let entries = told.len().saturating_sub("events 2\n".len());
+    let is_cut = AUDIT.as_bytes().starts_with(&told[..entries]);
+    Ok(is_cut && length == 2 + events as usize && pages == [20u64.saturating_sub(gone), gone])
 }
 
-// Runs the deposit with so many blocks, and where an element is refused goes on from it with all.
+// Runs the deposit with so many blocks, and where an element is refused goes on from it with all. Answers how
+// many elements happened before, if one was.
 fn run_on<'h>(
     rt: &impl Abort,
     heap: &'h Heap,
     kept: &mut Kept<&'h Heap>,
     blocks: u64,
-) -> Result<Option<u32>, AllocError> {
+) -> Result<Option<u32>, Fail> {
     let frame = deposit(heap, 0)?;
     heap.ration(blocks);
-    let refused = run(kept, frame);
+    let done = kept.apply_run(ROOT, frame, 16);
     heap.lift();
-    if let Some(events) = refused {
-        assert!(rt; events < 3 && kept.history().len() == 2 + events as usize);
-        let rest = run(kept, deposit(heap, events)?);
-        assert!(rt; rest == None);
-    }
-    Ok(refused)
+    let Err(why) = done.last else {
+        return Ok(None);
+    };
+    let has_gone = has_gone(heap, kept, done.events)?;
+    assert!(rt; why == HostRefused::Memory && done.events < 3 && has_gone);
+    let rest = kept.apply_run(ROOT, deposit(heap, done.events)?, 16);
+    let is_served = matches!(rest.last, Ok(Reply::Served(output)) if output.as_slice().is_empty());
+    assert!(rt; is_served && rest.events == 3 - done.events);
+    Ok(Some(done.events))
 }
 
 fn is_applied<'h>(heap: &'h Heap, kept: &mut Kept<&'h Heap>, rcx: u64, input: &[u8]) -> bool {
@@ -78,7 +94,7 @@ fn run_all<'h>(
     heap: &'h Heap,
     kept: &mut Kept<&'h Heap>,
     blocks: u64,
-) -> Result<Option<u32>, AllocError> {
+) -> Result<Option<u32>, Fail> {
     let are_made = is_applied(heap, kept, 0x40, &[0; 8]) && is_applied(heap, kept, 0x46, &[]);
     let refused = run_on(rt, heap, kept, blocks)?;
     let is_audit = has_audit(heap.inner(), kept, AUDIT.as_bytes());
@@ -86,10 +102,8 @@ fn run_all<'h>(
     Ok(refused)
 }
 
-fn refused_after(rt: &impl Abort, heap: &Heap, blocks: u64) -> Result<Option<u32>, AllocError> {
-    let Ok(mut kept) = boot(heap) else {
-        return Err(AllocError);
-    };
+fn refused_after(rt: &impl Abort, heap: &Heap, blocks: u64) -> Result<Option<u32>, Fail> {
+    let mut kept = boot(heap)?;
     run_all(rt, heap, &mut kept, blocks)
 }
 

@@ -1,8 +1,8 @@
 // Scripts that are read, and what is told of a run.
 
 use crate::rationed::Heap;
-use hv_history::Kept;
-use hv_policy::{Config, Event};
+use hv_history::{EntryRef, Kept};
+use hv_policy::{Config, Event, Reply};
 use hv_script::{Line, Script, parse};
 use hv_text::{PrintFault, audit, table};
 use std::alloc::{AllocError, Global};
@@ -36,11 +36,33 @@ pub(crate) fn read<'h>(
     Ok((config, limit, events_of(heap.inner(), lines)?))
 }
 
-// The table, in memory of another allocator.
-pub(crate) fn table_of(alloc: Global, kept: &Kept<&Heap>) -> Result<Vec<u8>, PrintFault> {
-    let mut out: Vec<u8> = Vec::new(alloc);
-    table(&mut out, kept)?;
-    Ok(out)
+// What shows of a machine with its history, in memory of another allocator.
+#[derive(Drop)]
+pub(crate) struct Texts {
+    audit: Vec<u8>,
+    table: Vec<u8>,
+    served: u64,
+    next_id: u64,
+}
+
+pub(crate) fn texts_of(alloc: Global, kept: &Kept<&Heap>) -> Result<Texts, PrintFault> {
+    let mut texts = Texts {
+        audit: Vec::new(alloc),
+        table: Vec::new(alloc),
+        served: kept.machine().served(),
+        next_id: kept.machine().next_id(),
+    };
+    audit(&mut texts.audit, kept)?;
+    table(&mut texts.table, kept)?;
+    Ok(texts)
+}
+
+// Whether just that shows.
+pub(crate) fn has_texts(alloc: Global, kept: &Kept<&Heap>, texts: &Texts) -> bool {
+    let machine = kept.machine();
+    let are_counts = machine.served() == texts.served && machine.next_id() == texts.next_id;
+    let is_audit = has_audit(alloc, kept, texts.audit.as_slice());
+    are_counts && is_audit && has_table(alloc, kept, texts.table.as_slice())
 }
 
 // Whether the audit, or the table, is written there, and is this text.
@@ -52,4 +74,10 @@ pub(crate) fn has_audit(alloc: Global, kept: &Kept<&Heap>, text: &[u8]) -> bool 
 pub(crate) fn has_table(alloc: Global, kept: &Kept<&Heap>, text: &[u8]) -> bool {
     let mut out: Vec<u8> = Vec::new(alloc);
     table(&mut out, kept).is_ok() && out.as_slice() == text
+}
+
+// Whether the entry has this reply.
+pub(crate) fn is_told(entry: &EntryRef<'_>, reply: &Reply) -> bool {
+    let (answer, output) = reply.parts();
+    entry.answer == answer && entry.output == output
 }
