@@ -2,7 +2,7 @@
 
 use crate::ended::{Fault, must};
 use hv_abi::{Bytes, Frame};
-use hv_policy::Action;
+use hv_policy::{Action, Answer, Reply};
 use hv_threads::Pass;
 use std::alloc::Global;
 use std::sync::ledger::Ledger;
@@ -22,6 +22,17 @@ pub(crate) fn two_actions(alloc: Global) -> Result<Vec<Action<Global>>, Fault> {
     let own_id = Action::Hypercall(call(0x46, Vec::new(alloc)));
     let actions = vec![in alloc; own_id, Action::ReadMsr(0x4000_0084)]?;
     Ok(actions)
+}
+
+// Whether they are those two.
+pub(crate) fn are_the_two(actions: &[Action<Global>]) -> bool {
+    match actions {
+        [Action::Hypercall(frame), Action::ReadMsr(0x4000_0084)] => {
+            let registers = [frame.rcx, frame.rdx, frame.r8];
+            registers == [0x46, 0, 0] && frame.input.as_slice().is_empty()
+        }
+        _ => false,
+    }
 }
 
 // Makes a partition.
@@ -57,4 +68,27 @@ pub(crate) fn must_have<L: Ledger>(
 // There is room for a receipt.
 pub(crate) fn must_have_room<L: Ledger>(pass: &Pass<L>) -> Result<(), Fault> {
     must(pass.room() > 0, Fault::Room)
+}
+
+// The reply has this answer and this output.
+pub(crate) fn must_be(reply: &Reply, answer: Answer, output: &[u8]) -> Result<(), Fault> {
+    let (told, bytes) = reply.parts();
+    must(told == answer && bytes == output, Fault::Reply)
+}
+
+// The receipt at a place has this answer and this output. Answers its number.
+pub(crate) fn told_at<L: Ledger>(
+    pass: &Pass<L>,
+    place: usize,
+    answer: Answer,
+    output: &[u8],
+) -> Result<u64, Fault> {
+    let receipts = pass.receipts();
+    if place >= receipts.len() {
+        return Err(Fault::Receipts);
+    }
+    let receipt = receipts.get(place);
+    let is_told = receipt.entry.answer == answer && receipt.entry.output == output;
+    must(is_told, Fault::Receipt)?;
+    Ok(receipt.number)
 }

@@ -1,11 +1,11 @@
-// A call of forty elements, for 16 of which the lock is taken once.
+// A call of forty elements, for 16 of which the lock is taken once, and room for the receipts of many more.
 
-use crate::actions::{FORTY, forty_reads, must_have, must_have_room};
+use crate::actions::{FORTY, forty_reads, must_have_room, told_at};
 use crate::ended::{Fault, Refusal, Side, must};
 use crate::gate::Count;
 use hv_abi::{Frame, ResultValue};
 use hv_history::HostRefused;
-use hv_policy::Reply;
+use hv_policy::{Answer, Reply};
 use hv_threads::{DriveRefused, Open, Pass, Shared};
 use std::alloc::Global;
 use std::sync::Wait;
@@ -16,12 +16,38 @@ const HOLDS: u64 = 3;
 
 const IN_A_HOLD: u16 = 16;
 
+// What an element reads: RAX, which nobody wrote, and zeros.
+const READ: [u8; 16] = [0; 16];
+
 // All forty elements were served.
 fn is_whole(told: &Result<(ResultValue, Reply), DriveRefused>) -> bool {
     match told {
-        Ok((value, Reply::Served(_))) => value.bits() == 0x28_0000_0000,
+        Ok((value, Reply::Served(output))) => {
+            value.bits() == 0x28_0000_0000 && output.as_slice() == READ.as_slice()
+        }
         _ => false,
     }
+}
+
+// Behind its receipt of a partition that was made, the pass has those of so many elements. They are the fifth
+// event and the ones behind it.
+fn must_tell_reads<L: Ledger>(pass: &Pass<L>, elements: u16) -> Result<(), Fault> {
+    must(
+        pass.receipts().len() == 1 + usize::from(elements),
+        Fault::Receipts,
+    )?;
+    let id = 2u64.to_le_bytes();
+    must(told_at(pass, 0, Answer::Served, &id)? == 1, Fault::Receipt)?;
+    for next in 1..elements.min(FORTY) + 1 {
+        let answer = if next < FORTY {
+            Answer::More { next }
+        } else {
+            Answer::Served
+        };
+        let number = told_at(pass, usize::from(next), answer, &READ)?;
+        must(number == 4 + u64::from(next), Fault::Receipt)?;
+    }
+    Ok(())
 }
 
 // On which side of the gate an element was refused. The room for a hold is made before the gate, so that an
@@ -52,7 +78,6 @@ pub(crate) fn try_drive<L: Ledger, R: Wait>(
     pass: &mut Pass<L>,
 ) -> Result<Option<Refusal>, Fault> {
     let gate = Count::new();
-    let before = pass.receipts().len();
     let told = shared.drive(rt, pass, &gate, forty_reads(alloc)?);
     let refusal = match &told {
         Ok(_) => {
@@ -63,13 +88,13 @@ pub(crate) fn try_drive<L: Ledger, R: Wait>(
         Err(refused) => {
             must(refused.why == HostRefused::Memory, Fault::Reason)?;
             let element = refused.next;
-            must_have(pass, before, element)?;
+            must_tell_reads(pass, element)?;
             let side = refused_at(&gate, pass, element)?;
             drive_on(rt, alloc, shared, pass, element)?;
             Some(Refusal::Drive { element, side })
         }
     };
-    must_have(pass, before, FORTY)?;
+    must_tell_reads(pass, FORTY)?;
     Ok(refusal)
 }
 
@@ -82,4 +107,28 @@ fn drive_on<L: Ledger, R: Wait>(
 ) -> Result<(), Fault> {
     let told = shared.drive(rt, pass, &Open, rest_from(alloc, element)?);
     must(is_whole(&told), Fault::Again)
+}
+
+// More receipts than any call makes room for.
+const MANY: usize = 1000;
+
+fn has_made_room<L: Ledger>(pass: &mut Pass<L>) -> bool {
+    pass.reserve(MANY).is_ok() && pass.room() >= MANY
+}
+
+// Makes room for many receipts. If there is no memory for it, the forty-one receipts stay, and it is made
+// again.
+pub(crate) fn try_reserve<L: Ledger>(pass: &mut Pass<L>) -> Result<Option<Refusal>, Fault> {
+    must(pass.room() < MANY, Fault::Room)?;
+    let refusal = match pass.reserve(MANY) {
+        Ok(()) => None,
+        Err(_) => {
+            must_tell_reads(pass, FORTY)?;
+            must(pass.room() < MANY, Fault::Room)?;
+            Some(Refusal::Reserve)
+        }
+    };
+    must(has_made_room(pass), Fault::Again)?;
+    must_tell_reads(pass, FORTY)?;
+    Ok(refusal)
 }

@@ -29,6 +29,10 @@ pub(crate) enum Refusal {
     Denial(Side),
     #[error("drive: element {element}, {side}")]
     Drive { element: u16, side: Side },
+    #[error("reserve: the receipts stayed")]
+    Reserve,
+    #[error("options: the words were read again")]
+    Words,
 }
 
 // What isn't as it must be.
@@ -50,6 +54,8 @@ pub(crate) enum Fault {
     Passes,
     #[error("a receipt too few or too many")]
     Receipts,
+    #[error("a receipt with another number, answer or output")]
+    Receipt,
     #[error("the gate was told of a hold too few or too many")]
     Holds,
     #[error("no room was made before the gate")]
@@ -64,6 +70,8 @@ pub(crate) enum Fault {
     Denial,
     #[error("a call stopped at another element")]
     Element,
+    #[error("words were read otherwise")]
+    Words,
     #[error("the history is no merge of the receipts")]
     Merge,
 }

@@ -1,5 +1,6 @@
 //! Want of memory where it is the process's own, so that no allocator that refuses can be handed in: at a new
-//! lock, at a phase of two threads, and at calls. A program of tests, which takes a few milliseconds.
+//! lock, at a phase of two threads, at calls, at room for receipts, and at the words of a command line. A
+//! program of tests, which takes a few milliseconds.
 //!
 //! `.ci/growth` runs it again and again, and another block of its memory is refused each time. A trial that
 //! is refused looks at all that must be as it was, and goes on with memory, so that what stands at the end
@@ -15,6 +16,7 @@ mod gate;
 mod phase;
 mod single;
 mod trials;
+mod words;
 
 use crate::ended::{Ended, Fault};
 use crate::trials::try_all;

@@ -1,10 +1,10 @@
 // A phase of two threads.
 
-use crate::actions::two_actions;
+use crate::actions::{are_the_two, told_at, two_actions};
 use crate::ended::{Fault, Refusal, must};
 use crate::gate::Count;
 use hv_history::HostRefused;
-use hv_policy::Action;
+use hv_policy::{Action, Answer};
 use hv_threads::{Done, End, Open, Pass, Shared, Work, run_phase};
 use std::alloc::Global;
 use std::sync::Wait;
@@ -79,7 +79,7 @@ fn are_untouched<L: Ledger>(works: &[Work<L>]) -> Result<(), Fault> {
     for (place, work) in works.iter().enumerate() {
         must(is_at(&work.pass, place), Fault::Works)?;
         must(work.pass.receipts().len() == 0, Fault::Works)?;
-        must(work.actions.len() == 2, Fault::Works)?;
+        must(are_the_two(&work.actions), Fault::Works)?;
     }
     Ok(())
 }
@@ -173,4 +173,18 @@ fn finish<L: Ledger, R: Wait>(
     }
     must(pass.receipts().len() == 2, Fault::Receipts)?;
     Ok(Refusal::Work)
+}
+
+// Each of the two processors was told its partition's id, and then what the register has. Theirs are the last
+// four events.
+pub(crate) fn must_be_told<L: Ledger>(passes: &[Pass<L>]) -> Result<(), Fault> {
+    must(passes.len() == 2, Fault::Passes)?;
+    for (place, pass) in passes.iter().enumerate() {
+        must(is_at(pass, place), Fault::Passes)?;
+        let first = told_at(pass, 0, Answer::Served, &1u64.to_le_bytes())?;
+        let second = told_at(pass, 1, Answer::Served, &[0; 8])?;
+        let are_last = 44 < first && first < second && second < 49;
+        must(are_last && pass.receipts().len() == 2, Fault::Receipt)?;
+    }
+    Ok(())
 }

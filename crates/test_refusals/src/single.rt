@@ -1,11 +1,11 @@
 // One call, which is served or denied.
 
-use crate::actions::{create, must_have, must_have_room};
+use crate::actions::{create, must_be, must_have, must_have_room, told_at};
 use crate::ended::{Fault, Refusal, Side, must};
 use crate::gate::Count;
 use hv_abi::Status;
 use hv_history::HostRefused;
-use hv_policy::{Reply, Rule};
+use hv_policy::{Answer, Reply, Rule};
 use hv_threads::{Open, Pass, Shared};
 use std::alloc::Global;
 use std::sync::Wait;
@@ -67,15 +67,25 @@ pub(crate) fn try_call<L: Ledger, R: Wait>(
     pass: &mut Pass<L>,
 ) -> Result<Option<Refusal>, Fault> {
     let (reply, side) = make(rt, alloc, shared, pass)?;
-    must(matches!(reply, Reply::Served(_)), Fault::Reply)?;
+    let id = 2u64.to_le_bytes();
+    must_be(&reply, Answer::Served, &id)?;
+    must(told_at(pass, 0, Answer::Served, &id)? == 1, Fault::Receipt)?;
     Ok(side.map(Refusal::Call))
 }
 
 // How often a call is denied until there is room for another receipt and another entry of it.
 const TIMES: u32 = 2;
 
-// Asks for another partition, for which there are no pages. The machine itself wants no memory for that. So once
-// there is room for its receipt and its entry, the call is refused for want of its copy alone, before the gate.
+// How it is denied.
+const DENIED: Answer = Answer::Denied {
+    rule: Rule::Pages,
+    status: Status::InsufficientMemory,
+    reps: 0,
+};
+
+// Asks for another partition, for which there are no pages. The machine itself wants no memory for that. So
+// once there is room for its receipt and its entry, the call is refused for want of its copy alone, before
+// the gate.
 pub(crate) fn try_denials<L: Ledger, R: Wait>(
     rt: &R,
     alloc: Global,
@@ -85,22 +95,23 @@ pub(crate) fn try_denials<L: Ledger, R: Wait>(
     let mut refusal = None;
     for _ in 0..TIMES {
         let (reply, side) = make(rt, alloc, shared, pass)?;
-        is_denied(&reply)?;
+        must_be(&reply, DENIED, &[])?;
         refusal = refusal.or(side);
     }
     let (reply, side) = make(rt, alloc, shared, pass)?;
-    is_denied(&reply)?;
+    must_be(&reply, DENIED, &[])?;
     must(side != Some(Side::Behind), Fault::Denial)?;
+    are_denied(pass)?;
     Ok(refusal.or(side).map(Refusal::Denial))
 }
 
-fn is_denied(reply: &Reply) -> Result<(), Fault> {
-    let denied = matches!(
-        reply,
-        Reply::Denied {
-            status: Status::InsufficientMemory,
-            ..
-        }
-    );
-    must(denied, Fault::Reply)
+// The second to the fourth event were denied.
+fn are_denied<L: Ledger>(pass: &Pass<L>) -> Result<(), Fault> {
+    for (place, number) in [2, 3, 4].iter().enumerate() {
+        must(
+            told_at(pass, place, DENIED, &[])? == *number,
+            Fault::Receipt,
+        )?;
+    }
+    Ok(())
 }

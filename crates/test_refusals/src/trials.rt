@@ -1,10 +1,11 @@
-// All trials, one after another, in one lock.
+// All trials, one after another: those of the words of a command line, and then all others in one lock.
 ghost use Rattle.std.specs.Prelude.{◌≡◌, [], IfErr, IfOk, vec_len};
 
-use crate::elements::try_drive;
+use crate::elements::{try_drive, try_reserve};
 use crate::ended::{Ended, Fault, Refusal, must};
-use crate::phase::{try_phase, works_of};
+use crate::phase::{must_be_told, try_phase, works_of};
 use crate::single::{try_call, try_denials};
+use crate::words::try_words;
 use hv_history::Kept;
 use hv_policy::{Caller, Config};
 use hv_privs::Privileges;
@@ -32,9 +33,18 @@ fn root(vp: u32) -> Caller {
     Caller { part: 1, vp }
 }
 
+pub(crate) fn try_all<R: Threads + Wait + Sync>(rt: &R, alloc: Global) -> Result<Ended, Fault> {
+    let in_words = try_words(alloc)?;
+    let ended = try_locks(rt, alloc)?;
+    Ok(Ended {
+        kept: ended.kept,
+        refusal: in_words.or(ended.refusal),
+    })
+}
+
 // Boots a machine and makes all trials. If there is no memory for a lock round it, it comes back as it was,
 // and goes into another.
-pub(crate) fn try_all<R: Threads + Wait + Sync>(rt: &R, alloc: Global) -> Result<Ended, Fault> {
+fn try_locks<R: Threads + Wait + Sync>(rt: &R, alloc: Global) -> Result<Ended, Fault> {
     let kept = Kept::boot(alloc, config(), LIMIT)?;
     match in_a_lock(rt, alloc, kept)? {
         Ok(ended) => Ok(ended),
@@ -46,8 +56,10 @@ pub(crate) fn try_all<R: Threads + Wait + Sync>(rt: &R, alloc: Global) -> Result
 }
 
 fn is_as_booted(kept: &Kept<Global>) -> Result<(), Fault> {
-    let same = kept.config() == config() && kept.limit() == LIMIT;
-    must(same && kept.history().len() == 0, Fault::Machine)
+    let is_same = kept.config() == config() && kept.limit() == LIMIT;
+    let machine = kept.machine();
+    let is_new = machine.served() == 0 && machine.next_id() == 2 && kept.history().len() == 0;
+    must(is_same && is_new, Fault::Machine)
 }
 
 fn in_another_lock<R: Threads + Wait + Sync>(
@@ -109,6 +121,7 @@ fn try_in<L: Ledger + Send + Sync, R: Threads + Wait + Sync>(
     let in_call = try_calls(rt, alloc, &shared, &mut passes)?;
     let works = works_of(alloc, later_two(&mut passes)?)?;
     let (mut later, in_phase) = try_phase(rt, alloc, &shared, works)?;
+    must_be_told(&later)?;
     passes.append(&mut later)?;
     match settle(shared, passes) {
         Ok(kept) => Ok(Ended {
@@ -139,5 +152,6 @@ fn try_calls<L: Ledger, R: Wait>(
     let call = try_call(rt, alloc, shared, first)?;
     let denial = try_denials(rt, alloc, shared, second)?;
     let drive = try_drive(rt, alloc, shared, first)?;
-    Ok(call.or(denial).or(drive))
+    let reserve = try_reserve(first)?;
+    Ok(call.or(denial).or(drive).or(reserve))
 }
