@@ -16,6 +16,9 @@
  * Each function answers a status. Where it is HVPM_DONE, it did what it says; else nothing changed: neither the machine nor the
  * reply nor the line. Which rules are asked of an event, and what a served one changes and answers, is docs/POLICY.md.
  *
+ * A hypervisor hands its guests' hypercalls over by `hvpm_hypercall` or `hvpm_run`. For calls of its own the
+ * header has each of them by its fields, at the end: `hvpm_create_partition`, `hvpm_post_message` and so on.
+ *
  * One call at a time may use a handle. Threads share one behind a lock of the caller's; it may be used by one thread and then,
  * ordered by that lock, by another. The functions take memory by malloc and give it back by free, and call nothing else. They
  * read no clock, no file and no guest memory, and keep no pointer that they are given.
@@ -30,6 +33,10 @@
 #ifdef __cplusplus
 extern "C" {
 #endif
+
+/* The version of this header and of its library, as `hvpm --version` tells it. */
+#define HVPM_VERSION_MAJOR 0
+#define HVPM_VERSION_MINOR 1
 
 /*
  * A machine, or nothing. Its owner makes one of zeros, which is nothing; from then on only these functions write it. Only
@@ -81,25 +88,30 @@ typedef struct hvpm_run_done {
 } hvpm_run_done;
 
 /* How an event was answered. Of the last two nothing changed but the count of events. */
-enum {
+enum hvpm_kind {
     HVPM_SERVED = 0, /* it is served; of a rep call this was the last element */
     HVPM_MORE = 1,   /* this element is served, and the call goes on with the next */
     HVPM_DENIED = 2, /* a hypercall that a rule refuses, with its status in `result` */
     HVPM_FAULT = 3   /* an access that a rule refuses: a guest is given #GP */
 };
 
-/* What a function answers. The causes are looked for in this order, but that a hypercall may want memory before it is used up. */
-enum {
+/*
+ * What a function answers. Of several causes it names the first in this order: HVPM_NULL, HVPM_EMPTY_HANDLE
+ * or HVPM_OCCUPIED, HVPM_PAGES, HVPM_POOL, HVPM_VPS, HVPM_SHORT, HVPM_USED_UP, HVPM_MEMORY. But a hypercall
+ * may want memory before it is used up.
+ */
+enum hvpm_status {
     HVPM_DONE = 0,
-    HVPM_NULL = 9,         /* a pointer is null: of a struct, or of a buffer whose length isn't 0 */
     HVPM_EMPTY_HANDLE = 1, /* there is no machine in the handle */
     HVPM_OCCUPIED = 2,     /* boot: there is one already */
+    HVPM_SHORT = 3,        /* the line's buffer has bytes, but fewer than HVPM_LINE; or that for outputs fewer
+                              than HVPM_OUTPUT */
+    HVPM_USED_UP = 4,      /* the machine served 2^32 - 1 events, or took 2^64 - 1: it takes no more */
+    HVPM_MEMORY = 5,       /* malloc has no memory for it; it may be tried again. No access answers this */
     HVPM_PAGES = 6,        /* boot: no pages, or more than 65,536 */
     HVPM_POOL = 7,         /* boot: more pooled pages than pages */
     HVPM_VPS = 8,          /* boot: no processors, more than 64, or more than the pool pays for */
-    HVPM_SHORT = 3,        /* the line's buffer has bytes, but fewer than HVPM_LINE; that for outputs has fewer than HVPM_OUTPUT */
-    HVPM_USED_UP = 4,      /* the machine served 2^32 - 1 events, or took 2^64 - 1: it takes no more */
-    HVPM_MEMORY = 5        /* malloc has no memory for it; it may be tried again. No access answers this */
+    HVPM_NULL = 9          /* a pointer is null: of a struct or number, or of a buffer whose length isn't 0 */
 };
 
 /* A buffer of so many bytes has room for every line of the audit. */
@@ -134,6 +146,19 @@ static inline uint8_t *hvpm_or_none(const void *at, size_t size) {
 /* Whether a pointer of an event is null. The buffer is that of its line or of its outputs. */
 static inline bool hvpm_lacks(const hvpm_machine *machine, const hvpm_reply *reply, const void *buffer, size_t size) {
     return !machine || !reply || (!buffer && size != 0);
+}
+
+/* A number of 8 bytes, the lowest first, as outputs have it. */
+static inline uint64_t hvpm_number(const uint8_t *at) {
+    uint64_t number = 0;
+    for (size_t i = 0; i < 8; i++) number |= (uint64_t)at[i] << 8 * i;
+    return number;
+}
+
+/* Where the event is done and put a number out, `value` takes it. Answers the event's status. */
+static inline uint32_t hvpm_put_out(uint32_t status, const hvpm_reply *reply, uint64_t *value) {
+    if (status == HVPM_DONE && reply->output_len >= 8) *value = hvpm_number(reply->output);
+    return status;
 }
 
 /*
@@ -193,6 +218,13 @@ static inline uint32_t hvpm_read_msr(hvpm_machine *machine, hvpm_caller by, uint
     return hv_embed_read_msr(machine, by, msr, reply, hvpm_or_none(line, line_size), line_size);
 }
 
+/* Reads one as `hvpm_read_msr` does. If that is served, `value` takes the register's value. */
+static inline uint32_t hvpm_read_msr_value(hvpm_machine *machine, hvpm_caller by, uint32_t msr,
+                                           uint64_t *value, hvpm_reply *reply, char *line, size_t line_size) {
+    if (!value) return HVPM_NULL;
+    return hvpm_put_out(hvpm_read_msr(machine, by, msr, reply, line, line_size), reply, value);
+}
+
 /* Writes a value to one. It puts nothing out. A write of EOM may show messages and raise vectors. */
 static inline uint32_t hvpm_write_msr(hvpm_machine *machine, hvpm_caller by, uint32_t msr, uint64_t value, hvpm_reply *reply,
                                       char *line, size_t line_size) {
@@ -233,6 +265,316 @@ static inline uint32_t hvpm_take_interrupt(hvpm_machine *machine, hvpm_caller by
                                            size_t line_size) {
     if (hvpm_lacks(machine, reply, line, line_size)) return HVPM_NULL;
     return hv_embed_take_interrupt(machine, by, reply, hvpm_or_none(line, line_size), line_size);
+}
+
+/*
+ * The 21 hypercalls by their fields, for a caller that is part of the host: a root that makes partitions,
+ * ports and processors. Each function puts the call's input together, takes it as `hvpm_hypercall` does, and
+ * hands on its status, reply and line. What the fields mean, and which values the machine refuses, is
+ * docs/POLICY.md.
+ *
+ * What a call puts out goes where its other pointers lead, if it is served; else nothing is written there.
+ *
+ * The four rep calls take one element of `count`, that at `start`. They begin with 0, and go on with
+ * `reply->next` while the kind is HVPM_MORE:
+ *
+ *     uint16_t at = 0;
+ *     do {
+ *         if (hvpm_deposit_memory(&machine, by, child, pages, 5, at, &reply, NULL, 0) != HVPM_DONE) return 1;
+ *         at = (uint16_t)reply.next;
+ *     } while (reply.kind == HVPM_MORE);
+ */
+
+/* In place of a partition's id: the caller's own. */
+#define HVPM_SELF UINT64_MAX
+
+/* In place of the `vp` of a port: any processor of its partition. */
+#define HVPM_ANY_VP UINT32_MAX
+
+/* What comes by a port. */
+enum hvpm_port_type { HVPM_PORT_MESSAGES = 1, HVPM_PORT_EVENTS = 2 };
+
+/* The properties of a partition. */
+enum hvpm_property {
+    HVPM_PRIVILEGE_FLAGS = 0x00010000,
+    HVPM_CPU_RESERVE = 0x00020001,
+    HVPM_CPU_CAP = 0x00020002,
+    HVPM_CPU_WEIGHT = 0x00020003
+};
+
+/* A port that is made. */
+typedef struct hvpm_port {
+    uint64_t partition; /* whose port it is: PortPartition */
+    uint32_t id;        /* PortId */
+    uint64_t peer;      /* who may connect to it: ConnectionPartition */
+    uint32_t type;      /* HVPM_PORT_MESSAGES or HVPM_PORT_EVENTS */
+    uint32_t sint;      /* the SINT at which it aims: TargetSint */
+    uint32_t vp;        /* the processor of that SINT, or HVPM_ANY_VP: TargetVp */
+    uint16_t base_flag; /* of events the first flag and how many there are: BaseFlagNumber and FlagCount */
+    uint16_t flag_count;
+} hvpm_port;
+
+/* A connection that is made. */
+typedef struct hvpm_connection {
+    uint64_t partition;      /* whose connection it is: ConnectionPartition */
+    uint32_t id;             /* ConnectionId */
+    uint64_t port_partition; /* PortPartition */
+    uint32_t port;           /* PortId */
+    uint32_t type;           /* the port's type */
+} hvpm_connection;
+
+/* A register of a virtual processor. */
+typedef struct hvpm_vp_register {
+    uint32_t name;
+    uint64_t value;
+} hvpm_vp_register;
+
+/* Writes the lowest bytes of a number, the lowest first. There are at most 8. */
+static inline void hvpm_put(uint8_t *at, uint64_t number, size_t size) {
+    for (size_t i = 0; i < size; i++) at[i] = (uint8_t)(number >> 8 * i);
+}
+
+/*
+ * Takes a call with its input list. No list stands in a guest's memory: both addresses are 0, where a page
+ * begins, so that P6 is met by each list for which a page has room.
+ */
+static inline uint32_t hvpm_call(hvpm_machine *machine, hvpm_caller by, uint64_t rcx, const uint8_t *input,
+                                 size_t input_len, hvpm_reply *reply, char *line, size_t line_size) {
+    const hvpm_registers registers = {rcx, 0, 0};
+    return hvpm_hypercall(machine, by, &registers, input, input_len, reply, line, line_size);
+}
+
+/* Takes a call whose input is two numbers as a fast one. */
+static inline uint32_t hvpm_fast(hvpm_machine *machine, hvpm_caller by, uint16_t code, uint64_t first,
+                                 uint64_t second, hvpm_reply *reply, char *line, size_t line_size) {
+    const hvpm_registers registers = {UINT64_C(1) << 16 | code, first, second};
+    return hvpm_hypercall(machine, by, &registers, NULL, 0, reply, line, line_size);
+}
+
+/* RCX of a rep call. */
+static inline uint64_t hvpm_rep(uint16_t code, uint16_t count, uint16_t start) {
+    return (uint64_t)start << 48 | (uint64_t)count << 32 | code;
+}
+
+/* How many elements of a rep call have room in a page behind its header. P5 or P6 refuses a call of more. */
+static inline size_t hvpm_room(uint16_t count, size_t header, size_t element) {
+    const size_t most = (4096 - header) / element;
+    return count < most ? count : most;
+}
+
+/* HvCreatePartition. `partition` takes the id of the new partition. The flags have no effect. */
+static inline uint32_t hvpm_create_partition(hvpm_machine *machine, hvpm_caller by, uint64_t flags,
+                                             uint64_t *partition, hvpm_reply *reply, char *line,
+                                             size_t line_size) {
+    uint8_t input[8];
+    if (!partition) return HVPM_NULL;
+    hvpm_put(input, flags, 8);
+    const uint32_t status = hvpm_call(machine, by, 0x40, input, sizeof input, reply, line, line_size);
+    return hvpm_put_out(status, reply, partition);
+}
+
+/* HvInitializePartition: a child that is Created becomes Active. */
+static inline uint32_t hvpm_initialize_partition(hvpm_machine *machine, hvpm_caller by, uint64_t partition,
+                                                 hvpm_reply *reply, char *line, size_t line_size) {
+    return hvpm_fast(machine, by, 0x41, partition, 0, reply, line, line_size);
+}
+
+/* HvFinalizePartition: a child loses its processors, ports and connections, for good. */
+static inline uint32_t hvpm_finalize_partition(hvpm_machine *machine, hvpm_caller by, uint64_t partition,
+                                               hvpm_reply *reply, char *line, size_t line_size) {
+    return hvpm_fast(machine, by, 0x42, partition, 0, reply, line, line_size);
+}
+
+/* HvDeletePartition: a child that is Created or Finalized goes, and its pages become the caller's. */
+static inline uint32_t hvpm_delete_partition(hvpm_machine *machine, hvpm_caller by, uint64_t partition,
+                                             hvpm_reply *reply, char *line, size_t line_size) {
+    return hvpm_fast(machine, by, 0x43, partition, 0, reply, line, line_size);
+}
+
+/* HvGetPartitionProperty. `value` takes the property's value. */
+static inline uint32_t hvpm_get_partition_property(hvpm_machine *machine, hvpm_caller by, uint64_t partition,
+                                                   uint32_t property, uint64_t *value, hvpm_reply *reply,
+                                                   char *line, size_t line_size) {
+    uint8_t input[16] = {0};
+    if (!value) return HVPM_NULL;
+    hvpm_put(input, partition, 8);
+    hvpm_put(input + 8, property, 4);
+    const uint32_t status = hvpm_call(machine, by, 0x44, input, sizeof input, reply, line, line_size);
+    return hvpm_put_out(status, reply, value);
+}
+
+/* HvSetPartitionProperty, of a child. */
+static inline uint32_t hvpm_set_partition_property(hvpm_machine *machine, hvpm_caller by, uint64_t partition,
+                                                   uint32_t property, uint64_t value, hvpm_reply *reply,
+                                                   char *line, size_t line_size) {
+    uint8_t input[24] = {0};
+    hvpm_put(input, partition, 8);
+    hvpm_put(input + 8, property, 4);
+    hvpm_put(input + 16, value, 8);
+    return hvpm_call(machine, by, 0x45, input, sizeof input, reply, line, line_size);
+}
+
+/* HvGetPartitionId. `partition` takes the caller's own id. */
+static inline uint32_t hvpm_get_partition_id(hvpm_machine *machine, hvpm_caller by, uint64_t *partition,
+                                             hvpm_reply *reply, char *line, size_t line_size) {
+    if (!partition) return HVPM_NULL;
+    return hvpm_put_out(hvpm_call(machine, by, 0x46, NULL, 0, reply, line, line_size), reply, partition);
+}
+
+/* HvGetNextChildPartition. `child` takes the child after `previous`, 0 if there is none; 0 is before all. */
+static inline uint32_t hvpm_get_next_child_partition(hvpm_machine *machine, hvpm_caller by, uint64_t parent,
+                                                     uint64_t previous, uint64_t *child, hvpm_reply *reply,
+                                                     char *line, size_t line_size) {
+    uint8_t input[16];
+    if (!child) return HVPM_NULL;
+    hvpm_put(input, parent, 8);
+    hvpm_put(input + 8, previous, 8);
+    const uint32_t status = hvpm_call(machine, by, 0x47, input, sizeof input, reply, line, line_size);
+    return hvpm_put_out(status, reply, child);
+}
+
+/* HvDepositMemory, a rep call: the page at `start` goes from the caller to the partition's pool. */
+static inline uint32_t hvpm_deposit_memory(hvpm_machine *machine, hvpm_caller by, uint64_t partition,
+                                           const uint64_t *pages, uint16_t count, uint16_t start,
+                                           hvpm_reply *reply, char *line, size_t line_size) {
+    uint8_t input[4096];
+    const size_t room = hvpm_room(count, 8, 8);
+    if (!pages && count != 0) return HVPM_NULL;
+    hvpm_put(input, partition, 8);
+    for (size_t i = 0; i < room; i++) hvpm_put(input + 8 + 8 * i, pages[i], 8);
+    return hvpm_call(machine, by, hvpm_rep(0x48, count, start), input, 8 + 8 * room, reply, line, line_size);
+}
+
+/* HvWithdrawMemory, a rep call: `pages[start]` takes the page that goes from the pool to the caller. */
+static inline uint32_t hvpm_withdraw_memory(hvpm_machine *machine, hvpm_caller by, uint64_t partition,
+                                            uint64_t *pages, uint16_t count, uint16_t start,
+                                            hvpm_reply *reply, char *line, size_t line_size) {
+    uint8_t input[8];
+    if (!pages && count != 0) return HVPM_NULL;
+    hvpm_put(input, partition, 8);
+    const uint64_t rcx = hvpm_rep(0x49, count, start);
+    const uint32_t status = hvpm_call(machine, by, rcx, input, sizeof input, reply, line, line_size);
+    return start < count ? hvpm_put_out(status, reply, &pages[start]) : status;
+}
+
+/* HvGetMemoryBalance. `available` and `in_use` take how many pages of the partition's pool are. */
+static inline uint32_t hvpm_get_memory_balance(hvpm_machine *machine, hvpm_caller by, uint64_t partition,
+                                               uint64_t *available, uint64_t *in_use, hvpm_reply *reply,
+                                               char *line, size_t line_size) {
+    uint8_t input[8];
+    if (!available || !in_use) return HVPM_NULL;
+    hvpm_put(input, partition, 8);
+    const uint32_t status = hvpm_call(machine, by, 0x4A, input, sizeof input, reply, line, line_size);
+    if (status == HVPM_DONE && reply->output_len >= 16) *in_use = hvpm_number(reply->output + 8);
+    return hvpm_put_out(status, reply, available);
+}
+
+/* HvCreateVp. */
+static inline uint32_t hvpm_create_vp(hvpm_machine *machine, hvpm_caller by, uint64_t partition, uint32_t vp,
+                                      hvpm_reply *reply, char *line, size_t line_size) {
+    return hvpm_fast(machine, by, 0x4E, partition, vp, reply, line, line_size);
+}
+
+/* HvDeleteVp. */
+static inline uint32_t hvpm_delete_vp(hvpm_machine *machine, hvpm_caller by, uint64_t partition, uint32_t vp,
+                                      hvpm_reply *reply, char *line, size_t line_size) {
+    return hvpm_fast(machine, by, 0x4F, partition, vp, reply, line, line_size);
+}
+
+/* HvGetVpRegisters, a rep call: the value at `start` becomes that of the register which is named there. */
+static inline uint32_t hvpm_get_vp_registers(hvpm_machine *machine, hvpm_caller by, uint64_t partition,
+                                             uint32_t vp, hvpm_vp_register *registers, uint16_t count,
+                                             uint16_t start, hvpm_reply *reply, char *line,
+                                             size_t line_size) {
+    uint8_t input[4096] = {0};
+    const size_t room = hvpm_room(count, 16, 4);
+    if (!registers && count != 0) return HVPM_NULL;
+    hvpm_put(input, partition, 8);
+    hvpm_put(input + 8, vp, 4);
+    for (size_t i = 0; i < room; i++) hvpm_put(input + 16 + 4 * i, registers[i].name, 4);
+    const uint64_t rcx = hvpm_rep(0x50, count, start);
+    const uint32_t status = hvpm_call(machine, by, rcx, input, 16 + 4 * room, reply, line, line_size);
+    return start < count ? hvpm_put_out(status, reply, &registers[start].value) : status;
+}
+
+/* HvSetVpRegisters, a rep call: the register that is named at `start` gets the value that stands there. */
+static inline uint32_t hvpm_set_vp_registers(hvpm_machine *machine, hvpm_caller by, uint64_t partition,
+                                             uint32_t vp, const hvpm_vp_register *registers, uint16_t count,
+                                             uint16_t start, hvpm_reply *reply, char *line,
+                                             size_t line_size) {
+    uint8_t input[4096] = {0};
+    const size_t room = hvpm_room(count, 16, 32);
+    if (!registers && count != 0) return HVPM_NULL;
+    hvpm_put(input, partition, 8);
+    hvpm_put(input + 8, vp, 4);
+    for (size_t i = 0; i < room; i++) {
+        hvpm_put(input + 16 + 32 * i, registers[i].name, 4);
+        hvpm_put(input + 32 + 32 * i, registers[i].value, 8);
+    }
+    return hvpm_call(machine, by, hvpm_rep(0x51, count, start), input, 16 + 32 * room, reply, line,
+                     line_size);
+}
+
+/* HvDeletePort. */
+static inline uint32_t hvpm_delete_port(hvpm_machine *machine, hvpm_caller by, uint64_t partition,
+                                        uint32_t port, hvpm_reply *reply, char *line, size_t line_size) {
+    return hvpm_fast(machine, by, 0x58, partition, port, reply, line, line_size);
+}
+
+/* HvDisconnectPort. */
+static inline uint32_t hvpm_disconnect_port(hvpm_machine *machine, hvpm_caller by, uint64_t partition,
+                                            uint32_t connection, hvpm_reply *reply, char *line,
+                                            size_t line_size) {
+    return hvpm_fast(machine, by, 0x5B, partition, connection, reply, line, line_size);
+}
+
+/* HvPostMessage, by a connection of the caller. P7 refuses more than 240 bytes, and no more are read. */
+static inline uint32_t hvpm_post_message(hvpm_machine *machine, hvpm_caller by, uint32_t connection,
+                                         uint32_t type, const void *payload, uint32_t payload_size,
+                                         hvpm_reply *reply, char *line, size_t line_size) {
+    uint8_t input[256] = {0};
+    if (!payload && payload_size != 0) return HVPM_NULL;
+    hvpm_put(input, connection, 4);
+    hvpm_put(input + 8, type, 4);
+    hvpm_put(input + 12, payload_size, 4);
+    for (size_t i = 0; i < payload_size && i < 240; i++) input[16 + i] = ((const uint8_t *)payload)[i];
+    return hvpm_call(machine, by, 0x5C, input, sizeof input, reply, line, line_size);
+}
+
+/* HvSignalEvent, by a connection of the caller. The flag is counted from the port's first. */
+static inline uint32_t hvpm_signal_event(hvpm_machine *machine, hvpm_caller by, uint32_t connection,
+                                         uint16_t flag, hvpm_reply *reply, char *line, size_t line_size) {
+    return hvpm_fast(machine, by, 0x5D, (uint64_t)flag << 32 | connection, 0, reply, line, line_size);
+}
+
+/* HvCreatePort. */
+static inline uint32_t hvpm_create_port(hvpm_machine *machine, hvpm_caller by, const hvpm_port *port,
+                                        hvpm_reply *reply, char *line, size_t line_size) {
+    uint8_t input[48] = {0};
+    if (!port) return HVPM_NULL;
+    hvpm_put(input, port->partition, 8);
+    hvpm_put(input + 8, port->id, 4);
+    hvpm_put(input + 16, port->peer, 8);
+    hvpm_put(input + 24, port->type, 4);
+    hvpm_put(input + 32, port->sint, 4);
+    hvpm_put(input + 36, port->vp, 4);
+    hvpm_put(input + 40, port->base_flag, 2);
+    hvpm_put(input + 42, port->flag_count, 2);
+    return hvpm_call(machine, by, 0x95, input, sizeof input, reply, line, line_size);
+}
+
+/* HvConnectPort. */
+static inline uint32_t hvpm_connect_port(hvpm_machine *machine, hvpm_caller by,
+                                         const hvpm_connection *connection, hvpm_reply *reply, char *line,
+                                         size_t line_size) {
+    uint8_t input[48] = {0};
+    if (!connection) return HVPM_NULL;
+    hvpm_put(input, connection->partition, 8);
+    hvpm_put(input + 8, connection->id, 4);
+    hvpm_put(input + 16, connection->port_partition, 8);
+    hvpm_put(input + 24, connection->port, 4);
+    hvpm_put(input + 32, connection->type, 4);
+    return hvpm_call(machine, by, 0x96, input, sizeof input, reply, line, line_size);
 }
 
 #ifdef __cplusplus

@@ -79,13 +79,11 @@ static void inject_gp(const hvpm_reply *reply) {
 static void rdmsr(struct vcpu *vcpu, uint32_t msr) {
     hvpm_reply reply;
     char line[HVPM_LINE];
-    audit(hvpm_read_msr(&machine, vcpu->by, msr, &reply, line, sizeof line), &reply, line);
+    audit(hvpm_read_msr_value(&machine, vcpu->by, msr, &vcpu->rax, &reply, line, sizeof line), &reply, line);
     if (reply.kind == HVPM_FAULT) {
         inject_gp(&reply);
         return;
     }
-    vcpu->rax = 0;
-    for (size_t i = 0; i < reply.output_len; i++) vcpu->rax |= (uint64_t)reply.output[i] << 8 * i;
     printf("    EDX:EAX %016" PRIx64 "\n", vcpu->rax);
 }
 

@@ -16,7 +16,7 @@
 #include <string.h>
 
 /* How many cases of a null there are. */
-enum { CASES = 46 };
+enum { CASES = 153 };
 
 static int wrong;
 
@@ -37,16 +37,39 @@ static void holds(const char *function, const char *what, bool is_so) {
 static const hvpm_caller root = {1, 0};
 
 /* Arguments that are pointers, and how long the buffers among them are. */
-enum { MACHINE, CONFIG, REGISTERS, INPUT, REPLY, LINE, OUTPUTS, DONE, ARGUMENTS, END = ARGUMENTS };
-static const char *const names[ARGUMENTS] = {"machine", "config", "registers", "input",
-                                             "reply",   "line",   "outputs",   "done"};
+enum argument {
+    MACHINE,
+    CONFIG,
+    REGISTERS,
+    INPUT,
+    REPLY,
+    LINE,
+    OUTPUTS,
+    DONE,
+    VALUE,
+    PARTITION,
+    CHILD,
+    AVAILABLE,
+    IN_USE,
+    PAGES,
+    VP_REGISTERS,
+    PAYLOAD,
+    PORT,
+    CONNECTION,
+    ARGUMENTS,
+    END = ARGUMENTS
+};
+static const char *const names[ARGUMENTS] = {
+    "machine",   "config", "registers", "input",  "reply", "line",      "outputs", "done", "value",
+    "partition", "child",  "available", "in_use", "pages", "registers", "payload", "port", "connection"};
 struct arguments {
     void *at[ARGUMENTS];
     size_t len[ARGUMENTS];
 };
 
 static bool is_buffer(int argument) {
-    return argument == INPUT || argument == LINE || argument == OUTPUTS;
+    return argument == INPUT || argument == LINE || argument == OUTPUTS || argument == PAGES ||
+           argument == VP_REGISTERS || argument == PAYLOAD;
 }
 
 /* Where the arguments lead to: a machine, an empty handle, and what is read and written. */
@@ -59,6 +82,12 @@ struct world {
     char line[HVPM_LINE];
     uint8_t outputs[4 * HVPM_OUTPUT];
     hvpm_run_done done;
+    uint64_t number, other;
+    uint64_t pages[2];
+    hvpm_vp_register vp_registers[2];
+    char payload[8];
+    hvpm_port port;
+    hvpm_connection connection;
 };
 
 static void take(struct world *world, uint64_t rcx, uint64_t rdx, const void *input, size_t len) {
@@ -69,8 +98,9 @@ static void take(struct world *world, uint64_t rcx, uint64_t rdx, const void *in
 }
 
 /*
- * Boots a machine and takes 11 events: processor 1.0 is ready, its SINT 2 shows a message and raised 0x32,
- * and flag 5 of its SINT 3 is set and raised 0x33. What functions write is filled with a byte of its own.
+ * Boots a machine and takes 12 events: processor 1.0 is ready, its SINT 2 shows a message and raised 0x32,
+ * flag 5 of its SINT 3 is set and raised 0x33, and partition 2 is Created. What functions write is filled
+ * with a byte of its own.
  */
 static void set_up(struct world *world) {
     static const uint64_t registers[][2] = {{0x80, 1}, {0x82, 1}, {0x83, 1}, {0x92, 0x32}, {0x93, 0x33}};
@@ -85,7 +115,7 @@ static void set_up(struct world *world) {
     static const uint8_t message[17] = {[0] = 2, [8] = 1, [12] = 1, [16] = 0x68};
     memset(world, 0xA5, sizeof *world);
     world->machine = world->empty = (hvpm_machine)HVPM_EMPTY;
-    world->config = (hvpm_config){.mask = 0xf700000044, .pages = 32, .pool = 12, .vps = 1};
+    world->config = (hvpm_config){.mask = 0xf700000044, .pages = 32, .pool = 16, .vps = 1};
     want("the set-up", "boot", hvpm_boot(&world->machine, &world->config), HVPM_DONE);
     for (size_t i = 0; i < 5; i++) {
         const uint32_t msr = 0x40000000 + (uint32_t)registers[i][0];
@@ -98,22 +128,38 @@ static void set_up(struct world *world) {
     }
     take(world, 0x5C, 0, message, sizeof message);
     take(world, 0x1005D, UINT64_C(5) << 32 | 3, NULL, 0);
+    take(world, 0x40, 0, NULL, 0);
     memset(world->input, 0xFF, sizeof world->input);
     memset(&world->reply, 0xA5, sizeof world->reply);
 }
 
-/* The arguments of one function, none of them null. A call withdraws two pages from the caller's pool. */
+/*
+ * The arguments of one function, none of them null, with which it is served. A call withdraws two pages from
+ * the caller's pool.
+ */
 static struct arguments arguments_of(struct world *world, bool is_event) {
     world->registers = (hvpm_registers){.rcx = UINT64_C(2) << 32 | 0x49};
+    world->pages[0] = 16;
+    world->pages[1] = 17;
+    world->vp_registers[0].name = 0x20000;
+    world->vp_registers[1].name = 0x20001;
+    world->port = (hvpm_port){.partition = 1, .id = 4, .peer = 1, .type = HVPM_PORT_MESSAGES};
+    world->connection = (hvpm_connection){1, 4, 1, 2, HVPM_PORT_MESSAGES};
     hvpm_machine *machine = is_event ? &world->machine : &world->empty;
     return (struct arguments){
         {machine, &world->config, &world->registers, world->input, &world->reply, world->line, world->outputs,
-         &world->done},
-        {[INPUT] = sizeof world->input, [LINE] = sizeof world->line, [OUTPUTS] = sizeof world->outputs},
+         &world->done, &world->number, &world->number, &world->number, &world->number, &world->other,
+         world->pages, world->vp_registers, world->payload, &world->port, &world->connection},
+        {[INPUT] = sizeof world->input,
+         [LINE] = sizeof world->line,
+         [OUTPUTS] = sizeof world->outputs,
+         [PAGES] = 2,
+         [VP_REGISTERS] = 2,
+         [PAYLOAD] = sizeof world->payload},
     };
 }
 
-/* What a few events after the 11 of the set-up tell where no other event was between. */
+/* What a few events after the 12 of the set-up tell where no other event was between. */
 static void is_calm(const char *function, hvpm_machine *machine) {
     static const hvpm_registers withdraw = {.rcx = UINT64_C(1) << 32 | 0x49};
     static const uint8_t self[8] = {0xFF, 0xFF, 0xFF, 0xFF, 0xFF, 0xFF, 0xFF, 0xFF};
@@ -133,14 +179,14 @@ static void is_calm(const char *function, hvpm_machine *machine) {
          HVPM_DONE);
     told[len + reply.line_len] = 0;
     snprintf(wanted, sizeof wanted,
-             "12 1.0 interrupt ok 33\n"
-             "13 1.0 slot 2 ok 0100000001000000020000000000000068%0*d\n"
-             "14 1.0 flags 3 ok 20%0*d\n"
-             "15 1.0 rdmsr 40000092 ok 3200000000000000\n"
-             "16 1.0 call 0000000100000049 ok 0000000100000000 0000000000000000\n",
+             "13 1.0 interrupt ok 33\n"
+             "14 1.0 slot 2 ok 0100000001000000020000000000000068%0*d\n"
+             "15 1.0 flags 3 ok 20%0*d\n"
+             "16 1.0 rdmsr 40000092 ok 3200000000000000\n"
+             "17 1.0 call 0000000100000049 ok 0000000100000000 0000000000000000\n",
              512 - 34, 0, 512 - 2, 0);
     holds(function, "that later events tell what they would have told", strcmp(told, wanted) == 0);
-    holds(function, "that they alone are counted", machine->events == 16);
+    holds(function, "that they alone are counted", machine->events == 17);
 }
 
 /* ---- The functions ---- */
@@ -193,6 +239,99 @@ static uint32_t take_interrupt(const struct arguments *a) {
     return hvpm_take_interrupt(a->at[MACHINE], root, a->at[REPLY], a->at[LINE], a->len[LINE]);
 }
 
+/* The last arguments of each typed call. */
+#define TOLD a->at[REPLY], a->at[LINE], a->len[LINE]
+
+static uint32_t create_partition(const struct arguments *a) {
+    return hvpm_create_partition(a->at[MACHINE], root, 0, a->at[PARTITION], TOLD);
+}
+
+static uint32_t initialize_partition(const struct arguments *a) {
+    return hvpm_initialize_partition(a->at[MACHINE], root, 2, TOLD);
+}
+
+static uint32_t finalize_partition(const struct arguments *a) {
+    return hvpm_finalize_partition(a->at[MACHINE], root, 2, TOLD);
+}
+
+static uint32_t delete_partition(const struct arguments *a) {
+    return hvpm_delete_partition(a->at[MACHINE], root, 2, TOLD);
+}
+
+static uint32_t get_partition_property(const struct arguments *a) {
+    return hvpm_get_partition_property(a->at[MACHINE], root, 1, HVPM_CPU_CAP, a->at[VALUE], TOLD);
+}
+
+static uint32_t set_partition_property(const struct arguments *a) {
+    return hvpm_set_partition_property(a->at[MACHINE], root, 2, HVPM_CPU_CAP, 1, TOLD);
+}
+
+static uint32_t get_partition_id(const struct arguments *a) {
+    return hvpm_get_partition_id(a->at[MACHINE], root, a->at[PARTITION], TOLD);
+}
+
+static uint32_t get_next_child_partition(const struct arguments *a) {
+    return hvpm_get_next_child_partition(a->at[MACHINE], root, 1, 0, a->at[CHILD], TOLD);
+}
+
+static uint32_t deposit_memory(const struct arguments *a) {
+    return hvpm_deposit_memory(a->at[MACHINE], root, 1, a->at[PAGES], (uint16_t)a->len[PAGES], 0, TOLD);
+}
+
+static uint32_t withdraw_memory(const struct arguments *a) {
+    return hvpm_withdraw_memory(a->at[MACHINE], root, 1, a->at[PAGES], (uint16_t)a->len[PAGES], 0, TOLD);
+}
+
+static uint32_t get_memory_balance(const struct arguments *a) {
+    return hvpm_get_memory_balance(a->at[MACHINE], root, 1, a->at[AVAILABLE], a->at[IN_USE], TOLD);
+}
+
+static uint32_t create_vp(const struct arguments *a) {
+    return hvpm_create_vp(a->at[MACHINE], root, 1, 1, TOLD);
+}
+
+static uint32_t delete_vp(const struct arguments *a) {
+    return hvpm_delete_vp(a->at[MACHINE], root, 1, 0, TOLD);
+}
+
+static uint32_t get_vp_registers(const struct arguments *a) {
+    return hvpm_get_vp_registers(a->at[MACHINE], root, 1, 0, a->at[VP_REGISTERS],
+                                 (uint16_t)a->len[VP_REGISTERS], 0, TOLD);
+}
+
+static uint32_t set_vp_registers(const struct arguments *a) {
+    return hvpm_set_vp_registers(a->at[MACHINE], root, 1, 0, a->at[VP_REGISTERS],
+                                 (uint16_t)a->len[VP_REGISTERS], 0, TOLD);
+}
+
+static uint32_t delete_port(const struct arguments *a) {
+    return hvpm_delete_port(a->at[MACHINE], root, 1, 2, TOLD);
+}
+
+static uint32_t disconnect_port(const struct arguments *a) {
+    return hvpm_disconnect_port(a->at[MACHINE], root, 1, 2, TOLD);
+}
+
+static uint32_t post_message(const struct arguments *a) {
+    return hvpm_post_message(a->at[MACHINE], root, 2, 1, a->at[PAYLOAD], (uint32_t)a->len[PAYLOAD], TOLD);
+}
+
+static uint32_t signal_event(const struct arguments *a) {
+    return hvpm_signal_event(a->at[MACHINE], root, 3, 5, TOLD);
+}
+
+static uint32_t create_port(const struct arguments *a) {
+    return hvpm_create_port(a->at[MACHINE], root, a->at[PORT], TOLD);
+}
+
+static uint32_t connect_port(const struct arguments *a) {
+    return hvpm_connect_port(a->at[MACHINE], root, a->at[CONNECTION], TOLD);
+}
+
+static uint32_t read_msr_value(const struct arguments *a) {
+    return hvpm_read_msr_value(a->at[MACHINE], root, 0x40000092, a->at[VALUE], TOLD);
+}
+
 static const struct function {
     const char *name;
     uint32_t (*call)(const struct arguments *);
@@ -210,6 +349,28 @@ static const struct function {
     {"hvpm_read_flags", read_flags, true, {MACHINE, REPLY, LINE, END}},
     {"hvpm_clear_flag", clear_flag, true, {MACHINE, REPLY, LINE, END}},
     {"hvpm_take_interrupt", take_interrupt, true, {MACHINE, REPLY, LINE, END}},
+    {"hvpm_create_partition", create_partition, true, {MACHINE, PARTITION, REPLY, LINE, END}},
+    {"hvpm_initialize_partition", initialize_partition, true, {MACHINE, REPLY, LINE, END}},
+    {"hvpm_finalize_partition", finalize_partition, true, {MACHINE, REPLY, LINE, END}},
+    {"hvpm_delete_partition", delete_partition, true, {MACHINE, REPLY, LINE, END}},
+    {"hvpm_get_partition_property", get_partition_property, true, {MACHINE, VALUE, REPLY, LINE, END}},
+    {"hvpm_set_partition_property", set_partition_property, true, {MACHINE, REPLY, LINE, END}},
+    {"hvpm_get_partition_id", get_partition_id, true, {MACHINE, PARTITION, REPLY, LINE, END}},
+    {"hvpm_get_next_child_partition", get_next_child_partition, true, {MACHINE, CHILD, REPLY, LINE, END}},
+    {"hvpm_deposit_memory", deposit_memory, true, {MACHINE, PAGES, REPLY, LINE, END}},
+    {"hvpm_withdraw_memory", withdraw_memory, true, {MACHINE, PAGES, REPLY, LINE, END}},
+    {"hvpm_get_memory_balance", get_memory_balance, true, {MACHINE, AVAILABLE, IN_USE, REPLY, LINE, END}},
+    {"hvpm_create_vp", create_vp, true, {MACHINE, REPLY, LINE, END}},
+    {"hvpm_delete_vp", delete_vp, true, {MACHINE, REPLY, LINE, END}},
+    {"hvpm_get_vp_registers", get_vp_registers, true, {MACHINE, VP_REGISTERS, REPLY, LINE, END}},
+    {"hvpm_set_vp_registers", set_vp_registers, true, {MACHINE, VP_REGISTERS, REPLY, LINE, END}},
+    {"hvpm_delete_port", delete_port, true, {MACHINE, REPLY, LINE, END}},
+    {"hvpm_disconnect_port", disconnect_port, true, {MACHINE, REPLY, LINE, END}},
+    {"hvpm_post_message", post_message, true, {MACHINE, PAYLOAD, REPLY, LINE, END}},
+    {"hvpm_signal_event", signal_event, true, {MACHINE, REPLY, LINE, END}},
+    {"hvpm_create_port", create_port, true, {MACHINE, PORT, REPLY, LINE, END}},
+    {"hvpm_connect_port", connect_port, true, {MACHINE, CONNECTION, REPLY, LINE, END}},
+    {"hvpm_read_msr_value", read_msr_value, true, {MACHINE, VALUE, REPLY, LINE, END}},
 };
 
 /* ---- The cases ---- */
@@ -235,7 +396,10 @@ static void try_null(const struct function *function, int argument) {
     hvpm_destroy(&world.machine);
 }
 
-/* A buffer of no bytes may be null: no line, an input list that reads as zeros, or no room for outputs. */
+/*
+ * A buffer of no bytes may be null: no line, an input list that reads as zeros, no room for outputs, a rep
+ * call of no elements, which P5 refuses, or an empty message.
+ */
 static void try_none(const struct function *function, int argument) {
     struct world world;
     set_up(&world);
@@ -250,6 +414,11 @@ static void try_none(const struct function *function, int argument) {
     if (argument == INPUT)
         holds(function->name, "that no partition is 0",
               world.reply.kind == HVPM_DENIED && world.reply.rule == 9);
+    if (argument == PAGES || argument == VP_REGISTERS)
+        holds(function->name, "that a rep call has elements",
+              world.reply.kind == HVPM_DENIED && world.reply.rule == 5);
+    if (argument == PAYLOAD)
+        holds(function->name, "that a message may be empty", world.reply.kind == HVPM_SERVED);
     hvpm_destroy(&world.machine);
 }
 
@@ -259,7 +428,8 @@ static void try_all(const struct function *function) {
     set_up(&world);
     const struct arguments arguments = arguments_of(&world, function->is_event);
     want(function->name, "nothing null", function->call(&arguments), HVPM_DONE);
-    holds(function->name, "that an event is counted", (world.machine.events > 11) == function->is_event);
+    holds(function->name, "that it is served", !function->is_event || world.reply.rule == 0);
+    holds(function->name, "that an event is counted", (world.machine.events > 12) == function->is_event);
     hvpm_destroy(&world.machine);
     hvpm_destroy(&world.empty);
 }
@@ -274,7 +444,7 @@ static void try_used_up(const struct function *function) {
     want(function->name, "used up", function->call(&arguments), HVPM_USED_UP);
     holds(function->name, "that nothing is written where it is used up",
           memcmp(&before, &world, sizeof before) == 0);
-    world.machine.events = 11;
+    world.machine.events = 12;
     is_calm(function->name, &world.machine);
     world.machine.events = UINT64_MAX - 1;
     want(function->name, "the last event", function->call(&arguments), HVPM_DONE);
