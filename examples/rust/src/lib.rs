@@ -8,13 +8,17 @@
 //! let reply = machine.hypercall(by, call, &[])?;
 //! assert_eq!(reply.answer(), hvpm::Answer::Served);
 //! assert_eq!(reply.output(), 1u64.to_le_bytes());
+//! let child = machine.create_partition(by, 0)?; // and so each call by its fields
+//! assert_eq!(child.value, Some(2));
 //! # Ok::<(), hvpm::Refused>(())
 //! ```
 #![deny(unsafe_op_in_unsafe_fn, missing_docs)]
 
+mod calls;
 #[allow(missing_docs)]
 mod raw;
 
+pub use calls::{ANY_VP, Balance, Connection, Output, Port, PortType, Property, SELF};
 use std::fmt;
 
 /// What the root partition is given at boot.
@@ -251,6 +255,11 @@ impl Machine {
     /// Reads a model-specific register, 8 bytes.
     pub fn read_msr(&mut self, by: Caller, msr: u32) -> Result<Reply, Refused> {
         self.take(|machine, reply, line, size| unsafe { raw::hv_embed_read_msr(machine, by.raw(), msr, reply, line, size) })
+    }
+
+    /// Reads one as a number.
+    pub fn read_msr_value(&mut self, by: Caller, msr: u32) -> Result<Output<u64>, Refused> {
+        Ok(Output::of(self.read_msr(by, msr)?, calls::number))
     }
 
     /// Writes a value to one.
