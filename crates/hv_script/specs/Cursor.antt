@@ -1,31 +1,36 @@
 -- Where a reader stands in a text. Only contracts of private functions cite these words.
-use Rattle.std.specs.Prelude.{ℕ, ◌≡◌, ◌+◌, ◌<◌, ◌≤◌, ◌==◌, ◌&&◌, ◌∷◌, nat_le, List, [], length, Bool, true, false, Option, None, Some, get_or, Err}
+use Rattle.std.specs.Prelude.{ℕ, ◌≡◌, ◌+◌, ◌<◌, ◌≤◌, ◌==◌, ◌&&◌, ◌∷◌, nat_le, List, [], length, Bool, true, false, if◌then◌else◌, Option, Some, get_or, Result, Ok, Err}
 use Rattle.std.specs.List.{before_first}
-use Rattle.hv_script.specs.Script.{SoFar, read_lines}
-use Rattle.hv_script.specs.Words.{lines_of}
+use Rattle.hv_script.specs.Script.{SoFar, read_lines, read_words}
+use Rattle.hv_script.specs.Line.{◌>>=◌}
+use Rattle.hv_script.specs.Words.{has_good_bytes, is_skipped, lines_of, words_of}
 use Rattle.hv_script.specs.declared.fault.FaultKind.{FaultKind}
+use Rattle.hv_script.specs.declared.fault.FaultKind.TheVariants.{Byte}
 
 -- the first of the lines
 abbrev pub line_of : List ℕ → List ℕ
 line_of text = before_first (λ byte. byte == 10) text
 
--- the lines of what is left of a text, of which there may be nothing
-abbrev pub lines_left : Option (List ℕ) → List (List ℕ)
-lines_left None = []
-lines_left (Some text) = lines_of text
+-- the words of a line that are read: none of a line that is skipped
+abbrev pub words_read : List ℕ → Result (List (List ℕ)) FaultKind
+words_read line = if is_skipped (words_of line) then Ok [] else (if has_good_bytes line then Ok (words_of line) else Err Byte)
 
--- how many lines that may be at most
-abbrev pub most_left : Option (List ℕ) → ℕ
-most_left None = 0
-most_left (Some text) = length text + 1
-
--- this stands after the first line of a text, if it has a line feed
-abbrev pub Leaves : List ℕ → Option (List ℕ) → Type 0
-Leaves text rest = (lines_of text ≡ line_of text ∷ lines_left rest) × (most_left rest ≤ length text)
+-- a line that was cut, by what was read before it
+abbrev pub read_cut : {A : Type 0} → Option (SoFar A) → List (List ℕ) → Result (Option (SoFar A)) FaultKind
+read_cut before words =
+    if length words == 0 then Ok before
+    else (do
+      so_far ← read_words before words
+      Ok (Some so_far))
 
 -- a byte of a word, 0x21 to 0x7E
 abbrev pub is_of_word : ℕ → Bool
 is_of_word byte = nat_le 0x21 byte && nat_le byte 0x7E
+
+-- the word that a run of its bytes is, none if there are none
+abbrev pub word_in : List ℕ → List (List ℕ)
+word_in [] = []
+word_in (byte ∷ run) = (byte ∷ run) ∷ []
 
 -- from a place of a text on up to another the bytes pass a test, and the one there doesn't, if there is one
 pub record Runs (test : ℕ → Bool) (text : List ℕ) (from to : ℕ) : Type 0 where
@@ -34,10 +39,10 @@ pub record Runs (test : ℕ → Bool) (text : List ℕ) (from to : ℕ) : Type 0
   pub pass : (k : ℕ) → from ≤ k → k < to → test (get_or text k 0) ≡ true
   pub stop : to < length text → test (get_or text to 0) ≡ false
 
--- after these lines and what was read before them, these are left, and this was read
-abbrev pub ReadsTo : {A : Type 0} → List (List ℕ) → Option (SoFar A) → List (List ℕ) → Option (SoFar A) → Type 0
-ReadsTo lines before left after = (number : ℕ) → read_lines number before lines ≡ read_lines (number + 1) after left
+-- after this text and what was read before it, this is left, and this was read
+abbrev pub ReadsTo : {A : Type 0} → List ℕ → Option (SoFar A) → List ℕ → Option (SoFar A) → Type 0
+ReadsTo text before left after = (number : ℕ) → read_lines number before (lines_of text) ≡ read_lines (number + 1) after (lines_of left)
 
--- the first of these lines has this fault
-abbrev pub FailsBy : {A : Type 0} → List (List ℕ) → Option (SoFar A) → FaultKind → Type 0
-FailsBy lines before kind = (number : ℕ) → read_lines number before lines ≡ Err (record { line = number; kind = kind })
+-- the first line of this text has this fault
+abbrev pub FailsBy : {A : Type 0} → List ℕ → Option (SoFar A) → FaultKind → Type 0
+FailsBy text before kind = (number : ℕ) → read_lines number before (lines_of text) ≡ Err (record { line = number; kind = kind })

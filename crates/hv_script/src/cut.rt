@@ -1,48 +1,86 @@
 // Lines, cut into words.
-ghost use Rattle.std.specs.Prelude.{◌≡◌, ◌<◌, ◌≤◌, ◌==◌, length, true, false, get_or, take, drop};
-ghost use Rattle.std.specs.Prelude.{IfOk, IfErr, IfNone, IfSome};
-ghost use Rattle.std.specs.Option.{option_copied};
-ghost use Rattle.std.specs.List.{All};
+ghost use Rattle.std.specs.Prelude.{◌≡◌, ◌+◌, ◌<◌, ◌≤◌, ◌==◌, ◌++◌, ◌&&◌, ◌^◌, IfOk};
+ghost use Rattle.std.specs.Prelude.{[], length, map, take, drop, codes, nat_eq};
+ghost use Rattle.std.specs.List.{after_first, starts_with};
 ghost use Rattle.hv_script.specs.declared.cut.TheConstants.{KEPT};
-ghost use Rattle.hv_script.specs.declared.fault.FaultKind.TheVariants.{Byte};
-ghost use Rattle.hv_script.specs.Words.{begins_with, has_good_bytes, is_skipped, word_at};
-ghost use Rattle.hv_script.specs.Cursor.{is_of_word, line_of};
-ghost use Rattle.hv_script.specs.Words.{words_of};
-ghost use Rattle.hv_script.specs.Cursor.{Leaves, Runs};
+ghost use Rattle.hv_script.specs.Cursor.{Runs, is_of_word, line_of, word_in, words_read};
+ghost use Rattle.hv_script.specs.Fault.{IsRead};
+ghost use Rattle.hv_script.specs.Words.{begins_with, word_at};
 
 use crate::fault::FaultKind;
 use std::marker::Model;
 
-/// How many words of a line are kept: one more than the most that a line of a script has.
-pub const KEPT: usize = 7;
+/// How many words of a line are kept: the most that a line of a script has.
+pub const KEPT: usize = 6;
 
-/// A line that isn't skipped and has good bytes, seen as its bytes, with its first words.
+/// A line that has been cut, seen as its words.
 #[derive(Drop)]
 pub struct CutLine<'a> {
     line: &'a [u8],
-    // The first words, so that the line is cut once.
+    // The first words. Those past the count are of earlier lines.
     first: [&'a [u8]; KEPT],
     count: usize,
 }
 
 impl<'a> Model for CutLine<'a> {
-    ghost use Rattle.std.specs.Prelude.{◌≡◌, ◌≤◌, List, ℕ, map, take};
+    ghost use Rattle.std.specs.Prelude.{◌≡◌, List, ℕ, length, map, take};
     ghost use Rattle.hv_script.specs.Words.{words_of};
     ghost use Rattle.hv_script.specs.declared.cut.TheConstants.{KEPT};
 
-    ghost Value = { List ℕ };
+    ghost Value = { List (List ℕ) };
 
-    ghost view = { λ cut. cut.line.now };
+    ghost view = { λ cut. words_of cut.line.now };
 
-    ghost invariant = { λ cut. (cut.count ≤ KEPT)
+    ghost invariant = { λ cut. (cut.count ≡ length (words_of cut.line.now))
         × (map (λ word. word.now) (take cut.count cut.first) ≡ take KEPT (words_of cut.line.now)) };
 }
 
 impl<'a> CutLine<'a> {
+    /// An empty line.
+    #[tactic(auto, unfolding(crate::specs::Words::words_of))]
+    pub fn new() -> CutLine<'a>
+        ensures { result ≡ [] }
+    {
+        CutLine {
+            line: &[],
+            first: [&[]; KEPT],
+            count: 0,
+        }
+    }
+
+    /// Cuts the first line of a text, which has no words if it is skipped, and gives what stands after
+    /// its line feed. A line that isn't skipped and has a bad byte is a fault.
+    pub fn cut(&mut self, text: &'a [u8]) -> Result<&'a [u8], FaultKind>
+        ensures rest { IfOk result (λ rest. rest.now ≡ after_first (λ byte. byte == 10) text.now) }
+        ensures words { IsRead result (λ _. self.new) (words_read (line_of text.now)) }
+    {
+        self.line = &[];
+        self.count = 0;
+        let mut count = 0usize;
+        let mut at = 0usize;
+        loop {
+            let end = word_end(text, at);
+            let run = &text[at..end];
+            if begins_comment(count, run) {
+                return Ok(after_line(text));
+            }
+            count = keep(&mut self.first, count, run);
+            if end == text.len() || text[end] == b'\n' {
+                self.line = &text[..end];
+                self.count = count;
+                return Ok(behind(text, end));
+            }
+            if text[end] != b' ' {
+                return Err(FaultKind::Byte);
+            }
+            at = end + 1;
+        }
+    }
+
     /// The word at a place counted from 0, empty where there is none.
     pub fn word(&self, place: usize) -> &'a [u8]
         requires { place < KEPT }
-        ensures { result.now ≡ word_at (words_of self.now) place }
+        ensures { result.now ≡ word_at self.now place }
     {
         if place < self.count {
             self.first[place]
@@ -51,73 +89,19 @@ impl<'a> CutLine<'a> {
         }
     }
 
-    /// Whether there are just so many words.
-    pub fn has_words(&self, count: usize) -> bool
-        requires { count < KEPT }
-        ensures { result ≡ (length (words_of self.now) == count) }
+    /// How many words there are.
+    pub fn words(&self) -> usize
+        ensures { result ≡ length self.now }
     {
-        self.count == count
+        self.count
     }
 
     /// Whether the first word is this one.
     pub fn begins_with(&self, text: &[u8]) -> bool
-        ensures { result ≡ begins_with (words_of self.now) text.now }
+        ensures { result ≡ begins_with self.now text.now }
     {
         self.word(0) == text
     }
-}
-
-/// The first line of a text, cut, unless it is skipped, and what stands after its line feed, if it has
-/// one. A line that isn't skipped and has a bad byte is a fault.
-pub fn next_line(text: &[u8]) -> Result<(Option<CutLine<'_>>, Option<&[u8]>), FaultKind>
-    ensures rest { IfOk result (λ cut. Leaves text.now (option_copied cut.1)) }
-    ensures skipped { IfOk result (λ cut. IfNone cut.0 (is_skipped (words_of (line_of text.now)) ≡ true)) }
-    ensures line { IfOk result (λ cut. IfSome cut.0 (λ line. line ≡ line_of text.now)) }
-    ensures read { IfOk result (λ cut. IfSome cut.0 (λ line. is_skipped (words_of line) ≡ false)) }
-    ensures good { IfOk result (λ cut. IfSome cut.0 (λ line. has_good_bytes line ≡ true)) }
-    ensures fault { IfErr result (λ kind. (kind ≡ Byte) × (is_skipped (words_of (line_of text.now)) ≡ false)
-        × (has_good_bytes (line_of text.now) ≡ false)) }
-{
-    let start = spaces_end(text, 0);
-    if start < text.len() && text[start] == b'#' {
-        return Ok((None, after_line(text)));
-    }
-    let mut first: [&[u8]; KEPT] = [&[]; KEPT];
-    let mut count = 0usize;
-    let mut at = start;
-    while at < text.len() && text[at] != b'\n' {
-        let end = word_end(text, at);
-        if end == at {
-            return Err(FaultKind::Byte);
-        }
-        if count < KEPT {
-            first[count] = &text[at..end];
-            count += 1;
-        }
-        at = spaces_end(text, end);
-    }
-    let rest = if at < text.len() {
-        Some(&text[at + 1..])
-    } else {
-        None
-    };
-    if count == 0 {
-        return Ok((None, rest));
-    }
-    let line = &text[..at];
-    Ok((Some(CutLine { line, first, count }), rest))
-}
-
-// Where the spaces end that stand in a text from a place on.
-fn spaces_end(text: &[u8], from: usize) -> usize
-    requires { from ≤ length text.now }
-    ensures { Runs (λ byte. byte == 32) text.now from result }
-{
-    let mut at = from;
-    while at < text.len() && text[at] == b' ' {
-        at += 1;
-    }
-    at
 }
 
 // Where the bytes of words end that stand in a text from a place on.
@@ -132,12 +116,47 @@ fn word_end(text: &[u8], from: usize) -> usize
     at
 }
 
-// What stands after the first line feed of a text, if it has one.
-fn after_line(text: &[u8]) -> Option<&[u8]>
-    ensures { Leaves text.now (option_copied result) }
+// Whether a run of bytes after so many words begins a comment.
+fn begins_comment(count: usize, run: &[u8]) -> bool
+    ensures { result ≡ ((count == 0) && starts_with nat_eq run.now (codes "#")) }
+{
+    count == 0 && matches!(run, [b'#', ..])
+}
+
+// Keeps a run of bytes after so many words, if it is a word and there is room, and gives how many
+// words there are.
+fn keep<'a>(first: &mut [&'a [u8]; KEPT], count: usize, run: &'a [u8]) -> usize
+    requires { count + 1 < 2 ^ 64 }
+    ensures count { result ≡ count + length (word_in run.now) }
+    ensures kept { map (λ word. word.now) (take result first.new)
+        ≡ take KEPT (map (λ word. word.now) (take count first.old) ++ word_in run.now) }
+{
+    if run.is_empty() {
+        return count;
+    }
+    if count < KEPT {
+        first[count] = run;
+    }
+    count + 1
+}
+
+// What stands after the first line feed of a text, nothing if it has none.
+fn after_line(text: &[u8]) -> &[u8]
+    ensures { result.now ≡ after_first (λ byte. byte == 10) text.now }
 {
     match text.iter().position(|byte| *byte == b'\n') {
-        Some(end) => Some(&text[end + 1..]),
-        None => None,
+        Some(end) => &text[end + 1..],
+        None => &[],
+    }
+}
+
+// What stands after the byte at a place, if there is one.
+fn behind(text: &[u8], place: usize) -> &[u8]
+    ensures { result.now ≡ drop (place + 1) text.now }
+{
+    if place < text.len() {
+        &text[place + 1..]
+    } else {
+        &[]
     }
 }

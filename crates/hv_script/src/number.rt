@@ -1,9 +1,9 @@
 // Numbers and bytes, as words of a script.
-ghost use Rattle.std.specs.Prelude.{◌≡◌, ◌^◌, ◌<◌, ◌≤◌, length};
+ghost use Rattle.std.specs.Prelude.{◌≡◌, ◌^◌, ◌<◌, ◌≤◌, length, option_and_then, IfSome};
 ghost use Rattle.std.specs.Option.{SomeIff};
 ghost use Rattle.std.specs.Str.Parse.{AllDigits, IsNumeral, digits_value};
 ghost use Rattle.hv_script.specs.Fault.{IsRead};
-ghost use Rattle.hv_script.specs.Number.{bytes_in, decimal_in, number_in};
+ghost use Rattle.hv_script.specs.Number.{bytes_in, decimal_in, fitting, number_in};
 
 use crate::fault::FaultKind;
 use std::alloc::Allocator;
@@ -22,7 +22,10 @@ pub fn decimal(word: &[u8]) -> Option<u64>
 pub fn decimal_32(word: &[u8]) -> Option<u32>
     ensures { result ≡ decimal_in 32 word.now }
 {
-    u32::try_from(decimal(word)?).ok()
+    match fitting(decimal(word), 32) {
+        Some(number) => Some(number as u32),
+        None => None,
+    }
 }
 
 /// A number of 64 bits in decimal digits, or in `0x` and 1 to 16 hexadecimal digits of either case.
@@ -36,25 +39,25 @@ pub fn number(word: &[u8]) -> Option<u64>
     }
 }
 
-/// The same, of 32 bits.
-pub fn number_32(word: &[u8]) -> Option<u32>
-    ensures { result ≡ number_in 32 word.now }
+/// A number of fewer bits in the same forms.
+pub fn number_in(word: &[u8], bits: u32) -> Option<u64>
+    requires { bits < 64 }
+    ensures number { result ≡ number_in bits word.now }
+    ensures fits { IfSome result (λ number. number < 2 ^ bits) }
 {
-    u32::try_from(number(word)?).ok()
+    fitting(number(word), bits)
 }
 
-/// The same, of 16 bits.
-pub fn number_16(word: &[u8]) -> Option<u16>
-    ensures { result ≡ number_in 16 word.now }
+// A number, if it fits so many bits.
+fn fitting(number: Option<u64>, bits: u32) -> Option<u64>
+    requires { bits < 64 }
+    ensures number { result ≡ option_and_then (fitting bits) number }
+    ensures fits { IfSome result (λ number. number < 2 ^ bits) }
 {
-    u16::try_from(number(word)?).ok()
-}
-
-/// The same, of 8 bits.
-pub fn number_8(word: &[u8]) -> Option<u8>
-    ensures { result ≡ number_in 8 word.now }
-{
-    u8::try_from(number(word)?).ok()
+    match number {
+        Some(number) if number >> bits == 0 => Some(number),
+        _ => None,
+    }
 }
 
 /// Bytes as an even number of hexadecimal digits of either case, at most 8,192, or `-` for none.

@@ -26,27 +26,25 @@ pub struct Reading<A: Allocator> {
 }
 
 impl<A: Allocator + Clone> Reading<A> {
-    ghost use Rattle.std.specs.Prelude.{◌≡◌, ◌+◌, ◌<◌, ◌≤◌, ◌^◌, IfOk, Ok, OnOk, false, true, length, not};
+    ghost use Rattle.std.specs.Prelude.{◌≡◌, ◌+◌, ◌<◌, ◌≤◌, ◌^◌, IfOk, OnOk, length};
     ghost use Rattle.hv_script.specs.Fault.{IsRead};
     ghost use Rattle.hv_script.specs.Reading.{phase_by, read_by, so_far};
-    ghost use Rattle.hv_script.specs.Callers.{is_among};
-    ghost use Rattle.hv_script.specs.Script.{first_line, later_line, phase_line, processor_line, read_line};
-    ghost use Rattle.hv_script.specs.Script.{taken, with_line};
-    ghost use Rattle.hv_script.specs.Words.{has_good_bytes, is_skipped, words_of};
+    ghost use Rattle.hv_script.specs.Cursor.{read_cut};
+    ghost use Rattle.hv_script.specs.Script.{first_line, later_line, phase_line, processor_line, taken};
 
-    /// Reads a line that isn't skipped after what was read before it.
-    #[tactic(auto, unfolding(crate::specs::Script::read_line))]
+    /// Reads a line after what was read before it.
     pub fn read_line(
         alloc: &A,
         reading: &mut Option<Reading<A>>,
         line: &CutLine<'_>,
     ) -> Result<(), FaultKind>
-        requires phases { phase_by reading.old + 1 < 2 ^ 32 }
-        requires read { is_skipped (words_of line.now) ≡ false }
-        requires good { has_good_bytes line.now ≡ true }
-        ensures read { IsRead result (λ _. read_by reading.new) (read_line (read_by reading.old) line.now) }
+        requires { phase_by reading.old + 1 < 2 ^ 32 }
+        ensures read { IsRead result (λ _. read_by reading.new) (read_cut (read_by reading.old) line.now) }
         ensures phase { OnOk result (phase_by reading.new ≤ phase_by reading.old + 1) }
     {
+        if line.words() == 0 {
+            return Ok(());
+        }
         match reading {
             None => *reading = Some(Reading::first_line(alloc, line)?),
             Some(reading) => reading.later_line(alloc, line)?,
@@ -56,7 +54,7 @@ impl<A: Allocator + Clone> Reading<A> {
 
     // Reads the first line, which is a `boot` line.
     fn first_line(alloc: &A, line: &CutLine<'_>) -> Result<Reading<A>, FaultKind>
-        ensures read { IsRead result so_far (first_line (words_of line.now)) }
+        ensures read { IsRead result so_far (first_line line.now) }
         ensures phase { IfOk result (λ reading. reading.phase ≡ 0) }
     {
         if !line.begins_with(b"boot".as_slice()) {
@@ -78,7 +76,7 @@ impl<A: Allocator + Clone> Reading<A> {
     fn later_line(&mut self, alloc: &A, line: &CutLine<'_>) -> Result<(), FaultKind>
         requires { self.old.phase + 1 < 2 ^ 32 }
         ensures read { IsRead result (λ _. so_far self.new) (later_line (so_far self.old)
-            (words_of line.now)) }
+            line.now) }
         ensures phase { OnOk result (self.new.phase ≤ self.old.phase + 1) }
     {
         if line.begins_with(b"boot".as_slice()) {
@@ -95,10 +93,10 @@ impl<A: Allocator + Clone> Reading<A> {
     fn phase_line(&mut self, line: &CutLine<'_>) -> Result<(), FaultKind>
         requires { self.old.phase + 1 < 2 ^ 32 }
         ensures read { IsRead result (λ _. so_far self.new) (phase_line (so_far self.old)
-            (words_of line.now)) }
+            line.now) }
         ensures phase { OnOk result (self.new.phase ≤ self.old.phase + 1) }
     {
-        if !line.has_words(1) {
+        if line.words() != 1 {
             return Err(FaultKind::Count);
         }
         self.callers.clear();
@@ -110,7 +108,7 @@ impl<A: Allocator + Clone> Reading<A> {
     #[tactic(auto, unfolding(crate::specs::Script::processor_line))]
     fn processor_line(&mut self, alloc: &A, line: &CutLine<'_>) -> Result<(), FaultKind>
         ensures read { IsRead result (λ _. so_far self.new) (processor_line (so_far self.old)
-            (words_of line.now)) }
+            line.now) }
         ensures phase { self.new.phase ≡ self.old.phase }
     {
         let by = processor(line.word(0))?;
@@ -123,31 +121,19 @@ impl<A: Allocator + Clone> Reading<A> {
         ensures read { IsRead result (λ _. so_far self.new) (taken (so_far self.old) by action) }
         ensures phase { self.new.phase ≡ self.old.phase }
     {
-        let is_new = !is_among(&self.callers, by);
-        if is_new && self.callers.len() >= MOST_PROCESSORS {
-            return Err(FaultKind::TooMany);
+        // With the line's room made first, nothing fails after the processor is added.
+        self.lines.reserve(1).map_err(|_| FaultKind::Memory)?;
+        if !is_among(&self.callers, by) {
+            if self.callers.len() >= MOST_PROCESSORS {
+                return Err(FaultKind::TooMany);
+            }
+            self.callers.push(by).map_err(|_| FaultKind::Memory)?;
         }
-        self.add_line(is_new, by, action)
-    }
-
-    // Adds a line of a processor, which is new in the phase or not.
-    fn add_line(&mut self, is_new: bool, by: Caller, action: Action<A>) -> Result<(), FaultKind>
-        requires { is_new ≡ not (is_among self.old.callers.items by) }
-        ensures read { IsRead result (λ _. so_far self.new) (Ok (with_line (so_far self.old) by action)) }
-        ensures phase { self.new.phase ≡ self.old.phase }
-    {
-        // With the processor's room made first, nothing fails after the line is added.
-        self.callers.reserve(1).map_err(|_| FaultKind::Memory)?;
-        self.lines
-            .push(Line {
-                phase: self.phase,
-                by,
-                action,
-            })
-            .map_err(|_| FaultKind::Memory)?;
-        if is_new {
-            self.callers.push_reserved(by);
-        }
+        self.lines.push_reserved(Line {
+            phase: self.phase,
+            by,
+            action,
+        });
         Ok(())
     }
 }

@@ -1,14 +1,12 @@
 // Scripts.
 ghost use Rattle.std.specs.Prelude.{◌≡◌, ◌≢◌, ◌+◌, ◌<◌, ◌≤◌, ◌^◌, IfErr, IfOk, OnOk, length};
-ghost use Rattle.std.specs.Option.{option_copied};
 ghost use Rattle.hv_script.specs.Reading.{phase_by, read_by, said};
 ghost use Rattle.hv_script.specs.Script.{read_lines, script_of};
 ghost use Rattle.hv_script.specs.Cursor.{FailsBy, ReadsTo};
 ghost use Rattle.hv_script.specs.Words.{lines_of};
-ghost use Rattle.hv_script.specs.Cursor.{lines_left, most_left};
 ghost use Rattle.hv_script.specs.declared.script.TheConstants.{MOST_BYTES as MOST};
 
-use crate::cut::next_line;
+use crate::cut::CutLine;
 use crate::fault::{FaultKind, ScriptFault};
 use crate::line::Line;
 use crate::reading::Reading;
@@ -70,10 +68,11 @@ fn read_lines<A: Allocator + Clone>(
 {
     let mut reading = None;
     let mut number = 0usize;
-    let mut left = Some(text);
-    'lines: while let Some(here) = left {
+    let mut line = CutLine::new();
+    let mut left = text;
+    while !left.is_empty() {
         number += 1;
-        left = read_next(alloc, &mut reading, here).map_err(|kind| ScriptFault {
+        left = read_next(alloc, &mut reading, &mut line, left).map_err(|kind| ScriptFault {
             line: number,
             kind,
         })?;
@@ -81,23 +80,23 @@ fn read_lines<A: Allocator + Clone>(
     Ok(reading)
 }
 
-// Reads the first line of a text, and gives what stands after its line feed, if it has one.
+// Reads the first line of a text, and gives what stands after its line feed.
 fn read_next<'a, A: Allocator + Clone>(
     alloc: &A,
     reading: &mut Option<Reading<A>>,
+    line: &mut CutLine<'a>,
     text: &'a [u8],
-) -> Result<Option<&'a [u8]>, FaultKind>
+) -> Result<&'a [u8], FaultKind>
     requires phases { phase_by reading.old + 1 < 2 ^ 32 }
-    ensures read { IfOk result (λ rest. ReadsTo (lines_of text.now) (read_by reading.old)
-        (lines_left (option_copied rest)) (read_by reading.new)) }
-    ensures fault { IfErr result (λ kind. kind ≢ FaultKind.Memory → FailsBy (lines_of text.now)
-        (read_by reading.old) kind) }
-    ensures shorter { IfOk result (λ rest. most_left (option_copied rest) ≤ length text.now) }
+    requires some { 0 < length text.now }
+    ensures read { IfOk result (λ rest. ReadsTo text.now (read_by reading.old) rest.now
+        (read_by reading.new)) }
+    ensures fault { IfErr result (λ kind. kind ≢ FaultKind.Memory
+        → FailsBy text.now (read_by reading.old) kind) }
+    ensures shorter { IfOk result (λ rest. length rest.now < length text.now) }
     ensures phase { OnOk result (phase_by reading.new ≤ phase_by reading.old + 1) }
 {
-    let (line, rest) = next_line(text)?;
-    if let Some(line) = line {
-        Reading::read_line(alloc, reading, &line)?;
-    }
+    let rest = line.cut(text)?;
+    Reading::read_line(alloc, reading, line)?;
     Ok(rest)
 }

@@ -1,30 +1,26 @@
-use Rattle.std.proofs.Common.{◌≡◌, true, Err, ap, sym, rules, ◌∙◌}
-use Rattle.std.specs.Option.{option_copied}
+use Rattle.std.proofs.Common.{ap, rules, ◌∙◌}
 use Rattle.std.proofs.lemmas.Result.{err_from_is_err_and}
+use Rattle.hv_script.specs.Cursor.{line_of, read_cut}
+use Rattle.hv_script.specs.Line.{◌>>=◌}
 use Rattle.hv_script.specs.Reading.{read_by}
-use Rattle.hv_script.specs.Script.{read_line}
-use Rattle.hv_script.specs.Words.{is_skipped, words_of}
-use Rattle.hv_script.specs.Cursor.{line_of}
-use Rattle.hv_script.proofs.LineLemmas.{fails_by, reads_to, refuses, skips}
+use Rattle.hv_script.proofs.LineLemmas.{cut_and_read, fails_by, reads_to}
 use Rattle.hv_script.proofs.script.read_next.Goals as goal
-use Rattle.hv_script.proofs.script.read_next.Goals.{in-Some+in_ok-read_line, in_default}
 
-pub returns-in_err-line-clause-fault : goal.returns-in_err-line-clause-fault
-returns-in_err-line-clause-fault g c =
+pub returns-in_err-rest-clause-fault : goal.returns-in_err-rest-clause-fault
+returns-in_err-rest-clause-fault g c =
+    let before = read_by c.args.reading.now in
     let p = err_from_is_err_and c.from_residual.result c.from_residual.ensures.1 in
-    let bad = c.in_err-line.ensures.fault in
-    rw (p.1, p.2) (λ _. fails_by c.args.text.now (read_by c.args.reading.now) _ (refuses (read_by c.args.reading.now) (line_of c.args.text.now) bad.1 bad.2 ∙ ap Err (sym bad.0)))
+    rw (p.1, p.2) (λ named. fails_by c.args.text.now before _ (cut_and_read before (line_of c.args.text.now) ∙ ap (λ read. read >>= (λ words. read_cut before words)) (c.in_err-rest.ensures.words named)))
+
+pub returns-in_err-read_line-clause-fault : goal.returns-in_err-read_line-clause-fault
+returns-in_err-read_line-clause-fault g c =
+    let before = read_by c.args.reading.now in
+    let p = err_from_is_err_and c.from_residual-in_err-read_line.result c.from_residual-in_err-read_line.ensures.1 in
+    rw (p.1, p.2) (λ named. fails_by c.args.text.now before _ (cut_and_read before (line_of c.args.text.now) ∙ ap (λ read. read >>= (λ words. read_cut before words)) c.in_ok-rest.ensures.words
+    ∙ c.in_err-read_line.ensures.read named))
 
 pub returns-clause-read : goal.returns-clause-read
 returns-clause-read g c =
-    let text = c.args.text.now in
-    elim c.match-line.branch [
-      | in-Some+in_ok-read_line w ↦
-          let same : w.in-Some.line ≡ line_of text = rw w.in-Some.is at c.in_ok-line.ensures.line in
-          rw w.reading-is (reads_to text (option_copied c.in_ok-line.rest) (read_by c.args.reading.now) _ c.in_ok-line.ensures.rest
-          (ap (read_line (read_by c.args.reading.now)) (sym same) ∙ w.in_ok-read_line.ensures.read))
-      | in_default w ↦
-          let skipped : is_skipped (words_of (line_of text)) ≡ true = search rules in
-          rw w.reading-is (reads_to text (option_copied c.in_ok-line.rest) (read_by c.args.reading.now) (read_by c.args.reading.now) c.in_ok-line.ensures.rest
-          (skips (read_by c.args.reading.now) (line_of text) skipped))
-    ]
+    let before = read_by c.args.reading.now in
+    reads_to c.args.text.now c.in_ok-rest.rest.now before (read_by c.read_line.new.reading) c.in_ok-rest.ensures.rest
+    (cut_and_read before (line_of c.args.text.now) ∙ ap (λ read. read >>= (λ words. read_cut before words)) c.in_ok-rest.ensures.words ∙ search rules)
