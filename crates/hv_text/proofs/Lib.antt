@@ -1,6 +1,8 @@
 pub mod Cuts
+pub mod Decimals
 pub mod Entries
 pub mod Outputs
+pub mod Pairs
 pub mod Rows
 pub mod Runs
 pub mod Sent

@@ -9,7 +9,7 @@ ghost use Rattle.hv_history.specs.Row.{action_of, next_in};
 ghost use Rattle.hv_policy.specs.Parts.{reply_of};
 ghost use Rattle.hv_policy.specs.Result.{result_of};
 ghost use Rattle.hv_policy.specs.Rule.{rule_name};
-ghost use Rattle.hv_text.specs.Audit.{audit_text, caller_text, entry_text, hex_32, hex_64, output_text};
+ghost use Rattle.hv_text.specs.Audit.{audit_text, caller_text, entry_text, hex_32, output_text};
 ghost use Rattle.hv_text.specs.Audit.{reply_text, result_text, what_text};
 ghost use Rattle.hv_text.specs.Fault.{IsCut};
 ghost use Rattle.hv_text.specs.declared.audit_text.TheConstants.{ASKED, CALLER, OUTPUT, REPLY, RESULT, RULE};
@@ -124,11 +124,15 @@ fn push_asked<A: Allocator>(line: &mut Text, asked: Asked, input: &[u8])
     ensures most { length (what_text (action_of {A = A} asked input.now)) ≤ ASKED }
 {
     match asked {
-        Asked::Hypercall { rcx, .. } => push_named_64(line, b"call ", rcx),
+        Asked::Hypercall { rcx, .. } => {
+            line.push_text(b"call ");
+            line.push_hex_64(rcx);
+        }
         Asked::ReadMsr(msr) => push_named_32(line, b"rdmsr ", msr),
         Asked::WriteMsr(msr, value) => {
             push_named_32(line, b"wrmsr ", msr);
-            push_named_64(line, b" ", value);
+            line.push_text(b" ");
+            line.push_hex_64(value);
         }
         Asked::ReadSlot(sint) => push_named(line, b"slot ", u64::from(sint)),
         Asked::ClearSlot(sint) => push_named(line, b"clearslot ", u64::from(sint)),
@@ -159,16 +163,6 @@ fn push_named_32(line: &mut Text, name: &[u8], number: u32)
 {
     line.push_text(name);
     line.push_hex_32(number);
-}
-
-// Adds a word and a number of 64 bits in hexadecimal.
-fn push_named_64(line: &mut Text, name: &[u8], number: u64)
-    requires { length line.old + length name.now + 16 ≤ LINE }
-    ensures text { line.new ≡ line.old ++ (name.now ++ hex_64 number) }
-    ensures most { length (hex_64 number) ≤ 16 }
-{
-    line.push_text(name);
-    line.push_hex_64(number);
 }
 
 // How an event was answered.
@@ -218,7 +212,8 @@ fn push_result<A: Allocator>(line: &mut Text, entry: &EntryRef<'_>)
 {
     match entry.asked {
         Asked::Hypercall { rcx, .. } => {
-            push_named_64(line, b" ", result_value::<A>(rcx, entry.answer));
+            line.push_text(b" ");
+            line.push_hex_64(result_value::<A>(rcx, entry.answer));
         }
         Asked::ReadMsr(_)
         | Asked::WriteMsr(_, _)

@@ -4,7 +4,7 @@ ghost use Rattle.std.specs.Int.{w32, w64, to_be_bytes};
 ghost use Rattle.hex.specs.Hex.{encode_lower};
 ghost use Rattle.hv_text.specs.declared.text.TheConstants.{LINE, MOST_DIGITS, MOST_WIDE_DIGITS};
 
-use itoa::Buffer;
+use itoa::{Buffer, write_digits};
 use std::marker::Model;
 
 // More bytes than a line has.
@@ -15,6 +15,26 @@ pub const MOST_DIGITS: usize = 20;
 
 // More digits than a number of 128 bits has.
 pub const MOST_WIDE_DIGITS: usize = 40;
+
+// The two hexadecimal digits of each byte.
+static PAIRS: [u8; 512] = *b"\
+    000102030405060708090a0b0c0d0e0f\
+    101112131415161718191a1b1c1d1e1f\
+    202122232425262728292a2b2c2d2e2f\
+    303132333435363738393a3b3c3d3e3f\
+    404142434445464748494a4b4c4d4e4f\
+    505152535455565758595a5b5c5d5e5f\
+    606162636465666768696a6b6c6d6e6f\
+    707172737475767778797a7b7c7d7e7f\
+    808182838485868788898a8b8c8d8e8f\
+    909192939495969798999a9b9c9d9e9f\
+    a0a1a2a3a4a5a6a7a8a9aaabacadaeaf\
+    b0b1b2b3b4b5b6b7b8b9babbbcbdbebf\
+    c0c1c2c3c4c5c6c7c8c9cacbcccdcecf\
+    d0d1d2d3d4d5d6d7d8d9dadbdcdddedf\
+    e0e1e2e3e4e5e6e7e8e9eaebecedeeef\
+    f0f1f2f3f4f5f6f7f8f9fafbfcfdfeff\
+";
 
 // A line so far.
 #[derive(Drop)]
@@ -75,8 +95,9 @@ impl Text {
         ensures text { self.new ≡ self.old ++ decimal number }
         ensures most { length (decimal number) ≤ MOST_DIGITS }
     {
-        let mut buffer = Buffer::new();
-        self.push_text(buffer.format(number).as_bytes());
+        let end = self.len + digits_of(number);
+        let _start = write_digits(number, &mut self.bytes, end);
+        self.len = end;
     }
 
     // Adds a number of up to 128 bits in decimal.
@@ -96,9 +117,7 @@ impl Text {
         ensures most { length (encode_lower bytes.now) ≤ 2 * length bytes.now }
     {
         let end = self.len + 2 * bytes.len();
-        let Ok(()) = hex::encode_to_slice(bytes, &mut self.bytes[self.len..end]) else {
-            unreachable!()
-        };
+        put_pairs(bytes, &mut self.bytes[self.len..end]);
         self.len = end;
     }
 
@@ -118,5 +137,31 @@ impl Text {
         ensures most { length (encode_lower (to_be_bytes w64 number)) ≤ 16 }
     {
         self.push_bytes(&number.to_be_bytes());
+    }
+}
+
+// How many digits a number has in decimal.
+fn digits_of(number: u64) -> usize
+    ensures { result ≡ length (decimal number) }
+{
+    let mut count = 1;
+    let mut rest = number;
+    while rest >= 10 {
+        rest /= 10;
+        count += 1;
+    }
+    count
+}
+
+// Puts the two digits of each byte where there is room for just these.
+fn put_pairs(bytes: &[u8], room: &mut [u8])
+    requires { length room.old ≡ 2 * length bytes.now }
+    ensures { room.new ≡ encode_lower bytes.now }
+{
+    for at in 0..bytes.len() {
+        let pair = 2 * bytes[at] as usize;
+        let (high, low) = (PAIRS[pair], PAIRS[pair + 1]);
+        room[2 * at] = high;
+        room[2 * at + 1] = low;
     }
 }
