@@ -1,5 +1,4 @@
 // Partitions, and the room in them.
-ghost use Rattle.std.specs.Prelude.{◌+◌, ◌≤◌};
 
 use crate::links::{conn, conns, port, ports};
 use crate::rationed::Heap;
@@ -10,6 +9,7 @@ use hv_ports::{Conn, Port};
 use hv_privs::Privileges;
 use hv_vp::Vp;
 use std::alloc::AllocError;
+use std::ops::Range;
 
 fn new_partition(heap: &Heap) -> Result<Partition<&Heap>, AllocError> {
     Partition::new(heap, Life::Active, Privileges::of(0xF7_0000_0044))
@@ -200,17 +200,16 @@ fn has_processors(made: &Partition<&Heap>) -> bool {
     true
 }
 
-fn put_run(
+fn put_pages(
     made: &mut Partition<&Heap>,
     kind: PageKind,
-    start: u32,
-    length: u64,
-) -> Result<(), AllocError>
-    requires { (1 ≤ length) × (start + length ≤ 32) }
-{
-    made.reserve(kind, 1)?;
-    if made.pages(kind).lowest().is_none() {
-        made.put_run(kind, start, length);
+    pages: Range<u32>,
+) -> Result<(), AllocError> {
+    for page in pages {
+        made.reserve(kind, 1)?;
+        if !made.pages(kind).holds(page) {
+            made.put(kind, page);
+        }
     }
     Ok(())
 }
@@ -260,8 +259,8 @@ fn fill<'h>(heap: &'h Heap, made: &mut Partition<&'h Heap>) -> Result<(), AllocE
 pub(crate) fn reserve(heap: &Heap, room: Room, blocks: u64) -> Result<Told, AllocError> {
     let mut made = new_partition(heap)?;
     made.set_cpu_weight(500);
-    put_run(&mut made, PageKind::Loose, 12, 20)?;
-    put_run(&mut made, PageKind::Pooled, 0, 12)?;
+    put_pages(&mut made, PageKind::Loose, 12..32)?;
+    put_pages(&mut made, PageKind::Pooled, 0..12)?;
     fill(heap, &mut made)?;
     let changes = match room {
         Room::Pages(kind) => made.pages(kind).room().saturating_add(1),

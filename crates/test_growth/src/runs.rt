@@ -71,15 +71,29 @@ fn run_on<'h>(
     heap.ration(blocks);
     let done = kept.apply_run(ROOT, frame, 16);
     heap.lift();
-    let Err(why) = done.last else {
+    let Some(why) = refusal_of(&done.last) else {
         return Ok(None);
     };
     let has_gone = has_gone(heap, kept, done.events)?;
     assert!(rt; why == HostRefused::Memory && done.events < 3 && has_gone);
     let rest = kept.apply_run(ROOT, deposit(heap, done.events)?, 16);
-    let is_served = matches!(rest.last, Ok(Reply::Served(output)) if output.as_slice().is_empty());
-    assert!(rt; is_served && rest.events == 3 - done.events);
+    assert!(rt; is_served(&rest.last) && rest.events == 3 - done.events);
     Ok(Some(done.events))
+}
+
+fn refusal_of(last: &Result<Reply, HostRefused>) -> Option<HostRefused> {
+    match last {
+        Ok(_) => None,
+        Err(why) => Some(*why),
+    }
+}
+
+// Whether it is served and puts nothing out.
+fn is_served(last: &Result<Reply, HostRefused>) -> bool {
+    match last {
+        Ok(Reply::Served(output)) => output.as_slice().is_empty(),
+        _ => false,
+    }
 }
 
 fn is_applied<'h>(heap: &'h Heap, kept: &mut Kept<&'h Heap>, rcx: u64, input: &[u8]) -> bool {
