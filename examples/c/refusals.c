@@ -1,7 +1,7 @@
 /*
- * What the library refuses to its caller, but for a null and on a machine that is used up, which tests/embed/functions.c tries with
- * each function: each status once, and that nothing changed then; and that the elements of a call that are taken in a run tell what
- * they tell one by one. Prints what is wrong.
+ * What the library refuses to its caller: each status once, and that nothing changed then. A null, and a machine
+ * that is used up, are tests/embed/functions.c's, which tries them with each function. Then that the elements of
+ * a call that are taken in a run tell what they tell one by one. Prints what is wrong.
  */
 #include "hvpm.h"
 
