@@ -3,7 +3,7 @@ use Rattle.std.proofs.Common.{IsTrue, false, ◌<◌, ◌≡◌, ℕ, ◌+◌, �
 use Rattle.std.specs.Global.{Global}
 use Rattle.hv_abi.specs.declared.frame.Frame.{Frame}
 use Rattle.hv_defs.specs.declared.sizes.TheConstants.{REPS_END}
-use Rattle.hv_history.specs.Row.{next_in}
+use Rattle.hv_policy.specs.Parts.{next_in}
 use Rattle.hv_history.specs.Run.{IsMore, restart}
 use Rattle.hv_machine.specs.IsFlat.{IsFlat}
 use Rattle.hv_machine.specs.State.{State}

@@ -3,9 +3,9 @@ ghost use Rattle.std.specs.Prelude.{◌≡◌, ◌<◌, ◌≤◌, ℕ, List, []
 ghost use Rattle.std.specs.Global.{Global};
 ghost use Rattle.hv_defs.specs.declared.sizes.TheConstants.{REPS_END};
 ghost use Rattle.hv_history.specs.History.{entry_by};
-ghost use Rattle.hv_history.specs.Row.{action_of, next_in};
+ghost use Rattle.hv_history.specs.Row.{action_of};
 ghost use Rattle.hv_policy.specs.Call.{action_of as action_by, call_event};
-ghost use Rattle.hv_policy.specs.Parts.{reply_of};
+ghost use Rattle.hv_policy.specs.Parts.{next_in, reply_of};
 ghost use Rattle.hv_policy.specs.declared.event.Action.TheVariants.{Hypercall};
 ghost use Rattle.hv_embed.specs.Answer.{HasOutput, IsAnswer, Says, line_text, result_in as result_by};
 ghost use Rattle.hv_embed.specs.Taken.{HasLine, is_short as is_short_len};
@@ -14,7 +14,7 @@ use crate::layout::{DENIED, FAULT, HvReply, MORE, SERVED};
 use hv_abi::Frame;
 use hv_history::{Asked, EntryRef};
 use hv_machine::{Access, Answer, Caller};
-use hv_text::{LINE, Scratch, audit_line, result_value};
+use hv_text::{LINE, Scratch, audit_line};
 use std::alloc::Global;
 
 // Answers an event with its reply, and puts the audit's line with this number into a buffer that has bytes.
@@ -124,7 +124,7 @@ fn result_in(asked: Asked, answer: Answer) -> u64
         → result ≡ result_by (action_of asked input) (reply_of answer output) }
 {
     match asked {
-        Asked::Hypercall { rcx, .. } => result_value::<Global>(rcx, answer),
+        Asked::Hypercall { rcx, .. } => result_value::<Global>(rcx, answer).bits(),
         Asked::ReadMsr(_)
         | Asked::WriteMsr(_, _)
         | Asked::ReadSlot(_)

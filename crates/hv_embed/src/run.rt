@@ -2,7 +2,7 @@
 ghost use Rattle.std.specs.Prelude.{◌≡◌, ◌≢◌, ◌+◌, ◌*◌, ◌<◌, ◌≤◌, ◌++◌, length, take, false, IsTrue};
 ghost use Rattle.std.specs.Prelude.{if◌then◌else◌};
 ghost use Rattle.hv_defs.specs.declared.sizes.TheConstants.{REPS_END};
-ghost use Rattle.hv_history.specs.Row.{next_in};
+ghost use Rattle.hv_policy.specs.Parts.{next_in};
 ghost use Rattle.hv_history.specs.Run.{IsMore, restart as restarted_at};
 ghost use Rattle.hv_machine.specs.IsFlat.{IsFlat};
 ghost use Rattle.hv_machine.specs.Lasting.{IsLasting};

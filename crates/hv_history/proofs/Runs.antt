@@ -6,7 +6,7 @@ use Rattle.hv_laws.proofs.Replies.{goes_on}
 use Rattle.hv_policy.specs.Boot.{boot}
 use Rattle.hv_policy.specs.BootFault.{boot_fault}
 use Rattle.hv_policy.specs.Flat.{Flat}
-use Rattle.hv_policy.specs.Parts.{reply_of}
+use Rattle.hv_policy.specs.Parts.{next_in, reply_of}
 use Rattle.hv_policy.specs.Step.{run, run_from, step}
 use Rattle.hv_policy.specs.declared.answer.Answer.{Answer}
 use Rattle.hv_policy.specs.declared.answer.Answer.TheVariants as answer
@@ -23,7 +23,7 @@ use Rattle.hv_machine.specs.Sound.{IsSound}
 use Rattle.hv_machine.specs.State.{State}
 use Rattle.hv_machine.specs.Step.{IsStep}
 use Rattle.hv_history.proofs.Justified.{justified}
-use Rattle.hv_history.specs.Row.{events_of, next_in, replies_of}
+use Rattle.hv_history.specs.Row.{events_of, replies_of}
 use Rattle.hv_history.specs.Kept.{IsRun, IsTaken, Kept}
 use Rattle.hv_history.specs.declared.entry.Entry.{Entry}
 

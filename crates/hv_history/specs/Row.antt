@@ -2,7 +2,7 @@
 use Rattle.std.specs.Prelude.{ℕ, ◌+◌, ◌-◌, ◌≤◌, ◌<◌, List, [], length, map, take, drop, slice_index_or}
 use Rattle.std.specs.List.{All}
 use Rattle.hv_defs.specs.declared.sizes.TheConstants.{REPS_END}
-use Rattle.hv_policy.specs.Parts.{reply_of}
+use Rattle.hv_policy.specs.Parts.{next_in, reply_of}
 use Rattle.hv_policy.specs.declared.answer.Answer.{Answer}
 use Rattle.hv_policy.specs.declared.answer.Answer.TheVariants as answer
 use Rattle.hv_policy.specs.declared.event.Action.{Action}
@@ -10,7 +10,6 @@ use Rattle.hv_policy.specs.declared.event.Action.TheVariants as action
 use Rattle.hv_policy.specs.declared.event.Caller.{Caller}
 use Rattle.hv_policy.specs.declared.event.Event.{Event}
 use Rattle.hv_policy.specs.declared.reply.Reply.{Reply}
-use Rattle.hv_policy.specs.declared.reply.Reply.TheVariants as reply
 use Rattle.hv_history.specs.declared.entry.Asked.{Asked}
 use Rattle.hv_history.specs.declared.entry.Asked.TheVariants as asked
 use Rattle.hv_history.specs.declared.entry.Entry.{Entry}
@@ -53,13 +52,6 @@ action_of (asked.ClearSlot sint) input = action.ClearSlot sint
 action_of (asked.ReadFlags sint) input = action.ReadFlags sint
 action_of (asked.ClearFlag sint flag) input = action.ClearFlag sint flag
 action_of asked.TakeInterrupt input = action.TakeInterrupt
-
--- the element with which a reply says that its call goes on, and 0 where it doesn't go on
-abbrev pub next_in : Reply → ℕ
-next_in (reply.Served output) = 0
-next_in (reply.More next output) = next
-next_in (reply.Denied rule status reps) = 0
-next_in (reply.Fault rule) = 0
 
 -- an event with its reply
 abbrev pub entry_from : {A : Type 0} → Caller → Asked → List ℕ → Answer → List ℕ → Entry A

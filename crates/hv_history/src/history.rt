@@ -4,10 +4,10 @@ ghost use Rattle.std.specs.Prelude.{length, slice_get, vec_len, vec_capacity};
 ghost use Rattle.hv_abi.specs.declared.frame.Frame.{Frame as CallFrame};
 ghost use Rattle.hv_defs.specs.declared.sizes.TheConstants.{REPS_END};
 ghost use Rattle.hv_history.specs.History.{entries, entry_by, last_head, room_of};
-ghost use Rattle.hv_history.specs.Row.{asking, head_at, next_in, rcx_in};
+ghost use Rattle.hv_history.specs.Row.{asking, head_at, rcx_in};
 ghost use Rattle.hv_history.specs.Run.{element, restart};
 ghost use Rattle.hv_history.specs.declared.entry.Entry.{Entry};
-ghost use Rattle.hv_policy.specs.Parts.{reply_of};
+ghost use Rattle.hv_policy.specs.Parts.{next_in, reply_of};
 ghost use Rattle.hv_policy.specs.declared.event.Action.TheVariants.{Hypercall};
 
 use crate::entry::{Asked, EntryRef};

@@ -7,14 +7,13 @@ ghost use Rattle.hv_machine.specs.Access.{access_reply};
 ghost use Rattle.hv_machine.specs.Masks.{AreMasksWithin};
 ghost use Rattle.hv_policy.specs.BootFault.{boot_fault, IsBootRefusal};
 ghost use Rattle.hv_policy.specs.Next.{GoesOn};
-ghost use Rattle.hv_policy.specs.Parts.{reply_of};
+ghost use Rattle.hv_policy.specs.Parts.{next_in, reply_of};
 ghost use Rattle.hv_policy.specs.Result.{HasResult};
 ghost use Rattle.hv_policy.specs.Step.{NamesAsked};
 ghost use Rattle.hv_policy.specs.declared.event.Action.TheVariants.{Hypercall};
 ghost use Rattle.hv_history.specs.History.{entries};
 ghost use Rattle.hv_history.specs.Justified.{IsJustified, deeds_in, states_in};
 ghost use Rattle.hv_history.specs.Kept.{HasGained, IsRun, IsTaken};
-ghost use Rattle.hv_history.specs.Row.{next_in};
 ghost use Rattle.hv_history.specs.Run.{element, restart};
 ghost use Rattle.hv_history.specs.declared.entry.Entry.{Entry};
 

@@ -70,7 +70,7 @@ pub enum HostRefused {
 
 impl<A: Allocator + Clone> Machine<A> {
     /// Takes one event: serves it exactly where every rule that is asked of it is met, and else answers the
-    /// first unmet one and changes nothing. The caller keeps the count of served events below 2^32 - 1.
+    /// first unmet one and changes nothing. The caller keeps the count of served events below 2^64 - 1.
     // Inlined: calls for the own id in bench/largest.sh.
     #[inline(always)]
     pub fn step(&mut self, event: &Event<A>) -> Result<Reply, HostRefused>

@@ -11,3 +11,10 @@ reply_of answer.Served output = reply.Served output
 reply_of (answer.More next) output = reply.More next output
 reply_of (answer.Denied rule status reps) output = reply.Denied rule status reps
 reply_of (answer.Fault rule) output = reply.Fault rule
+
+-- the element with which a reply says that its call goes on, and 0 where it doesn't go on
+abbrev pub next_in : Reply → ℕ
+next_in (reply.Served output) = 0
+next_in (reply.More next output) = next
+next_in (reply.Denied rule status reps) = 0
+next_in (reply.Fault rule) = 0

@@ -1,8 +1,10 @@
 // What a call is answered: its reply where a rule refuses it, and its result value.
-ghost use Rattle.std.specs.Prelude.{◌≡◌, ◌<◌, Some};
+ghost use Rattle.std.specs.Prelude.{◌≡◌, ◌<◌, [], ℕ, List, Some};
 ghost use Rattle.hv_defs.specs.declared.sizes.TheConstants.{REPS_END};
 ghost use Rattle.hv_abi.specs.Check.{IsShape, call_of};
+ghost use Rattle.hv_abi.specs.declared.frame.Frame.{Frame as CallFrame};
 ghost use Rattle.hv_policy.specs.Answer.{reply_with};
+ghost use Rattle.hv_policy.specs.Parts.{next_in, reply_of};
 ghost use Rattle.hv_policy.specs.Result.{HasResult, kind_in, refused_reps as refused_reps_of};
 ghost use Rattle.hv_policy.specs.Result.{completed_reps as completed_reps_of, result_of as result_value_of};
 ghost use Rattle.hv_policy.specs.Step.{refusal};
@@ -20,15 +22,21 @@ pub fn result_of<A: Allocator>(frame: &Frame<A>, reply: &Reply) -> ResultValue
     requires { HasResult reply.now }
     ensures { result ≡ result_value_of frame.now reply.now }
 {
-    match reply {
-        Reply::Served(_) => ResultValue::new(Status::Success, completed_reps(frame.rcx)),
-        Reply::More { next, output: _ } => ResultValue::new(Status::Success, *next),
-        Reply::Denied {
-            rule: _,
-            status,
-            reps: _,
-        } => ResultValue::new(*status, refused_reps(frame.rcx)),
-        Reply::Fault { rule: _ } => unreachable!(),
+    result_value::<A>(frame.rcx, reply.parts().0)
+}
+
+/// The result value of a hypercall with this input value that was answered so. What it put out doesn't matter.
+/// A fault, which is no answer to a hypercall, has 0.
+pub fn result_value<A: Allocator>(rcx: u64, answer: Answer) -> ResultValue
+    requires { next_in (reply_of answer []) < REPS_END }
+    ensures { (frame : CallFrame A) (output : List ℕ) → frame.rcx ≡ rcx
+        → result ≡ result_value_of frame (reply_of answer output) }
+{
+    match answer {
+        Answer::Served => ResultValue::new(Status::Success, completed_reps(rcx)),
+        Answer::More { next } => ResultValue::new(Status::Success, next),
+        Answer::Denied { status, .. } => ResultValue::new(status, refused_reps(rcx)),
+        Answer::Fault { .. } => ResultValue::new(Status::Success, 0),
     }
 }
 

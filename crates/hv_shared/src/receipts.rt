@@ -2,9 +2,9 @@
 ghost use Rattle.std.specs.Prelude.{◌≡◌, ◌+◌, ◌<◌, ◌≤◌, ◌^◌, ◌++◌, ◌↔◌, [], ◌∷◌, IsTrue, OnOk, Some, drop};
 ghost use Rattle.std.specs.Prelude.{length, option_map, slice_get, vec_len};
 ghost use Rattle.hv_defs.specs.declared.sizes.TheConstants.{REPS_END};
-ghost use Rattle.hv_policy.specs.Parts.{reply_of};
+ghost use Rattle.hv_policy.specs.Parts.{next_in, reply_of};
 ghost use Rattle.hv_history.specs.History.{entries};
-ghost use Rattle.hv_history.specs.Row.{events_of, next_in};
+ghost use Rattle.hv_history.specs.Row.{events_of};
 ghost use Rattle.hv_history.specs.declared.entry.Entry.{Entry};
 
 use hv_history::{Answer, EntryRef, History};

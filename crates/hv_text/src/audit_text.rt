@@ -1,13 +1,11 @@
 // The audit.
-ghost use Rattle.std.specs.Prelude.{◌≡◌, ◌≢◌, ◌+◌, ◌^◌, ◌≤◌, ◌<◌, ◌++◌, [], ℕ, List, length, codes, decimal};
+ghost use Rattle.std.specs.Prelude.{◌≡◌, ◌≢◌, ◌+◌, ◌^◌, ◌≤◌, ◌<◌, ◌++◌, [], length, codes, decimal};
 ghost use Rattle.std.specs.Prelude.{Err, OnOk, IfErr};
 ghost use Rattle.std.specs.Io.KnownBytes.{Appends};
-ghost use Rattle.hv_abi.specs.declared.frame.Frame.{Frame};
 ghost use Rattle.hv_defs.specs.declared.sizes.TheConstants.{REPS_END};
 ghost use Rattle.hv_history.specs.History.{entries, entry_by};
-ghost use Rattle.hv_history.specs.Row.{action_of, next_in};
-ghost use Rattle.hv_policy.specs.Parts.{reply_of};
-ghost use Rattle.hv_policy.specs.Result.{result_of};
+ghost use Rattle.hv_history.specs.Row.{action_of};
+ghost use Rattle.hv_policy.specs.Parts.{next_in, reply_of};
 ghost use Rattle.hv_policy.specs.Rule.{rule_name};
 ghost use Rattle.hv_text.specs.Audit.{audit_text, caller_text, entry_text, hex_32, output_text};
 ghost use Rattle.hv_text.specs.Audit.{reply_text, result_text, what_text};
@@ -18,9 +16,8 @@ ghost use Rattle.hv_text.specs.declared.text.TheConstants.{LINE, MOST_DIGITS};
 use crate::fault::PrintFault;
 use crate::put::put;
 use crate::text::{MOST_DIGITS, Text};
-use hv_abi::{ResultValue, Status};
 use hv_history::{Answer, Asked, EntryRef, History, Kept};
-use hv_policy::{Caller, Rule, completed_reps, refused_reps};
+use hv_policy::{Caller, Rule, result_value};
 use std::alloc::Allocator;
 use std::io::Write;
 
@@ -213,7 +210,7 @@ fn push_result<A: Allocator>(line: &mut Text, entry: &EntryRef<'_>)
     match entry.asked {
         Asked::Hypercall { rcx, .. } => {
             line.push_text(b" ");
-            line.push_hex_64(result_value::<A>(rcx, entry.answer));
+            line.push_hex_64(result_value::<A>(rcx, entry.answer).bits());
         }
         Asked::ReadMsr(_)
         | Asked::WriteMsr(_, _)
@@ -222,20 +219,6 @@ fn push_result<A: Allocator>(line: &mut Text, entry: &EntryRef<'_>)
         | Asked::ReadFlags(_)
         | Asked::ClearFlag(_, _)
         | Asked::TakeInterrupt => {}
-    }
-}
-
-/// The result value of a hypercall with this input value that was answered so. What it put out doesn't matter.
-pub fn result_value<A: Allocator>(rcx: u64, answer: Answer) -> u64
-    requires { next_in (reply_of answer []) < REPS_END }
-    ensures { (frame : Frame A) (output : List ℕ) → frame.rcx ≡ rcx
-        → result ≡ result_of frame (reply_of answer output) }
-{
-    match answer {
-        Answer::Served => ResultValue::new(Status::Success, completed_reps(rcx)).bits(),
-        Answer::More { next } => ResultValue::new(Status::Success, next).bits(),
-        Answer::Denied { status, .. } => ResultValue::new(status, refused_reps(rcx)).bits(),
-        Answer::Fault { .. } => 0,
     }
 }
 

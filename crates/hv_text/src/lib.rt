@@ -15,7 +15,7 @@ mod put;
 mod table_text;
 mod text;
 
-pub use audit_text::{audit, result_value};
+pub use audit_text::audit;
 pub use fault::PrintFault;
 pub use hv_script::{Line, Script, ScriptFault, parse};
 pub use line::{Scratch, audit_line};

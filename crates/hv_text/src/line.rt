@@ -2,8 +2,7 @@
 ghost use Rattle.std.specs.Prelude.{◌≡◌, ◌<◌, ◌≤◌, ◌++◌, [], codes, drop, length, take};
 ghost use Rattle.hv_defs.specs.declared.sizes.TheConstants.{REPS_END};
 ghost use Rattle.hv_history.specs.History.{entry_by};
-ghost use Rattle.hv_history.specs.Row.{next_in};
-ghost use Rattle.hv_policy.specs.Parts.{reply_of};
+ghost use Rattle.hv_policy.specs.Parts.{next_in, reply_of};
 ghost use Rattle.hv_text.specs.Audit.{entry_text};
 ghost use Rattle.hv_text.specs.declared.text.TheConstants.{LINE};
 

@@ -1,5 +1,5 @@
 use Rattle.std.proofs.Common.{◌≡◌, List, ℕ, take, subst, sym, refl, ap, arith, ◌∙◌}
-use Rattle.hv_history.specs.Row.{next_in}
+use Rattle.hv_policy.specs.Parts.{next_in}
 use Rattle.hv_history.specs.Run.{IsMore, restart}
 use Rattle.hv_policy.specs.declared.reply.Reply.{Reply}
 use Rattle.hv_policy.specs.declared.reply.Reply.TheVariants.{More}
