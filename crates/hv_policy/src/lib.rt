@@ -28,5 +28,7 @@ pub use event::{Access, Action, Caller, Event};
 pub use need::{Kin, Need, States, needs};
 pub use property::Property;
 pub use reply::{Output, Reply};
-pub use result::{completed_reps, refused_reply, refused_reps, result_of, result_value, served_reply};
+pub use result::{
+    completed_reps, refused_reply, refused_reps, result_of, result_value, served_reply,
+};
 pub use rule::Rule;
