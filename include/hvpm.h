@@ -106,7 +106,7 @@ enum hvpm_status {
     HVPM_OCCUPIED = 2,     /* boot: there is one already */
     HVPM_SHORT = 3,        /* the line's buffer has bytes, but fewer than HVPM_LINE; or that for outputs fewer
                               than HVPM_OUTPUT */
-    HVPM_USED_UP = 4,      /* the machine served 2^32 - 1 events, or took 2^64 - 1: it takes no more */
+    HVPM_USED_UP = 4,      /* the machine took 2^64 - 1 events: it takes no more */
     HVPM_MEMORY = 5,       /* malloc has no memory for it; it may be tried again. No access answers this */
     HVPM_PAGES = 6,        /* boot: no pages, or more than 65,536 */
     HVPM_POOL = 7,         /* boot: more pooled pages than pages */

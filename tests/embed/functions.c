@@ -5,9 +5,9 @@
  * a line of standard output, the names of the function and of the argument, which `compare` lays beside the
  * header. What is wrong goes to standard error.
  *
- * A machine takes no more events after 2^64 - 1, or after 2^32 - 1 that are served. The first count stands
- * in the handle, so this test writes it there, which the header leaves to the library. No test reaches the
- * second: the status is the same, and `compare` finds its number in the library.
+ * A machine takes no more events after 2^64 - 1. The count of them stands in the handle, so this test writes
+ * it there, which the header leaves to the library. The machine has a count of its own, of those that were
+ * served, with the same bound and the same status: no test reaches it.
  */
 #include "hvpm.h"
 
