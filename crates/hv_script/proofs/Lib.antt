@@ -1,5 +1,5 @@
-mod CutLemmas
-mod LineLemmas
-mod NumberLemmas
-mod WordLemmas
+pub mod CutLemmas
+pub mod LineLemmas
+pub mod NumberLemmas
+pub mod WordLemmas
 pub mod CallerLemmas
