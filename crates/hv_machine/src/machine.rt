@@ -1,6 +1,5 @@
 // The machine and its one step.
 ghost use Rattle.std.specs.Prelude.{◌≡◌, ◌<◌, [], None, IsTrue, IfOk, OnOk, OnErr};
-ghost use Rattle.hv_defs.specs.declared.sizes.TheConstants.{MAX_SERVED};
 ghost use Rattle.hv_abi.specs.Check.{IsShape, call_of};
 ghost use Rattle.hv_abi.specs.declared.frame.Frame.{Frame as CallFrame};
 ghost use Rattle.hv_confine.specs.Confined.{IsConfined};
@@ -20,16 +19,22 @@ ghost use Rattle.hv_machine.specs.Lasting.{IsLasting};
 ghost use Rattle.hv_machine.specs.Served.{IsResult};
 ghost use Rattle.hv_machine.specs.Sound.{IsSound};
 ghost use Rattle.hv_machine.specs.Step.{IsStep};
+ghost use Rattle.hv_machine.specs.declared.machine.TheConstants.{SERVED_END};
 
 use crate::dispatch::{dispatch, dispatch_access, next_after};
 use hv_abi::{CallKind, Frame, InputValue, Shape};
 use hv_calls::Call;
+use hv_defs::MAX_SERVED;
 use hv_policy::{
     Access, CallOutput, CallReply, Caller, Event, Output, Reply, Rule, refused_reply, served_reply,
 };
 use hv_tie::{Partitions, Refused};
 use std::alloc::Allocator;
 use std::marker::Model;
+
+/// A machine takes an event only where it served fewer events than this: each of them may have taken an id, ids
+/// begin at 2, and all ones is none.
+pub const SERVED_END: u64 = MAX_SERVED - 2;
 
 /// The partitions that are there, with all that they hold.
 #[derive(Drop)]
@@ -70,11 +75,11 @@ pub enum HostRefused {
 
 impl<A: Allocator + Clone> Machine<A> {
     /// Takes one event: serves it exactly where every rule that is asked of it is met, and else answers the
-    /// first unmet one and changes nothing. The caller keeps the count of served events below 2^64 - 1.
+    /// first unmet one and changes nothing. The caller keeps the count of served events below 2^64 - 3.
     // Inlined: calls for the own id in bench/largest.sh.
     #[inline(always)]
     pub fn step(&mut self, event: &Event<A>) -> Result<Reply, HostRefused>
-        requires { self.old.served < MAX_SERVED }
+        requires { self.old.served < SERVED_END }
 
         // The reply and the new state are those of the flat step, of each flat state that the machine
         // stands for.
@@ -125,7 +130,7 @@ impl<A: Allocator + Clone> Machine<A> {
     /// Takes one hypercall of a processor, as [`Machine::step`] takes it as an event, with the same
     /// promises. A [`CallReply`] has no room for the output of an access.
     pub fn hypercall(&mut self, by: Caller, frame: &Frame<A>) -> Result<CallReply, HostRefused>
-        requires { self.old.served < MAX_SERVED }
+        requires { self.old.served < SERVED_END }
         ensures { IsStep (call_event by frame.now) self.old result self.new }
     {
         // A call that guests make again and again has a way of its own, on which it is known which one it is, so that
@@ -171,7 +176,7 @@ impl<A: Allocator + Clone> Machine<A> {
         frame: &Frame<A>,
         named: Option<CallKind>,
     ) -> Result<CallReply, HostRefused>
-        requires count { self.old.served < MAX_SERVED }
+        requires count { self.old.served < SERVED_END }
         requires named { call_of frame.now ≡ named }
         ensures { IsStep (call_event by frame.now) self.old result self.new }
     {
@@ -193,7 +198,7 @@ impl<A: Allocator + Clone> Machine<A> {
         shape: Shape,
         call: &Call<'_>,
     ) -> Result<CallReply, HostRefused>
-        requires count { self.old.served < MAX_SERVED }
+        requires count { self.old.served < SERVED_END }
         requires shape { IsShape frame.now shape }
         requires call { IsCall frame.now shape call.now }
         requires bounded { IsBounded call.now }
@@ -214,7 +219,7 @@ impl<A: Allocator + Clone> Machine<A> {
     /// Takes one access of a processor, as [`Machine::step`] takes it as an event, with the same promises. What
     /// it puts out is added to `output`, which is empty before. The host refuses none.
     pub fn access(&mut self, by: Caller, access: Access, output: &mut Output) -> Result<(), Rule>
-        requires count { self.old.served < MAX_SERVED }
+        requires count { self.old.served < SERVED_END }
         requires empty { output.old ≡ [] }
         ensures { IsStep {A = A} (access_event by access) self.old
             (Ok (access_reply result output.new)) self.new }
@@ -232,7 +237,7 @@ impl<A: Allocator + Clone> Machine<A> {
     // Inlined: calls for the own id in bench/embed.sh.
     #[inline(always)]
     fn serve(&mut self, by: Caller, call: &Call<'_>) -> Result<CallOutput, Refused>
-        requires count { self.old.served < MAX_SERVED }
+        requires count { self.old.served < SERVED_END }
         requires bounded { IsBounded call.now }
         requires access { (f : Flat) → IsFlat self.old f → HasAccess f by.part call.now }
         ensures outcome { (f : Flat) → IsFlat self.old f
