@@ -12,7 +12,7 @@ use std::alloc::{AllocError, Global};
 use std::convert::AsStr;
 
 // What `--version` shows after the program's name.
-const VERSION: &str = "0.1.0";
+pub(crate) const VERSION: &str = "0.1.0";
 
 /// Reads the words of the command line, of which the first is the program's name, as in `env::args`.
 /// `--serial` and `--table` may be given or not.
@@ -45,7 +45,7 @@ fn command<'a>(alloc: Global) -> Result<Command<'a>, AllocError>
 }
 
 // The subcommand `run`, with its arguments.
-fn run_command<'a>(alloc: Global) -> Result<Command<'a>, AllocError>
+pub(crate) fn run_command<'a>(alloc: Global) -> Result<Command<'a>, AllocError>
     ensures shape { IfOk result (λ c. app_of c ≡ run_line) }
     ensures local { IfOk result (λ c. (fields_of c).has_globals ≡ false) }
 {
@@ -57,7 +57,7 @@ fn run_command<'a>(alloc: Global) -> Result<Command<'a>, AllocError>
 }
 
 // The script, which can't be left out.
-fn script_argument<'a>(alloc: Global) -> Arg<'a>
+pub(crate) fn script_argument<'a>(alloc: Global) -> Arg<'a>
     ensures rule { rule_of result ≡ script_rule }
     ensures local { result.global ≡ false }
 {
@@ -88,7 +88,7 @@ fn table_flag<'a>(alloc: Global) -> Arg<'a>
     )
 }
 
-fn flag<'a>(alloc: Global, name: &'a str, help: &'a str) -> Arg<'a>
+pub(crate) fn flag<'a>(alloc: Global, name: &'a str, help: &'a str) -> Arg<'a>
     ensures rule { rule_of result ≡ flag_rule name.entry.now }
     ensures local { result.global ≡ false }
 {
@@ -122,7 +122,7 @@ fn read<'a>(alloc: Global, matches: &ArgMatches<'a>) -> Result<Options<'a>, Usag
 }
 
 // Whether a flag was given: its value is `true` then.
-fn is_given(matches: &ArgMatches<'_>, name: &str) -> bool
+pub(crate) fn is_given(matches: &ArgMatches<'_>, name: &str) -> bool
     ensures { result ≡ is_given name.now (rows_of (found_of matches.now)) }
 {
     match matches.get_str(name) {
@@ -132,7 +132,7 @@ fn is_given(matches: &ArgMatches<'_>, name: &str) -> bool
 }
 
 // A refusal of clap's, with its text, which is shown and no mistake where it is help or the version.
-fn refusal(alloc: Global, error: &ClapError) -> Usage
+pub(crate) fn refusal(alloc: Global, error: &ClapError) -> Usage
     ensures explains { (kinds : Kinds) → HasKind kinds error.now → Explains kinds result }
     ensures memory { kind_of error.now ≡ ErrorKind.OutOfMemory → result ≡ Usage.Memory }
 {

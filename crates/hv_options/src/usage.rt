@@ -16,6 +16,35 @@ pub struct Options<'a> {
     pub table: bool,
 }
 
+/// What the words of the command line ask for, of all that the program does. The name of a script or an audit
+/// is the path of its file, or `-` for standard input.
+#[derive(Clone, Copy, Debug)]
+pub enum Command<'a> {
+    /// `run SCRIPT [--serial] [--table]`: runs a script, and prints its audit.
+    Run(Options<'a>),
+    /// `check SCRIPT AUDIT [--prefix] [--no-rules]`: tells whether a run of the script may write the audit.
+    Check {
+        script: &'a str,
+        audit: &'a str,
+        /// Whether the audit may end early.
+        prefix: bool,
+        /// Whether the names of rules are compared.
+        rules: bool,
+    },
+    /// `explain SCRIPT [AUDIT]`: tells the events of a script in words, in the order of an audit if one is
+    /// named.
+    Explain {
+        script: &'a str,
+        audit: Option<&'a str>,
+    },
+    /// `serve`: answers each line of standard input at once.
+    Serve,
+    /// `draw SCRIPT`: prints the state in which a script ends as a graph.
+    Draw {
+        script: &'a str,
+    },
+}
+
 /// Why there are no options.
 #[derive(Debug, Drop, Error)]
 pub enum Usage {

@@ -1,0 +1,100 @@
+-- The command line of the whole program, and what its words say.
+use Rattle.std.specs.Prelude.{Bool, true, false, not, List, Option, Some, None, codes, if◌then◌else◌}
+use Rattle.std.specs.Prelude.{option_and_then, option_map}
+use Rattle.std.specs.Str.{bytes_eq}
+use Rattle.clap.specs.Words.{App, Kinds, Row, Rule, Text, fault_of, first_of, new_app, new_rule}
+use Rattle.clap.specs.Words.{subcommand_of, subcommand_rows_of, with_rule, with_subcommand}
+use Rattle.clap.specs.declared.parser.matches.ArgMatches.{ArgMatches}
+use Rattle.hv_options.specs.Options.{bare_line, flag_rule, is_given, run_line, script_rule}
+use Rattle.hv_options.specs.declared.usage.Command.{Command}
+use Rattle.hv_options.specs.declared.usage.Command.TheVariants as command
+
+-- the argument AUDIT, which is required or may be left out
+abbrev pub audit_rule : Bool → Rule
+audit_rule required = record (new_rule (codes "AUDIT")) { required = required }
+
+-- `check SCRIPT AUDIT --prefix --no-rules`
+abbrev pub check_line : App
+check_line = with_rule (with_rule (with_rule (with_rule (new_app (codes "check")) script_rule)
+    (audit_rule true)) (flag_rule (codes "prefix"))) (flag_rule (codes "no-rules"))
+
+-- `explain SCRIPT AUDIT`
+abbrev pub explain_line : App
+explain_line = with_rule (with_rule (new_app (codes "explain")) script_rule) (audit_rule false)
+
+abbrev pub serve_line : App
+serve_line = new_app (codes "serve")
+
+abbrev pub draw_line : App
+draw_line = with_rule (new_app (codes "draw")) script_rule
+
+-- the whole command line
+abbrev pub program_line : App
+program_line = with_subcommand (with_subcommand (with_subcommand (with_subcommand (with_subcommand bare_line
+    run_line.top) check_line.top) explain_line.top) serve_line.top) draw_line.top
+
+-- what is asked for: a command, with the names of its files and its flags
+pub data Asked : Type 0 where
+  Run : (script : Text) (serial table : Bool) → Asked
+  Check : (script audit : Text) (prefix rules : Bool) → Asked
+  Explain : (script : Text) (audit : Option Text) → Asked
+  Serve : Asked
+  Draw : (script : Text) → Asked
+
+-- what a command asks for
+abbrev pub asked_for : Command → Asked
+asked_for (command.Run options) = Run options.script.now options.serial options.table
+asked_for (command.Check script audit prefix rules) = Check script.now audit.now prefix rules
+asked_for (command.Explain script audit) = Explain script.now (option_map (λ name. name.now) audit)
+asked_for command.Serve = Serve
+asked_for (command.Draw script) = Draw script.now
+
+-- what the arguments of each command ask for. A flag that was given has the value `true`
+abbrev pub script_in : List Row → Option Text
+script_in rows = first_of (codes "SCRIPT") rows
+
+abbrev pub audit_in : List Row → Option Text
+audit_in rows = first_of (codes "AUDIT") rows
+
+abbrev pub run_by : List Row → Option Asked
+run_by rows = option_map (λ script.
+    Run script (is_given (codes "serial") rows) (is_given (codes "table") rows)) (script_in rows)
+
+abbrev pub check_by : List Row → Option Asked
+check_by rows = option_and_then (λ script. option_map (λ audit.
+    Check script audit (is_given (codes "prefix") rows) (not (is_given (codes "no-rules") rows)))
+    (audit_in rows)) (script_in rows)
+
+abbrev pub explain_by : List Row → Option Asked
+explain_by rows = option_map (λ script. Explain script (audit_in rows)) (script_in rows)
+
+abbrev pub draw_by : List Row → Option Asked
+draw_by rows = option_map Draw (script_in rows)
+
+-- what the subcommand of this name asks for with these arguments
+abbrev pub asked_by_rows : Text → List Row → Option Asked
+asked_by_rows name rows =
+    if bytes_eq name (codes "run") then run_by rows
+    else (if bytes_eq name (codes "check") then check_by rows
+    else (if bytes_eq name (codes "explain") then explain_by rows
+    else (if bytes_eq name (codes "serve") then Some Serve
+    else (if bytes_eq name (codes "draw") then draw_by rows else None))))
+
+abbrev pub asked_by_entered : Option (Text × List Row) → Option Asked
+asked_by_entered entered = option_and_then (λ e. asked_by_rows e.0 e.1) entered
+
+-- what clap's matches ask for
+abbrev pub asked_by_matches : ArgMatches → Option Asked
+asked_by_matches m = asked_by_entered (subcommand_rows_of m)
+
+-- the subcommand that the words enter, with clap's matches of it
+unfoldable pub entered_by : List Text → Option (Text × List Row)
+entered_by words = subcommand_of program_line words
+
+-- what the words ask for, by clap's matches of them
+abbrev pub asked_by : List Text → Option Asked
+asked_by words = asked_by_entered (entered_by words)
+
+-- the kinds of clap's error at the words, and none where it takes them
+unfoldable pub program_faults : List Text → Kinds
+program_faults words = fault_of program_line words

@@ -1,0 +1,185 @@
+// The command line of the whole program, and what its words ask for.
+ghost use Rattle.std.specs.Prelude.{◌≡◌, [], Some, false, map, IfOk, IfErr, OnOk, option_map};
+ghost use Rattle.clap.specs.Words.{app_of, first_of, found_of, rows_of, rule_of};
+ghost use Rattle.clap.specs.declared.builder.command.Command.TheViews.{out-Command as fields_of};
+ghost use Rattle.hv_options.specs.Options.{Explains, flag_rule};
+ghost use Rattle.hv_options.specs.Commands.{Asked, asked_by, asked_by_matches, asked_by_rows, asked_for};
+ghost use Rattle.hv_options.specs.Commands.{audit_rule, check_by, check_line, draw_by, draw_line, explain_by};
+ghost use Rattle.hv_options.specs.Commands.{explain_line, program_faults, program_line, run_by, serve_line};
+
+use crate::command_line::{VERSION, flag, is_given, refusal, run_command, script_argument};
+use crate::usage::{Command, Options, Usage};
+use clap::{Arg, ArgMatches, Command as Line};
+use std::alloc::{AllocError, Global};
+use std::convert::AsStr;
+
+/// Reads the words of the program's command line, of which the first is the program's name, as in
+/// `env::args`. Whether two of the files are standard input isn't asked.
+pub fn command<'a, S: AsStr>(alloc: Global, words: &'a [S]) -> Result<Command<'a>, Usage>
+    ensures said { IfOk result (λ c. asked_by (map S.text words.entry.now) ≡ Some (asked_for c)) }
+    ensures faultless { OnOk result (program_faults (map S.text words.entry.now) ≡ []) }
+    ensures refused { IfErr result (Explains (program_faults (map S.text words.entry.now))) }
+    ensures accepted { (asked : Asked) → program_faults (map S.text words.entry.now) ≡ []
+        → asked_by (map S.text words.entry.now) ≡ Some asked
+        → IfErr result (λ usage. usage ≡ Usage.Memory) }
+{
+    let line = program_line(alloc)?;
+    match line.try_get_matches_from(words) {
+        Ok(matches) => read(alloc, &matches),
+        Err(error) => Err(refusal(alloc, &error)),
+    }
+}
+
+// The whole command line, as clap takes it.
+fn program_line<'a>(alloc: Global) -> Result<Line<'a>, AllocError>
+    ensures { IfOk result (λ c. app_of c ≡ program_line) }
+{
+    let run = run_command(alloc)?;
+    let check = check_command(alloc)?;
+    let explain = explain_command(alloc)?;
+    let draw = draw_command(alloc)?;
+    Line::new(alloc, "hvpm")
+        .version(VERSION)
+        .about("Runs a script of hypercalls and accesses on a model of Hyper-V's partition manager")
+        .subcommand_required(true)
+        .subcommand(run)?
+        .subcommand(check)?
+        .subcommand(explain)?
+        .subcommand(serve_command(alloc))?
+        .subcommand(draw)
+}
+
+fn check_command<'a>(alloc: Global) -> Result<Line<'a>, AllocError>
+    ensures shape { IfOk result (λ c. app_of c ≡ check_line) }
+    ensures local { IfOk result (λ c. (fields_of c).has_globals ≡ false) }
+{
+    Line::new(alloc, "check")
+        .about("Tells whether an audit is one that a run of the script may write")
+        .arg(script_argument(alloc))?
+        .arg(audit_argument(alloc, true, "The audit's file, or - for standard input"))?
+        .arg(flag(alloc, "prefix", "Take an audit that ends early"))?
+        .arg(flag(alloc, "no-rules", "Compare no names of rules"))
+}
+
+fn explain_command<'a>(alloc: Global) -> Result<Line<'a>, AllocError>
+    ensures shape { IfOk result (λ c. app_of c ≡ explain_line) }
+    ensures local { IfOk result (λ c. (fields_of c).has_globals ≡ false) }
+{
+    Line::new(alloc, "explain")
+        .about("Runs a script, and tells each event and its answer in words")
+        .arg(script_argument(alloc))?
+        .arg(audit_argument(
+            alloc,
+            false,
+            "An audit whose order the events take, or - for standard input",
+        ))
+}
+
+// It has no arguments.
+fn serve_command<'a>(alloc: Global) -> Line<'a>
+    ensures shape { app_of result ≡ serve_line }
+    ensures local { (fields_of result).has_globals ≡ false }
+{
+    Line::new(alloc, "serve").about("Answers each line of standard input at once")
+}
+
+fn draw_command<'a>(alloc: Global) -> Result<Line<'a>, AllocError>
+    ensures shape { IfOk result (λ c. app_of c ≡ draw_line) }
+    ensures local { IfOk result (λ c. (fields_of c).has_globals ≡ false) }
+{
+    Line::new(alloc, "draw")
+        .about("Runs a script, and prints the state at its end as a graph for Graphviz")
+        .arg(script_argument(alloc))
+}
+
+fn audit_argument<'a>(alloc: Global, required: bool, help: &'a str) -> Arg<'a>
+    ensures rule { rule_of result ≡ audit_rule required }
+    ensures local { result.global ≡ false }
+{
+    Arg::new(alloc, "AUDIT").required(required).help(help)
+}
+
+// What the matches ask for, where clap took the words.
+fn read<'a>(alloc: Global, matches: &ArgMatches<'a>) -> Result<Command<'a>, Usage>
+    ensures said { IfOk result (λ c. asked_by_matches matches.now ≡ Some (asked_for c)) }
+    ensures refused { IfErr result (Explains []) }
+    ensures accepted { (asked : Asked) → asked_by_matches matches.now ≡ Some asked
+        → IfErr result (λ usage. usage ≡ Usage.Memory) }
+{
+    let Some((name, own)) = matches.subcommand() else {
+        return Err(Usage::mistake(alloc, "error: no subcommand\n"));
+    };
+    match read_named(name, own) {
+        Some(command) => Ok(command),
+        None => Err(Usage::mistake(alloc, "error: an argument is missing\n")),
+    }
+}
+
+// What the matches of the subcommand of this name ask for.
+fn read_named<'a>(name: &str, own: &ArgMatches<'a>) -> Option<Command<'a>>
+    ensures { option_map asked_for result ≡ asked_by_rows name.now (rows_of (found_of own.now)) }
+{
+    if name == "run" {
+        read_run(own)
+    } else if name == "check" {
+        read_check(own)
+    } else if name == "explain" {
+        read_explain(own)
+    } else if name == "serve" {
+        Some(Command::Serve)
+    } else if name == "draw" {
+        read_draw(own)
+    } else {
+        None
+    }
+}
+
+fn read_run<'a>(own: &ArgMatches<'a>) -> Option<Command<'a>>
+    ensures { option_map asked_for result ≡ run_by (rows_of (found_of own.now)) }
+{
+    let script = value_in(own, "SCRIPT")?;
+    let serial = is_given(own, "serial");
+    let table = is_given(own, "table");
+    Some(Command::Run(Options {
+        script,
+        serial,
+        table,
+    }))
+}
+
+fn read_check<'a>(own: &ArgMatches<'a>) -> Option<Command<'a>>
+    ensures { option_map asked_for result ≡ check_by (rows_of (found_of own.now)) }
+{
+    let script = value_in(own, "SCRIPT")?;
+    let audit = value_in(own, "AUDIT")?;
+    let prefix = is_given(own, "prefix");
+    let rules = !is_given(own, "no-rules");
+    Some(Command::Check {
+        script,
+        audit,
+        prefix,
+        rules,
+    })
+}
+
+fn read_explain<'a>(own: &ArgMatches<'a>) -> Option<Command<'a>>
+    ensures { option_map asked_for result ≡ explain_by (rows_of (found_of own.now)) }
+{
+    let script = value_in(own, "SCRIPT")?;
+    let audit = value_in(own, "AUDIT");
+    Some(Command::Explain { script, audit })
+}
+
+fn read_draw<'a>(own: &ArgMatches<'a>) -> Option<Command<'a>>
+    ensures { option_map asked_for result ≡ draw_by (rows_of (found_of own.now)) }
+{
+    let script = value_in(own, "SCRIPT")?;
+    Some(Command::Draw { script })
+}
+
+// The value of an argument, where it has one.
+fn value_in<'a>(own: &ArgMatches<'a>, name: &str) -> Option<&'a str>
+    ensures { option_map (λ value. value.now) result ≡ first_of name.now (rows_of (found_of own.now)) }
+{
+    own.get_str(name)
+}
