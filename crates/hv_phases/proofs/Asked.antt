@@ -19,6 +19,15 @@ use Rattle.hv_shared.specs.Pass.{receipt}
 use Rattle.hv_threads.specs.Perform.{AreWhole, IsAccess, IsWhole}
 use Rattle.hv_shared.specs.declared.receipts.Receipt.{Receipt}
 
+-- what holds of each of two lists together holds of each of one of them
+pub All-second : {X : Type 0} (P : X → Type 0) (xs ys : List X) → All P (xs ++ ys) → All P ys
+All-second P [] ys all = all
+All-second P (x ∷ xs) ys all = All-second P xs ys (All-tail P x (xs ++ ys) all)
+
+pub All-first : {X : Type 0} (P : X → Type 0) (xs ys : List X) → All P (xs ++ ys) → All P xs
+All-first P [] ys all = All-nil P
+All-first P (x ∷ xs) ys all = All-cons P x xs (All-head P x (xs ++ ys) all) (All-first P xs ys (All-tail P x (xs ++ ys) all))
+
 pub asked_by-append : (by : Caller) (xs ys : List (Line Global)) → asked_by by (xs ++ ys) ≡ asked_by by xs ++ asked_by by ys
 asked_by-append by xs ys =
     ap (map (λ (l : Line Global). l.action)) (filter-append (λ (l : Line Global). is_caller by l.by) xs ys)

@@ -6,7 +6,7 @@ use Rattle.std.proofs.lemmas.List.{map-append, take_more}
 use Rattle.std.proofs.lemmas.List.Elements.{All-nil, All-push}
 use Rattle.std.specs.declared.alloc.Global.{Global}
 use Rattle.hv_policy.specs.declared.event.Caller.{Caller}
-use Rattle.hv_phases.specs.Crew.{AreCallersOf, AreKeyed, Crew, Each, HasJoined, HasRun, HasRunAll, HasRunInOrder, HaveMembers, HaveRun, HaveRunInOrder, IsBack, IsHeld, IsReady, IsThere, IsToldOf, member_of}
+use Rattle.hv_phases.specs.Crew.{AreCallersOf, AreKeyed, Crew, Each, HasJoined, HasRun, HasRunAll, HasRunAllPhases, HasRunInOrder, HasRunPhases, HaveMembers, HaveRun, HaveRunInOrder, HaveRunPhases, IsBack, IsHeld, IsReady, IsThere, IsToldOf, member_of}
 use Rattle.hv_phases.specs.declared.crew.Member.{Member}
 use Rattle.hv_phases.proofs.Handing.{before_last, keyed, last_of}
 use Rattle.hv_phases.proofs.Members.{joined, none_there, some_there}
@@ -36,7 +36,13 @@ module _ {L S : Type 0} where
   pub partly_more : (passes left rest : List PassValue) (pass : PassValue) (old new : Crew L S) → IsPartly passes left old → left ≡ rest ++ pass ∷ [] → HasJoined pass false old new → IsPartly passes rest new
   partly_more passes left rest pass old new at is did =
       record {
-        ready = joined pass false old new did refl [] (last_of (λ (p : PassValue). p.receipts ≡ []) left rest pass is at.fresh) at.ready;
+        ready = joined (IsReady []) pass false old new did
+            (λ m same idle still. record {
+              run = subst (HasRun []) (sym same) (last_of (λ (p : PassValue). p.receipts ≡ []) left rest pass is at.fresh);
+              asked = idle;
+              going = still;
+            })
+            at.ready;
         fresh = before_last (λ (p : PassValue). p.receipts ≡ []) left rest pass is at.fresh;
         there = λ c there.
             either pass.caller c
@@ -144,4 +150,13 @@ module _ {L S : Type 0} where
         history = ran.history;
         order = ran.order;
         told = λ k d less. let held = back.each k d less in subst (IsToldOf ran.history) held.pass_is (ran.told held.by held.member held.here).1;
+      }
+
+  pub have_run_phases : (lines : List (Line Global)) (callers : List Caller) (passes : List PassValue) (crew : Crew L S) → HasRunAllPhases lines crew → IsBack crew callers passes → HaveRunPhases lines passes
+  have_run_phases lines callers passes crew ran back =
+      record {
+        past = ran.past;
+        lines_are = ran.lines_are;
+        rises = ran.rises;
+        run = λ k d less. let held = back.each k d less in subst (HasRunPhases ran.past) held.pass_is (ran.run held.by held.member held.here).1;
       }

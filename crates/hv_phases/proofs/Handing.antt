@@ -1,12 +1,15 @@
 -- Lines that are handed out or run one after the other.
-use Rattle.std.proofs.Common.{◌≡◌, ◌+◌, ◌<◌, List, [], ◌∷◌, ◌++◌, length, refl, sym, ap, ◌∙◌, subst, arith, append-nil, append_assoc, inr, Option, Some, None, IfNone}
+use Rattle.std.proofs.Common.{◌≡◌, ℕ, ◌+◌, ◌<◌, List, [], ◌∷◌, ◌++◌, length, refl, sym, ap, ◌∙◌, subst, arith, append-nil, append_assoc, inr, Option, Some, None, IfNone}
 use Rattle.std.specs.Prelude.{reverse, All}
 use Rattle.std.proofs.lemmas.List.{length-append, length-reverse, reverse-append, reverse-reverse}
-use Rattle.std.proofs.lemmas.List.Elements.{All-cons, All-head, All-nil, All-tail}
+use Rattle.std.proofs.lemmas.List.Elements.{All-cons, All-head, All-nil, All-push}
 use Rattle.std.proofs.lemmas.List.Sorted.{All-permutation, IsPermutation-reverse}
 use Rattle.std.specs.declared.alloc.Global.{Global}
 use Rattle.hv_policy.specs.declared.event.Caller.{Caller}
-use Rattle.hv_phases.specs.Crew.{AreKeyed, Crew, Each, HasDone, HasGiven, HasHandedOut, HasRunAll, HasRunPhase, IsReady, IsThere, StayThere}
+use Rattle.hv_phases.specs.Crew.{AreKeyed, ArePast, Crew, Each, HasDone, HasGiven, HasHandedOut, HasRun, HasRunAll, HasRunAllPhases, HasRunPhase, IsGiven, IsReady, IsThere, Past, StayThere, last_in, lines_in}
+use Rattle.hv_phases.proofs.Asked.{All-first, All-second}
+use Rattle.hv_phases.proofs.Behind.{behind_whole, last_in-push, lines_in-push, past-push}
+use Rattle.hv_phases.proofs.Members.{ended}
 use Rattle.hv_script.specs.declared.line.Line.{Line}
 
 pub if_none : {X : Type 0} (o : Option X) (P Q : Type 0) → (P → Q) → IfNone o P → IfNone o Q
@@ -16,14 +19,6 @@ if_none (Some x) P Q f p = tt
 pub at_none : {X : Type 0} (o : Option X) (Q : Type 0) → (o ≡ None → Q) → IfNone o Q
 at_none None Q f = f refl
 at_none (Some x) Q f = tt
-
-All-second : {X : Type 0} (P : X → Type 0) (xs ys : List X) → All P (xs ++ ys) → All P ys
-All-second P [] ys all = all
-All-second P (x ∷ xs) ys all = All-second P xs ys (All-tail P x (xs ++ ys) all)
-
-All-first : {X : Type 0} (P : X → Type 0) (xs ys : List X) → All P (xs ++ ys) → All P xs
-All-first P [] ys all = All-nil P
-All-first P (x ∷ xs) ys all = All-cons P x xs (All-head P x (xs ++ ys) all) (All-first P xs ys (All-tail P x (xs ++ ys) all))
 
 -- the last, and those before it
 pub last_of : {X : Type 0} (P : X → Type 0) (all rest : List X) (x : X) → all ≡ rest ++ x ∷ [] → All P all → P x
@@ -51,18 +46,20 @@ module _ {L S : Type 0} where
       record {
         more = [];
         order = refl;
-        each = λ ran each. (given.each ran [] each, given.busy (λ c m is. inr (each c m is).1.asked));
+        phase = All-nil (λ (line : Line Global). line.phase ≡ first.phase);
+        each = λ past each. (given.each past [] each, given.busy (λ c m is. inr (each c m is).1.asked));
         there = given.there;
       }
 
   -- one line more was
   pub handed_more : (first line : Line Global) (all left rest : List (Line Global)) (xs ys : List Caller) (old mid new : Crew L S) → (so_far : HasHandedOut first all left xs old mid)
-      → left ≡ rest ++ line ∷ [] → HasGiven line xs ys mid new → HasHandedOut first all rest ys old new
-  handed_more first line all left rest xs ys old mid new so_far is given =
+      → left ≡ rest ++ line ∷ [] → line.phase ≡ first.phase → HasGiven line xs ys mid new → HasHandedOut first all rest ys old new
+  handed_more first line all left rest xs ys old mid new so_far is same given =
       record {
         more = so_far.more ++ line ∷ [];
         order = so_far.order ∙ ap (λ (ls : List (Line Global)). so_far.more ++ ls) (turned left rest line is) ∙ sym (append_assoc so_far.more (line ∷ []) (reverse rest));
-        each = λ ran each. let was = so_far.each ran each in (given.each ran (first ∷ so_far.more) was.0, given.busy was.1);
+        phase = All-push (λ (line : Line Global). line.phase ≡ first.phase) so_far.more line so_far.phase same;
+        each = λ past each. let was = so_far.each past each in (given.each past (first ∷ so_far.more) was.0, given.busy was.1);
         there = λ c there. given.there c (so_far.there c there);
       }
 
@@ -85,19 +82,6 @@ module _ {L S : Type 0} where
   pub keyed : (ran : List (Line Global)) (crew : Crew L S) → Each (IsReady ran) crew → AreKeyed crew
   keyed ran crew each c m is = (each c m is).0
 
-  -- a phase was run
-  pub between_more : (lines left rest after : List (Line Global)) (first : Line Global) (members : List Caller) (old now mid new : Crew L S) → IsBetween lines left old now
-      → left ≡ rest ++ first ∷ [] → HasHandedOut first rest after members now mid → HasRunPhase members mid new → IsBetween lines after old new
-  between_more lines left rest after first members old now mid new at is handed done =
-      let was = handed.each at.ran at.each in
-      record {
-        ran = at.ran ++ first ∷ handed.more;
-        order = append_assoc at.ran (first ∷ handed.more) (reverse after)
-            ∙ ap (λ (ls : List (Line Global)). at.ran ++ first ∷ ls) (sym handed.order) ∙ ap (λ (ls : List (Line Global)). at.ran ++ ls) (sym (turned left rest first is)) ∙ at.order;
-        each = done.each at.ran (first ∷ handed.more) was.0 was.1;
-        there = λ c there. done.there (λ c m is. (was.0 c m is).0) c (handed.there c (at.there c there));
-      }
-
   -- a line was run
   unfoldable pub between_line : (lines left rest : List (Line Global)) (line : Line Global) (old now new : Crew L S) → IsBetween lines left old now → left ≡ rest ++ line ∷ []
       → IsThere old line.by → HasDone line now new → IsBetween lines rest old new
@@ -114,6 +98,76 @@ module _ {L S : Type 0} where
   between_ends lines left old now at none =
       record {
         each = subst (λ (ls : List (Line Global)). Each (IsReady ls) now) (sym (append-nil at.ran) ∙ ap (λ (ls : List (Line Global)). at.ran ++ reverse ls) (sym none) ∙ at.order) at.each;
+        there = at.there;
+      }
+
+  -- these phases were run, one behind the other up to the last number, and the other lines are left, the first of them last
+  pub record IsBetweenPhases (lines left : List (Line Global)) (last : ℕ) (old now : Crew L S) : Type 0 where
+    pub past : List Past
+    pub order : lines_in past ++ reverse left ≡ lines
+    pub rises : ArePast 0 past
+    pub last_is : last_in 0 past ≡ last
+    pub each : Each (IsGiven past []) now
+    pub there : StayThere old now
+
+  pub phases_first : (lines left : List (Line Global)) (old : Crew L S) → left ≡ reverse lines → Each (IsReady []) old → IsBetweenPhases lines left 0 old old
+  phases_first lines left old is each =
+      record {
+        past = [];
+        order = ap reverse is ∙ reverse-reverse lines;
+        rises = tt;
+        last_is = refl;
+        each = λ c m here. let e = each c m here in (e.0, record { run = e.1.run; asked = e.1.asked; going = e.1.going });
+        there = λ c there. there;
+      }
+
+  -- a phase was run
+  pub phases_more : (lines left rest after : List (Line Global)) (first : Line Global) (members : List Caller) (last number : ℕ) (old now mid new : Crew L S) → IsBetweenPhases lines left last old now
+      → left ≡ rest ++ first ∷ [] → HasHandedOut first rest after members now mid → HasRunPhase members last number mid new → IsBetweenPhases lines after number old new
+  phases_more lines left rest after first members last number old now mid new at is handed done =
+      let was = handed.each at.past at.each in
+      let taken = first ∷ handed.more in
+      let phase = ended taken number in
+      let up = done.rises in
+      let last_is = at.last_is in
+      record {
+        past = at.past ++ phase ∷ [];
+        order = ap (λ (ls : List (Line Global)). ls ++ reverse after) (lines_in-push at.past phase) ∙ append_assoc (lines_in at.past) taken (reverse after)
+            ∙ ap (λ (ls : List (Line Global)). lines_in at.past ++ first ∷ ls) (sym handed.order) ∙ ap (λ (ls : List (Line Global)). lines_in at.past ++ ls) (sym (turned left rest first is)) ∙ at.order;
+        rises = past-push 0 at.past phase at.rises
+            (first.phase, All-cons (λ (line : Line Global). line.phase ≡ first.phase) first handed.more refl handed.phase) (omega (arith, up, last_is));
+        last_is = last_in-push 0 at.past phase;
+        each = done.each at.past taken at.last_is was.0 was.1;
+        there = λ c there. done.there (λ c m is. (was.0 c m is).0) c (handed.there c (at.there c there));
+      }
+
+  -- all phases were run
+  all_lines : (lines left : List (Line Global)) (last : ℕ) (old now : Crew L S) → (at : IsBetweenPhases lines left last old now) → left ≡ [] → lines_in at.past ≡ lines
+  all_lines lines left last old now at none =
+      sym (append-nil (lines_in at.past)) ∙ ap (λ (ls : List (Line Global)). lines_in at.past ++ reverse ls) (sym none) ∙ at.order
+
+  pub phases_run : (lines left : List (Line Global)) (last : ℕ) (old now : Crew L S) → IsBetweenPhases lines left last old now → left ≡ [] → HasRunAllPhases lines now
+  phases_run lines left last old now at none =
+      record {
+        past = at.past;
+        lines_are = all_lines lines left last old now at none;
+        rises = at.rises;
+        run = λ c m is. let e = at.each c m is in (e.0, e.1.run);
+      }
+
+  pub phases_end : (lines left : List (Line Global)) (last : ℕ) (old now : Crew L S) → IsBetweenPhases lines left last old now → left ≡ [] → HasRunAll lines old now
+  phases_end lines left last old now at none =
+      record {
+        each = λ c m is.
+            let e = at.each c m is in (
+              e.0,
+              record {
+                run = subst (λ (ls : List (Line Global)). HasRun ls m.pass) (all_lines lines left last old now at none)
+                    (behind_whole m.pass.caller 0 at.past m.pass.receipts e.1.run);
+                asked = e.1.asked;
+                going = e.1.going;
+              },
+            );
         there = at.there;
       }
 

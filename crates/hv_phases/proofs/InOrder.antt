@@ -35,14 +35,14 @@ behind : (b : Bool) (r : Receipt) (xs ys zs : List Receipt) → zs ≡ xs ++ ys 
 behind true r xs ys zs is = ap (λ (l : List Receipt). r ∷ l) is
 behind false r xs ys zs is = is
 
-receipts-append : (by : Caller) (n : ℕ) (xs ys : List (Entry Global)) → receipts_by by n (xs ++ ys) ≡ receipts_by by n xs ++ receipts_by by (n + length xs) ys
+pub receipts-append : (by : Caller) (n : ℕ) (xs ys : List (Entry Global)) → receipts_by by n (xs ++ ys) ≡ receipts_by by n xs ++ receipts_by by (n + length xs) ys
 receipts-append by n [] ys = ap (λ (k : ℕ). receipts_by by k ys) (omega arith)
 receipts-append by n (e ∷ xs) ys =
     behind (is_caller by e.event.by) (receipt n e.event e.reply) (receipts_by by (n + 1) xs) (receipts_by by (n + length (e ∷ xs)) ys) (receipts_by by (n + 1) (xs ++ ys))
     (receipts-append by (n + 1) xs ys ∙ ap (λ (k : ℕ). receipts_by by (n + 1) xs ++ receipts_by by k ys) (omega arith))
 
 -- another's entries, and its own
-receipts_of_other : (by other : Caller) → (other ≡ by → ⊥) → (n : ℕ) (es : List (Entry Global)) → All (IsBy other) es → receipts_by by n es ≡ []
+pub receipts_of_other : (by other : Caller) → (other ≡ by → ⊥) → (n : ℕ) (es : List (Entry Global)) → All (IsBy other) es → receipts_by by n es ≡ []
 receipts_of_other by other apart n [] all = refl
 receipts_of_other by other apart n (e ∷ es) all =
     ap (λ (b : Bool). if b then receipt n e.event e.reply ∷ receipts_by by (n + 1) es else receipts_by by (n + 1) es)
@@ -81,19 +81,19 @@ not_named c callers absent n (line ∷ lines) es named some =
     ∙ not_named c callers absent (n + length some.0) lines some.1 (All-tail (λ (l : Line Global). Contains callers l.by) line lines named) some.5
 
 -- the numbers of receipts grow
-all_if : (P : Receipt → Type 0) (b : Bool) (r : Receipt) (rs : List Receipt) → P r → All P rs → All P (if b then r ∷ rs else rs)
+pub all_if : (P : Receipt → Type 0) (b : Bool) (r : Receipt) (rs : List Receipt) → P r → All P rs → All P (if b then r ∷ rs else rs)
 all_if P true r rs p all = All-cons P r rs p all
 all_if P false r rs p all = all
 
-later : (c : Caller) (n k : ℕ) (es : List (Entry Global)) → n < k → All (λ r. n < r.number) (receipts_by c k es)
+pub later : (c : Caller) (n k : ℕ) (es : List (Entry Global)) → n < k → All (λ r. n < r.number) (receipts_by c k es)
 later c n k [] less = All-nil (λ (r : Receipt). n < r.number)
 later c n k (e ∷ es) less =
     all_if (λ (r : Receipt). n < r.number) (is_caller c e.event.by) (receipt k e.event e.reply) (receipts_by c (k + 1) es) less (later c n (k + 1) es (omega (arith, less)))
 
-first_of : {X : Type 0} (x y : X) (xs ys : List X) → x ∷ xs ≡ y ∷ ys → x ≡ y
+pub first_of : {X : Type 0} (x y : X) (xs ys : List X) → x ∷ xs ≡ y ∷ ys → x ≡ y
 first_of x y xs ys same = cc
 
-rest_of : {X : Type 0} (x y : X) (xs ys : List X) → x ∷ xs ≡ y ∷ ys → xs ≡ ys
+pub rest_of : {X : Type 0} (x y : X) (xs ys : List X) → x ∷ xs ≡ y ∷ ys → xs ≡ ys
 rest_of x y xs ys same = cc
 
 not_empty : {X : Type 0} (x : X) (xs : List X) → x ∷ xs ≡ [] → ⊥
@@ -126,7 +126,7 @@ same_entries n (x ∷ xs) (y ∷ ys) same =
     λ i. one i ∷ rest i
 
 -- the receipt at a place, where its number is known
-here_is : (list : List Receipt) (at number : ℕ) → option_map (λ r. r.number) (slice_get list at) ≡ Some number → (r : Receipt) × (r.number ≡ number) × (drop at list ≡ r ∷ drop (at + 1) list)
+pub here_is : (list : List Receipt) (at number : ℕ) → option_map (λ r. r.number) (slice_get list at) ≡ Some number → (r : Receipt) × (r.number ≡ number) × (drop at list ≡ r ∷ drop (at + 1) list)
 here_is [] at number is = absurd (none-some number is)
 here_is (r ∷ rs) zero number is = (r, same_Some r.number number is, refl)
 here_is (r ∷ rs) (suc k) number is =

@@ -6,10 +6,10 @@ use Rattle.std.proofs.lemmas.List.{drop_more, get_or-map, length-map, map-append
 use Rattle.std.proofs.lemmas.List.Elements.{All-cons, All-head, All-nil, All-push, All-tail, Contains-append_left, Contains-push}
 use Rattle.std.specs.declared.alloc.Global.{Global}
 use Rattle.hv_policy.specs.declared.event.Caller.{Caller}
-use Rattle.hv_phases.specs.Crew.{AreBusy, AreKeyed, Crew, HasJoined, HasLent, HasRun, HasRunPhase, HasTaken, IsGiven, IsWorkOf, member_of}
+use Rattle.hv_phases.specs.Crew.{AreBusy, AreKeyed, Crew, HasJoined, HasLent, HasRunPhase, HasRunPhases, HasTaken, HaveGained, IsGiven, IsWithin, IsWorkOf, Past, last_in, member_of}
 use Rattle.hv_phases.specs.Lines.{asked_by}
 use Rattle.hv_phases.specs.declared.crew.Member.{Member}
-use Rattle.hv_phases.proofs.Members.{each_without, idle_given, joined, none_there, some_there, worked}
+use Rattle.hv_phases.proofs.Members.{each_without, ended, idle_given, joined, none_there, some_there, worked}
 use Rattle.hv_phases.proofs.Named.{either}
 use Rattle.hv_script.specs.declared.line.Line.{Line}
 use Rattle.hv_shared.specs.PassValue.{PassValue}
@@ -34,12 +34,16 @@ callers_in works = map (λ work. work.pass.caller) works
 abbrev callers_done : {L : Type 0} → List (Done L) → List Caller
 callers_done dones = map (λ done. done.pass.caller) dones
 
-done_at : {L : Type 0} (ran taken : List (Line Global)) (works : List (Work L)) (dones : List (Done L)) → EachDone works dones → All (IsWorkOf ran taken) works → All (λ d. d.end ≡ Finished) dones
-    → All (λ d. HasRun (ran ++ taken) d.pass) dones
-done_at {L} ran taken works dones did all ended k d less =
+done_at : {L : Type 0} (past : List Past) (taken : List (Line Global)) (last now : ℕ) (works : List (Work L)) (counts : List ℕ) (dones : List (Done L)) → last_in 0 past ≡ last → EachDone works dones
+    → counts ≡ map (λ w. length w.pass.receipts) works → HaveGained counts last now dones → All (IsWorkOf past taken) works → All (λ d. d.end ≡ Finished) dones
+    → All (λ d. HasRunPhases (past ++ ended taken now ∷ []) d.pass) dones
+done_at {L} past taken last now works counts dones last_is did counted gained all ended_well k d less =
     let w = some_work works (let c = did.count in omega arith) in
     let there : k < length works = let c = did.count in omega arith in
-    worked ran taken (get_or works k w) (get_or dones k d) (did.each k w d there) (ended k d less) (all k w there)
+    let count : get_or counts k 0 ≡ length (get_or works k w).pass.receipts = ap (λ (ns : List ℕ). get_or ns k 0) counted ∙ get_or-map (λ (x : Work L). length x.pass.receipts) works k w 0 there in
+    worked past taken now (get_or works k w) (get_or dones k d) (did.each k w d there) (ended_well k d less) (all k w there)
+    (subst (λ (low : ℕ). All (IsWithin low now) (drop (length (get_or works k w).pass.receipts) (get_or dones k d).pass.receipts)) (sym last_is)
+    (subst (λ (n : ℕ). All (IsWithin last now) (drop n (get_or dones k d).pass.receipts)) count (gained.each k d less)))
   where
     some_work : (ws : List (Work L)) → 0 < length ws → Work L
     some_work [] h = absurd (omega arith)
@@ -65,7 +69,7 @@ module _ {L S : Type 0} where
   pub lent_none : (members : List Caller) (works : List (Work L)) (crew : Crew L S) → works ≡ [] → HasLent members members works crew crew
   lent_none members works crew none =
       record {
-        each = λ ran taken each. (each, subst (All (IsWorkOf ran taken)) (sym none) (All-nil (IsWorkOf ran taken)));
+        each = λ past taken each. (each, subst (All (IsWorkOf past taken)) (sym none) (All-nil (IsWorkOf past taken)));
         idle = λ busy. busy;
         there = λ keyed. (keyed, λ c there. inl there);
       }
@@ -94,12 +98,12 @@ module _ {L S : Type 0} where
     pub lent_more : (m : Member L) (work : Work L) → member_of by now ≡ Some m → work.pass ≡ m.pass → work.actions.items ≡ m.asked.items → HasLent members (drop (at + 1) members) (works ++ work ∷ []) old new
     lent_more m work was pass asked =
         record {
-          each = λ ran taken each.
-              let w = so_far.each ran taken each in
+          each = λ past taken each.
+              let w = so_far.each past taken each in
               let g = (w.0 by m was).1 in (
-                each_without now new by others (IsGiven ran taken) gone w.0,
-                All-push (IsWorkOf ran taken) works work w.1
-                    (record { run = subst (HasRun ran) (sym pass) g.run; asked = asked ∙ g.asked ∙ ap (λ (p : PassValue). asked_by p.caller taken) (sym pass) }),
+                each_without now new by others (IsGiven past taken) gone w.0,
+                All-push (IsWorkOf past taken) works work w.1
+                    (record { run = subst (HasRunPhases past) (sym pass) g.run; asked = asked ∙ g.asked ∙ ap (λ (p : PassValue). asked_by p.caller taken) (sym pass) }),
               );
           idle = fewer_busy;
           there = λ keyed.
@@ -121,7 +125,7 @@ module _ {L S : Type 0} where
     pub lent_same : member_of by now ≡ None → HasLent members (drop (at + 1) members) works old new
     lent_same none =
         record {
-          each = λ ran taken each. let w = so_far.each ran taken each in (each_without now new by others (IsGiven ran taken) gone w.0, w.1);
+          each = λ past taken each. let w = so_far.each past taken each in (each_without now new by others (IsGiven past taken) gone w.0, w.1);
           idle = fewer_busy;
           there = λ keyed.
               let t = so_far.there keyed in (
@@ -143,7 +147,7 @@ module _ {L S : Type 0} where
   taken_none crew =
       record {
         ended = All-nil (λ (d : Done L). d.end ≡ Finished);
-        each = λ ran all each. each;
+        each = λ past all each. each;
         there = λ c there. elim there [
           | inl here ↦ here
           | inr lent ↦ absurd (omega (arith, lent.1))
@@ -156,9 +160,14 @@ module _ {L S : Type 0} where
   taken_more done stopped dones old now new so_far is finished going =
       record {
         ended = All-cons (λ (d : Done L). d.end ≡ Finished) done dones finished so_far.ended;
-        each = λ ran all each.
-            joined done.pass stopped now new is going ran (All-head (λ (d : Done L). HasRun ran d.pass) done dones all)
-            (so_far.each ran (All-tail (λ (d : Done L). HasRun ran d.pass) done dones all) each);
+        each = λ past all each.
+            joined (IsGiven past []) done.pass stopped now new is
+            (λ m same idle still. record {
+              run = subst (HasRunPhases past) (sym same) (All-head (λ (d : Done L). HasRunPhases past d.pass) done dones all);
+              asked = idle;
+              going = still ∙ going;
+            })
+            (so_far.each past (All-tail (λ (d : Done L). HasRunPhases past d.pass) done dones all) each);
         there = λ c there.
             either done.pass.caller c
             (λ same. some_there (member_of c new) is.member (ap (λ (x : Caller). member_of x new) same ∙ is.here))
@@ -169,17 +178,18 @@ module _ {L S : Type 0} where
       }
 
   -- a phase was run
-  pub phase_run : (members : List Caller) (works : List (Work L)) (dones : List (Done L)) (old mid new : Crew L S) → HasLent members [] works old mid → EachDone works dones → HasTaken dones mid new
-      → HasRunPhase members old new
-  phase_run members works dones old mid new lent did took =
+  pub phase_run : (members : List Caller) (works : List (Work L)) (counts : List ℕ) (dones : List (Done L)) (last now : ℕ) (old mid new : Crew L S) → HasLent members [] works old mid → EachDone works dones
+      → counts ≡ map (λ w. length w.pass.receipts) works → HaveGained counts last now dones → HasTaken dones mid new → HasRunPhase members last now old new
+  phase_run members works counts dones last now old mid new lent did counted gained took =
       record {
-        each = λ ran taken each busy.
-            let l = lent.each ran taken each in
+        rises = gained.rises;
+        each = λ past taken last_is each busy.
+            let l = lent.each past taken each in
             let idle = lent.idle busy in
-            took.each (ran ++ taken) (done_at ran taken works dones did l.1 took.ended)
+            took.each (past ++ ended taken now ∷ []) (done_at past taken last now works counts dones last_is did counted gained l.1 took.ended)
             (λ c m is. let g = l.0 c m is in (
               g.0,
-              idle_given ran taken m g.1 (elim (idle c m is) [
+              idle_given past taken now m g.1 (elim (idle c m is) [
                 | inl none ↦ absurd (omega (arith, none.1))
                 | inr nothing ↦ nothing
               ]),

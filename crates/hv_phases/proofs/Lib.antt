@@ -1,9 +1,13 @@
 pub mod Asked
+pub mod Behind
 pub mod Crews
 pub mod Handing
 pub mod InOrder
 pub mod Lending
 pub mod Members
 pub mod Named
+pub mod Numbers
+pub mod Phased
+pub mod Renumbered
 pub mod Settled
 pub mod Written

@@ -1,15 +1,18 @@
 -- A crew that changes at one processor.
-use Rattle.std.proofs.Common.{◌≡◌, List, [], ◌∷◌, ◌++◌, refl, sym, ap, ◌∙◌, subst, append-nil, Bool, false, Option, Some, None, inl, inr}
-use Rattle.std.specs.Prelude.{IsSome, is_some}
+use Rattle.std.proofs.Common.{◌≡◌, ℕ, List, [], ◌∷◌, ◌++◌, drop, length, refl, sym, ap, ◌∙◌, subst, append-nil, Bool, false, Option, Some, None, inl, inr}
+use Rattle.std.specs.Prelude.{All, IsSome, is_some}
 use Rattle.std.specs.List.{Contains}
 use Rattle.std.proofs.lemmas.Bool.{false≢true}
+use Rattle.std.proofs.lemmas.List.{drop_at}
+use Rattle.std.proofs.lemmas.List.Elements.{All-nil}
 use Rattle.std.specs.declared.alloc.Global.{Global}
 use Rattle.hv_policy.specs.declared.event.Action.{Action}
 use Rattle.hv_policy.specs.declared.event.Caller.{Caller}
-use Rattle.hv_phases.specs.Crew.{Crew, Each, HasDone, HasGiven, HasJoined, HasRun, IsGiven, IsReady, IsWorkOf, StayThere, member_of}
+use Rattle.hv_phases.specs.Crew.{AreBehind, Crew, Each, HasDone, HasGiven, HasJoined, HasRun, HasRunPhases, IsGiven, IsReady, IsWithin, IsWorkOf, Past, StayThere, last_in, member_of}
 use Rattle.hv_phases.specs.Lines.{asked_by}
 use Rattle.hv_phases.specs.declared.crew.Member.{Member}
-use Rattle.hv_phases.proofs.Asked.{asked_by-append, asked_by_other, asked_by_own, whole-append}
+use Rattle.hv_phases.proofs.Asked.{asked_by-append, asked_by_other, asked_by_own}
+use Rattle.hv_phases.proofs.Behind.{behind-push}
 use Rattle.hv_phases.proofs.Named.{either}
 use Rattle.hv_script.specs.declared.line.Line.{Line}
 use Rattle.hv_shared.specs.PassValue.{PassValue}
@@ -38,27 +41,35 @@ run_more line ran p q own run did =
     (subst (λ (acts : List (Action Global)). AreWhole p.caller acts (p.receipts ++ did.more)) (sym (asked_more p.caller ran line own))
     (whole-push p.caller (asked_by p.caller ran) p.receipts line.action did.more run did.whole)))
 
--- what a thread did that the host didn't stop
-pub worked : {L : Type 0} (ran taken : List (Line Global)) (work : Work L) (done : Done L) → IsDone work done.pass done.done done.end → done.end ≡ Finished → IsWorkOf ran taken work → HasRun (ran ++ taken) done.pass
-worked ran taken work done did finished is =
+-- a phase of these lines, until whose end this number is the highest
+abbrev pub ended : List (Line Global) → ℕ → Past
+ended lines last = record { lines = lines; last = last }
+
+-- what a thread did that the host didn't stop, behind all that was done before
+pub worked : {L : Type 0} (past : List Past) (taken : List (Line Global)) (now : ℕ) (work : Work L) (done : Done L) → IsDone work done.pass done.done done.end → done.end ≡ Finished → IsWorkOf past taken work
+    → All (IsWithin (last_in 0 past) now) (drop (length work.pass.receipts) done.pass.receipts) → HasRunPhases (past ++ ended taken now ∷ []) done.pass
+worked past taken now work done did finished is behind =
     let by = work.pass.caller in
     let a = did.account in
     let e : HasEnded by Finished a.left a.part = subst (λ (end : End). HasEnded by end a.left a.part) finished a.ended in
     let actions : a.did ≡ asked_by by taken = sym (append-nil a.did) ∙ ap (λ (l : List (Action Global)). a.did ++ l) (sym e.0) ∙ a.in_order ∙ is.asked in
     let more : a.whole ≡ did.more = sym (append-nil a.whole) ∙ ap (λ (l : List Receipt). a.whole ++ l) (sym e.1) ∙ sym a.all in
-    subst (λ (c : Caller). AreWhole c (asked_by c (ran ++ taken)) done.pass.receipts) (sym did.gained.caller)
-    (subst (λ (rs : List Receipt). AreWhole by (asked_by by (ran ++ taken)) rs) (sym did.gained.receipts)
-    (subst (λ (acts : List (Action Global)). AreWhole by acts (work.pass.receipts ++ did.more)) (sym (asked_by-append by ran taken))
-    (whole-append by (asked_by by ran) (asked_by by taken) work.pass.receipts did.more is.run
-    (subst (λ (acts : List (Action Global)). AreWhole by acts did.more) actions (subst (λ (rs : List Receipt). AreWhole by a.did rs) more a.are_whole)))))
+    let gained : drop (length work.pass.receipts) done.pass.receipts ≡ did.more =
+    ap (drop (length work.pass.receipts)) did.gained.receipts ∙ drop_at work.pass.receipts did.more (length work.pass.receipts) refl in
+    subst (λ (c : Caller). AreBehind c 0 (past ++ ended taken now ∷ []) done.pass.receipts) (sym did.gained.caller)
+    (subst (λ (rs : List Receipt). AreBehind by 0 (past ++ ended taken now ∷ []) rs) (sym did.gained.receipts)
+    (behind-push by 0 past work.pass.receipts (ended taken now) did.more is.run
+    (subst (λ (acts : List (Action Global)). AreWhole by acts did.more) actions (subst (λ (rs : List Receipt). AreWhole by a.did rs) more a.are_whole))
+    (subst (All (IsWithin (last_in 0 past) now)) gained behind)))
 
 -- nothing was asked of it
-pub idle_given : {L : Type 0} (ran taken : List (Line Global)) (m : Member L) → IsGiven ran taken m → m.asked.items ≡ [] → IsReady (ran ++ taken) m
-idle_given ran taken m given idle =
+pub idle_given : {L : Type 0} (past : List Past) (taken : List (Line Global)) (now : ℕ) (m : Member L) → IsGiven past taken m → m.asked.items ≡ [] → IsGiven (past ++ ended taken now ∷ []) [] m
+idle_given past taken now m given idle =
     let c = m.pass.caller in
+    let none : AreWhole c (asked_by c taken) [] = subst (λ (acts : List (Action Global)). AreWhole c acts []) (sym idle ∙ given.asked) refl in
     record {
-      run = subst (λ (acts : List (Action Global)). AreWhole c acts m.pass.receipts)
-          (sym (asked_by-append c ran taken ∙ ap (λ (acts : List (Action Global)). asked_by c ran ++ acts) (sym given.asked ∙ idle) ∙ append-nil (asked_by c ran))) given.run;
+      run = subst (λ (rs : List Receipt). AreBehind c 0 (past ++ ended taken now ∷ []) rs) (append-nil m.pass.receipts)
+          (behind-push c 0 past m.pass.receipts (ended taken now) [] given.run none (All-nil (IsWithin (last_in 0 past) now)));
       asked = idle;
       going = given.going;
     }
@@ -110,12 +121,12 @@ module _ {L S : Type 0} (line : Line Global) (old new : Crew L S) (m n : Member 
       → (m.asked.items ≡ [] → Contains ys line.by) → HasGiven line xs ys old new
   given_more pass stopped asked xs ys kept noted =
       record {
-        each = λ ran taken each.
+        each = λ past taken each.
             let g = each line.by m was in
             let same : n.pass.caller ≡ m.pass.caller = ap (λ (p : PassValue). p.caller) pass in
-            each_changed old new line.by others (IsGiven ran taken) (IsGiven ran (taken ++ line ∷ [])) n here (same ∙ g.0)
+            each_changed old new line.by others (IsGiven past taken) (IsGiven past (taken ++ line ∷ [])) n here (same ∙ g.0)
             (record {
-              run = subst (HasRun ran) (sym pass) g.1.run;
+              run = subst (HasRunPhases past) (sym pass) g.1.run;
               asked = asked ∙ ap (λ (l : List (Action Global)). l ++ line.action ∷ []) g.1.asked ∙ sym (asked_more m.pass.caller taken line (sym g.0))
                   ∙ ap (λ (c : Caller). asked_by c (taken ++ line ∷ [])) (sym same);
               going = stopped ∙ g.1.going;
@@ -152,10 +163,9 @@ module _ {L S : Type 0} (line : Line Global) (old new : Crew L S) (m n : Member 
         there = stay_changed old new line.by others n here;
       }
 
--- a pass joined that has run these lines
-pub joined : {L S : Type 0} (pass : PassValue) (stopped : Bool) (old new : Crew L S) → HasJoined pass stopped old new → stopped ≡ false → (ran : List (Line Global)) → HasRun ran pass
-    → Each (IsReady ran) old → Each (IsReady ran) new
-joined pass stopped old new is going ran run each =
-    each_changed old new pass.caller is.others (IsReady ran) (IsReady ran) is.member is.here (ap (λ (p : PassValue). p.caller) is.pass_is)
-    (record { run = subst (HasRun ran) (sym is.pass_is) run; asked = is.idle; going = is.stopped_is ∙ going })
-    (λ c m other keyed ready. ready) each
+-- a pass joined
+pub joined : {L S : Type 0} (P : Member L → Type 0) (pass : PassValue) (stopped : Bool) (old new : Crew L S) → HasJoined pass stopped old new
+    → ((m : Member L) → m.pass ≡ pass → m.asked.items ≡ [] → m.stopped ≡ stopped → P m) → Each P old → Each P new
+joined P pass stopped old new is holds each =
+    each_changed old new pass.caller is.others P P is.member is.here (ap (λ (p : PassValue). p.caller) is.pass_is) (holds is.member is.pass_is is.idle is.stopped_is)
+    (λ c m other keyed so. so) each

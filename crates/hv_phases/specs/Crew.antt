@@ -1,5 +1,5 @@
 -- What the processors of a script hold while its lines run. Only contracts of private functions cite these words.
-use Rattle.std.specs.Prelude.{ℕ, ◌≡◌, ◌+◌, ◌==◌, ◌&&◌, ◌⊎◌, ◌↔◌, false, true, Bool, if◌then◌else◌, List, [], ◌∷◌, ◌++◌, length, map, reverse, All, Option, None, Some, IfSome, IsSome}
+use Rattle.std.specs.Prelude.{ℕ, ◌≡◌, ◌+◌, ◌<◌, ◌≤◌, ◌==◌, ◌&&◌, ◌⊎◌, ◌↔◌, ⊤, max, nat_lt, false, true, Bool, if◌then◌else◌, List, [], ◌∷◌, ◌++◌, drop, length, map, reverse, slice_index_or, All, Option, None, Some, IfSome, IsSome}
 use Rattle.std.specs.List.{Contains}
 use Rattle.std.specs.declared.alloc.Global.{Global}
 use Rattle.hv_history.specs.declared.entry.Entry.{Entry}
@@ -63,20 +63,78 @@ abbrev pub last_in_turn : ℕ → List Receipt → Option ℕ
 last_in_turn last [] = Some last
 last_in_turn last (r ∷ receipts) = if r.number == last + 1 then last_in_turn (last + 1) receipts else None
 
--- the pass's processor has run the first of these lines, is to do what the others ask for, and wasn't stopped
-pub record IsGiven {L : Type 0} (ran taken : List (Line Global)) (member : Member L) : Type 0 where
+-- the pass's processor has run these lines, has nothing to do, and wasn't stopped
+pub record IsReady {L : Type 0} (ran : List (Line Global)) (member : Member L) : Type 0 where
   pub run : HasRun ran member.pass
+  pub asked : member.asked.items ≡ []
+  pub going : member.stopped ≡ false
+
+-- a phase that has ended: its lines, and the highest number of a receipt until its end
+pub record Past : Type 0 where
+  pub lines : List (Line Global)
+  pub last : ℕ
+
+-- the lines of these phases
+abbrev pub lines_in : List Past → List (Line Global)
+lines_in [] = []
+lines_in (phase ∷ past) = phase.lines ++ lines_in past
+
+-- the highest number until the end of these phases, where this one is the highest before them
+abbrev pub last_in : ℕ → List Past → ℕ
+last_in last [] = last
+last_in last (phase ∷ past) = last_in phase.last past
+
+-- these lines stand in one phase
+abbrev pub AreOfOne : List (Line Global) → Type 0
+AreOfOne lines = (phase : ℕ) × All (λ line. line.phase ≡ phase) lines
+
+-- the lines of each stand in one phase, and the highest number never falls
+abbrev pub ArePast : ℕ → List Past → Type 0
+ArePast last [] = ⊤
+ArePast last (phase ∷ past) = AreOfOne phase.lines × (last ≤ phase.last) × ArePast phase.last past
+
+-- the receipt's number is above one and not above another
+abbrev pub IsWithin : ℕ → ℕ → Receipt → Type 0
+IsWithin low high r = (low < r.number) × (r.number ≤ high)
+
+-- the receipts of a processor in these phases: of each what its lines ask for, behind the last receipt of the phases before it
+abbrev pub AreBehind : Caller → ℕ → List Past → List Receipt → Type 0
+AreBehind by last [] receipts = receipts ≡ []
+AreBehind by last (phase ∷ past) receipts =
+    (own : List Receipt) × (rest : List Receipt) × (receipts ≡ own ++ rest) × AreWhole by (asked_by by phase.lines) own × All (IsWithin last phase.last) own
+    × AreBehind by phase.last past rest
+
+-- the pass's processor has run these phases, each behind the one before it
+abbrev pub HasRunPhases : List Past → PassValue → Type 0
+HasRunPhases past pass = AreBehind pass.caller 0 past pass.receipts
+
+-- the passes have run these lines phase by phase, each phase behind the one before it
+pub record HaveRunPhases (lines : List (Line Global)) (passes : List PassValue) : Type 0 where
+  pub past : List Past
+  pub lines_are : lines_in past ≡ lines
+  pub rises : ArePast 0 past
+  pub run : All (HasRunPhases past) passes
+
+-- the highest of this number and the numbers of these receipts, if each of those is above `last`
+abbrev pub highest_above : ℕ → ℕ → List Receipt → Option ℕ
+highest_above last highest [] = Some highest
+highest_above last highest (r ∷ receipts) = if nat_lt last r.number then highest_above last (max highest r.number) receipts else None
+
+-- the pass's processor has run these phases, is to do what these lines ask for, and wasn't stopped
+pub record IsGiven {L : Type 0} (past : List Past) (taken : List (Line Global)) (member : Member L) : Type 0 where
+  pub run : HasRunPhases past member.pass
   pub asked : member.asked.items ≡ asked_by member.pass.caller taken
   pub going : member.stopped ≡ false
 
--- it has nothing to do
-abbrev pub IsReady : {L : Type 0} → List (Line Global) → Member L → Type 0
-IsReady ran member = IsGiven ran [] member
-
--- the work is what these lines ask of a processor that has run the lines before them
-pub record IsWorkOf {L : Type 0} (ran taken : List (Line Global)) (work : Work L) : Type 0 where
-  pub run : HasRun ran work.pass
+-- the work is what these lines ask of a processor that has run the phases before them
+pub record IsWorkOf {L : Type 0} (past : List Past) (taken : List (Line Global)) (work : Work L) : Type 0 where
+  pub run : HasRunPhases past work.pass
   pub asked : work.actions.items ≡ asked_by work.pass.caller taken
+
+-- each receipt that these passes gained, each behind so many, has a number above `last` and not above `now`
+pub record HaveGained {L : Type 0} (counts : List ℕ) (last now : ℕ) (dones : List (Done L)) : Type 0 where
+  pub rises : last ≤ now
+  pub each : (i : ℕ) (d : Done L) → i < length dones → All (IsWithin last now) (drop (slice_index_or counts i 0) (slice_index_or dones i d).pass.receipts)
 
 -- what each processor holds, by its key
 abbrev pub Crew : Type 0 → Type 0 → Type 0
@@ -154,32 +212,42 @@ module _ {L S : Type 0} where
   abbrev pub AreBusy : List Caller → Crew L S → Type 0
   AreBusy members crew = (c : Caller) (m : Member L) → member_of c crew ≡ Some m → Contains members c ⊎ (m.asked.items ≡ [])
 
+  -- the crew has run these lines phase by phase, each phase behind the one before it
+  pub record HasRunAllPhases (lines : List (Line Global)) (crew : Crew L S) : Type 0 where
+    pub past : List Past
+    pub lines_are : lines_in past ≡ lines
+    pub rises : ArePast 0 past
+    pub run : Each (λ member. HasRunPhases past member.pass) crew
+
   -- a line was handed to its processor
   pub record HasGiven (line : Line Global) (members_old members_new : List Caller) (old new : Crew L S) : Type 0 where
-    pub each : (ran taken : List (Line Global)) → Each (IsGiven ran taken) old → Each (IsGiven ran (taken ++ line ∷ [])) new
+    pub each : (past : List Past) (taken : List (Line Global)) → Each (IsGiven past taken) old → Each (IsGiven past (taken ++ line ∷ [])) new
     pub busy : AreBusy members_old old → AreBusy members_new new
     pub there : StayThere old new
 
-  -- a line and the next ones of those that are left, of which the first stands last, were handed to their processors
+  -- a line and the next ones of its phase, of those that are left, of which the first stands last, were handed to their processors
   pub record HasHandedOut (first : Line Global) (left_old left_new : List (Line Global)) (members : List Caller) (old new : Crew L S) : Type 0 where
     pub more : List (Line Global)
     pub order : reverse left_old ≡ more ++ reverse left_new
-    pub each : (ran : List (Line Global)) → Each (IsReady ran) old → Each (IsGiven ran (first ∷ more)) new × AreBusy members new
+    pub phase : All (λ line. line.phase ≡ first.phase) more
+    pub each : (past : List Past) → Each (IsGiven past []) old → Each (IsGiven past (first ∷ more)) new × AreBusy members new
     pub there : StayThere old new
 
   -- the works of these processors were taken out, but for those that are left
   pub record HasLent (members left : List Caller) (works : List (Work L)) (old new : Crew L S) : Type 0 where
-    pub each : (ran taken : List (Line Global)) → Each (IsGiven ran taken) old → Each (IsGiven ran taken) new × All (IsWorkOf ran taken) works
+    pub each : (past : List Past) (taken : List (Line Global)) → Each (IsGiven past taken) old → Each (IsGiven past taken) new × All (IsWorkOf past taken) works
     pub idle : AreBusy members old → AreBusy left new
     pub there : AreKeyed old → AreKeyed new × ((c : Caller) → IsThere old c → IsThere new c ⊎ Contains (map (λ work. work.pass.caller) works) c)
 
   -- what was done came back, and the host stopped nobody
   pub record HasTaken (dones : List (Done L)) (old new : Crew L S) : Type 0 where
     pub ended : All (λ done. done.end ≡ Finished) dones
-    pub each : (ran : List (Line Global)) → All (λ done. HasRun ran done.pass) dones → Each (IsReady ran) old → Each (IsReady ran) new
+    pub each : (past : List Past) → All (λ done. HasRunPhases past done.pass) dones → Each (IsGiven past []) old → Each (IsGiven past []) new
     pub there : (c : Caller) → IsThere old c ⊎ Contains (map (λ done. done.pass.caller) dones) c → IsThere new c
 
-  -- what was handed to these processors was done
-  pub record HasRunPhase (members : List Caller) (old new : Crew L S) : Type 0 where
-    pub each : (ran taken : List (Line Global)) → Each (IsGiven ran taken) old → AreBusy members old → Each (IsReady (ran ++ taken)) new
+  -- what was handed to these processors was done, each event behind the last one before it, and up to the number `now`
+  pub record HasRunPhase (members : List Caller) (last now : ℕ) (old new : Crew L S) : Type 0 where
+    pub rises : last ≤ now
+    pub each : (past : List Past) (taken : List (Line Global)) → last_in 0 past ≡ last → Each (IsGiven past taken) old → AreBusy members old
+        → Each (IsGiven (past ++ record { lines = taken; last = now } ∷ []) []) new
     pub there : AreKeyed old → StayThere old new

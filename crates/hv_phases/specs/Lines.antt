@@ -1,5 +1,5 @@
 -- What the lines of a script come to.
-use Rattle.std.specs.Prelude.{ℕ, ◌≡◌, ◌+◌, List, [], ◌∷◌, ◌++◌, length, map, filter, All}
+use Rattle.std.specs.Prelude.{ℕ, ◌≡◌, ◌+◌, ◌<◌, List, [], ◌∷◌, ◌++◌, length, map, filter, All}
 use Rattle.std.specs.declared.alloc.Global.{Global}
 use Rattle.hv_history.specs.declared.entry.Entry.{Entry}
 use Rattle.hv_policy.specs.declared.event.Action.{Action}
@@ -16,6 +16,22 @@ asked_by by lines = map (λ line. line.action) (filter (λ line. is_caller by li
 -- one that no line names did nothing
 abbrev pub AreRun : List (Line Global) → List (Entry Global) → Type 0
 AreRun lines history = (by : Caller) → AreWhole by (asked_by by lines) (receipts_by by 1 history)
+
+-- each of these lines stands in an earlier phase than each of those
+abbrev pub AreApart : List (Line Global) → List (Line Global) → Type 0
+AreApart before after = All (λ line. All (λ next. line.phase < next.phase) after) before
+
+-- the history is what the lines before did, then what the lines after did
+pub record HasCut (before after : List (Line Global)) (history : List (Entry Global)) : Type 0 where
+  pub own : List (Entry Global)
+  pub rest : List (Entry Global)
+  pub all : history ≡ own ++ rest
+  pub before_run : AreRun before own
+  pub after_run : AreRun after rest
+
+-- wherever one phase ends and another begins, all that was done in the phases before stands before all that was done after
+abbrev pub ArePhased : List (Line Global) → List (Entry Global) → Type 0
+ArePhased lines history = (before after : List (Line Global)) → lines ≡ before ++ after → AreApart before after → HasCut before after history
 
 -- The entries of these lines, from number n on, those of each behind those of the line before it: all by the line's processor, and
 -- what the line asks for, to its end.

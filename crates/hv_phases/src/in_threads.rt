@@ -1,13 +1,16 @@
 // The phases of a script, each processor of a phase in a thread of its own.
-ghost use Rattle.std.specs.Prelude.{◌≡◌, ◌++◌, ◌∷◌, [], All, IfNone, IfOk, IfSome, IsSome, OnOk};
-ghost use Rattle.hv_phases.specs.Crew.{AreBusy, Each, HasGiven, HasHandedOut, HasLent, HasRunAll, HasRunPhase};
-ghost use Rattle.hv_phases.specs.Crew.{HasTaken, IsReady, member_of};
+ghost use Rattle.std.specs.Prelude.{◌≡◌, ◌++◌, ◌∷◌, [], All, IfNone, IfOk, IfSome, IsNone, IsSome};
+ghost use Rattle.std.specs.Prelude.{Err, OnOk, Some};
+ghost use Rattle.hv_phases.specs.Crew.{AreBusy, Each, HasGiven, HasHandedOut, HasLent, HasRunAll};
+ghost use Rattle.hv_phases.specs.Crew.{HasRunAllPhases, HasRunPhase, HasTaken, IsReady, member_of};
 
+use crate::barrier::{counts_of, end_of_phase};
 use crate::crew::{Crew, Member, join, key_of};
+use crate::run::Unfinished;
 use hv_history::HostRefused;
 use hv_policy::Caller;
 use hv_script::Line;
-use hv_threads::{Done, End, Gate, Shared, Work, run_phase};
+use hv_threads::{Done, End, Gate, SettleFault, Shared, Work, run_phase};
 use std::alloc::{AllocError, Global};
 use std::sync::Wait;
 use std::sync::ledger::Ledger;
@@ -21,19 +24,22 @@ pub fn run_in_threads<L: Ledger + Send + Sync, R: Threads + Wait + Sync, G: Gate
     shared: &Shared<L>,
     crew: &mut Crew<L>,
     lines: Vec<Line<Global>>,
-) -> Option<HostRefused>
+) -> Option<Unfinished>
     requires ready { Each (IsReady []) crew.old }
     requires named { All (λ line. IsSome (member_of line.by crew.old)) lines.items }
-    ensures { IfNone result (HasRunAll lines.items crew.old crew.new) }
+    ensures run { IfNone result (HasRunAll lines.items crew.old crew.new) }
+    ensures phases { IfNone result (HasRunAllPhases lines.items crew.new) }
 {
     let mut left = lines;
     left.reverse();
+    let mut last = 0;
     while let Some(first) = left.pop() {
         let Ok(members) = hand_out(crew, first, &mut left) else {
-            return Some(HostRefused::Memory);
+            return Some(Unfinished::Host(HostRefused::Memory));
         };
-        if let Some(why) = run_members(rt, gate, shared, crew, &members) {
-            return Some(why);
+        match run_members(rt, gate, shared, crew, &members, last) {
+            Ok(now) => last = now,
+            Err(why) => return Some(why),
         }
     }
     None
@@ -63,6 +69,7 @@ fn hand_out<L: Ledger>(
 // Takes out the next line, if there is one and it is of this phase.
 fn next_of(left: &mut Vec<Line<Global>>, phase: u32) -> Option<Line<Global>>
     ensures some { IfSome result (λ line. left.old.items ≡ left.new.items ++ line ∷ []) }
+    ensures phase { IfSome result (λ line. line.phase ≡ phase) }
     ensures none { IfNone result (left.new ≡ left.old) }
 {
     match left.last() {
@@ -91,26 +98,48 @@ fn give<L: Ledger>(
     Ok(())
 }
 
-// Does what was handed to these processors, each in a thread of its own, and tells why the host stopped the
-// first of those that it stopped.
+// Does what was handed to these processors, each in a thread of its own. Answers the highest number of a receipt
+// at the end of the phase, where `last` is the highest before it, or why the run isn't whole: why the host
+// stopped the first of those that it stopped, or that a number isn't above `last`.
 fn run_members<L: Ledger + Send + Sync, R: Threads + Wait + Sync, G: Gate>(
     rt: &R,
     gate: &G,
     shared: &Shared<L>,
     crew: &mut Crew<L>,
     members: &[Caller],
-) -> Option<HostRefused>
-    ensures { IfNone result (HasRunPhase members.now crew.old crew.new) }
+    last: u64,
+) -> Result<u64, Unfinished>
+    ensures { IfOk result (λ now. HasRunPhase members.now last now crew.old crew.new) }
 {
     let Ok(works) = works_of(crew, members) else {
-        return Some(HostRefused::Memory);
+        return Err(Unfinished::Host(HostRefused::Memory));
+    };
+    let Ok(counts) = counts_of(*crew.allocator(), &works) else {
+        put_back(crew, works);
+        return Err(Unfinished::Host(HostRefused::Memory));
     };
     match run_phase(rt, shared, gate, works) {
-        Ok(dones) => take_back(crew, dones),
+        Ok(dones) => {
+            let now = end_of_phase(&dones, &counts, last);
+            told(take_back(crew, dones), now)
+        }
         Err(refused) => {
             put_back(crew, refused.work);
-            Some(HostRefused::Memory)
+            Err(Unfinished::Host(HostRefused::Memory))
         }
+    }
+}
+
+// How a phase ended: why the host stopped a processor comes before numbers that aren't above the last one.
+fn told(stop: Option<HostRefused>, now: Option<u64>) -> Result<u64, Unfinished>
+    ensures none { IfOk result (λ _. IsNone stop) }
+    ensures now { IfOk result (λ number. now ≡ Some number) }
+    ensures first { IfSome stop (λ why. result ≡ Err (Unfinished.Host why)) }
+{
+    match (stop, now) {
+        (Some(why), _) => Err(Unfinished::Host(why)),
+        (None, None) => Err(Unfinished::Settlement(SettleFault::Differs)),
+        (None, Some(number)) => Ok(number),
     }
 }
 

@@ -7,6 +7,7 @@
 //! didn't. Scripts and phases are this project's own.
 #![tactic(auto)]
 
+mod barrier;
 mod callers;
 mod crew;
 mod in_order;

@@ -1,7 +1,7 @@
 // A whole run of lines, from a machine to which nothing happened to its settlement.
-ghost use Rattle.std.specs.Prelude.{◌≡◌, ◌<◌, [], All, IfNone, IsNone, IsTrue, Some, map, vec_len};
-ghost use Rattle.hv_phases.specs.Crew.{AreCallersOf, HaveRun, HaveRunInOrder};
-ghost use Rattle.hv_phases.specs.Lines.{AreInOrder, AreRun};
+ghost use Rattle.std.specs.Prelude.{◌≡◌, ◌<◌, [], All, IfNone, IsFalse, IsNone, IsTrue, Some, map, vec_len};
+ghost use Rattle.hv_phases.specs.Crew.{AreCallersOf, HaveRun, HaveRunInOrder, HaveRunPhases};
+ghost use Rattle.hv_phases.specs.Lines.{AreInOrder, ArePhased, AreRun};
 ghost use Rattle.hv_shared.specs.Merge.{IsMerge, receipts_of};
 
 use crate::callers::callers_of;
@@ -23,8 +23,8 @@ use std::thread::Threads;
 pub enum Unfinished {
     /// The host refused an event, or had no memory for a phase or for the passes.
     Host(HostRefused),
-    /// The receipts don't make the history, or with `serial` those of a line don't follow those of the line
-    /// before it.
+    /// The receipts don't make the history, or those of a phase aren't behind those of the phases before it, or
+    /// with `serial` those of a line don't follow those of the line before it.
     Settlement(SettleFault),
 }
 
@@ -44,6 +44,7 @@ pub fn run_lines<R: Threads + Wait + Sync, G: Gate>(
     ensures config { IfNone result.1 (result.0.config ≡ kept.config) }
     ensures limit { IfNone result.1 (result.0.limit ≡ kept.limit) }
     ensures lines { IfNone result.1 (AreRun lines.items result.0.history) }
+    ensures phases { IfNone result.1 (ArePhased lines.items result.0.history) }
     ensures order { IsTrue serial → IfNone result.1 (AreInOrder 1 lines.items result.0.history) }
 {
     let Ok(callers) = callers_of(*lines.allocator(), &lines) else {
@@ -73,6 +74,7 @@ fn run_under<L: Ledger + Send + Sync, R: Threads + Wait + Sync, G: Gate>(
     ensures config { IfNone result.1 (result.0.config ≡ kept.config) }
     ensures limit { IfNone result.1 (result.0.limit ≡ kept.limit) }
     ensures lines { IfNone result.1 (AreRun lines.items result.0.history) }
+    ensures phases { IfNone result.1 (ArePhased lines.items result.0.history) }
     ensures order { IsTrue serial → IfNone result.1 (AreInOrder 1 lines.items result.0.history) }
 {
     let Ok(order) = callers.clone() else {
@@ -101,6 +103,7 @@ fn run_on<L: Ledger + Send + Sync, R: Threads + Wait + Sync, G: Gate>(
     requires passes { map (λ pass. pass.caller) passes.old.items ≡ callers.now }
     requires fresh { All (λ pass. pass.receipts ≡ []) passes.old.items }
     ensures run { IfNone result (HaveRun lines.items passes.new.items) }
+    ensures phases { IsFalse serial → IfNone result (HaveRunPhases lines.items passes.new.items) }
     ensures order { IsTrue serial → IfNone result (HaveRunInOrder lines.items passes.new.items) }
 {
     let Ok(mut crew) = crew_of(passes) else {
@@ -109,7 +112,7 @@ fn run_on<L: Ledger + Send + Sync, R: Threads + Wait + Sync, G: Gate>(
     let stop = if serial {
         run_in_order(rt, gate, shared, &mut crew, lines)
     } else {
-        run_in_threads(rt, gate, shared, &mut crew, lines).map(Unfinished::Host)
+        run_in_threads(rt, gate, shared, &mut crew, lines)
     };
     match leave(crew, callers, passes) {
         Ok(()) => stop,

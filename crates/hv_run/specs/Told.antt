@@ -4,7 +4,7 @@ use Rattle.std.specs.Io.KnownBytes.{Appends}
 use Rattle.std.specs.declared.alloc.Global.{Global}
 use Rattle.hv_history.specs.Kept.{Kept, IsRun}
 use Rattle.hv_history.specs.Row.{events_of}
-use Rattle.hv_phases.specs.Lines.{AreInOrder, AreRun}
+use Rattle.hv_phases.specs.Lines.{AreInOrder, ArePhased, AreRun}
 use Rattle.hv_policy.specs.Step.{run}
 use Rattle.hv_script.specs.Script.{Said, script_of}
 use Rattle.hv_text.specs.Audit.{audit_text}
@@ -17,14 +17,15 @@ told_by with_table kept =
 
 -- the writer got the audit, and the table if it is asked for, of a history that is a run from the script's boot, with at most
 -- as many events as its limit, in whose machine each page has one owner and no mask exceeds the parent's; and each processor's
--- events in it are those that its lines ask for, in their order; with `--serial` those of each line stand behind those of the
--- line before it
+-- events in it are those that its lines ask for, in their order; all of a phase stand behind all of the phases before it; with
+-- `--serial` those of each line stand behind those of the line before it
 pub record HasTold (said : Said Global) (serial with_table : Bool) (old new : Option (List ℕ)) : Type 0 where
   pub kept : Kept Global
   pub run : IsRun kept
   pub config : kept.config ≡ said.config
   pub limit : kept.limit ≡ said.limit
   pub lines : AreRun said.lines kept.history
+  pub phases : ArePhased said.lines kept.history
   pub order : IsTrue serial → AreInOrder 1 said.lines kept.history
   pub told : Appends old new (told_by with_table kept)
 

@@ -22,6 +22,6 @@ pub loop-line-preserved : goal.loop-line-preserved
 loop-line-preserved g c =
     let i = c.loop-line.invariant in
     record {
-      handed_out = handed_more _ c.in-Some.line _ _ _ _ _ _ _ _ i.handed_out c.in-Some.ensures.some c.in_ok-give-2.ensures;
+      handed_out = handed_more _ c.in-Some.line _ _ _ _ _ _ _ _ i.handed_out c.in-Some.ensures.some c.in-Some.ensures.phase c.in_ok-give-2.ensures;
       named = before_last (λ (line : Line Global). IsThere c.args.crew.now line.by) c.loop-line.left.items c.next_of.new.left.items c.in-Some.line c.in-Some.ensures.some i.named;
     }

@@ -1,12 +1,12 @@
 use Rattle.std.proofs.Common.{length}
 use Rattle.std.specs.Prelude.{All}
 use Rattle.hv_phases.specs.Crew.{IsThere}
-use Rattle.hv_phases.proofs.Handing.{IsBetween}
+use Rattle.hv_phases.proofs.Handing.{IsBetweenPhases}
 use Rattle.hv_phases.proofs.in_threads.run_in_threads.Given as goal
 
 abbrev pub invariant-loop-first : goal.invariant-loop-first
 invariant-loop-first g l = record {
-  between : IsBetween l.fn.lines.items l.left.items l.fn.crew l.crew;
+  between : IsBetweenPhases l.fn.lines.items l.left.items l.last l.fn.crew l.crew;
   named : All (λ line. IsThere l.fn.crew line.by) l.left.items;
 }
 

@@ -1,6 +1,7 @@
 use Rattle.std.proofs.Common.{◌≡◌, [], rules}
 use Rattle.hv_phases.specs.Crew.{AreCallersOf}
 use Rattle.hv_phases.proofs.InOrder.{nothing_in_order}
+use Rattle.hv_phases.proofs.Phased.{nothing_phased}
 use Rattle.hv_phases.proofs.Settled.{nobody}
 use Rattle.hv_phases.proofs.Written.{was_empty}
 use Rattle.hv_phases.proofs.run.run_lines.Goals as goal
@@ -16,3 +17,9 @@ returns-then-is_empty-clause-order g c =
     let of : AreCallersOf c.args.lines.items c.in-Ok.callers.items = search rules in
     let none : c.in-Ok.callers.items ≡ [] = was_empty c.in-Ok.callers.items c.in-Ok.callers.len c.is_empty.result c.is_empty.ensures c.if-is_empty.true c.in-Ok.callers.ok.0 in
     λ serial. nothing_in_order c.args.lines.items c.in-Ok.callers.items c.args.kept.history of none c.requires.empty
+
+pub returns-then-is_empty-clause-phases : goal.returns-then-is_empty-clause-phases
+returns-then-is_empty-clause-phases g c =
+    let of : AreCallersOf c.args.lines.items c.in-Ok.callers.items = search rules in
+    let none : c.in-Ok.callers.items ≡ [] = was_empty c.in-Ok.callers.items c.in-Ok.callers.len c.is_empty.result c.is_empty.ensures c.if-is_empty.true c.in-Ok.callers.ok.0 in
+    nothing_phased c.args.lines.items c.in-Ok.callers.items c.args.kept.history of none c.requires.empty

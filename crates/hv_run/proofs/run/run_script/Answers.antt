@@ -48,6 +48,7 @@ returns-clause-told g c =
       config = whole unfinished _ none ran.config ∙ c.in_ok-kept.ensures.config;
       limit = whole unfinished _ none ran.limit ∙ c.in_ok-kept.ensures.limit;
       lines = whole unfinished _ none ran.lines;
+      phases = whole unfinished _ none ran.phases;
       order = λ serial. whole unfinished _ none (ran.order serial);
       told = told;
     })

@@ -1,0 +1,47 @@
+// What shows that a phase began after the one before it had ended: the numbers of its receipts.
+ghost use Rattle.std.specs.Prelude.{◌≡◌, IfOk, IfSome, drop, length, map};
+ghost use Rattle.hv_phases.specs.Crew.{HaveGained, highest_above};
+ghost use Rattle.hv_shared.specs.Receipts.{list_of};
+
+use hv_threads::{Done, Receipts, Work};
+use std::alloc::{AllocError, Global};
+use std::sync::ledger::Ledger;
+
+/// How many receipts each pass has before its thread.
+pub fn counts_of<L: Ledger>(alloc: Global, works: &[Work<L>]) -> Result<Vec<usize>, AllocError>
+    ensures { IfOk result (λ counts. counts.items ≡ map (λ work. length work.pass.receipts) works.now) }
+{
+    let mut counts = Vec::with_capacity(alloc, works.len())?;
+    for at in 0..works.len() {
+        counts.push(works[at].pass.receipts().len())?;
+    }
+    Ok(counts)
+}
+
+/// The highest number of a receipt at the end of a phase, if each receipt that the passes gained has a number
+/// above `last`, the highest before the phase. `counts` tells how many receipts each had then.
+pub fn end_of_phase<L: Ledger>(dones: &[Done<L>], counts: &[usize], last: u64) -> Option<u64>
+    requires { length counts.now ≡ length dones.now }
+    ensures { IfSome result (λ now. HaveGained counts.now last now dones.now) }
+{
+    let mut highest = last;
+    for at in 0..dones.len() {
+        highest = highest_above(dones[at].pass.receipts(), counts[at], last, highest)?;
+    }
+    Some(highest)
+}
+
+// The highest of a number and the numbers of the receipts from a place on, if each of those is above `last`.
+fn highest_above(receipts: &Receipts, from: usize, last: u64, highest: u64) -> Option<u64>
+    ensures { result ≡ highest_above last highest (drop from (list_of receipts.now)) }
+{
+    let mut highest = highest;
+    for at in from..receipts.len() {
+        let number = receipts.number(at);
+        if number <= last {
+            return None;
+        }
+        highest = highest.max(number);
+    }
+    Some(highest)
+}
