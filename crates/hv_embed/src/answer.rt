@@ -14,6 +14,7 @@ use crate::layout::{DENIED, FAULT, HvReply, MORE, SERVED};
 use hv_abi::Frame;
 use hv_history::{Asked, EntryRef};
 use hv_machine::{Access, Answer, Caller};
+use hv_policy::result_value;
 use hv_text::{LINE, Scratch, audit_line};
 use std::alloc::Global;
 
