@@ -1,0 +1,3 @@
+pub mod Told
+pub mod Whole
+pub mod Lines

@@ -1,0 +1,62 @@
+-- Lines of a script, one after the other.
+use Rattle.std.proofs.Common.{◌≡◌, ℕ, ◌+◌, List, [], ◌∷◌, ◌++◌, length, refl, sym, ap, ◌∙◌, subst, arith, append_assoc, append-nil, length-append}
+use Rattle.std.specs.Prelude.{All, Option}
+use Rattle.std.specs.Io.KnownBytes.{Keeps}
+use Rattle.std.proofs.KnownBytes.{Appends-kept}
+use Rattle.std.specs.declared.alloc.Global.{Global}
+use Rattle.hv_history.specs.Kept.{IsRun, Kept}
+use Rattle.hv_history.specs.declared.entry.Entry.{Entry}
+use Rattle.hv_phases.specs.Lines.{AreInOrder}
+use Rattle.hv_script.specs.Script.{Said}
+use Rattle.hv_script.specs.declared.line.Line.{Line}
+use Rattle.hv_shared.specs.ByCaller.{receipts_by}
+use Rattle.hv_threads.specs.Perform.{IsWhole}
+use Rattle.hv_explain.specs.Told.{AreTold, HasExplained, HasToldAll, HasToldLines}
+use Rattle.hv_explain.proofs.Told.{told_then}
+use Rattle.hv_explain.proofs.Whole.{IsBy}
+
+-- what a line asks for is done behind what was done before
+order_push : (n : ℕ) (ran : List (Line Global)) (es : List (Entry Global)) (line : Line Global) (own : List (Entry Global)) → AreInOrder n ran es → All (IsBy line.by) own
+    → IsWhole line.by line.action (receipts_by line.by (n + length es) own) → AreInOrder n (ran ++ line ∷ []) (es ++ own)
+order_push n [] es line own none all whole =
+    let at : n + length es ≡ n = let e = ap length none in omega arith in
+    (own, [], ap (λ (l : List (Entry Global)). l ++ own) none ∙ sym (append-nil own), all, subst (λ (k : ℕ). IsWhole line.by line.action (receipts_by line.by k own)) at whole, refl)
+order_push n (x ∷ ran) es line own some all whole =
+    let at : n + length es ≡ (n + length some.0) + length some.1 = let e = ap length some.2 in omega (arith, length-append some.0 some.1) in (
+      some.0,
+      some.1 ++ own,
+      ap (λ (l : List (Entry Global)). l ++ own) some.2 ∙ append_assoc some.0 some.1 own,
+      some.3,
+      some.4,
+      order_push (n + length some.0) ran some.1 line own some.5 all (subst (λ (k : ℕ). IsWhole line.by line.action (receipts_by line.by k own)) at whole),
+    )
+
+module _ (old : Kept Global) (v : Option (List ℕ)) where
+  -- one line more
+  pub lines_more : (ran : List (Line Global)) (line : Line Global) (mid new : Kept Global) (u w : Option (List ℕ)) → HasToldLines ran old mid v u → HasToldAll line.by line.action mid new u w
+      → HasToldLines (ran ++ line ∷ []) old new v w
+  lines_more ran line mid new u w first second =
+      let at : 1 + length mid.history ≡ (1 + length old.history) + length first.more = let e = ap length first.told.history in omega (arith, e, length-append old.history first.more) in
+      record {
+        more = first.more ++ second.own;
+        told = told_then first.more second.own old mid new v u w first.told second.told;
+        order = order_push (1 + length old.history) ran first.more line second.own first.order second.all (subst (λ (k : ℕ). IsWhole line.by line.action (receipts_by line.by k second.own)) at second.whole);
+      }
+
+-- the whole of a script's lines, from a boot on
+pub explained : (s : Said Global) (lines : List (Line Global)) (old new : Kept Global) (u v w : Option (List ℕ)) → lines ≡ s.lines → old.history ≡ [] → old.config ≡ s.config → old.limit ≡ s.limit
+    → IsRun new → HasToldLines lines old new u v → Keeps v w → HasExplained s u w
+explained s lines old new u v w is empty config limit run told kept =
+    let all : new.history ≡ told.more = told.told.history ∙ ap (λ (h : List (Entry Global)). h ++ told.more) empty in
+    let first : 1 + length old.history ≡ 1 = let e = ap length empty in omega (arith, e) in
+    record {
+      kept = new;
+      run = run;
+      config = told.told.config ∙ config;
+      limit = told.told.limit ∙ limit;
+      order = subst (λ (ls : List (Line Global)). AreInOrder 1 ls new.history) is
+          (subst (AreInOrder 1 lines) (sym all) (subst (λ (k : ℕ). AreInOrder k lines told.more) first told.order));
+      text = told.told.text;
+      told = subst (λ (es : List (Entry Global)). AreTold 1 es told.told.text) (sym all) (subst (λ (k : ℕ). AreTold k told.more told.told.text) first told.told.told);
+      wrote = Appends-kept u v w told.told.text told.told.wrote kept;
+    }

@@ -1,0 +1,14 @@
+use Rattle.std.proofs.Common.{◌-◌}
+use Rattle.hv_history.specs.Kept.{IsRun}
+use Rattle.hv_history.specs.Run.{start_of}
+use Rattle.hv_explain.proofs.Whole.{HasBegun}
+use Rattle.hv_explain.proofs.run.explain_call.Given as goal
+
+abbrev pub invariant-loop-next : goal.invariant-loop-next
+invariant-loop-next g l = record {
+  so_far : HasBegun l.by l.fn.kept (g.W.Write.contents l.initial.out) l.frame l.now l.kept (g.W.Write.contents l.out);
+  run : IsRun l.kept;
+}
+
+abbrev pub decreases-loop-next : goal.decreases-loop-next
+decreases-loop-next g l = 4096 - start_of l.now

@@ -1,0 +1,110 @@
+// The lines of a script, one after the other.
+ghost use Rattle.std.specs.Prelude.{◌≡◌, IfErr, IfOk, OnOk};
+ghost use Rattle.hv_history.specs.Kept.{IsRun};
+ghost use Rattle.hv_policy.specs.declared.event.Action.TheVariants.{Hypercall};
+ghost use Rattle.hv_run.specs.Failure.{exit_of};
+ghost use Rattle.hv_explain.specs.Told.{HasToldAll, HasToldElement, HasToldLines};
+
+use crate::line::explain_event;
+use hv_abi::Frame;
+use hv_history::{Kept, next_of};
+use hv_policy::{Action, Caller};
+use hv_run::{Exit, Failure};
+use hv_script::Line;
+use hv_words::Words;
+use std::alloc::Global;
+use std::io::Write;
+
+// Runs the lines of a script in their order, and explains each event. It ends with the first event that the
+// host refuses, or whose line can't be written.
+pub fn explain_lines<W: Write>(
+    kept: &mut Kept<Global>,
+    lines: &[Line<Global>],
+    out: &mut W,
+) -> Result<(), Failure>
+    ensures told { OnOk result (HasToldLines lines.now kept.old kept.new (W.contents out.old)
+        (W.contents out.new)) }
+    ensures run { IsRun kept.new }
+    ensures host { IfErr result (λ failure. exit_of failure ≡ Exit.Host) }
+{
+    // The proof reads here that what is kept is a run.
+    let _history = kept.history();
+    let mut room = Words::new();
+    for at in 0..lines.len() {
+        explain_line(kept, &lines[at], &mut room, out)?;
+    }
+    Ok(())
+}
+
+// Runs a line to its end: the elements of a hypercall one after another, or an access.
+fn explain_line<W: Write>(
+    kept: &mut Kept<Global>,
+    line: &Line<Global>,
+    room: &mut Words,
+    out: &mut W,
+) -> Result<(), Failure>
+    ensures told { OnOk result (HasToldAll line.now.by line.now.action kept.old kept.new (W.contents out.old)
+        (W.contents out.new)) }
+    ensures run { IsRun kept.new }
+    ensures host { IfErr result (λ failure. exit_of failure ≡ Exit.Host) }
+{
+    match line.action.as_access() {
+        Ok(_) => match explain_event(kept, line.by, &line.action, room, out) {
+            Ok(_) => Ok(()),
+            Err(failure) => Err(failure),
+        },
+        Err(frame) => explain_call(kept, line.by, frame, room, out),
+    }
+}
+
+// Runs a hypercall to its end, from the frame's start index on.
+fn explain_call<W: Write>(
+    kept: &mut Kept<Global>,
+    by: Caller,
+    frame: &Frame<Global>,
+    room: &mut Words,
+    out: &mut W,
+) -> Result<(), Failure>
+    ensures told { OnOk result (HasToldAll by (Hypercall frame.now) kept.old kept.new (W.contents out.old)
+        (W.contents out.new)) }
+    ensures run { IsRun kept.new }
+    ensures host { IfErr result (λ failure. exit_of failure ≡ Exit.Host) }
+{
+    // The proof reads here that what is kept is a run.
+    let _history = kept.history();
+    let Ok(mut now) = frame.copy() else {
+        return Err(Failure::Memory);
+    };
+    loop {
+        match explain_element(kept, by, &now, room, out) {
+            Ok(Some(next)) => now = now.with_start(next),
+            Ok(None) => return Ok(()),
+            Err(failure) => return Err(failure),
+        }
+    }
+}
+
+// Runs the element of a hypercall at the frame's start index, and tells with which the call goes on, if it
+// does.
+fn explain_element<W: Write>(
+    kept: &mut Kept<Global>,
+    by: Caller,
+    frame: &Frame<Global>,
+    room: &mut Words,
+    out: &mut W,
+) -> Result<Option<u16>, Failure>
+    ensures told { IfOk result (λ next. HasToldElement by frame.now next kept.old kept.new
+        (W.contents out.old) (W.contents out.new)) }
+    ensures run { IsRun kept.new }
+    ensures host { IfErr result (λ failure. exit_of failure ≡ Exit.Host) }
+{
+    // The proof reads here that what is kept is a run.
+    let _history = kept.history();
+    let Ok(own) = frame.copy() else {
+        return Err(Failure::Memory);
+    };
+    match explain_event(kept, by, &Action::Hypercall(own), room, out) {
+        Ok(reply) => Ok(next_of(reply.parts().0)),
+        Err(failure) => Err(failure),
+    }
+}

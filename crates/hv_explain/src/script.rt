@@ -1,0 +1,71 @@
+// A script's text, explained.
+ghost use Rattle.std.specs.Prelude.{◌≡◌, ◌≢◌, ◌<◌, length, IfErr, OnOk};
+ghost use Rattle.hv_run.specs.Failure.{exit_of};
+ghost use Rattle.hv_script.specs.Reading.{said};
+ghost use Rattle.hv_script.specs.declared.script.TheConstants.{MOST_BYTES as MOST};
+ghost use Rattle.hv_explain.specs.Told.{HasExplained, HasExplainedText};
+
+use crate::run::explain_lines;
+use hv_history::Kept;
+use hv_run::{Exit, Failure, tell};
+use hv_script::{Script, parse};
+use std::alloc::Global;
+use std::io::Write;
+
+/// Runs a script's lines in their order, and explains each event in a line on `out`. Why it didn't all run
+/// goes to `err`, in one line.
+///
+/// After a fault of the script or a refused boot nothing is written to `out`. Where the host refuses an
+/// event, the lines of those before it are written.
+pub fn explain_text<W: Write, E: Write>(
+    alloc: Global,
+    script: &[u8],
+    out: &mut W,
+    err: &mut E,
+) -> Exit
+    ensures told { result ≡ Exit.Done → HasExplainedText script.now (W.contents out.old)
+        (W.contents out.new) }
+    ensures long { MOST < length script.now → result ≡ Exit.Script }
+    ensures silent { result ≡ Exit.Script → out.new ≡ out.old }
+    ensures no_usage { result ≢ Exit.Usage }
+{
+    match parse(alloc, script) {
+        Ok(script) => finish(alloc, script, out, err),
+        Err(fault) => tell(Failure::from(fault), err),
+    }
+}
+
+// Explains a script that has no fault, and tells why it didn't all run.
+fn finish<W: Write, E: Write>(
+    alloc: Global,
+    script: Script<Global>,
+    out: &mut W,
+    err: &mut E,
+) -> Exit
+    ensures told { result ≡ Exit.Done → HasExplained (said script) (W.contents out.old) (W.contents out.new) }
+    ensures silent { result ≡ Exit.Script → out.new ≡ out.old }
+    ensures no_usage { result ≢ Exit.Usage }
+{
+    match explain_script(alloc, &script, out) {
+        Ok(()) => Exit::Done,
+        Err(failure) => tell(failure, err),
+    }
+}
+
+// Boots a script's machine, runs its lines and explains them.
+fn explain_script<W: Write>(
+    alloc: Global,
+    script: &Script<Global>,
+    out: &mut W,
+) -> Result<(), Failure>
+    ensures told { OnOk result (HasExplained (said script.now) (W.contents out.old) (W.contents out.new)) }
+    ensures silent { IfErr result (λ failure. exit_of failure ≡ Exit.Script → out.new ≡ out.old) }
+{
+    let mut kept = Kept::boot(alloc, script.config, script.limit)?;
+    let told = explain_lines(&mut kept, script.lines.as_slice(), out);
+    match (told, out.flush()) {
+        (Ok(()), Ok(())) => Ok(()),
+        (Ok(()), Err(_)) => Err(Failure::Write),
+        (Err(failure), _) => Err(failure),
+    }
+}

@@ -1,0 +1,60 @@
+// How an event is answered.
+
+use crate::frames::{call_of, push_frame};
+use crate::rules::push_rule;
+use crate::tree::Tree;
+use hv_abi::{Frame, Status};
+use hv_policy::{Access, Action, Answer, Caller, Reply};
+use hv_words::{Words, push_access, push_access_output, push_call_output};
+use std::alloc::Global;
+
+// Adds what an event is and how it was answered. The partitions are those after it.
+pub fn push_event(
+    words: &mut Words,
+    tree: &Tree,
+    by: Caller,
+    what: &Action<Global>,
+    reply: &Reply,
+) {
+    match what.as_access() {
+        Ok(access) => push_access(words, access),
+        Err(frame) => push_frame(words, frame),
+    }
+    words.text(": ");
+    let (answer, output) = reply.parts();
+    match answer {
+        Answer::Served => {
+            words.text("ok");
+            push_output(words, what, output);
+        }
+        Answer::More { .. } => {
+            words.text("more");
+            push_output(words, what, output);
+        }
+        Answer::Denied { rule, status, .. } => {
+            push_status(words, status);
+            push_rule(words, tree, by, rule, what);
+        }
+        Answer::Fault { rule } => {
+            words.text("fault, ");
+            push_rule(words, tree, by, rule, what);
+        }
+    }
+}
+
+fn push_status(words: &mut Words, status: Status) {
+    words.text("denied HV_STATUS_");
+    words.text(status.name());
+    words.text(", ");
+}
+
+// What an event that was served put out.
+fn push_output(words: &mut Words, what: &Action<Global>, output: &[u8]) {
+    match what.as_access() {
+        Ok(access) => push_access_output(words, access, output),
+        Err(frame) => match call_of(frame) {
+            Some(call) => push_call_output(words, &call, output),
+            None => {}
+        },
+    }
+}

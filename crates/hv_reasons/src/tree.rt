@@ -1,0 +1,73 @@
+// What the values of several rules are read from.
+
+use hv_calls::Call;
+use hv_partition::Partition;
+use hv_ports::{Conn, Port};
+use hv_tie::{Partitions, meant};
+use std::alloc::Global;
+
+// The partitions of a machine.
+pub type Tree = Partitions<Global>;
+
+// The partition that a call of this caller is about.
+pub fn target_of(caller: u64, call: &Call<'_>) -> u64 {
+    match call {
+        Call::CreatePartition { .. }
+        | Call::GetPartitionId
+        | Call::PostMessage { .. }
+        | Call::SignalEvent { .. } => caller,
+        Call::InitializePartition { partition }
+        | Call::FinalizePartition { partition }
+        | Call::DeletePartition { partition }
+        | Call::GetPartitionProperty { partition, .. }
+        | Call::SetPartitionProperty { partition, .. }
+        | Call::GetNextChildPartition { partition, .. }
+        | Call::DepositMemory { partition, .. }
+        | Call::WithdrawMemory { partition }
+        | Call::GetMemoryBalance { partition }
+        | Call::CreateVp { partition, .. }
+        | Call::DeleteVp { partition, .. }
+        | Call::GetVpRegisters { partition, .. }
+        | Call::SetVpRegisters { partition, .. }
+        | Call::DeletePort { partition, .. }
+        | Call::DisconnectPort { partition, .. }
+        | Call::CreatePort { partition, .. }
+        | Call::ConnectPort { partition, .. } => meant(caller, *partition),
+    }
+}
+
+// The mask of a partition, 0 where there is none.
+pub fn mask_of(tree: &Tree, id: u64) -> u64 {
+    match tree.get(id) {
+        None => 0,
+        Some(partition) => partition.mask().bits(),
+    }
+}
+
+// A partition's connection with this id.
+pub fn conn_at(tree: &Tree, id: u64, connection: u32) -> Option<Conn> {
+    match tree.get(id) {
+        None => None,
+        Some(partition) => partition.conn(connection),
+    }
+}
+
+// A partition's port with this id.
+pub fn port_at(tree: &Tree, id: u64, port: u32) -> Option<Port> {
+    match tree.get(id) {
+        None => None,
+        Some(partition) => partition.port(port),
+    }
+}
+
+// A partition's connection, and the port with the id that it keeps.
+pub fn way_of(tree: &Tree, id: u64, connection: u32) -> Option<(Conn, Port)> {
+    let conn = conn_at(tree, id, connection)?;
+    let port = port_at(tree, conn.part, conn.port)?;
+    Some((conn, port))
+}
+
+// How many of a partition's pooled pages are available.
+pub fn available(partition: &Partition<Global>, children: u32, pooled: u64) -> u64 {
+    pooled.saturating_sub(partition.in_use(children))
+}

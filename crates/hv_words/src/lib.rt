@@ -1,0 +1,21 @@
+//! The names of what events are about, and their text: calls and accesses with their fields, a sentence for
+//! each rule, registers, privileges, properties, and the outputs of calls and accesses.
+//!
+//! Calls, MSRs and privileges have the names of the TLFS 4.0. The sentences and the order of the fields are
+//! this project's own; `docs/POLICY.md` describes the form. [`Words`] is the buffer in which a text is put
+//! together. It never has a line feed.
+#![tactic(auto)]
+
+mod calls;
+mod names;
+mod outputs;
+mod registers;
+mod sentences;
+mod words;
+
+pub use calls::{push_access, push_call};
+pub use names::{call_name, kind_name, life_name, privilege_name, property_name};
+pub use outputs::{push_access_output, push_call_output};
+pub use registers::{push_msr, push_register, register_name};
+pub use sentences::sentence;
+pub use words::Words;
