@@ -1,0 +1,44 @@
+-- Where a turn stands among others, and what is handed out for a phase. Only contracts of private functions cite these words.
+use Rattle.std.specs.Prelude.{ℕ, ◌≡◌, ◌≢◌, List, [], ◌∷◌, ◌++◌, All, length}
+use Rattle.std.specs.declared.alloc.Global.{Global}
+use Rattle.hv_phases.specs.Lines.{asked_by}
+use Rattle.hv_policy.specs.declared.event.Caller.{Caller}
+use Rattle.hv_script.specs.declared.line.Line.{Line}
+use Rattle.hv_check.specs.Replay.{todo, todo_of}
+use Rattle.hv_check.specs.declared.turn.Turn.{Turn}
+
+-- at this place stands the processor's first turn that has something left to do
+pub record IsAt (by : Caller) (turns : List Turn) (at : ℕ) : Type 0 where
+  pub before : List Turn
+  pub turn : Turn
+  pub after : List Turn
+  pub all : turns ≡ before ++ turn ∷ after
+  pub place : length before ≡ at
+  pub by_is : turn.by ≡ by
+  pub first : todo_of by before ≡ []
+  pub some : todo turn ≢ []
+
+-- at this place stands a turn of the processor, and the turns behind it have nothing left for it
+pub record IsLast (by : Caller) (turns : List Turn) (at : ℕ) : Type 0 where
+  pub before : List Turn
+  pub turn : Turn
+  pub after : List Turn
+  pub all : turns ≡ before ++ turn ∷ after
+  pub place : length before ≡ at
+  pub by_is : turn.by ≡ by
+  pub last : todo_of by after ≡ []
+
+-- no line that stands first, or last, is of this phase
+abbrev pub IsPast : ℕ → List (Line Global) → Type 0
+IsPast phase lines = (line : Line Global) (rest : List (Line Global)) → lines ≡ line ∷ rest → line.phase ≢ phase
+
+abbrev pub IsPastAtEnd : ℕ → List (Line Global) → Type 0
+IsPastAtEnd phase lines = (line : Line Global) (rest : List (Line Global)) → lines ≡ rest ++ line ∷ [] → line.phase ≢ phase
+
+-- a line and the next ones of its phase were handed to their processors
+pub record HasGiven (first : Line Global) (old : List (Line Global)) (turns : List Turn) (new : List (Line Global)) : Type 0 where
+  pub more : List (Line Global)
+  pub all : old ≡ more ++ new
+  pub one : All (λ line. line.phase ≡ first.phase) more
+  pub asked : (by : Caller) → todo_of by turns ≡ asked_by by (first ∷ more)
+  pub past : IsPast first.phase new

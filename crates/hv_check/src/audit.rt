@@ -1,0 +1,114 @@
+// A whole audit.
+ghost use Rattle.std.specs.Prelude.{◌≡◌, ◌<◌, ◌^◌, Bool, List, IfErr, IfOk, IsTrue, length, false};
+ghost use Rattle.std.specs.declared.alloc.Global.{Global as GlobalValue};
+ghost use Rattle.hv_script.specs.Reading.{said};
+ghost use Rattle.hv_script.specs.declared.line.Line.{Line as LineValue};
+ghost use Rattle.hv_run.specs.Failure.{exit_of};
+ghost use Rattle.hv_run.specs.declared.failure.Exit.TheVariants as exit;
+ghost use Rattle.hv_check.specs.From.{IsLegalFrom, IsNoEnd, IsNoLine};
+ghost use Rattle.hv_check.specs.Legal.{IsLegal};
+ghost use Rattle.hv_check.specs.Read.{AreRead};
+ghost use Rattle.hv_check.specs.Replay.{IsBegun, StandsFor};
+ghost use Rattle.hv_history.specs.Kept.{IsRun};
+ghost use Rattle.hv_check.specs.Verdict.{Says};
+
+use crate::ending::{Ending, end_of};
+use crate::own_line::OwnLine;
+use crate::replay::Replay;
+use crate::step::{Step, take_line};
+use crate::verdict::{Ask, Verdict};
+use hv_history::Kept;
+use hv_policy::BootRefused;
+use hv_run::Failure;
+use hv_script::Script;
+use std::alloc::{AllocError, Global};
+
+/// Checks an audit beside its script, whose lines are those of a script that was read. Where a line differs
+/// from the policy's, `own` has the policy's. Want of memory is a failure that says nothing of the audit.
+pub fn check<'a>(
+    alloc: Global,
+    script: Script<Global>,
+    audit: &'a [u8],
+    ask: Ask,
+    own: &mut OwnLine,
+) -> Result<Verdict<'a>, Failure>
+    requires { AreRead script.lines.items }
+    ensures verdict { IfOk result (λ verdict. Says verdict (IsLegal ask.prefix ask.rules (said script) audit.now)) }
+    ensures refused { IfErr result (λ failure. exit_of failure ≡ exit.Script
+        → IsLegal ask.prefix ask.rules (said script) audit.now → ⊥) }
+{
+    let Script {
+        config,
+        limit,
+        lines,
+    } = script;
+    let mut kept = match Kept::boot(alloc, config, limit) {
+        Ok(kept) => kept,
+        Err(BootRefused::Memory) => return Err(Failure::Memory),
+        Err(refused) => return Err(Failure::from(refused)),
+    };
+    let mut replay = Replay::new(alloc, lines);
+    match follow(&mut kept, &mut replay, own, audit, ask) {
+        Ok(verdict) => Ok(verdict),
+        Err(_) => Err(Failure::Memory),
+    }
+}
+
+// Checks the audit of a machine to which nothing happened yet, beside all lines of its script.
+fn follow<'a>(
+    kept: &mut Kept<Global>,
+    replay: &mut Replay,
+    own: &mut OwnLine,
+    audit: &'a [u8],
+    ask: Ask,
+) -> Result<Verdict<'a>, AllocError>
+    ensures { IfOk result (λ verdict. (lines : List (LineValue GlobalValue)) → StandsFor replay.old lines
+        → Says verdict (IsLegalFrom ask.prefix ask.rules kept.old lines audit.now)) }
+{
+    let mut text = audit;
+    replay.begin()?;
+    while is_event(text) {
+        match take_line(kept, replay, own, text, ask.rules)? {
+            Step::On(rest) => text = rest,
+            Step::Not(wrong) => return Ok(Verdict::Illegal { wrong, text }),
+        }
+        replay.begin()?;
+    }
+    Ok(finish(kept, replay, text, ask.prefix))
+}
+
+// What the end of an audit comes to, where no line of an event is left.
+fn finish<'a>(kept: &Kept<Global>, replay: &Replay, text: &'a [u8], prefix: bool) -> Verdict<'a>
+    requires begun { IsBegun replay.now }
+    requires no_line { IsNoLine text.now }
+    ensures { (rules : Bool) (lines : List (LineValue GlobalValue)) → StandsFor replay.now lines
+        → Says result (IsLegalFrom prefix rules kept.now lines text.now) }
+{
+    let events = events_of(kept);
+    match end_of(replay, text, events, prefix) {
+        Ending::Good => Verdict::Legal { events },
+        Ending::Bad(wrong) => Verdict::Illegal { wrong, text },
+    }
+}
+
+// How many events there were.
+fn events_of(kept: &Kept<Global>) -> u64
+    ensures events { result ≡ length kept.now.history }
+    ensures few { length kept.now.history < 2 ^ 32 }
+    ensures run { IsRun kept.now }
+{
+    // The proof reads here that a history's length fits 32 bits.
+    let _limit = kept.limit();
+    kept.history().len() as u64
+}
+
+// Whether a text begins with the line of an event, if it is an audit.
+fn is_event(text: &[u8]) -> bool
+    ensures event { IsTrue result → IsNoEnd text.now }
+    ensures none { result ≡ false → IsNoLine text.now }
+{
+    match text {
+        [first, ..] => *first != b'e',
+        [] => false,
+    }
+}

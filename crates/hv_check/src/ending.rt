@@ -1,0 +1,57 @@
+// The end of an audit.
+ghost use Rattle.std.specs.Prelude.{◌≡◌, ◌++◌, ℕ, List, IfNone, IfSome};
+ghost use Rattle.hv_check.specs.From.{IsEnding, IsLastLine};
+ghost use Rattle.hv_check.specs.Legal.{end_text};
+ghost use Rattle.hv_check.specs.Replay.{IsBegun};
+
+use crate::compare::behind;
+use crate::replay::Replay;
+use crate::verdict::Wrong;
+use itoa::Buffer;
+
+/// Whether an audit ends well.
+#[derive(Clone, Copy)]
+pub enum Ending {
+    Good,
+    Bad(Wrong),
+}
+
+/// Whether an audit may end with this text behind so many events.
+pub fn end_of(replay: &Replay, text: &[u8], events: u64, prefix: bool) -> Ending
+    requires { IsBegun replay.now }
+    ensures { IsEnding prefix replay.now events text.now result }
+{
+    if prefix {
+        return if text.is_empty() {
+            Ending::Good
+        } else {
+            last_line(text, events)
+        };
+    }
+    match replay.waiting() {
+        Some(by) => Ending::Bad(Wrong::Early { by, events }),
+        None => last_line(text, events),
+    }
+}
+
+// Whether a text is the last line of an audit of so many events.
+fn last_line(text: &[u8], events: u64) -> Ending
+    ensures { IsLastLine events text.now result }
+{
+    match behind_end(text, events) {
+        Some(rest) if rest.is_empty() => Ending::Good,
+        Some(_) => Ending::Bad(Wrong::Behind { events }),
+        None => Ending::Bad(Wrong::Count { events }),
+    }
+}
+
+// What stands in a text behind the last line of an audit, if the text begins with that.
+fn behind_end(text: &[u8], events: u64) -> Option<&[u8]>
+    ensures some { IfSome result (λ rest. text.now ≡ end_text events ++ rest.now) }
+    ensures none { IfNone result ((rest : List ℕ) → text.now ≡ end_text events ++ rest → ⊥) }
+{
+    let mut buffer = Buffer::new();
+    let count = behind(text, b"events ")?;
+    let feed = behind(count, buffer.format(events).as_bytes())?;
+    behind(feed, b"\n")
+}

@@ -1,0 +1,71 @@
+// From both texts to an exit status.
+
+ghost use Rattle.std.specs.Prelude.{◌≡◌, ◌≢◌, IfErr, IfOk};
+ghost use Rattle.hv_run.specs.Failure.{exit_of};
+ghost use Rattle.hv_run.specs.declared.failure.Exit.TheVariants as exit;
+ghost use Rattle.hv_check.specs.Legal.{IsLegalOf};
+ghost use Rattle.hv_check.specs.Verdict.{Says, status_of};
+
+use crate::audit::check;
+use crate::own_line::OwnLine;
+use crate::tell::put_verdict;
+use crate::verdict::{Ask, Verdict};
+use hv_run::{Exit, Failure, tell};
+use hv_script::parse;
+use std::alloc::Global;
+use std::io::Write;
+
+/// Checks an audit beside its script, and prints `legal, N events` on `out`, or the first line that isn't legal
+/// and what the policy answers there. With `prefix` an audit may end before the script's lines do, and without
+/// `rules` the names of rules aren't compared. A fault of the script, a refused boot and what the host lacks are
+/// told on `err`, in one line.
+pub fn check_text<W: Write, E: Write>(
+    alloc: Global,
+    script: &[u8],
+    audit: &[u8],
+    prefix: bool,
+    rules: bool,
+    out: &mut W,
+    err: &mut E,
+) -> Exit
+    ensures legal { result ≡ Exit.Done → IsLegalOf prefix rules script.now audit.now }
+    ensures illegal { result ≡ Exit.Script → IsLegalOf prefix rules script.now audit.now → ⊥ }
+    ensures no_usage { result ≢ Exit.Usage }
+{
+    let mut own = OwnLine::new();
+    match verdict_of(alloc, script, audit, Ask { prefix, rules }, &mut own) {
+        Ok(verdict) => match put_verdict(out, verdict, own.as_slice()) {
+            Ok(()) => status_of(verdict),
+            Err(_) => tell(Failure::Write, err),
+        },
+        Err(failure) => tell(failure, err),
+    }
+}
+
+// Reads the script, and checks the audit.
+fn verdict_of<'a>(
+    alloc: Global,
+    script: &[u8],
+    audit: &'a [u8],
+    ask: Ask,
+    own: &mut OwnLine,
+) -> Result<Verdict<'a>, Failure>
+    ensures verdict { IfOk result (λ verdict. Says verdict (IsLegalOf ask.prefix ask.rules script.now audit.now)) }
+    ensures refused { IfErr result (λ failure. exit_of failure ≡ exit.Script
+        → IsLegalOf ask.prefix ask.rules script.now audit.now → ⊥) }
+{
+    match parse(alloc, script) {
+        Ok(script) => check(alloc, script, audit, ask, own),
+        Err(fault) => Err(Failure::from(fault)),
+    }
+}
+
+// The exit status of a verdict.
+fn status_of(verdict: Verdict<'_>) -> Exit
+    ensures { result ≡ status_of verdict.entry }
+{
+    match verdict {
+        Verdict::Legal { .. } => Exit::Done,
+        Verdict::Illegal { .. } => Exit::Script,
+    }
+}

@@ -1,0 +1,184 @@
+// A script's lines, taken by named processor.
+ghost use Rattle.std.specs.Prelude.{◌≡◌, ◌≢◌, ◌+◌, ◌<◌, ◌++◌, ◌∷◌, [], IfNone, IfOk, IfSome, OnOk, length};
+ghost use Rattle.std.specs.Prelude.{List, drop, option_copied, reverse, slice_get, take, Some};
+ghost use Rattle.hv_defs.specs.declared.sizes.TheConstants.{REPS_END};
+ghost use Rattle.hv_phases.specs.Lines.{asked_by};
+ghost use Rattle.hv_policy.specs.Parts.{next_in};
+ghost use Rattle.hv_policy.specs.declared.event.Caller.{Caller as CallerValue};
+ghost use Rattle.hv_script.specs.declared.line.Line.{Line as LineValue};
+ghost use Rattle.std.specs.declared.alloc.Global.{Global as GlobalValue};
+ghost use Rattle.hv_check.specs.Read.{AreRead};
+ghost use Rattle.hv_check.specs.Replay.{IsBegun, IsIdle, StandsFor, after_reply, first_of, later_of, left_by};
+ghost use Rattle.hv_check.specs.Replay.{todo, todo_of};
+ghost use Rattle.hv_check.specs.Turns.{HasGiven, IsAt, IsLast, IsPastAtEnd};
+
+use crate::turn::Turn;
+use hv_policy::{Action, Caller, Reply};
+use hv_script::Line;
+use std::alloc::{AllocError, Global};
+
+/// A script's lines, taken one event after another in any order that the script allows.
+#[derive(Drop)]
+pub struct Replay {
+    // The processors of the phase.
+    pub(crate) turns: Vec<Turn>,
+    // The lines of the later phases, the next one last.
+    pub(crate) later: Vec<Line<Global>>,
+}
+
+impl Replay {
+    /// All lines of a script, of which none is taken and no phase is begun.
+    pub fn new(alloc: Global, lines: Vec<Line<Global>>) -> Replay
+        ensures { AreRead lines.items → StandsFor result lines.items }
+    {
+        let mut later = lines;
+        later.reverse();
+        Replay {
+            turns: Vec::new(alloc),
+            later,
+        }
+    }
+
+    /// Begins the next phase, where the one before it is over. After an error it is of no more use.
+    pub fn begin(&mut self) -> Result<(), AllocError>
+        ensures lines { OnOk result ((lines : List (LineValue GlobalValue)) → StandsFor self.old lines → StandsFor self.new lines) }
+        ensures begun { OnOk result (IsBegun self.new) }
+    {
+        if self.waiting().is_some() {
+            return Ok(());
+        }
+        self.turns.clear();
+        match self.later.pop() {
+            Some(first) => begin_with(&mut self.turns, &mut self.later, first),
+            None => Ok(()),
+        }
+    }
+
+    /// What this processor is to do next in the phase, if it has anything left to do there.
+    pub fn next(&self, by: Caller) -> Option<&Action<Global>>
+        ensures { option_copied result ≡ first_of (left_by by self.now) }
+    {
+        match find(&self.turns, by) {
+            Some(at) => self.turns[at].next(),
+            None => None,
+        }
+    }
+
+    /// Takes the event that this processor was to do next, which got this reply.
+    pub fn go_on(&mut self, by: Caller, reply: &Reply)
+        requires { next_in reply.now < REPS_END }
+        ensures own { left_by by self.new ≡ after_reply (left_by by self.old) reply.now }
+        ensures others { (other : CallerValue) → other ≢ by → left_by other self.new ≡ left_by other self.old }
+        ensures later { later_of self.new ≡ later_of self.old }
+    {
+        if let Some(at) = find(&self.turns, by) {
+            self.turns[at].go_on(reply);
+        }
+    }
+
+    /// A processor of the phase that has something left to do there.
+    pub fn waiting(&self) -> Option<Caller>
+        ensures some { IfSome result (λ by. left_by by self.now ≢ []) }
+        ensures none { IfNone result (IsIdle self.now) }
+    {
+        for at in 0..self.turns.len() {
+            if !self.turns[at].is_over() {
+                return Some(self.turns[at].by);
+            }
+        }
+        None
+    }
+}
+
+// The place of a processor's turn that isn't over, if it has one.
+fn find(turns: &[Turn], by: Caller) -> Option<usize>
+    ensures some { IfSome result (IsAt by turns.now) }
+    ensures none { IfNone result (todo_of by turns.now ≡ []) }
+{
+    for at in 0..turns.len() {
+        if turns[at].by == by && !turns[at].is_over() {
+            return Some(at);
+        }
+    }
+    None
+}
+
+// The place of a processor's last turn, if it has one.
+fn find_last(turns: &[Turn], by: Caller) -> Option<usize>
+    ensures { IfSome result (IsLast by turns.now) }
+{
+    for at in (0..turns.len()).rev() {
+        if turns[at].by == by {
+            return Some(at);
+        }
+    }
+    None
+}
+
+// Begins a phase with its first line. The lines that are left stand with the next one last.
+fn begin_with(
+    turns: &mut Vec<Turn>,
+    later: &mut Vec<Line<Global>>,
+    first: Line<Global>,
+) -> Result<(), AllocError>
+    requires { turns.old.items ≡ [] }
+    ensures { OnOk result (HasGiven first (reverse later.old.items) turns.new.items (reverse later.new.items)) }
+{
+    let phase = first.phase;
+    give(turns, first)?;
+    while let Some(line) = next_of(later, phase) {
+        give(turns, line)?;
+    }
+    Ok(())
+}
+
+// Hands a line to its processor.
+fn give(turns: &mut Vec<Turn>, line: Line<Global>) -> Result<(), AllocError>
+    ensures { OnOk result ((by : CallerValue) → todo_of by turns.new.items
+        ≡ todo_of by turns.old.items ++ asked_by by (line ∷ [])) }
+{
+    let Line { by, action, .. } = line;
+    match find_last(turns, by) {
+        Some(at) => add(&mut turns[at], action),
+        None => {
+            let turn = turn_of(*turns.allocator(), by, action)?;
+            turns.push(turn)?;
+            Ok(())
+        }
+    }
+}
+
+// Has a turn do an action more.
+fn add(turn: &mut Turn, action: Action<Global>) -> Result<(), AllocError>
+    ensures todo { OnOk result (todo turn.new ≡ todo turn.old ++ action ∷ []) }
+    ensures by { turn.new.by ≡ turn.old.by }
+{
+    turn.actions.push(action)?;
+    Ok(())
+}
+
+// A turn that has one action to do.
+fn turn_of(alloc: Global, by: Caller, action: Action<Global>) -> Result<Turn, AllocError>
+    ensures todo { IfOk result (λ turn. todo turn ≡ action ∷ []) }
+    ensures by { IfOk result (λ turn. turn.by ≡ by) }
+{
+    let mut actions = Vec::new(alloc);
+    actions.push(action)?;
+    Ok(Turn {
+        by,
+        actions,
+        done: 0,
+    })
+}
+
+// Takes out the next line, if there is one and it is of this phase.
+fn next_of(later: &mut Vec<Line<Global>>, phase: u32) -> Option<Line<Global>>
+    ensures some { IfSome result (λ line. (later.old.items ≡ later.new.items ++ line ∷ []) × (line.phase ≡ phase)) }
+    ensures same { IfNone result (later.new ≡ later.old) }
+    ensures none { IfNone result (IsPastAtEnd phase later.new.items) }
+{
+    match later.last() {
+        Some(line) if line.phase == phase => later.pop(),
+        _ => None,
+    }
+}

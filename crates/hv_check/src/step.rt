@@ -1,0 +1,98 @@
+// One line of an audit.
+ghost use Rattle.std.specs.Prelude.{◌≡◌, ◌<◌, ◌^◌, IfOk, Some, length};
+ghost use Rattle.hv_check.specs.From.{IsNamedIn, IsNoEnd, IsShorter, IsStep};
+ghost use Rattle.hv_check.specs.Replay.{IsBegun, first_of, left_by};
+ghost use Rattle.hv_policy.specs.declared.event.Caller.{Caller as CallerValue};
+
+use crate::compare::behind_line;
+use crate::own_line::OwnLine;
+use crate::reader::processor;
+use crate::replay::Replay;
+use crate::verdict::Wrong;
+use hv_history::{HostRefused, Kept};
+use hv_policy::{Action, Caller, Event};
+use std::alloc::{AllocError, Global};
+
+/// What became of a line.
+#[derive(Clone, Copy)]
+pub enum Step<'a> {
+    /// It is legal, and this text stands behind it.
+    On(&'a [u8]),
+    /// It isn't legal.
+    Not(Wrong),
+}
+
+/// Takes the line at the start of a text. The machine takes the event that the named processor is to do next,
+/// and the line is to be the policy's.
+pub fn take_line<'a>(
+    kept: &mut Kept<Global>,
+    replay: &mut Replay,
+    own: &mut OwnLine,
+    text: &'a [u8],
+    rules: bool,
+) -> Result<Step<'a>, AllocError>
+    requires begun { IsBegun replay.old }
+    requires line { IsNoEnd text.now }
+    ensures step { IfOk result (IsStep rules kept.old kept.new replay.old replay.new text.now) }
+    ensures shorter { IfOk result (IsShorter text.now) }
+{
+    let line = number_of(kept);
+    let Some(by) = processor(text) else {
+        return Ok(Step::Not(Wrong::Unreadable { line }));
+    };
+    match next_of(replay, by)? {
+        Some(what) => take_event(kept, replay, own, text, rules, Event { by, what }),
+        None => Ok(Step::Not(Wrong::Idle { line, by })),
+    }
+}
+
+// The number of the next event.
+fn number_of(kept: &Kept<Global>) -> u64
+    ensures { length kept.now.history < 2 ^ 32 }
+{
+    // The proof reads here that a history's length fits 32 bits.
+    let _limit = kept.limit();
+    kept.history().len() as u64 + 1
+}
+
+// A copy of what a processor is to do next.
+fn next_of(replay: &Replay, by: Caller) -> Result<Option<Action<Global>>, AllocError>
+    ensures { IfOk result (λ next. next ≡ first_of (left_by by replay.now)) }
+{
+    match replay.next(by) {
+        Some(action) => Ok(Some(action.copy()?)),
+        None => Ok(None),
+    }
+}
+
+// Lets an event happen, and compares the line with the policy's.
+fn take_event<'a>(
+    kept: &mut Kept<Global>,
+    replay: &mut Replay,
+    own: &mut OwnLine,
+    text: &'a [u8],
+    rules: bool,
+    event: Event<Global>,
+) -> Result<Step<'a>, AllocError>
+    requires line { IsNoEnd text.now }
+    requires few { length kept.old.history < 2 ^ 32 }
+    requires by { (by : CallerValue) → IsNamedIn text.now by → by ≡ event.by }
+    requires next { first_of (left_by event.by replay.old) ≡ Some event.what }
+    ensures step { IfOk result (IsStep rules kept.old kept.new replay.old replay.new text.now) }
+    ensures shorter { IfOk result (IsShorter text.now) }
+{
+    let by = event.by;
+    let line = number_of(kept);
+    match kept.apply(event) {
+        Ok((_, reply)) => {
+            replay.go_on(by, &reply);
+            own.put_last(kept);
+            match behind_line(text, own.as_slice(), reply.parts().0, rules) {
+                Some(rest) => Ok(Step::On(rest)),
+                None => Ok(Step::Not(Wrong::Differs { line })),
+            }
+        }
+        Err(HostRefused::HistoryFull) => Ok(Step::Not(Wrong::Full { line, by })),
+        Err(HostRefused::Memory) => Err(AllocError),
+    }
+}

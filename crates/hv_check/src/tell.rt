@@ -1,0 +1,199 @@
+// The texts of a verdict.
+ghost use Rattle.std.specs.Prelude.{◌≤◌, length};
+
+use crate::verdict::{Verdict, Wrong};
+use hv_policy::Caller;
+use std::io;
+use std::io::Write;
+
+// The most bytes that are shown of a line of the audit.
+const SHOWN: usize = 800;
+
+/// Prints a verdict, in one line. `own` is the policy's line where the audit's differs from it.
+pub fn put_verdict<W: Write>(out: &mut W, verdict: Verdict<'_>, own: &[u8]) -> io::Result<()> {
+    match verdict {
+        Verdict::Legal { events } => writeln!(out, "legal, {events} events")?,
+        Verdict::Illegal { wrong, text } => {
+            write!(out, "line {}: ", wrong.line())?;
+            put_wrong(out, wrong, text, own)?;
+            out.write_all(b"\n")?;
+        }
+    }
+    out.flush()
+}
+
+// What is wrong with a line, and what the policy answers there.
+fn put_wrong<W: Write>(out: &mut W, wrong: Wrong, text: &[u8], own: &[u8]) -> io::Result<()> {
+    match wrong {
+        Wrong::Unreadable { .. } => {
+            write!(out, "wanted the line of an event, found ")?;
+            put_found(out, text)
+        }
+        Wrong::Idle { by, .. } => {
+            put_caller(out, by)?;
+            write!(out, " has nothing left to do in this phase")
+        }
+        Wrong::Full { by, .. } => {
+            put_caller(out, by)?;
+            write!(
+                out,
+                " has no event left, since the script's limit is reached"
+            )
+        }
+        Wrong::Differs { .. } => put_difference(
+            out,
+            Parts::of(first_line(own)),
+            Parts::of(first_line(text)),
+            text,
+        ),
+        Wrong::Early { by, .. } => {
+            write!(out, "wanted an event of ")?;
+            put_caller(out, by)?;
+            write!(out, ", found ")?;
+            put_found(out, text)
+        }
+        Wrong::Count { events } => {
+            write!(out, "wanted events {events}, found ")?;
+            put_found(out, text)
+        }
+        Wrong::Behind { .. } => {
+            write!(out, "wanted the end, found ")?;
+            put_found(out, after_line(text))
+        }
+    }
+}
+
+fn put_caller<W: Write>(out: &mut W, by: Caller) -> io::Result<()> {
+    write!(out, "{}.{}", by.part, by.vp)
+}
+
+// The line of an event, cut into its number, the processor with what it asked for, and how it was answered.
+#[derive(Clone, Copy)]
+struct Parts<'a> {
+    number: &'a [u8],
+    asked: &'a [u8],
+    reply: &'a [u8],
+}
+
+impl<'a> Parts<'a> {
+    fn of(line: &'a [u8]) -> Parts<'a> {
+        let (number, event) = cut(line, space_from(line, 0));
+        let (asked, reply) = cut(event, reply_in(event));
+        Parts {
+            number,
+            asked,
+            reply,
+        }
+    }
+}
+
+// What stands before a space and behind it. All stands before it where there is none.
+fn cut(text: &[u8], space: usize) -> (&[u8], &[u8]) {
+    if space < text.len() {
+        (&text[..space], &text[space + 1..])
+    } else {
+        (text, &[])
+    }
+}
+
+// The place of the first space from a place on, or the length.
+fn space_from(text: &[u8], from: usize) -> usize
+    requires { from ≤ length text.now }
+    ensures least { from ≤ result }
+    ensures most { result ≤ length text.now }
+{
+    let mut at = from;
+    while at < text.len() && text[at] != b' ' {
+        at += 1;
+    }
+    at
+}
+
+// The place of the space before the word that says how an event was answered, or the length.
+fn reply_in(event: &[u8]) -> usize {
+    let mut at = space_from(event, 0);
+    while at < event.len() {
+        let end = space_from(event, at + 1);
+        let word = &event[at + 1..end];
+        if word == b"ok".as_slice()
+            || word == b"more".as_slice()
+            || word == b"denied".as_slice()
+            || word == b"fault".as_slice()
+        {
+            return at;
+        }
+        at = end;
+    }
+    at
+}
+
+// The first thing in which a line differs from the policy's.
+fn put_difference<W: Write>(
+    out: &mut W,
+    own: Parts<'_>,
+    found: Parts<'_>,
+    text: &[u8],
+) -> io::Result<()> {
+    if own.number != found.number {
+        write!(out, "wanted number ")?;
+        put_shown(out, own.number)?;
+        write!(out, ", found ")?;
+        put_shown(out, found.number)
+    } else if own.asked != found.asked {
+        write!(out, "wanted ")?;
+        put_shown(out, own.asked)?;
+        write!(out, ", found ")?;
+        put_shown(out, found.asked)
+    } else if own.reply != found.reply {
+        put_shown(out, own.asked)?;
+        write!(out, ": wanted ")?;
+        put_shown(out, own.reply)?;
+        write!(out, ", found ")?;
+        put_shown(out, found.reply)
+    } else {
+        write!(out, "wanted a line feed, found the end")
+    }
+}
+
+// The first line of a text, without its line feed.
+fn first_line(text: &[u8]) -> &[u8] {
+    match text.iter().position(|byte| *byte == b'\n') {
+        Some(at) => &text[..at],
+        None => text,
+    }
+}
+
+// What stands behind the first line.
+fn after_line(text: &[u8]) -> &[u8] {
+    match text.iter().position(|byte| *byte == b'\n') {
+        Some(at) => &text[at + 1..],
+        None => &[],
+    }
+}
+
+// The first line of what was found, or that there is none.
+fn put_found<W: Write>(out: &mut W, text: &[u8]) -> io::Result<()> {
+    if text.is_empty() {
+        write!(out, "the end")
+    } else if text[0] == b'\n' {
+        write!(out, "an empty line")
+    } else {
+        put_shown(out, first_line(text))
+    }
+}
+
+// Bytes as they are shown: those that aren't printable as `?`, and no more than so many.
+fn put_shown<W: Write>(out: &mut W, text: &[u8]) -> io::Result<()> {
+    let mut line = [b'?'; SHOWN];
+    let len = text.len().min(SHOWN);
+    for at in 0..len {
+        if matches!(text[at], 0x20..=0x7E) {
+            line[at] = text[at];
+        }
+    }
+    out.write_all(&line[..len])?;
+    if len < text.len() {
+        out.write_all(b"..")?;
+    }
+    Ok(())
+}
