@@ -1,0 +1,12 @@
+pub mod Acts
+pub mod Becoming
+pub mod Benches
+pub mod Law
+pub mod Lines
+pub mod Order
+pub mod Reading
+pub mod Says
+pub mod Sent
+pub mod Takes
+pub mod Texts
+pub mod Turning

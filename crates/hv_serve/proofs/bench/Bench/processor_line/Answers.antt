@@ -1,0 +1,44 @@
+use Rattle.std.proofs.Common.{◌∙◌, ap, subst, sym, Err}
+use Rattle.std.specs.declared.alloc.Global.{Global}
+use Rattle.std.proofs.lemmas.Result.{err_from_is_err_and}
+use Rattle.hv_history.specs.Kept.{Kept}
+use Rattle.hv_script.specs.Line.{processor_of}
+use Rattle.hv_serve.specs.Bench.{IsOutcomeOf}
+use Rattle.hv_serve.proofs.Benches.{bad_action, bad_processor, no_room, performed, still}
+use Rattle.hv_serve.proofs.bench.Bench.processor_line.Goals as goal
+
+pub returns-in_err-by : goal.returns-in_err-by
+returns-in_err-by c =
+    let p = err_from_is_err_and c.from_residual.result c.from_residual.ensures.1 in
+    let words = c.args.line.now in
+    rw (p.1, p.2) (λ served is. (is, λ _. bad_processor served.read words _ (ap processor_of (sym c.word.ensures) ∙ sym c.in_err-by.ensures)))
+
+pub returns-in_err-action : goal.returns-in_err-action
+returns-in_err-action c =
+    let p = err_from_is_err_and c.from_residual-in_err-action.result c.from_residual-in_err-action.ensures.1 in
+    let words = c.args.line.now in
+    rw (p.1, p.2) (λ served is. (is, λ apart. bad_action served.read words c.in_ok-by.by _ (ap processor_of (sym c.word.ensures) ∙ sym c.in_ok-by.ensures) (c.in_err-action.ensures apart)))
+
+pub returns-in_err-admit : goal.returns-in_err-admit
+returns-in_err-admit c =
+    let p = err_from_is_err_and c.from_residual-in_err-admit.result c.from_residual-in_err-admit.ensures.1 in
+    let words = c.args.line.now in
+    let refused = c.in_err-admit.ensures in
+    rw (p.1, p.2)
+    (λ served is. (
+      still c.args.self.now c.admit.new.self served is refused.kept refused.same,
+      λ apart. no_room c.args.self.now served words c.in_ok-by.by c.in_ok-action.action is (ap processor_of (sym c.word.ensures) ∙ sym c.in_ok-by.ensures) c.in_ok-action.ensures (refused.many apart).1
+          ∙ ap Err (sym (refused.many apart).0),
+    ))
+
+pub returns : goal.returns
+returns c =
+    let words = c.args.line.now in
+    let by = c.in_ok-by.by in
+    let what = c.in_ok-action.action in
+    let old = c.args.self.now in
+    let new = c.perform.new.self in
+    let admitted = c.in_ok-admit.ensures in
+    λ served is. performed old new served words by what is (ap processor_of (sym c.word.ensures) ∙ sym c.in_ok-by.ensures) c.in_ok-action.ensures admitted.room
+    (c.perform.ensures.callers ∙ admitted.counted) c.perform.result
+    (subst (λ (k : Kept Global). IsOutcomeOf by what k new.kept c.perform.result) admitted.kept c.perform.ensures.acted)

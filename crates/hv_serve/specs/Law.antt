@@ -1,0 +1,32 @@
+-- A session beside a script.
+use Rattle.std.specs.Prelude.{ℕ, List, filter, Bool, true, false}
+use Rattle.std.specs.List.{join_with_byte}
+use Rattle.hv_serve.specs.Session.{Turn, answers_in, lines_in}
+use Rattle.hv_serve.specs.declared.outcome.Outcome.{Outcome}
+use Rattle.hv_serve.specs.declared.outcome.Outcome.TheVariants.{Done, Table, Fault, Boot, Host}
+
+abbrev pub is_done : Outcome → Bool
+is_done Done = true
+is_done Table = false
+is_done (Fault kind) = false
+is_done (Boot why) = false
+is_done (Host why) = false
+
+-- the host refused it nothing
+abbrev pub IsServed : Outcome → Type 0
+IsServed Done = Unit {0}
+IsServed Table = Unit {0}
+IsServed (Fault kind) = Unit {0}
+IsServed (Boot why) = Unit {0}
+IsServed (Host why) = ⊥
+
+-- the lines that were done
+abbrev pub done_in : List Turn → List Turn
+done_in turns = filter (λ turn. is_done turn.outcome) turns
+
+-- these lines as a script, and what they were answered
+abbrev pub script_in : List Turn → List ℕ
+script_in turns = join_with_byte 10 (lines_in (done_in turns))
+
+abbrev pub told_in : List Turn → List ℕ
+told_in turns = answers_in (done_in turns)

@@ -1,0 +1,49 @@
+-- What is told of a line that wasn't done.
+use Rattle.std.specs.Prelude.{ℕ, ◌++◌, List, [], codes, decimal}
+use Rattle.hv_history.specs.declared.kept.HostRefused.TheVariants as host
+use Rattle.hv_policy.specs.declared.config.BootRefused.{BootRefused}
+use Rattle.hv_policy.specs.declared.config.BootRefused.TheVariants as refused
+use Rattle.hv_script.specs.declared.fault.FaultKind.{FaultKind}
+use Rattle.hv_script.specs.declared.fault.FaultKind.TheVariants as kind
+use Rattle.hv_serve.specs.declared.outcome.Outcome.{Outcome}
+use Rattle.hv_serve.specs.declared.outcome.Outcome.TheVariants.{Done, Table, Fault, Boot, Host}
+
+-- a fault's text
+abbrev pub kind_text : FaultKind → List ℕ
+kind_text kind.Long = codes "too long"
+kind_text kind.Byte = codes "bad byte"
+kind_text kind.NoBoot = codes "no boot"
+kind_text kind.BootTwice = codes "second boot"
+kind_text kind.Processor = codes "bad processor"
+kind_text kind.Word = codes "unknown word"
+kind_text kind.Count = codes "word count"
+kind_text kind.Number = codes "bad number"
+kind_text kind.Hex = codes "bad hex"
+kind_text kind.TooMany = codes "too many processors"
+kind_text kind.Memory = codes "memory"
+
+-- why a line wasn't done
+abbrev pub why_text : Outcome → List ℕ
+why_text Done = []
+why_text Table = []
+why_text (Fault kind) = kind_text kind
+why_text (Boot refused.Pages) = codes "boot refused: pages"
+why_text (Boot refused.Pool) = codes "boot refused: pool"
+why_text (Boot refused.Vps) = codes "boot refused: vps"
+why_text (Boot refused.Memory) = codes "memory"
+why_text (Host host.HistoryFull) = codes "history full"
+why_text (Host host.Memory) = codes "memory"
+
+-- the line that tells why the line of a number wasn't done
+unfoldable pub fault_text : ℕ → Outcome → List ℕ
+fault_text number outcome = codes "fault: line " ++ decimal number ++ codes ": " ++ why_text outcome ++ codes "\n"
+
+-- a fault as what becomes of its line: want of memory is the host's
+abbrev pub outcome_by : FaultKind → Outcome
+outcome_by kind.Memory = Host host.Memory
+outcome_by kind = Fault kind
+
+-- the same of a boot that is refused
+abbrev pub outcome_of_boot : BootRefused → Outcome
+outcome_of_boot refused.Memory = Host host.Memory
+outcome_of_boot why = Boot why

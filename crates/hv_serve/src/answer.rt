@@ -1,0 +1,157 @@
+// What a line is answered.
+ghost use Rattle.std.specs.Prelude.{◌≡◌, ◌+◌, ◌≤◌, ◌<◌, ◌++◌, [], IfOk, OnOk, Some, codes, decimal, drop, length};
+ghost use Rattle.std.specs.Io.KnownBytes.{Appends};
+ghost use Rattle.hv_defs.specs.declared.sizes.TheConstants.{REPS_END};
+ghost use Rattle.hv_history.specs.History.{entry_by};
+ghost use Rattle.hv_policy.specs.Parts.{next_in, reply_of};
+ghost use Rattle.hv_text.specs.Audit.{entries_text, entry_text};
+ghost use Rattle.hv_serve.specs.Bench.{IsToldAs, kept_in};
+ghost use Rattle.hv_serve.specs.Outcome.{fault_text};
+ghost use Rattle.hv_serve.specs.Session.{answer_of, end_text, history_of, new_text, table_of, told_of};
+
+use crate::bench::Bench;
+use crate::outcome::Outcome;
+use hv_history::{EntryRef, HostRefused, Kept};
+use hv_run::Failure;
+use hv_text::{LINE, PrintFault, Scratch, audit_line, table};
+use itoa::Buffer;
+use std::alloc::Global;
+use std::io::Write;
+
+// Writes the answer to the line of a number, before which so many events had happened, and flushes it. Tells
+// what became of the line, also where there is no memory for the table.
+pub(crate) fn put_answer<W: Write>(
+    out: &mut W,
+    bench: &Option<Bench>,
+    before: usize,
+    number: u64,
+    outcome: Outcome,
+) -> Result<Outcome, Failure>
+    ensures { IfOk result (λ told. IsToldAs outcome told × Appends (W.contents out.old) (W.contents out.new)
+        (answer_of number before told (kept_in bench.now))) }
+{
+    put_new(out, bench, before)?;
+    let told = put_outcome(out, bench, number, outcome)?;
+    out.flush().map_err(|_| Failure::Write)?;
+    Ok(told)
+}
+
+// How many events happened.
+pub(crate) fn events_of(bench: &Option<Bench>) -> usize
+    ensures { result ≡ length (history_of (kept_in bench.now)) }
+{
+    match bench {
+        None => 0,
+        Some(bench) => bench.kept.history().len(),
+    }
+}
+
+// Writes how many events happened, as an audit ends, and flushes it.
+pub(crate) fn put_end<W: Write>(out: &mut W, bench: &Option<Bench>) -> Result<(), Failure>
+    ensures { OnOk result (Appends (W.contents out.old) (W.contents out.new)
+        (end_text (length (history_of (kept_in bench.now))))) }
+{
+    put_bytes(out, b"events ")?;
+    put_decimal(out, events_of(bench) as u64)?;
+    put_bytes(out, b"\n")?;
+    out.flush().map_err(|_| Failure::Write)
+}
+
+// Writes the audit's lines of the events behind so many.
+fn put_new<W: Write>(out: &mut W, bench: &Option<Bench>, before: usize) -> Result<(), Failure>
+    ensures { OnOk result (Appends (W.contents out.old) (W.contents out.new)
+        (new_text before (kept_in bench.now))) }
+{
+    match bench {
+        None => Ok(()),
+        Some(bench) => put_entries(out, &bench.kept, before),
+    }
+}
+
+fn put_entries<W: Write>(out: &mut W, kept: &Kept<Global>, before: usize) -> Result<(), Failure>
+    ensures { OnOk result (Appends (W.contents out.old) (W.contents out.new)
+        (entries_text (before + 1) (drop before kept.now.history))) }
+{
+    // The proof reads here that a history's length fits 32 bits.
+    let _limit = kept.limit();
+    let history = kept.history();
+    for at in before..history.len() {
+        put_entry(out, at as u64 + 1, &history.entry(at))?;
+    }
+    Ok(())
+}
+
+// Writes the audit's line of an event with its number.
+fn put_entry<W: Write>(out: &mut W, number: u64, entry: &EntryRef<'_>) -> Result<(), Failure>
+    requires most { length entry.now.output.now ≤ 256 }
+    requires index { next_in (reply_of entry.now.answer []) < REPS_END }
+    ensures { OnOk result (Appends (W.contents out.old) (W.contents out.new)
+        (entry_text number (entry_by {A = Global} entry.now) ++ codes "\n")) }
+{
+    let mut scratch = Scratch::new();
+    let mut buffer = [0; LINE];
+    let len = audit_line::<Global>(&mut scratch, &mut buffer, number, entry);
+    put_bytes(out, &buffer[..len])
+}
+
+// Writes what follows the lines of the audit: the table, or why the line wasn't done.
+fn put_outcome<W: Write>(
+    out: &mut W,
+    bench: &Option<Bench>,
+    number: u64,
+    outcome: Outcome,
+) -> Result<Outcome, Failure>
+    ensures { IfOk result (λ told. IsToldAs outcome told × Appends (W.contents out.old) (W.contents out.new)
+        (told_of number told (kept_in bench.now))) }
+{
+    match outcome {
+        Outcome::Done => Ok(Outcome::Done),
+        Outcome::Table => put_table(out, bench, number),
+        Outcome::Fault(_) | Outcome::Boot(_) | Outcome::Host(_) => put_fault(out, number, outcome),
+    }
+}
+
+// Writes the table of the state so far, or that there is no memory for it.
+fn put_table<W: Write>(out: &mut W, bench: &Option<Bench>, number: u64) -> Result<Outcome, Failure>
+    ensures { IfOk result (λ told. IsToldAs Outcome.Table told × Appends (W.contents out.old)
+        (W.contents out.new) (told_of number told (kept_in bench.now))) }
+{
+    let Some(bench) = bench else {
+        return Ok(Outcome::Table);
+    };
+    // The proof reads here that what is kept is a run.
+    let _history = bench.kept.history();
+    match table(out, &bench.kept) {
+        Ok(()) => Ok(Outcome::Table),
+        Err(PrintFault::Memory) => put_fault(out, number, Outcome::Host(HostRefused::Memory)),
+        Err(PrintFault::Write { .. }) => Err(Failure::Write),
+    }
+}
+
+// Writes why the line of a number wasn't done.
+fn put_fault<W: Write>(out: &mut W, number: u64, outcome: Outcome) -> Result<Outcome, Failure>
+    ensures told { IfOk result (λ told. told ≡ outcome) }
+    ensures text { OnOk result (Appends (W.contents out.old) (W.contents out.new)
+        (fault_text number outcome)) }
+{
+    put_bytes(out, b"fault: line ")?;
+    put_decimal(out, number)?;
+    put_bytes(out, b": ")?;
+    put_bytes(out, outcome.text().as_bytes())?;
+    put_bytes(out, b"\n")?;
+    Ok(outcome)
+}
+
+// Writes a number in decimal.
+fn put_decimal<W: Write>(out: &mut W, number: u64) -> Result<(), Failure>
+    ensures { OnOk result (Appends (W.contents out.old) (W.contents out.new) (decimal number)) }
+{
+    let mut buffer = Buffer::new();
+    put_bytes(out, buffer.format(number).as_bytes())
+}
+
+fn put_bytes<W: Write>(out: &mut W, bytes: &[u8]) -> Result<(), Failure>
+    ensures { OnOk result (Appends (W.contents out.old) (W.contents out.new) bytes.now) }
+{
+    out.write_all(bytes).map_err(|_| Failure::Write)
+}

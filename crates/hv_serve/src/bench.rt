@@ -1,0 +1,196 @@
+// A booted machine and what its lines do.
+ghost use Rattle.std.specs.Prelude.{◌≡◌, ◌≢◌, ◌≤◌, Option, Some, None, IfErr, MatchResult, OnErr, OnOk, is_some};
+ghost use Rattle.std.specs.Prelude.{All, Err, List, Ok, ℕ, length, true, false};
+ghost use Rattle.hv_script.specs.Callers.{have_room, is_among, with_caller};
+ghost use Rattle.hv_script.specs.Cursor.{line_of};
+ghost use Rattle.hv_script.specs.Script.{SoFar, first_line, later_line, phase_line, processor_line};
+ghost use Rattle.hv_script.specs.declared.script.TheConstants.{MOST_BYTES as MOST};
+ghost use Rattle.hv_serve.specs.Acts.{HasTried};
+ghost use Rattle.hv_serve.specs.Bench.{HasBecome, HasTaken, IsBench, IsOutcomeOf, StandsFor, reads, words_say};
+ghost use Rattle.hv_serve.specs.Input.{AreKept};
+ghost use Rattle.hv_serve.specs.Meant.{Asks, meant, table_line};
+ghost use Rattle.hv_serve.specs.Session.{Served, read_of};
+
+use crate::calls::act;
+use crate::outcome::{Outcome, outcome_of, refused_boot};
+use hv_history::Kept;
+use hv_policy::{Action, Caller};
+use hv_script::{CutLine, FaultKind, MOST_PROCESSORS, action, processor, read_boot};
+use std::alloc::Global;
+
+// A machine that was booted, with what happened to it.
+#[derive(Drop)]
+pub(crate) struct Bench {
+    pub(crate) kept: Kept<Global>,
+    // The processors that the lines of the phase named.
+    callers: Vec<Caller>,
+}
+
+// Does what a line asks for, unless it wasn't kept. Until a machine is booted there is none.
+pub(crate) fn take_line(
+    alloc: Global,
+    bench: &mut Option<Bench>,
+    line: &[u8],
+    lost: Option<FaultKind>,
+) -> Outcome
+    ensures { (before : Option Served) (bytes : List ℕ) → StandsFor bench.old before
+        → All (λ byte. byte ≢ 10) bytes → AreKept bytes line.now lost
+        → HasBecome before (meant (read_of before) bytes) result bench.new }
+{
+    match lost {
+        Some(kind) => outcome_of(Err(kind)),
+        None => outcome_of(do_line(alloc, bench, line)),
+    }
+}
+
+// Does what a line asks for.
+fn do_line(alloc: Global, bench: &mut Option<Bench>, text: &[u8]) -> Result<Outcome, FaultKind>
+    ensures { (before : Option Served) → StandsFor bench.old before → length text.now ≤ MOST
+        → HasTaken before (meant (read_of before) (line_of text.now)) bench.new result }
+{
+    let mut line = CutLine::new();
+    line.cut(text)?;
+    do_words(alloc, bench, &line)
+}
+
+// Does what a line's words ask for.
+fn do_words(
+    alloc: Global,
+    bench: &mut Option<Bench>,
+    line: &CutLine<'_>,
+) -> Result<Outcome, FaultKind>
+    ensures { (before : Option Served) → StandsFor bench.old before
+        → HasTaken before (words_say (read_of before) line.now) bench.new result }
+{
+    if line.words() == 0 {
+        return Ok(Outcome::Done);
+    }
+    if line.begins_with(b"table".as_slice()) {
+        return table_line(bench.is_some(), line);
+    }
+    match bench {
+        None => boot_line(alloc, bench, line),
+        Some(bench) => bench.later_line(alloc, line),
+    }
+}
+
+// A line that asks for the table. There is one once a machine is booted.
+fn table_line(booted: bool, line: &CutLine<'_>) -> Result<Outcome, FaultKind>
+    ensures { (before : Option (SoFar Global)) → booted ≡ is_some before → MatchResult result
+        (λ outcome. (outcome ≡ Outcome.Table) × (table_line before line.now ≡ Ok Asks))
+        (λ kind. table_line before line.now ≡ Err kind) }
+{
+    if !booted {
+        return Err(FaultKind::NoBoot);
+    }
+    if line.words() != 1 {
+        return Err(FaultKind::Count);
+    }
+    Ok(Outcome::Table)
+}
+
+// The first line, which is a `boot` line.
+fn boot_line(
+    alloc: Global,
+    bench: &mut Option<Bench>,
+    line: &CutLine<'_>,
+) -> Result<Outcome, FaultKind>
+    requires { bench.old ≡ None }
+    ensures { HasTaken None (reads (first_line line.now)) bench.new result }
+{
+    if !line.begins_with(b"boot".as_slice()) {
+        return Err(FaultKind::NoBoot);
+    }
+    let boot = read_boot(line)?;
+    match Kept::boot(alloc, boot.config, boot.limit) {
+        Ok(kept) => {
+            *bench = Some(Bench {
+                kept,
+                callers: Vec::new(alloc),
+            });
+            Ok(Outcome::Done)
+        }
+        Err(refused) => Ok(refused_boot(refused)),
+    }
+}
+
+impl Bench {
+    // Any line after the first.
+    fn later_line(&mut self, alloc: Global, line: &CutLine<'_>) -> Result<Outcome, FaultKind>
+        ensures { (served : Served) → IsBench self.old served
+            → HasTaken (Some served) (reads (later_line served.read line.now)) (Some self.new) result }
+    {
+        if line.begins_with(b"boot".as_slice()) {
+            return Err(FaultKind::BootTwice);
+        }
+        if line.begins_with(b"phase".as_slice()) {
+            return self.phase_line(line);
+        }
+        self.processor_line(alloc, line)
+    }
+
+    // A `phase` line.
+    fn phase_line(&mut self, line: &CutLine<'_>) -> Result<Outcome, FaultKind>
+        ensures { (served : Served) → IsBench self.old served
+            → HasTaken (Some served) (reads (phase_line served.read line.now)) (Some self.new) result }
+    {
+        if line.words() != 1 {
+            return Err(FaultKind::Count);
+        }
+        self.callers.clear();
+        Ok(Outcome::Done)
+    }
+
+    // A line of a processor, which is read before anything changes.
+    fn processor_line(&mut self, alloc: Global, line: &CutLine<'_>) -> Result<Outcome, FaultKind>
+        ensures { (served : Served) → IsBench self.old served
+            → HasTaken (Some served) (reads (processor_line served.read line.now)) (Some self.new) result }
+    {
+        let by = processor(line.word(0))?;
+        let action = action(&alloc, line)?;
+        self.admit(by)?;
+        Ok(self.perform(by, action))
+    }
+
+    // Counts a processor among those of the phase, if there is room for it.
+    fn admit(&mut self, by: Caller) -> Result<(), FaultKind>
+        ensures room { OnOk result (have_room self.old.callers.items by ≡ true) }
+        ensures counted { OnOk result (self.new.callers.items ≡ with_caller self.old.callers.items by) }
+        ensures many { IfErr result (λ kind. kind ≢ FaultKind.Memory
+            → (kind ≡ FaultKind.TooMany) × (have_room self.old.callers.items by ≡ false)) }
+        ensures same { OnErr result (self.new.callers.items ≡ self.old.callers.items) }
+        ensures kept { self.new.kept ≡ self.old.kept }
+    {
+        if is_among(&self.callers, by) {
+            return Ok(());
+        }
+        if self.callers.len() >= MOST_PROCESSORS {
+            return Err(FaultKind::TooMany);
+        }
+        self.callers.push(by).map_err(|_| FaultKind::Memory)
+    }
+
+    // Lets an action come to its end, unless the host refuses it.
+    fn perform(&mut self, by: Caller, action: Action<Global>) -> Outcome
+        ensures acted { IsOutcomeOf by action self.old.kept self.new.kept result }
+        ensures callers { self.new.callers.items ≡ self.old.callers.items }
+    {
+        match act(&mut self.kept, by, action) {
+            Ok(()) => Outcome::Done,
+            Err(why) => Outcome::Host(why),
+        }
+    }
+}
+
+// Whether a processor is one of these.
+#[tactic(auto, using(std::proofs::lemmas::List::Folds::list_any_at))]
+fn is_among(callers: &[Caller], by: Caller) -> bool
+    ensures { result ≡ is_among callers.now by }
+{
+    for at in 0..callers.len() {
+        if callers[at] == by {
+            return true;
+        }
+    }
+    false
+}

@@ -1,0 +1,154 @@
+// Sessions at their edges: how lines end, lines that are too long, and streams that fail.
+
+use crate::sessions::{Flushed, text_of};
+use hv_run::Exit;
+use hv_script::FaultKind;
+use hv_serve::{Outcome, serve};
+use std::alloc::Global;
+use std::io;
+use std::io::{ErrorKind, Read, Write};
+use std::process::Abort;
+use std::test::Fail;
+
+// The exit status, the output, and the line on standard error.
+type Shown<'a> = (Exit, &'a str, &'a str);
+
+fn assert_shown<R: Read + Drop>(rt: &impl Abort, alloc: Global, reader: R, wanted: Shown<'_>) {
+    let mut out = Flushed::new(alloc);
+    let mut err: Vec<u8> = Vec::new(alloc);
+    let exit = serve(alloc, reader, &mut out, &mut err);
+    assert_eq!(rt; (exit, text_of(&out.bytes), text_of(&err)), wanted);
+}
+
+const SESSION: &[u8] = b"boot 32 12 1 0x000000f700000044 9\n1.0 call 0x46 0 0 -";
+
+const ANSWERS: &str =
+    "1 1.0 call 0000000000000046 ok 0000000000000000 0100000000000000\nevents 1\n";
+
+// The last line may lack its line feed. A carriage return is a bad byte.
+#[test]
+fn line_ends(rt: HostRuntime) {
+    let alloc = rt.alloc();
+    assert_shown(&rt, alloc, SESSION, (Exit::Done, ANSWERS, ""));
+    assert_shown(
+        &rt,
+        alloc,
+        b"boot 32 12 1 0 9\r\n# \r\nboot 32 12 1 0 9\nphase\r".as_slice(),
+        (
+            Exit::Done,
+            "fault: line 1: bad byte\nfault: line 4: bad byte\nevents 0\n",
+            "",
+        ),
+    );
+}
+
+// A line that is longer than a script is refused, and the next one is served. One that is as long is read.
+#[test]
+fn long_lines(rt: HostRuntime) -> Result<(), Fail> {
+    let alloc = rt.alloc();
+    for (bytes, wanted) in [
+        (1_048_576, ANSWERS),
+        (
+            1_048_577,
+            "fault: line 1: too long\n1 1.0 call 0000000000000046 ok 0000000000000000 0100000000000000\nevents 1\n",
+        ),
+    ] {
+        let mut text: Vec<u8> = Vec::new(alloc);
+        text.resize(bytes, b'#')?;
+        text.push(b'\n')?;
+        text.extend_from_slice(SESSION)?;
+        assert_shown(&rt, alloc, text.as_slice(), (Exit::Done, wanted, ""));
+    }
+    Ok(())
+}
+
+// A reader that gives a few bytes at a time, and then an error or the end.
+#[derive(Drop)]
+struct Pieces<'a> {
+    left: &'a [u8],
+    then: Option<ErrorKind>,
+}
+
+impl Read for Pieces<'_> {
+    fn read(&mut self, buf: &mut [u8]) -> io::Result<usize> {
+        let len = self.left.len().min(buf.len()).min(7);
+        if len == 0 {
+            return match self.then.take() {
+                Some(kind) => Err(io::Error::from(kind)),
+                None => Ok(0),
+            };
+        }
+        let (piece, rest) = self.left.split_at(len);
+        buf[..len].copy_from_slice(piece);
+        self.left = rest;
+        Ok(len)
+    }
+}
+
+// An interrupted read is tried again. What was read when another error came is answered but for the last line.
+#[test]
+fn failed_input(rt: HostRuntime) {
+    let alloc = rt.alloc();
+    for (then, wanted) in [
+        (None, (Exit::Done, ANSWERS, "")),
+        (Some(ErrorKind::Interrupted), (Exit::Done, ANSWERS, "")),
+        (
+            Some(ErrorKind::BrokenPipe),
+            (Exit::Script, "", "hvpm: cannot read the script\n"),
+        ),
+    ] {
+        let left = SESSION;
+        assert_shown(&rt, alloc, Pieces { left, then }, wanted);
+    }
+}
+
+// A writer that fails after some writes.
+#[derive(Drop)]
+struct Failing {
+    writes: usize,
+}
+
+impl Write for Failing {
+    fn write(&mut self, bytes: &[u8]) -> io::Result<usize> {
+        if self.writes == 0 {
+            return Err(io::Error::from(ErrorKind::BrokenPipe));
+        }
+        self.writes -= 1;
+        Ok(bytes.len())
+    }
+
+    fn flush(&mut self) -> io::Result<()> {
+        Ok(())
+    }
+}
+
+// An answer that can't be written ends the session.
+#[test]
+fn failed_output(rt: HostRuntime) {
+    for writes in 0..4 {
+        let mut out = Failing { writes };
+        let mut err: Vec<u8> = Vec::new(rt.alloc());
+        let exit = serve(rt.alloc(), SESSION, &mut out, &mut err);
+        assert_eq!(rt; (exit, text_of(&err)), (Exit::Host, "hvpm: write\n"));
+    }
+}
+
+// A fault is told by the text that a run of a script has for it.
+#[test]
+fn fault_texts(rt: HostRuntime) {
+    for kind in [
+        FaultKind::Long,
+        FaultKind::Byte,
+        FaultKind::NoBoot,
+        FaultKind::BootTwice,
+        FaultKind::Processor,
+        FaultKind::Word,
+        FaultKind::Count,
+        FaultKind::Number,
+        FaultKind::Hex,
+        FaultKind::TooMany,
+        FaultKind::Memory,
+    ] {
+        assert_eq!(rt; Outcome::Fault(kind).text(), kind.text());
+    }
+}
