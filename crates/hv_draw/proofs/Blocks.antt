@@ -1,0 +1,77 @@
+-- The blocks of partitions, one after another.
+use Rattle.std.proofs.Common.{◌≡◌, ℕ, zero, suc, ◌+◌, ◌≤◌, List, [], ◌∷◌, ◌++◌, length, refl, sym, ap, ◌∙◌, subst, arith, append-nil, append_assoc, Some, drop}
+use Rattle.std.specs.FinMap.{entries, keys}
+use Rattle.std.specs.List.{slice_get}
+use Rattle.std.proofs.lemmas.List.{drop_all, length-map}
+use Rattle.std.proofs.lemmas.Option.{none-some, same_Some}
+use Rattle.hv_partition.specs.Partition.{PartitionState}
+use Rattle.hv_tree.specs.Rows.{HasDepth, Row, Rows, children}
+use Rattle.hv_draw.specs.Graph.{AreBlocks, HasBlock, HasBlocks, edge_text, name_text, node_text, opening_text, pages_text, rank_text, use_text}
+
+dropped : {X : Type 0} (xs : List X) (i : ℕ) (x : X) → slice_get xs i ≡ Some x → drop i xs ≡ x ∷ drop (i + 1) xs
+dropped [] i x is = absurd (none-some x is)
+dropped (y ∷ ys) zero x is = ap (λ z. z ∷ ys) (same_Some y x is)
+dropped (y ∷ ys) (suc i) x is =
+    let at : suc (i + 1) ≡ suc i + 1 = omega arith in
+    dropped ys i x is ∙ ap (λ l. x ∷ l) (ap (λ (n : ℕ). drop n (y ∷ ys)) at)
+
+-- the blocks so far were added, and those of the rows that are left decide of all
+pub record AreSoFar (tree : Rows PartitionState) (i : ℕ) (old now : List ℕ) : Type 0 where
+  pub own : List ℕ
+  pub added : now ≡ old ++ own
+  pub decides : (rest : List ℕ) → AreBlocks tree (drop i (entries tree)) rest → AreBlocks tree (entries tree) (own ++ rest)
+
+pub none_yet : (tree : Rows PartitionState) (text : List ℕ) → AreSoFar tree 0 text text
+none_yet tree text = record { own = []; added = sym (append-nil text); decides = λ rest are. are }
+
+pub one_more : (tree : Rows PartitionState) (i : ℕ) (e : ℕ × Row PartitionState) (old now new : List ℕ) → AreSoFar tree i old now → slice_get (entries tree) i ≡ Some e
+    → HasBlock tree e now new → AreSoFar tree (i + 1) old new
+one_more tree i e old now new at is has = record {
+  own = at.own ++ has.own;
+  added = has.added ∙ ap (λ (l : List ℕ). l ++ has.own) at.added ∙ append_assoc old at.own has.own;
+  decides = λ rest are.
+      let here : AreBlocks tree (e ∷ drop (i + 1) (entries tree)) (has.own ++ rest) = (has.own, rest, refl, has.block, are) in
+      subst (AreBlocks tree (entries tree)) (sym (append_assoc at.own has.own rest))
+      (at.decides (has.own ++ rest) (subst (λ es. AreBlocks tree es (has.own ++ rest)) (sym (dropped (entries tree) i e is)) here));
+}
+
+pub all_of_them : (tree : Rows PartitionState) (i : ℕ) (old now : List ℕ) → AreSoFar tree i old now → drop i (entries tree) ≡ [] → HasBlocks tree old now
+all_of_them tree i old now at none = record {
+  own = at.own;
+  blocks = subst (AreBlocks tree (entries tree)) (append-nil at.own) (at.decides [] (subst (λ es. AreBlocks tree es []) (sym none) refl));
+  added = at.added;
+}
+
+-- no row is left
+pub past : (tree : Rows PartitionState) (ids : List ℕ) (i : ℕ) → ids ≡ keys tree → length ids ≤ i → drop i (entries tree) ≡ []
+past tree ids i is le = drop_all i (entries tree) (omega (arith, ap length is, length-map (entries tree) (λ e. e.0)))
+
+-- three and four parts behind a text
+pub three : (t0 t1 t2 t3 a b c : List ℕ) → t1 ≡ t0 ++ a → t2 ≡ t1 ++ b → t3 ≡ t2 ++ c → t3 ≡ t0 ++ (a ++ b ++ c)
+three t0 t1 t2 t3 a b c e1 e2 e3 =
+    e3 ∙ ap (λ (l : List ℕ). l ++ c) (e2 ∙ ap (λ (l : List ℕ). l ++ b) e1 ∙ append_assoc t0 a b) ∙ append_assoc t0 (a ++ b) c
+
+pub four : (t0 t1 t2 t3 t4 a b c d : List ℕ) → t1 ≡ t0 ++ a → t2 ≡ t1 ++ b → t3 ≡ t2 ++ c → t4 ≡ t3 ++ d → t4 ≡ t0 ++ (a ++ b ++ c ++ d)
+four t0 t1 t2 t3 t4 a b c d e1 e2 e3 e4 =
+    e4 ∙ ap (λ (l : List ℕ). l ++ d) (three t0 t1 t2 t3 a b c e1 e2 e3) ∙ append_assoc t0 (a ++ b ++ c) d
+
+-- eight parts behind a text
+parts : (old a b c d e f g h : List ℕ) → old ++ a ++ b ++ c ++ d ++ e ++ f ++ g ++ h ≡ old ++ ((a ++ b ++ c ++ d ++ e ++ f) ++ (g ++ h))
+parts [] a b c d e f g h = append_assoc (a ++ b ++ c ++ d ++ e ++ f) g h
+parts (x ∷ old) a b c d e f g h = ap (λ (l : List ℕ). x ∷ l) (parts old a b c d e f g h)
+
+-- a block is its edge, its node, what is inside and its end
+module _ (tree : Rows PartitionState) (id depth : ℕ) (row : Row PartitionState) (inside end t0 t1 t2 t3 t4 t5 t6 t7 t8 : List ℕ) where
+  pub block_of : HasDepth tree id depth → t1 ≡ t0 ++ edge_text row.0 id → t2 ≡ t1 ++ opening_text id → t3 ≡ t2 ++ name_text id row.1 → t4 ≡ t3 ++ rank_text depth row.1
+      → t5 ≡ t4 ++ pages_text row.1 → t6 ≡ t5 ++ use_text (length (children tree id)) row.1 → t7 ≡ t6 ++ inside → t8 ≡ t7 ++ end → HasBlock tree (id, row) t0 t8
+  block_of deep e1 e2 e3 e4 e5 e6 e7 e8 = record {
+    own = node_text id depth (length (children tree id)) row ++ (inside ++ end);
+    block = record { depth = depth; is_depth = deep; more = inside ++ end; all = refl };
+    added = e8 ∙ ap (λ (l : List ℕ). l ++ end) (e7 ∙ ap (λ (l : List ℕ). l ++ inside) (e6
+        ∙ ap (λ (l : List ℕ). l ++ use_text (length (children tree id)) row.1) (e5
+        ∙ ap (λ (l : List ℕ). l ++ pages_text row.1) (e4
+        ∙ ap (λ (l : List ℕ). l ++ rank_text depth row.1) (e3
+        ∙ ap (λ (l : List ℕ). l ++ name_text id row.1) (e2
+        ∙ ap (λ (l : List ℕ). l ++ opening_text id) e1))))))
+        ∙ parts t0 (edge_text row.0 id) (opening_text id) (name_text id row.1) (rank_text depth row.1) (pages_text row.1) (use_text (length (children tree id)) row.1) inside end;
+  }

@@ -1,0 +1,62 @@
+-- A script that was run and drawn.
+use Rattle.std.proofs.Common.{◌≡◌, ℕ, ◌+◌, List, [], ◌++◌, length, sym, ap, ◌∙◌, subst, append_assoc}
+use Rattle.std.specs.Prelude.{IfErr, IsOk, OnOk, Option, Result, Ok, Err}
+use Rattle.std.specs.declared.alloc.Global.{Global}
+use Rattle.hv_history.specs.Kept.{IsRun, Kept}
+use Rattle.hv_history.specs.declared.entry.Entry.{Entry}
+use Rattle.hv_phases.specs.Lines.{AreInOrder}
+use Rattle.hv_partition.specs.Partition.{PartitionState}
+use Rattle.hv_run.specs.Failure.{exit_of}
+use Rattle.hv_run.specs.declared.failure.Exit.TheVariants.{Host, Script}
+use Rattle.hv_run.specs.declared.failure.Failure.{Failure}
+use Rattle.hv_script.specs.Script.{Said}
+use Rattle.hv_tie.specs.Room.{roomless}
+use Rattle.hv_tree.specs.Rows.{Rows}
+use Rattle.hv_draw.specs.Drawn.{HasDrawn, HasGraph, HasRun, IsGraph}
+use Rattle.hv_draw.specs.Graph.{HasBlocks}
+
+pub drawn_of : (said : Said Global) (start kept : Kept Global) (old new : Option (List ℕ)) → start.config ≡ said.config → start.limit ≡ said.limit → start.history ≡ []
+    → HasRun said.lines start kept → IsRun kept → HasGraph kept old new → HasDrawn said old new
+drawn_of said start kept old new config limit none ran run drawn = record {
+  kept = kept;
+  run = run;
+  config = ran.config ∙ config;
+  limit = ran.limit ∙ limit;
+  order = subst (AreInOrder 1 said.lines) (sym (ran.history ∙ ap (λ (l : List (Entry Global)). l ++ ran.own) none))
+      (subst (λ (l : List (Entry Global)). AreInOrder (length l + 1) said.lines ran.own) none ran.order);
+  drawn = drawn;
+}
+
+-- what holds in any case
+pub in_any : {T E : Type 0} (r : Result T E) (P : Type 0) → P → OnOk r P
+in_any (Ok value) P holds = holds
+in_any (Err error) P holds = tt
+
+-- what ended well ran and was drawn
+pub both_ok : {T E S F : Type 0} (result drawn : Result T E) (ran : Result S F) (P Q R : Type 0) → OnOk result (IsOk ran) → OnOk result (IsOk drawn) → OnOk ran P → OnOk drawn Q
+    → (P → Q → R) → OnOk result R
+both_ok (Err e) drawn ran P Q R is_ran is_drawn p q both = tt
+both_ok (Ok v) (Ok w) (Ok u) P Q R is_ran is_drawn p q both = both p q
+both_ok (Ok v) (Ok w) (Err f) P Q R is_ran is_drawn p q both = cc
+both_ok (Ok v) (Err f) ran P Q R is_ran is_drawn p q both = cc
+
+-- a failure with the host's status isn't the script's
+pub silent_host : {T : Type 0} (r : Result T Failure) (P : Type 0) → IfErr r (λ failure. exit_of failure ≡ Host) → IfErr r (λ failure. exit_of failure ≡ Script → P)
+silent_host (Ok value) P host = tt
+silent_host (Err failure) P host = λ script.
+    let is : exit_of failure ≡ Host = host in
+    let other : exit_of failure ≡ Script = script in
+    cc
+
+-- the graph of what is kept, with what stands behind its blocks
+pub graph_of : (kept : Kept Global) (tree : Rows PartitionState) (t0 t1 t2 t3 links end : List ℕ) → roomless tree ≡ kept.machine.rows → HasBlocks tree t0 t1 → t2 ≡ t1 ++ links → t3 ≡ t2 ++ end
+    → IsGraph kept t3
+graph_of kept tree t0 t1 t2 t3 links end shown has e2 e3 = record {
+  tree = tree;
+  shown = shown;
+  before = t0;
+  blocks = has.own;
+  behind = links ++ end;
+  are = has.blocks;
+  all = e3 ∙ ap (λ (l : List ℕ). l ++ end) (e2 ∙ ap (λ (l : List ℕ). l ++ links) has.added) ∙ append_assoc (t0 ++ has.own) links end;
+}

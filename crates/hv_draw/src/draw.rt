@@ -1,0 +1,141 @@
+// From a script's bytes to the exit status.
+ghost use Rattle.std.specs.Prelude.{◌≡◌, ◌≢◌, IfErr, IfOk, IsOk, OnOk};
+ghost use Rattle.std.specs.Io.KnownBytes.{Appends, Keeps};
+ghost use Rattle.hv_history.specs.Kept.{IsRun};
+ghost use Rattle.hv_run.specs.Failure.{exit_of};
+ghost use Rattle.hv_script.specs.Reading.{said};
+ghost use Rattle.hv_draw.specs.Drawn.{HasDrawn, HasDrawnOf, HasGraph, IsGraph};
+
+use crate::again::Again;
+use crate::graph::push_blocks;
+use crate::in_order::run_in_order;
+use crate::links::push_links;
+use crate::text::push;
+use hv_history::{HostRefused, Kept};
+use hv_run::{Exit, Failure, tell};
+use hv_script::{Script, parse};
+use std::alloc::{AllocError, Global};
+use std::io::Write;
+
+// What stands before the partitions: how the graph looks.
+const HEAD: &[u8] = b"\
+digraph hvpm {\n\
+\x20 node [fontname=\"Helvetica\" fontsize=10 shape=record];\n\
+\x20 edge [fontname=\"Helvetica\" fontsize=9];\n\
+\x20 graph [style=rounded color=gray];\n\
+";
+
+/// Runs a script in its order, and writes the state in which it ends as a graph for Graphviz to `out`. Why it
+/// didn't all run goes to `err`, in one line.
+///
+/// After a fault of the script or a refused boot nothing is written to `out`. Where the host refuses an event,
+/// no later line is run, and the state so far is drawn.
+pub fn draw_text<W: Write, E: Write>(alloc: Global, script: &[u8], out: &mut W, err: &mut E) -> Exit
+    ensures drawn { result ≡ Exit.Done → HasDrawnOf script.now (W.contents out.old) (W.contents out.new) }
+    ensures silent { result ≡ Exit.Script → out.new ≡ out.old }
+    ensures no_usage { result ≢ Exit.Usage }
+{
+    match parse(alloc, script) {
+        Ok(script) => finish(alloc, script, out, err),
+        Err(fault) => tell(Failure::from(fault), err),
+    }
+}
+
+// Draws a script that has no fault, and tells why it didn't all run.
+fn finish<W: Write, E: Write>(
+    alloc: Global,
+    script: Script<Global>,
+    out: &mut W,
+    err: &mut E,
+) -> Exit
+    ensures drawn { result ≡ Exit.Done → HasDrawn (said script) (W.contents out.old) (W.contents out.new) }
+    ensures silent { result ≡ Exit.Script → out.new ≡ out.old }
+    ensures no_usage { result ≢ Exit.Usage }
+{
+    match draw_script(alloc, script, out) {
+        Ok(()) => Exit::Done,
+        Err(failure) => tell(failure, err),
+    }
+}
+
+// Runs a script's lines, and writes the graph of what is there then.
+fn draw_script<W: Write>(alloc: Global, script: Script<Global>, out: &mut W) -> Result<(), Failure>
+    ensures drawn { OnOk result (HasDrawn (said script) (W.contents out.old) (W.contents out.new)) }
+    ensures silent { IfErr result (λ failure. exit_of failure ≡ Exit.Script → out.new ≡ out.old) }
+{
+    let Script {
+        config,
+        limit,
+        lines,
+    } = script;
+    let mut kept = Kept::boot(alloc, config, limit)?;
+    let ran = run_in_order(&mut kept, lines);
+    let drawn = write_graph(alloc, &kept, out);
+    ended(ran, drawn)
+}
+
+// Why a script didn't all run comes before output that couldn't be written.
+fn ended(ran: Result<(), HostRefused>, drawn: Result<(), Failure>) -> Result<(), Failure>
+    ensures ran { OnOk result (IsOk ran) }
+    ensures drawn { OnOk result (IsOk drawn) }
+    ensures host { IfErr drawn (λ failure. exit_of failure ≡ Exit.Host)
+        → IfErr result (λ failure. exit_of failure ≡ Exit.Host) }
+{
+    match ran {
+        Ok(()) => drawn,
+        Err(HostRefused::HistoryFull) => Err(Failure::HistoryFull),
+        Err(HostRefused::Memory) => Err(Failure::Memory),
+    }
+}
+
+// Writes the graph of what is kept.
+fn write_graph<W: Write>(alloc: Global, kept: &Kept<Global>, out: &mut W) -> Result<(), Failure>
+    ensures graph { OnOk result (HasGraph kept.now (W.contents out.old) (W.contents out.new)) }
+    ensures run { IsRun kept.now }
+    ensures host { IfErr result (λ failure. exit_of failure ≡ Exit.Host) }
+{
+    // The proof reads here that what is kept is a run.
+    let _history = kept.history();
+    match graph(alloc, kept) {
+        Ok(text) => put(&text, out),
+        Err(_) => Err(Failure::Memory),
+    }
+}
+
+// Writes a text to its end.
+fn put<W: Write>(text: &[u8], out: &mut W) -> Result<(), Failure>
+    ensures told { OnOk result (Appends (W.contents out.old) (W.contents out.new) text.now) }
+    ensures host { IfErr result (λ failure. exit_of failure ≡ Exit.Host) }
+{
+    match out.write_all(text) {
+        Ok(()) => flush(out),
+        Err(_) => Err(Failure::Write),
+    }
+}
+
+fn flush<W: Write>(out: &mut W) -> Result<(), Failure>
+    ensures bytes { Keeps (W.contents out.old) (W.contents out.new) }
+    ensures host { IfErr result (λ failure. exit_of failure ≡ Exit.Host) }
+{
+    match out.flush() {
+        Ok(()) => Ok(()),
+        Err(_) => Err(Failure::Write),
+    }
+}
+
+// The graph of what is kept.
+fn graph(alloc: Global, kept: &Kept<Global>) -> Result<Vec<u8>, AllocError>
+    ensures { IfOk result (λ text. IsGraph kept.now text.items) }
+{
+    let mut again = Again::run(alloc, kept)?;
+    let tree = kept.machine().tree();
+    let ids = tree.ids()?;
+    let mut links = Vec::new(alloc);
+    push_links(&mut links, tree, &again)?;
+    let mut text = Vec::new(alloc);
+    push(&mut text, HEAD)?;
+    push_blocks(&mut text, tree, &ids, &mut again)?;
+    push(&mut text, &links)?;
+    push(&mut text, b"}\n")?;
+    Ok(text)
+}

@@ -1,0 +1,141 @@
+// The whole graph.
+ghost use Rattle.std.specs.Prelude.{◌≡◌, ◌++◌, IsSome, OnOk, Some};
+ghost use Rattle.std.specs.FinMap as map;
+ghost use Rattle.hv_partition.specs.Partition.{PartitionState};
+ghost use Rattle.hv_tree.specs.Rows.{Row};
+ghost use Rattle.hv_draw.specs.Graph.{HasBlock, HasBlocks, edge_text, name_text, opening_text};
+ghost use Rattle.hv_draw.specs.Graph.{pages_text, rank_text, use_text};
+ghost use Rattle.hv_text.specs.Table.{life_text};
+
+use crate::again::Again;
+use crate::inside::push_inside;
+use crate::text::{push, push_hex_64, push_number};
+use hv_defs::Life;
+use hv_partition::{PageKind, Partition};
+use hv_tie::Partitions;
+use std::alloc::{AllocError, Global};
+
+/// Adds the block of each partition with one of these ids, which are all.
+pub(crate) fn push_blocks(
+    text: &mut Vec<u8>,
+    tree: &Partitions<Global>,
+    ids: &[u64],
+    again: &mut Again,
+) -> Result<(), AllocError>
+    requires { ids.now ≡ map.keys tree.now }
+    ensures { OnOk result (HasBlocks tree.now text.old.items text.new.items) }
+{
+    for id in ids {
+        let mut inside = Vec::new(*text.allocator());
+        push_inside(&mut inside, tree, *id, again)?;
+        push_block(text, tree, *id, &inside)?;
+    }
+    Ok(())
+}
+
+// Adds the block of the partition with this id: the edge from its parent, and its cluster, in which its node
+// stands first, with this behind it.
+fn push_block(
+    text: &mut Vec<u8>,
+    tree: &Partitions<Global>,
+    id: u64,
+    inside: &[u8],
+) -> Result<(), AllocError>
+    requires { IsSome (map.get tree.now id) }
+    ensures { (row : Row PartitionState) → map.get tree.now id ≡ Some row
+        → OnOk result (HasBlock tree.now (id, row) text.old.items text.new.items) }
+{
+    let Some(partition) = tree.get(id) else {
+        unreachable!()
+    };
+    let Some(depth) = tree.depth_of(id) else {
+        unreachable!()
+    };
+    let Some(count) = tree.children_of(id) else {
+        unreachable!()
+    };
+    push_edge(text, tree.parent_of(id), id)?;
+    push_opening(text, id)?;
+    push_name(text, id, partition)?;
+    push_rank(text, depth, partition)?;
+    push_pages(text, partition)?;
+    push_use(text, count, partition)?;
+    push(text, inside)?;
+    push(text, b"  }\n")
+}
+
+// Adds the edge from the parent, if there is one.
+fn push_edge(text: &mut Vec<u8>, parent: Option<u64>, id: u64) -> Result<(), AllocError>
+    ensures { OnOk result (text.new.items ≡ text.old.items ++ edge_text parent id) }
+{
+    let Some(parent) = parent else {
+        return Ok(());
+    };
+    push(text, b"  p")?;
+    push_number(text, parent)?;
+    push(text, b" -> p")?;
+    push_number(text, id)?;
+    push(text, b";\n")
+}
+
+fn push_opening(text: &mut Vec<u8>, id: u64) -> Result<(), AllocError>
+    ensures { OnOk result (text.new.items ≡ text.old.items ++ opening_text id) }
+{
+    push(text, b"  subgraph cluster_")?;
+    push_number(text, id)?;
+    push(text, b" {\n    p")?;
+    push_number(text, id)
+}
+
+fn push_name(text: &mut Vec<u8>, id: u64, partition: &Partition<Global>) -> Result<(), AllocError>
+    ensures { OnOk result (text.new.items ≡ text.old.items ++ name_text id partition.now) }
+{
+    push(text, b" [label=\"{partition ")?;
+    push_number(text, id)?;
+    push(text, b"|")?;
+    push(text, life_of(partition.life()))
+}
+
+fn push_rank(
+    text: &mut Vec<u8>,
+    depth: u64,
+    partition: &Partition<Global>,
+) -> Result<(), AllocError>
+    ensures { OnOk result (text.new.items ≡ text.old.items ++ rank_text depth partition.now) }
+{
+    push(text, b", depth ")?;
+    push_number(text, depth)?;
+    push(text, b"|mask 0x")?;
+    push_hex_64(text, partition.mask().bits())
+}
+
+fn push_pages(text: &mut Vec<u8>, partition: &Partition<Global>) -> Result<(), AllocError>
+    ensures { OnOk result (text.new.items ≡ text.old.items ++ pages_text partition.now) }
+{
+    push(text, b"|pages: ")?;
+    push_number(text, partition.pages(PageKind::Loose).count())?;
+    push(text, b" loose, ")?;
+    push_number(text, partition.pages(PageKind::Pooled).count())
+}
+
+fn push_use(
+    text: &mut Vec<u8>,
+    children: u32,
+    partition: &Partition<Global>,
+) -> Result<(), AllocError>
+    ensures { OnOk result (text.new.items ≡ text.old.items ++ use_text children partition.now) }
+{
+    push(text, b" pooled, ")?;
+    push_number(text, partition.in_use(children))?;
+    push(text, b" in use}\"];\n")
+}
+
+fn life_of(life: Life) -> &'static [u8]
+    ensures { result.now ≡ life_text life }
+{
+    match life {
+        Life::Created => b"Created",
+        Life::Active => b"Active",
+        Life::Finalized => b"Finalized",
+    }
+}

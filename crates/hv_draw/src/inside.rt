@@ -1,0 +1,310 @@
+// What a partition's cluster holds behind the partition's node: its virtual processors and its ports.
+ghost use Rattle.std.specs.Prelude.{◌<◌};
+ghost use Rattle.hv_draw.specs.declared.inside.TheConstants.{SINTS};
+
+use crate::again::{Again, MadePort};
+use crate::text::{push, push_number};
+use hv_defs::{Aim, PortKind};
+use hv_partition::Partition;
+use hv_policy::Caller;
+use hv_ports::Port;
+use hv_tie::Partitions;
+use hv_vp::Vp;
+use std::alloc::{AllocError, Global};
+
+// How many processors a partition may have.
+const VPS: u32 = 64;
+
+// How many SINTs a processor has.
+pub const SINTS: u8 = 16;
+
+/// Adds the nodes of the processors and the ports of the partition with this id, if it is there.
+pub(crate) fn push_inside(
+    text: &mut Vec<u8>,
+    tree: &Partitions<Global>,
+    id: u64,
+    again: &mut Again,
+) -> Result<(), AllocError> {
+    let Some(partition) = tree.get(id) else {
+        return Ok(());
+    };
+    for index in 0..VPS {
+        if let Some(vp) = partition.vp(index) {
+            let by = Caller {
+                part: id,
+                vp: index,
+            };
+            let vectors = again.take_vectors(by)?;
+            push_vp(text, by, vp, &again.ports, &vectors)?;
+        }
+    }
+    push_ports(text, id, partition, &again.ports)
+}
+
+// Adds the node of a processor, and the line from its partition to it.
+fn push_vp(
+    text: &mut Vec<u8>,
+    by: Caller,
+    vp: &Vp<Global>,
+    ports: &[MadePort],
+    vectors: &[u8],
+) -> Result<(), AllocError> {
+    push(text, b"    ")?;
+    push_vp_name(text, by)?;
+    push(text, b" [label=\"{vp ")?;
+    push_number(text, u64::from(by.vp))?;
+    for sint in 0..SINTS {
+        push_messages(text, sint, vp, kept_at(by.part, sint, vp, ports))?;
+        push_flags(text, sint, &vp.flags(sint))?;
+    }
+    push_vectors(text, vectors)?;
+    push(text, b"}\"];\n    p")?;
+    push_number(text, by.part)?;
+    push(text, b" -> ")?;
+    push_vp_name(text, by)?;
+    push(text, b" [arrowhead=none];\n")
+}
+
+fn push_vp_name(text: &mut Vec<u8>, by: Caller) -> Result<(), AllocError> {
+    push(text, b"v")?;
+    push_number(text, by.part)?;
+    push(text, b"_")?;
+    push_number(text, u64::from(by.vp))
+}
+
+// How many messages a processor of this partition keeps at a SINT, by the ports that were made.
+fn kept_at(part: u64, sint: u8, vp: &Vp<Global>, ports: &[MadePort]) -> usize {
+    let mut kept = 0usize;
+    for made in ports {
+        if made.part == part && made.sint == u32::from(sint) {
+            kept = kept.saturating_add(vp.of_port(made.port, made.born));
+        }
+    }
+    kept
+}
+
+// Adds a row for the messages of a SINT, where it keeps some.
+fn push_messages(
+    text: &mut Vec<u8>,
+    sint: u8,
+    vp: &Vp<Global>,
+    kept: usize,
+) -> Result<(), AllocError>
+    requires { sint < SINTS }
+{
+    if kept == 0 {
+        return Ok(());
+    }
+    push(text, b"|SINT ")?;
+    push_number(text, u64::from(sint))?;
+    let slot = vp.slot(sint);
+    let waiting = if is_shown(&slot) {
+        push(text, b" shows a message of port ")?;
+        push_number(text, u64::from(port_in(&slot)))?;
+        push(text, b", ")?;
+        kept.saturating_sub(1)
+    } else {
+        push(text, b" shows no message, ")?;
+        kept
+    };
+    push_number(text, waiting as u64)?;
+    push(text, b" waiting")
+}
+
+// Whether a slot shows a message, whose type isn't zero.
+fn is_shown(slot: &[u8; 256]) -> bool {
+    slot[0] != 0 || slot[1] != 0 || slot[2] != 0 || slot[3] != 0
+}
+
+// The port of the message in a slot.
+fn port_in(slot: &[u8; 256]) -> u32 {
+    u32::from_le_bytes([slot[8], slot[9], slot[10], slot[11]])
+}
+
+// Adds a row for the event flags of a SINT, where one is set.
+fn push_flags(text: &mut Vec<u8>, sint: u8, flags: &[u8; 256]) -> Result<(), AllocError> {
+    if !flags.iter().any(|byte| *byte != 0) {
+        return Ok(());
+    }
+    push(text, b"|SINT ")?;
+    push_number(text, u64::from(sint))?;
+    push(text, b" flags")?;
+    push_set(text, flags, 0, 2048)
+}
+
+// Adds the numbers of those flags that are set, of so many from a first one on, or that none is.
+fn push_set(
+    text: &mut Vec<u8>,
+    flags: &[u8; 256],
+    first: u16,
+    count: u16,
+) -> Result<(), AllocError> {
+    let mut some = false;
+    for flag in 0..2048u16 {
+        let within = first <= flag && flag - first < count;
+        if within && is_set(flags, flag) {
+            push(text, if some { b", " } else { b" " })?;
+            push_number(text, u64::from(flag))?;
+            some = true;
+        }
+    }
+    if some { Ok(()) } else { push(text, b" none") }
+}
+
+// Whether a flag below 2,048 is set.
+fn is_set(flags: &[u8; 256], flag: u16) -> bool {
+    match flags.get(usize::from(flag / 8)) {
+        Some(byte) => *byte >> (flag % 8) & 1 == 1,
+        None => false,
+    }
+}
+
+// Adds a row for the vectors that are pending, where one is.
+fn push_vectors(text: &mut Vec<u8>, vectors: &[u8]) -> Result<(), AllocError> {
+    let mut some = false;
+    for vector in vectors {
+        push(text, if some { b", " } else { b"|pending " })?;
+        push_number(text, u64::from(*vector))?;
+        some = true;
+    }
+    Ok(())
+}
+
+// Adds the nodes of a partition's ports.
+fn push_ports(
+    text: &mut Vec<u8>,
+    id: u64,
+    partition: &Partition<Global>,
+    ports: &[MadePort],
+) -> Result<(), AllocError> {
+    for made in ports {
+        if made.part == id {
+            if let Some(port) = partition.port(made.port) {
+                if port.born == made.born {
+                    push_port(text, id, made.port, partition, &port)?;
+                }
+            }
+        }
+    }
+    Ok(())
+}
+
+// Adds the node of a port, and the line to the processor at which it aims.
+fn push_port(
+    text: &mut Vec<u8>,
+    id: u64,
+    number: u32,
+    partition: &Partition<Global>,
+    port: &Port,
+) -> Result<(), AllocError> {
+    push(text, b"    ")?;
+    push_port_name(text, id, number)?;
+    push(text, b" [label=\"{port ")?;
+    push_number(text, u64::from(number))?;
+    push(text, b" for partition ")?;
+    push_number(text, port.peer)?;
+    match port.kind {
+        PortKind::Message => push_message_port(text, number, partition, port)?,
+        PortKind::Event => push_event_port(text, partition, port)?,
+    }
+    push(text, b"}\" style=rounded];\n")?;
+    match port.vp {
+        Aim::One(vp) if partition.vp(vp).is_some() => push_aim(
+            text,
+            Caller { part: id, vp },
+            number,
+        ),
+        Aim::One(_) | Aim::Any => Ok(()),
+    }
+}
+
+/// Adds the name of a port's node.
+pub(crate) fn push_port_name(text: &mut Vec<u8>, id: u64, number: u32) -> Result<(), AllocError> {
+    push(text, b"o")?;
+    push_number(text, id)?;
+    push(text, b"_")?;
+    push_number(text, u64::from(number))
+}
+
+fn push_aim(text: &mut Vec<u8>, at: Caller, number: u32) -> Result<(), AllocError> {
+    push(text, b"    ")?;
+    push_port_name(text, at.part, number)?;
+    push(text, b" -> ")?;
+    push_vp_name(text, at)?;
+    push(text, b" [style=dotted];\n")
+}
+
+// Adds where a port aims.
+fn push_target(text: &mut Vec<u8>, port: &Port) -> Result<(), AllocError> {
+    push(text, b"SINT ")?;
+    push_number(text, u64::from(port.sint))?;
+    match port.vp {
+        Aim::One(vp) => {
+            push(text, b" of vp ")?;
+            push_number(text, u64::from(vp))
+        }
+        Aim::Any => push(text, b" of any vp"),
+    }
+}
+
+// Adds that a port takes messages, and how many of them its partition keeps.
+fn push_message_port(
+    text: &mut Vec<u8>,
+    number: u32,
+    partition: &Partition<Global>,
+    port: &Port,
+) -> Result<(), AllocError> {
+    push(text, b"|messages to ")?;
+    push_target(text, port)?;
+    let mut kept = 0usize;
+    for index in 0..VPS {
+        if let Some(vp) = partition.vp(index) {
+            kept = kept.saturating_add(vp.of_port(number, port.born));
+        }
+    }
+    push(text, b"|kept: ")?;
+    push_number(text, kept as u64)
+}
+
+// Adds which flags a port sets, and which of them are set where it aims.
+fn push_event_port(
+    text: &mut Vec<u8>,
+    partition: &Partition<Global>,
+    port: &Port,
+) -> Result<(), AllocError> {
+    push(text, b"|flags ")?;
+    push_number(text, u64::from(port.base))?;
+    push(text, b" to ")?;
+    push_number(
+        text,
+        (u64::from(port.base) + u64::from(port.count)).saturating_sub(1),
+    )?;
+    push(text, b" of ")?;
+    push_target(text, port)?;
+    push(text, b"|set:")?;
+    push_set(text, &flags_of(partition, port), port.base, port.count)
+}
+
+// The flags that are set at a port's SINT, at the processor at which it aims, or at any.
+fn flags_of(partition: &Partition<Global>, port: &Port) -> [u8; 256] {
+    let mut flags = [0; 256];
+    for index in 0..VPS {
+        let aims = match port.vp {
+            Aim::One(vp) => vp == index,
+            Aim::Any => true,
+        };
+        if let Some(vp) = partition.vp(index) {
+            if aims && port.sint < u32::from(SINTS) {
+                join(&mut flags, &vp.flags(port.sint as u8));
+            }
+        }
+    }
+    flags
+}
+
+// Adds the bits of one to another.
+fn join(flags: &mut [u8; 256], more: &[u8; 256]) {
+    for at in 0..256 {
+        flags[at] |= more[at];
+    }
+}

@@ -1,0 +1,84 @@
+// The connections, each an edge from its partition to its port.
+
+use crate::again::{Again, MadeConn};
+use crate::inside::push_port_name;
+use crate::text::{push, push_number};
+use hv_ports::Conn;
+use hv_tie::Partitions;
+use std::alloc::{AllocError, Global};
+
+/// Adds the edges of all connections.
+pub(crate) fn push_links(
+    text: &mut Vec<u8>,
+    tree: &Partitions<Global>,
+    again: &Again,
+) -> Result<(), AllocError> {
+    let mut last = None;
+    for made in &again.conns {
+        if last != Some(*made) {
+            if let Some(conn) = conn_of(tree, *made) {
+                push_link(text, tree, *made, conn)?;
+            }
+        }
+        last = Some(*made);
+    }
+    Ok(())
+}
+
+// The connection, if it is still there.
+fn conn_of(tree: &Partitions<Global>, made: MadeConn) -> Option<Conn> {
+    tree.get(made.part)?.conn(made.conn)
+}
+
+// Adds an edge, and where the port is gone a node that says so.
+fn push_link(
+    text: &mut Vec<u8>,
+    tree: &Partitions<Global>,
+    made: MadeConn,
+    conn: Conn,
+) -> Result<(), AllocError> {
+    let leads = leads_to_port(tree, conn);
+    if !leads {
+        push_gone(text, made, conn)?;
+    }
+    push(text, b"  p")?;
+    push_number(text, made.part)?;
+    push(text, b" -> ")?;
+    if leads {
+        push_port_name(text, conn.part, conn.port)?;
+    } else {
+        push_gone_name(text, made)?;
+    }
+    push(text, b" [label=\"connection ")?;
+    push_number(text, u64::from(made.conn))?;
+    push(text, b"\" style=dashed constraint=false];\n")
+}
+
+// Whether the connection's port is there, with the birth that the connection keeps.
+fn leads_to_port(tree: &Partitions<Global>, conn: Conn) -> bool {
+    match tree.get(conn.part) {
+        Some(partition) => match partition.port(conn.port) {
+            Some(port) => port.born == conn.born,
+            None => false,
+        },
+        None => false,
+    }
+}
+
+// Adds a node in place of a port that is gone.
+fn push_gone(text: &mut Vec<u8>, made: MadeConn, conn: Conn) -> Result<(), AllocError> {
+    push(text, b"  ")?;
+    push_gone_name(text, made)?;
+    push(text, b" [label=\"port ")?;
+    push_number(text, u64::from(conn.port))?;
+    push(text, b" of partition ")?;
+    push_number(text, conn.part)?;
+    push(text, b" is gone\" shape=plaintext];\n")
+}
+
+fn push_gone_name(text: &mut Vec<u8>, made: MadeConn) -> Result<(), AllocError> {
+    push(text, b"g")?;
+    push_number(text, made.part)?;
+    push(text, b"_")?;
+    push_number(text, u64::from(made.conn))
+}

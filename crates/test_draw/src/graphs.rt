@@ -1,0 +1,177 @@
+// Graphs of small scripts, typed by hand, and what is told where there is none.
+
+use hv_draw::draw_text;
+use hv_run::Exit;
+use std::alloc::Global;
+use std::io;
+use std::io::{ErrorKind, Write};
+use std::process::Abort;
+
+// Partition 2 below the root, with a processor and 8 pages. Port 5 of the root takes messages for SINT 2 of processor
+// 0, and keeps two. Port 6 takes event flags 8 to 15 for SINT 3 of any processor, of which its second and its fifth
+// are set. Port 9 takes messages for SINT 4: one was cleared, another waits, and the port is deleted. Vectors 0x30
+// and 0x33 are pending.
+const LIFE: &[u8] = b"\
+boot 64 32 1 0x000000f700000044 100\n\
+1.0 call 0x40 0 0 -\n\
+1.0 call 0x45 0 0 0200000000000000000001000000000000000000b2000000\n\
+1.0 call 0x10041 2 0 -\n\
+1.0 call 0x0000000800000048 0 0 02000000000000002000000000000000210000000000000022000000000000002300\
+0000000000002400000000000000250000000000000026000000000000002700000000000000\n\
+1.0 call 0x1004e 2 0 -\n\
+1.0 call 0x95 0 0 0100000000000000050000000000000002000000000000000100000000000000020000000000000000\
+00000000000000\n\
+1.0 call 0x95 0 0 010000000000000006000000000000000200000000000000020000000000000003000000ffffffff08\
+00080000000000\n\
+1.0 call 0x95 0 0 0100000000000000090000000000000002000000000000000100000000000000040000000000000000\
+00000000000000\n\
+1.0 wrmsr 0x40000080 1\n\
+1.0 wrmsr 0x40000082 1\n\
+1.0 wrmsr 0x40000083 1\n\
+1.0 wrmsr 0x40000092 0x30\n\
+1.0 wrmsr 0x40000093 0x33\n\
+2.0 call 0x96 0 0 02000000000000000a00000000000000010000000000000006000000000000000200000000000000\n\
+2.0 call 0x96 0 0 02000000000000000700000000000000010000000000000005000000000000000100000000000000\n\
+2.0 call 0x96 0 0 02000000000000000800000000000000010000000000000009000000000000000100000000000000\n\
+2.0 call 0x5c 0 0 0700000000000000010000000500000068656c6c6f\n\
+2.0 call 0x5c 0 0 070000000000000001000000020000006869\n\
+2.0 call 0x5c 0 0 08000000000000000100000000000000\n\
+2.0 call 0x5c 0 0 08000000000000000200000000000000\n\
+2.0 call 0x5d 0 0 0a00000001000000\n\
+2.0 call 0x5d 0 0 0a00000004000000\n\
+1.0 clearslot 4\n\
+1.0 call 0x10058 1 9 -\n\
+";
+
+const LIFE_GRAPH: &str = "\
+digraph hvpm {\n\
+\x20 node [fontname=\"Helvetica\" fontsize=10 shape=record];\n\
+\x20 edge [fontname=\"Helvetica\" fontsize=9];\n\
+\x20 graph [style=rounded color=gray];\n\
+\x20 subgraph cluster_1 {\n\
+\x20   p1 [label=\"{partition 1|Active, depth 0|mask 0x000000f700000044|pages: 24 loose, 32 pooled, \
+8 in use}\"];\n\
+\x20   v1_0 [label=\"{vp 0|SINT 2 shows a message of port 5, 1 waiting|SINT 3 flags 9, 12|SINT 4 sho\
+ws no message, 1 waiting|pending 51, 48}\"];\n\
+\x20   p1 -> v1_0 [arrowhead=none];\n\
+\x20   o1_5 [label=\"{port 5 for partition 2|messages to SINT 2 of vp 0|kept: 2}\" style=rounded];\n\
+\x20   o1_5 -> v1_0 [style=dotted];\n\
+\x20   o1_6 [label=\"{port 6 for partition 2|flags 8 to 15 of SINT 3 of any vp|set: 9, 12}\" style=r\
+ounded];\n\
+\x20 }\n\
+\x20 p1 -> p2;\n\
+\x20 subgraph cluster_2 {\n\
+\x20   p2 [label=\"{partition 2|Active, depth 1|mask 0x000000b200000000|pages: 0 loose, 8 pooled, 7 \
+in use}\"];\n\
+\x20   v2_0 [label=\"{vp 0}\"];\n\
+\x20   p2 -> v2_0 [arrowhead=none];\n\
+\x20 }\n\
+\x20 p2 -> o1_5 [label=\"connection 7\" style=dashed constraint=false];\n\
+\x20 g2_8 [label=\"port 9 of partition 1 is gone\" shape=plaintext];\n\
+\x20 p2 -> g2_8 [label=\"connection 8\" style=dashed constraint=false];\n\
+\x20 p2 -> o1_6 [label=\"connection 10\" style=dashed constraint=false];\n\
+}\n\
+";
+
+// A partition that is Created, and a machine that takes no third event.
+const FULL: &[u8] = b"\
+boot 32 12 1 0x000000f700000044 2\n\
+1.0 call 0x40 0 0 -\n\
+1.0 call 0x46 0 0 -\n\
+1.0 call 0x46 0 0 -\n\
+";
+
+const FULL_GRAPH: &str = "\
+digraph hvpm {\n\
+\x20 node [fontname=\"Helvetica\" fontsize=10 shape=record];\n\
+\x20 edge [fontname=\"Helvetica\" fontsize=9];\n\
+\x20 graph [style=rounded color=gray];\n\
+\x20 subgraph cluster_1 {\n\
+\x20   p1 [label=\"{partition 1|Active, depth 0|mask 0x000000f700000044|pages: 20 loose, 12 pooled, 6 in use}\"];\n\
+\x20   v1_0 [label=\"{vp 0}\"];\n\
+\x20   p1 -> v1_0 [arrowhead=none];\n\
+\x20 }\n\
+\x20 p1 -> p2;\n\
+\x20 subgraph cluster_2 {\n\
+\x20   p2 [label=\"{partition 2|Created, depth 1|mask 0x0000003000000044|pages: 0 loose, 0 pooled, 0 in use}\"];\n\
+\x20 }\n\
+}\n\
+";
+
+// A writer that takes nothing.
+#[derive(Drop)]
+struct Closed;
+
+impl Write for Closed {
+    fn write(&mut self, _bytes: &[u8]) -> io::Result<usize> {
+        Err(io::Error::from(ErrorKind::BrokenPipe))
+    }
+
+    fn flush(&mut self) -> io::Result<()> {
+        Err(io::Error::from(ErrorKind::BrokenPipe))
+    }
+}
+
+fn text_of(bytes: &[u8]) -> &str {
+    str::from_utf8(bytes).unwrap_or("no UTF-8 text")
+}
+
+// Draws a script, and compares what comes.
+fn assert_draws(
+    rt: &impl Abort,
+    alloc: Global,
+    script: &[u8],
+    exit: Exit,
+    graph: &str,
+    line: &str,
+) {
+    let mut out: Vec<u8> = Vec::new(alloc);
+    let mut err: Vec<u8> = Vec::new(alloc);
+    let drawn = draw_text(alloc, script, &mut out, &mut err);
+    assert_eq!(rt; (drawn, text_of(&out), text_of(&err)), (exit, graph, line));
+}
+
+#[test]
+fn draws_all_that_there_is(rt: HostRuntime) {
+    assert_draws(&rt, rt.alloc(), LIFE, Exit::Done, LIFE_GRAPH, "");
+}
+
+#[test]
+fn draws_what_a_full_history_left(rt: HostRuntime) {
+    assert_draws(
+        &rt,
+        rt.alloc(),
+        FULL,
+        Exit::Host,
+        FULL_GRAPH,
+        "hvpm: history full\n",
+    );
+}
+
+#[test]
+fn draws_nothing_after_a_fault(rt: HostRuntime) {
+    let alloc = rt.alloc();
+    assert_draws(
+        &rt,
+        alloc,
+        b"phase\n",
+        Exit::Script,
+        "",
+        "hvpm: line 1: no boot\n",
+    );
+    assert_draws(
+        &rt,
+        alloc,
+        b"boot 0 0 1 0 9\n",
+        Exit::Script,
+        "",
+        "hvpm: boot refused: pages\n",
+    );
+}
+
+#[test]
+fn tells_that_nothing_was_written(rt: HostRuntime) {
+    let mut err: Vec<u8> = Vec::new(rt.alloc());
+    let exit = draw_text(rt.alloc(), LIFE, &mut Closed, &mut err);
+    assert_eq!(rt; (exit, text_of(&err)), (Exit::Host, "hvpm: write\n"));
+}
