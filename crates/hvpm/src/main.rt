@@ -1,14 +1,24 @@
-//! The program `hvpm`: runs a script of hypercalls and accesses on the partition manager, and prints an audit
-//! of what happened.
+//! The program `hvpm`: runs scripts of hypercalls and accesses on the partition manager, and tells what
+//! happened.
 //!
-//! [`hv_options::options`] reads the words of the command line, and [`hv_run::run_text`] runs a script's bytes
-//! over two writers. What stands here only fetches both, and gives back the exit status.
+//! [`hv_options::command`] reads the words of the command line. Each command has its crate, whose entry takes
+//! the bytes of its files and two writers: `hv_run` runs a script and prints its audit, `hv_check` compares an
+//! audit with a script, `hv_explain` and `hv_follow` tell the events in words, `hv_serve` answers line by line,
+//! and `hv_draw` draws the state at the end. What stands here only fetches words and files, and gives back the
+//! exit status.
 #![tactic(auto)]
 
-use hv_options::{Options, Usage, options};
-use hv_run::{Exit, Failure, read_script, run_text, tell, tell_usage, unread};
+mod files;
+
+use crate::files::{read_both, read_named};
+use hv_check::check_text;
+use hv_draw::draw_text;
+use hv_explain::explain_text;
+use hv_follow::follow_text;
+use hv_options::{Command, Options, Usage, command};
+use hv_run::{Exit, Failure, run_text, tell, tell_usage};
+use hv_serve::serve;
 use std::env;
-use std::fs::File;
 use std::io::{BufWriter, ErrorKind, Write};
 use std::process::ExitCode;
 use std::rt::{Env, Files};
@@ -36,8 +46,8 @@ fn start<R: Env + Files + Input + AllocGlobal + Threads + Wait + Sync, W: Write,
         Ok(words) => words,
         Err(usage) => return tell_usage(usage, out, err),
     };
-    match options(rt.alloc(), words.as_slice()) {
-        Ok(options) => run_named(rt, &options, out, err),
+    match command(rt.alloc(), words.as_slice()) {
+        Ok(command) => perform(rt, &command, out, err),
         Err(usage) => tell_usage(usage, out, err),
     }
 }
@@ -51,7 +61,31 @@ fn read_words<R: Env + AllocGlobal>(rt: &R) -> Result<Vec<String>, Usage> {
     }
 }
 
-// Runs the script that the words name.
+// Does what the words ask for.
+fn perform<R: Files + Input + AllocGlobal + Threads + Wait + Sync, W: Write, E: Write>(
+    rt: &R,
+    command: &Command<'_>,
+    out: &mut W,
+    err: &mut E,
+) -> Exit {
+    match command {
+        Command::Run(options) => run_named(rt, options, out, err),
+        Command::Check {
+            script,
+            audit,
+            prefix,
+            rules,
+        } => check_named(rt, script, audit, *prefix, *rules, out, err),
+        Command::Explain { script, audit } => match audit {
+            Some(audit) => follow_named(rt, script, audit, out, err),
+            None => explain_named(rt, script, out, err),
+        },
+        Command::Serve => serve(rt.alloc(), rt.reader(), out, err),
+        Command::Draw { script } => draw_named(rt, script, out, err),
+    }
+}
+
+// Runs the script of this name.
 fn run_named<R: Files + Input + AllocGlobal + Threads + Wait + Sync, W: Write, E: Write>(
     rt: &R,
     options: &Options<'_>,
@@ -64,13 +98,58 @@ fn run_named<R: Files + Input + AllocGlobal + Threads + Wait + Sync, W: Write, E
     }
 }
 
-// The bytes of the script of this name: of standard input at `-`, and else of a file.
-fn read_named<R: Files + Input + AllocGlobal>(rt: &R, name: &str) -> Result<Vec<u8>, Failure> {
-    if name == "-" {
-        return read_script(rt.alloc(), rt.reader());
+// Compares the audit of one name with the script of another.
+fn check_named<R: Files + Input + AllocGlobal, W: Write, E: Write>(
+    rt: &R,
+    script: &str,
+    audit: &str,
+    prefix: bool,
+    rules: bool,
+    out: &mut W,
+    err: &mut E,
+) -> Exit {
+    match read_both(rt, script, audit, err) {
+        Ok((script, audit)) => check_text(rt.alloc(), &script, &audit, prefix, rules, out, err),
+        Err(exit) => exit,
     }
-    match File::open(rt, name) {
-        Ok(file) => read_script(rt.alloc(), file),
-        Err(error) => Err(unread(&error)),
+}
+
+// Tells the events of the audit of one name, of the script of another, in words.
+fn follow_named<R: Files + Input + AllocGlobal, W: Write, E: Write>(
+    rt: &R,
+    script: &str,
+    audit: &str,
+    out: &mut W,
+    err: &mut E,
+) -> Exit {
+    match read_both(rt, script, audit, err) {
+        Ok((script, audit)) => follow_text(rt.alloc(), &script, &audit, out, err),
+        Err(exit) => exit,
+    }
+}
+
+// Tells the events of the script of this name in words.
+fn explain_named<R: Files + Input + AllocGlobal, W: Write, E: Write>(
+    rt: &R,
+    script: &str,
+    out: &mut W,
+    err: &mut E,
+) -> Exit {
+    match read_named(rt, script) {
+        Ok(script) => explain_text(rt.alloc(), script.as_slice(), out, err),
+        Err(failure) => tell(failure, err),
+    }
+}
+
+// Draws the script of this name.
+fn draw_named<R: Files + Input + AllocGlobal, W: Write, E: Write>(
+    rt: &R,
+    script: &str,
+    out: &mut W,
+    err: &mut E,
+) -> Exit {
+    match read_named(rt, script) {
+        Ok(script) => draw_text(rt.alloc(), script.as_slice(), out, err),
+        Err(failure) => tell(failure, err),
     }
 }
