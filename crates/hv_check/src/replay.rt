@@ -41,7 +41,8 @@ impl Replay {
 
     /// Begins the next phase, where the one before it is over. After an error it is of no more use.
     pub fn begin(&mut self) -> Result<(), AllocError>
-        ensures lines { OnOk result ((lines : List (LineValue GlobalValue)) → StandsFor self.old lines → StandsFor self.new lines) }
+        ensures lines { OnOk result ((lines : List (LineValue GlobalValue)) → StandsFor self.old lines
+            → StandsFor self.new lines) }
         ensures begun { OnOk result (IsBegun self.new) }
     {
         if self.waiting().is_some() {
