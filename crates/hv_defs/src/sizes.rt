@@ -75,9 +75,9 @@ pub const MAX_MESSAGE_TYPE: u32 = 0x7FFF_FFFF;
 /// How many elements a rep call may have is below this: rep count and start index have 12 bits.
 pub const REPS_END: u16 = 4096;
 
-/// The highest count of served events. A machine takes an event only below it, so that the count fits a
-/// number of 64 bits.
-pub const MAX_SERVED: u64 = u64::MAX;
+/// The highest count of served events. A machine takes an event only below it: each event may take an id, ids
+/// begin at 2, and all ones is none.
+pub const MAX_SERVED: u64 = u64::MAX - 2;
 
 /// The VP index that names any processor of a partition (HV_ANY_VP), as a port's target. Everywhere else it
 /// is an index without a processor.

@@ -5,7 +5,7 @@ use Rattle.hv_machine.specs.IsFlat.{IsFlat}
 use Rattle.hv_machine.specs.Lasting.{IsLasting}
 use Rattle.hv_machine.specs.Sound.{IsSound}
 use Rattle.hv_machine.specs.State.{State}
-use Rattle.hv_machine.specs.declared.machine.TheConstants.{SERVED_END}
+use Rattle.hv_defs.specs.declared.sizes.TheConstants.{MAX_SERVED}
 use Rattle.hv_policy.specs.Boot.{boot}
 use Rattle.hv_policy.specs.BootFault.{boot_fault, IsBootRefusal}
 use Rattle.hv_policy.specs.Flat.{Flat}
@@ -75,7 +75,7 @@ is_short len = nat_lt 0 len && nat_lt len LINE
 
 -- as many events were served, or taken, as are counted
 abbrev pub is_used_up : ℕ → ℕ → Bool
-is_used_up served events = nat_le SERVED_END served || nat_le MAX_EVENTS events
+is_used_up served events = nat_le MAX_SERVED served || nat_le MAX_EVENTS events
 
 -- whether a handle takes an event with a line's buffer of this length, or else why not
 abbrev pub readiness : HvMachine → ℕ → ℕ

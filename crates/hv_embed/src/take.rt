@@ -14,7 +14,7 @@ use crate::housed::{Housed, refill};
 use crate::layout::{HvCaller, HvRegisters, HvReply};
 use crate::status::{DONE, EMPTY, MAX_EVENTS, MEMORY, SHORT, USED_UP};
 use hv_history::{EntryRef, answer_of};
-use hv_machine::{Access, Caller, Machine, SERVED_END};
+use hv_machine::{Access, Caller, Machine};
 use std::alloc::Global;
 use std::mem::replace;
 
@@ -129,7 +129,7 @@ pub(crate) fn is_used_up(machine: &Machine<Global>, events: u64) -> bool
     ensures used { result ≡ is_used_up_at machine.now.served events }
     ensures lasting { IsLasting machine.now }
 {
-    machine.served() >= SERVED_END || events >= MAX_EVENTS
+    machine.served() >= MAX_SERVED || events >= MAX_EVENTS
 }
 
 // The processor that C names.

@@ -19,7 +19,7 @@ ghost use Rattle.hv_machine.specs.Lasting.{IsLasting};
 ghost use Rattle.hv_machine.specs.Served.{IsResult};
 ghost use Rattle.hv_machine.specs.Sound.{IsSound};
 ghost use Rattle.hv_machine.specs.Step.{IsStep};
-ghost use Rattle.hv_machine.specs.declared.machine.TheConstants.{SERVED_END};
+ghost use Rattle.hv_defs.specs.declared.sizes.TheConstants.{MAX_SERVED};
 
 use crate::dispatch::{dispatch, dispatch_access, next_after};
 use hv_abi::{CallKind, Frame, InputValue, Shape};
@@ -31,10 +31,6 @@ use hv_policy::{
 use hv_tie::{Partitions, Refused};
 use std::alloc::Allocator;
 use std::marker::Model;
-
-/// A machine takes an event only where it served fewer events than this: each of them may have taken an id, ids
-/// begin at 2, and all ones is none.
-pub const SERVED_END: u64 = MAX_SERVED - 2;
 
 /// The partitions that are there, with all that they hold.
 #[derive(Drop)]
@@ -79,7 +75,7 @@ impl<A: Allocator + Clone> Machine<A> {
     // Inlined: calls for the own id in bench/largest.sh.
     #[inline(always)]
     pub fn step(&mut self, event: &Event<A>) -> Result<Reply, HostRefused>
-        requires { self.old.served < SERVED_END }
+        requires { self.old.served < MAX_SERVED }
 
         // The reply and the new state are those of the flat step, of each flat state that the machine
         // stands for.
@@ -130,7 +126,7 @@ impl<A: Allocator + Clone> Machine<A> {
     /// Takes one hypercall of a processor, as [`Machine::step`] takes it as an event, with the same
     /// promises. A [`CallReply`] has no room for the output of an access.
     pub fn hypercall(&mut self, by: Caller, frame: &Frame<A>) -> Result<CallReply, HostRefused>
-        requires { self.old.served < SERVED_END }
+        requires { self.old.served < MAX_SERVED }
         ensures { IsStep (call_event by frame.now) self.old result self.new }
     {
         // A call that guests make again and again has a way of its own, on which it is known which one it is, so that
@@ -176,7 +172,7 @@ impl<A: Allocator + Clone> Machine<A> {
         frame: &Frame<A>,
         named: Option<CallKind>,
     ) -> Result<CallReply, HostRefused>
-        requires count { self.old.served < SERVED_END }
+        requires count { self.old.served < MAX_SERVED }
         requires named { call_of frame.now ≡ named }
         ensures { IsStep (call_event by frame.now) self.old result self.new }
     {
@@ -198,7 +194,7 @@ impl<A: Allocator + Clone> Machine<A> {
         shape: Shape,
         call: &Call<'_>,
     ) -> Result<CallReply, HostRefused>
-        requires count { self.old.served < SERVED_END }
+        requires count { self.old.served < MAX_SERVED }
         requires shape { IsShape frame.now shape }
         requires call { IsCall frame.now shape call.now }
         requires bounded { IsBounded call.now }
@@ -219,7 +215,7 @@ impl<A: Allocator + Clone> Machine<A> {
     /// Takes one access of a processor, as [`Machine::step`] takes it as an event, with the same promises. What
     /// it puts out is added to `output`, which is empty before. The host refuses none.
     pub fn access(&mut self, by: Caller, access: Access, output: &mut Output) -> Result<(), Rule>
-        requires count { self.old.served < SERVED_END }
+        requires count { self.old.served < MAX_SERVED }
         requires empty { output.old ≡ [] }
         ensures { IsStep {A = A} (access_event by access) self.old
             (Ok (access_reply result output.new)) self.new }
@@ -237,7 +233,7 @@ impl<A: Allocator + Clone> Machine<A> {
     // Inlined: calls for the own id in bench/embed.sh.
     #[inline(always)]
     fn serve(&mut self, by: Caller, call: &Call<'_>) -> Result<CallOutput, Refused>
-        requires count { self.old.served < SERVED_END }
+        requires count { self.old.served < MAX_SERVED }
         requires bounded { IsBounded call.now }
         requires access { (f : Flat) → IsFlat self.old f → HasAccess f by.part call.now }
         ensures outcome { (f : Flat) → IsFlat self.old f

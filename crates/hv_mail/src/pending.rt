@@ -2,6 +2,7 @@
 ghost use Rattle.std.specs.Prelude.{◌≡◌};
 ghost use Rattle.std.specs.FinSet as set;
 ghost use Rattle.hv_defs.specs.Vectors.{highest, without};
+ghost use Rattle.hv_mail.specs.Words.{numbers_of};
 
 use crate::words::{clear_bit, highest_bit, set_bit};
 use std::marker::Model;
@@ -29,6 +30,13 @@ impl Pending {
         ensures { result ≡ set.empty }
     {
         Pending { words: [0; 4] }
+    }
+
+    /// The vectors as bits: vector v is in the set where bit v % 64 of word v / 64 is 1.
+    pub fn words(&self) -> [u64; 4]
+        ensures { numbers_of result ≡ self.now }
+    {
+        self.words
     }
 
     /// Adds a vector, which may be there already.

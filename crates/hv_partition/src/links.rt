@@ -1,6 +1,7 @@
 // A partition's ports and connections.
 ghost use Rattle.std.specs.Prelude.{◌≡◌, ◌+◌, ◌≤◌, false, IsOk, OnOk, OnErr};
 ghost use Rattle.std.specs.FinMap as map;
+ghost use Rattle.std.specs.List.{slice_get};
 
 use crate::Partition;
 use hv_ports::{Conn, Port};
@@ -13,6 +14,14 @@ impl<A: Allocator> Partition<A> {
         ensures { result ≡ map.get self.now.ports.rows id }
     {
         self.parts.ports.find(id)
+    }
+
+    /// The port at a place, with its id, where the ports stand by rising ids from place 0 on. `None` where there
+    /// are no more.
+    pub fn port_at(&self, place: u32) -> Option<(u32, Port)>
+        ensures { result ≡ slice_get (map.entries self.now.ports.rows) place }
+    {
+        self.parts.ports.at(place)
     }
 
     /// How many ports the partition has.
@@ -69,6 +78,14 @@ impl<A: Allocator> Partition<A> {
         ensures { result ≡ map.get self.now.conns.rows id }
     {
         self.parts.conns.find(id)
+    }
+
+    /// The connection at a place, with its id, where the connections stand by rising ids from place 0 on. `None`
+    /// where there are no more.
+    pub fn conn_at(&self, place: u32) -> Option<(u32, Conn)>
+        ensures { result ≡ slice_get (map.entries self.now.conns.rows) place }
+    {
+        self.parts.conns.at(place)
     }
 
     /// How many connections the partition has.

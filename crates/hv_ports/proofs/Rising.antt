@@ -1,12 +1,13 @@
 -- Slots that rise: what a search finds among them, and one slot more or less.
-use Rattle.std.proofs.Common.{◌≡◌, ℕ, zero, suc, ◌+◌, ◌-◌, ◌<◌, ◌≤◌, true, false, cond, List, [], ◌∷◌, length, get_or, Result, Ok, Err, None, Some, arith, inl, inr, sym, refl, ap, subst, ◌∙◌}
+use Rattle.std.proofs.Common.{◌≡◌, ℕ, zero, suc, ◌+◌, ◌-◌, ◌<◌, ◌≤◌, ◌&&◌, Bool, T, true, false, cond, List, [], ◌∷◌, length, get_or, Result, Ok, Err, None, Some, arith, inl, inr, sym, refl, ap, subst, ◌∙◌}
 use Rattle.std.specs.Prelude.{All, IfOk, IfErr}
 use Rattle.std.specs.Cmp.{nat_cmp_total, unsigned_tied}
 use Rattle.std.specs.FinMap as map
 use Rattle.std.specs.FinMap.{find}
+use Rattle.std.specs.FinMap.Entries.{below_all}
 use Rattle.std.specs.List.{HoldsAt, insert, remove}
 use Rattle.std.specs.List.Sorted.{IsBinarySearchResult, IsNonDecreasingBy, IsPartitionPoint}
-use Rattle.std.specs.Ordering.{eq_by_cmp, nat_cmp, ordering_index}
+use Rattle.std.specs.Ordering.{eq_by_cmp, is_lt, nat_cmp, ordering_index}
 use Rattle.std.proofs.lemmas.Bool.{cases_eq, cases_lt, eq-eqb, ne_eqb}
 use Rattle.std.proofs.lemmas.Bool.Decides.{nat_tests}
 use Rattle.std.proofs.lemmas.Cmp.{ranked}
@@ -21,6 +22,13 @@ tied_apart q n apart = unsigned_tied q n ∙ ne_eqb q n (λ e. apart (sym e))
 
 index_rises : (q m n : ℕ) → m ≤ n → ordering_index (nat_cmp m q) ≤ ordering_index (nat_cmp n q)
 index_rises q m n h = grind (arith, nat_tests)
+
+is_lt_below : (m n : ℕ) → m < n → is_lt (nat_cmp m n) ≡ true
+is_lt_below m n h = grind (arith, nat_tests)
+
+both_hold : (a b : Bool) → T a → T b → T (a && b)
+both_hold true b p q = q
+both_hold false b p q = absurd p
 
 module _ {R : Type 0} where
   -- the id would go at place p: lower ids before it, and higher ones from it on
@@ -130,3 +138,14 @@ module _ {R : Type 0} where
       let free = map.get-from_entries nat_cmp_total slots slot.0 ∙ find_free slots slot.0 (free_tail slot slots rising) in
       map.len-insert nat_cmp_total (map.from_entries slots) slot.0 slot.1
       ∙ rw free (rw (counted slots (rising_tail slot slots rising)) (omega arith))
+
+  below_rising : (id : ℕ) (slots : List (ℕ × R)) → All (λ slot. id < slot.0) slots → T (below_all nat_cmp id slots)
+  below_rising id [] above = tt
+  below_rising id (slot ∷ slots) above = rw (is_lt_below id slot.0 (above 0 slot (omega arith))) (below_rising id slots (λ k d within. above (suc k) d (omega arith)))
+
+  -- slots that rise stand as a map's entries do
+  pub sorted_rising : (slots : List (ℕ × R)) → IsRising slots → T (map.is_sorted nat_cmp slots)
+  sorted_rising [] rising = tt
+  sorted_rising (slot ∷ slots) rising =
+      let above : All (λ later. slot.0 < later.0) slots = λ k d within. rising 0 (suc k) d (omega arith) (omega arith) in
+      both_hold _ _ (below_rising slot.0 slots above) (sorted_rising slots (rising_tail slot slots rising))

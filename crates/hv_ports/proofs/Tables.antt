@@ -12,12 +12,20 @@ use Rattle.std.proofs.lemmas.List.Edits.{length-insert, length-remove}
 use Rattle.std.proofs.lemmas.List.Quantifiers.{all_pairs_remove}
 use Rattle.hv_ports.specs.Table.{AreSlots, IsRising, cleared, rows_of, seen_of}
 use Rattle.hv_ports.specs.declared.table.TheConstants.{MOST}
-use Rattle.hv_ports.proofs.Rising.{IsGap, counted, find-insert_gap, find-remove, find_at, find_gap, rising-insert, tied_apart, tied_same}
+use Rattle.hv_ports.proofs.Rising.{IsGap, counted, find-insert_gap, find-remove, find_at, find_gap, rising-insert, sorted_rising, tied_apart, tied_same}
 
 module _ {R : Type 0} where
   rows_of_none : rows_of {R = R} [] ≡ map.empty
   unfolding rows_of
   rows_of_none = refl
+
+  -- the entries of the rows are the slots
+  pub entries-rows_of : (slots : List (ℕ × R)) → IsRising slots → map.entries (rows_of slots) ≡ slots
+  unfolding rows_of
+  entries-rows_of slots rising =
+      let sorted = sorted_rising slots rising in
+      let alike = map.same_map nat_cmp_total nat_cmp-IsAntisymmetric (map.from_entries slots) (map.from_sorted slots) (λ x. map.get-from_entries nat_cmp_total slots x ∙ sym (map.get-from_sorted nat_cmp slots x sorted)) in
+      ap map.entries alike ∙ map.entries-from_sorted nat_cmp slots sorted
 
   module _ (slots : List (ℕ × R)) (q p : ℕ) where
     -- the row at a place is the one of its id

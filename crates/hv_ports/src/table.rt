@@ -2,7 +2,7 @@
 ghost use Rattle.std.specs.Prelude.{◌≡◌, ◌+◌, ◌<◌, ◌≤◌, ◌↔◌, false, length, IfErr, IfOk, IsOk, IsTrue, OnErr};
 ghost use Rattle.std.specs.Prelude.{OnOk};
 ghost use Rattle.std.specs.FinMap as map;
-ghost use Rattle.std.specs.List.{HoldsAt};
+ghost use Rattle.std.specs.List.{HoldsAt, slice_get};
 ghost use Rattle.std.specs.List.Sorted.{IsPartitionPoint, IsSearchInRange};
 ghost use Rattle.hv_ports.specs.Table.{IsRising, cleared, no_rows};
 
@@ -52,6 +52,19 @@ impl<R: Copy, A: Allocator> Table<R, A> {
         match place_of(self.slots.as_slice(), id) {
             Ok(place) => Some(self.slots[place].1),
             Err(_) => None,
+        }
+    }
+
+    /// The row at a place, with its id, where the rows stand by rising ids from place 0 on. `None` where there
+    /// are no more.
+    pub fn at(&self, place: u32) -> Option<(u32, R)>
+        ensures { result ≡ slice_get (map.entries self.now.rows) place }
+    {
+        let place = place as usize;
+        if place < self.slots.len() {
+            Some(self.slots[place])
+        } else {
+            None
         }
     }
 

@@ -38,5 +38,5 @@ pub fn each_size_has_its_value()
     ensures max_message_type { MAX_MESSAGE_TYPE ≡ 0x7FFFFFFF }
     ensures any_vp { ANY_VP ≡ 0xFFFFFFFF }
     ensures reps_end { REPS_END ≡ 4096 }
-    ensures max_served { MAX_SERVED ≡ 18446744073709551615 }
+    ensures max_served { MAX_SERVED ≡ 18446744073709551613 }
 {}

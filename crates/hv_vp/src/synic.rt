@@ -5,6 +5,7 @@ ghost use Rattle.hv_defs.specs.Vectors.{highest};
 ghost use Rattle.hv_defs.specs.declared.sizes.TheConstants.{EVENT_FLAGS, SINTS};
 ghost use Rattle.hv_mail.specs.Mail.{at, count_of};
 ghost use Rattle.hv_mail.specs.Slot.{slot_bytes};
+ghost use Rattle.hv_mail.specs.Words.{numbers_of};
 ghost use Rattle.hv_vp.specs.Vp.{ended, flag_cleared, interrupted, posted, raised_if, signalled};
 ghost use Rattle.hv_vp.specs.Vp.{slot_cleared};
 
@@ -90,6 +91,13 @@ impl<A: Allocator> Vp<A> {
         ensures { self.new ≡ flag_cleared sint flag self.old }
     {
         self.flags.clear(sint, flag);
+    }
+
+    /// The vectors that are pending, as bits: vector v is where bit v % 64 of word v / 64 is 1.
+    pub fn pending(&self) -> [u64; 4]
+        ensures { numbers_of result ≡ self.now.pending }
+    {
+        self.pending.words()
     }
 
     /// Removes the highest of the vectors that wait and returns it, or returns `None` where none waits.
