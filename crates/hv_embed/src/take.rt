@@ -13,6 +13,7 @@ use crate::handle::HvMachine;
 use crate::housed::{Housed, refill};
 use crate::layout::{HvCaller, HvRegisters, HvReply};
 use crate::status::{DONE, EMPTY, MAX_EVENTS, MEMORY, SHORT, USED_UP};
+use hv_defs::MAX_SERVED;
 use hv_history::{EntryRef, answer_of};
 use hv_machine::{Access, Caller, Machine};
 use std::alloc::Global;
