@@ -19,5 +19,5 @@ pub use audit_text::audit;
 pub use fault::PrintFault;
 pub use hv_script::{Line, Script, ScriptFault, parse};
 pub use line::{Scratch, audit_line};
-pub use table_text::table;
+pub use table_text::{table, table_of};
 pub use text::LINE;

@@ -22,6 +22,7 @@ use crate::put::put;
 use crate::text::Text;
 use hv_defs::Life;
 use hv_history::Kept;
+use hv_machine::Machine;
 use hv_partition::{PageKind, Partition};
 use hv_tie::Partitions;
 use std::alloc::Allocator;
@@ -41,14 +42,28 @@ pub fn table<W: Write, A: Allocator + Clone>(out: &mut W, kept: &Kept<A>) -> Res
     ensures cut { (f : Flat) → IsFlat kept.now.machine f
         → IfErr result (IsCut (W.contents out.old) (W.contents out.new) (table_text f)) }
 {
-    // The proof reads here that a history's length fits 32 bits.
-    let _limit = kept.limit();
-    let tree = kept.machine().tree();
+    table_of(out, kept.machine())
+}
+
+/// Writes the table of the partitions of a machine, as [`table`] writes it.
+pub fn table_of<W: Write, A: Allocator + Clone>(
+    out: &mut W,
+    machine: &Machine<A>,
+) -> Result<(), PrintFault>
+    ensures ok { (f : Flat) → IsFlat machine.now f
+        → OnOk result (Appends (W.contents out.old) (W.contents out.new) (table_text f)) }
+    ensures cut { (f : Flat) → IsFlat machine.now f
+        → IfErr result (IsCut (W.contents out.old) (W.contents out.new) (table_text f)) }
+{
+    let tree = machine.tree();
     match tree.ids() {
         Ok(ids) => put_rows(out, tree, &ids),
         Err(_) => Err(PrintFault::Memory),
     }
 }
+
+// No host has memory for the table of more partitions.
+const MOST_ROWS: usize = 0xFFFF_FFFF;
 
 // Writes the lines of the partitions with these ids, which are all, and the last line.
 fn put_rows<W: Write, A: Allocator>(
@@ -56,11 +71,13 @@ fn put_rows<W: Write, A: Allocator>(
     tree: &Partitions<A>,
     ids: &[u64],
 ) -> Result<(), PrintFault>
-    requires ids { ids.now ≡ map.keys tree.now }
-    requires few { length ids.now ≤ 2 ^ 32 }
+    requires { ids.now ≡ map.keys tree.now }
     ensures ok { OnOk result (Appends (W.contents out.old) (W.contents out.new) (rows_text tree.now)) }
     ensures cut { IfErr result (IsCut (W.contents out.old) (W.contents out.new) (rows_text tree.now)) }
 {
+    if ids.len() > MOST_ROWS {
+        return Err(PrintFault::Memory);
+    }
     let mut line = Text::new();
     let mut written = 0;
     let mut pages = 0;
