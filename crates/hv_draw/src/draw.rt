@@ -6,10 +6,10 @@ ghost use Rattle.hv_run.specs.Failure.{exit_of};
 ghost use Rattle.hv_script.specs.Reading.{said};
 ghost use Rattle.hv_draw.specs.Drawn.{HasDrawn, HasDrawnOf, HasGraph, IsGraph};
 
-use crate::again::Again;
 use crate::graph::push_blocks;
 use crate::in_order::run_in_order;
 use crate::links::push_links;
+use crate::made::made_ports;
 use crate::text::push;
 use hv_history::{HostRefused, Kept};
 use hv_run::{Exit, Failure, tell};
@@ -127,14 +127,14 @@ fn flush<W: Write>(out: &mut W) -> Result<(), Failure>
 fn graph(alloc: Global, kept: &Kept<Global>) -> Result<Vec<u8>, AllocError>
     ensures { IfOk result (λ text. IsGraph kept.now text.items) }
 {
-    let mut again = Again::run(alloc, kept)?;
+    let made = made_ports(alloc, kept)?;
     let tree = kept.machine().tree();
     let ids = tree.ids()?;
     let mut links = Vec::new(alloc);
-    push_links(&mut links, tree, &again)?;
+    push_links(&mut links, tree, &ids)?;
     let mut text = Vec::new(alloc);
     push(&mut text, HEAD)?;
-    push_blocks(&mut text, tree, &ids, &mut again)?;
+    push_blocks(&mut text, tree, &ids, &made)?;
     push(&mut text, &links)?;
     push(&mut text, b"}\n")?;
     Ok(text)

@@ -7,8 +7,8 @@ ghost use Rattle.hv_draw.specs.Graph.{HasBlock, HasBlocks, edge_text, name_text,
 ghost use Rattle.hv_draw.specs.Graph.{pages_text, rank_text, use_text};
 ghost use Rattle.hv_text.specs.Table.{life_text};
 
-use crate::again::Again;
 use crate::inside::push_inside;
+use crate::made::MadePort;
 use crate::text::{push, push_hex_64, push_number};
 use hv_defs::Life;
 use hv_partition::{PageKind, Partition};
@@ -20,14 +20,14 @@ pub(crate) fn push_blocks(
     text: &mut Vec<u8>,
     tree: &Partitions<Global>,
     ids: &[u64],
-    again: &mut Again,
+    made: &[MadePort],
 ) -> Result<(), AllocError>
     requires { ids.now ≡ map.keys tree.now }
     ensures { OnOk result (HasBlocks tree.now text.old.items text.new.items) }
 {
     for id in ids {
         let mut inside = Vec::new(*text.allocator());
-        push_inside(&mut inside, tree, *id, again)?;
+        push_inside(&mut inside, tree, *id, made)?;
         push_block(text, tree, *id, &inside)?;
     }
     Ok(())

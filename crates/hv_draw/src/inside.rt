@@ -2,7 +2,7 @@
 ghost use Rattle.std.specs.Prelude.{◌<◌};
 ghost use Rattle.hv_draw.specs.declared.inside.TheConstants.{SINTS};
 
-use crate::again::{Again, MadePort};
+use crate::made::MadePort;
 use crate::text::{push, push_number};
 use hv_defs::{Aim, PortKind};
 use hv_partition::Partition;
@@ -23,7 +23,7 @@ pub(crate) fn push_inside(
     text: &mut Vec<u8>,
     tree: &Partitions<Global>,
     id: u64,
-    again: &mut Again,
+    made: &[MadePort],
 ) -> Result<(), AllocError> {
     let Some(partition) = tree.get(id) else {
         return Ok(());
@@ -34,11 +34,10 @@ pub(crate) fn push_inside(
                 part: id,
                 vp: index,
             };
-            let vectors = again.take_vectors(by)?;
-            push_vp(text, by, vp, &again.ports, &vectors)?;
+            push_vp(text, by, vp, made)?;
         }
     }
-    push_ports(text, id, partition, &again.ports)
+    push_ports(text, id, partition)
 }
 
 // Adds the node of a processor, and the line from its partition to it.
@@ -46,18 +45,17 @@ fn push_vp(
     text: &mut Vec<u8>,
     by: Caller,
     vp: &Vp<Global>,
-    ports: &[MadePort],
-    vectors: &[u8],
+    made: &[MadePort],
 ) -> Result<(), AllocError> {
     push(text, b"    ")?;
     push_vp_name(text, by)?;
     push(text, b" [label=\"{vp ")?;
     push_number(text, u64::from(by.vp))?;
     for sint in 0..SINTS {
-        push_messages(text, sint, vp, kept_at(by.part, sint, vp, ports))?;
+        push_messages(text, sint, vp, kept_at(by.part, sint, vp, made))?;
         push_flags(text, sint, &vp.flags(sint))?;
     }
-    push_vectors(text, vectors)?;
+    push_vectors(text, vp.pending())?;
     push(text, b"}\"];\n    p")?;
     push_number(text, by.part)?;
     push(text, b" -> ")?;
@@ -73,11 +71,11 @@ fn push_vp_name(text: &mut Vec<u8>, by: Caller) -> Result<(), AllocError> {
 }
 
 // How many messages a processor of this partition keeps at a SINT, by the ports that were made.
-fn kept_at(part: u64, sint: u8, vp: &Vp<Global>, ports: &[MadePort]) -> usize {
+fn kept_at(part: u64, sint: u8, vp: &Vp<Global>, made: &[MadePort]) -> usize {
     let mut kept = 0usize;
-    for made in ports {
-        if made.part == part && made.sint == u32::from(sint) {
-            kept = kept.saturating_add(vp.of_port(made.port, made.born));
+    for one in made {
+        if one.part == part && one.sint == u32::from(sint) {
+            kept = kept.saturating_add(vp.of_port(one.port, one.born));
         }
     }
     kept
@@ -159,13 +157,16 @@ fn is_set(flags: &[u8; 256], flag: u16) -> bool {
     }
 }
 
-// Adds a row for the vectors that are pending, where one is.
-fn push_vectors(text: &mut Vec<u8>, vectors: &[u8]) -> Result<(), AllocError> {
+// Adds a row for the vectors that are pending, the highest first, where one is.
+fn push_vectors(text: &mut Vec<u8>, pending: [u64; 4]) -> Result<(), AllocError> {
     let mut some = false;
-    for vector in vectors {
-        push(text, if some { b", " } else { b"|pending " })?;
-        push_number(text, u64::from(*vector))?;
-        some = true;
+    for below in 0..256usize {
+        let vector = 255 - below;
+        if pending[vector / 64] >> (vector % 64) & 1 == 1 {
+            push(text, if some { b", " } else { b"|pending " })?;
+            push_number(text, vector as u64)?;
+            some = true;
+        }
     }
     Ok(())
 }
@@ -175,15 +176,10 @@ fn push_ports(
     text: &mut Vec<u8>,
     id: u64,
     partition: &Partition<Global>,
-    ports: &[MadePort],
 ) -> Result<(), AllocError> {
-    for made in ports {
-        if made.part == id {
-            if let Some(port) = partition.port(made.port) {
-                if port.born == made.born {
-                    push_port(text, id, made.port, partition, &port)?;
-                }
-            }
+    for place in 0..partition.port_count() {
+        if let Some((number, port)) = partition.port_at(place) {
+            push_port(text, id, number, partition, &port)?;
         }
     }
     Ok(())

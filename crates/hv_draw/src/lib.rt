@@ -7,12 +7,12 @@
 //! life state, depth, mask and pages. The form of the graph is this project's own.
 #![tactic(auto)]
 
-mod again;
 mod draw;
 mod graph;
 mod in_order;
 mod inside;
 mod links;
+mod made;
 mod text;
 
 pub use draw::draw_text;

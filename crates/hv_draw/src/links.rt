@@ -1,56 +1,51 @@
 // The connections, each an edge from its partition to its port.
 
-use crate::again::{Again, MadeConn};
 use crate::inside::push_port_name;
 use crate::text::{push, push_number};
 use hv_ports::Conn;
 use hv_tie::Partitions;
 use std::alloc::{AllocError, Global};
 
-/// Adds the edges of all connections.
+/// Adds the edges of all connections of the partitions with these ids.
 pub(crate) fn push_links(
     text: &mut Vec<u8>,
     tree: &Partitions<Global>,
-    again: &Again,
+    ids: &[u64],
 ) -> Result<(), AllocError> {
-    let mut last = None;
-    for made in &again.conns {
-        if last != Some(*made) {
-            if let Some(conn) = conn_of(tree, *made) {
-                push_link(text, tree, *made, conn)?;
+    for id in ids {
+        if let Some(partition) = tree.get(*id) {
+            for place in 0..partition.conn_count() {
+                if let Some((number, conn)) = partition.conn_at(place) {
+                    push_link(text, tree, *id, number, conn)?;
+                }
             }
         }
-        last = Some(*made);
     }
     Ok(())
-}
-
-// The connection, if it is still there.
-fn conn_of(tree: &Partitions<Global>, made: MadeConn) -> Option<Conn> {
-    tree.get(made.part)?.conn(made.conn)
 }
 
 // Adds an edge, and where the port is gone a node that says so.
 fn push_link(
     text: &mut Vec<u8>,
     tree: &Partitions<Global>,
-    made: MadeConn,
+    part: u64,
+    number: u32,
     conn: Conn,
 ) -> Result<(), AllocError> {
     let leads = leads_to_port(tree, conn);
     if !leads {
-        push_gone(text, made, conn)?;
+        push_gone(text, part, number, conn)?;
     }
     push(text, b"  p")?;
-    push_number(text, made.part)?;
+    push_number(text, part)?;
     push(text, b" -> ")?;
     if leads {
         push_port_name(text, conn.part, conn.port)?;
     } else {
-        push_gone_name(text, made)?;
+        push_gone_name(text, part, number)?;
     }
     push(text, b" [label=\"connection ")?;
-    push_number(text, u64::from(made.conn))?;
+    push_number(text, u64::from(number))?;
     push(text, b"\" style=dashed constraint=false];\n")
 }
 
@@ -66,9 +61,9 @@ fn leads_to_port(tree: &Partitions<Global>, conn: Conn) -> bool {
 }
 
 // Adds a node in place of a port that is gone.
-fn push_gone(text: &mut Vec<u8>, made: MadeConn, conn: Conn) -> Result<(), AllocError> {
+fn push_gone(text: &mut Vec<u8>, part: u64, number: u32, conn: Conn) -> Result<(), AllocError> {
     push(text, b"  ")?;
-    push_gone_name(text, made)?;
+    push_gone_name(text, part, number)?;
     push(text, b" [label=\"port ")?;
     push_number(text, u64::from(conn.port))?;
     push(text, b" of partition ")?;
@@ -76,9 +71,9 @@ fn push_gone(text: &mut Vec<u8>, made: MadeConn, conn: Conn) -> Result<(), Alloc
     push(text, b" is gone\" shape=plaintext];\n")
 }
 
-fn push_gone_name(text: &mut Vec<u8>, made: MadeConn) -> Result<(), AllocError> {
+fn push_gone_name(text: &mut Vec<u8>, part: u64, number: u32) -> Result<(), AllocError> {
     push(text, b"g")?;
-    push_number(text, made.part)?;
+    push_number(text, part)?;
     push(text, b"_")?;
-    push_number(text, u64::from(made.conn))
+    push_number(text, u64::from(number))
 }

@@ -1,0 +1,84 @@
+// The ports that a history made. A processor tells how many messages it keeps of a port and its birth, and it keeps
+// those of a port that is gone, which the partition doesn't list.
+
+use hv_abi::{Bytes, Frame};
+use hv_calls::{Call, decode};
+use hv_history::{Answer, Asked, EntryRef, Kept};
+use hv_tie::meant;
+use std::alloc::{AllocError, Global};
+
+/// A port that an event made, of which nothing says that it is still there.
+#[derive(Clone, Copy)]
+pub(crate) struct MadePort {
+    /// The partition to which it belongs, and its id there.
+    pub(crate) part: u64,
+    pub(crate) port: u32,
+    /// The count of served events that its making gave.
+    pub(crate) born: u64,
+    /// The SINT at which it aims.
+    pub(crate) sint: u32,
+}
+
+/// The ports that a history made, in its order.
+pub(crate) fn made_ports(alloc: Global, kept: &Kept<Global>) -> Result<Vec<MadePort>, AllocError> {
+    let mut made = Vec::new(alloc);
+    let mut served = 0u64;
+    let history = kept.history();
+    for at in 0..history.len() {
+        let entry = history.entry(at);
+        if is_served(entry.answer) {
+            served = served.saturating_add(1);
+            if let Some(port) = port_of(alloc, &entry, served)? {
+                made.push(port)?;
+            }
+        }
+    }
+    Ok(made)
+}
+
+// Whether this is the answer to a served event.
+fn is_served(answer: Answer) -> bool {
+    match answer {
+        Answer::Served | Answer::More { .. } => true,
+        Answer::Denied { .. } | Answer::Fault { .. } => false,
+    }
+}
+
+// The port that a served event made, if it made one. This many events were served with it.
+fn port_of(
+    alloc: Global,
+    entry: &EntryRef<'_>,
+    served: u64,
+) -> Result<Option<MadePort>, AllocError> {
+    let Asked::Hypercall { rcx, rdx, r8 } = entry.asked else {
+        return Ok(None);
+    };
+    let mut bytes = Vec::new(alloc);
+    bytes.extend_from_slice(entry.input)?;
+    let input = Bytes::from_vec(bytes);
+    let frame = Frame {
+        rcx,
+        rdx,
+        r8,
+        input,
+    };
+    let Ok(shape) = frame.check() else {
+        return Ok(None);
+    };
+    match decode(&frame, &shape) {
+        Ok(
+            Call::CreatePort {
+                partition,
+                port,
+                sint,
+                ..
+            },
+        ) => Ok(Some(MadePort {
+            part: meant(entry.by.part, partition),
+            port,
+            born: served,
+            sint,
+        })),
+        Ok(_) | Err(_) => Ok(None),
+    }
+}
