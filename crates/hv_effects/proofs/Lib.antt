@@ -1,0 +1,11 @@
+pub mod After
+pub mod Ended
+pub mod Looked
+pub mod Made
+pub mod Others
+pub mod Posted
+pub mod Told
+pub mod Seen
+pub mod Signalled
+pub mod Taken
+pub mod Types

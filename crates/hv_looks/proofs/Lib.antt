@@ -1,0 +1,4 @@
+pub mod Owners
+pub mod Parts
+pub mod Seen
+pub mod Served

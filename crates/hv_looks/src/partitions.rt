@@ -1,0 +1,126 @@
+// Looks at a partition.
+ghost use Rattle.std.specs.Prelude.{◌≡◌};
+ghost use Rattle.hv_machine.specs.IsFlat.{IsFlat};
+ghost use Rattle.hv_policy.specs.Flat.{Flat};
+ghost use Rattle.hv_tie.specs.Served.{AreLawful};
+ghost use Rattle.hv_tie.specs.Tie.{IsTied};
+ghost use Rattle.hv_tree.specs.Rows.{content};
+ghost use Rattle.hv_looks.specs.Look.{child_seen, owner_seen, partition_seen};
+ghost use Rattle.hv_looks.specs.Rows.{has_page as has_page_of};
+
+use crate::tree::tree_of;
+use hv_defs::{Life, MAX_PAGES};
+use hv_machine::Machine;
+use hv_partition::PageKind;
+use hv_privs::Privileges;
+use hv_tie::Partitions;
+use std::alloc::Allocator;
+
+// No page has a number as high.
+const MOST: u64 = MAX_PAGES as u64;
+
+/// What a look at a partition shows.
+#[derive(Clone, Copy)]
+pub struct PartitionLook {
+    /// Its life state.
+    pub life: Life,
+    /// Its privilege mask.
+    pub mask: Privileges,
+    /// Its parent's id. The root has none.
+    pub parent: Option<u64>,
+    /// How many partitions stand above it: 0 for the root.
+    pub depth: u64,
+    /// How many pages its pool has.
+    pub pooled: u64,
+    /// How many of those its children, processors, ports and connections use.
+    pub in_use: u64,
+    /// How many children it has.
+    pub children: u32,
+    /// How many virtual processors it has.
+    pub vps: u32,
+    /// How many ports it has.
+    pub ports: u32,
+    /// How many connections it has.
+    pub conns: u32,
+}
+
+/// What a partition is and has. `None` where there is no such partition.
+pub fn partition<A: Allocator>(machine: &Machine<A>, id: u64) -> Option<PartitionLook>
+    ensures { (f : Flat) → IsFlat machine.now f → result ≡ partition_seen f id }
+{
+    partition_in(tree_of(machine), id)
+}
+
+fn partition_in<A: Allocator>(tree: &Partitions<A>, id: u64) -> Option<PartitionLook>
+    requires { AreLawful tree.now }
+    ensures { (f : Flat) → IsTied tree.now f → result ≡ partition_seen f id }
+{
+    let Some(partition) = tree.get(id) else {
+        return None;
+    };
+    let Some(depth) = tree.depth_of(id) else {
+        unreachable!()
+    };
+    let Some(children) = tree.children_of(id) else {
+        unreachable!()
+    };
+    Some(PartitionLook {
+        life: partition.life(),
+        mask: partition.mask(),
+        parent: tree.parent_of(id),
+        depth,
+        pooled: partition.pages(PageKind::Pooled).count(),
+        in_use: partition.in_use(children),
+        children,
+        vps: partition.vp_count(),
+        ports: partition.port_count(),
+        conns: partition.conn_count(),
+    })
+}
+
+/// The least id above `previous` among the children of a partition, or 0 where there is none, as
+/// HvGetNextChildPartition answers it. From 0, each answer passed back in turn, it walks over all children.
+/// `None` where there is no such partition.
+pub fn child_after<A: Allocator>(machine: &Machine<A>, parent: u64, previous: u64) -> Option<u64>
+    ensures { (f : Flat) → IsFlat machine.now f → result ≡ child_seen f parent previous }
+{
+    let tree = tree_of(machine);
+    if !tree.contains(parent) {
+        return None;
+    }
+    match tree.child_after(parent, previous) {
+        Some(child) => Some(child),
+        None => Some(0),
+    }
+}
+
+/// The partition that has a page, loose or pooled. `None` where boot gave no such page. The time is
+/// proportional to the number of ids that partitions got so far.
+pub fn page_owner<A: Allocator>(machine: &Machine<A>, page: u64) -> Option<u64>
+    ensures { (f : Flat) → IsFlat machine.now f → result ≡ owner_seen f page }
+{
+    let tree = tree_of(machine);
+    if page >= MOST {
+        return None;
+    }
+    let number = page as u32;
+    for id in 0..machine.next_id() {
+        if has_page(tree, id, number) {
+            return Some(id);
+        }
+    }
+    None
+}
+
+// Whether a partition is there and has the page, loose or pooled.
+fn has_page<A: Allocator>(tree: &Partitions<A>, id: u64, page: u32) -> bool
+    ensures { result ≡ has_page_of page (content tree.now id) }
+{
+    match tree.get(id) {
+        Some(partition) => {
+            partition.pages(PageKind::Loose).holds(page)
+                || partition.pages(PageKind::Pooled).holds(page)
+        }
+        None => false,
+    }
+}

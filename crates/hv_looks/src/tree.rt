@@ -1,0 +1,36 @@
+// The partitions of a machine, and the processors among them.
+ghost use Rattle.std.specs.Prelude.{◌≡◌, ◌<◌, ℕ, true};
+ghost use Rattle.std.specs.FinMap.{contains_key};
+ghost use Rattle.std.specs.Option.{option_copied};
+ghost use Rattle.hv_machine.specs.IsFlat.{IsFlat};
+ghost use Rattle.hv_policy.specs.Flat.{Flat};
+ghost use Rattle.hv_tie.specs.Served.{AreLawful};
+ghost use Rattle.hv_tie.specs.Tie.{IsTied};
+ghost use Rattle.hv_looks.specs.Rows.{vp_there};
+
+use hv_machine::{Caller, Machine};
+use hv_tie::Partitions;
+use hv_vp::Vp;
+use std::alloc::Allocator;
+
+// The partitions, tied to each flat state that the machine stands for. Their rows are those of a lawful one, and
+// their ids are below the next one.
+pub(crate) fn tree_of<A: Allocator>(machine: &Machine<A>) -> &Partitions<A>
+    ensures tied { (f : Flat) → IsFlat machine.now f → IsTied result.now f }
+    ensures lawful { AreLawful result.now }
+    ensures below { (id : ℕ) → contains_key result.now id ≡ true → id < machine.now.next }
+{
+    // Proof: that a machine stands for a lawful state is told with its count.
+    let _ = machine.served();
+    machine.tree()
+}
+
+// A processor, if it is there.
+pub(crate) fn vp_at<A: Allocator>(tree: &Partitions<A>, of: Caller) -> Option<&Vp<A>>
+    ensures { option_copied result ≡ vp_there tree.now of }
+{
+    match tree.get(of.part) {
+        Some(partition) => partition.vp(of.vp),
+        None => None,
+    }
+}
