@@ -4,7 +4,7 @@
  * Link libhv_embed.a and the toolchain's C archive; docs/EMBEDDING.md says how a hypervisor maps its exits to these functions.
  *
  *     hvpm_machine machine = HVPM_EMPTY;
- *     const hvpm_config config = {.mask = 0xf700000044, .pages = 32, .pool = 12, .vps = 1};
+ *     const hvpm_config config = {.mask = 0xf700000064, .pages = 32, .pool = 12, .vps = 1};
  *     if (hvpm_boot(&machine, &config) != HVPM_DONE) return 1;
  *     const hvpm_caller by = {.partition = 1, .vp = 0};
  *     const hvpm_registers registers = {.rcx = 0x46};             // HvGetPartitionId
@@ -17,7 +17,8 @@
  * reply nor the line. Which rules are asked of an event, and what a served one changes and answers, is docs/POLICY.md.
  *
  * A hypervisor hands its guests' hypercalls over by `hvpm_hypercall` or `hvpm_run`. For calls of its own the
- * header has each of them by its fields, at the end: `hvpm_create_partition`, `hvpm_post_message` and so on.
+ * header has each of them by its fields: `hvpm_create_partition`, `hvpm_post_message` and so on. At the end
+ * stand functions that look at a machine without an event: `hvpm_peek_slot`, `hvpm_peek_partition` and so on.
  *
  * One call at a time may use a handle. Threads share one behind a lock of the caller's; it may be used by one thread and then,
  * ordered by that lock, by another. The functions take memory by malloc and give it back by free, and call nothing else. They
@@ -70,6 +71,27 @@ typedef struct hvpm_registers {
     uint64_t rcx, rdx, r8;
 } hvpm_registers;
 
+/*
+ * What an event changed of messages, event flags, pending vectors and pages, at whatever processor and partition.
+ * What it doesn't name is as it was before the event, but for the vector that `hvpm_take_interrupt` puts out: it isn't
+ * pending any more. Only the fields of its kind have a meaning.
+ */
+typedef struct hvpm_effect {
+    uint32_t kind;      /* HVPM_EFFECT_NOTHING, _SYNIC, _PAGE, _PAGES, _PROCESSOR or _PARTITION */
+    uint32_t vp;        /* SYNIC, PROCESSOR: the index of the processor */
+    uint64_t partition; /* SYNIC, PROCESSOR, PARTITION: the partition. PAGE, PAGES: the partition that has the pages now */
+    uint64_t page;      /* PAGE: the page. PAGES: the id of the partition that had the pages, and is gone */
+    uint64_t raised[4]; /* SYNIC: the vectors that its SINTs raised; vector v is bit v % 64 of raised[v / 64] */
+    uint16_t shown;     /* SYNIC: bit s is 1 where the slot of SINT s shows another message now, or none where it showed one */
+    uint16_t waiting;   /* SYNIC: bit s is 1 where one more message waits at SINT s, behind the one that is shown */
+    uint16_t flag;      /* SYNIC, where `flag_is` isn't 0: the event flag that changed, and its SINT */
+    uint8_t flag_sint;
+    uint8_t flag_is;    /* SYNIC: 0, HVPM_FLAG_SET where the flag was clear and is set, or HVPM_FLAG_CLEARED */
+    uint32_t port;      /* SYNIC, where `freed` isn't 0: the port of the partition by which the message came that left its slot */
+    uint8_t freed;      /* SYNIC: 1 where a message left its slot, so that its port, if it is still there, has room for one more */
+    uint8_t pooled;     /* PAGE: 1 where the page is in the partition's pool, 0 where it is loose */
+} hvpm_effect;
+
 /* What an event is answered. */
 typedef struct hvpm_reply {
     uint32_t kind;         /* HVPM_SERVED, HVPM_MORE, HVPM_DENIED or HVPM_FAULT */
@@ -79,6 +101,7 @@ typedef struct hvpm_reply {
     uint32_t output_len;   /* how many bytes of `output` the event put out; the bytes after them are of no meaning */
     uint32_t line_len;     /* how many bytes the audit's line has, with its line feed; 0 where no line was asked for */
     uint8_t output[256];
+    hvpm_effect effect;    /* what the event changed elsewhere */
 } hvpm_reply;
 
 /* What became of the elements of a call that were taken one after another. */
@@ -86,6 +109,18 @@ typedef struct hvpm_run_done {
     uint32_t events;       /* how many there were, one at least */
     uint32_t output_len;   /* how many bytes they put out, one element's behind the other's */
 } hvpm_run_done;
+
+/* What an effect names. */
+enum hvpm_effect_kind {
+    HVPM_EFFECT_NOTHING = 0,   /* no message, flag, vector or page changed. So it is with each event that is refused */
+    HVPM_EFFECT_SYNIC = 1,     /* something at one processor, perhaps that of the caller */
+    HVPM_EFFECT_PAGE = 2,      /* a page went to another partition, or into or out of a pool */
+    HVPM_EFFECT_PAGES = 3,     /* a partition was deleted: each page that it had is a loose page of another now */
+    HVPM_EFFECT_PROCESSOR = 4, /* a processor was made or deleted: it has no message, no event flag and no pending vector */
+    HVPM_EFFECT_PARTITION = 5  /* a partition was finalized: no processor of it has any of these */
+};
+
+enum hvpm_flag_is { HVPM_FLAG_SET = 1, HVPM_FLAG_CLEARED = 2 };
 
 /* How an event was answered. Of the last two nothing changed but the count of events. */
 enum hvpm_kind {
@@ -97,22 +132,69 @@ enum hvpm_kind {
 
 /*
  * What a function answers. Of several causes it names the first in this order: HVPM_NULL, HVPM_EMPTY_HANDLE
- * or HVPM_OCCUPIED, HVPM_PAGES, HVPM_POOL, HVPM_VPS, HVPM_SHORT, HVPM_USED_UP, HVPM_MEMORY. But a hypercall
- * may want memory before it is used up.
+ * or HVPM_OCCUPIED, HVPM_PAGES, HVPM_POOL, HVPM_VPS, HVPM_NONE, HVPM_SHORT, HVPM_USED_UP, HVPM_MEMORY. But a
+ * hypercall may want memory before it is used up, and a text before its buffer is too short.
  */
 enum hvpm_status {
     HVPM_DONE = 0,
     HVPM_EMPTY_HANDLE = 1, /* there is no machine in the handle */
     HVPM_OCCUPIED = 2,     /* boot: there is one already */
     HVPM_SHORT = 3,        /* the line's buffer has bytes, but fewer than HVPM_LINE; or that for outputs fewer
-                              than HVPM_OUTPUT */
+                              than HVPM_OUTPUT; or that for a text fewer than the text */
     HVPM_USED_UP = 4,      /* the machine took 2^64 - 1 events: it takes no more */
-    HVPM_MEMORY = 5,       /* malloc has no memory for it; it may be tried again. No access answers this */
+    HVPM_MEMORY = 5,       /* malloc has no memory for it; it may be tried again. No access answers this, and no
+                              look but `hvpm_table` */
     HVPM_PAGES = 6,        /* boot: no pages, or more than 65,536 */
     HVPM_POOL = 7,         /* boot: more pooled pages than pages */
     HVPM_VPS = 8,          /* boot: no processors, more than 64, or more than the pool pays for */
-    HVPM_NULL = 9          /* a pointer is null: of a struct or number, or of a buffer whose length isn't 0 */
+    HVPM_NULL = 9,         /* a pointer is null: of a struct or number, or of a buffer whose length isn't 0 */
+    HVPM_NONE = 10         /* a look: there is no such partition, processor, SINT, register, port, connection or
+                              page. `hvpm_access_line`: there is no such access */
 };
+
+/* In place of the `vp` of a port: any processor of its partition. */
+#define HVPM_ANY_VP UINT32_MAX
+
+/* What comes by a port. */
+enum hvpm_port_type { HVPM_PORT_MESSAGES = 1, HVPM_PORT_EVENTS = 2 };
+
+/* A port that is made, or that is there. */
+typedef struct hvpm_port {
+    uint64_t partition; /* whose port it is: PortPartition */
+    uint32_t id;        /* PortId */
+    uint64_t peer;      /* who may connect to it: ConnectionPartition */
+    uint32_t type;      /* HVPM_PORT_MESSAGES or HVPM_PORT_EVENTS */
+    uint32_t sint;      /* the SINT at which it aims: TargetSint */
+    uint32_t vp;        /* the processor of that SINT, or HVPM_ANY_VP: TargetVp */
+    uint16_t base_flag; /* of events the first flag and how many there are: BaseFlagNumber and FlagCount */
+    uint16_t flag_count;
+} hvpm_port;
+
+/* A connection that is made, or that is there. */
+typedef struct hvpm_connection {
+    uint64_t partition;      /* whose connection it is: ConnectionPartition */
+    uint32_t id;             /* ConnectionId */
+    uint64_t port_partition; /* PortPartition */
+    uint32_t port;           /* PortId */
+    uint32_t type;           /* the port's type */
+} hvpm_connection;
+
+/* Which state a partition is in. */
+enum hvpm_life { HVPM_LIFE_CREATED = 0, HVPM_LIFE_ACTIVE = 1, HVPM_LIFE_FINALIZED = 2 };
+
+/* A partition that is there. */
+typedef struct hvpm_partition {
+    uint64_t mask;     /* its privilege mask */
+    uint64_t parent;   /* its parent's id, 0 for the root */
+    uint64_t depth;    /* how many partitions stand above it */
+    uint64_t pooled;   /* how many pages its pool has */
+    uint64_t in_use;   /* how many of those its children, processors, ports and connections use */
+    uint32_t life;     /* HVPM_LIFE_CREATED, HVPM_LIFE_ACTIVE or HVPM_LIFE_FINALIZED */
+    uint32_t children; /* how many children, processors, ports and connections it has */
+    uint32_t vps;
+    uint32_t ports;
+    uint32_t connections;
+} hvpm_partition;
 
 /* A buffer of so many bytes has room for every line of the audit. */
 #define HVPM_LINE 768
@@ -136,6 +218,23 @@ uint32_t hv_embed_clear_flag(hvpm_machine *machine, hvpm_caller by, uint8_t sint
                              size_t line_size);
 uint32_t hv_embed_take_interrupt(hvpm_machine *machine, hvpm_caller by, hvpm_reply *reply, uint8_t *line, size_t line_size);
 void hv_embed_destroy(hvpm_machine *machine);
+uint32_t hv_embed_peek_slot(hvpm_machine *machine, hvpm_caller of, uint8_t sint, uint8_t *out);
+uint32_t hv_embed_peek_flags(hvpm_machine *machine, hvpm_caller of, uint8_t sint, uint8_t *out);
+uint32_t hv_embed_peek_msr(hvpm_machine *machine, hvpm_caller of, uint32_t msr, uint64_t *value);
+uint32_t hv_embed_peek_pending(hvpm_machine *machine, hvpm_caller of, uint64_t *out);
+uint32_t hv_embed_peek_partition(hvpm_machine *machine, uint64_t id, hvpm_partition *out);
+uint32_t hv_embed_peek_port(hvpm_machine *machine, uint64_t partition, uint32_t id, hvpm_port *out);
+uint32_t hv_embed_peek_connection(hvpm_machine *machine, uint64_t partition, uint32_t id, hvpm_connection *out);
+uint32_t hv_embed_child_after(hvpm_machine *machine, uint64_t parent, uint64_t previous, uint64_t *child);
+uint32_t hv_embed_page_owner(hvpm_machine *machine, uint64_t page, uint64_t *owner);
+uint32_t hv_embed_features(hvpm_machine *machine, uint64_t partition, uint32_t *out);
+uint32_t hv_embed_table(hvpm_machine *machine, uint8_t *text, size_t text_size, size_t *len);
+uint32_t hv_embed_hypercall_line(hvpm_caller by, const hvpm_registers *registers, const uint8_t *input, size_t input_len,
+                                 uint8_t *text, size_t text_size, size_t *len);
+uint32_t hv_embed_access_line(hvpm_caller by, uint32_t access, uint32_t number, uint64_t value, uint8_t *text, size_t text_size,
+                              size_t *len);
+bool hv_embed_is_msr(uint32_t msr);
+bool hv_embed_is_call(uint16_t code);
 
 /* A place for a line that nobody asked for, and for an input list that is empty. */
 static inline uint8_t *hvpm_or_none(const void *at, size_t size) {
@@ -191,11 +290,14 @@ static inline uint32_t hvpm_hypercall(hvpm_machine *machine, hvpm_caller by, con
 
 /*
  * Takes a hypercall as `hvpm_hypercall` does, and of a rep call the elements after it, too, each as an event of its own: up to the
- * last, or to one that a rule refuses; or until fewer than HVPM_OUTPUT bytes of `outputs` are left, the machine takes no more
+ * last, or to one that a rule refuses; or to one whose effect is neither HVPM_EFFECT_NOTHING nor HVPM_EFFECT_PAGE; or until fewer than HVPM_OUTPUT bytes of `outputs` are left, the machine takes no more
  * events, or malloc has no memory for the next element, which then didn't happen. It is the same as to call `hvpm_hypercall` and
  * `hvpm_next` again and again, in half the time: the input list is copied once. The reply is that of the last element that was
  * taken; where its kind is HVPM_MORE, the caller goes on with `hvpm_next`. `outputs` takes what the elements put out, for the guest's
  * memory at R8, from that of the first one on. No line of the audit is handed back: who wants one takes the elements one by one.
+ *
+ * The reply's effect is that of the last element that was taken. The elements before it changed at most whose some pages are, and
+ * these the list or the outputs name.
  *
  * HVPM_SHORT says that `outputs` has fewer than HVPM_OUTPUT bytes. Bytes of it past `done->output_len` are of no meaning.
  */
@@ -288,12 +390,6 @@ static inline uint32_t hvpm_take_interrupt(hvpm_machine *machine, hvpm_caller by
 /* In place of a partition's id: the caller's own. */
 #define HVPM_SELF UINT64_MAX
 
-/* In place of the `vp` of a port: any processor of its partition. */
-#define HVPM_ANY_VP UINT32_MAX
-
-/* What comes by a port. */
-enum hvpm_port_type { HVPM_PORT_MESSAGES = 1, HVPM_PORT_EVENTS = 2 };
-
 /* The properties of a partition. */
 enum hvpm_property {
     HVPM_PRIVILEGE_FLAGS = 0x00010000,
@@ -301,27 +397,6 @@ enum hvpm_property {
     HVPM_CPU_CAP = 0x00020002,
     HVPM_CPU_WEIGHT = 0x00020003
 };
-
-/* A port that is made. */
-typedef struct hvpm_port {
-    uint64_t partition; /* whose port it is: PortPartition */
-    uint32_t id;        /* PortId */
-    uint64_t peer;      /* who may connect to it: ConnectionPartition */
-    uint32_t type;      /* HVPM_PORT_MESSAGES or HVPM_PORT_EVENTS */
-    uint32_t sint;      /* the SINT at which it aims: TargetSint */
-    uint32_t vp;        /* the processor of that SINT, or HVPM_ANY_VP: TargetVp */
-    uint16_t base_flag; /* of events the first flag and how many there are: BaseFlagNumber and FlagCount */
-    uint16_t flag_count;
-} hvpm_port;
-
-/* A connection that is made. */
-typedef struct hvpm_connection {
-    uint64_t partition;      /* whose connection it is: ConnectionPartition */
-    uint32_t id;             /* ConnectionId */
-    uint64_t port_partition; /* PortPartition */
-    uint32_t port;           /* PortId */
-    uint32_t type;           /* the port's type */
-} hvpm_connection;
 
 /* A register of a virtual processor. */
 typedef struct hvpm_vp_register {
@@ -577,6 +652,154 @@ static inline uint32_t hvpm_connect_port(hvpm_machine *machine, hvpm_caller by,
     return hvpm_call(machine, by, 0x96, input, sizeof input, reply, line, line_size);
 }
 
+/*
+ * Looks at a machine. A look is no event: it isn't counted, has no line of the audit, asks no privilege, and
+ * takes no memory, but for `hvpm_table`. It changes nothing, but one call at a time uses a handle, and a look is
+ * a call.
+ *
+ * The answer is HVPM_DONE where it shows something, and HVPM_NONE where there is no such partition, processor
+ * or whatever else it names; then nothing is written. `of` is any virtual processor, also one whose partition
+ * isn't Active.
+ */
+
+/* A handle that a look doesn't change, as the library takes it. */
+static inline hvpm_machine *hvpm_seen(const hvpm_machine *machine) {
+    return (hvpm_machine *)(uintptr_t)machine;
+}
+
+/* The message slot of a SINT of a processor: the 256 bytes that `hvpm_read_slot` would put out. */
+static inline uint32_t hvpm_peek_slot(const hvpm_machine *machine, hvpm_caller of, uint8_t sint, uint8_t out[256]) {
+    return machine && out ? hv_embed_peek_slot(hvpm_seen(machine), of, sint, out) : (uint32_t)HVPM_NULL;
+}
+
+/* The event flags of a SINT of a processor: the 256 bytes that `hvpm_read_flags` would put out. */
+static inline uint32_t hvpm_peek_flags(const hvpm_machine *machine, hvpm_caller of, uint8_t sint, uint8_t out[256]) {
+    return machine && out ? hv_embed_peek_flags(hvpm_seen(machine), of, sint, out) : (uint32_t)HVPM_NULL;
+}
+
+/* A model-specific register of a processor: the value that `hvpm_read_msr` would put out. */
+static inline uint32_t hvpm_peek_msr(const hvpm_machine *machine, hvpm_caller of, uint32_t msr, uint64_t *value) {
+    return machine && value ? hv_embed_peek_msr(hvpm_seen(machine), of, msr, value) : (uint32_t)HVPM_NULL;
+}
+
+/* The vectors that are pending at a processor: vector v is bit v % 64 of pending[v / 64]. */
+static inline uint32_t hvpm_peek_pending(const hvpm_machine *machine, hvpm_caller of, uint64_t pending[4]) {
+    return machine && pending ? hv_embed_peek_pending(hvpm_seen(machine), of, pending) : (uint32_t)HVPM_NULL;
+}
+
+/* A partition: what it is, and how much it has. */
+static inline uint32_t hvpm_peek_partition(const hvpm_machine *machine, uint64_t id, hvpm_partition *out) {
+    return machine && out ? hv_embed_peek_partition(hvpm_seen(machine), id, out) : (uint32_t)HVPM_NULL;
+}
+
+/* A port of a partition. */
+static inline uint32_t hvpm_peek_port(const hvpm_machine *machine, uint64_t partition, uint32_t id, hvpm_port *out) {
+    return machine && out ? hv_embed_peek_port(hvpm_seen(machine), partition, id, out) : (uint32_t)HVPM_NULL;
+}
+
+/* A connection of a partition. Its port may be gone. */
+static inline uint32_t hvpm_peek_connection(const hvpm_machine *machine, uint64_t partition, uint32_t id,
+                                            hvpm_connection *out) {
+    return machine && out ? hv_embed_peek_connection(hvpm_seen(machine), partition, id, out) : (uint32_t)HVPM_NULL;
+}
+
+/* The child of a partition after `previous`, 0 if there is none; 0 is before all. They stand by rising id. */
+static inline uint32_t hvpm_child_after(const hvpm_machine *machine, uint64_t parent, uint64_t previous,
+                                        uint64_t *child) {
+    return machine && child ? hv_embed_child_after(hvpm_seen(machine), parent, previous, child) : (uint32_t)HVPM_NULL;
+}
+
+/* The partition that has a page, pooled or not. It takes time for each id that a partition ever had. */
+static inline uint32_t hvpm_page_owner(const hvpm_machine *machine, uint64_t page, uint64_t *owner) {
+    return machine && owner ? hv_embed_page_owner(hvpm_seen(machine), page, owner) : (uint32_t)HVPM_NULL;
+}
+
+/*
+ * EAX, EBX, ECX and EDX of CPUID leaf 0x40000003 for a guest: the low and the high half of its partition's
+ * privilege mask, and zeros.
+ */
+static inline uint32_t hvpm_features(const hvpm_machine *machine, uint64_t partition, uint32_t eax_to_edx[4]) {
+    return machine && eax_to_edx ? hv_embed_features(hvpm_seen(machine), partition, eax_to_edx) : (uint32_t)HVPM_NULL;
+}
+
+/*
+ * The table of the partitions, as `hvpm run --table` prints it, without a zero at its end. `len` takes its
+ * length. Where `text_size` is less, the status is HVPM_SHORT, and no byte of `text` is written; null and 0 ask
+ * for the length alone. Where the status is HVPM_MEMORY, `len` isn't written either.
+ */
+static inline uint32_t hvpm_table(const hvpm_machine *machine, char *text, size_t text_size, size_t *len) {
+    if (!machine || !len || (!text && text_size != 0)) return HVPM_NULL;
+    return hv_embed_table(hvpm_seen(machine), hvpm_or_none(text, text_size), text_size, len);
+}
+
+/* Whether a machine keeps a model-specific register with this number. Each other is the hypervisor's own. */
+static inline bool hvpm_is_msr(uint32_t msr) {
+    return hv_embed_is_msr(msr);
+}
+
+/* Whether a hypercall has this code, bits 15:0 of RCX. */
+static inline bool hvpm_is_call(uint16_t code) {
+    return hv_embed_is_call(code);
+}
+
+/*
+ * Recording. The functions below write an event as a line of a script, with its line feed and without a zero at
+ * its end. A script runs again: `hvpm run SCRIPT --serial` takes its events in the order of its lines, and prints
+ * the audit that this library hands back of the same events. A script begins with the line of its boot, which
+ * ends with a number of events that is at least that of the recording:
+ *
+ *     printf("boot %" PRIu32 " %" PRIu32 " %" PRIu32 " 0x%" PRIx64 " %" PRIu32 "\n", config.pages, config.pool,
+ *            config.vps, config.mask, UINT32_MAX);
+ *
+ * Record what a caller asks for, whether or not it is served, in the order in which the handle takes it. A rep
+ * call is one line, whose run goes on to the last element: record it with its first element, and not with those
+ * to which `hvpm_next` leads. The audit is that of the recording where its elements were taken one after another.
+ * A call that isn't finished, or that other events interrupt, runs differently.
+ *
+ * A phase of a script has at most 64 processors. A line "phase\n" before the first line of the 65th begins
+ * another phase. A script has at most 1,048,576 bytes; a longer recording goes to `hvpm serve`, whose answers are
+ * the audit's lines.
+ *
+ * Neither function uses a machine, and both take memory. `len` takes how many bytes the line has. Where
+ * `text_size` is less, the status is HVPM_SHORT, and no byte of `text` is written. Where the status is
+ * HVPM_MEMORY or HVPM_NONE, `len` isn't written either.
+ */
+
+/* A buffer of so many bytes has room for the line of every access, and of every hypercall without input. */
+#define HVPM_EVENT_LINE 96
+
+/* And for that of every hypercall: HVPM_EVENT_LINE, and 2 for each byte of its input list. */
+#define HVPM_CALL_LINE (HVPM_EVENT_LINE + 2 * 4096)
+
+/*
+ * The line of a hypercall, as `hvpm_hypercall` takes it. Of the input it has the first 4,096 bytes: no input list
+ * has more. A script is the shorter the fewer bytes are given past the call's list.
+ */
+static inline uint32_t hvpm_hypercall_line(hvpm_caller by, const hvpm_registers *registers, const void *input,
+                                           size_t input_len, char *text, size_t text_size, size_t *len) {
+    if (!registers || !len || (!input && input_len != 0) || (!text && text_size != 0)) return HVPM_NULL;
+    return hv_embed_hypercall_line(by, registers, hvpm_or_none(input, input_len), input_len,
+                                   hvpm_or_none(text, text_size), text_size, len);
+}
+
+/* Which access a line is of. */
+enum hvpm_access {
+    HVPM_READ_MSR = 0,      /* `number` is that of the MSR */
+    HVPM_WRITE_MSR = 1,     /* and `value` what is written to it */
+    HVPM_READ_SLOT = 2,     /* `number` is that of the SINT, 0 to 255 */
+    HVPM_CLEAR_SLOT = 3,
+    HVPM_READ_FLAGS = 4,
+    HVPM_CLEAR_FLAG = 5,    /* and `value` that of the event flag, 0 to 65,535 */
+    HVPM_TAKE_INTERRUPT = 6
+};
+
+/* The line of an access, as `hvpm_read_msr` and the functions beside it take it. What it doesn't name is ignored. */
+static inline uint32_t hvpm_access_line(hvpm_caller by, uint32_t access, uint32_t number, uint64_t value, char *text,
+                                        size_t text_size, size_t *len) {
+    if (!len || (!text && text_size != 0)) return HVPM_NULL;
+    return hv_embed_access_line(by, access, number, value, hvpm_or_none(text, text_size), text_size, len);
+}
+
 #ifdef __cplusplus
 }
 #define HVPM_HOLDS(what) static_assert(what, "the layout of the library")
@@ -589,6 +812,10 @@ HVPM_HOLDS(sizeof(hvpm_config) == 24 && offsetof(hvpm_config, pages) == 8 && off
 HVPM_HOLDS(sizeof(hvpm_caller) == 16 && offsetof(hvpm_caller, vp) == 8);
 HVPM_HOLDS(sizeof(hvpm_registers) == 24 && offsetof(hvpm_registers, r8) == 16);
 HVPM_HOLDS(sizeof(hvpm_run_done) == 8 && offsetof(hvpm_run_done, output_len) == 4);
-HVPM_HOLDS(sizeof(hvpm_reply) == 288 && offsetof(hvpm_reply, result) == 8 && offsetof(hvpm_reply, output) == 28);
+HVPM_HOLDS(sizeof(hvpm_partition) == 64 && offsetof(hvpm_partition, life) == 40 && offsetof(hvpm_partition, connections) == 56);
+HVPM_HOLDS(sizeof(hvpm_port) == 40 && offsetof(hvpm_port, peer) == 16 && offsetof(hvpm_port, flag_count) == 38);
+HVPM_HOLDS(sizeof(hvpm_connection) == 32 && offsetof(hvpm_connection, port_partition) == 16 && offsetof(hvpm_connection, type) == 28);
+HVPM_HOLDS(sizeof(hvpm_reply) == 360 && offsetof(hvpm_reply, result) == 8 && offsetof(hvpm_reply, output) == 28 && offsetof(hvpm_reply, effect) == 288);
+HVPM_HOLDS(sizeof(hvpm_effect) == 72 && offsetof(hvpm_effect, raised) == 24 && offsetof(hvpm_effect, port) == 64);
 
 #endif

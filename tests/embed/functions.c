@@ -1,9 +1,9 @@
 /*
- * Calls each function of hvpm.h with each of its pointers null in turn, and each function that takes an event
- * on a machine that takes no more of them. Each must answer what the header says, and change nothing: neither
- * what it is given nor the machine, whose next events are answered as if there had been no call. Each case is
- * a line of standard output, the names of the function and of the argument, which `compare` lays beside the
- * header. What is wrong goes to standard error.
+ * Calls each function of hvpm.h with each of its pointers null in turn, each function that takes an event on a
+ * machine that takes no more of them, and each that looks at a machine on an empty handle. Each must answer what
+ * the header says, and change nothing: neither what it is given nor the machine, whose next events are answered
+ * as if there had been no call. Each case is a line of standard output, the names of the function and of the
+ * argument, which `compare` lays beside the header. What is wrong goes to standard error.
  *
  * A machine takes no more events after 2^64 - 1. The count of them stands in the handle, so this test writes
  * it there, which the header leaves to the library. The machine has a count of its own, of those that were
@@ -16,7 +16,7 @@
 #include <string.h>
 
 /* How many cases of a null there are. */
-enum { CASES = 153 };
+enum { CASES = 186 };
 
 static int wrong;
 
@@ -56,12 +56,19 @@ enum argument {
     PAYLOAD,
     PORT,
     CONNECTION,
+    OUT,
+    OWNER,
+    FEATURES,
+    PENDING,
+    TEXT,
+    LEN,
     ARGUMENTS,
     END = ARGUMENTS
 };
 static const char *const names[ARGUMENTS] = {
     "machine",   "config", "registers", "input",  "reply", "line",      "outputs", "done", "value",
-    "partition", "child",  "available", "in_use", "pages", "registers", "payload", "port", "connection"};
+    "partition", "child",  "available", "in_use", "pages", "registers", "payload", "port", "connection",
+    "out",       "owner",  "eax_to_edx", "pending", "text", "len"};
 struct arguments {
     void *at[ARGUMENTS];
     size_t len[ARGUMENTS];
@@ -69,7 +76,7 @@ struct arguments {
 
 static bool is_buffer(int argument) {
     return argument == INPUT || argument == LINE || argument == OUTPUTS || argument == PAGES ||
-           argument == VP_REGISTERS || argument == PAYLOAD;
+           argument == VP_REGISTERS || argument == PAYLOAD || argument == TEXT;
 }
 
 /* Where the arguments lead to: a machine, an empty handle, and what is read and written. */
@@ -88,6 +95,16 @@ struct world {
     char payload[8];
     hvpm_port port;
     hvpm_connection connection;
+    union {
+        uint8_t bytes[256];
+        hvpm_partition partition;
+        hvpm_port port;
+        hvpm_connection connection;
+    } out;
+    uint32_t features[4];
+    uint64_t pending[4];
+    char text[512];
+    size_t len;
 };
 
 static void take(struct world *world, uint64_t rcx, uint64_t rdx, const void *input, size_t len) {
@@ -133,11 +150,14 @@ static void set_up(struct world *world) {
     memset(&world->reply, 0xA5, sizeof world->reply);
 }
 
+/* What a function is given: an empty handle or none, or a machine that takes an event or is looked at. */
+enum kind { HANDLE, EVENT, LOOK };
+
 /*
  * The arguments of one function, none of them null, with which it is served. A call withdraws two pages from
  * the caller's pool.
  */
-static struct arguments arguments_of(struct world *world, bool is_event) {
+static struct arguments arguments_of(struct world *world, enum kind kind) {
     world->registers = (hvpm_registers){.rcx = UINT64_C(2) << 32 | 0x49};
     world->pages[0] = 16;
     world->pages[1] = 17;
@@ -145,17 +165,19 @@ static struct arguments arguments_of(struct world *world, bool is_event) {
     world->vp_registers[1].name = 0x20001;
     world->port = (hvpm_port){.partition = 1, .id = 4, .peer = 1, .type = HVPM_PORT_MESSAGES};
     world->connection = (hvpm_connection){1, 4, 1, 2, HVPM_PORT_MESSAGES};
-    hvpm_machine *machine = is_event ? &world->machine : &world->empty;
+    hvpm_machine *machine = kind == HANDLE ? &world->empty : &world->machine;
     return (struct arguments){
         {machine, &world->config, &world->registers, world->input, &world->reply, world->line, world->outputs,
          &world->done, &world->number, &world->number, &world->number, &world->number, &world->other,
-         world->pages, world->vp_registers, world->payload, &world->port, &world->connection},
+         world->pages, world->vp_registers, world->payload, &world->port, &world->connection, &world->out,
+         &world->number, world->features, world->pending, world->text, &world->len},
         {[INPUT] = sizeof world->input,
          [LINE] = sizeof world->line,
          [OUTPUTS] = sizeof world->outputs,
          [PAGES] = 2,
          [VP_REGISTERS] = 2,
-         [PAYLOAD] = sizeof world->payload},
+         [PAYLOAD] = sizeof world->payload,
+         [TEXT] = sizeof world->text},
     };
 }
 
@@ -332,45 +354,111 @@ static uint32_t read_msr_value(const struct arguments *a) {
     return hvpm_read_msr_value(a->at[MACHINE], root, 0x40000092, a->at[VALUE], TOLD);
 }
 
+static uint32_t peek_slot(const struct arguments *a) {
+    return hvpm_peek_slot(a->at[MACHINE], root, 2, a->at[OUT]);
+}
+
+static uint32_t peek_flags(const struct arguments *a) {
+    return hvpm_peek_flags(a->at[MACHINE], root, 3, a->at[OUT]);
+}
+
+static uint32_t peek_msr(const struct arguments *a) {
+    return hvpm_peek_msr(a->at[MACHINE], root, 0x40000092, a->at[VALUE]);
+}
+
+static uint32_t peek_pending(const struct arguments *a) {
+    return hvpm_peek_pending(a->at[MACHINE], root, a->at[PENDING]);
+}
+
+static uint32_t peek_partition(const struct arguments *a) {
+    return hvpm_peek_partition(a->at[MACHINE], 2, a->at[OUT]);
+}
+
+static uint32_t peek_port(const struct arguments *a) {
+    return hvpm_peek_port(a->at[MACHINE], 1, 2, a->at[OUT]);
+}
+
+static uint32_t peek_connection(const struct arguments *a) {
+    return hvpm_peek_connection(a->at[MACHINE], 1, 3, a->at[OUT]);
+}
+
+static uint32_t child_after(const struct arguments *a) {
+    return hvpm_child_after(a->at[MACHINE], 1, 0, a->at[CHILD]);
+}
+
+static uint32_t page_owner(const struct arguments *a) {
+    return hvpm_page_owner(a->at[MACHINE], 0, a->at[OWNER]);
+}
+
+static uint32_t features(const struct arguments *a) {
+    return hvpm_features(a->at[MACHINE], 1, a->at[FEATURES]);
+}
+
+static uint32_t table(const struct arguments *a) {
+    return hvpm_table(a->at[MACHINE], a->at[TEXT], a->len[TEXT], a->at[LEN]);
+}
+
+static uint32_t hypercall_line(const struct arguments *a) {
+    return hvpm_hypercall_line(root, a->at[REGISTERS], a->at[INPUT], a->len[INPUT], a->at[TEXT], a->len[TEXT],
+                               a->at[LEN]);
+}
+
+static uint32_t access_line(const struct arguments *a) {
+    return hvpm_access_line(root, HVPM_READ_SLOT, 2, 0, a->at[TEXT], a->len[TEXT], a->at[LEN]);
+}
+
 static const struct function {
     const char *name;
     uint32_t (*call)(const struct arguments *);
-    bool is_event;
+    enum kind kind;
     int takes[7]; /* its pointers in the header's order */
 } functions[] = {
-    {"hvpm_boot", boot, false, {MACHINE, CONFIG, END}},
-    {"hvpm_destroy", destroy, false, {MACHINE, END}},
-    {"hvpm_hypercall", hypercall, true, {MACHINE, REGISTERS, INPUT, REPLY, LINE, END}},
-    {"hvpm_run", run, true, {MACHINE, REGISTERS, INPUT, REPLY, OUTPUTS, DONE, END}},
-    {"hvpm_read_msr", read_msr, true, {MACHINE, REPLY, LINE, END}},
-    {"hvpm_write_msr", write_msr, true, {MACHINE, REPLY, LINE, END}},
-    {"hvpm_read_slot", read_slot, true, {MACHINE, REPLY, LINE, END}},
-    {"hvpm_clear_slot", clear_slot, true, {MACHINE, REPLY, LINE, END}},
-    {"hvpm_read_flags", read_flags, true, {MACHINE, REPLY, LINE, END}},
-    {"hvpm_clear_flag", clear_flag, true, {MACHINE, REPLY, LINE, END}},
-    {"hvpm_take_interrupt", take_interrupt, true, {MACHINE, REPLY, LINE, END}},
-    {"hvpm_create_partition", create_partition, true, {MACHINE, PARTITION, REPLY, LINE, END}},
-    {"hvpm_initialize_partition", initialize_partition, true, {MACHINE, REPLY, LINE, END}},
-    {"hvpm_finalize_partition", finalize_partition, true, {MACHINE, REPLY, LINE, END}},
-    {"hvpm_delete_partition", delete_partition, true, {MACHINE, REPLY, LINE, END}},
-    {"hvpm_get_partition_property", get_partition_property, true, {MACHINE, VALUE, REPLY, LINE, END}},
-    {"hvpm_set_partition_property", set_partition_property, true, {MACHINE, REPLY, LINE, END}},
-    {"hvpm_get_partition_id", get_partition_id, true, {MACHINE, PARTITION, REPLY, LINE, END}},
-    {"hvpm_get_next_child_partition", get_next_child_partition, true, {MACHINE, CHILD, REPLY, LINE, END}},
-    {"hvpm_deposit_memory", deposit_memory, true, {MACHINE, PAGES, REPLY, LINE, END}},
-    {"hvpm_withdraw_memory", withdraw_memory, true, {MACHINE, PAGES, REPLY, LINE, END}},
-    {"hvpm_get_memory_balance", get_memory_balance, true, {MACHINE, AVAILABLE, IN_USE, REPLY, LINE, END}},
-    {"hvpm_create_vp", create_vp, true, {MACHINE, REPLY, LINE, END}},
-    {"hvpm_delete_vp", delete_vp, true, {MACHINE, REPLY, LINE, END}},
-    {"hvpm_get_vp_registers", get_vp_registers, true, {MACHINE, VP_REGISTERS, REPLY, LINE, END}},
-    {"hvpm_set_vp_registers", set_vp_registers, true, {MACHINE, VP_REGISTERS, REPLY, LINE, END}},
-    {"hvpm_delete_port", delete_port, true, {MACHINE, REPLY, LINE, END}},
-    {"hvpm_disconnect_port", disconnect_port, true, {MACHINE, REPLY, LINE, END}},
-    {"hvpm_post_message", post_message, true, {MACHINE, PAYLOAD, REPLY, LINE, END}},
-    {"hvpm_signal_event", signal_event, true, {MACHINE, REPLY, LINE, END}},
-    {"hvpm_create_port", create_port, true, {MACHINE, PORT, REPLY, LINE, END}},
-    {"hvpm_connect_port", connect_port, true, {MACHINE, CONNECTION, REPLY, LINE, END}},
-    {"hvpm_read_msr_value", read_msr_value, true, {MACHINE, VALUE, REPLY, LINE, END}},
+    {"hvpm_boot", boot, HANDLE, {MACHINE, CONFIG, END}},
+    {"hvpm_destroy", destroy, HANDLE, {MACHINE, END}},
+    {"hvpm_hypercall", hypercall, EVENT, {MACHINE, REGISTERS, INPUT, REPLY, LINE, END}},
+    {"hvpm_run", run, EVENT, {MACHINE, REGISTERS, INPUT, REPLY, OUTPUTS, DONE, END}},
+    {"hvpm_read_msr", read_msr, EVENT, {MACHINE, REPLY, LINE, END}},
+    {"hvpm_write_msr", write_msr, EVENT, {MACHINE, REPLY, LINE, END}},
+    {"hvpm_read_slot", read_slot, EVENT, {MACHINE, REPLY, LINE, END}},
+    {"hvpm_clear_slot", clear_slot, EVENT, {MACHINE, REPLY, LINE, END}},
+    {"hvpm_read_flags", read_flags, EVENT, {MACHINE, REPLY, LINE, END}},
+    {"hvpm_clear_flag", clear_flag, EVENT, {MACHINE, REPLY, LINE, END}},
+    {"hvpm_take_interrupt", take_interrupt, EVENT, {MACHINE, REPLY, LINE, END}},
+    {"hvpm_create_partition", create_partition, EVENT, {MACHINE, PARTITION, REPLY, LINE, END}},
+    {"hvpm_initialize_partition", initialize_partition, EVENT, {MACHINE, REPLY, LINE, END}},
+    {"hvpm_finalize_partition", finalize_partition, EVENT, {MACHINE, REPLY, LINE, END}},
+    {"hvpm_delete_partition", delete_partition, EVENT, {MACHINE, REPLY, LINE, END}},
+    {"hvpm_get_partition_property", get_partition_property, EVENT, {MACHINE, VALUE, REPLY, LINE, END}},
+    {"hvpm_set_partition_property", set_partition_property, EVENT, {MACHINE, REPLY, LINE, END}},
+    {"hvpm_get_partition_id", get_partition_id, EVENT, {MACHINE, PARTITION, REPLY, LINE, END}},
+    {"hvpm_get_next_child_partition", get_next_child_partition, EVENT, {MACHINE, CHILD, REPLY, LINE, END}},
+    {"hvpm_deposit_memory", deposit_memory, EVENT, {MACHINE, PAGES, REPLY, LINE, END}},
+    {"hvpm_withdraw_memory", withdraw_memory, EVENT, {MACHINE, PAGES, REPLY, LINE, END}},
+    {"hvpm_get_memory_balance", get_memory_balance, EVENT, {MACHINE, AVAILABLE, IN_USE, REPLY, LINE, END}},
+    {"hvpm_create_vp", create_vp, EVENT, {MACHINE, REPLY, LINE, END}},
+    {"hvpm_delete_vp", delete_vp, EVENT, {MACHINE, REPLY, LINE, END}},
+    {"hvpm_get_vp_registers", get_vp_registers, EVENT, {MACHINE, VP_REGISTERS, REPLY, LINE, END}},
+    {"hvpm_set_vp_registers", set_vp_registers, EVENT, {MACHINE, VP_REGISTERS, REPLY, LINE, END}},
+    {"hvpm_delete_port", delete_port, EVENT, {MACHINE, REPLY, LINE, END}},
+    {"hvpm_disconnect_port", disconnect_port, EVENT, {MACHINE, REPLY, LINE, END}},
+    {"hvpm_post_message", post_message, EVENT, {MACHINE, PAYLOAD, REPLY, LINE, END}},
+    {"hvpm_signal_event", signal_event, EVENT, {MACHINE, REPLY, LINE, END}},
+    {"hvpm_create_port", create_port, EVENT, {MACHINE, PORT, REPLY, LINE, END}},
+    {"hvpm_connect_port", connect_port, EVENT, {MACHINE, CONNECTION, REPLY, LINE, END}},
+    {"hvpm_read_msr_value", read_msr_value, EVENT, {MACHINE, VALUE, REPLY, LINE, END}},
+    {"hvpm_peek_slot", peek_slot, LOOK, {MACHINE, OUT, END}},
+    {"hvpm_peek_flags", peek_flags, LOOK, {MACHINE, OUT, END}},
+    {"hvpm_peek_msr", peek_msr, LOOK, {MACHINE, VALUE, END}},
+    {"hvpm_peek_pending", peek_pending, LOOK, {MACHINE, PENDING, END}},
+    {"hvpm_peek_partition", peek_partition, LOOK, {MACHINE, OUT, END}},
+    {"hvpm_peek_port", peek_port, LOOK, {MACHINE, OUT, END}},
+    {"hvpm_peek_connection", peek_connection, LOOK, {MACHINE, OUT, END}},
+    {"hvpm_child_after", child_after, LOOK, {MACHINE, CHILD, END}},
+    {"hvpm_page_owner", page_owner, LOOK, {MACHINE, OWNER, END}},
+    {"hvpm_features", features, LOOK, {MACHINE, FEATURES, END}},
+    {"hvpm_table", table, LOOK, {MACHINE, TEXT, LEN, END}},
+    {"hvpm_hypercall_line", hypercall_line, HANDLE, {REGISTERS, INPUT, TEXT, LEN, END}},
+    {"hvpm_access_line", access_line, HANDLE, {TEXT, LEN, END}},
 };
 
 /* ---- The cases ---- */
@@ -386,7 +474,7 @@ static void tell_case(const struct function *function, int argument, const char 
 static void try_null(const struct function *function, int argument) {
     struct world world, before;
     set_up(&world);
-    struct arguments arguments = arguments_of(&world, function->is_event);
+    struct arguments arguments = arguments_of(&world, function->kind);
     arguments.at[argument] = NULL;
     tell_case(function, argument, "");
     memcpy(&before, &world, sizeof before);
@@ -397,23 +485,28 @@ static void try_null(const struct function *function, int argument) {
 }
 
 /*
- * A buffer of no bytes may be null: no line, an input list that reads as zeros, no room for outputs, a rep
- * call of no elements, which P5 refuses, or an empty message.
+ * A buffer of no bytes may be null: no line, an input list that reads as zeros, no room for outputs or for a
+ * text, a rep call of no elements, which P5 refuses, or an empty message.
  */
 static void try_none(const struct function *function, int argument) {
     struct world world;
     set_up(&world);
-    struct arguments arguments = arguments_of(&world, true);
+    struct arguments arguments = arguments_of(&world, EVENT);
     arguments.at[argument] = NULL;
     arguments.len[argument] = 0;
     tell_case(function, argument, " of no bytes");
     const uint32_t status = function->call(&arguments);
-    want(function->name, "no bytes", status, argument == OUTPUTS ? HVPM_SHORT : HVPM_DONE);
+    want(function->name, "no bytes", status,
+         argument == OUTPUTS || argument == TEXT ? HVPM_SHORT : HVPM_DONE);
     if (argument == LINE)
         holds(function->name, "no line", world.reply.line_len == 0 && world.reply.rule == 0);
-    if (argument == INPUT)
+    if (argument == INPUT && function->kind == EVENT)
         holds(function->name, "that no partition is 0",
               world.reply.kind == HVPM_DENIED && world.reply.rule == 9);
+    if (argument == INPUT && function->kind == HANDLE)
+        holds(function->name, "a line without input",
+              world.len == 31 && memcmp(world.text, "1.0 call 0x200000049 0x0 0x0 -\n", 31) == 0);
+    if (argument == TEXT) holds(function->name, "a text's length", world.len > 0 && world.len < 512);
     if (argument == PAGES || argument == VP_REGISTERS)
         holds(function->name, "that a rep call has elements",
               world.reply.kind == HVPM_DENIED && world.reply.rule == 5);
@@ -426,10 +519,10 @@ static void try_none(const struct function *function, int argument) {
 static void try_all(const struct function *function) {
     struct world world;
     set_up(&world);
-    const struct arguments arguments = arguments_of(&world, function->is_event);
+    const struct arguments arguments = arguments_of(&world, function->kind);
     want(function->name, "nothing null", function->call(&arguments), HVPM_DONE);
-    holds(function->name, "that it is served", !function->is_event || world.reply.rule == 0);
-    holds(function->name, "that an event is counted", (world.machine.events > 12) == function->is_event);
+    holds(function->name, "that it is served", function->kind != EVENT || world.reply.rule == 0);
+    holds(function->name, "that an event is counted", (world.machine.events > 12) == (function->kind == EVENT));
     hvpm_destroy(&world.machine);
     hvpm_destroy(&world.empty);
 }
@@ -438,7 +531,7 @@ static void try_all(const struct function *function) {
 static void try_used_up(const struct function *function) {
     struct world world, before;
     set_up(&world);
-    const struct arguments arguments = arguments_of(&world, true);
+    const struct arguments arguments = arguments_of(&world, EVENT);
     world.machine.events = UINT64_MAX;
     memcpy(&before, &world, sizeof before);
     want(function->name, "used up", function->call(&arguments), HVPM_USED_UP);
@@ -458,6 +551,25 @@ static void try_used_up(const struct function *function) {
     hvpm_destroy(&world.machine);
 }
 
+/*
+ * A look: nothing happens, on a machine that takes no more events either. An empty handle has nothing to be
+ * looked at, and nothing is written.
+ */
+static void try_look(const struct function *function) {
+    struct world world, before;
+    set_up(&world);
+    struct arguments arguments = arguments_of(&world, LOOK);
+    world.machine.events = UINT64_MAX;
+    want(function->name, "used up", function->call(&arguments), HVPM_DONE);
+    world.machine.events = 12;
+    is_calm(function->name, &world.machine);
+    arguments.at[MACHINE] = &world.empty;
+    memcpy(&before, &world, sizeof before);
+    want(function->name, "an empty handle", function->call(&arguments), HVPM_EMPTY_HANDLE);
+    holds(function->name, "that nothing is written of an empty handle", memcmp(&before, &world, sizeof before) == 0);
+    hvpm_destroy(&world.machine);
+}
+
 int main(void) {
     /* Where a null is read, the last case is told. */
     setvbuf(stdout, NULL, _IOLBF, BUFSIZ);
@@ -465,7 +577,8 @@ int main(void) {
     for (size_t i = 0; i < sizeof functions / sizeof *functions; i++) {
         const struct function *function = &functions[i];
         try_all(function);
-        if (function->is_event) try_used_up(function);
+        if (function->kind == EVENT) try_used_up(function);
+        if (function->kind == LOOK) try_look(function);
         for (const int *argument = function->takes; *argument != END; argument++) {
             try_null(function, *argument);
             if (is_buffer(*argument)) try_none(function, *argument);

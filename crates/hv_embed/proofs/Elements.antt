@@ -1,5 +1,5 @@
 -- Where the elements of a call have come to after one more.
-use Rattle.std.proofs.Common.{IsTrue, false, ◌<◌, ◌≡◌, ℕ, ◌+◌, ◌≤◌, List, ◌++◌, length, take, refl, sym, subst, ap, ◌∙◌, arith, add-one, below_more, length-take}
+use Rattle.std.proofs.Common.{IsTrue, true, false, ◌<◌, ◌≡◌, ℕ, ◌+◌, ◌≤◌, List, [], ◌++◌, length, take, refl, sym, subst, ap, ◌∙◌, arith, add-one, below_more, length-take}
 use Rattle.std.specs.Global.{Global}
 use Rattle.hv_abi.specs.declared.frame.Frame.{Frame}
 use Rattle.hv_defs.specs.declared.sizes.TheConstants.{REPS_END}
@@ -14,7 +14,8 @@ use Rattle.hv_policy.specs.declared.event.Action.TheVariants.{Hypercall}
 use Rattle.hv_policy.specs.declared.event.Caller.{Caller}
 use Rattle.hv_policy.specs.declared.reply.Reply.{Reply}
 use Rattle.hv_embed.specs.Answer.{IsAnswer}
-use Rattle.hv_embed.specs.Run.{HasRun, IsAt, IsAtMore, Ran, on, output_in, run}
+use Rattle.hv_embed.specs.Effect.{is_quiet_kind}
+use Rattle.hv_embed.specs.Run.{HasRun, IsAt, IsAtMore, Ran, first, on, output_in, run}
 use Rattle.hv_embed.specs.Taken.{is_used_up}
 use Rattle.hv_embed.specs.declared.layout.HvReply.{HvReply}
 use Rattle.hv_embed.specs.declared.layout.TheConstants.{ELEMENT_OUTPUT}
@@ -40,10 +41,15 @@ module _ (by : Caller) (m new : State) (last next : Frame Global) (told answer :
     stands = subst (λ k. IsAt (run k by ran) new next answer longer) (sym (add-one n)) (on_at (run n by ran) out longer is put at.stands);
   }
 
+-- where they have come to after the first
+pub at_first : (f : Flat) (by : Caller) (frame : Frame Global) (m : State) (answer : Reply) (out : List ℕ) → answer ≡ (step f (call_event by frame)).1 → IsFlat m (step f (call_event by frame)).0 → out ≡ [] ++ output_in answer
+    → IsAt (first f by frame) m frame answer out
+at_first f by frame m answer out reply state put = record { state = state; frame = refl; reply = reply; bytes = put ∙ ap (λ (r : Reply). [] ++ output_in r) reply }
+
 -- what C is answered once no more are taken
 pub has_run : (by : Caller) (start : Ran) (before n : ℕ) (m : State) (last : Frame Global) (told : Reply) (answer : HvReply) (outputs : List ℕ) (at : ℕ) → IsAtMore n by start m last told (take at outputs) → at ≤ length outputs
     → IsAnswer answer (Hypercall last) told
-    → (IsMore told → at + ELEMENT_OUTPUT ≤ length outputs → is_used_up m.served (before + (n + 1)) ≡ false → n < REPS_END → IsTrue (may_take_memory (call_event by (restart last (next_in told)))))
+    → (IsMore told → is_quiet_kind answer.effect.kind ≡ true → at + ELEMENT_OUTPUT ≤ length outputs → is_used_up m.served (before + (n + 1)) ≡ false → n < REPS_END → IsTrue (may_take_memory (call_event by (restart last (next_in told)))))
     → HasRun by start before m answer outputs (record { events = n + 1; output_len = at })
 has_run by start before n m last told answer outputs at is within says stopped =
     let now = is.stands in
@@ -57,7 +63,7 @@ has_run by start before n m last told answer outputs at is within says stopped =
           (subst (λ (f : Frame Global). IsAnswer answer (Hypercall f) told) now.frame says);
       len = omega (arith, length-take at outputs, ap length now.bytes);
       bytes = now.bytes;
-      stopped = λ more left free few.
+      stopped = λ more quiet left free few.
           subst (λ (f : Frame Global). IsTrue (may_take_memory (call_event by f))) (ap (λ (f : Frame Global). restart f (next_in told)) now.frame ∙ ap (λ (r : Reply). restart (run n by start).frame (next_in r)) now.reply)
-          (stopped (subst IsMore (sym now.reply) more) (omega arith) free few);
+          (stopped (subst IsMore (sym now.reply) more) quiet (omega arith) free few);
     }

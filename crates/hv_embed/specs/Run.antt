@@ -16,9 +16,12 @@ use Rattle.hv_policy.specs.declared.event.Action.TheVariants.{Hypercall}
 use Rattle.hv_policy.specs.declared.event.Caller.{Caller}
 use Rattle.hv_policy.specs.declared.reply.Reply.{Reply}
 use Rattle.hv_policy.specs.declared.reply.Reply.TheVariants.{Served, More, Denied, Fault}
+use Rattle.hv_effects.specs.Typed.{AreTyped}
 use Rattle.hv_embed.specs.Answer.{IsAnswer}
+use Rattle.hv_embed.specs.Effect.{IsCalm, IsEffect, is_quiet_kind}
 use Rattle.hv_embed.specs.Taken.{is_used_up}
 use Rattle.hv_embed.specs.declared.handle.HvMachine.{HvMachine}
+use Rattle.hv_embed.specs.declared.layout.HvEffect.{HvEffect}
 use Rattle.hv_embed.specs.declared.layout.HvReply.{HvReply}
 use Rattle.hv_embed.specs.declared.layout.HvRun.{HvRun}
 use Rattle.hv_embed.specs.declared.layout.TheConstants.{ELEMENT_OUTPUT}
@@ -77,11 +80,12 @@ pub record IsAtMore (n : ℕ) (by : Caller) (ran : Ran) (m : State) (last : Fram
   pub goes : GoesOn n by ran
   pub stands : IsAt (run n by ran) m last told out
 
--- The elements of a call end here: it doesn't go on, or too few bytes are left for another output, or no more events are counted,
--- or there were so many more already as no call has elements. Else the host refused the next one, which may take memory.
-abbrev pub HasStopped : Caller → Ran → State → (left more events : ℕ) → Type 0
-HasStopped by ran m left more events =
-    IsMore ran.reply → ELEMENT_OUTPUT ≤ left → is_used_up m.served events ≡ false → more < REPS_END
+-- The elements of a call end here: it doesn't go on, or the last one's effect names more than a page, or too few bytes are left for
+-- another output, or no more events are counted, or there were so many more already as no call has elements. Else the host refused
+-- the next one, which may take memory.
+abbrev pub HasStopped : Caller → Ran → State → HvEffect → (left more events : ℕ) → Type 0
+HasStopped by ran m told left more events =
+    IsMore ran.reply → is_quiet_kind told.kind ≡ true → ELEMENT_OUTPUT ≤ left → is_used_up m.served events ≡ false → more < REPS_END
     → IsTrue (may_take_memory (call_event by (restart ran.frame (next_in ran.reply))))
 
 -- The first element of a call was taken, before which there were so many events, and more after it, as many as can be. All but
@@ -95,12 +99,31 @@ pub record HasRun (by : Caller) (start : Ran) (before : ℕ) (m : State) (told :
   pub answer : IsAnswer told (Hypercall (run more by start).frame) (run more by start).reply
   pub len : done.output_len ≡ length (run more by start).bytes
   pub bytes : take done.output_len buffer ≡ (run more by start).bytes
-  pub stopped : HasStopped by (run more by start) m (length buffer - done.output_len) more (before + done.events)
+  pub stopped : HasStopped by (run more by start) m told.effect (length buffer - done.output_len) more (before + done.events)
+
+-- the state before the last of so many more elements, of which the first one was taken in this state
+abbrev pub flat_before : ℕ → Flat → Caller → Ran → Flat
+flat_before zero f by ran = f
+flat_before (suc n) f by ran = (run n by ran).flat
+
+-- C is shown the effect of the last of so many more elements, and those before it left messages, event flags and pending
+-- vectors as they were
+pub record IsLastEffect (n : ℕ) (f : Flat) (by : Caller) (ran : Ran) (told : HvEffect) : Type 0 where
+  pub last : IsEffect told (flat_before n f by ran) (run n by ran).flat
+  pub calm : IsCalm f (flat_before n f by ran)
+
+-- and so of all elements that were taken
+pub record IsRunEffect (events : ℕ) (f : Flat) (by : Caller) (start : Ran) (told : HvEffect) : Type 0 where
+  pub more : ℕ
+  pub counted : events ≡ more + 1
+  pub shown : IsLastEffect more f by start told
 
 -- Elements of a call were taken so, of each flat state that the machine of a handle stood for. It now stands for a lawful one, is
 -- sound, and has as many pages; as many events more are counted as elements were taken. No line is put.
 pub record IsRunTaken (by : Caller) (frame : Frame Global) (old new : HvMachine) (answer : HvReply) (buffer : List ℕ) (done : HvRun) : Type 0 where
   pub ran : (f : Flat) → IsFlat old.held.machine f → HasRun by (first f by frame) old.events new.held.machine answer buffer done
+  pub effect : (f : Flat) → IsFlat old.held.machine f → AreTyped f
+      → IsRunEffect done.events f by (first f by frame) answer.effect
   pub line : answer.line_len ≡ 0
   pub pages : new.held.machine.pages ≡ old.held.machine.pages
   pub lasting : IsLasting new.held.machine

@@ -13,8 +13,10 @@ use Rattle.hv_policy.specs.Step.{step}
 use Rattle.hv_policy.specs.declared.config.BootRefused.{BootRefused}
 use Rattle.hv_policy.specs.declared.config.Config.{Config}
 use Rattle.hv_policy.specs.declared.event.Event.{Event}
+use Rattle.hv_effects.specs.Typed.{AreTyped}
 use Rattle.hv_text.specs.declared.text.TheConstants.{LINE}
 use Rattle.hv_embed.specs.Answer.{IsAnswer, line_text, refusal_status}
+use Rattle.hv_embed.specs.Effect.{IsEffect}
 use Rattle.hv_embed.specs.declared.handle.HvMachine.{HvMachine}
 use Rattle.hv_embed.specs.declared.layout.HvReply.{HvReply}
 use Rattle.hv_embed.specs.declared.status.TheConstants.{DONE, EMPTY, SHORT, USED_UP, MAX_EVENTS}
@@ -47,12 +49,14 @@ pub record HasLine (buffer : List ℕ) (count : ℕ) (line : List ℕ) : Type 0 
   pub len : 0 < length buffer → count ≡ length line
 
 -- The event was taken. Of each flat state that the machine stood for, the answer and the line with the
--- event's number are those of the flat step's reply, and the machine now stands for that step's state. It
--- stands for a lawful one, is sound, and has as many pages.
+-- event's number are those of the flat step's reply, and the machine now stands for that step's state. If the
+-- messages have types, as those of each run have, the answer's effect tells what that step changed. The machine
+-- stands for a lawful state, is sound, and has as many pages.
 pub record IsStepped (event : Event Global) (number : ℕ) (old new : State) (answer : HvReply) (buffer : List ℕ) : Type 0 where
   pub reply : (f : Flat) → IsFlat old f → IsAnswer answer event.what (step f event).1
   pub line : (f : Flat) → IsFlat old f → HasLine buffer answer.line_len (line_text number event (step f event).1)
   pub state : (f : Flat) → IsFlat old f → IsFlat new (step f event).0
+  pub effect : (f : Flat) → IsFlat old f → AreTyped f → IsEffect answer.effect f (step f event).0
   pub pages : new.pages ≡ old.pages
   pub lasting : IsLasting new
   pub sound : IsSound new

@@ -18,7 +18,8 @@ use hv_policy::result_value;
 use hv_text::{LINE, Scratch, audit_line};
 use std::alloc::Global;
 
-// Answers an event with its reply, and puts the audit's line with this number into a buffer that has bytes.
+// Answers an event with its reply, whose effect stays, and puts the audit's line with this number into a buffer
+// that has bytes.
 pub(crate) fn answer(
     entry: &EntryRef<'_>,
     number: u64,
@@ -33,6 +34,7 @@ pub(crate) fn answer(
         (reply_of entry.now.answer entry.now.output.now) }
     ensures line { HasLine line.new reply.new.line_len (line_text number
         (entry_by entry.now).event (entry_by {A = Global} entry.now).reply) }
+    ensures effect { reply.new.effect ≡ reply.old.effect }
 {
     say(entry.answer, entry.output, reply);
     reply.result = result_in(entry.asked, entry.answer);
@@ -60,6 +62,7 @@ pub(crate) fn answer_call(
     ensures answer { IsAnswer reply.new (Hypercall frame.now) (reply_of told output.now) }
     ensures line { HasLine line.new reply.new.line_len
         (line_text number (call_event by frame.now) (reply_of told output.now)) }
+    ensures effect { reply.new.effect ≡ reply.old.effect }
 {
     let entry = EntryRef {
         by,
@@ -93,7 +96,8 @@ pub(crate) fn asked_of(access: Access) -> Asked
 // Says how an event ended, and what it put out.
 fn say(answer: Answer, output: &[u8], reply: &mut HvReply)
     requires { length output.now ≤ 256 }
-    ensures { Says reply.new (reply_of answer output.now) }
+    ensures says { Says reply.new (reply_of answer output.now) }
+    ensures effect { reply.new.effect ≡ reply.old.effect }
 {
     match answer {
         Answer::Served => put(SERVED, 0, 0, output, reply),
@@ -110,6 +114,7 @@ fn put(kind: u32, rule: u32, next: u32, output: &[u8], reply: &mut HvReply)
     ensures rule { reply.new.rule ≡ rule }
     ensures next { reply.new.next ≡ next }
     ensures output { HasOutput reply.new output.now }
+    ensures effect { reply.new.effect ≡ reply.old.effect }
 {
     reply.kind = kind;
     reply.rule = rule;

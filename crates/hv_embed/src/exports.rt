@@ -113,10 +113,11 @@ pub extern "C" fn hv_embed_hypercall(
 }
 
 /// Takes a hypercall of a processor as [`hv_embed_hypercall`] does, and of a rep call the elements after it,
-/// one after another: up to the last or to one that isn't served, or until fewer than 16 bytes of the buffer
-/// for their outputs are left, the handle or the machine takes no more events, or the host has no memory. The
-/// reply is that of the last that was taken, so a call that goes on may be made again from the next element
-/// on. Bytes of the buffer past the outputs may be written, too. No line is put.
+/// one after another: up to the last or to one that isn't served or whose effect names more than a page, or
+/// until fewer than 16 bytes of the buffer for their outputs are left, the handle or the machine takes no more
+/// events, or the host has no memory. The reply is that of the last that was taken, with its effect, so a call
+/// that goes on may be made again from the next element on. Bytes of the buffer past the outputs may be
+/// written, too. No line is put.
 #[unsafe(no_mangle)]
 pub extern "C" fn hv_embed_run(
     alloc: Global,

@@ -23,6 +23,9 @@ impl Model for Held {
 unsafe impl Send for Held {}
 
 impl Held {
+    ghost use Rattle.std.specs.Borrow.{sem};
+    ghost use Rattle.hv_embed.specs.Lent.{LendsMachine};
+
     /// Nothing.
     pub fn none(alloc: Global) -> Held
         ensures { result.full ≡ false }
@@ -52,6 +55,15 @@ impl Held {
             ptr: at as *mut Housed,
             alloc,
         }
+    }
+
+    // The machine that is there.
+    pub fn look(&mut self) -> &mut Housed
+        requires { self.old.full ≡ true }
+        ensures* writes_back { sem 𝓛 (LendsMachine self.entry result) }
+        ensures value { result.now ≡ self.old.machine }
+    {
+        unsafe { &mut *(self.at as *mut Housed) }
     }
 
     // Lets go of one that holds nothing.

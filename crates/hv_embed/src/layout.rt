@@ -48,6 +48,41 @@ pub struct HvReply {
     /// How many bytes the audit's line has, with its line feed; 0 where none was asked for.
     pub line_len: u32,
     pub output: [u8; 256],
+    /// What the event changed elsewhere.
+    pub effect: HvEffect,
+}
+
+/// What an event changed of messages, event flags, pending vectors and pages. Only the fields of its kind have a
+/// meaning.
+#[repr(C)]
+#[derive(Clone, Copy)]
+pub struct HvEffect {
+    /// [`EFFECT_NOTHING`], [`EFFECT_SYNIC`], [`EFFECT_PAGE`], [`EFFECT_PAGES`], [`EFFECT_PROCESSOR`] or
+    /// [`EFFECT_PARTITION`].
+    pub kind: u32,
+    /// The index of a processor.
+    pub vp: u32,
+    /// The partition of that processor, the one that was finalized, or the one that has the pages now.
+    pub part: u64,
+    /// The page, or the id of the partition that had the pages and is gone.
+    pub page: u64,
+    /// The vectors that SINTs raised: vector v is bit v % 64 of word v / 64.
+    pub raised: [u64; 4],
+    /// Bit s is 1 where the slot of SINT s shows another message now, or none where it showed one.
+    pub shown: u16,
+    /// Bit s is 1 where one more message waits at SINT s.
+    pub waiting: u16,
+    /// The event flag that changed, and its SINT.
+    pub flag: u16,
+    pub flag_sint: u8,
+    /// [`FLAG_SET`], [`FLAG_CLEARED`], or 0 where no event flag changed.
+    pub flag_is: u8,
+    /// The port by which the message came that left its slot.
+    pub port: u32,
+    /// 1 where a message left its slot.
+    pub freed: u8,
+    /// 1 where the page is in the partition's pool, 0 where it is loose.
+    pub pooled: u8,
 }
 
 /// What became of the elements of a call.
@@ -58,6 +93,64 @@ pub struct HvRun {
     pub events: u32,
     /// How many bytes they put out, one after another.
     pub output_len: u32,
+}
+
+/// What a look at a partition shows.
+#[repr(C)]
+#[derive(Clone, Copy)]
+pub struct HvPartition {
+    /// Its privilege mask.
+    pub mask: u64,
+    /// Its parent's id, or 0 for the root.
+    pub parent: u64,
+    /// How many partitions stand above it.
+    pub depth: u64,
+    /// How many pages its pool has.
+    pub pooled: u64,
+    /// How many of those its children, processors, ports and connections use.
+    pub in_use: u64,
+    /// [`LIFE_CREATED`], [`LIFE_ACTIVE`] or [`LIFE_FINALIZED`].
+    pub life: u32,
+    /// How many children it has.
+    pub children: u32,
+    /// How many virtual processors it has.
+    pub vps: u32,
+    /// How many ports it has.
+    pub ports: u32,
+    /// How many connections it has.
+    pub connections: u32,
+}
+
+/// A port, as a look shows it.
+#[repr(C)]
+#[derive(Clone, Copy)]
+pub struct HvPort {
+    pub part: u64,
+    pub id: u32,
+    /// The partition that may connect to it.
+    pub peer: u64,
+    /// [`PORT_MESSAGES`] or [`PORT_EVENTS`].
+    pub port_type: u32,
+    /// The SINT at which it aims.
+    pub sint: u32,
+    /// The processor of that SINT, or all ones for any.
+    pub vp: u32,
+    /// The first of its flags, and how many there are.
+    pub base_flag: u16,
+    pub flag_count: u16,
+}
+
+/// A connection, as a look shows it.
+#[repr(C)]
+#[derive(Clone, Copy)]
+pub struct HvConnection {
+    pub part: u64,
+    pub id: u32,
+    /// The partition that has the port, and the port's id there.
+    pub port_partition: u64,
+    pub port: u32,
+    /// What the port took when the connection was made: [`PORT_MESSAGES`] or [`PORT_EVENTS`].
+    pub port_type: u32,
 }
 
 /// The most bytes that an element of a call puts out.
@@ -74,3 +167,57 @@ pub const DENIED: u32 = 2;
 
 /// An access that a rule refuses. Nothing changed.
 pub const FAULT: u32 = 3;
+
+/// No message, event flag, pending vector or page changed.
+pub const EFFECT_NOTHING: u32 = 0;
+
+/// Something changed at one processor.
+pub const EFFECT_SYNIC: u32 = 1;
+
+/// A page has another partition, or is in a pool and wasn't, or isn't and was.
+pub const EFFECT_PAGE: u32 = 2;
+
+/// A partition was deleted, and another one has its pages.
+pub const EFFECT_PAGES: u32 = 3;
+
+/// A processor was made or deleted.
+pub const EFFECT_PROCESSOR: u32 = 4;
+
+/// A partition was finalized.
+pub const EFFECT_PARTITION: u32 = 5;
+
+/// The event flag was clear and is set.
+pub const FLAG_SET: u8 = 1;
+
+/// The event flag was set and is clear.
+pub const FLAG_CLEARED: u8 = 2;
+
+/// A partition that was made and isn't initialized.
+pub const LIFE_CREATED: u32 = 0;
+
+/// A partition that runs.
+pub const LIFE_ACTIVE: u32 = 1;
+
+/// A partition that is finalized.
+pub const LIFE_FINALIZED: u32 = 2;
+
+/// A port that takes messages.
+pub const PORT_MESSAGES: u32 = 1;
+
+/// A port that takes event flags.
+pub const PORT_EVENTS: u32 = 2;
+
+/// The accesses, as a script's line of one names them.
+pub const READ_MSR: u32 = 0;
+
+pub const WRITE_MSR: u32 = 1;
+
+pub const READ_SLOT: u32 = 2;
+
+pub const CLEAR_SLOT: u32 = 3;
+
+pub const READ_FLAGS: u32 = 4;
+
+pub const CLEAR_FLAG: u32 = 5;
+
+pub const TAKE_INTERRUPT: u32 = 6;

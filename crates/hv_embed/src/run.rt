@@ -1,5 +1,5 @@
 // The elements of one call of a handle's machine.
-ghost use Rattle.std.specs.Prelude.{◌≡◌, ◌≢◌, ◌+◌, ◌*◌, ◌<◌, ◌≤◌, ◌++◌, length, take, false, IsTrue};
+ghost use Rattle.std.specs.Prelude.{◌≡◌, ◌≢◌, ◌+◌, ◌*◌, ◌<◌, ◌≤◌, ◌++◌, length, take, false, true, IsTrue};
 ghost use Rattle.std.specs.Prelude.{if◌then◌else◌};
 ghost use Rattle.hv_defs.specs.declared.sizes.TheConstants.{REPS_END};
 ghost use Rattle.hv_policy.specs.Parts.{next_in};
@@ -10,19 +10,23 @@ ghost use Rattle.hv_machine.specs.Sound.{IsSound};
 ghost use Rattle.hv_policy.specs.Call.{call_event, may_take_memory};
 ghost use Rattle.hv_policy.specs.Flat.{Flat};
 ghost use Rattle.hv_policy.specs.Result.{HasResult};
+ghost use Rattle.hv_effects.specs.Typed.{AreTyped};
 ghost use Rattle.hv_embed.specs.Answer.{frame_of as frame_by};
-ghost use Rattle.hv_embed.specs.Run.{HasRun, IsAt, IsAtMore, Ran, first, output_in};
+ghost use Rattle.hv_embed.specs.Effect.{is_quiet_kind};
+ghost use Rattle.hv_embed.specs.Run.{HasRun, IsAt, IsAtMore, IsLastEffect, IsRunEffect, Ran, first, output_in};
 ghost use Rattle.hv_embed.specs.Taken.{is_used_up as is_used_up_at};
 ghost use Rattle.hv_embed.specs.declared.layout.TheConstants.{ELEMENT_OUTPUT};
 ghost use Rattle.hv_embed.specs.declared.status.TheConstants.{DONE, USED_UP, MEMORY};
 
 use crate::answer::answer_call;
+use crate::effect::{is_quiet, shown};
 use crate::housed::{Housed, no_frame, refill};
-use crate::layout::{ELEMENT_OUTPUT, HvRegisters, HvReply, HvRun};
+use crate::layout::{ELEMENT_OUTPUT, HvEffect, HvRegisters, HvReply, HvRun};
 use crate::status::{DONE, MEMORY, USED_UP};
 use crate::take::is_used_up;
 use hv_abi::Frame;
 use hv_defs::REPS_END;
+use hv_effects::hypercall;
 use hv_history::next_of;
 use hv_machine::{Answer, CallReply, Caller, Machine};
 use std::alloc::Global;
@@ -44,6 +48,8 @@ pub(crate) fn step_run(
     requires { ELEMENT_OUTPUT ≤ length outputs.old }
     ensures ran { (f : Flat) → IsFlat housed.old f → result ≡ DONE → HasRun by
         (first f by (frame_by registers.now input.now)) events.old housed.new reply.new outputs.new done.new }
+    ensures effect { (f : Flat) → IsFlat housed.old f → AreTyped f → result ≡ DONE → IsRunEffect done.new.events
+        f by (first f by (frame_by registers.now input.now)) reply.new.effect }
     ensures line { result ≡ DONE → reply.new.line_len ≡ 0 }
     ensures pages { housed.new.pages ≡ housed.old.pages }
     ensures lasting { IsLasting housed.new }
@@ -62,9 +68,10 @@ pub(crate) fn step_run(
     let Ok(()) = refill(&mut housed.frame, registers, input) else {
         return MEMORY;
     };
-    let Ok(mut last) = housed.machine.hypercall(by, &housed.frame) else {
+    let Ok((mut last, effect)) = hypercall(&mut housed.machine, by, &housed.frame) else {
         return MEMORY;
     };
+    let mut effect = shown(effect);
     *events += 1;
     let mut at = put_out(&last, outputs, 0);
     let more = run_on(
@@ -74,9 +81,11 @@ pub(crate) fn step_run(
         by,
         &mut housed.frame,
         &mut last,
+        &mut effect,
         outputs,
         &mut at,
     );
+    reply.effect = effect;
     let (told, output, len) = last.parts();
     answer_call(
         by,
@@ -96,8 +105,8 @@ pub(crate) fn step_run(
 }
 
 // Lets the elements after the last one happen, one after another: up to the last of the call, or to one that
-// isn't served, as long as the buffer has room for an output and more events are counted. Answers how many
-// did. An element that the host refuses didn't happen.
+// isn't served or whose effect names more than a page, as long as the buffer has room for an output and more
+// events are counted. Answers how many did. An element that the host refuses didn't happen.
 fn run_on(
     alloc: Global,
     machine: &mut Machine<Global>,
@@ -105,6 +114,7 @@ fn run_on(
     by: Caller,
     frame: &mut Frame<Global>,
     last: &mut CallReply,
+    effect: &mut HvEffect,
     outputs: &mut [u8],
     at: &mut usize,
 ) -> u32
@@ -114,9 +124,11 @@ fn run_on(
     requires sound { IsSound machine.old }
     ensures ran { (ran : Ran) → IsAt ran machine.old frame.old last.old (take at.old outputs.old)
         → IsAtMore result by ran machine.new frame.new last.new (take at.new outputs.new) }
+    ensures effect { (ran : Ran) (f : Flat) → IsAt ran machine.old frame.old last.old (take at.old outputs.old)
+        → AreTyped ran.flat → IsLastEffect 0 f by ran effect.old → IsLastEffect result f by ran effect.new }
     ensures most { result ≤ REPS_END }
     ensures count { events.new ≡ events.old + result }
-    ensures stopped { IsMore last.new → at.new + ELEMENT_OUTPUT ≤ length outputs.new
+    ensures stopped { IsMore last.new → is_quiet_kind effect.new.kind ≡ true → at.new + ELEMENT_OUTPUT ≤ length outputs.new
         → is_used_up_at machine.new.served events.new ≡ false → result < REPS_END
         → IsTrue (may_take_memory (call_event by (restarted_at frame.new (next_in last.new)))) }
     ensures place { at.new ≤ length outputs.old }
@@ -130,17 +142,21 @@ fn run_on(
         let Some(next) = next_of(last.parts().0) else {
             return more;
         };
+        if !is_quiet(effect) {
+            return more;
+        }
         if outputs.len() - *at < ELEMENT_OUTPUT || is_used_up(machine, *events) {
             return more;
         }
         let rcx = frame.rcx;
         restart(alloc, frame, next);
-        let Ok(reply) = machine.hypercall(by, frame) else {
+        let Ok((reply, told)) = hypercall(machine, by, frame) else {
             frame.rcx = rcx;
             return more;
         };
         *at = put_out(&reply, outputs, *at);
         *last = reply;
+        *effect = shown(told);
         *events += 1;
     }
     u32::from(REPS_END)

@@ -32,8 +32,11 @@ pub const POOL: u32 = 7;
 /// No virtual processors, more than 64, or more than the pool pays for at 4 pages each.
 pub const VPS: u32 = 8;
 
-/// The most events that a handle counts. A pointer that is null has the status 9, which `include/hvpm.h`
-/// answers alone.
+/// A look: there is no such partition, processor, SINT, MSR, port, connection or page. A pointer that is null
+/// has the status 9, which `include/hvpm.h` answers alone.
+pub const NONE: u32 = 10;
+
+/// The most events that a handle counts.
 pub const MAX_EVENTS: u64 = u64::MAX;
 
 // Why a boot was refused.

@@ -9,11 +9,13 @@ ghost use Rattle.hv_embed.specs.Taken.{is_used_up as is_used_up_at, readiness};
 ghost use Rattle.hv_embed.specs.declared.status.TheConstants.{DONE, USED_UP, MEMORY};
 
 use crate::answer::{answer, answer_call, asked_of, is_short};
+use crate::effect::{parted, shown};
 use crate::handle::HvMachine;
 use crate::housed::{Housed, refill};
 use crate::layout::{HvCaller, HvRegisters, HvReply};
 use crate::status::{DONE, EMPTY, MAX_EVENTS, MEMORY, SHORT, USED_UP};
 use hv_defs::MAX_SERVED;
+use hv_effects::{access as access_of, hypercall};
 use hv_history::{EntryRef, answer_of};
 use hv_machine::{Access, Caller, Machine};
 use std::alloc::Global;
@@ -68,8 +70,10 @@ fn step_access(
         return USED_UP;
     }
     housed.output.clear();
-    let became = housed.machine.access(by, access, &mut housed.output);
+    let became = access_of(&mut housed.machine, by, access, &mut housed.output);
     *events += 1;
+    let (became, effect) = parted(became);
+    reply.effect = effect;
     let entry = EntryRef {
         by,
         asked: asked_of(access),
@@ -107,10 +111,11 @@ pub(crate) fn step_call(
     let Ok(()) = refill(&mut housed.frame, registers, input) else {
         return MEMORY;
     };
-    let Ok(told) = housed.machine.hypercall(by, &housed.frame) else {
+    let Ok((told, effect)) = hypercall(&mut housed.machine, by, &housed.frame) else {
         return MEMORY;
     };
     *events += 1;
+    reply.effect = shown(effect);
     let (told, output, len) = told.parts();
     answer_call(
         by,

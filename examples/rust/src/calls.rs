@@ -31,7 +31,7 @@ pub enum Property {
     CpuWeight = 0x0002_0003,
 }
 
-/// A port that is made.
+/// A port that is made, or that is there.
 #[derive(Clone, Copy, Debug, PartialEq, Eq)]
 pub struct Port {
     /// Whose port it is: PortPartition.
@@ -52,7 +52,7 @@ pub struct Port {
     pub flag_count: u16,
 }
 
-/// A connection that is made.
+/// A connection that is made, or that is there.
 #[derive(Clone, Copy, Debug, PartialEq, Eq)]
 pub struct Connection {
     /// Whose connection it is: ConnectionPartition.

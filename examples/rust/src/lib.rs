@@ -10,15 +10,23 @@
 //! assert_eq!(reply.output(), 1u64.to_le_bytes());
 //! let child = machine.create_partition(by, 0)?; // and so each call by its fields
 //! assert_eq!(child.value, Some(2));
+//! assert_eq!(machine.child_after(1, 0), Some(2)); // a look is no event
+//! assert_eq!(machine.events(), 2);
 //! # Ok::<(), hvpm::Refused>(())
 //! ```
 #![deny(unsafe_op_in_unsafe_fn, missing_docs)]
 
 mod calls;
+mod effect;
+mod lines;
+mod looks;
 #[allow(missing_docs)]
 mod raw;
 
 pub use calls::{ANY_VP, Balance, Connection, Output, Port, PortType, Property, SELF};
+pub use effect::{Effect, FlagChange, Synic};
+pub use lines::{Access, access_line, boot_line, hypercall_line};
+pub use looks::{Life, Partition, is_call, is_msr};
 use std::fmt;
 
 /// What the root partition is given at boot.
@@ -123,7 +131,8 @@ pub struct Reply {
 
 impl Reply {
     fn new() -> Reply {
-        let raw = raw::Reply { kind: 0, rule: 0, result: 0, next: 0, output_len: 0, line_len: 0, output: [0; 256] };
+        let effect = raw::Effect::default();
+        let raw = raw::Reply { kind: 0, rule: 0, result: 0, next: 0, output_len: 0, line_len: 0, output: [0; 256], effect };
         Reply { raw, line: [0; raw::LINE] }
     }
 
@@ -169,7 +178,8 @@ pub struct Machine {
 }
 
 // SAFETY: the library keeps nothing of the thread that calls it. That a handle may go to another thread is proved of its type,
-// and each function here borrows the machine for itself alone. Nothing here reads through `&Machine`, but the count.
+// and each function here borrows the machine for itself alone, or looks at it by a `&Machine`, which stays with one thread: there
+// is no `Sync`.
 unsafe impl Send for Machine {}
 
 fn done(status: u32) -> Result<(), Refused> {
@@ -223,8 +233,9 @@ impl Machine {
     }
 
     /// Takes one hypercall, and of a rep call the elements after it, too, each as an event of its own: up to the last, or to one
-    /// that a rule refuses, or until fewer than 16 bytes of `outputs` are left. Where the reply is [`Answer::More`], the call goes on
-    /// with [`Registers::at_element`].
+    /// that a rule refuses, or to one whose effect is neither [`Effect::Nothing`] nor [`Effect::Page`], or until fewer than 16 bytes of
+    /// `outputs` are left. Where the reply is [`Answer::More`], the call goes on with [`Registers::at_element`]. The reply's effect is
+    /// that of the last element that was taken.
     pub fn run<'o>(
         &mut self,
         by: Caller,
@@ -329,8 +340,8 @@ mod tests {
         for (status, cause) in causes {
             assert_eq!(done(status), cause, "status {status}");
         }
-        // An empty handle, an occupied one, a null, and a number that is no status.
-        for status in [1, 2, 9, 10] {
+        // An empty handle, an occupied one, a null, what a look doesn't find, and a number that is no status.
+        for status in [1, 2, 9, 10, 11] {
             assert!(catch_unwind(|| done(status)).is_err(), "status {status}");
         }
     }

@@ -1,7 +1,8 @@
 //! Each function of the wrapper, by the audit's line of its event, its answer and its output. The values are
 //! those of docs/POLICY.md.
 
-use hvpm::{Answer, Caller, Config, Machine, Refused, Registers, Reply};
+use hvpm::{Access, Answer, Caller, Config, Life, Machine, PortType, Refused, Registers, Reply};
+use hvpm::{access_line, boot_line, hypercall_line, is_call, is_msr};
 
 const CONFIG: Config = Config { mask: 0xf7_0000_0044, pages: 32, pool: 12, vps: 1 };
 const ROOT: Caller = Caller { partition: 1, vp: 0 };
@@ -170,4 +171,58 @@ fn boots_are_refused() {
         assert_eq!(Machine::boot(config).err(), Some(refused), "{config:?}");
     }
     assert!(Machine::boot(Config { vps: 3, ..CONFIG }).is_ok());
+}
+
+/// Each look shows what the event would put out that reads it, or what was made, and none is counted.
+#[test]
+fn looks_are_no_events() {
+    let mut machine = set_up();
+    let nobody = Caller { partition: 1, vp: 1 };
+    let slot = machine.peek_slot(ROOT, 2).expect("the slot is there");
+    let flags = machine.peek_flags(ROOT, 3).expect("the flags are there");
+    assert_eq!((machine.peek_slot(ROOT, 16), machine.peek_flags(nobody, 3)), (None, None));
+    assert_eq!((machine.peek_msr(ROOT, 0x4000_0092), machine.peek_msr(ROOT, 0x4000_0000)), (Some(0x32), None));
+    assert_eq!((machine.peek_pending(ROOT), machine.peek_pending(nobody)), (Some([3 << 0x32, 0, 0, 0]), None));
+    let root = machine.partition(1).expect("the root is there");
+    assert_eq!((root.life, root.mask, root.parent, root.depth), (Life::Active, CONFIG.mask, None, 0));
+    assert_eq!((root.pooled, root.in_use, root.children), (12, 8, 0));
+    assert_eq!((root.vps, root.ports, root.connections), (1, 2, 2));
+    assert_eq!((machine.partition(2), machine.child_after(1, 0)), (None, None));
+    assert_eq!((machine.page_owner(31), machine.page_owner(32)), (Some(1), None));
+    let port = machine.port(1, 3).expect("the port is there");
+    assert_eq!((port.kind, port.sint, port.vp, port.flag_count), (PortType::Events, 3, 0, 8));
+    let connection = machine.connection(1, 2).expect("the connection is there");
+    assert_eq!((connection.port_partition, connection.port, connection.kind), (1, 2, PortType::Messages));
+    assert_eq!((machine.port(2, 3), machine.connection(1, 4)), (None, None));
+    assert_eq!((machine.features(1), machine.features(2)), (Some([0x44, 0xf7, 0, 0]), None));
+    assert_eq!((is_msr(0x4000_0092), is_msr(0x4000_0000), is_call(0x96), is_call(0x97)), (true, false, true, false));
+    let table = "partition 1 parent - Active mask 000000f700000044 loose 20 pooled 12 inuse 8 vps 1 ports 2 connections 2\n\
+                 pages 32\n";
+    assert_eq!(machine.table(), Ok(table.into()));
+    assert_eq!(machine.events(), 11);
+    assert_eq!(machine.read_slot(ROOT, 2).expect("it is taken").output(), slot);
+    assert_eq!(machine.read_flags(ROOT, 3).expect("it is taken").output(), flags);
+}
+
+/// Each line is what docs/POLICY.md says of a script.
+#[test]
+fn events_are_lines_of_a_script() {
+    let by = Caller { partition: 2, vp: 1 };
+    let call = Registers { rcx: 6 << 32 | 0x48, rdx: 0x3000, r8: 0 };
+    assert_eq!(boot_line(CONFIG, 1000), "boot 32 12 1 0xf700000044 1000\n");
+    assert_eq!(hypercall_line(by, call, &[2, 0, 0xAB]), Ok("2.1 call 0x600000048 0x3000 0x0 0200ab\n".into()));
+    assert_eq!(hypercall_line(ROOT, call, &[]), Ok("1.0 call 0x600000048 0x3000 0x0 -\n".into()));
+    assert_eq!(hypercall_line(ROOT, call, &[7; 4097]), hypercall_line(ROOT, call, &[7; 4096]));
+    let accesses = [
+        (Access::ReadMsr(0x4000_0092), "rdmsr 0x40000092"),
+        (Access::WriteMsr(0x4000_0092, 0x32), "wrmsr 0x40000092 0x32"),
+        (Access::ReadSlot(2), "slot 2"),
+        (Access::ClearSlot(255), "clearslot 255"),
+        (Access::ReadFlags(0), "flags 0"),
+        (Access::ClearFlag(3, 65535), "clearflag 3 65535"),
+        (Access::TakeInterrupt, "interrupt"),
+    ];
+    for (access, words) in accesses {
+        assert_eq!(access_line(by, access), Ok(format!("2.1 {words}\n")));
+    }
 }

@@ -1,0 +1,48 @@
+-- Texts that are put into a buffer of C's.
+use Rattle.std.specs.Prelude.{◌≡◌, ◌≢◌, ◌++◌, ◌&&◌, ◌==◌, ℕ, nat_le, nat_lt, List, length, take, drop, codes, Option, None, Some, if◌then◌else◌}
+use Rattle.std.specs.Global.{Global}
+use Rattle.hv_policy.specs.Call.{action_of}
+use Rattle.hv_policy.specs.declared.event.Access.{Access}
+use Rattle.hv_policy.specs.declared.event.Access.TheVariants.{ReadMsr, WriteMsr, ReadSlot, ClearSlot, ReadFlags, ClearFlag, TakeInterrupt}
+use Rattle.hv_policy.specs.declared.event.Caller.{Caller}
+use Rattle.hv_record.specs.Recorded.{line_text}
+use Rattle.hv_embed.specs.declared.layout.TheConstants.{READ_MSR, WRITE_MSR, READ_SLOT, CLEAR_SLOT, READ_FLAGS, CLEAR_FLAG, TAKE_INTERRUPT}
+use Rattle.hv_embed.specs.declared.status.TheConstants.{DONE, MEMORY, NONE, SHORT}
+use Rattle.hv_embed.specs.declared.texts.TheConstants.{MOST_INPUT}
+
+-- A text was put into a buffer that has room for it, and its length is told. Of want of memory nothing is written.
+pub record IsPut (text : List ℕ) (status : ℕ) (old new : List ℕ) (old_len new_len : ℕ) : Type 0 where
+  pub told : status ≢ MEMORY → status ≡ if nat_lt (length old) (length text) then SHORT else DONE
+  pub len : status ≢ MEMORY → new_len ≡ length text
+  pub bytes : status ≡ DONE → take (length text) new ≡ text
+  pub rest : drop (length text) new ≡ drop (length text) old
+  pub unwritten : status ≢ DONE → new ≡ old
+  pub untold : status ≡ MEMORY → new_len ≡ old_len
+
+-- the bytes of an input list that a line has: as many as a page has, and no list has more
+abbrev pub readable : List ℕ → List ℕ
+readable input = take MOST_INPUT input
+
+-- the access to a SINT that C names by these numbers
+abbrev pub access_at_sint : (access sint value : ℕ) → Option Access
+access_at_sint access sint value =
+    if access == READ_SLOT then Some (ReadSlot sint)
+    else if access == CLEAR_SLOT then Some (ClearSlot sint)
+    else if access == READ_FLAGS then Some (ReadFlags sint)
+    else if (access == CLEAR_FLAG) && nat_le value 0xFFFF then Some (ClearFlag sint value)
+    else None
+
+-- the access that C names by these numbers, of which that of a SINT has 8 bits
+abbrev pub access_named : (access number value : ℕ) → Option Access
+access_named access number value =
+    if access == READ_MSR then Some (ReadMsr number)
+    else if access == WRITE_MSR then Some (WriteMsr number value)
+    else if access == TAKE_INTERRUPT then Some TakeInterrupt
+    else if nat_lt number 256 then access_at_sint access number value
+    else None
+
+-- the line of an access is put, or there is no such access
+abbrev pub IsAccessLine : Caller → Option Access → ℕ → (old new : List ℕ) → (old_len new_len : ℕ) → Type 0
+IsAccessLine by None status old new old_len new_len = (status ≡ NONE) × (new ≡ old) × (new_len ≡ old_len)
+IsAccessLine by (Some access) status old new old_len new_len =
+    IsPut (line_text by (action_of {A = Global} access) ++ codes "\n") status old new old_len new_len

@@ -1,0 +1,167 @@
+// The effect of an event, as C reads it.
+ghost use Rattle.std.specs.Prelude.{◌≡◌, ◌==◌, ◌<◌, ℕ, List, IfOk, OnErr, if◌then◌else◌};
+ghost use Rattle.hv_defs.specs.declared.sizes.TheConstants.{SINTS as MOST_SINTS};
+ghost use Rattle.hv_effects.specs.Effect.{has_bit, is_number};
+ghost use Rattle.hv_machine.specs.Access.{access_reply};
+ghost use Rattle.hv_embed.specs.Effect.{IsFlag, IsPort, IsShown, IsSynicShown, is_quiet_kind};
+ghost use Rattle.hv_embed.specs.declared.layout.TheConstants.{EFFECT_NOTHING as NOTHING};
+
+use crate::layout::{
+    EFFECT_NOTHING, EFFECT_PAGE, EFFECT_PAGES, EFFECT_PARTITION, EFFECT_PROCESSOR, EFFECT_SYNIC,
+    FLAG_CLEARED, FLAG_SET, HvEffect,
+};
+use hv_defs::SINTS;
+use hv_effects::{Effect, FlagChange, Synic};
+use hv_policy::Rule;
+
+// No message, event flag, pending vector or page changed.
+fn no_effect() -> HvEffect
+    ensures { result.kind ≡ NOTHING }
+{
+    HvEffect {
+        kind: EFFECT_NOTHING,
+        vp: 0,
+        part: 0,
+        page: 0,
+        raised: [0; 4],
+        shown: 0,
+        waiting: 0,
+        flag: 0,
+        flag_sint: 0,
+        flag_is: 0,
+        port: 0,
+        freed: 0,
+        pooled: 0,
+    }
+}
+
+// What C is shown of an effect.
+pub(crate) fn shown(effect: Effect) -> HvEffect
+    ensures { IsShown effect result }
+{
+    let mut told = no_effect();
+    match effect {
+        Effect::Nothing => {}
+        Effect::Synic(synic) => told = shown_synic(synic),
+        Effect::Page {
+            page,
+            owner,
+            pooled,
+        } => {
+            told.kind = EFFECT_PAGE;
+            told.page = page;
+            told.part = owner;
+            told.pooled = one_if(pooled);
+        }
+        Effect::Pages { from, to } => {
+            told.kind = EFFECT_PAGES;
+            told.page = from;
+            told.part = to;
+        }
+        Effect::Processor { part, vp } => {
+            told.kind = EFFECT_PROCESSOR;
+            told.part = part;
+            told.vp = vp;
+        }
+        Effect::Partition { part } => {
+            told.kind = EFFECT_PARTITION;
+            told.part = part;
+        }
+    }
+    told
+}
+
+// What became of an access, and what C is shown of its effect. One that a rule refuses has none.
+pub(crate) fn parted(became: Result<Effect, Rule>) -> (Result<(), Rule>, HvEffect)
+    ensures reply { (output : List ℕ) → access_reply result.0 output ≡ access_reply became output }
+    ensures shown { IfOk became (λ effect. IsShown effect result.1) }
+    ensures refused { OnErr became (result.1.kind ≡ NOTHING) }
+{
+    match became {
+        Ok(effect) => (Ok(()), shown(effect)),
+        Err(rule) => (Err(rule), no_effect()),
+    }
+}
+
+// What is shown of a processor.
+fn shown_synic(synic: Synic) -> HvEffect
+    ensures { IsSynicShown synic result }
+{
+    let (flag, flag_sint, flag_is) = flag_parts(synic.flag);
+    let (port, freed) = port_parts(synic.freed);
+    HvEffect {
+        kind: EFFECT_SYNIC,
+        vp: synic.vp,
+        part: synic.part,
+        page: 0,
+        raised: synic.raised.words(),
+        shown: synic.shown,
+        waiting: waiting_bits(synic.waiting),
+        flag,
+        flag_sint,
+        flag_is,
+        port,
+        freed,
+        pooled: 0,
+    }
+}
+
+// The event flag that changed, its SINT and how.
+fn flag_parts(flag: Option<FlagChange>) -> (u16, u8, u8)
+    ensures { IsFlag flag result.0 result.1 result.2 }
+{
+    match flag {
+        None => (0, 0, 0),
+        Some(change) => {
+            let is = if change.is_set {
+                FLAG_SET
+            } else {
+                FLAG_CLEARED
+            };
+            (change.flag, change.sint, is)
+        }
+    }
+}
+
+// The port that has room, and 1 where there is one.
+fn port_parts(freed: Option<u32>) -> (u32, u8)
+    ensures { IsPort freed result.0 result.1 }
+{
+    match freed {
+        None => (0, 0),
+        Some(port) => (port, 1),
+    }
+}
+
+// The SINT at which one more message waits, as a bit.
+fn waiting_bits(waiting: Option<u8>) -> u16
+    ensures { (k : ℕ) → k < MOST_SINTS → has_bit result k ≡ is_number waiting k }
+{
+    match waiting {
+        None => 0,
+        Some(sint) => bit_of(sint),
+    }
+}
+
+// The bit of a SINT. No other number has one.
+fn bit_of(sint: u8) -> u16
+    ensures { (k : ℕ) → k < MOST_SINTS → has_bit result k ≡ k == sint }
+{
+    if u32::from(sint) >= SINTS {
+        return 0;
+    }
+    1 << sint
+}
+
+fn one_if(is: bool) -> u8
+    ensures { result ≡ (if is then 1 else 0) }
+{
+    if is { 1 } else { 0 }
+}
+
+// Whether an effect names at most a page.
+pub(crate) fn is_quiet(told: &HvEffect) -> bool
+    ensures { result ≡ is_quiet_kind told.now.kind }
+{
+    told.kind == EFFECT_NOTHING || told.kind == EFFECT_PAGE
+}

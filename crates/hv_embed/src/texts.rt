@@ -1,0 +1,214 @@
+// Texts for C: a machine's table, and events as lines of a script. None is an event. A buffer that has room for
+// a text takes it, and its length is told.
+ghost use Rattle.std.specs.Prelude.{◌≡◌, ◌≢◌, ◌++◌, codes, length, nat_lt, take, true, false};
+ghost use Rattle.std.specs.Prelude.{IfSome, if◌then◌else◌};
+ghost use Rattle.hv_machine.specs.IsFlat.{IsFlat};
+ghost use Rattle.hv_policy.specs.Call.{action_of as action_by};
+ghost use Rattle.hv_policy.specs.Flat.{Flat};
+ghost use Rattle.hv_policy.specs.declared.event.Action.TheVariants.{Hypercall};
+ghost use Rattle.hv_record.specs.Recorded.{line_text};
+ghost use Rattle.hv_text.specs.Table.{table_text};
+ghost use Rattle.hv_embed.specs.Answer.{caller_of as caller_by, frame_of as frame_by};
+ghost use Rattle.hv_embed.specs.Taken.{IsAsBefore};
+ghost use Rattle.hv_embed.specs.Texts.{IsAccessLine, IsPut, access_at_sint, access_named};
+ghost use Rattle.hv_embed.specs.Texts.{readable as readable_of};
+ghost use Rattle.hv_embed.specs.declared.status.TheConstants.{DONE, EMPTY, SHORT};
+
+use crate::handle::HvMachine;
+use crate::housed::{no_frame, refill};
+use crate::layout::{
+    CLEAR_FLAG, CLEAR_SLOT, HvCaller, HvRegisters, READ_FLAGS, READ_MSR, READ_SLOT, TAKE_INTERRUPT,
+    WRITE_MSR,
+};
+use crate::status::{DONE, EMPTY, MEMORY, NONE, SHORT};
+use crate::take::caller_of;
+use hv_machine::{Access, Caller, Machine};
+use hv_policy::Action;
+use hv_record::script_line;
+use hv_text::table_of;
+use std::alloc::Global;
+
+// The most bytes of an input list: it lies in a page.
+pub const MOST_INPUT: usize = 4096;
+
+/// Puts the table of the partitions into a buffer that has room for it, and tells how many bytes the table has.
+/// It takes memory for the table, and for the partitions' ids.
+#[unsafe(no_mangle)]
+pub extern "C" fn hv_embed_table(
+    alloc: Global,
+    machine: &mut HvMachine,
+    text: &mut [u8],
+    len: &mut usize,
+) -> u32
+    ensures empty { machine.old.live ≡ false → result ≡ EMPTY }
+    ensures table { machine.old.live ≡ true → (f : Flat) → IsFlat machine.old.held.machine f
+        → IsPut (table_text f) result text.old text.new len.old len.new }
+    ensures kept { IsAsBefore machine.old machine.new }
+    ensures unwritten { result ≢ DONE → text.new ≡ text.old }
+    ensures untold { result ≢ DONE → result ≢ SHORT → len.new ≡ len.old }
+{
+    if !machine.live {
+        return EMPTY;
+    }
+    match table_bytes(alloc, &machine.held.look().machine) {
+        Some(bytes) => put_text(&bytes, text, len),
+        None => MEMORY,
+    }
+}
+
+/// Puts the line of a script by which a processor asks for a hypercall into a buffer that has room for it, and
+/// tells how many bytes the line has, with its line feed. Of the input list it has the first 4,096 bytes.
+#[unsafe(no_mangle)]
+pub extern "C" fn hv_embed_hypercall_line(
+    alloc: Global,
+    by: HvCaller,
+    registers: &HvRegisters,
+    input: &[u8],
+    text: &mut [u8],
+    len: &mut usize,
+) -> u32
+    ensures { IsPut (line_text (caller_by by) (Hypercall (frame_by registers.now (readable_of input.now)))
+        ++ codes "\n") result text.old text.new len.old len.new }
+{
+    match call_line(alloc, by, registers, input) {
+        Some(bytes) => put_text(&bytes, text, len),
+        None => MEMORY,
+    }
+}
+
+/// Puts the line of a script by which a processor asks for an access into a buffer that has room for it, and
+/// tells how many bytes the line has, with its line feed. `number` is that of the MSR or of the SINT, and
+/// `value` what is written, or the number of the event flag.
+#[unsafe(no_mangle)]
+pub extern "C" fn hv_embed_access_line(
+    alloc: Global,
+    by: HvCaller,
+    access: u32,
+    number: u32,
+    value: u64,
+    text: &mut [u8],
+    len: &mut usize,
+) -> u32
+    ensures { IsAccessLine (caller_by by) (access_named access number value) result text.old text.new
+        len.old len.new }
+{
+    let Some(access) = access_of(access, number, value) else {
+        return NONE;
+    };
+    match event_line(alloc, caller_of(by), &action_of(access)) {
+        Some(bytes) => put_text(&bytes, text, len),
+        None => MEMORY,
+    }
+}
+
+// The table of a machine, or want of memory.
+fn table_bytes(alloc: Global, machine: &Machine<Global>) -> Option<Vec<u8>>
+    ensures { (f : Flat) → IsFlat machine.now f → IfSome result (λ bytes. bytes.items ≡ table_text f) }
+{
+    let mut bytes = Vec::new(alloc);
+    match table_of(&mut bytes, machine) {
+        Ok(()) => Some(bytes),
+        Err(_) => None,
+    }
+}
+
+// The line of a call, or want of memory.
+fn call_line(alloc: Global, by: HvCaller, registers: &HvRegisters, input: &[u8]) -> Option<Vec<u8>>
+    ensures { IfSome result (λ line. line.items
+        ≡ line_text (caller_by by) (Hypercall (frame_by registers.now (readable_of input.now))) ++ codes "\n") }
+{
+    let mut frame = no_frame(alloc);
+    let Ok(()) = refill(&mut frame, registers, readable(input)) else {
+        return None;
+    };
+    event_line(alloc, caller_of(by), &Action::Hypercall(frame))
+}
+
+// The bytes of an input list that a line has.
+fn readable(input: &[u8]) -> &[u8]
+    ensures { result.now ≡ readable_of input.now }
+{
+    if input.len() <= MOST_INPUT {
+        return input;
+    }
+    &input[..MOST_INPUT]
+}
+
+// The line of an event with its line feed, or want of memory.
+fn event_line(alloc: Global, by: Caller, what: &Action<Global>) -> Option<Vec<u8>>
+    ensures { IfSome result (λ line. line.items ≡ line_text by what.now ++ codes "\n") }
+{
+    let Ok(mut line) = script_line(alloc, by, what) else {
+        return None;
+    };
+    match line.push(b'\n') {
+        Ok(()) => Some(line),
+        Err(_) => None,
+    }
+}
+
+// The access that C names so, if there is one.
+fn access_of(access: u32, number: u32, value: u64) -> Option<Access>
+    ensures { result ≡ access_named access number value }
+{
+    if access == READ_MSR {
+        return Some(Access::ReadMsr(number));
+    }
+    if access == WRITE_MSR {
+        return Some(Access::WriteMsr(number, value));
+    }
+    if access == TAKE_INTERRUPT {
+        return Some(Access::TakeInterrupt);
+    }
+    match u8::try_from(number) {
+        Ok(sint) => access_at(access, sint, value),
+        Err(_) => None,
+    }
+}
+
+// The access to a SINT that C names so, if there is one.
+fn access_at(access: u32, sint: u8, value: u64) -> Option<Access>
+    ensures { result ≡ access_at_sint access sint value }
+{
+    if access == READ_SLOT {
+        return Some(Access::ReadSlot(sint));
+    }
+    if access == CLEAR_SLOT {
+        return Some(Access::ClearSlot(sint));
+    }
+    if access == READ_FLAGS {
+        return Some(Access::ReadFlags(sint));
+    }
+    if access == CLEAR_FLAG && value <= 0xFFFF {
+        return Some(Access::ClearFlag(sint, value as u16));
+    }
+    None
+}
+
+// An access as what its processor asks for.
+fn action_of(access: Access) -> Action<Global>
+    ensures { result ≡ action_by access }
+{
+    match access {
+        Access::ReadMsr(msr) => Action::ReadMsr(msr),
+        Access::WriteMsr(msr, value) => Action::WriteMsr(msr, value),
+        Access::ReadSlot(sint) => Action::ReadSlot(sint),
+        Access::ClearSlot(sint) => Action::ClearSlot(sint),
+        Access::ReadFlags(sint) => Action::ReadFlags(sint),
+        Access::ClearFlag(sint, flag) => Action::ClearFlag(sint, flag),
+        Access::TakeInterrupt => Action::TakeInterrupt,
+    }
+}
+
+// Puts a text into a buffer that has room for it, and tells how many bytes it has.
+fn put_text(bytes: &[u8], text: &mut [u8], len: &mut usize) -> u32
+    ensures put { IsPut bytes.now result text.old text.new len.old len.new }
+    ensures told { result ≡ if nat_lt (length text.old) (length bytes.now) then SHORT else DONE }
+{
+    *len = bytes.len();
+    if text.len() < bytes.len() {
+        return SHORT;
+    }
+    text[..bytes.len()].copy_from_slice(bytes);
+    DONE
+}

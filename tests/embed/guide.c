@@ -1,0 +1,137 @@
+
+/*
+ * The guest of docs/EMBEDDING.md, whose C fragments stand above: `.ci/embed` puts them there. It finds its hypervisor, turns its
+ * SynIC on, takes messages and a flag from its pages, calls, and is reset. What is wrong goes to standard error.
+ */
+#include <stdio.h>
+#include <stdlib.h>
+
+enum { MEMORY = 0x10000, INPUT = 0x1000, OUTPUT = 0x2000, MESSAGES = 0x3000, FLAGS = 0x4000, MSR_EOM = 0x40000084 };
+
+static uint8_t guest[MEMORY] __attribute__((aligned(4096))), own[2][4096] __attribute__((aligned(4096)));
+static hvpm_caller injected_at;
+static uint8_t injected;
+
+void *guest_memory(uint64_t address, size_t size) {
+    return address < MEMORY && size <= MEMORY - address ? guest + address : NULL;
+}
+
+void inject(hvpm_caller at, uint8_t vector) {
+    injected_at = at, injected = vector;
+}
+
+_Noreturn void stop(const char *why) {
+    fprintf(stderr, "%s\n", why);
+    exit(1);
+}
+
+static void holds(const char *what, bool is_so) {
+    if (!is_so) stop(what);
+}
+
+/* Whether a vector was injected at a processor since the last one. */
+static bool interrupted(const hvpm_pages *vcpu, uint8_t vector) {
+    const bool is_so =
+        injected == vector && injected_at.partition == vcpu->of.partition && injected_at.vp == vcpu->of.vp;
+    injected = 0;
+    return is_so;
+}
+
+static bool write_msr(hvpm_pages *vcpu, uint32_t msr, uint64_t value) {
+    hvpm_reply reply;
+    before();
+    const bool ok = served(hvpm_write_msr(&machine, vcpu->of, msr, value, &reply, NULL, 0), &reply);
+    if (ok && (msr == MSR_SIMP || msr == MSR_SIEFP)) move(vcpu);
+    if (ok) after(&reply.effect);
+    return ok;
+}
+
+static uint64_t call(hvpm_pages *vcpu, uint64_t rcx, uint64_t rdx, uint64_t r8) {
+    hvpm_registers registers = {rcx, rdx, r8};
+    uint64_t rax = ~UINT64_C(0);
+    holds("a hypercall is made", hypercall(vcpu, &registers, &rax));
+    return rax;
+}
+
+/* A port of the guest's processor 1 for the root, and of the root for it. */
+static void connect(void) {
+    hvpm_reply reply;
+    const hvpm_port ports[] = {{child, 1, 1, HVPM_PORT_MESSAGES, 2, 1, 0, 0},
+                               {child, 2, 1, HVPM_PORT_EVENTS, 2, 1, 5, 1},
+                               {1, 3, child, HVPM_PORT_MESSAGES, 4, 0, 0, 0}};
+    const hvpm_connection connections[] = {
+        {1, 1, child, 1, HVPM_PORT_MESSAGES}, {1, 2, child, 2, HVPM_PORT_EVENTS}, {child, 3, 1, 3, HVPM_PORT_MESSAGES}};
+    for (uint32_t i = 0; i < 3; i++) {
+        holds("a port", served(hvpm_create_port(&machine, root, &ports[i], &reply, NULL, 0), &reply));
+        holds("a connection", served(hvpm_connect_port(&machine, root, &connections[i], &reply, NULL, 0), &reply));
+    }
+}
+
+static void post(const char *text) {
+    hvpm_reply reply;
+    before();
+    holds("a post",
+          served(hvpm_post_message(&machine, root, 1, 7, text, (uint32_t)strlen(text), &reply, NULL, 0), &reply));
+    after(&reply.effect);
+}
+
+static void turn_on(hvpm_pages *vcpu) {
+    holds("SCONTROL", write_msr(vcpu, 0x40000080, 1));
+    holds("SIMP", write_msr(vcpu, MSR_SIMP, MESSAGES | 1));
+    holds("SIEFP", write_msr(vcpu, MSR_SIEFP, FLAGS | 1));
+    holds("SINT2", write_msr(vcpu, 0x40000092, 0xF3));
+}
+
+/* Takes a message from slot 2 of its page, and writes EOM if another waits. */
+static void take(hvpm_pages *vcpu, const char *text, bool is_pending) {
+    hvpm_slot *slot = (hvpm_slot *)(void *)(guest + MESSAGES) + 2;
+    holds(text, interrupted(vcpu, 0xF3) && slot->type == 7 && slot->size == strlen(text));
+    holds("its text", memcmp(slot->rest + 10, text, strlen(text)) == 0);
+    slot->type = 0;
+    holds("MessagePending", (slot->flags & 1) == is_pending);
+    if (is_pending) holds("EOM", write_msr(vcpu, MSR_EOM, 0));
+}
+
+int main(void) {
+    uint32_t regs[4];
+    hvpm_reply reply;
+    hvpm_pages *vcpu = &vcpus[2], *other = &vcpus[1];
+    holds("boot", boot());
+    holds("the vendor", cpuid(0x40000000, regs) && memcmp(&regs[1], "Microsoft Hv", 12) == 0);
+    holds("the mask", cpuid(0x40000003, regs) && regs[0] == 0x64 && regs[1] == 0x30 && regs[2] == 0 && regs[3] == 0);
+    holds("no further leaf", !cpuid(0x40000006, regs) && cpuid(0x40000004, regs) && regs[0] == 0x200);
+    connect();
+    turn_on(vcpu);
+    post("one"), post("two"), post("three");
+    take(vcpu, "one", true), take(vcpu, "two", true), take(vcpu, "three", false);
+    post("four"), take(vcpu, "four", false);
+    for (uint32_t i = 0; i < 2; i++) {
+        holds("a signal", served(hvpm_signal_event(&machine, root, 2, 0, &reply, NULL, 0), &reply));
+        after(&reply.effect);
+        holds("its flag and its interrupt", guest[FLAGS + 512] == 0x20 && interrupted(vcpu, 0xF3));
+    }
+    holds("the root's pages", hvpm_pages_move(&machine, &vcpus[0], own[0], own[1]) == HVPM_DONE);
+    for (uint32_t msr = 0x40000080; msr <= 0x40000083; msr += msr == 0x40000080 ? 2 : 1)
+        holds("the root's SynIC", served(hvpm_write_msr(&machine, root, msr, 1, &reply, NULL, 0), &reply));
+    holds("its SINT", served(hvpm_write_msr(&machine, root, 0x40000094, 0x30, &reply, NULL, 0), &reply));
+    memcpy(guest + INPUT, (const uint8_t[]){3, 0, 0, 0, 0, 0, 0, 0, 9, 0, 0, 0, 2, 0, 0, 0, 'h', 'i'}, 18);
+    holds("a guest's post", call(vcpu, 0x5C, INPUT, MEMORY) == 0 && interrupted(&vcpus[0], 0x30));
+    holds("what the root gets", own[0][4 * 256] == 9 && memcmp(own[0] + 4 * 256 + 16, "hi", 2) == 0);
+    holds("a denial", call(vcpu, 0x40, INPUT, OUTPUT) == 6 && call(vcpu, 0x99, MEMORY, MEMORY) == 2);
+    holds("a list that isn't the guest's",
+          call(vcpu, 0x40, MEMORY, OUTPUT) == 4 && call(vcpu, 0x40, INPUT, MEMORY) == 4);
+    guest[OUTPUT] = 2;
+    holds("the root's own id",
+          call(&vcpus[0], 0x46, MEMORY, OUTPUT + 8) == 0 && guest[OUTPUT + 8] == 1 && guest[OUTPUT] == 2);
+    memcpy(guest + INPUT, (const uint8_t[]){2, 0, 0, 0, 0, 0, 0, 0}, 8);
+    holds("a rep call", call(&vcpus[0], UINT64_C(2) << 32 | 0x49, INPUT, OUTPUT) == UINT64_C(2) << 32);
+    holds("its outputs", guest[OUTPUT] == 32 && guest[OUTPUT + 8] == 33);
+    holds("a fast call",
+          call(&vcpus[0], 0x1004F, child, 1) == 0 && !vcpu->messages && !vcpu->flags && vcpu->shown == 0);
+    holds("one that is made again", call(&vcpus[0], 0x1004E, child, 1) == 0);
+    turn_on(vcpu);
+    post("after a reset"), take(vcpu, "after a reset", false);
+    holds("the other had nothing", other->messages == NULL && other->raised[0] == 0);
+    hvpm_destroy(&machine);
+    return 0;
+}
