@@ -62,22 +62,11 @@ make() {
     head -n 1 -- "$folder/$1.hv" >"$folder/boot.hv"
 }
 
-# The instructions of a run of the script $1.
-instructions() {
-    command -v valgrind >/dev/null || return 1
-    valgrind --tool=callgrind --callgrind-out-file=/dev/null "$program" run "$1" --serial 2>&1 >/dev/null |
-        sed -n 's/.*Collected : //p'
-}
-
 for kind in id reps messages partitions processors; do
     make "$kind"
     echo "== $kind, $(stat -c %s "$folder/$kind.hv") bytes"
     measure "$program" "$folder/$kind.hv"
-    events=$(sed -n 's/^events //p' "$folder/audit")
     echo "bytes of the outputs: $(awk '/ (ok|more) / && $NF != "-" { n += length($NF) / 2 } END { print n + 0 }' "$folder/audit")"
-    if whole=$(instructions "$folder/$kind.hv"); then
-        echo "instructions an event: $(((whole - $(instructions "$folder/boot.hv")) / events))"
-    fi
 done
 echo "== the boot line alone"
 measure "$program" "$folder/boot.hv"

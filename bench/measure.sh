@@ -13,10 +13,18 @@ field() {
     done
 }
 
-# Runs the script $2 with the program $1, and prints its time, its peak memory, the last line of its audit and how many
-# events were refused. The folder of the script takes the audit.
+# The instructions of a run of the script $2 with the program $1, as valgrind counts them. The status is 1 without valgrind.
+instructions() {
+    command -v valgrind >/dev/null || return 1
+    valgrind --tool=callgrind --callgrind-out-file=/dev/null "$1" run "$2" --serial 2>&1 >/dev/null |
+        sed -n 's/.*Collected : //p'
+}
+
+# Runs the script $2 with the program $1, and prints its time, its peak memory, the last line of its audit, how many events
+# were refused, and with valgrind the instructions of an event: those of the script less those of its first line. The folder
+# of the script takes the audit.
 measure() {
-    local folder
+    local folder events whole
     folder=$(dirname -- "$2")
     if [[ -x /usr/bin/time ]]; then
         /usr/bin/time -v "$1" run "$2" --serial 2>"$folder/time" >"$folder/audit"
@@ -26,4 +34,9 @@ measure() {
     fi
     tail -n 1 -- "$folder/audit"
     echo "refused: $(grep -cE ' (denied|fault) ' "$folder/audit" || true)"
+    events=$(sed -n 's/^events //p' "$folder/audit")
+    if ((events > 0)) && whole=$(instructions "$1" "$2"); then
+        head -n 1 -- "$2" >"$folder/first_line.hv"
+        echo "instructions an event: $(((whole - $(instructions "$1" "$folder/first_line.hv")) / events))"
+    fi
 }

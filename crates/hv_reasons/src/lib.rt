@@ -3,7 +3,7 @@
 //!
 //! [`push_event`] adds the text of one event. It reads the values from the partitions as they are after the
 //! event: a refusal changes nothing, so these are the ones that decided. The text is this project's own, and
-//! `docs/POLICY.md` describes its form. The functions here have no contract but that they are safe and end.
+//! `docs/PROGRAM.md` describes its form. The functions here have no contract but that they are safe and end.
 #![tactic(auto)]
 
 mod answer;

@@ -2,7 +2,7 @@
 //! each rule, registers, privileges, properties, and the outputs of calls and accesses.
 //!
 //! Calls, MSRs and privileges have the names of the TLFS 4.0. The sentences and the order of the fields are
-//! this project's own; `docs/POLICY.md` describes the form. [`Words`] is the buffer in which a text is put
+//! this project's own; `docs/PROGRAM.md` describes the form. [`Words`] is the buffer in which a text is put
 //! together. It never has a line feed.
 #![tactic(auto)]
 

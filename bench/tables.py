@@ -1,0 +1,230 @@
+#!/usr/bin/env python3
+"""Prints the tables of docs/SPEED.md, in the form of that page:
+
+    bench/tables.py [NAME [OUTPUT]]
+
+NAME is one of largest, threads, pools, embed, registers and messages. bench/NAME.sh runs, and what it prints becomes the table.
+With OUTPUT, a file with what bench/NAME.sh printed before, nothing runs. Without a word all six run.
+
+    bench/tables.py build
+
+times a new clone of the repository: compiling and running the program unproved, proving it, and the gate. That takes hours.
+
+A first line names the machine and the toolchain. A cell that the output has no figure for is -. The status is 1 where a benchmark
+fails, and 2 where the words are wrong.
+"""
+import os
+import pathlib
+import platform
+import re
+import resource
+import subprocess
+import sys
+import tempfile
+import time
+
+ROOT = pathlib.Path(__file__).resolve().parent.parent
+
+LARGEST = {
+    "id": "calls for the caller's own id",
+    "reps": "rep calls of 255 elements that read registers",
+    "messages": "messages posted, read and cleared",
+    "partitions": "partitions created and deleted",
+    "processors": "lines that each name another VP, 64 in a phase",
+}
+EMBED = {
+    "calls for the caller's id": "calls for the caller's own id",
+    "partitions made and deleted": "partitions created and deleted",
+    "pages withdrawn and deposited, rep calls": "pages withdrawn and deposited, element by element",
+    "an MSR written and read": "an MSR written and read",
+    "messages posted, read, cleared, ended": "messages posted, read, cleared and ended",
+}
+# Rows of the table of messages: VPs, ports of each kind, partitions beside the root, stored messages.
+MESSAGES = {
+    "ports of each kind at one processor: 1": ("1", "1", "0", "at most 2"),
+    "processors of the root, with 100 ports of each kind: 1": ("1", "100", "0", "at most 2"),
+    "processors of the root, with 100 ports of each kind: 64": ("64", "100", "0", "at most 2"),
+    "partitions beside the root: 1": ("2", "1", "1", "at most 2"),
+    "partitions beside the root: 10": ("11", "10", "10", "at most 2"),
+    "partitions beside the root: 100": ("101", "100", "100", "at most 2"),
+    "kept messages at the processor: 100": ("1", "100", "0", "100"),
+    "kept messages at the processor: 700": ("1", "100", "0", "700"),
+}
+PAGES = (4096, 16384, 32768, 65536)
+
+
+class Part:
+    """The figures of a script: its events, processor time, peak memory and instructions, None where the output lacks one."""
+
+    def __init__(self, text):
+        def figure(pattern, kind=int):
+            found = re.search(pattern, text, re.M)
+            return kind(found[1]) if found else None
+
+        self.events = figure(r"^events (\d+)")
+        self.peak = figure(r"Maximum resident set size \(kbytes\): (\d+)")
+        self.instructions = figure(r"^instructions an event: (\d+)")
+        times = [figure(rf"{of} time \(seconds\): ([\d.]+)", float) for of in ("User", "System")]
+        self.seconds = None if None in times else sum(times)
+
+
+def parts_of(text):
+    """The parts of an output by their titles: what stands between '== ' and the size of the script."""
+    pieces = re.split(r"^== (.*)\n", text, flags=re.M)[1:]
+    titles = [re.sub(r", \d+ bytes$", "", title) for title in pieces[::2]]
+    return dict(zip(titles, map(Part, pieces[1::2])))
+
+
+def shown(figure, form):
+    return "-" if figure is None else form.format(figure)
+
+
+def number(figure):
+    return shown(figure, "{:,}")
+
+
+def milliseconds(seconds):
+    return shown(None if seconds is None else round(seconds * 1000), "{:,} ms")
+
+
+def print_table(head, rows):
+    print(f"| {' | '.join(head)} |")
+    print("|---" * len(head) + "|")
+    for row in rows:
+        print(f"| {' | '.join(row)} |")
+
+
+def largest(text):
+    parts = parts_of(text)
+    boot = parts.pop("the boot line alone", Part(""))
+    rows = []
+    for name, part in parts.items():
+        beyond = None if None in (part.peak, boot.peak) else (part.peak - boot.peak) / 1024
+        rows.append((LARGEST[name.partition(",")[0]], number(part.events), milliseconds(part.seconds),
+                     number(part.instructions), shown(beyond, "{:.1f} MiB")))
+    print_table(("script", "events", "processor time", "instructions an event", "peak memory above an empty script"), rows)
+
+
+def threads(text):
+    taken = re.search(r"^processor time of a run: (\S+ ms), with --serial (\S+ ms)$", text, re.M)
+    runs = re.search(r"^(\d+) passed, (\d+) failed$", text, re.M)
+    cells = (*(taken.groups() if taken else "--"), *(runs.groups() if runs else "--"))
+    print_table(("in threads", "with `--serial`", "runs in order", "runs out of order"), [cells])
+
+
+def pools(text):
+    parts = {title.rpartition(",")[0] if title.endswith("events") else title: part for title, part in parts_of(text).items()}
+    rows = []
+    for pages in PAGES:
+        titles = (f"{pages} pages", f"every second of {pages} pages",
+                  f"{min(pages - 8, 60000)} of {pages} pages in a random order")
+        cells = []
+        for part in (parts.get(title, Part("")) for title in titles):
+            figures = []
+            if part.events and part.seconds is not None:
+                each = part.seconds / part.events * 1e6
+                figures.append(f"{part.events:,} in {milliseconds(part.seconds)}, {each:.1f} µs")
+            if part.instructions is not None:
+                figures.append(f"{part.instructions:,} instructions")
+            cells.append(", ".join(figures) or "-")
+        rows.append((f"{pages:,}", *cells))
+    print_table(("pages", "in order", "every second page", "in a random order"), rows)
+
+
+def embed(text):
+    kinds = re.findall(r"^(\S.*?) +(\d+) +(\d+)$", text, re.M)
+    rows = [(EMBED[name], plain, with_line) for name, plain, with_line in kinds]
+    print_table(("work", "without a line of the audit", "with it"), rows)
+    scripts = re.findall(r"^(\S+) +([\d.]+) ns, of (\d+) events", text, re.M)
+    if scripts:
+        print()
+        print_table(("script", "events", "ns an event"), [(name, number(int(events)), ns) for name, ns, events in scripts])
+
+
+def registers(text):
+    parts = parts_of(text)
+
+    def cells(kind, count):
+        return str(count), number(parts.get(f"{kind}: {count}", Part("")).instructions)
+
+    rows = [(*cells("processors of the root", vps), *cells("partitions beside the root", others))
+            for vps, others in zip((1, 4, 16, 64), (1, 10, 50, 100))]
+    print_table(("VPs of the root", "instructions", "partitions beside the root", "instructions"), rows)
+
+
+def messages(text):
+    parts = parts_of(text)
+    rows = [(*cells, number(parts.get(title, Part("")).instructions)) for title, cells in MESSAGES.items()]
+    print_table(("VPs", "ports of each kind", "partitions beside the root", "stored messages at the VP", "instructions"), rows)
+
+
+TABLES = {table.__name__: table for table in (largest, threads, pools, embed, registers, messages)}
+
+
+def build():
+    """Times the commands one after another in a new clone. The first that fails ends it."""
+    steps = ("bin/hvpm run examples/first.hv", "bin/hvpm --prove", "rt ci --anew")
+    rows = []
+    with tempfile.TemporaryDirectory() as folder:
+        subprocess.run(["git", "clone", "--quiet", "--", str(ROOT), folder], check=True)
+        for step in steps:
+            before, start = resource.getrusage(resource.RUSAGE_CHILDREN), time.monotonic()
+            subprocess.run(step.split(), cwd=folder, check=True, stdout=sys.stderr)
+            after, end = resource.getrusage(resource.RUSAGE_CHILDREN), time.monotonic()
+            used = after.ru_utime + after.ru_stime - before.ru_utime - before.ru_stime
+            rows.append((f"`{step}`", minutes(end - start), minutes(used)))
+    print_table(("command, one after another in a new clone", "time", "processor time"), rows)
+
+
+def minutes(seconds):
+    return f"{seconds:.0f} s" if seconds < 120 else f"{seconds / 60:.0f} min"
+
+
+def machine():
+    """The machine and the toolchain, in one line."""
+    def first(pattern, path):
+        found = re.search(pattern, pathlib.Path(path).read_text(), re.M) if os.path.exists(path) else None
+        return found[1] if found else "-"
+
+    def version(*words):
+        try:
+            return subprocess.run(words, capture_output=True, text=True).stdout.split("\n")[0] or "-"
+        except OSError:
+            return "-"
+
+    model = first(r"^model name\s*: (.*)$", "/proc/cpuinfo")
+    memory = first(r"^MemTotal:\s*(\d+)", "/proc/meminfo")
+    gibibytes = memory if memory == "-" else f"{int(memory) / 1024 ** 2:.0f} GiB"
+    return (f"{os.cpu_count()} processors ({model}), {gibibytes} of memory, Linux {platform.release()}, "
+            f"{version('rt', 'version')}, {version('valgrind', '--version')}")
+
+
+def main():
+    words = sys.argv[1:]
+    if words == ["--help"]:
+        print(__doc__.strip())
+        return 0
+    if len(words) > 2 or (words and words[0] not in TABLES and words != ["build"]):
+        print(__doc__.strip(), file=sys.stderr)
+        return 2
+    print(machine())
+    try:
+        if words == ["build"]:
+            print()
+            build()
+            return 0
+        for name in words[:1] or TABLES:
+            print()
+            if words[1:]:
+                text = pathlib.Path(words[1]).read_text()
+            else:
+                text = subprocess.run([ROOT / "bench" / f"{name}.sh"], check=True, stdout=subprocess.PIPE, text=True).stdout
+            TABLES[name](text)
+    except subprocess.CalledProcessError as failed:
+        print(failed, file=sys.stderr)
+        return 1
+    return 0
+
+
+if __name__ == "__main__":
+    sys.exit(main())
