@@ -1,0 +1,39 @@
+/*
+ * What crosses between QEMU and the VMM, each in a process of its own: one socket for each processor, by which QEMU hands over
+ * an exit and waits for the answer, and one control socket for the guest. All of them are SOCK_SEQPACKET: a message is one
+ * struct.
+ */
+#ifndef HVPM_EXITS_H
+#define HVPM_EXITS_H
+#include <stdint.h>
+
+/* The environment names the first descriptor, the control socket's; that of processor N is the (N + 1)th after it. */
+#define HVPM_SOCKETS "HVPM_SOCKETS"
+
+/* The code that the hypercall page has: out %eax, $HVPM_PORT; ret. */
+#define HVPM_PORT 0xEA
+#define HVPM_CODE                                                                                                              \
+    { 0xE7, HVPM_PORT, 0xC3 }
+
+enum hvpm_exit_kind { HVPM_CPUID, HVPM_RDMSR, HVPM_WRMSR, HVPM_HYPERCALL, HVPM_RESET };
+
+/* On a processor's socket, from QEMU: an exit. On the control socket, from QEMU: the machine was reset. */
+struct hvpm_exit {
+    uint32_t kind;
+    uint32_t number;       /* CPUID: the leaf. RDMSR, WRMSR: the MSR */
+    uint64_t rcx, rdx, r8; /* HYPERCALL: the registers. WRMSR: rcx has the value */
+};
+
+/* The answer. */
+struct hvpm_entry {
+    uint32_t served; /* else the guest is given #GP */
+    uint32_t leaf[4];
+    uint64_t value;   /* RDMSR: the value. HYPERCALL: RAX */
+    uint64_t code_at; /* WRMSR: where QEMU puts the hypercall page's code now, or 0 */
+};
+
+/* On the control socket, to QEMU: a vector for a processor's local APIC. */
+struct hvpm_interrupt {
+    uint32_t vp, vector;
+};
+#endif

@@ -1,0 +1,97 @@
+/*
+ * What the parts of the VMM share. core.c calls the library, identity.c answers CPUID and the VMM's own MSRs, vmbus.c is the
+ * root's side of VMBus, kvm.c and tcg.c run a guest's processors, record.c keeps the audit, and main.c starts all of it.
+ */
+#ifndef CORE_H
+#define CORE_H
+#include "hvpm.h"
+#include "hvpm_pages.h"
+
+enum { PAGE = 4096, MAX_VPS = 8, MAX_GUESTS = 3 };
+enum { MSR_SCONTROL = 0x40000080, MSR_SIEFP = 0x40000082, MSR_SIMP = 0x40000083, MSR_EOM = 0x40000084, MSR_SINT0 = 0x40000090 };
+enum { HV_CALL_SET_VP_REGISTERS = 0x51, HV_CALL_ADD_LOGICAL_PROCESSOR = 0x76 };
+enum { HV_STATUS_INVALID_ALIGNMENT = 4, HV_STATUS_INSUFFICIENT_BUFFERS = 0x13 };
+
+struct guest;
+struct kvm_run;
+
+/* A virtual processor. */
+struct vcpu {
+    hvpm_pages pages; /* pages.of is its partition and index */
+    struct guest *guest;
+    uint64_t assist;     /* the MSR of the VP assist page: Linux writes it, and this VMM uses no such page */
+    int fd;              /* KVM: the vCPU. TCG: the socket of its exits */
+    struct kvm_run *run; /* KVM */
+    uint64_t code_at;    /* TCG: where QEMU puts the hypercall page's code as it enters the guest, or 0 */
+};
+
+/* What runs a guest. */
+struct engine {
+    void (*start)(struct guest *guest);
+    /* Both are called under the machine's lock, and must not wait for one that an exit holds. */
+    void (*interrupt)(struct vcpu *vcpu, uint8_t vector);
+    void (*put_code)(struct vcpu *vcpu, uint64_t at);
+};
+
+/* A partition with its memory and processors. */
+struct guest {
+    uint64_t id;
+    unsigned vps;
+    struct vcpu vcpu[MAX_VPS];
+    const struct engine *engine;
+    uint8_t *ram;
+    uint64_t ram_size;
+    uint64_t os_id, hypercall_page; /* MSRs 0x40000000 and 0x40000001 */
+    _Atomic bool ended;
+    int control; /* TCG: the socket of interrupts and resets. KVM: the VM */
+};
+
+/* The root partition's, and those of its children. Where Linux isn't the root, the root is this program (vmbus.c). */
+extern struct guest guests[MAX_GUESTS];
+
+extern struct options {
+    unsigned vps, children, beats, offers;
+    bool root, reload, restart;
+    const char *kernel, *initrd, *acpi, *append, *qemu, *roms;
+} options;
+
+/*
+ * The machine. Each event is one critical section: core_enter locks and answers the machine, and core_leave takes the event's
+ * status, delivers its effect and unlocks: core_leave(hvpm_create_vp(core_enter(), ROOT, id, vp, &reply, NULL, 0), &reply). A
+ * look has no reply, and gives NULL.
+ */
+hvpm_machine *core_enter(void);
+void core_leave(uint32_t status, const hvpm_reply *reply);
+void core_boot(const hvpm_config *config);
+uint64_t core_end(void); /* answers how many events there were */
+uint64_t core_call(struct vcpu *vcpu, const hvpm_registers *registers, const void *input, size_t len, uint8_t *output,
+                   size_t room);
+bool core_read_msr(struct vcpu *vcpu, uint32_t msr, uint64_t *value);
+bool core_write_msr(struct vcpu *vcpu, uint32_t msr, uint64_t value);
+
+/* The identity: what a guest meets as Hyper-V. Where an MSR answers false, the guest is given #GP. */
+bool identity_cpuid(struct guest *guest, uint32_t index, uint32_t leaf[4]);
+bool identity_rdmsr(struct vcpu *vcpu, uint32_t msr, uint64_t *value);
+bool identity_wrmsr(struct vcpu *vcpu, uint32_t msr, uint64_t value);
+uint64_t identity_hypercall(struct vcpu *vcpu, const hvpm_registers *registers);
+void identity_reset(struct guest *guest);
+
+/* The root's side of VMBus. */
+#define ROOT ((hvpm_caller){1, 0})
+void vmbus_start(void);
+void vmbus_add(struct guest *guest);
+void vmbus_reset(struct guest *guest);
+void vmbus_has_room(void); /* a message left a slot: a post that was refused may be served now */
+bool vmbus_is_done(void);  /* the children did all that the options ask of them */
+
+/* The record of a run: its audit, and its events as a script. Lines of guests, core and VMM in one log. */
+void record_start(void); /* into the working directory */
+void record_end(uint64_t events);
+void say_guest(const struct guest *guest, const char *text);
+void note(const char *format, ...) __attribute__((format(printf, 1, 2)));
+_Noreturn void die(const char *format, ...) __attribute__((format(printf, 1, 2)));
+
+void start_thread(void *(*run)(void *), void *of);
+void guest_ended(struct guest *guest, const char *how);
+extern const struct engine kvm_engine, tcg_engine;
+#endif
