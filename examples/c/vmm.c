@@ -1,172 +1,172 @@
 /*
- * A hypervisor's exit loop over the library, in small: two guests, whose exits stand in a table in place of a processor's.
- *
- * What a hypervisor keeps by itself is here: the guests' memory, where it copies input lists from and output lists to, and the
- * mapping of message slots into the page that SIMP names. What is injected, #GP and interrupts, is printed.
+ * The hypervisor of docs/EMBEDDING.md in small. Guest 3 posts two messages to guest 2, which waits in HLT, and signals an event
+ * flag. Guest 2 takes all three from pages in its memory, and exits only for EOM. In place of a processor, a table says what a
+ * guest does. One thread runs both guests in turn: with more, a VMM holds a lock for all of an exit.
  */
-#include "hvpm.h"
+#include "hvpm_pages.h"
 
 #include <inttypes.h>
 #include <stdio.h>
 #include <stdlib.h>
-#include <string.h>
 
-enum { PAGE = 4096, INPUT = 0x0000, OUTPUT = 0x1000, SIM = 0x2000, GUEST_MEMORY = 0x3000, SINT = 2 };
-enum exit_reason { EXIT_HYPERCALL, EXIT_RDMSR, EXIT_WRMSR, EXIT_TOOK_MESSAGE };
+enum { GUESTS = 2, PAGE = 4096, INPUT = 0x0000, MESSAGES = 0x1000, FLAGS = 0x2000, MEMORY = 0x3000, SINT = 2, FLAG = 13 };
+enum { SCONTROL = 0x40000080, SVERSION, SIEFP, SIMP, EOM, SINT2 = 0x40000092 };
 
-/* An exit: who exits, why, and the registers that matter. `input` is what the guest wrote at RDX before, in hexadecimal. */
-struct guest_exit {
+/* What a guest does in its memory, if anything, and how it exits then. RCX has the number of an MSR, and RDX its value. */
+struct step {
     const char *what;
-    hvpm_caller by;
-    enum exit_reason reason;
-    uint64_t rcx, rdx, r8;
-    const char *input;
+    enum { HYPERCALL, RDMSR, WRMSR, HLT } reason;
+    uint64_t rcx, rdx;
+    void (*use)(uint8_t *memory, const char *text);
+    const char *text;
 };
 
-/* A virtual processor as the hypervisor keeps it. */
-struct vcpu {
-    hvpm_caller by;
-    uint64_t rax;
-    bool has_sim;
-    uint8_t memory[GUEST_MEMORY];
-};
+static struct vcpu {
+    _Alignas(PAGE) uint8_t memory[MEMORY];
+    hvpm_pages pages;
+    const struct step *rip;
+    bool is_halted;
+} vcpus[GUESTS];
 
 static hvpm_machine machine = HVPM_EMPTY;
 
-static _Noreturn void stop(uint32_t status) {
-    printf("the library answers %" PRIu32 "\n", status);
-    exit(1);
+static void need(bool is_so, const char *what) {
+    if (!is_so) printf("%s\n", what), exit(1);
 }
 
-/* Shows the audit's line, which a hypervisor would add to its log. Of a long one, as that of a slot, the beginning will do here. */
-static void audit(uint32_t status, const hvpm_reply *reply, const char *line) {
-    const uint32_t shown = 80;
-    if (status != HVPM_DONE) stop(status);
-    if (reply->line_len <= shown)
-        printf("    audit %.*s", (int)reply->line_len, line);
-    else
-        printf("    audit %.*s..\n", (int)shown, line);
+/* Shows the audit's line of an event that hvpm_pages.h makes in a guest's place. */
+static void record(void *context, hvpm_caller by, enum hvpm_access event, uint32_t number, uint64_t value,
+                   const hvpm_reply *reply, const char *line) {
+    (void)context, (void)by, (void)event, (void)number, (void)value;
+    printf("    audit %.*s", (int)reply->line_len, line);
 }
 
-/* The output of an element stands at its place in the output list. */
-static void put_output(struct vcpu *vcpu, uint64_t r8, uint64_t rcx, const hvpm_reply *reply) {
-    const uint64_t at = r8 + (rcx >> 48 & 0xFFF) * reply->output_len;
-    if (at + reply->output_len <= GUEST_MEMORY) memcpy(vcpu->memory + at, reply->output, reply->output_len);
+static void *guest_memory(struct vcpu *vcpu, uint64_t address, size_t size) {
+    return address < MEMORY && size <= MEMORY - address ? vcpu->memory + address : NULL;
 }
 
-/* A hypercall with its elements one after another; a hypervisor may also go back to the guest between two, with RCX as it is then. */
-static void hypercall(struct vcpu *vcpu, hvpm_registers registers) {
-    const bool fast = registers.rcx >> 16 & 1;
-    const uint64_t rdx = registers.rdx;
-    const size_t len = fast || rdx >= GUEST_MEMORY ? 0 : PAGE - rdx % PAGE;
+static void before(void) {
+    for (struct vcpu *at = vcpus; at < vcpus + GUESTS; at++)
+        need(hvpm_pages_before(&machine, &at->pages) == HVPM_DONE, "a slot isn't cleared");
+}
+
+static void move(struct vcpu *vcpu) {
+    void *at[2] = {NULL, NULL};
+    uint64_t value;
+    for (size_t i = 0; i < 2; i++)
+        if (hvpm_peek_msr(&machine, vcpu->pages.of, i == 0 ? SIMP : SIEFP, &value) == HVPM_DONE && value & 1)
+            at[i] = guest_memory(vcpu, value & ~UINT64_C(4095), PAGE);
+    need(hvpm_pages_move(&machine, &vcpu->pages, at[0], at[1]) == HVPM_DONE, "a page isn't moved");
+}
+
+/* The effect names the processor where something changed, which is rarely the caller. A vector ends its HLT. */
+static void after(const hvpm_effect *effect) {
+    for (struct vcpu *at = vcpus; at < vcpus + GUESTS; at++) {
+        need(hvpm_pages_after(&machine, &at->pages, effect) == HVPM_DONE, "a page isn't up to date");
+        for (uint8_t v; hvpm_pages_vector(&machine, &at->pages, &v) == HVPM_DONE && v != 0; at->is_halted = false)
+            printf("    inject 0x%02x at %" PRIu64 ".0%s\n", v, at->pages.of.partition, at->is_halted ? " and wake it" : "");
+    }
+}
+
+/* These guests may only post and signal. docs/EMBEDDING.md also serves calls that have an output or elements. */
+static uint32_t hypercall(struct vcpu *vcpu, const hvpm_registers *at, hvpm_reply *reply, char *line) {
+    const size_t size = at->rcx >> 16 & 1 ? 0 : PAGE - at->rdx % PAGE;
+    const void *from = guest_memory(vcpu, at->rdx, size);
+    uint8_t input[PAGE];
+    if (size != 0 && !from && hvpm_is_call((uint16_t)at->rcx)) return *reply = (hvpm_reply){.result = 4}, HVPM_DONE;
+    if (from) memcpy(input, from, size);
+    return hvpm_hypercall(&machine, vcpu->pages.of, at, input, from ? size : 0, reply, line, HVPM_LINE);
+}
+
+static void handle(struct vcpu *vcpu, const struct step *exit) {
+    const hvpm_caller by = vcpu->pages.of;
+    uint64_t value = exit->rdx;
+    uint32_t status, msr = (uint32_t)exit->rcx;
     hvpm_reply reply;
     char line[HVPM_LINE];
-    for (;;) {
-        audit(hvpm_hypercall(&machine, vcpu->by, &registers, len == 0 ? NULL : vcpu->memory + rdx, len, &reply, line, sizeof line),
-              &reply, line);
-        put_output(vcpu, registers.r8, registers.rcx, &reply);
-        if (reply.kind != HVPM_MORE) break;
-        registers.rcx = hvpm_next(registers.rcx, &reply);
-    }
-    vcpu->rax = reply.result;
-    printf("    RAX %016" PRIx64 "\n", vcpu->rax);
+    before();
+    if (exit->reason == RDMSR) status = hvpm_read_msr_value(&machine, by, msr, &value, &reply, line, sizeof line);
+    else if (exit->reason == WRMSR) status = hvpm_write_msr(&machine, by, msr, value, &reply, line, sizeof line);
+    else status = hypercall(vcpu, &(hvpm_registers){exit->rcx, exit->rdx, 0}, &reply, line);
+    need(status == HVPM_DONE, "the library takes no event"); /* out of memory, a VMM may leave RIP at the call */
+    if (reply.line_len != 0) printf("    audit %.*s", (int)reply.line_len, line);
+    if (exit->reason == WRMSR) move(vcpu);
+    after(&reply.effect);
+    if (reply.kind == HVPM_FAULT) printf("    inject #GP, since P%" PRIu32 " doesn't hold\n", reply.rule);
+    else if (exit->reason == RDMSR) printf("    EDX:EAX %016" PRIx64 "\n", value);
+    else if (exit->reason == HYPERCALL) printf("    RAX %016" PRIx64 "\n", reply.result);
 }
 
-static void inject_gp(const hvpm_reply *reply) {
-    printf("    inject #GP, since P%" PRIu32 " isn't met\n", reply->rule);
+static void write_message(uint8_t *memory, const char *text) {
+    const uint32_t header[4] = {HVPM_PORT_MESSAGES, 0, 7, (uint32_t)strlen(text)}; /* connection, message type, size */
+    memcpy(memory + INPUT, header, sizeof header);
+    memcpy(memory + INPUT + sizeof header, text, header[3]);
 }
 
-static void rdmsr(struct vcpu *vcpu, uint32_t msr) {
-    hvpm_reply reply;
-    char line[HVPM_LINE];
-    audit(hvpm_read_msr_value(&machine, vcpu->by, msr, &vcpu->rax, &reply, line, sizeof line), &reply, line);
-    if (reply.kind == HVPM_FAULT) {
-        inject_gp(&reply);
-        return;
-    }
-    printf("    EDX:EAX %016" PRIx64 "\n", vcpu->rax);
+/* It frees the slot before it looks for MessagePending. */
+static void take(uint8_t *memory, const char *text) {
+    hvpm_slot *slot = (hvpm_slot *)(void *)(memory + MESSAGES) + SINT;
+    uint8_t *flags = memory + FLAGS + 256 * SINT + FLAG / 8;
+    (void)text;
+    printf("    it reads \"%.*s\"", slot->size, (const char *)slot->rest + 10);
+    __atomic_store_n(&slot->type, 0, __ATOMIC_SEQ_CST);
+    printf(", MessagePending is %d", __atomic_load_n(&slot->flags, __ATOMIC_SEQ_CST) & 1);
+    printf(", flag %d is %d\n", FLAG, __atomic_fetch_and(flags, (uint8_t)~(1 << FLAG % 8), __ATOMIC_SEQ_CST) >> FLAG % 8 & 1);
 }
 
-static void wrmsr(struct vcpu *vcpu, uint32_t msr, uint64_t value) {
-    hvpm_reply reply;
-    char line[HVPM_LINE];
-    audit(hvpm_write_msr(&machine, vcpu->by, msr, value, &reply, line, sizeof line), &reply, line);
-    if (reply.kind == HVPM_FAULT) {
-        inject_gp(&reply);
-        return;
-    }
-    if (msr == 0x40000083) vcpu->has_sim = value & 1;
-}
-
-/* Before a processor is entered: its slot goes into its message page, and the highest pending vector is injected. */
-static void enter(struct vcpu *vcpu) {
-    hvpm_reply reply;
-    char line[HVPM_LINE];
-    if (vcpu->has_sim) {
-        audit(hvpm_read_slot(&machine, vcpu->by, SINT, &reply, line, sizeof line), &reply, line);
-        memcpy(vcpu->memory + SIM + 256 * SINT, reply.output, reply.output_len);
-    }
-    audit(hvpm_take_interrupt(&machine, vcpu->by, &reply, line, sizeof line), &reply, line);
-    if (reply.kind == HVPM_SERVED && reply.output[0] != 0) printf("    inject vector 0x%02x\n", reply.output[0]);
-}
-
-/* The guest read the message in its page and wrote 0 to its type: it takes no notice of what the library keeps, so it is told. */
-static void took_message(struct vcpu *vcpu) {
-    hvpm_reply reply;
-    char line[HVPM_LINE];
-    printf("    it read \"%s\"\n", (const char *)vcpu->memory + SIM + 256 * SINT + 16);
-    audit(hvpm_clear_slot(&machine, vcpu->by, SINT, &reply, line, sizeof line), &reply, line);
-    wrmsr(vcpu, 0x40000084, 0);
-}
-
-static void put_input(struct vcpu *vcpu, const char *hex) {
-    memset(vcpu->memory + INPUT, 0, PAGE);
-    for (size_t i = 0; hex && hex[2 * i]; i++) {
-        unsigned byte;
-        if (sscanf(hex + 2 * i, "%2x", &byte) == 1) vcpu->memory[INPUT + i] = (uint8_t)byte;
-    }
-}
-
-static void handle(struct vcpu *vcpu, const struct guest_exit *exit) {
-    printf("%" PRIu64 ".%" PRIu32 " %s\n", exit->by.partition, exit->by.vp, exit->what);
-    switch (exit->reason) {
-    case EXIT_HYPERCALL:
-        put_input(vcpu, exit->input);
-        hypercall(vcpu, (hvpm_registers){exit->rcx, exit->rdx, exit->r8});
-        break;
-    case EXIT_RDMSR: rdmsr(vcpu, (uint32_t)exit->rcx); break;
-    case EXIT_WRMSR: wrmsr(vcpu, (uint32_t)exit->rcx, exit->rdx); break;
-    case EXIT_TOOK_MESSAGE: took_message(vcpu); break;
-    }
-    enter(vcpu);
-}
-
-/* The root makes a partition with a processor, which asks for messages; the root posts one, and the processor takes it. */
-static const struct guest_exit exits[] = {
-    {"makes a partition", {1, 0}, EXIT_HYPERCALL, 0x40, INPUT, OUTPUT, NULL},
-    {"starts it, by a fast call", {1, 0}, EXIT_HYPERCALL, 0x10041, 2, 0, NULL},
-    {"gives it five pages, by a rep call", {1, 0}, EXIT_HYPERCALL, 0x0000000500000048, INPUT, 0,
-     "02000000000000000c000000000000000d000000000000000e000000000000000f000000000000001000000000000000"},
-    {"makes it a processor", {1, 0}, EXIT_HYPERCALL, 0x1004E, 2, 0, NULL},
-    {"makes it a port of messages", {1, 0}, EXIT_HYPERCALL, 0x95, INPUT, 0,
-     "020000000000000005000000000000000100000000000000010000000000000002000000"},
-    {"connects to it", {1, 0}, EXIT_HYPERCALL, 0x96, INPUT, 0, "010000000000000007000000000000000200000000000000050000000000000001"},
-    {"turns its interrupt controller on", {2, 0}, EXIT_WRMSR, 0x40000080, 1, 0, NULL},
-    {"turns its message page on", {2, 0}, EXIT_WRMSR, 0x40000083, SIM | 1, 0, NULL},
-    {"aims SINT 2 at vector 0x30", {2, 0}, EXIT_WRMSR, 0x40000092, 0x30, 0, NULL},
-    {"posts a message", {1, 0}, EXIT_HYPERCALL, 0x5C, INPUT, 0, "0700000000000000010000000500000068656c6c6f"},
-    {"reads its SINT 2", {2, 0}, EXIT_RDMSR, 0x40000092, 0, 0, NULL},
-    {"takes the message", {2, 0}, EXIT_TOOK_MESSAGE, 0, 0, 0, NULL},
-    {"reads an MSR that isn't there", {2, 0}, EXIT_RDMSR, 0x40000071, 0, 0, NULL},
-    {"makes a partition, which it may not", {2, 0}, EXIT_HYPERCALL, 0x40, INPUT, OUTPUT, NULL},
+static const struct step receiver[] = {
+    {"reads its SynIC's version", RDMSR, .rcx = SVERSION},
+    {"turns its SynIC on", WRMSR, .rcx = SCONTROL, .rdx = 1},
+    {"turns its message page on", WRMSR, .rcx = SIMP, .rdx = MESSAGES | 1},
+    {"turns its event flags page on", WRMSR, .rcx = SIEFP, .rdx = FLAGS | 1},
+    {"aims SINT 2 at vector 5, which is reserved", WRMSR, .rcx = SINT2, .rdx = 5},
+    {"aims SINT 2 at vector 0x30", WRMSR, .rcx = SINT2, .rdx = 0x30},
+    {"waits", .reason = HLT},
+    {"takes what it got, and writes EOM", WRMSR, .rcx = EOM, .use = take},
+    {"takes the other message, and waits", HLT, .use = take},
+};
+static const struct step sender[] = {
+    {"posts a message", HYPERCALL, .rcx = 0x5C, .rdx = INPUT, .use = write_message, .text = "first"},
+    {"posts another, which waits", HYPERCALL, .rcx = 0x5C, .rdx = INPUT, .use = write_message, .text = "second"},
+    {"signals an event flag, by a fast call", HYPERCALL, .rcx = 0x1005D, .rdx = HVPM_PORT_EVENTS},
+    {"posts what isn't in its memory", HYPERCALL, .rcx = 0x5C, .rdx = MEMORY},
+    {"creates a partition, which it may not", HYPERCALL, .rcx = 0x40, .rdx = INPUT},
+    {"waits", .reason = HLT},
 };
 
+static void done(uint32_t status, const hvpm_reply *reply) {
+    need(status == HVPM_DONE && reply->kind == HVPM_SERVED, "the root isn't served");
+}
+
+/* The root makes both guests, each with 6 pages and a processor. The ids of ports and connections are their types. */
+static void boot(void) {
+    const hvpm_caller root = {1, 0};
+    hvpm_reply reply = {.kind = HVPM_SERVED};
+    done(hvpm_boot(&machine, &(hvpm_config){.mask = 0xf700000044, .pages = 20, .pool = 8, .vps = 1}), &reply);
+    for (uint64_t id = 2, page = 8, made; id < 2 + GUESTS; id++) {
+        done(hvpm_create_partition(&machine, root, 0, &made, &reply, NULL, 0), &reply);
+        done(hvpm_initialize_partition(&machine, root, id, &reply, NULL, 0), &reply);
+        for (int i = 0; i < 6; i++, page++) done(hvpm_deposit_memory(&machine, root, id, &page, 1, 0, &reply, NULL, 0), &reply);
+        done(hvpm_create_vp(&machine, root, id, 0, &reply, NULL, 0), &reply);
+        vcpus[id - 2].pages = (hvpm_pages){.of = {id, 0}, .record = record};
+        vcpus[id - 2].rip = id == 2 ? receiver : sender;
+    }
+    for (uint32_t type = HVPM_PORT_MESSAGES; type <= HVPM_PORT_EVENTS; type++) {
+        const hvpm_port port = {.partition = 2, .id = type, .peer = 3, type, SINT, .base_flag = FLAG, .flag_count = 1};
+        done(hvpm_create_port(&machine, root, &port, &reply, NULL, 0), &reply);
+        done(hvpm_connect_port(&machine, root, &(hvpm_connection){3, type, 2, type, type}, &reply, NULL, 0), &reply);
+    }
+}
+
 int main(void) {
-    static struct vcpu vcpus[] = {{.by = {1, 0}}, {.by = {2, 0}}};
-    const hvpm_config config = {.mask = 0xf700000044, .pages = 32, .pool = 12, .vps = 1};
-    const uint32_t status = hvpm_boot(&machine, &config);
-    if (status != HVPM_DONE) stop(status);
-    for (size_t i = 0; i < sizeof exits / sizeof *exits; i++) handle(&vcpus[exits[i].by.partition - 1], &exits[i]);
+    boot();
+    for (size_t turn = 0; !vcpus[0].is_halted || !vcpus[1].is_halted; turn++)
+        for (struct vcpu *vcpu = &vcpus[turn % GUESTS]; !vcpu->is_halted; vcpu->rip++) {
+            printf("%" PRIu64 ".0 %s\n", vcpu->pages.of.partition, vcpu->rip->what);
+            if (vcpu->rip->use) vcpu->rip->use(vcpu->memory, vcpu->rip->text);
+            if (vcpu->rip->reason == HLT) vcpu->is_halted = true;
+            else handle(vcpu, vcpu->rip);
+        }
     printf("events %" PRIu64 "\n", machine.events);
     hvpm_destroy(&machine);
     return 0;
