@@ -105,42 +105,46 @@ static unsigned echo(void) {
     return count;
 }
 
+/* Posts, and waits for the answer before it says anything: a line to the console takes longer than the host does. */
+static void ask(const char *what, const uint32_t *payload, uint32_t len, uint32_t m[60]) {
+    const uint64_t status = post(4, payload, len);
+    take(m);
+    say("hand: "), say(what), say("\n");
+    tell("  status", status), tell("  answer", m[0]);
+}
+
 static void connect(uint32_t m[60]) {
     const uint32_t versions[] = {0x50003, 0x50002};
     for (unsigned i = 0; i < 2; i++) {
         const uint32_t contact[10] = {14, 0, versions[i], 0, SINT};
-        tell("INITIATE_CONTACT, status", post(4, contact, 40));
-        take(m);
+        ask("INITIATE_CONTACT", contact, sizeof contact, m);
         tell("VERSION_RESPONSE, supported", m[2] & 0xFF);
     }
     const uint32_t request[2] = {3, 0};
-    tell("REQUESTOFFERS, status", post(m[3], request, 8));
-    while (take(m) == 1) tell("offer of channel", m[46]);
+    for (ask("REQUESTOFFERS", request, sizeof request, m); m[0] == 1; take(m)) tell("offer of channel", m[46]);
     tell("message", m[0]);
 }
 
 static void open(uint32_t m[60]) {
-    const uint64_t pfn = (uint64_t)rings / PAGE;
-    const uint32_t gpadl[15] = {8,
-                                0,
-                                HEARTBEAT,
-                                7,
-                                40 | 1 << 16,
-                                4 * PAGE,
-                                0,
-                                (uint32_t)pfn,
-                                0,
-                                (uint32_t)pfn + 1,
-                                0,
-                                (uint32_t)pfn + 2,
-                                0,
-                                (uint32_t)pfn + 3,
-                                0};
+    const uint32_t pfn = (uint32_t)((uint64_t)rings / PAGE);
+    const uint32_t gpadl[15] = {8, 0, HEARTBEAT, 7, 40 | 1 << 16, 4 * PAGE, 0, pfn, 0, pfn + 1, 0, pfn + 2, 0, pfn + 3, 0};
     const uint32_t channel[7] = {5, 0, HEARTBEAT, 1, 7, 0, 2};
-    tell("GPADL_HEADER, status", post(4, gpadl, sizeof gpadl));
-    tell("message", take(m)), tell("  its status", m[4]);
-    tell("OPENCHANNEL, status", post(4, channel, sizeof channel));
-    tell("message", take(m)), tell("  its status", m[4]);
+    ask("GPADL_HEADER", gpadl, sizeof gpadl, m), tell("  its status", m[4]);
+    ask("OPENCHANNEL", channel, sizeof channel, m), tell("  its status", m[4]);
+}
+
+/* Waits for event flags, and answers the packets that they stand for: the host's versions, and its heartbeats. */
+static void answer(void) {
+    uint32_t *flags = (uint32_t *)(events + 256 * SINT);
+    unsigned count = 0;
+    uint64_t status = 0;
+    while (count < 1 + BEATS) {
+        wait_for(flags);
+        __atomic_exchange_n(flags, 0, __ATOMIC_SEQ_CST);
+        count += echo();
+        status |= hypercall(0x1005D, SIGNAL);
+    }
+    tell("packets answered", count), tell("  status", status);
 }
 
 static void run(void) {
@@ -160,17 +164,10 @@ static void run(void) {
     __asm__ volatile("sti");
     connect(m);
     open(m);
-    for (unsigned count = 0; count < 1 + BEATS;) { /* the versions, and heartbeats */
-        volatile uint32_t *flags = (volatile uint32_t *)(events + 256 * SINT);
-        wait_for(flags);
-        __atomic_exchange_n((uint32_t *)flags, 0, __ATOMIC_SEQ_CST);
-        count += echo();
-        tell("packets answered, status", hypercall(0x1005D, SIGNAL));
-    }
+    answer();
     const uint32_t unload[2] = {16, 0};
-    tell("UNLOAD, status", post(4, unload, 8));
-    tell("message", take(m));
-    tell("a post by a connection that isn't there, status", post(99, unload, 8));
+    ask("UNLOAD", unload, sizeof unload, m);
+    tell("a post by a connection that isn't there, status", post(99, unload, sizeof unload));
     tell("interrupts", interrupts), tell("halts", halts);
     for (;;) out16(POWER, 1 << 13);
 }

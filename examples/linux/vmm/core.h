@@ -50,7 +50,7 @@ struct guest {
 extern struct guest guests[MAX_GUESTS];
 
 extern struct options {
-    unsigned vps, children, beats, offers;
+    unsigned vps, children, beats, offers, delay;
     bool root, reload, restart;
     const char *kernel, *initrd, *acpi, *append, *qemu, *roms;
 } options;

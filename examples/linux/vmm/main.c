@@ -13,7 +13,8 @@
 
 static const char usage[] =
     "usage: vmm --engine kvm|tcg --kernel FILE [--initrd FILE --acpi FILE --append WORDS] [--qemu FILE --roms FOLDER]\n"
-    "           [--vps N] [--children N] [--beats N] [--offers N] [--root | --reload | --restart] [--seconds N]\n"
+    "           [--vps N] [--children N] [--beats N] [--offers N] [--delay MILLISECONDS] [--seconds N]\n"
+    "           [--root | --reload | --restart]\n"
     "Writes the files audit and events.hv into the working directory, and a log to standard output.\n";
 
 struct options options = {.vps = 1, .children = 1, .beats = 3};
@@ -55,7 +56,8 @@ static const struct engine *read_options(int argc, char **argv, unsigned *second
         {"engine", 1, NULL, 'e'},   {"kernel", 1, NULL, 'k'}, {"initrd", 1, NULL, 'i'},  {"acpi", 1, NULL, 'a'},
         {"qemu", 1, NULL, 'q'},     {"roms", 1, NULL, 'm'},   {"append", 1, NULL, 'w'},  {"vps", 1, NULL, 'v'},
         {"children", 1, NULL, 'c'}, {"beats", 1, NULL, 'b'},  {"offers", 1, NULL, 'o'},  {"seconds", 1, NULL, 's'},
-        {"root", 0, NULL, 'r'},     {"reload", 0, NULL, 'l'}, {"restart", 0, NULL, 't'}, {NULL, 0, NULL, 0}};
+        {"root", 0, NULL, 'r'},     {"reload", 0, NULL, 'l'}, {"restart", 0, NULL, 't'},
+        {"delay", 1, NULL, 'd'},    {NULL, 0, NULL, 0}};
     const struct engine *engine = NULL;
     options.append = "console=ttyS0 panic=-1", options.initrd = options.acpi = options.qemu = options.roms = "";
     for (int c; (c = getopt_long(argc, argv, "", long_options, NULL)) != -1;) switch (c) {
@@ -70,6 +72,7 @@ static const struct engine *read_options(int argc, char **argv, unsigned *second
         case 'c': options.children = (unsigned)atoi(optarg); break;
         case 'b': options.beats = (unsigned)atoi(optarg); break;
         case 'o': options.offers = (unsigned)atoi(optarg); break;
+        case 'd': options.delay = (unsigned)atoi(optarg); break;
         case 's': *seconds = (unsigned)atoi(optarg); break;
         case 'r': options.root = true; break;
         case 'l': options.reload = true; break;

@@ -16,11 +16,8 @@
 #include <sys/wait.h>
 #include <unistd.h>
 
-enum {
-    FIRST = 100,
-    MEMORY = 99,
-    RAM_SIZE = 256 << 20
-}; /* descriptors in QEMU: FIRST is the control socket, MEMORY the guest's memory */
+/* Descriptors in QEMU: FIRST is the control socket, MEMORY the guest's memory. */
+enum { FIRST = 100, MEMORY = 99, RAM_SIZE = 256 << 20 };
 
 struct process {
     struct guest *guest;
@@ -29,8 +26,7 @@ struct process {
 
 static pthread_mutex_t reset_lock = PTHREAD_MUTEX_INITIALIZER;
 
-/* QEMU says that it reset the machine before it hands over another exit. Whichever processor has it, the reset is done first.
- */
+/* QEMU says that it reset the machine before it hands over another exit. Whichever processor has that, the reset comes first. */
 static void reset_first(struct guest *guest) {
     struct hvpm_exit exit;
     pthread_mutex_lock(&reset_lock);
@@ -89,7 +85,7 @@ static _Noreturn void become_qemu(const struct guest *guest, const int ends[], i
     snprintf(vps, sizeof vps, "%u", options.vps), snprintf(acpi, sizeof acpi, "file=%s", options.acpi);
     snprintf(ram, sizeof ram, "memory-backend-file,id=ram,size=%d,share=on,mem-path=/proc/self/fd/%d", RAM_SIZE, MEMORY);
     for (unsigned i = 0; i <= guest->vps; i++) dup2(ends[i], FIRST + (int)i);
-    dup2(memory, MEMORY), dup2(output, 1), dup2(output, 2);
+    dup2(memory, MEMORY), dup2(open("/dev/null", O_RDONLY), 0), dup2(output, 1), dup2(output, 2);
     setenv(HVPM_SOCKETS, sockets, 1);
     execl(options.qemu, options.qemu, "-accel", "tcg,thread=multi", "-M", "pc,memory-backend=ram", "-object", ram, "-m", "256",
           "-cpu", "qemu64", "-smp", vps, "-nodefaults", "-display", "none", "-vga", "none", "-serial", "stdio", "-L",

@@ -10,6 +10,7 @@
 #include <semaphore.h>
 #include <string.h>
 #include <time.h>
+#include <unistd.h>
 
 /* The types of VMBus's messages that this host knows, and the names of all. */
 enum { OFFER = 1, REQUESTOFFERS = 3, ALLOFFERS = 4, OPEN = 5, OPEN_RESULT = 6, CLOSE = 7, GPADL_HEADER = 8, GPADL_CREATED = 10 };
@@ -331,6 +332,7 @@ static void *root_thread(void *unused) {
         clock_gettime(CLOCK_REALTIME, &until);
         until.tv_sec += 1;
         const bool is_idle = sem_timedwait(&raised, &until) != 0 && errno == ETIMEDOUT;
+        if (!is_idle) usleep(1000 * options.delay); /* so that a guest surely halts meanwhile */
         pthread_mutex_lock(&bus_lock);
         while (take_message(message)) {
             const uint32_t n = le32(message + 8) / 0x100; /* the port by which it came */
