@@ -17,7 +17,7 @@ static inline void again_must(int holds, const char *what) {
 static inline uint32_t again_boot(hvpm_machine *machine, const hvpm_config *config) {
     const hvpm_machine before = *machine;
     const uint32_t status = hvpm_boot(machine, config);
-    if (status != HVPM_MEMORY) return status;
+    if (status != HVPM_STATUS_MEMORY) return status;
     again_must(memcmp(machine, &before, sizeof before) == 0, "a refused boot changed the handle");
     fputs("again: boot\n", stderr);
     return hvpm_boot(machine, config);
@@ -33,7 +33,7 @@ static inline uint32_t again_hypercall(hvpm_machine *machine, hvpm_caller by, co
     memcpy(&reply_before, reply, sizeof reply_before);
     memcpy(line_before, line, line_size);
     const uint32_t status = hvpm_hypercall(machine, by, registers, input, input_len, reply, line, line_size);
-    if (status != HVPM_MEMORY) return status;
+    if (status != HVPM_STATUS_MEMORY) return status;
     again_must(memcmp(machine, &before, sizeof before) == 0, "a refused call changed the handle");
     again_must(memcmp(reply, &reply_before, sizeof reply_before) == 0, "a refused call wrote a reply");
     again_must(memcmp(line, line_before, line_size) == 0, "a refused call wrote a line");

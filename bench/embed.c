@@ -16,7 +16,7 @@ static size_t line_size;
 static bool failed;
 
 static void want(uint32_t status) {
-    if (status != HVPM_DONE || reply.kind > HVPM_MORE) failed = true;
+    if (status != HVPM_STATUS_OK || reply.kind > HVPM_REPLY_MORE) failed = true;
 }
 
 static void put_number(uint8_t *at, uint64_t value, size_t len) {
@@ -28,7 +28,7 @@ static void call(uint64_t rcx, uint64_t rdx, const void *input, size_t len) {
     do {
         want(hvpm_hypercall(&machine, root, &registers, input, len, &reply, line_size ? line : NULL, line_size));
         registers.rcx = hvpm_next(registers.rcx, &reply);
-    } while (reply.kind == HVPM_MORE && !failed);
+    } while (reply.kind == HVPM_REPLY_MORE && !failed);
 }
 
 static void ids(void) {
@@ -105,7 +105,7 @@ static double measure(const struct workload *workload) {
 
 int main(void) {
     const hvpm_config config = {.mask = 0xf700000044, .pages = 2000, .pool = 1000, .vps = 1};
-    if (hvpm_boot(&machine, &config) != HVPM_DONE) return 1;
+    if (hvpm_boot(&machine, &config) != HVPM_STATUS_OK) return 1;
     set_up();
     printf("%-44s %10s %10s\n", "ns an event, least of 5", "no line", "a line");
     for (size_t i = 0; i < sizeof workloads / sizeof *workloads; i++) {

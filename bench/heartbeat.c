@@ -34,7 +34,7 @@ static void want(bool is_so) {
 }
 
 static void served(uint32_t status) {
-    want(status == HVPM_DONE && reply.kind <= HVPM_MORE);
+    want(status == HVPM_STATUS_OK && reply.kind <= HVPM_REPLY_MORE);
 }
 
 /* A signal, what it changes of pages, and the vectors that it raises: at the processor that the effect names. */
@@ -44,8 +44,8 @@ static void signal_event(const struct processor *from, uint32_t connection) {
     const hvpm_effect effect = reply.effect;
     for (uint32_t i = 0; i < count; i++) {
         struct processor *at = &processors[i];
-        want(hvpm_pages_after(&machine, &at->pages, &effect) == HVPM_DONE);
-        while (hvpm_pages_vector(&machine, &at->pages, &vector) == HVPM_DONE && vector != 0) at->injected = vector;
+        want(hvpm_pages_after(&machine, &at->pages, &effect) == HVPM_STATUS_OK);
+        while (hvpm_pages_vector(&machine, &at->pages, &vector) == HVPM_STATUS_OK && vector != 0) at->injected = vector;
     }
 }
 
@@ -69,7 +69,7 @@ static void turn_on(struct processor *at, hvpm_caller of) {
     memset(at, 0, sizeof *at);
     at->pages.of = of;
     for (size_t i = 0; i < 4; i++) served(hvpm_write_msr(&machine, of, msrs[i], values[i], &reply, NULL, 0));
-    want(hvpm_pages_move(&machine, &at->pages, at->memory[0], at->memory[1]) == HVPM_DONE);
+    want(hvpm_pages_move(&machine, &at->pages, at->memory[0], at->memory[1]) == HVPM_STATUS_OK);
 }
 
 /* A port of one event flag at a processor, and the connection to it, both with one id. */
@@ -84,7 +84,7 @@ static void set_up(uint32_t vps) {
     const hvpm_config config = {.mask = 0xf700000064, .pages = 1024, .pool = 256, .vps = 1};
     const hvpm_caller root = {1, 0};
     uint64_t guest = 0, pages[512];
-    want(hvpm_boot(&machine, &config) == HVPM_DONE);
+    want(hvpm_boot(&machine, &config) == HVPM_STATUS_OK);
     served(hvpm_create_partition(&machine, root, 0, &guest, &reply, NULL, 0));
     served(hvpm_set_partition_property(&machine, root, guest, HVPM_PRIVILEGE_FLAGS, 0x3000000064, &reply, NULL, 0));
     served(hvpm_initialize_partition(&machine, root, guest, &reply, NULL, 0));

@@ -89,19 +89,19 @@ static uint32_t happen(struct line *line, hvpm_reply *reply) {
     case CLEAR_FLAG: return hvpm_clear_flag(&machine, line->by, sint, (uint16_t)second, reply, NULL, 0);
     case TAKE_INTERRUPT: return hvpm_take_interrupt(&machine, line->by, reply, NULL, 0);
     }
-    return HVPM_NULL;
+    return HVPM_STATUS_NULL;
 }
 
 /* One pass over the script: nanoseconds an event, or less than 0 where one didn't happen. */
 static double pass(uint64_t *events, uint64_t *served) {
     struct timespec start, end;
     hvpm_reply reply;
-    if (hvpm_boot(&machine, &config) != HVPM_DONE) return -1;
+    if (hvpm_boot(&machine, &config) != HVPM_STATUS_OK) return -1;
     *served = 0;
     clock_gettime(CLOCK_PROCESS_CPUTIME_ID, &start);
     for (size_t i = 0; i < count; i++) {
-        if (happen(&lines[i], &reply) != HVPM_DONE) return -1;
-        *served += reply.kind == HVPM_SERVED;
+        if (happen(&lines[i], &reply) != HVPM_STATUS_OK) return -1;
+        *served += reply.kind == HVPM_REPLY_SERVED;
     }
     clock_gettime(CLOCK_PROCESS_CPUTIME_ID, &end);
     *events = machine.events;

@@ -5,15 +5,15 @@
  *
  *     hvpm_machine machine = HVPM_EMPTY;
  *     const hvpm_config config = {.mask = 0xf700000064, .pages = 32, .pool = 12, .vps = 1};
- *     if (hvpm_boot(&machine, &config) != HVPM_DONE) return 1;
+ *     if (hvpm_boot(&machine, &config) != HVPM_STATUS_OK) return 1;
  *     const hvpm_caller by = {.partition = 1, .vp = 0};
  *     const hvpm_registers registers = {.rcx = 0x46};             // HvGetPartitionId
  *     hvpm_reply reply;
- *     if (hvpm_hypercall(&machine, by, &registers, NULL, 0, &reply, NULL, 0) != HVPM_DONE) return 1;
- *     // reply.kind is HVPM_SERVED, reply.result is for RAX, and reply.output has 8 bytes: the partition's id, 1
+ *     if (hvpm_hypercall(&machine, by, &registers, NULL, 0, &reply, NULL, 0) != HVPM_STATUS_OK) return 1;
+ *     // reply.kind is HVPM_REPLY_SERVED, reply.result is for RAX, and reply.output has 8 bytes: the partition's id, 1
  *     hvpm_destroy(&machine);
  *
- * Each function answers a status. Where it is HVPM_DONE, it did what it says; else nothing changed: neither the machine nor the
+ * Each function answers a status. Where it is HVPM_STATUS_OK, it did what it says; else nothing changed: neither the machine nor the
  * reply nor the line. Which rules are asked of an event, and what a served one changes and answers, is docs/POLICY.md.
  *
  * A hypervisor hands its guests' hypercalls over by `hvpm_hypercall` or `hvpm_run`. For calls of its own the
@@ -94,10 +94,10 @@ typedef struct hvpm_effect {
 
 /* What an event is answered. */
 typedef struct hvpm_reply {
-    uint32_t kind;         /* HVPM_SERVED, HVPM_MORE, HVPM_DENIED or HVPM_FAULT */
+    uint32_t kind;         /* HVPM_REPLY_SERVED, HVPM_REPLY_MORE, HVPM_REPLY_DENIED or HVPM_REPLY_FAULT */
     uint32_t rule;         /* the number of the rule that refuses, 1 to 27, or 0 where the event was served */
     uint64_t result;       /* of a hypercall the result value for RAX; 0 of an access */
-    uint32_t next;         /* where the kind is HVPM_MORE the start index with which the call goes on; else 0 */
+    uint32_t next;         /* where the kind is HVPM_REPLY_MORE the start index with which the call goes on; else 0 */
     uint32_t output_len;   /* how many bytes of `output` the event put out; the bytes after them are of no meaning */
     uint32_t line_len;     /* how many bytes the audit's line has, with its line feed; 0 where no line was asked for */
     uint8_t output[256];
@@ -124,31 +124,31 @@ enum hvpm_flag_is { HVPM_FLAG_SET = 1, HVPM_FLAG_CLEARED = 2 };
 
 /* How an event was answered. Of the last two nothing changed but the count of events. */
 enum hvpm_kind {
-    HVPM_SERVED = 0, /* it is served; of a rep call this was the last element */
-    HVPM_MORE = 1,   /* this element is served, and the call goes on with the next */
-    HVPM_DENIED = 2, /* a hypercall that a rule refuses, with its status in `result` */
-    HVPM_FAULT = 3   /* an access that a rule refuses: a guest is given #GP */
+    HVPM_REPLY_SERVED = 0, /* it is served; of a rep call this was the last element */
+    HVPM_REPLY_MORE = 1,   /* this element is served, and the call goes on with the next */
+    HVPM_REPLY_DENIED = 2, /* a hypercall that a rule refuses, with its status in `result` */
+    HVPM_REPLY_FAULT = 3   /* an access that a rule refuses: a guest is given #GP */
 };
 
 /*
- * What a function answers. Of several causes it names the first in this order: HVPM_NULL, HVPM_EMPTY_HANDLE
- * or HVPM_OCCUPIED, HVPM_PAGES, HVPM_POOL, HVPM_VPS, HVPM_NONE, HVPM_SHORT, HVPM_USED_UP, HVPM_MEMORY. But a
- * hypercall may want memory before it is used up, and a text before its buffer is too short.
+ * What a function answers. Of several causes it names the first in this order: HVPM_STATUS_NULL, HVPM_STATUS_EMPTY
+ * or HVPM_STATUS_OCCUPIED, HVPM_STATUS_PAGES, HVPM_STATUS_POOL, HVPM_STATUS_VPS, HVPM_STATUS_NONE, HVPM_STATUS_SHORT, HVPM_STATUS_USED_UP, HVPM_STATUS_MEMORY. But a
+ * hypercall may need memory before it is used up, and a text before its buffer is too short.
  */
 enum hvpm_status {
-    HVPM_DONE = 0,
-    HVPM_EMPTY_HANDLE = 1, /* there is no machine in the handle */
-    HVPM_OCCUPIED = 2,     /* boot: there is one already */
-    HVPM_SHORT = 3,        /* the line's buffer has bytes, but fewer than HVPM_LINE; or that for outputs fewer
+    HVPM_STATUS_OK = 0,
+    HVPM_STATUS_EMPTY = 1, /* there is no machine in the handle */
+    HVPM_STATUS_OCCUPIED = 2,     /* boot: there is one already */
+    HVPM_STATUS_SHORT = 3,        /* the line's buffer has bytes, but fewer than HVPM_LINE; or that for outputs fewer
                               than HVPM_OUTPUT; or that for a text fewer than the text */
-    HVPM_USED_UP = 4,      /* the machine took 2^64 - 1 events: it takes no more */
-    HVPM_MEMORY = 5,       /* malloc has no memory for it; it may be tried again. No access answers this, and no
+    HVPM_STATUS_USED_UP = 4,      /* the machine took 2^64 - 1 events: it takes no more */
+    HVPM_STATUS_MEMORY = 5,       /* malloc has no memory for it; it may be tried again. No access answers this, and no
                               look but `hvpm_table` */
-    HVPM_PAGES = 6,        /* boot: no pages, or more than 65,536 */
-    HVPM_POOL = 7,         /* boot: more pooled pages than pages */
-    HVPM_VPS = 8,          /* boot: no processors, more than 64, or more than the pool pays for */
-    HVPM_NULL = 9,         /* a pointer is null: of a struct or number, or of a buffer whose length isn't 0 */
-    HVPM_NONE = 10         /* a look: there is no such partition, processor, SINT, register, port, connection or
+    HVPM_STATUS_PAGES = 6,        /* boot: no pages, or more than 65,536 */
+    HVPM_STATUS_POOL = 7,         /* boot: more pooled pages than pages */
+    HVPM_STATUS_VPS = 8,          /* boot: no processors, more than 64, or more than the pool pays for */
+    HVPM_STATUS_NULL = 9,         /* a pointer is null: of a struct or number, or of a buffer whose length isn't 0 */
+    HVPM_STATUS_NONE = 10         /* a look: there is no such partition, processor, SINT, register, port, connection or
                               page. `hvpm_access_line`: there is no such access */
 };
 
@@ -256,7 +256,7 @@ static inline uint64_t hvpm_number(const uint8_t *at) {
 
 /* Where the event is done and put a number out, `value` takes it. Answers the event's status. */
 static inline uint32_t hvpm_put_out(uint32_t status, const hvpm_reply *reply, uint64_t *value) {
-    if (status == HVPM_DONE && reply->output_len >= 8) *value = hvpm_number(reply->output);
+    if (status == HVPM_STATUS_OK && reply->output_len >= 8) *value = hvpm_number(reply->output);
     return status;
 }
 
@@ -265,7 +265,7 @@ static inline uint32_t hvpm_put_out(uint32_t status, const hvpm_reply *reply, ui
  * configuration.
  */
 static inline uint32_t hvpm_boot(hvpm_machine *machine, const hvpm_config *config) {
-    return machine && config ? hv_embed_boot(machine, config) : (uint32_t)HVPM_NULL;
+    return machine && config ? hv_embed_boot(machine, config) : (uint32_t)HVPM_STATUS_NULL;
 }
 
 /* Ends the machine, if there is one, gives its memory back, and leaves the handle empty. */
@@ -277,13 +277,13 @@ static inline void hvpm_destroy(hvpm_machine *machine) {
  * Takes one hypercall of a processor: a simple call, or the element at its start index of a rep call. The input is the bytes of
  * the input list, from the guest's memory at RDX on; those that are missing at the end read as zero, those past the list's
  * length aren't read, and a fast call's aren't either. The output of a call, at most 16 bytes, is for the guest's memory at R8.
- * Where the kind is HVPM_MORE, the caller goes on with `hvpm_next`, now or when the guest calls again.
+ * Where the kind is HVPM_REPLY_MORE, the caller goes on with `hvpm_next`, now or when the guest calls again.
  *
  * `line` takes the audit's line of the event, `line_size` bytes at most, of which HVPM_LINE do; null and 0 ask for none.
  */
 static inline uint32_t hvpm_hypercall(hvpm_machine *machine, hvpm_caller by, const hvpm_registers *registers, const void *input,
                                       size_t input_len, hvpm_reply *reply, char *line, size_t line_size) {
-    if (hvpm_lacks(machine, reply, line, line_size) || !registers || (!input && input_len != 0)) return HVPM_NULL;
+    if (hvpm_lacks(machine, reply, line, line_size) || !registers || (!input && input_len != 0)) return HVPM_STATUS_NULL;
     return hv_embed_hypercall(machine, by, registers, hvpm_or_none(input, input_len), input_len, reply,
                               hvpm_or_none(line, line_size), line_size);
 }
@@ -293,22 +293,22 @@ static inline uint32_t hvpm_hypercall(hvpm_machine *machine, hvpm_caller by, con
  * last, or to one that a rule refuses; or to one whose effect is neither HVPM_EFFECT_NOTHING nor HVPM_EFFECT_PAGE; or until fewer than HVPM_OUTPUT bytes of `outputs` are left, the machine takes no more
  * events, or malloc has no memory for the next element, which then didn't happen. It is the same as to call `hvpm_hypercall` and
  * `hvpm_next` again and again, in half the time: the input list is copied once. The reply is that of the last element that was
- * taken; where its kind is HVPM_MORE, the caller goes on with `hvpm_next`. `outputs` takes what the elements put out, for the guest's
+ * taken; where its kind is HVPM_REPLY_MORE, the caller goes on with `hvpm_next`. `outputs` takes what the elements put out, for the guest's
  * memory at R8, from that of the first one on. No line of the audit is handed back: who wants one takes the elements one by one.
  *
  * The reply's effect is that of the last element that was taken. The elements before it changed at most whose some pages are, and
  * these the list or the outputs name.
  *
- * HVPM_SHORT says that `outputs` has fewer than HVPM_OUTPUT bytes. Bytes of it past `done->output_len` are of no meaning.
+ * HVPM_STATUS_SHORT says that `outputs` has fewer than HVPM_OUTPUT bytes. Bytes of it past `done->output_len` are of no meaning.
  */
 static inline uint32_t hvpm_run(hvpm_machine *machine, hvpm_caller by, const hvpm_registers *registers, const void *input,
                                 size_t input_len, hvpm_reply *reply, void *outputs, size_t outputs_size, hvpm_run_done *done) {
-    if (hvpm_lacks(machine, reply, outputs, outputs_size) || !registers || !done || (!input && input_len != 0)) return HVPM_NULL;
+    if (hvpm_lacks(machine, reply, outputs, outputs_size) || !registers || !done || (!input && input_len != 0)) return HVPM_STATUS_NULL;
     return hv_embed_run(machine, by, registers, hvpm_or_none(input, input_len), input_len, reply,
                         hvpm_or_none(outputs, outputs_size), outputs_size, done);
 }
 
-/* RCX of the element with which a call goes on after a reply whose kind is HVPM_MORE. */
+/* RCX of the element with which a call goes on after a reply whose kind is HVPM_REPLY_MORE. */
 static inline uint64_t hvpm_next(uint64_t rcx, const hvpm_reply *reply) {
     return (rcx & ~(UINT64_C(0xFFF) << 48)) | (uint64_t)reply->next << 48;
 }
@@ -316,56 +316,56 @@ static inline uint64_t hvpm_next(uint64_t rcx, const hvpm_reply *reply) {
 /* Reads a model-specific register of the processor. It puts out 8 bytes, the lowest first. */
 static inline uint32_t hvpm_read_msr(hvpm_machine *machine, hvpm_caller by, uint32_t msr, hvpm_reply *reply, char *line,
                                      size_t line_size) {
-    if (hvpm_lacks(machine, reply, line, line_size)) return HVPM_NULL;
+    if (hvpm_lacks(machine, reply, line, line_size)) return HVPM_STATUS_NULL;
     return hv_embed_read_msr(machine, by, msr, reply, hvpm_or_none(line, line_size), line_size);
 }
 
 /* Reads one as `hvpm_read_msr` does. If that is served, `value` takes the register's value. */
 static inline uint32_t hvpm_read_msr_value(hvpm_machine *machine, hvpm_caller by, uint32_t msr,
                                            uint64_t *value, hvpm_reply *reply, char *line, size_t line_size) {
-    if (!value) return HVPM_NULL;
+    if (!value) return HVPM_STATUS_NULL;
     return hvpm_put_out(hvpm_read_msr(machine, by, msr, reply, line, line_size), reply, value);
 }
 
 /* Writes a value to one. It puts nothing out. A write of EOM may show messages and raise vectors. */
 static inline uint32_t hvpm_write_msr(hvpm_machine *machine, hvpm_caller by, uint32_t msr, uint64_t value, hvpm_reply *reply,
                                       char *line, size_t line_size) {
-    if (hvpm_lacks(machine, reply, line, line_size)) return HVPM_NULL;
+    if (hvpm_lacks(machine, reply, line, line_size)) return HVPM_STATUS_NULL;
     return hv_embed_write_msr(machine, by, msr, value, reply, hvpm_or_none(line, line_size), line_size);
 }
 
 /* Reads the message slot of a SINT of the processor. It puts out 256 bytes, all zero where no message is shown. */
 static inline uint32_t hvpm_read_slot(hvpm_machine *machine, hvpm_caller by, uint8_t sint, hvpm_reply *reply, char *line,
                                       size_t line_size) {
-    if (hvpm_lacks(machine, reply, line, line_size)) return HVPM_NULL;
+    if (hvpm_lacks(machine, reply, line, line_size)) return HVPM_STATUS_NULL;
     return hv_embed_read_slot(machine, by, sint, reply, hvpm_or_none(line, line_size), line_size);
 }
 
 /* Removes the message that a SINT of the processor shows. The next one is shown by EOM or by a post. It puts nothing out. */
 static inline uint32_t hvpm_clear_slot(hvpm_machine *machine, hvpm_caller by, uint8_t sint, hvpm_reply *reply, char *line,
                                        size_t line_size) {
-    if (hvpm_lacks(machine, reply, line, line_size)) return HVPM_NULL;
+    if (hvpm_lacks(machine, reply, line, line_size)) return HVPM_STATUS_NULL;
     return hv_embed_clear_slot(machine, by, sint, reply, hvpm_or_none(line, line_size), line_size);
 }
 
 /* Reads the event flags of a SINT of the processor. It puts out 256 bytes; flag F is bit F % 8 of byte F / 8. */
 static inline uint32_t hvpm_read_flags(hvpm_machine *machine, hvpm_caller by, uint8_t sint, hvpm_reply *reply, char *line,
                                        size_t line_size) {
-    if (hvpm_lacks(machine, reply, line, line_size)) return HVPM_NULL;
+    if (hvpm_lacks(machine, reply, line, line_size)) return HVPM_STATUS_NULL;
     return hv_embed_read_flags(machine, by, sint, reply, hvpm_or_none(line, line_size), line_size);
 }
 
 /* Clears an event flag of a SINT of the processor. It puts nothing out. */
 static inline uint32_t hvpm_clear_flag(hvpm_machine *machine, hvpm_caller by, uint8_t sint, uint16_t flag, hvpm_reply *reply,
                                        char *line, size_t line_size) {
-    if (hvpm_lacks(machine, reply, line, line_size)) return HVPM_NULL;
+    if (hvpm_lacks(machine, reply, line, line_size)) return HVPM_STATUS_NULL;
     return hv_embed_clear_flag(machine, by, sint, flag, reply, hvpm_or_none(line, line_size), line_size);
 }
 
 /* Takes the highest vector that is pending at the processor. It puts out one byte: the vector, or 0 where none is. */
 static inline uint32_t hvpm_take_interrupt(hvpm_machine *machine, hvpm_caller by, hvpm_reply *reply, char *line,
                                            size_t line_size) {
-    if (hvpm_lacks(machine, reply, line, line_size)) return HVPM_NULL;
+    if (hvpm_lacks(machine, reply, line, line_size)) return HVPM_STATUS_NULL;
     return hv_embed_take_interrupt(machine, by, reply, hvpm_or_none(line, line_size), line_size);
 }
 
@@ -378,13 +378,13 @@ static inline uint32_t hvpm_take_interrupt(hvpm_machine *machine, hvpm_caller by
  * What a call puts out goes where its other pointers lead, if it is served; else nothing is written there.
  *
  * The four rep calls take one element of `count`, that at `start`. They begin with 0, and go on with
- * `reply->next` while the kind is HVPM_MORE:
+ * `reply->next` while the kind is HVPM_REPLY_MORE:
  *
  *     uint16_t at = 0;
  *     do {
- *         if (hvpm_deposit_memory(&machine, by, child, pages, 5, at, &reply, NULL, 0) != HVPM_DONE) return 1;
+ *         if (hvpm_deposit_memory(&machine, by, child, pages, 5, at, &reply, NULL, 0) != HVPM_STATUS_OK) return 1;
  *         at = (uint16_t)reply.next;
- *     } while (reply.kind == HVPM_MORE);
+ *     } while (reply.kind == HVPM_REPLY_MORE);
  */
 
 /* In place of a partition's id: the caller's own. */
@@ -442,7 +442,7 @@ static inline uint32_t hvpm_create_partition(hvpm_machine *machine, hvpm_caller 
                                              uint64_t *partition, hvpm_reply *reply, char *line,
                                              size_t line_size) {
     uint8_t input[8];
-    if (!partition) return HVPM_NULL;
+    if (!partition) return HVPM_STATUS_NULL;
     hvpm_put(input, flags, 8);
     const uint32_t status = hvpm_call(machine, by, 0x40, input, sizeof input, reply, line, line_size);
     return hvpm_put_out(status, reply, partition);
@@ -471,7 +471,7 @@ static inline uint32_t hvpm_get_partition_property(hvpm_machine *machine, hvpm_c
                                                    uint32_t property, uint64_t *value, hvpm_reply *reply,
                                                    char *line, size_t line_size) {
     uint8_t input[16] = {0};
-    if (!value) return HVPM_NULL;
+    if (!value) return HVPM_STATUS_NULL;
     hvpm_put(input, partition, 8);
     hvpm_put(input + 8, property, 4);
     const uint32_t status = hvpm_call(machine, by, 0x44, input, sizeof input, reply, line, line_size);
@@ -492,7 +492,7 @@ static inline uint32_t hvpm_set_partition_property(hvpm_machine *machine, hvpm_c
 /* HvGetPartitionId. `partition` takes the caller's own id. */
 static inline uint32_t hvpm_get_partition_id(hvpm_machine *machine, hvpm_caller by, uint64_t *partition,
                                              hvpm_reply *reply, char *line, size_t line_size) {
-    if (!partition) return HVPM_NULL;
+    if (!partition) return HVPM_STATUS_NULL;
     return hvpm_put_out(hvpm_call(machine, by, 0x46, NULL, 0, reply, line, line_size), reply, partition);
 }
 
@@ -501,7 +501,7 @@ static inline uint32_t hvpm_get_next_child_partition(hvpm_machine *machine, hvpm
                                                      uint64_t previous, uint64_t *child, hvpm_reply *reply,
                                                      char *line, size_t line_size) {
     uint8_t input[16];
-    if (!child) return HVPM_NULL;
+    if (!child) return HVPM_STATUS_NULL;
     hvpm_put(input, parent, 8);
     hvpm_put(input + 8, previous, 8);
     const uint32_t status = hvpm_call(machine, by, 0x47, input, sizeof input, reply, line, line_size);
@@ -514,7 +514,7 @@ static inline uint32_t hvpm_deposit_memory(hvpm_machine *machine, hvpm_caller by
                                            hvpm_reply *reply, char *line, size_t line_size) {
     uint8_t input[4096];
     const size_t room = hvpm_room(count, 8, 8);
-    if (!pages && count != 0) return HVPM_NULL;
+    if (!pages && count != 0) return HVPM_STATUS_NULL;
     hvpm_put(input, partition, 8);
     for (size_t i = 0; i < room; i++) hvpm_put(input + 8 + 8 * i, pages[i], 8);
     return hvpm_call(machine, by, hvpm_rep(0x48, count, start), input, 8 + 8 * room, reply, line, line_size);
@@ -525,7 +525,7 @@ static inline uint32_t hvpm_withdraw_memory(hvpm_machine *machine, hvpm_caller b
                                             uint64_t *pages, uint16_t count, uint16_t start,
                                             hvpm_reply *reply, char *line, size_t line_size) {
     uint8_t input[8];
-    if (!pages && count != 0) return HVPM_NULL;
+    if (!pages && count != 0) return HVPM_STATUS_NULL;
     hvpm_put(input, partition, 8);
     const uint64_t rcx = hvpm_rep(0x49, count, start);
     const uint32_t status = hvpm_call(machine, by, rcx, input, sizeof input, reply, line, line_size);
@@ -537,10 +537,10 @@ static inline uint32_t hvpm_get_memory_balance(hvpm_machine *machine, hvpm_calle
                                                uint64_t *available, uint64_t *in_use, hvpm_reply *reply,
                                                char *line, size_t line_size) {
     uint8_t input[8];
-    if (!available || !in_use) return HVPM_NULL;
+    if (!available || !in_use) return HVPM_STATUS_NULL;
     hvpm_put(input, partition, 8);
     const uint32_t status = hvpm_call(machine, by, 0x4A, input, sizeof input, reply, line, line_size);
-    if (status == HVPM_DONE && reply->output_len >= 16) *in_use = hvpm_number(reply->output + 8);
+    if (status == HVPM_STATUS_OK && reply->output_len >= 16) *in_use = hvpm_number(reply->output + 8);
     return hvpm_put_out(status, reply, available);
 }
 
@@ -563,7 +563,7 @@ static inline uint32_t hvpm_get_vp_registers(hvpm_machine *machine, hvpm_caller 
                                              size_t line_size) {
     uint8_t input[4096] = {0};
     const size_t room = hvpm_room(count, 16, 4);
-    if (!registers && count != 0) return HVPM_NULL;
+    if (!registers && count != 0) return HVPM_STATUS_NULL;
     hvpm_put(input, partition, 8);
     hvpm_put(input + 8, vp, 4);
     for (size_t i = 0; i < room; i++) hvpm_put(input + 16 + 4 * i, registers[i].name, 4);
@@ -579,7 +579,7 @@ static inline uint32_t hvpm_set_vp_registers(hvpm_machine *machine, hvpm_caller 
                                              size_t line_size) {
     uint8_t input[4096] = {0};
     const size_t room = hvpm_room(count, 16, 32);
-    if (!registers && count != 0) return HVPM_NULL;
+    if (!registers && count != 0) return HVPM_STATUS_NULL;
     hvpm_put(input, partition, 8);
     hvpm_put(input + 8, vp, 4);
     for (size_t i = 0; i < room; i++) {
@@ -608,7 +608,7 @@ static inline uint32_t hvpm_post_message(hvpm_machine *machine, hvpm_caller by, 
                                          uint32_t type, const void *payload, uint32_t payload_size,
                                          hvpm_reply *reply, char *line, size_t line_size) {
     uint8_t input[256] = {0};
-    if (!payload && payload_size != 0) return HVPM_NULL;
+    if (!payload && payload_size != 0) return HVPM_STATUS_NULL;
     hvpm_put(input, connection, 4);
     hvpm_put(input + 8, type, 4);
     hvpm_put(input + 12, payload_size, 4);
@@ -626,7 +626,7 @@ static inline uint32_t hvpm_signal_event(hvpm_machine *machine, hvpm_caller by, 
 static inline uint32_t hvpm_create_port(hvpm_machine *machine, hvpm_caller by, const hvpm_port *port,
                                         hvpm_reply *reply, char *line, size_t line_size) {
     uint8_t input[48] = {0};
-    if (!port) return HVPM_NULL;
+    if (!port) return HVPM_STATUS_NULL;
     hvpm_put(input, port->partition, 8);
     hvpm_put(input + 8, port->id, 4);
     hvpm_put(input + 16, port->peer, 8);
@@ -643,7 +643,7 @@ static inline uint32_t hvpm_connect_port(hvpm_machine *machine, hvpm_caller by,
                                          const hvpm_connection *connection, hvpm_reply *reply, char *line,
                                          size_t line_size) {
     uint8_t input[48] = {0};
-    if (!connection) return HVPM_NULL;
+    if (!connection) return HVPM_STATUS_NULL;
     hvpm_put(input, connection->partition, 8);
     hvpm_put(input + 8, connection->id, 4);
     hvpm_put(input + 16, connection->port_partition, 8);
@@ -657,7 +657,7 @@ static inline uint32_t hvpm_connect_port(hvpm_machine *machine, hvpm_caller by,
  * takes no memory, but for `hvpm_table`. It changes nothing, but one call at a time uses a handle, and a look is
  * a call.
  *
- * The answer is HVPM_DONE where it shows something, and HVPM_NONE where there is no such partition, processor
+ * The answer is HVPM_STATUS_OK where it shows something, and HVPM_STATUS_NONE where there is no such partition, processor
  * or whatever else it names; then nothing is written. `of` is any virtual processor, also one whose partition
  * isn't Active.
  */
@@ -669,49 +669,49 @@ static inline hvpm_machine *hvpm_seen(const hvpm_machine *machine) {
 
 /* The message slot of a SINT of a processor: the 256 bytes that `hvpm_read_slot` would put out. */
 static inline uint32_t hvpm_peek_slot(const hvpm_machine *machine, hvpm_caller of, uint8_t sint, uint8_t out[256]) {
-    return machine && out ? hv_embed_peek_slot(hvpm_seen(machine), of, sint, out) : (uint32_t)HVPM_NULL;
+    return machine && out ? hv_embed_peek_slot(hvpm_seen(machine), of, sint, out) : (uint32_t)HVPM_STATUS_NULL;
 }
 
 /* The event flags of a SINT of a processor: the 256 bytes that `hvpm_read_flags` would put out. */
 static inline uint32_t hvpm_peek_flags(const hvpm_machine *machine, hvpm_caller of, uint8_t sint, uint8_t out[256]) {
-    return machine && out ? hv_embed_peek_flags(hvpm_seen(machine), of, sint, out) : (uint32_t)HVPM_NULL;
+    return machine && out ? hv_embed_peek_flags(hvpm_seen(machine), of, sint, out) : (uint32_t)HVPM_STATUS_NULL;
 }
 
 /* A model-specific register of a processor: the value that `hvpm_read_msr` would put out. */
 static inline uint32_t hvpm_peek_msr(const hvpm_machine *machine, hvpm_caller of, uint32_t msr, uint64_t *value) {
-    return machine && value ? hv_embed_peek_msr(hvpm_seen(machine), of, msr, value) : (uint32_t)HVPM_NULL;
+    return machine && value ? hv_embed_peek_msr(hvpm_seen(machine), of, msr, value) : (uint32_t)HVPM_STATUS_NULL;
 }
 
 /* The vectors that are pending at a processor: vector v is bit v % 64 of pending[v / 64]. */
 static inline uint32_t hvpm_peek_pending(const hvpm_machine *machine, hvpm_caller of, uint64_t pending[4]) {
-    return machine && pending ? hv_embed_peek_pending(hvpm_seen(machine), of, pending) : (uint32_t)HVPM_NULL;
+    return machine && pending ? hv_embed_peek_pending(hvpm_seen(machine), of, pending) : (uint32_t)HVPM_STATUS_NULL;
 }
 
 /* A partition: what it is, and how much it has. */
 static inline uint32_t hvpm_peek_partition(const hvpm_machine *machine, uint64_t id, hvpm_partition *out) {
-    return machine && out ? hv_embed_peek_partition(hvpm_seen(machine), id, out) : (uint32_t)HVPM_NULL;
+    return machine && out ? hv_embed_peek_partition(hvpm_seen(machine), id, out) : (uint32_t)HVPM_STATUS_NULL;
 }
 
 /* A port of a partition. */
 static inline uint32_t hvpm_peek_port(const hvpm_machine *machine, uint64_t partition, uint32_t id, hvpm_port *out) {
-    return machine && out ? hv_embed_peek_port(hvpm_seen(machine), partition, id, out) : (uint32_t)HVPM_NULL;
+    return machine && out ? hv_embed_peek_port(hvpm_seen(machine), partition, id, out) : (uint32_t)HVPM_STATUS_NULL;
 }
 
 /* A connection of a partition. Its port may be gone. */
 static inline uint32_t hvpm_peek_connection(const hvpm_machine *machine, uint64_t partition, uint32_t id,
                                             hvpm_connection *out) {
-    return machine && out ? hv_embed_peek_connection(hvpm_seen(machine), partition, id, out) : (uint32_t)HVPM_NULL;
+    return machine && out ? hv_embed_peek_connection(hvpm_seen(machine), partition, id, out) : (uint32_t)HVPM_STATUS_NULL;
 }
 
 /* The child of a partition after `previous`, 0 if there is none; 0 is before all. They stand by rising id. */
 static inline uint32_t hvpm_child_after(const hvpm_machine *machine, uint64_t parent, uint64_t previous,
                                         uint64_t *child) {
-    return machine && child ? hv_embed_child_after(hvpm_seen(machine), parent, previous, child) : (uint32_t)HVPM_NULL;
+    return machine && child ? hv_embed_child_after(hvpm_seen(machine), parent, previous, child) : (uint32_t)HVPM_STATUS_NULL;
 }
 
 /* The partition that has a page, pooled or not. It takes time for each id that a partition ever had. */
 static inline uint32_t hvpm_page_owner(const hvpm_machine *machine, uint64_t page, uint64_t *owner) {
-    return machine && owner ? hv_embed_page_owner(hvpm_seen(machine), page, owner) : (uint32_t)HVPM_NULL;
+    return machine && owner ? hv_embed_page_owner(hvpm_seen(machine), page, owner) : (uint32_t)HVPM_STATUS_NULL;
 }
 
 /*
@@ -719,16 +719,16 @@ static inline uint32_t hvpm_page_owner(const hvpm_machine *machine, uint64_t pag
  * privilege mask, and zeros.
  */
 static inline uint32_t hvpm_features(const hvpm_machine *machine, uint64_t partition, uint32_t eax_to_edx[4]) {
-    return machine && eax_to_edx ? hv_embed_features(hvpm_seen(machine), partition, eax_to_edx) : (uint32_t)HVPM_NULL;
+    return machine && eax_to_edx ? hv_embed_features(hvpm_seen(machine), partition, eax_to_edx) : (uint32_t)HVPM_STATUS_NULL;
 }
 
 /*
  * The table of the partitions, as `hvpm run --table` prints it, without a zero at its end. `len` takes its
- * length. Where `text_size` is less, the status is HVPM_SHORT, and no byte of `text` is written; null and 0 ask
- * for the length alone. Where the status is HVPM_MEMORY, `len` isn't written either.
+ * length. Where `text_size` is less, the status is HVPM_STATUS_SHORT, and no byte of `text` is written; null and 0 ask
+ * for the length alone. Where the status is HVPM_STATUS_MEMORY, `len` isn't written either.
  */
 static inline uint32_t hvpm_table(const hvpm_machine *machine, char *text, size_t text_size, size_t *len) {
-    if (!machine || !len || (!text && text_size != 0)) return HVPM_NULL;
+    if (!machine || !len || (!text && text_size != 0)) return HVPM_STATUS_NULL;
     return hv_embed_table(hvpm_seen(machine), hvpm_or_none(text, text_size), text_size, len);
 }
 
@@ -761,8 +761,8 @@ static inline bool hvpm_is_call(uint16_t code) {
  * the audit's lines.
  *
  * Neither function uses a machine, and both take memory. `len` takes how many bytes the line has. Where
- * `text_size` is less, the status is HVPM_SHORT, and no byte of `text` is written. Where the status is
- * HVPM_MEMORY or HVPM_NONE, `len` isn't written either.
+ * `text_size` is less, the status is HVPM_STATUS_SHORT, and no byte of `text` is written. Where the status is
+ * HVPM_STATUS_MEMORY or HVPM_STATUS_NONE, `len` isn't written either.
  */
 
 /* A buffer of so many bytes has room for the line of every access, and of every hypercall without input. */
@@ -777,7 +777,7 @@ static inline bool hvpm_is_call(uint16_t code) {
  */
 static inline uint32_t hvpm_hypercall_line(hvpm_caller by, const hvpm_registers *registers, const void *input,
                                            size_t input_len, char *text, size_t text_size, size_t *len) {
-    if (!registers || !len || (!input && input_len != 0) || (!text && text_size != 0)) return HVPM_NULL;
+    if (!registers || !len || (!input && input_len != 0) || (!text && text_size != 0)) return HVPM_STATUS_NULL;
     return hv_embed_hypercall_line(by, registers, hvpm_or_none(input, input_len), input_len,
                                    hvpm_or_none(text, text_size), text_size, len);
 }
@@ -796,7 +796,7 @@ enum hvpm_access {
 /* The line of an access, as `hvpm_read_msr` and the functions beside it take it. What it doesn't name is ignored. */
 static inline uint32_t hvpm_access_line(hvpm_caller by, uint32_t access, uint32_t number, uint64_t value, char *text,
                                         size_t text_size, size_t *len) {
-    if (!len || (!text && text_size != 0)) return HVPM_NULL;
+    if (!len || (!text && text_size != 0)) return HVPM_STATUS_NULL;
     return hv_embed_access_line(by, access, number, value, hvpm_or_none(text, text_size), text_size, len);
 }
 

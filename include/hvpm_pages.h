@@ -7,9 +7,9 @@
  *     hvpm_hypercall(&machine, ..., &reply, ...);     // what the guest exited for, or hvpm_write_msr
  *     hvpm_pages_move(&machine, p, messages, flags);  // only after a write of SIMP or SIEFP
  *     hvpm_pages_after(&machine, p, &reply.effect);   // after each event; each p, or the one that the effect names
- *     while (hvpm_pages_vector(&machine, p, &vector) == HVPM_DONE && vector != 0) inject(p, vector);
+ *     while (hvpm_pages_vector(&machine, p, &vector) == HVPM_STATUS_OK && vector != 0) inject(p, vector);
  *
- * A function answers HVPM_DONE, or the first other status that the library gave it.
+ * A function answers HVPM_STATUS_OK, or the first other status that the library gave it.
  */
 #ifndef HVPM_PAGES_H
 #define HVPM_PAGES_H
@@ -51,7 +51,7 @@ static inline uint32_t hvpm_pages_make(hvpm_machine *machine, hvpm_pages *pages,
         : event == HVPM_CLEAR_SLOT ? hvpm_clear_slot(machine, pages->of, sint, reply, line, size)
         : event == HVPM_CLEAR_FLAG ? hvpm_clear_flag(machine, pages->of, sint, (uint16_t)value, reply, line, size)
                                    : hvpm_take_interrupt(machine, pages->of, reply, line, size);
-    if (status == HVPM_DONE && pages->record) pages->record(pages->context, pages->of, event, number, value, reply, line);
+    if (status == HVPM_STATUS_OK && pages->record) pages->record(pages->context, pages->of, event, number, value, reply, line);
     return status;
 }
 
@@ -64,11 +64,11 @@ static inline uint32_t hvpm_pages_before(hvpm_machine *machine, hvpm_pages *page
     for (uint32_t sint = 0; pages->messages && sint < 16; sint++) {
         if (!(pages->shown >> sint & 1) || __atomic_load_n(&pages->messages[sint].type, __ATOMIC_SEQ_CST) != 0) continue;
         const uint32_t status = hvpm_pages_make(machine, pages, HVPM_CLEAR_SLOT, sint, 0, &reply);
-        if (status != HVPM_DONE) return status;
+        if (status != HVPM_STATUS_OK) return status;
         pages->shown &= (uint16_t)~(1u << sint);
         pages->freed = true;
     }
-    return HVPM_DONE;
+    return HVPM_STATUS_OK;
 }
 
 /* Writes what the library shows into slots of the page. The guest has freed them, or else it would show what it did before. */
@@ -79,7 +79,7 @@ static inline uint32_t hvpm_pages_show(hvpm_machine *machine, hvpm_pages *pages,
         hvpm_slot *const slot = &pages->messages[sint];
         if (!(sints >> sint & 1)) continue;
         const uint32_t status = hvpm_peek_slot(machine, pages->of, (uint8_t)sint, bytes);
-        if (status != HVPM_DONE) return status;
+        if (status != HVPM_STATUS_OK) return status;
         memcpy(&type, bytes, sizeof type);
         if (type != 0) {
             slot->size = bytes[4];
@@ -91,7 +91,7 @@ static inline uint32_t hvpm_pages_show(hvpm_machine *machine, hvpm_pages *pages,
         __atomic_store_n(&slot->type, type, __ATOMIC_RELEASE);
         pages->shown = (uint16_t)((pages->shown & ~(1u << sint)) | (uint32_t)(type != 0) << sint);
     }
-    return HVPM_DONE;
+    return HVPM_STATUS_OK;
 }
 
 /*
@@ -107,30 +107,30 @@ static inline uint32_t hvpm_pages_flag(hvpm_machine *machine, hvpm_pages *pages,
 /* Brings the pages up to date after an event. An effect that doesn't name their processor does nothing. */
 static inline uint32_t hvpm_pages_after(hvpm_machine *machine, hvpm_pages *pages, const hvpm_effect *effect) {
     const bool is_all = effect->kind == HVPM_EFFECT_PARTITION, is_new = is_all || effect->kind == HVPM_EFFECT_PROCESSOR;
-    if (!is_new && effect->kind != HVPM_EFFECT_SYNIC) return HVPM_DONE;
-    if (effect->partition != pages->of.partition || (!is_all && effect->vp != pages->of.vp)) return HVPM_DONE;
+    if (!is_new && effect->kind != HVPM_EFFECT_SYNIC) return HVPM_STATUS_OK;
+    if (effect->partition != pages->of.partition || (!is_all && effect->vp != pages->of.vp)) return HVPM_STATUS_OK;
     if (is_new) { /* the processor is gone, or its registers are at their start, with SIMP and SIEFP off */
         pages->messages = NULL, pages->flags = NULL, pages->shown = 0, pages->freed = true;
         memset(pages->raised, 0, sizeof pages->raised);
-        return HVPM_DONE;
+        return HVPM_STATUS_OK;
     }
     for (size_t i = 0; i < 4; i++) pages->raised[i] |= effect->raised[i];
     pages->freed |= effect->freed != 0;
-    uint32_t status = HVPM_DONE;
+    uint32_t status = HVPM_STATUS_OK;
     if (pages->flags && effect->flag_is == HVPM_FLAG_SET)
         status = hvpm_pages_flag(machine, pages, effect->flag_sint, effect->flag);
-    if (status == HVPM_DONE) status = hvpm_pages_show(machine, pages, effect->shown);
+    if (status == HVPM_STATUS_OK) status = hvpm_pages_show(machine, pages, effect->shown);
     const uint32_t waiting = pages->messages ? effect->waiting & pages->shown : 0;
-    if (status != HVPM_DONE || waiting == 0) return status;
+    if (status != HVPM_STATUS_OK || waiting == 0) return status;
     /* MessagePending may be set at any time: the guest looks for it after it has let the message go, and then writes EOM. */
     for (uint32_t sint = 0; sint < 16; sint++)
         if (waiting >> sint & 1) __atomic_fetch_or(&pages->messages[sint].flags, (uint8_t)1, __ATOMIC_SEQ_CST);
     /* If it let it go before, it may have looked too early and writes none. Then EOM is the VMM's to write. */
     status = hvpm_pages_before(machine, pages);
-    if (status != HVPM_DONE || (waiting & ~(uint32_t)pages->shown) == 0) return status;
+    if (status != HVPM_STATUS_OK || (waiting & ~(uint32_t)pages->shown) == 0) return status;
     hvpm_reply reply;
     status = hvpm_pages_make(machine, pages, HVPM_WRITE_MSR, 0x40000084, 0, &reply);
-    return status == HVPM_DONE ? hvpm_pages_after(machine, pages, &reply.effect) : status;
+    return status == HVPM_STATUS_OK ? hvpm_pages_after(machine, pages, &reply.effect) : status;
 }
 
 /*
@@ -141,17 +141,17 @@ static inline uint32_t hvpm_pages_after(hvpm_machine *machine, hvpm_pages *pages
 static inline uint32_t hvpm_pages_move(hvpm_machine *machine, hvpm_pages *pages, void *messages, void *flags) {
     uint8_t bytes[256], *const from = pages->flags, *const to = (uint8_t *)flags;
     uint32_t status = hvpm_pages_before(machine, pages); /* else a message that was let go is shown once more */
-    if (status == HVPM_DONE && messages != pages->messages) {
+    if (status == HVPM_STATUS_OK && messages != pages->messages) {
         pages->messages = (hvpm_slot *)messages, pages->shown = 0;
         if (messages) memset(messages, 0, 4096);
         status = hvpm_pages_show(machine, pages, 0xFFFF);
     }
-    if (status != HVPM_DONE || to == from) return status;
+    if (status != HVPM_STATUS_OK || to == from) return status;
     for (size_t i = 0; to && i < 4096; i++) to[i] = from ? __atomic_load_n(&from[i], __ATOMIC_RELAXED) : 0;
     pages->flags = to;
-    for (uint32_t at = 0; to && status == HVPM_DONE && at < 4096; at++) { /* what was set while there was no page */
+    for (uint32_t at = 0; to && status == HVPM_STATUS_OK && at < 4096; at++) { /* what was set while there was no page */
         if (at % 256 == 0) status = hvpm_peek_flags(machine, pages->of, (uint8_t)(at / 256), bytes);
-        for (uint32_t bit = 0; status == HVPM_DONE && bytes[at % 256] >> bit != 0; bit++)
+        for (uint32_t bit = 0; status == HVPM_STATUS_OK && bytes[at % 256] >> bit != 0; bit++)
             if (bytes[at % 256] >> bit & 1) status = hvpm_pages_flag(machine, pages, at / 256, at % 256 * 8 + bit);
     }
     return status;
@@ -164,13 +164,13 @@ static inline uint32_t hvpm_pages_move(hvpm_machine *machine, hvpm_pages *pages,
 static inline uint32_t hvpm_pages_vector(hvpm_machine *machine, hvpm_pages *pages, uint8_t *vector) {
     hvpm_reply reply;
     *vector = 0;
-    if ((pages->raised[0] | pages->raised[1] | pages->raised[2] | pages->raised[3]) == 0) return HVPM_DONE;
+    if ((pages->raised[0] | pages->raised[1] | pages->raised[2] | pages->raised[3]) == 0) return HVPM_STATUS_OK;
     const uint32_t status = hvpm_pages_make(machine, pages, HVPM_TAKE_INTERRUPT, 0, 0, &reply);
-    if (status != HVPM_DONE) return status;
-    *vector = reply.kind == HVPM_SERVED ? reply.output[0] : 0;
+    if (status != HVPM_STATUS_OK) return status;
+    *vector = reply.kind == HVPM_REPLY_SERVED ? reply.output[0] : 0;
     if (*vector == 0) memset(pages->raised, 0, sizeof pages->raised);
     pages->raised[*vector / 64] &= ~(UINT64_C(1) << *vector % 64);
-    return HVPM_DONE;
+    return HVPM_STATUS_OK;
 }
 
 #endif

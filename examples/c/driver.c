@@ -26,7 +26,7 @@ static size_t bytes_of(const char *word, uint8_t *bytes) {
 }
 
 static uint32_t put(uint32_t status, const hvpm_reply *reply, const char *line) {
-    if (status == HVPM_DONE) fwrite(line, 1, reply->line_len, stdout);
+    if (status == HVPM_STATUS_OK) fwrite(line, 1, reply->line_len, stdout);
     return status;
 }
 
@@ -39,7 +39,7 @@ static uint32_t call(hvpm_machine *machine, hvpm_caller by, char **words) {
     char line[HVPM_LINE];
     for (;;) {
         const uint32_t status = hvpm_hypercall(machine, by, &registers, input, input_len, &reply, line, sizeof line);
-        if (put(status, &reply, line) != HVPM_DONE || reply.kind != HVPM_MORE) return status;
+        if (put(status, &reply, line) != HVPM_STATUS_OK || reply.kind != HVPM_REPLY_MORE) return status;
         registers.rcx = hvpm_next(registers.rcx, &reply);
     }
 }
@@ -95,13 +95,13 @@ static uint32_t happen(hvpm_machine *machine, char **words) {
 static uint32_t run(FILE *script) {
     static char line[1 << 20];
     hvpm_machine machine = HVPM_EMPTY;
-    uint32_t status = HVPM_DONE;
-    while (status == HVPM_DONE && fgets(line, sizeof line, script)) {
+    uint32_t status = HVPM_STATUS_OK;
+    while (status == HVPM_STATUS_OK && fgets(line, sizeof line, script)) {
         char *words[8] = {NULL};
         const size_t count = words_of(line, words);
         if (count > 1) status = strcmp(words[0], "boot") == 0 ? boot(&machine, words) : happen(&machine, words);
     }
-    if (status == HVPM_DONE) printf("events %" PRIu64 "\n", machine.events);
+    if (status == HVPM_STATUS_OK) printf("events %" PRIu64 "\n", machine.events);
     hvpm_destroy(&machine);
     return status;
 }
@@ -109,9 +109,9 @@ static uint32_t run(FILE *script) {
 /* The driver's status for one of the library's, and what it tells then. */
 static int told(uint32_t status, char *text, size_t size) {
     static const char *const refused[] = {"pages", "pool", "vps"};
-    if (status == HVPM_DONE) return 0;
-    if (status >= HVPM_PAGES && status <= HVPM_VPS) {
-        snprintf(text, size, "boot refused: %s", refused[status - HVPM_PAGES]);
+    if (status == HVPM_STATUS_OK) return 0;
+    if (status >= HVPM_STATUS_PAGES && status <= HVPM_STATUS_VPS) {
+        snprintf(text, size, "boot refused: %s", refused[status - HVPM_STATUS_PAGES]);
         return 1;
     }
     snprintf(text, size, "status %" PRIu32, status);

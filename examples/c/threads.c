@@ -30,7 +30,7 @@ static struct {
 #define HAPPEN(text, call)                                                     \
     do {                                                                       \
         shared.status = (call);                                                \
-        if (shared.status == HVPM_DONE) {                                      \
+        if (shared.status == HVPM_STATUS_OK) {                                      \
             fprintf(shared.script, "1.%" PRIu32 " %s\n", by.vp, (text));       \
             fwrite(line, 1, reply.line_len, shared.audit);                     \
         }                                                                      \
@@ -91,7 +91,7 @@ static void *run(void *of) {
     for (bool goes_on = true; goes_on;) {
         self->random ^= self->random << 13, self->random ^= self->random >> 17, self->random ^= self->random << 5;
         pthread_mutex_lock(&shared.lock);
-        goes_on = shared.left > 0 && shared.status == HVPM_DONE;
+        goes_on = shared.left > 0 && shared.status == HVPM_STATUS_OK;
         if (goes_on) {
             shared.left--;
             self->done++;
@@ -135,7 +135,7 @@ int main(int argc, char **argv) {
     shared.left = strtoull(argv[1], NULL, 10);
     shared.script = fopen(argv[3], "w");
     shared.audit = fopen(argv[4], "w");
-    if (!shared.script || !shared.audit || hvpm_boot(&shared.machine, &config) != HVPM_DONE) return 3;
+    if (!shared.script || !shared.audit || hvpm_boot(&shared.machine, &config) != HVPM_STATUS_OK) return 3;
     fputs("boot 100 80 8 0xf700000044 4294967295\n", shared.script);
     pthread_t threads[THREADS];
     struct processor processors[THREADS];
@@ -151,5 +151,5 @@ int main(int argc, char **argv) {
     for (uint32_t vp = 0; vp < THREADS; vp++) printf(" %" PRIu64, processors[vp].done);
     puts("");
     hvpm_destroy(&shared.machine);
-    return fclose(shared.script) == 0 && fclose(shared.audit) == 0 && shared.status == HVPM_DONE ? 0 : 1;
+    return fclose(shared.script) == 0 && fclose(shared.audit) == 0 && shared.status == HVPM_STATUS_OK ? 0 : 1;
 }

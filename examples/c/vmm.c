@@ -47,23 +47,23 @@ static void *guest_memory(struct vcpu *vcpu, uint64_t address, size_t size) {
 
 static void before(void) {
     for (struct vcpu *at = vcpus; at < vcpus + GUESTS; at++)
-        need(hvpm_pages_before(&machine, &at->pages) == HVPM_DONE, "a slot isn't cleared");
+        need(hvpm_pages_before(&machine, &at->pages) == HVPM_STATUS_OK, "a slot isn't cleared");
 }
 
 static void move(struct vcpu *vcpu) {
     void *at[2] = {NULL, NULL};
     uint64_t value;
     for (size_t i = 0; i < 2; i++)
-        if (hvpm_peek_msr(&machine, vcpu->pages.of, i == 0 ? SIMP : SIEFP, &value) == HVPM_DONE && value & 1)
+        if (hvpm_peek_msr(&machine, vcpu->pages.of, i == 0 ? SIMP : SIEFP, &value) == HVPM_STATUS_OK && value & 1)
             at[i] = guest_memory(vcpu, value & ~UINT64_C(4095), PAGE);
-    need(hvpm_pages_move(&machine, &vcpu->pages, at[0], at[1]) == HVPM_DONE, "a page isn't moved");
+    need(hvpm_pages_move(&machine, &vcpu->pages, at[0], at[1]) == HVPM_STATUS_OK, "a page isn't moved");
 }
 
 /* The effect names the processor where something changed, which is rarely the caller. A vector ends its HLT. */
 static void after(const hvpm_effect *effect) {
     for (struct vcpu *at = vcpus; at < vcpus + GUESTS; at++) {
-        need(hvpm_pages_after(&machine, &at->pages, effect) == HVPM_DONE, "a page isn't up to date");
-        for (uint8_t v; hvpm_pages_vector(&machine, &at->pages, &v) == HVPM_DONE && v != 0; at->is_halted = false)
+        need(hvpm_pages_after(&machine, &at->pages, effect) == HVPM_STATUS_OK, "a page isn't up to date");
+        for (uint8_t v; hvpm_pages_vector(&machine, &at->pages, &v) == HVPM_STATUS_OK && v != 0; at->is_halted = false)
             printf("    inject 0x%02x at %" PRIu64 ".0%s\n", v, at->pages.of.partition, at->is_halted ? " and wake it" : "");
     }
 }
@@ -73,7 +73,7 @@ static uint32_t hypercall(struct vcpu *vcpu, const hvpm_registers *at, hvpm_repl
     const size_t size = at->rcx >> 16 & 1 ? 0 : PAGE - at->rdx % PAGE;
     const void *from = guest_memory(vcpu, at->rdx, size);
     uint8_t input[PAGE];
-    if (size != 0 && !from && hvpm_is_call((uint16_t)at->rcx)) return *reply = (hvpm_reply){.result = 4}, HVPM_DONE;
+    if (size != 0 && !from && hvpm_is_call((uint16_t)at->rcx)) return *reply = (hvpm_reply){.result = 4}, HVPM_STATUS_OK;
     if (from) memcpy(input, from, size);
     return hvpm_hypercall(&machine, vcpu->pages.of, at, input, from ? size : 0, reply, line, HVPM_LINE);
 }
@@ -88,11 +88,11 @@ static void handle(struct vcpu *vcpu, const struct step *exit) {
     if (exit->reason == RDMSR) status = hvpm_read_msr_value(&machine, by, msr, &value, &reply, line, sizeof line);
     else if (exit->reason == WRMSR) status = hvpm_write_msr(&machine, by, msr, value, &reply, line, sizeof line);
     else status = hypercall(vcpu, &(hvpm_registers){exit->rcx, exit->rdx, 0}, &reply, line);
-    need(status == HVPM_DONE, "the library takes no event"); /* out of memory, a VMM may leave RIP at the call */
+    need(status == HVPM_STATUS_OK, "the library takes no event"); /* out of memory, a VMM may leave RIP at the call */
     if (reply.line_len != 0) printf("    audit %.*s", (int)reply.line_len, line);
     if (exit->reason == WRMSR) move(vcpu);
     after(&reply.effect);
-    if (reply.kind == HVPM_FAULT) printf("    inject #GP, since P%" PRIu32 " doesn't hold\n", reply.rule);
+    if (reply.kind == HVPM_REPLY_FAULT) printf("    inject #GP, since P%" PRIu32 " doesn't hold\n", reply.rule);
     else if (exit->reason == RDMSR) printf("    EDX:EAX %016" PRIx64 "\n", value);
     else if (exit->reason == HYPERCALL) printf("    RAX %016" PRIx64 "\n", reply.result);
 }
@@ -135,13 +135,13 @@ static const struct step sender[] = {
 };
 
 static void done(uint32_t status, const hvpm_reply *reply) {
-    need(status == HVPM_DONE && reply->kind == HVPM_SERVED, "the root isn't served");
+    need(status == HVPM_STATUS_OK && reply->kind == HVPM_REPLY_SERVED, "the root isn't served");
 }
 
 /* The root makes both guests, each with 6 pages and a processor. The ids of ports and connections are their types. */
 static void boot(void) {
     const hvpm_caller root = {1, 0};
-    hvpm_reply reply = {.kind = HVPM_SERVED};
+    hvpm_reply reply = {.kind = HVPM_REPLY_SERVED};
     done(hvpm_boot(&machine, &(hvpm_config){.mask = 0xf700000044, .pages = 20, .pool = 8, .vps = 1}), &reply);
     for (uint64_t id = 2, page = 8, made; id < 2 + GUESTS; id++) {
         done(hvpm_create_partition(&machine, root, 0, &made, &reply, NULL, 0), &reply);

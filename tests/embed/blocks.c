@@ -292,7 +292,7 @@ static uint32_t call(const struct row *row, uint32_t status, uint32_t kind, uint
 static void try_row(const struct row *row) {
     printf("%s\n", row->name);
     holds(row->name, "it answers the status",
-          call(row, HVPM_DONE, HVPM_SERVED, row->output_len) == HVPM_DONE);
+          call(row, HVPM_STATUS_OK, HVPM_REPLY_SERVED, row->output_len) == HVPM_STATUS_OK);
     holds(row->name, "one event", got.times == 1);
     holds(row->name, "the machine, the reply and the line", got.machine == &machine && got.reply == &reply);
     holds(row->name, "the line", (const char *)got.line == line && got.line_size == sizeof line);
@@ -301,12 +301,12 @@ static void try_row(const struct row *row) {
     holds(row->name, "RDX and R8", got.registers.rdx == row->rdx && got.registers.r8 == row->r8);
     holds(row->name, "the input", is_input(row->input, row->input_len));
     holds(row->name, "the output", is_out(row->out));
-    call(row, HVPM_DONE, HVPM_MORE, row->output_len);
+    call(row, HVPM_STATUS_OK, HVPM_REPLY_MORE, row->output_len);
     holds(row->name, "the output of an element that isn't the last", is_out(row->out));
-    call(row, HVPM_DONE, HVPM_DENIED, 0);
+    call(row, HVPM_STATUS_OK, HVPM_REPLY_DENIED, 0);
     holds(row->name, "no output where it is denied", is_out("---"));
     holds(row->name, "the status of what wasn't done",
-          call(row, HVPM_MEMORY, HVPM_SERVED, row->output_len) == HVPM_MEMORY);
+          call(row, HVPM_STATUS_MEMORY, HVPM_REPLY_SERVED, row->output_len) == HVPM_STATUS_MEMORY);
     holds(row->name, "no output where it wasn't done", is_out("---"));
 }
 
@@ -363,7 +363,7 @@ static void try_payloads(void) {
 
 /* A list of no elements has no place for an output, whatever the library puts out. */
 static void try_none(void) {
-    answer.status = HVPM_DONE;
+    answer.status = HVPM_STATUS_OK;
     answer.output_len = 16;
     hvpm_withdraw_memory(&machine, by, wide1, NULL, 0, 0, &reply, line, sizeof line);
     hvpm_get_vp_registers(&machine, by, wide1, word2, NULL, 0, 0, &reply, line, sizeof line);

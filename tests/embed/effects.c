@@ -110,7 +110,7 @@ static bool is_effect(const hvpm_effect *told, const hvpm_effect *wanted) {
 
 /* An event that is answered so, with this effect. The next reply begins with other bytes. */
 static void tells(const char *what, uint32_t status, uint32_t kind, hvpm_effect wanted) {
-    if (status != HVPM_DONE || reply.kind != kind || !is_effect(&reply.effect, &wanted)) {
+    if (status != HVPM_STATUS_OK || reply.kind != kind || !is_effect(&reply.effect, &wanted)) {
         fprintf(stderr,
                 "%s: status %" PRIu32 ", kind %" PRIu32 ", rule %" PRIu32 ", effect %" PRIu32 ", partition %" PRIu64
                 ", vp %" PRIu32 ", page %" PRIu64 ", raised %016" PRIx64 ", shown %04x, waiting %04x, flag %u.%u is %u"
@@ -125,7 +125,7 @@ static void tells(const char *what, uint32_t status, uint32_t kind, hvpm_effect 
 }
 
 static void serves(const char *what, uint32_t status, hvpm_effect wanted) {
-    tells(what, status, HVPM_SERVED, wanted);
+    tells(what, status, HVPM_REPLY_SERVED, wanted);
 }
 
 static uint32_t write_msr(uint32_t msr, uint64_t value) {
@@ -156,12 +156,12 @@ static void make(void) {
                                                    {1, 3, 2, 9, HVPM_PORT_MESSAGES}};
     uint64_t id = 0, list[12];
     for (uint64_t i = 0; i < 12; i++) list[i] = 20 + i;
-    holds("boot", hvpm_boot(&machine, &config) == HVPM_DONE);
+    holds("boot", hvpm_boot(&machine, &config) == HVPM_STATUS_OK);
     serves("a partition is made", hvpm_create_partition(&machine, root, 0, &id, &reply, NULL, 0), nothing());
     serves("it is started", hvpm_initialize_partition(&machine, root, 2, &reply, NULL, 0), nothing());
     for (uint16_t i = 0; i < 12; i++)
         tells("a page is deposited", hvpm_deposit_memory(&machine, root, 2, list, 12, i, &reply, NULL, 0),
-              i < 11 ? HVPM_MORE : HVPM_SERVED, page(20 + i, 2, 1));
+              i < 11 ? HVPM_REPLY_MORE : HVPM_REPLY_SERVED, page(20 + i, 2, 1));
     serves("a processor is made", hvpm_create_vp(&machine, root, 2, 1, &reply, NULL, 0), processor(2, 1));
     for (size_t i = 0; i < 3; i++) {
         serves("a port is made", hvpm_create_port(&machine, root, &ports[i], &reply, NULL, 0), nothing());
@@ -205,12 +205,12 @@ static void set_flags(void) {
 
 static void refuse(void) {
     const uint64_t own[1] = {3};
-    tells("a processor that is there", hvpm_create_vp(&machine, root, 2, 1, &reply, NULL, 0), HVPM_DENIED, nothing());
-    tells("a page that is pooled", hvpm_deposit_memory(&machine, root, 2, own, 1, 0, &reply, NULL, 0), HVPM_DENIED,
+    tells("a processor that is there", hvpm_create_vp(&machine, root, 2, 1, &reply, NULL, 0), HVPM_REPLY_DENIED, nothing());
+    tells("a page that is pooled", hvpm_deposit_memory(&machine, root, 2, own, 1, 0, &reply, NULL, 0), HVPM_REPLY_DENIED,
           nothing());
-    tells("no such register", hvpm_read_msr(&machine, guest, 0x40000081 + 0x100, &reply, NULL, 0), HVPM_FAULT,
+    tells("no such register", hvpm_read_msr(&machine, guest, 0x40000081 + 0x100, &reply, NULL, 0), HVPM_REPLY_FAULT,
           nothing());
-    tells("no such SINT", clear_slot(16), HVPM_FAULT, nothing());
+    tells("no such SINT", clear_slot(16), HVPM_REPLY_FAULT, nothing());
 }
 
 /* Registers 2.1: SINT 5, EOM and SINT 6. A message waits at SINT 2, whose slot is empty. */
@@ -233,7 +233,7 @@ static void take_runs(void) {
         hvpm_run(&machine, root, &registers, set, sizeof set, &reply, outputs, sizeof outputs, &done);
     holds("the next is the third", reply.next == 2);
     registers.rcx = hvpm_next(registers.rcx, &reply);
-    tells("a run ends at EOM", first, HVPM_MORE, synic(1 << 2, VECTOR(0x32)));
+    tells("a run ends at EOM", first, HVPM_REPLY_MORE, synic(1 << 2, VECTOR(0x32)));
     holds("after two elements", done.events == 2);
     serves("it goes on with the third",
            hvpm_run(&machine, root, &registers, set, sizeof set, &reply, outputs, sizeof outputs, &done), nothing());
@@ -252,7 +252,7 @@ static void end(void) {
     serves("the lowest page is withdrawn", hvpm_withdraw_memory(&machine, root, 2, list, 1, 0, &reply, NULL, 0),
            page(20, 1, 0));
     serves("the processor is deleted", hvpm_delete_vp(&machine, root, 2, 1, &reply, NULL, 0), processor(2, 1));
-    tells("nobody takes a post", post(1), HVPM_DENIED, nothing());
+    tells("nobody takes a post", post(1), HVPM_REPLY_DENIED, nothing());
     serves("the partition is finalized", hvpm_finalize_partition(&machine, root, 2, &reply, NULL, 0),
            of_kind(HVPM_EFFECT_PARTITION, 2));
     serves("it is deleted", hvpm_delete_partition(&machine, root, 2, &reply, NULL, 0), pages(2, 1));

@@ -110,8 +110,8 @@ struct world {
 static void take(struct world *world, uint64_t rcx, uint64_t rdx, const void *input, size_t len) {
     const hvpm_registers registers = {rcx, rdx, 0};
     want("the set-up", "call",
-         hvpm_hypercall(&world->machine, root, &registers, input, len, &world->reply, NULL, 0), HVPM_DONE);
-    holds("the set-up", "served", world->reply.kind == HVPM_SERVED);
+         hvpm_hypercall(&world->machine, root, &registers, input, len, &world->reply, NULL, 0), HVPM_STATUS_OK);
+    holds("the set-up", "served", world->reply.kind == HVPM_REPLY_SERVED);
 }
 
 /*
@@ -133,11 +133,11 @@ static void set_up(struct world *world) {
     memset(world, 0xA5, sizeof *world);
     world->machine = world->empty = (hvpm_machine)HVPM_EMPTY;
     world->config = (hvpm_config){.mask = 0xf700000044, .pages = 32, .pool = 16, .vps = 1};
-    want("the set-up", "boot", hvpm_boot(&world->machine, &world->config), HVPM_DONE);
+    want("the set-up", "boot", hvpm_boot(&world->machine, &world->config), HVPM_STATUS_OK);
     for (size_t i = 0; i < 5; i++) {
         const uint32_t msr = 0x40000000 + (uint32_t)registers[i][0];
         want("the set-up", "write",
-             hvpm_write_msr(&world->machine, root, msr, registers[i][1], &world->reply, NULL, 0), HVPM_DONE);
+             hvpm_write_msr(&world->machine, root, msr, registers[i][1], &world->reply, NULL, 0), HVPM_STATUS_OK);
     }
     for (size_t i = 0; i < 2; i++) {
         take(world, 0x95, 0, ports[i], sizeof ports[i]);
@@ -188,17 +188,17 @@ static void is_calm(const char *function, hvpm_machine *machine) {
     char told[5 * HVPM_LINE + 1], wanted[sizeof told];
     size_t len = 0;
     hvpm_reply reply;
-    want(function, "interrupt", hvpm_take_interrupt(machine, root, &reply, told, HVPM_LINE), HVPM_DONE);
+    want(function, "interrupt", hvpm_take_interrupt(machine, root, &reply, told, HVPM_LINE), HVPM_STATUS_OK);
     len += reply.line_len;
-    want(function, "slot", hvpm_read_slot(machine, root, 2, &reply, told + len, HVPM_LINE), HVPM_DONE);
+    want(function, "slot", hvpm_read_slot(machine, root, 2, &reply, told + len, HVPM_LINE), HVPM_STATUS_OK);
     len += reply.line_len;
-    want(function, "flags", hvpm_read_flags(machine, root, 3, &reply, told + len, HVPM_LINE), HVPM_DONE);
+    want(function, "flags", hvpm_read_flags(machine, root, 3, &reply, told + len, HVPM_LINE), HVPM_STATUS_OK);
     len += reply.line_len;
     want(function, "rdmsr", hvpm_read_msr(machine, root, 0x40000092, &reply, told + len, HVPM_LINE),
-         HVPM_DONE);
+         HVPM_STATUS_OK);
     len += reply.line_len;
     want(function, "call", hvpm_hypercall(machine, root, &withdraw, self, 8, &reply, told + len, HVPM_LINE),
-         HVPM_DONE);
+         HVPM_STATUS_OK);
     told[len + reply.line_len] = 0;
     snprintf(wanted, sizeof wanted,
              "13 1.0 interrupt ok 33\n"
@@ -220,7 +220,7 @@ static uint32_t boot(const struct arguments *a) {
 /* It answers nothing; of a null it is only seen that it does nothing. */
 static uint32_t destroy(const struct arguments *a) {
     hvpm_destroy(a->at[MACHINE]);
-    return a->at[MACHINE] ? HVPM_DONE : HVPM_NULL;
+    return a->at[MACHINE] ? HVPM_STATUS_OK : HVPM_STATUS_NULL;
 }
 
 static uint32_t hypercall(const struct arguments *a) {
@@ -478,7 +478,7 @@ static void try_null(const struct function *function, int argument) {
     arguments.at[argument] = NULL;
     tell_case(function, argument, "");
     memcpy(&before, &world, sizeof before);
-    want(function->name, names[argument], function->call(&arguments), HVPM_NULL);
+    want(function->name, names[argument], function->call(&arguments), HVPM_STATUS_NULL);
     holds(function->name, "that nothing is written at a null", memcmp(&before, &world, sizeof before) == 0);
     is_calm(function->name, &world.machine);
     hvpm_destroy(&world.machine);
@@ -497,21 +497,21 @@ static void try_none(const struct function *function, int argument) {
     tell_case(function, argument, " of no bytes");
     const uint32_t status = function->call(&arguments);
     want(function->name, "no bytes", status,
-         argument == OUTPUTS || argument == TEXT ? HVPM_SHORT : HVPM_DONE);
+         argument == OUTPUTS || argument == TEXT ? HVPM_STATUS_SHORT : HVPM_STATUS_OK);
     if (argument == LINE)
         holds(function->name, "no line", world.reply.line_len == 0 && world.reply.rule == 0);
     if (argument == INPUT && function->kind == EVENT)
         holds(function->name, "that no partition is 0",
-              world.reply.kind == HVPM_DENIED && world.reply.rule == 9);
+              world.reply.kind == HVPM_REPLY_DENIED && world.reply.rule == 9);
     if (argument == INPUT && function->kind == HANDLE)
         holds(function->name, "a line without input",
               world.len == 31 && memcmp(world.text, "1.0 call 0x200000049 0x0 0x0 -\n", 31) == 0);
     if (argument == TEXT) holds(function->name, "a text's length", world.len > 0 && world.len < 512);
     if (argument == PAGES || argument == VP_REGISTERS)
         holds(function->name, "that a rep call has elements",
-              world.reply.kind == HVPM_DENIED && world.reply.rule == 5);
+              world.reply.kind == HVPM_REPLY_DENIED && world.reply.rule == 5);
     if (argument == PAYLOAD)
-        holds(function->name, "that a message may be empty", world.reply.kind == HVPM_SERVED);
+        holds(function->name, "that a message may be empty", world.reply.kind == HVPM_REPLY_SERVED);
     hvpm_destroy(&world.machine);
 }
 
@@ -520,7 +520,7 @@ static void try_all(const struct function *function) {
     struct world world;
     set_up(&world);
     const struct arguments arguments = arguments_of(&world, function->kind);
-    want(function->name, "nothing null", function->call(&arguments), HVPM_DONE);
+    want(function->name, "nothing null", function->call(&arguments), HVPM_STATUS_OK);
     holds(function->name, "that it is served", function->kind != EVENT || world.reply.rule == 0);
     holds(function->name, "that an event is counted", (world.machine.events > 12) == (function->kind == EVENT));
     hvpm_destroy(&world.machine);
@@ -534,20 +534,20 @@ static void try_used_up(const struct function *function) {
     const struct arguments arguments = arguments_of(&world, EVENT);
     world.machine.events = UINT64_MAX;
     memcpy(&before, &world, sizeof before);
-    want(function->name, "used up", function->call(&arguments), HVPM_USED_UP);
+    want(function->name, "used up", function->call(&arguments), HVPM_STATUS_USED_UP);
     holds(function->name, "that nothing is written where it is used up",
           memcmp(&before, &world, sizeof before) == 0);
     world.machine.events = 12;
     is_calm(function->name, &world.machine);
     world.machine.events = UINT64_MAX - 1;
-    want(function->name, "the last event", function->call(&arguments), HVPM_DONE);
+    want(function->name, "the last event", function->call(&arguments), HVPM_STATUS_OK);
     holds(function->name, "the last number", world.machine.events == UINT64_MAX);
     holds(function->name, "a line with it",
           function->call == run || memcmp(world.line, "18446744073709551615 1.0 ", 25) == 0);
     if (function->call == run)
         holds(function->name, "that it goes on",
-              world.reply.kind == HVPM_MORE && world.reply.next == 1 && world.done.events == 1);
-    want(function->name, "used up after it", function->call(&arguments), HVPM_USED_UP);
+              world.reply.kind == HVPM_REPLY_MORE && world.reply.next == 1 && world.done.events == 1);
+    want(function->name, "used up after it", function->call(&arguments), HVPM_STATUS_USED_UP);
     hvpm_destroy(&world.machine);
 }
 
@@ -560,12 +560,12 @@ static void try_look(const struct function *function) {
     set_up(&world);
     struct arguments arguments = arguments_of(&world, LOOK);
     world.machine.events = UINT64_MAX;
-    want(function->name, "used up", function->call(&arguments), HVPM_DONE);
+    want(function->name, "used up", function->call(&arguments), HVPM_STATUS_OK);
     world.machine.events = 12;
     is_calm(function->name, &world.machine);
     arguments.at[MACHINE] = &world.empty;
     memcpy(&before, &world, sizeof before);
-    want(function->name, "an empty handle", function->call(&arguments), HVPM_EMPTY_HANDLE);
+    want(function->name, "an empty handle", function->call(&arguments), HVPM_STATUS_EMPTY);
     holds(function->name, "that nothing is written of an empty handle", memcmp(&before, &world, sizeof before) == 0);
     hvpm_destroy(&world.machine);
 }

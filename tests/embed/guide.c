@@ -110,7 +110,7 @@ int main(void) {
         after(&reply.effect);
         holds("its flag and its interrupt", guest[FLAGS + 512] == 0x20 && interrupted(vcpu, 0xF3));
     }
-    holds("the root's pages", hvpm_pages_move(&machine, &vcpus[0], own[0], own[1]) == HVPM_DONE);
+    holds("the root's pages", hvpm_pages_move(&machine, &vcpus[0], own[0], own[1]) == HVPM_STATUS_OK);
     for (uint32_t msr = 0x40000080; msr <= 0x40000083; msr += msr == 0x40000080 ? 2 : 1)
         holds("the root's SynIC", served(hvpm_write_msr(&machine, root, msr, 1, &reply, NULL, 0), &reply));
     holds("its SINT", served(hvpm_write_msr(&machine, root, 0x40000094, 0x30, &reply, NULL, 0), &reply));

@@ -24,12 +24,12 @@ static hvpm_reply reply;
 
 /* An event that is served. */
 static void served(const char *what, uint32_t status) {
-    holds(what, status == HVPM_DONE && (reply.kind == HVPM_SERVED || reply.kind == HVPM_MORE));
+    holds(what, status == HVPM_STATUS_OK && (reply.kind == HVPM_REPLY_SERVED || reply.kind == HVPM_REPLY_MORE));
 }
 
 /* An access that is taken, served or not. */
 static void served_or_fault(uint32_t status) {
-    holds("an access", status == HVPM_DONE);
+    holds("an access", status == HVPM_STATUS_OK);
 }
 
 static void write_msr(hvpm_caller by, uint32_t msr, uint64_t value) {
@@ -50,7 +50,7 @@ static void set_up(void) {
     static const hvpm_connection connections[] = {
         {1, 1, 2, 5, HVPM_PORT_MESSAGES}, {1, 2, 2, 7, HVPM_PORT_EVENTS}, {2, 6, 1, 3, HVPM_PORT_MESSAGES}};
     uint64_t id;
-    holds("boot", hvpm_boot(&machine, &config) == HVPM_DONE);
+    holds("boot", hvpm_boot(&machine, &config) == HVPM_STATUS_OK);
     served("partition 2", hvpm_create_partition(&machine, root, 0, &id, &reply, NULL, 0));
     served("its mask", hvpm_set_partition_property(&machine, root, 2, HVPM_PRIVILEGE_FLAGS, 0xb100000044, &reply, NULL, 0));
     served("its state", hvpm_initialize_partition(&machine, root, 2, &reply, NULL, 0));
@@ -87,31 +87,31 @@ static bool is_untouched(const void *at, size_t size) {
 static void look_at_slots(void) {
     uint8_t out[256], shown[16][256];
     for (uint8_t sint = 0; sint < 16; sint++)
-        holds("a slot is shown", hvpm_peek_slot(&machine, guest, sint, shown[sint]) == HVPM_DONE);
+        holds("a slot is shown", hvpm_peek_slot(&machine, guest, sint, shown[sint]) == HVPM_STATUS_OK);
     holds("the message", memcmp(shown[2], "\x77\0\0\0\x03\x01\0\0\x05\0\0\0\0\0\0\0one", 20) == 0);
     for (uint8_t sint = 0; sint < 16; sint++) {
         served("a slot is read", hvpm_read_slot(&machine, guest, sint, &reply, NULL, 0));
         holds("a slot shows what is read", memcmp(shown[sint], reply.output, 256) == 0);
     }
     memset(out, 0xA5, sizeof out);
-    holds("there are 16 SINTs", hvpm_peek_slot(&machine, guest, 16, out) == HVPM_NONE);
-    holds("there is no SINT 255", hvpm_peek_slot(&machine, guest, 255, out) == HVPM_NONE);
-    holds("no processor has a slot", hvpm_peek_slot(&machine, nobody, 2, out) == HVPM_NONE);
+    holds("there are 16 SINTs", hvpm_peek_slot(&machine, guest, 16, out) == HVPM_STATUS_NONE);
+    holds("there is no SINT 255", hvpm_peek_slot(&machine, guest, 255, out) == HVPM_STATUS_NONE);
+    holds("no processor has a slot", hvpm_peek_slot(&machine, nobody, 2, out) == HVPM_STATUS_NONE);
     holds("nothing is written of a slot that isn't there", is_untouched(out, sizeof out));
 }
 
 static void look_at_flags(void) {
     uint8_t out[256], shown[16][256];
     for (uint8_t sint = 0; sint < 16; sint++)
-        holds("flags are shown", hvpm_peek_flags(&machine, guest, sint, shown[sint]) == HVPM_DONE);
+        holds("flags are shown", hvpm_peek_flags(&machine, guest, sint, shown[sint]) == HVPM_STATUS_OK);
     holds("the flag", shown[3][1] == 2);
     for (uint8_t sint = 0; sint < 16; sint++) {
         served("flags are read", hvpm_read_flags(&machine, guest, sint, &reply, NULL, 0));
         holds("flags show what is read", memcmp(shown[sint], reply.output, 256) == 0);
     }
     memset(out, 0xA5, sizeof out);
-    holds("there are 16 SINTs of flags", hvpm_peek_flags(&machine, guest, 16, out) == HVPM_NONE);
-    holds("no processor has flags", hvpm_peek_flags(&machine, nobody, 3, out) == HVPM_NONE);
+    holds("there are 16 SINTs of flags", hvpm_peek_flags(&machine, guest, 16, out) == HVPM_STATUS_NONE);
+    holds("no processor has flags", hvpm_peek_flags(&machine, nobody, 3, out) == HVPM_STATUS_NONE);
     holds("nothing is written of flags that aren't there", is_untouched(out, sizeof out));
 }
 
@@ -125,27 +125,27 @@ static void look_at_msrs(void) {
         served_or_fault(hvpm_read_msr_value(&machine, guest, msr, &read, &reply, NULL, 0));
         const bool is_there = reply.rule != 25;
         holds("which registers there are", hvpm_is_msr(msr) == is_there);
-        holds("a register is shown where it is there", status == (is_there ? HVPM_DONE : HVPM_NONE));
-        holds("a register shows what is read", reply.kind == HVPM_FAULT || shown == read);
+        holds("a register is shown where it is there", status == (is_there ? HVPM_STATUS_OK : HVPM_STATUS_NONE));
+        holds("a register shows what is read", reply.kind == HVPM_REPLY_FAULT || shown == read);
         holds("nothing is written of a register that isn't there", is_there || shown == 0xA5);
         known += is_there;
     }
     uint64_t value = 0;
     holds("there are 22 registers", known == 22);
-    holds("SINT 2", hvpm_peek_msr(&machine, guest, 0x40000092, &value) == HVPM_DONE && value == 0x32);
-    holds("no processor has one", hvpm_peek_msr(&machine, nobody, 0x40000092, &value) == HVPM_NONE);
-    holds("nor has a partition without", hvpm_peek_msr(&machine, other, 0x40000092, &value) == HVPM_NONE);
+    holds("SINT 2", hvpm_peek_msr(&machine, guest, 0x40000092, &value) == HVPM_STATUS_OK && value == 0x32);
+    holds("no processor has one", hvpm_peek_msr(&machine, nobody, 0x40000092, &value) == HVPM_STATUS_NONE);
+    holds("nor has a partition without", hvpm_peek_msr(&machine, other, 0x40000092, &value) == HVPM_STATUS_NONE);
 }
 
 /* The two vectors, and then without the highest. */
 static void look_at_pending(void) {
     uint64_t out[4] = {9, 9, 9, 9};
-    holds("no processor has vectors", hvpm_peek_pending(&machine, nobody, out) == HVPM_NONE && out[0] == 9);
-    holds("vectors are shown", hvpm_peek_pending(&machine, guest, out) == HVPM_DONE);
+    holds("no processor has vectors", hvpm_peek_pending(&machine, nobody, out) == HVPM_STATUS_NONE && out[0] == 9);
+    holds("vectors are shown", hvpm_peek_pending(&machine, guest, out) == HVPM_STATUS_OK);
     holds("vectors 0x32 and 0x33", out[0] == UINT64_C(3) << 0x32 && out[1] == 0 && out[2] == 0 && out[3] == 0);
     served("one is taken", hvpm_take_interrupt(&machine, guest, &reply, NULL, 0));
     holds("the highest is taken", reply.output[0] == 0x33);
-    holds("the other is shown", hvpm_peek_pending(&machine, guest, out) == HVPM_DONE && out[0] == UINT64_C(1) << 0x32);
+    holds("the other is shown", hvpm_peek_pending(&machine, guest, out) == HVPM_STATUS_OK && out[0] == UINT64_C(1) << 0x32);
 }
 
 /* ---- At partitions ---- */
@@ -153,7 +153,7 @@ static void look_at_pending(void) {
 static void is_partition(uint64_t id, hvpm_partition wanted) {
     hvpm_partition shown;
     memset(&shown, 0, sizeof shown);
-    holds("a partition is shown", hvpm_peek_partition(&machine, id, &shown) == HVPM_DONE);
+    holds("a partition is shown", hvpm_peek_partition(&machine, id, &shown) == HVPM_STATUS_OK);
     if (shown.mask == wanted.mask && shown.parent == wanted.parent && shown.depth == wanted.depth &&
         shown.pooled == wanted.pooled && shown.in_use == wanted.in_use && shown.life == wanted.life &&
         shown.children == wanted.children && shown.vps == wanted.vps && shown.ports == wanted.ports &&
@@ -175,15 +175,15 @@ static void look_at_partitions(void) {
     is_partition(3, (hvpm_partition){0x3000000044, 1, 1, 0, 0, HVPM_LIFE_CREATED, 0, 0, 0, 0});
     is_partition(4, (hvpm_partition){0x3000000044, 2, 2, 0, 0, HVPM_LIFE_FINALIZED, 0, 0, 0, 0});
     memset(&out, 0xA5, sizeof out);
-    holds("there is no partition 5", hvpm_peek_partition(&machine, 5, &out) == HVPM_NONE);
-    holds("there is no partition 0", hvpm_peek_partition(&machine, 0, &out) == HVPM_NONE);
-    holds("no id is the caller's own", hvpm_peek_partition(&machine, HVPM_SELF, &out) == HVPM_NONE);
+    holds("there is no partition 5", hvpm_peek_partition(&machine, 5, &out) == HVPM_STATUS_NONE);
+    holds("there is no partition 0", hvpm_peek_partition(&machine, 0, &out) == HVPM_STATUS_NONE);
+    holds("no id is the caller's own", hvpm_peek_partition(&machine, HVPM_SELF, &out) == HVPM_STATUS_NONE);
     holds("nothing is written of no partition", is_untouched(&out, sizeof out));
 }
 
 static bool is_child_after(uint64_t parent, uint64_t previous, uint64_t child) {
     uint64_t shown = 0xA5;
-    return hvpm_child_after(&machine, parent, previous, &shown) == HVPM_DONE && shown == child;
+    return hvpm_child_after(&machine, parent, previous, &shown) == HVPM_STATUS_OK && shown == child;
 }
 
 static void look_at_children(void) {
@@ -191,39 +191,39 @@ static void look_at_children(void) {
     holds("the root's children",
           is_child_after(1, 0, 2) && is_child_after(1, 2, 3) && is_child_after(1, 3, 0) && is_child_after(1, 1, 2));
     holds("those of others", is_child_after(2, 0, 4) && is_child_after(2, 4, 0) && is_child_after(3, 0, 0));
-    holds("no partition has none", hvpm_child_after(&machine, 5, 0, &child) == HVPM_NONE && child == 0xA5);
+    holds("no partition has none", hvpm_child_after(&machine, 5, 0, &child) == HVPM_STATUS_NONE && child == 0xA5);
 }
 
 static void look_at_pages(void) {
     uint64_t owner = 0xA5;
     for (uint64_t page = 0; page < 64; page++) {
-        holds("a page has an owner", hvpm_page_owner(&machine, page, &owner) == HVPM_DONE);
+        holds("a page has an owner", hvpm_page_owner(&machine, page, &owner) == HVPM_STATUS_OK);
         holds("its owner", owner == (page >= 20 && page < 30 ? 2 : 1));
     }
     owner = 0xA5;
-    holds("there is no page 64", hvpm_page_owner(&machine, 64, &owner) == HVPM_NONE);
-    holds("numbers are whole", hvpm_page_owner(&machine, UINT64_C(1) << 32, &owner) == HVPM_NONE);
+    holds("there is no page 64", hvpm_page_owner(&machine, 64, &owner) == HVPM_STATUS_NONE);
+    holds("numbers are whole", hvpm_page_owner(&machine, UINT64_C(1) << 32, &owner) == HVPM_STATUS_NONE);
     holds("nothing is written of no page", owner == 0xA5);
 }
 
 static void look_at_ports(void) {
     hvpm_port port;
     hvpm_connection connection;
-    holds("port 5 is there", hvpm_peek_port(&machine, 2, 5, &port) == HVPM_DONE);
+    holds("port 5 is there", hvpm_peek_port(&machine, 2, 5, &port) == HVPM_STATUS_OK);
     holds("port 5", port.partition == 2 && port.id == 5 && port.peer == 1 && port.type == HVPM_PORT_MESSAGES &&
                         port.sint == 2 && port.vp == 1 && port.base_flag == 0 && port.flag_count == 0);
-    holds("port 7 is there", hvpm_peek_port(&machine, 2, 7, &port) == HVPM_DONE);
+    holds("port 7 is there", hvpm_peek_port(&machine, 2, 7, &port) == HVPM_STATUS_OK);
     holds("port 7", port.partition == 2 && port.id == 7 && port.peer == 1 && port.type == HVPM_PORT_EVENTS &&
                         port.sint == 3 && port.vp == HVPM_ANY_VP && port.base_flag == 8 && port.flag_count == 4);
-    holds("connection 6 is there", hvpm_peek_connection(&machine, 2, 6, &connection) == HVPM_DONE);
+    holds("connection 6 is there", hvpm_peek_connection(&machine, 2, 6, &connection) == HVPM_STATUS_OK);
     holds("connection 6", connection.partition == 2 && connection.id == 6 && connection.port_partition == 1 &&
                               connection.port == 3 && connection.type == HVPM_PORT_MESSAGES);
     memset(&port, 0xA5, sizeof port);
     memset(&connection, 0xA5, sizeof connection);
-    holds("no partition's port 7", hvpm_peek_port(&machine, 5, 7, &port) == HVPM_NONE);
-    holds("another partition's port 7", hvpm_peek_port(&machine, 1, 7, &port) == HVPM_NONE);
-    holds("another partition's connection 6", hvpm_peek_connection(&machine, 1, 6, &connection) == HVPM_NONE);
-    holds("a port is no connection", hvpm_peek_connection(&machine, 2, 5, &connection) == HVPM_NONE);
+    holds("no partition's port 7", hvpm_peek_port(&machine, 5, 7, &port) == HVPM_STATUS_NONE);
+    holds("another partition's port 7", hvpm_peek_port(&machine, 1, 7, &port) == HVPM_STATUS_NONE);
+    holds("another partition's connection 6", hvpm_peek_connection(&machine, 1, 6, &connection) == HVPM_STATUS_NONE);
+    holds("a port is no connection", hvpm_peek_connection(&machine, 2, 5, &connection) == HVPM_STATUS_NONE);
     holds("nothing is written of what isn't there",
           is_untouched(&port, sizeof port) && is_untouched(&connection, sizeof connection));
 }
@@ -237,12 +237,12 @@ static void look_at_table(void) {
         "pages 64\n";
     char text[sizeof wanted];
     size_t len = 0;
-    holds("the table's length", hvpm_table(&machine, NULL, 0, &len) == HVPM_SHORT && len == sizeof wanted - 1);
+    holds("the table's length", hvpm_table(&machine, NULL, 0, &len) == HVPM_STATUS_SHORT && len == sizeof wanted - 1);
     memset(text, 0xA5, sizeof text);
     len = 0;
-    holds("a byte less", hvpm_table(&machine, text, sizeof wanted - 2, &len) == HVPM_SHORT && len == sizeof wanted - 1);
+    holds("a byte less", hvpm_table(&machine, text, sizeof wanted - 2, &len) == HVPM_STATUS_SHORT && len == sizeof wanted - 1);
     holds("nothing is written of it", is_untouched(text, sizeof text));
-    holds("just its bytes", hvpm_table(&machine, text, len, &len) == HVPM_DONE && len == sizeof wanted - 1);
+    holds("just its bytes", hvpm_table(&machine, text, len, &len) == HVPM_STATUS_OK && len == sizeof wanted - 1);
     holds("the table", memcmp(text, wanted, len) == 0 && is_untouched(text + len, 1));
 }
 
@@ -251,8 +251,8 @@ static void look_at_table(void) {
 static void look_at_features(void) {
     uint32_t out[4] = {9, 9, 9, 9};
     unsigned calls = 0;
-    holds("there is no leaf of no partition", hvpm_features(&machine, 5, out) == HVPM_NONE && out[0] == 9);
-    holds("the leaf of partition 2", hvpm_features(&machine, 2, out) == HVPM_DONE);
+    holds("there is no leaf of no partition", hvpm_features(&machine, 5, out) == HVPM_STATUS_NONE && out[0] == 9);
+    holds("the leaf of partition 2", hvpm_features(&machine, 2, out) == HVPM_STATUS_OK);
     holds("its registers", out[0] == 0x44 && out[1] == 0xb1 && out[2] == 0 && out[3] == 0);
     for (uint32_t code = 0; code < 0x10000; code++) calls += hvpm_is_call((uint16_t)code);
     holds("there are 21 calls", calls == 21 && hvpm_is_call(0x40) && hvpm_is_call(0x96) && !hvpm_is_call(0x4B));

@@ -34,13 +34,13 @@ static void holds(const char *what, bool is_so) {
 
 /* An event that is taken, whatever it is answered. */
 static void taken(uint32_t status) {
-    holds("an event is taken", status == HVPM_DONE);
+    holds("an event is taken", status == HVPM_STATUS_OK);
     events++;
 }
 
 static void served(const char *what, uint32_t status, const hvpm_reply *reply) {
     taken(status);
-    holds(what, reply->kind == HVPM_SERVED || reply->kind == HVPM_MORE);
+    holds(what, reply->kind == HVPM_REPLY_SERVED || reply->kind == HVPM_REPLY_MORE);
 }
 
 /* ---- Processors, as a VMM has them ---- */
@@ -80,9 +80,9 @@ static void settle(const hvpm_effect *effect) {
     for (size_t i = 0; i < PROCESSORS; i++) {
         struct processor *at = &processors[i];
         uint8_t vector;
-        holds("pages are brought up to date", hvpm_pages_after(&machine, &at->pages, effect) == HVPM_DONE);
+        holds("pages are brought up to date", hvpm_pages_after(&machine, &at->pages, effect) == HVPM_STATUS_OK);
         for (;;) {
-            holds("a vector is taken", hvpm_pages_vector(&machine, &at->pages, &vector) == HVPM_DONE);
+            holds("a vector is taken", hvpm_pages_vector(&machine, &at->pages, &vector) == HVPM_STATUS_OK);
             if (vector == 0) break;
             holds("a vector of a SINT", vector / 64 == 1);
             __atomic_fetch_or(&at->injected, UINT64_C(1) << vector % 64, __ATOMIC_SEQ_CST);
@@ -94,7 +94,7 @@ static void settle(const hvpm_effect *effect) {
 
 static void look_first(void) {
     for (size_t i = 0; i < PROCESSORS; i++)
-        holds("slots are looked at", hvpm_pages_before(&machine, &processors[i].pages) == HVPM_DONE);
+        holds("slots are looked at", hvpm_pages_before(&machine, &processors[i].pages) == HVPM_STATUS_OK);
 }
 
 static void end_message(struct processor *self) {
@@ -117,11 +117,11 @@ static void write_page(struct processor *self, uint32_t msr, uint64_t value) {
     write_msr(self->pages.of, msr, value);
     for (uint32_t i = 0; i < 2; i++) {
         holds("SIMP and SIEFP are seen",
-              hvpm_peek_msr(&machine, self->pages.of, i == 0 ? 0x40000083 : 0x40000082, &at[i]) == HVPM_DONE);
+              hvpm_peek_msr(&machine, self->pages.of, i == 0 ? 0x40000083 : 0x40000082, &at[i]) == HVPM_STATUS_OK);
         const uint64_t page = at[i] / PAGE - 1;
         if (at[i] & 1 && page < 2 * PROCESSORS) pages[i] = memory[page / 2][page % 2];
     }
-    holds("pages are moved", hvpm_pages_move(&machine, &self->pages, pages[0], pages[1]) == HVPM_DONE);
+    holds("pages are moved", hvpm_pages_move(&machine, &self->pages, pages[0], pages[1]) == HVPM_STATUS_OK);
 }
 
 /* What is sent from one processor to another: messages, or event flags, each with a port and a connection of one number. */
@@ -145,7 +145,7 @@ static void set_up(void) {
     static const hvpm_config config = {.mask = 0xf700000064, .pages = 64, .pool = 32, .vps = 1};
     hvpm_reply reply;
     uint64_t guest = 0, pages[24];
-    holds("boot", hvpm_boot(&machine, &config) == HVPM_DONE);
+    holds("boot", hvpm_boot(&machine, &config) == HVPM_STATUS_OK);
     events = 0;
     memset(processors, 0, sizeof processors);
     memset(memory, 0, sizeof memory);
@@ -198,9 +198,9 @@ static bool post(const struct link *link) {
     taken(hvpm_post_message(&machine, processors[link->from].pages.of, link->id, 1 + (uint32_t)*number % 1000, payload,
                             size, &reply, NULL, 0));
     settle(&reply.effect);
-    holds("a post is served, or P23 refuses it", reply.kind == HVPM_SERVED || reply.rule == 23);
-    if (reply.kind == HVPM_SERVED) __atomic_fetch_add(number, 1, __ATOMIC_RELAXED);
-    return reply.kind == HVPM_SERVED;
+    holds("a post is served, or P23 refuses it", reply.kind == HVPM_REPLY_SERVED || reply.rule == 23);
+    if (reply.kind == HVPM_REPLY_SERVED) __atomic_fetch_add(number, 1, __ATOMIC_RELAXED);
+    return reply.kind == HVPM_REPLY_SERVED;
 }
 
 static void signal_flag(const struct link *link, uint16_t flag) {
@@ -484,9 +484,9 @@ static void nothing_is_left(void) {
         holds("no vector is left", take_vector(&processors[i]) == 0);
         for (uint32_t at = 0; at < PAGE; at++) holds("no flag is left in a page", memory[i][1][at] == 0);
         for (uint8_t sint = 0; sint < SINTS; sint++) {
-            holds("a slot is seen", hvpm_peek_slot(&machine, processors[i].pages.of, sint, bytes) == HVPM_DONE);
+            holds("a slot is seen", hvpm_peek_slot(&machine, processors[i].pages.of, sint, bytes) == HVPM_STATUS_OK);
             holds("no message is left", bytes[0] == 0 && bytes[1] == 0);
-            holds("flags are seen", hvpm_peek_flags(&machine, processors[i].pages.of, sint, bytes) == HVPM_DONE);
+            holds("flags are seen", hvpm_peek_flags(&machine, processors[i].pages.of, sint, bytes) == HVPM_STATUS_OK);
             for (uint32_t at = 0; at < 256; at++) holds("no flag is left", bytes[at] == 0);
         }
     }

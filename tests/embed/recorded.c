@@ -27,7 +27,7 @@ static FILE *script, *audit;
 
 /* Keeps the audit's line of the event before. */
 static void keep(uint32_t status, const char *line) {
-    holds("an event is taken", status == HVPM_DONE);
+    holds("an event is taken", status == HVPM_STATUS_OK);
     holds("its line is kept", fwrite(line, 1, reply.line_len, audit) == reply.line_len);
 }
 
@@ -37,12 +37,12 @@ static void call(hvpm_caller by, uint64_t rcx, uint64_t rdx, uint64_t r8, const 
     char text[HVPM_CALL_LINE], line[HVPM_LINE];
     size_t len;
     holds("a call's line is told",
-          hvpm_hypercall_line(by, &registers, input, input_len, text, sizeof text, &len) == HVPM_DONE);
+          hvpm_hypercall_line(by, &registers, input, input_len, text, sizeof text, &len) == HVPM_STATUS_OK);
     holds("a call's line is recorded", fwrite(text, 1, len, script) == len);
     do {
         keep(hvpm_hypercall(&machine, by, &registers, input, input_len, &reply, line, sizeof line), line);
         registers.rcx = hvpm_next(registers.rcx, &reply);
-    } while (reply.kind == HVPM_MORE);
+    } while (reply.kind == HVPM_REPLY_MORE);
 }
 
 /* Records an access. Which one it is, is known to the caller, who takes it then. */
@@ -50,7 +50,7 @@ static void record(hvpm_caller by, uint32_t access, uint32_t number, uint64_t va
     char text[HVPM_EVENT_LINE];
     size_t len;
     holds("an access's line is told",
-          hvpm_access_line(by, access, number, value, text, sizeof text, &len) == HVPM_DONE);
+          hvpm_access_line(by, access, number, value, text, sizeof text, &len) == HVPM_STATUS_OK);
     holds("an access's line is recorded", fwrite(text, 1, len, script) == len);
 }
 
@@ -122,7 +122,7 @@ static void run(void) {
     static const uint64_t message[] = {1, UINT64_C(3) << 32 | 5, 0x656e6f};
     static const uint64_t property[] = {2, HVPM_PRIVILEGE_FLAGS, 0xb100000044};
     static const uint64_t registers[] = {2, 1, UINT64_C(0x00020001) << 32 | 0x00020000, 0x00020002};
-    holds("boot", hvpm_boot(&machine, &config) == HVPM_DONE);
+    holds("boot", hvpm_boot(&machine, &config) == HVPM_STATUS_OK);
     fprintf(script, "boot %" PRIu32 " %" PRIu32 " %" PRIu32 " 0x%" PRIx64 " %" PRIu32 "\n", config.pages, config.pool,
             config.vps, config.mask, UINT32_MAX);
     call(root, 0x40, 0, 0x1000, NULL, 0);
@@ -180,13 +180,13 @@ static void is_call(hvpm_caller by, hvpm_registers registers, const void *input,
     size_t len = 0;
     memset(text, 0x5A, sizeof text);
     holds("a call's length",
-          hvpm_hypercall_line(by, &registers, input, input_len, NULL, 0, &len) == HVPM_SHORT && len == size);
+          hvpm_hypercall_line(by, &registers, input, input_len, NULL, 0, &len) == HVPM_STATUS_SHORT && len == size);
     len = 0;
     holds("a byte less for a call",
-          hvpm_hypercall_line(by, &registers, input, input_len, text, size - 1, &len) == HVPM_SHORT && len == size);
+          hvpm_hypercall_line(by, &registers, input, input_len, text, size - 1, &len) == HVPM_STATUS_SHORT && len == size);
     holds("nothing is written of a call", text[0] == 0x5A && memcmp(text, text + 1, sizeof text - 1) == 0);
     holds("a call",
-          hvpm_hypercall_line(by, &registers, input, input_len, text, size, &len) == HVPM_DONE && len == size);
+          hvpm_hypercall_line(by, &registers, input, input_len, text, size, &len) == HVPM_STATUS_OK && len == size);
     if (memcmp(text, wanted, size) != 0) fprintf(stderr, "%.*s, wanted %s", (int)len, text, wanted);
     holds("its line", memcmp(text, wanted, size) == 0 && (size == sizeof text || text[size] == 0x5A));
 }
@@ -223,12 +223,12 @@ static void is_access(hvpm_caller by, uint32_t access, uint32_t number, uint64_t
     size_t len = 0;
     memset(text, 0x5A, sizeof text);
     holds("an access's length",
-          hvpm_access_line(by, access, number, value, NULL, 0, &len) == HVPM_SHORT && len == size);
+          hvpm_access_line(by, access, number, value, NULL, 0, &len) == HVPM_STATUS_SHORT && len == size);
     len = 0;
     holds("a byte less for an access",
-          hvpm_access_line(by, access, number, value, text, size - 1, &len) == HVPM_SHORT && len == size);
+          hvpm_access_line(by, access, number, value, text, size - 1, &len) == HVPM_STATUS_SHORT && len == size);
     holds("nothing is written of an access", text[0] == 0x5A && memcmp(text, text + 1, sizeof text - 1) == 0);
-    holds("an access", hvpm_access_line(by, access, number, value, text, size, &len) == HVPM_DONE && len == size);
+    holds("an access", hvpm_access_line(by, access, number, value, text, size, &len) == HVPM_STATUS_OK && len == size);
     if (memcmp(text, wanted, size) != 0) fprintf(stderr, "%.*s, wanted %s", (int)len, text, wanted);
     holds("its line", memcmp(text, wanted, size) == 0 && text[size] == 0x5A);
 }
@@ -238,7 +238,7 @@ static void is_no_access(uint32_t access, uint32_t number, uint64_t value) {
     size_t len = 9;
     memset(text, 0x5A, sizeof text);
     holds("there is no such access",
-          hvpm_access_line(root, access, number, value, text, sizeof text, &len) == HVPM_NONE && len == 9);
+          hvpm_access_line(root, access, number, value, text, sizeof text, &len) == HVPM_STATUS_NONE && len == 9);
     holds("nothing is written of no access", text[0] == 0x5A && memcmp(text, text + 1, sizeof text - 1) == 0);
 }
 

@@ -36,8 +36,8 @@ static struct balance balance_of(uint8_t partition) {
     char line[HVPM_LINE];
     const uint32_t status =
         hvpm_hypercall(&machine, root, &ask, input, sizeof input, &reply, line, sizeof line);
-    must(status == HVPM_DONE, "a balance isn't told");
-    if (reply.kind != HVPM_SERVED) return (struct balance){-1, -1};
+    must(status == HVPM_STATUS_OK, "a balance isn't told");
+    if (reply.kind != HVPM_REPLY_SERVED) return (struct balance){-1, -1};
     return (struct balance){reply.output[0] | reply.output[1] << 8, reply.output[8] | reply.output[9] << 8};
 }
 
@@ -81,7 +81,7 @@ static struct told take(const struct call *call) {
     memset(&told, 0xA5, sizeof told);
     memcpy(&before, &told, sizeof before);
     uint32_t status = run(call, &told);
-    if (status == HVPM_MEMORY) {
+    if (status == HVPM_STATUS_MEMORY) {
         fprintf(stderr, "refused %s\n", call->name);
         must(memcmp(&before, &told, sizeof told) == 0, "a refused run wrote something");
         must(machine.live && machine.events == handle.events && machine.at == handle.at,
@@ -89,7 +89,7 @@ static struct told take(const struct call *call) {
         must(is_as_before(), "it changed the pages");
         status = run(call, &told);
     }
-    must(status == HVPM_DONE, "a run isn't taken");
+    must(status == HVPM_STATUS_OK, "a run isn't taken");
     return told;
 }
 
@@ -103,7 +103,7 @@ static void tell(struct call call) {
         elements += told.done.events;
         for (uint32_t i = 0; i < told.done.output_len; i++)
             printf("%s%02x", i % 8 ? "" : " ", told.outputs[i]);
-        goes_on = told.reply.kind == HVPM_MORE;
+        goes_on = told.reply.kind == HVPM_REPLY_MORE;
         if (goes_on) fprintf(stderr, "stopped %s\n", call.name);
         weigh();
         call.registers.rcx = hvpm_next(call.registers.rcx, &told.reply);
@@ -117,7 +117,7 @@ static void tell(struct call call) {
 #define REP(code, elements) ((uint64_t)(elements) << 32 | (code))
 #define LIST(bytes) bytes, sizeof bytes
 
-/* Every other page from 14 on: so many runs of one page that their set wants memory again on the way. */
+/* Every other page from 14 on: so many runs of one page that their set needs memory again on the way. */
 enum { PAGES = 300 };
 static uint8_t pages[8 + 8 * PAGES] = {2};
 
@@ -143,7 +143,7 @@ int main(void) {
         pages[9 + 8 * i] = (uint8_t)(page >> 8);
     }
     const hvpm_config config = {.mask = 0xf700000044, .pages = 800, .pool = 12, .vps = 1};
-    must(hvpm_boot(&machine, &config) == HVPM_DONE, "boot");
+    must(hvpm_boot(&machine, &config) == HVPM_STATUS_OK, "boot");
     weigh();
     tell((struct call){"create partition", {.rcx = 0x40}, NULL, 0});
     tell((struct call){"initialize", {.rcx = 0x10041, .rdx = 2}, NULL, 0});

@@ -25,13 +25,13 @@ static void must(bool holds, const char *what) {
 }
 
 static void tell(uint32_t status) {
-    must(status == HVPM_DONE, "it isn't done");
+    must(status == HVPM_STATUS_OK, "it isn't done");
     fwrite(line, 1, reply.line_len, stdout);
 }
 
 static void boot(uint32_t pages, uint32_t pool) {
     const hvpm_config config = {.mask = 0xf700000044, .pages = pages, .pool = pool, .vps = 1};
-    must(hvpm_boot(&machine, &config) == HVPM_DONE, "it doesn't boot");
+    must(hvpm_boot(&machine, &config) == HVPM_STATUS_OK, "it doesn't boot");
 }
 
 /* ---- A life ---- */
@@ -48,7 +48,7 @@ static uint64_t make(void) {
     do {
         tell(hvpm_deposit_memory(&machine, root, child, pages, 5, at, TOLD));
         at = (uint16_t)reply.next;
-    } while (reply.kind == HVPM_MORE);
+    } while (reply.kind == HVPM_REPLY_MORE);
     tell(hvpm_create_vp(&machine, root, child, 0, TOLD));
     tell(hvpm_create_port(&machine, root, &port, TOLD));
     return child;

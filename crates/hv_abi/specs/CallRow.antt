@@ -2,9 +2,24 @@
 -- its lists.
 use Rattle.std.specs.Prelude.{ℕ, ◌+◌, ◌*◌, ◌==◌, ◌&&◌, Bool, not, nat_le, Option, find}
 use Rattle.hv_abi.specs.declared.call_row.CallRow.{CallRow}
-use Rattle.hv_abi.specs.declared.call_row.TheConstants.{CREATE_PARTITION, INITIALIZE_PARTITION, FINALIZE_PARTITION, DELETE_PARTITION, GET_PARTITION_PROPERTY, SET_PARTITION_PROPERTY, GET_PARTITION_ID, GET_NEXT_CHILD_PARTITION, DEPOSIT_MEMORY, WITHDRAW_MEMORY, GET_MEMORY_BALANCE, CREATE_VP, DELETE_VP, GET_VP_REGISTERS, SET_VP_REGISTERS, DELETE_PORT, DISCONNECT_PORT, POST_MESSAGE, SIGNAL_EVENT, CREATE_PORT, CONNECT_PORT}
+use Rattle.hv_abi.specs.declared.call_row.TheConstants.{CREATE_PARTITION, INITIALIZE_PARTITION}
+use Rattle.hv_abi.specs.declared.call_row.TheConstants.{FINALIZE_PARTITION, DELETE_PARTITION}
+use Rattle.hv_abi.specs.declared.call_row.TheConstants.{GET_PARTITION_PROPERTY, SET_PARTITION_PROPERTY}
+use Rattle.hv_abi.specs.declared.call_row.TheConstants.{GET_PARTITION_ID, GET_NEXT_CHILD_PARTITION}
+use Rattle.hv_abi.specs.declared.call_row.TheConstants.{DEPOSIT_MEMORY, WITHDRAW_MEMORY, GET_MEMORY_BALANCE}
+use Rattle.hv_abi.specs.declared.call_row.TheConstants.{CREATE_VP, DELETE_VP, GET_VP_REGISTERS}
+use Rattle.hv_abi.specs.declared.call_row.TheConstants.{SET_VP_REGISTERS, DELETE_PORT, DISCONNECT_PORT}
+use Rattle.hv_abi.specs.declared.call_row.TheConstants.{POST_MESSAGE, SIGNAL_EVENT, CREATE_PORT, CONNECT_PORT}
 use Rattle.hv_abi.specs.declared.call_kind.CallKind.{CallKind}
-use Rattle.hv_abi.specs.declared.call_kind.CallKind.TheVariants.{CreatePartition, InitializePartition, FinalizePartition, DeletePartition, GetPartitionProperty, SetPartitionProperty, GetPartitionId, GetNextChildPartition, DepositMemory, WithdrawMemory, GetMemoryBalance, CreateVp, DeleteVp, GetVpRegisters, SetVpRegisters, DeletePort, DisconnectPort, PostMessage, SignalEvent, CreatePort, ConnectPort}
+use Rattle.hv_abi.specs.declared.call_kind.CallKind.TheVariants.{CreatePartition, InitializePartition}
+use Rattle.hv_abi.specs.declared.call_kind.CallKind.TheVariants.{FinalizePartition, DeletePartition}
+use Rattle.hv_abi.specs.declared.call_kind.CallKind.TheVariants.{GetPartitionProperty, SetPartitionProperty}
+use Rattle.hv_abi.specs.declared.call_kind.CallKind.TheVariants.{GetPartitionId, GetNextChildPartition}
+use Rattle.hv_abi.specs.declared.call_kind.CallKind.TheVariants.{DepositMemory, WithdrawMemory}
+use Rattle.hv_abi.specs.declared.call_kind.CallKind.TheVariants.{GetMemoryBalance, CreateVp, DeleteVp}
+use Rattle.hv_abi.specs.declared.call_kind.CallKind.TheVariants.{GetVpRegisters, SetVpRegisters, DeletePort}
+use Rattle.hv_abi.specs.declared.call_kind.CallKind.TheVariants.{DisconnectPort, PostMessage, SignalEvent}
+use Rattle.hv_abi.specs.declared.call_kind.CallKind.TheVariants.{CreatePort, ConnectPort}
 use Rattle.hv_abi.specs.declared.call_kind.TheConstants.{ALL_CALLS}
 
 -- the row of a call in the table

@@ -1,5 +1,6 @@
 -- When a frame is that of a call, and what is wrong with it first.
-use Rattle.std.specs.Prelude.{◌≡◌, ℕ, ◌+◌, ◌%◌, ◌==◌, ◌&&◌, ◌||◌, Bool, true, not, if◌then◌else◌, nat_le, nat_lt, List, ◌++◌, Option, Some, None}
+use Rattle.std.specs.Prelude.{◌≡◌, ℕ, ◌+◌, ◌%◌, ◌==◌, ◌&&◌, ◌||◌, Bool, true, not, if◌then◌else◌, nat_le}
+use Rattle.std.specs.Prelude.{nat_lt, List, ◌++◌, Option, Some, None}
 use Rattle.std.specs.Int.{w64, to_le_bytes}
 use Rattle.hv_defs.specs.Bits.{bits}
 use Rattle.hv_defs.specs.declared.sizes.TheConstants.{PAGE_SIZE}
@@ -22,12 +23,14 @@ is_fast rcx = bits rcx 16 1 == 1
 
 -- a rep call counts at least one rep and starts below its count, a simple call has neither
 abbrev pub are_reps_valid : Bool → ℕ → ℕ → Bool
-are_reps_valid rep reps start = if rep then nat_le 1 reps && nat_lt start reps else (reps == 0) && (start == 0)
+are_reps_valid rep reps start = if rep then nat_le 1 reps && nat_lt start reps else (reps == 0) &&
+    (start == 0)
 
 -- whether an input value is one that the call takes
 abbrev pub is_input_valid : CallRow → ℕ → Bool
 is_input_valid row rcx =
-    is_reserved_zero rcx && (not (is_fast rcx) || row.fast) && are_reps_valid row.rep (bits rcx 32 12) (bits rcx 48 12)
+    is_reserved_zero rcx && (not (is_fast rcx) || row.fast) && are_reps_valid row.rep (bits rcx 32 12)
+    (bits rcx 48 12)
 
 -- whether a list may stand at an address: at a multiple of 8 and within one page, or anywhere if it is empty
 abbrev pub is_placed : ℕ → ℕ → Bool
@@ -36,7 +39,8 @@ is_placed address len = (len == 0) || ((address % 8 == 0) && nat_le (address % P
 -- whether the lists of a frame are placed well: input at RDX, output at R8, and no list if it is fast
 abbrev pub are_lists_placed : {A : Type 0} → CallRow → Frame A → Bool
 are_lists_placed row frame =
-    is_fast frame.rcx || (is_placed frame.rdx (input_len row (bits frame.rcx 32 12)) && is_placed frame.r8 (output_len row (bits frame.rcx 32 12)))
+    is_fast frame.rcx || (is_placed frame.rdx (input_len row (bits frame.rcx 32 12)) && is_placed frame.r8
+    (output_len row (bits frame.rcx 32 12)))
 
 -- the frame is that of a call, and the shape holds what its input value says
 pub record IsShape {A : Type 0} (frame : Frame A) (shape : Shape) : Type 0 where

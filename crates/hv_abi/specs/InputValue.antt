@@ -5,7 +5,8 @@ use Rattle.hv_abi.specs.declared.input_value.InputValue.{InputValue}
 
 -- whether bits 26:17, 31:27, 47:44 and 63:60 are zero
 abbrev pub is_reserved_zero : ℕ → Bool
-is_reserved_zero rcx = (bits rcx 17 10 == 0) && (bits rcx 27 5 == 0) && (bits rcx 44 4 == 0) && (bits rcx 60 4 == 0)
+is_reserved_zero rcx = (bits rcx 17 10 == 0) && (bits rcx 27 5 == 0) && (bits rcx 44 4 == 0) &&
+    (bits rcx 60 4 == 0)
 
 -- what an input value says: bits 15:0 call code, 16 fast, 43:32 rep count, 59:48 rep start index
 abbrev pub input_value : ℕ → InputValue

@@ -1,7 +1,15 @@
 -- The status values, HV_STATUS.
 use Rattle.std.specs.Prelude.{ℕ, List, codes}
 use Rattle.hv_abi.specs.declared.status.Status.{Status}
-use Rattle.hv_abi.specs.declared.status.Status.TheVariants.{Success, InvalidHypercallCode, InvalidHypercallInput, InvalidAlignment, InvalidParameter, AccessDenied, InvalidPartitionState, UnknownProperty, PropertyValueOutOfRange, InsufficientMemory, PartitionTooDeep, InvalidPartitionId, InvalidVpIndex, InvalidPortId, InvalidConnectionId, InsufficientBuffers, InvalidSynicState, ObjectInUse, NoResources}
+use Rattle.hv_abi.specs.declared.status.Status.TheVariants.{Success, InvalidHypercallCode}
+use Rattle.hv_abi.specs.declared.status.Status.TheVariants.{InvalidHypercallInput, InvalidAlignment}
+use Rattle.hv_abi.specs.declared.status.Status.TheVariants.{InvalidParameter, AccessDenied}
+use Rattle.hv_abi.specs.declared.status.Status.TheVariants.{InvalidPartitionState, UnknownProperty}
+use Rattle.hv_abi.specs.declared.status.Status.TheVariants.{PropertyValueOutOfRange, InsufficientMemory}
+use Rattle.hv_abi.specs.declared.status.Status.TheVariants.{PartitionTooDeep, InvalidPartitionId}
+use Rattle.hv_abi.specs.declared.status.Status.TheVariants.{InvalidVpIndex, InvalidPortId}
+use Rattle.hv_abi.specs.declared.status.Status.TheVariants.{InvalidConnectionId, InsufficientBuffers}
+use Rattle.hv_abi.specs.declared.status.Status.TheVariants.{InvalidSynicState, ObjectInUse, NoResources}
 
 -- the number of a status in a result value
 abbrev pub status_code : Status → ℕ

@@ -136,8 +136,8 @@ impl CallKind {
     pub fn is_rep(self) -> bool
         ensures { result ≡ (row_of self).rep }
     {
-        // Said of the calls themselves, and not read in the table, which the contract holds it to: where this is
-        // inlined a table of all calls would be, too.
+        // Said of the calls themselves, and not read in the table, which the contract holds it to: where this
+        // is inlined a table of all calls would be, too.
         match self {
             CallKind::DepositMemory
             | CallKind::WithdrawMemory

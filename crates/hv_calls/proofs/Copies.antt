@@ -49,7 +49,8 @@ bytes_at-ended (byte ∷ block) (suc n) within =
 pub copied : (block made all : List ℕ) (n : ℕ) → made ≡ [] → all ≡ made ++ take n block → n ≤ length block → all ≡ bytes_at block 0 n
 copied block made all n none is within = is ∙ ap (λ bytes. bytes ++ take n block) none ∙ sym (bytes_at-there block n within)
 
-pub copied-ended : (block made put all : List ℕ) (n : ℕ) → made ≡ [] → put ≡ made ++ block → all ≡ put ++ take (n - length block) (replicate 240 0) → length block ≤ n → n ≤ 240 → all ≡ bytes_at block 0 n
+pub copied-ended : (block made put all : List ℕ) (n : ℕ) → made ≡ [] → put ≡ made ++ block → all ≡ put ++ take (n - length block) (replicate 240 0) → length block ≤ n → n ≤ 240 → all ≡ bytes_at block
+    0 n
 copied-ended block made put all n none first second within most =
     second
     ∙ ap (λ bytes. bytes ++ take (n - length block) (replicate 240 0)) (first ∙ ap (λ bytes. bytes ++ block) none)

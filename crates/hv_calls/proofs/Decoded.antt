@@ -59,7 +59,8 @@ kind-choice kind true call same = same
 kind-choice kind false call same = tt
 
 -- what a block gives with the element at a start index is what the frame gives, where both are the frame's
-pub decoded-same : {A : Type 0} (frame : Frame A) (kind : CallKind) (result : Result Call Malformed) (fast : Bool) (start : ℕ) → result ≡ decoded kind (input_of frame fast) (element_at kind start) → fast ≡ is_fast frame.rcx → start ≡ bits frame.rcx 48 12 → result ≡ decoded_of kind frame
+pub decoded-same : {A : Type 0} (frame : Frame A) (kind : CallKind) (result : Result Call Malformed) (fast : Bool) (start : ℕ) → result ≡ decoded kind (input_of frame fast) (element_at kind start) →
+    fast ≡ is_fast frame.rcx → start ≡ bits frame.rcx 48 12 → result ≡ decoded_of kind frame
 decoded-same frame kind result fast start e of_fast of_start = e ∙ rw (of_start, of_fast) refl
 
 -- each clause of `decode`, from its result

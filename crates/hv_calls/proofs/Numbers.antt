@@ -45,7 +45,8 @@ byte_in i (suc n) (suc k) x rest less =
 pub field-bytes : (x : ℕ) (rest : List ℕ) (at n : ℕ) → at + n ≤ 8 → field (to_le_bytes w64 x ++ rest) at n ≡ x / 256 ^ at % 256 ^ n
 field-bytes x rest at n within =
     let from : (k : ℕ) → 0 + (at + k) ≡ at + k = λ k. omega arith in
-    let copied = little_from-copy (bytes_low_first at n x ++ []) (to_le_bytes w64 x ++ rest) at 0 n (λ k less. byte_in at n k x [] (omega (arith, less)) ∙ sym (byte_in 0 8 (at + k) x rest (omega (arith, less, within)) ∙ ap (λ j. byte_at j x) (from k))) in
+    let copied = little_from-copy (bytes_low_first at n x ++ []) (to_le_bytes w64 x ++ rest) at 0 n
+    (λ k less. byte_in at n k x [] (omega (arith, less)) ∙ sym (byte_in 0 8 (at + k) x rest (omega (arith, less, within)) ∙ ap (λ j. byte_at j x) (from k))) in
     let place = add-zero at in
     ap (λ i. field (to_le_bytes w64 x ++ rest) i n) (sym place) ∙ sym copied ∙ little_from-bytes n at x []
 

@@ -1,6 +1,6 @@
--- The blocks: where each call's parameters stand in its input. A field is written as its offset and its size in
--- bytes, little-endian; `element` is the place at which a rep call's element begins. Bytes that no field covers
--- aren't read.
+-- The blocks: where each call's parameters stand in its input. A field is written as its offset and its size
+-- in bytes, little-endian; `element` is the place at which a rep call's element begins. Bytes that no field
+-- covers aren't read.
 use Rattle.std.specs.Prelude.{ℕ, ◌+◌, ◌==◌, if◌then◌else◌, List}
 use Rattle.hv_abi.specs.declared.call_kind.CallKind.{CallKind}
 use Rattle.hv_abi.specs.declared.call_kind.CallKind.TheVariants as kind
@@ -12,7 +12,14 @@ use Rattle.hv_defs.specs.declared.port_kind.PortKind.TheVariants.{Message, Event
 use Rattle.hv_defs.specs.declared.sizes.TheConstants.{ANY_VP}
 use Rattle.hv_calls.specs.Bytes.{bytes_at}
 use Rattle.hv_calls.specs.declared.call.Call.{Call}
-use Rattle.hv_calls.specs.declared.call.Call.TheVariants.{CreatePartition, InitializePartition, FinalizePartition, DeletePartition, GetPartitionProperty, SetPartitionProperty, GetPartitionId, GetNextChildPartition, DepositMemory, WithdrawMemory, GetMemoryBalance, CreateVp, DeleteVp, GetVpRegisters, SetVpRegisters, DeletePort, DisconnectPort, PostMessage, SignalEvent, CreatePort, ConnectPort}
+use Rattle.hv_calls.specs.declared.call.Call.TheVariants.{CreatePartition, InitializePartition}
+use Rattle.hv_calls.specs.declared.call.Call.TheVariants.{FinalizePartition, DeletePartition}
+use Rattle.hv_calls.specs.declared.call.Call.TheVariants.{GetPartitionProperty, SetPartitionProperty}
+use Rattle.hv_calls.specs.declared.call.Call.TheVariants.{GetPartitionId, GetNextChildPartition}
+use Rattle.hv_calls.specs.declared.call.Call.TheVariants.{DepositMemory, WithdrawMemory, GetMemoryBalance}
+use Rattle.hv_calls.specs.declared.call.Call.TheVariants.{CreateVp, DeleteVp, GetVpRegisters, SetVpRegisters}
+use Rattle.hv_calls.specs.declared.call.Call.TheVariants.{DeletePort, DisconnectPort, PostMessage}
+use Rattle.hv_calls.specs.declared.call.Call.TheVariants.{SignalEvent, CreatePort, ConnectPort}
 
 -- what a port of this PortType takes: 1 is messages, 2 event flags, and every other number is malformed
 abbrev pub port_kind : ℕ → PortKind
@@ -32,7 +39,8 @@ call_in kind.FinalizePartition block element = FinalizePartition (field block 0 
 call_in kind.DeletePartition block element = DeletePartition (field block 0 8)
 -- PartitionId, PropertyCode, and PropertyValue
 call_in kind.GetPartitionProperty block element = GetPartitionProperty (field block 0 8) (field block 8 4)
-call_in kind.SetPartitionProperty block element = SetPartitionProperty (field block 0 8) (field block 8 4) (field block 16 8)
+call_in kind.SetPartitionProperty block element = SetPartitionProperty (field block 0 8) (field block 8 4)
+    (field block 16 8)
 -- no input
 call_in kind.GetPartitionId block element = GetPartitionId
 -- ParentId, PreviousChildId
@@ -46,7 +54,8 @@ call_in kind.GetMemoryBalance block element = GetMemoryBalance (field block 0 8)
 call_in kind.CreateVp block element = CreateVp (field block 0 8) (field block 8 4)
 call_in kind.DeleteVp block element = DeleteVp (field block 0 8) (field block 8 4)
 -- PartitionId, VpIndex; in the element the register's name, and the lower half of its value
-call_in kind.GetVpRegisters block element = GetVpRegisters (field block 0 8) (field block 8 4) (field block element 4)
+call_in kind.GetVpRegisters block element = GetVpRegisters (field block 0 8) (field block 8 4)
+    (field block element 4)
 call_in kind.SetVpRegisters block element =
     SetVpRegisters (field block 0 8) (field block 8 4) (field block element 4) (field block (element + 16) 8)
 -- PartitionId, PortId
@@ -54,13 +63,16 @@ call_in kind.DeletePort block element = DeletePort (field block 0 8) (field bloc
 -- PartitionId, ConnectionId
 call_in kind.DisconnectPort block element = DisconnectPort (field block 0 8) (field block 8 4)
 -- ConnectionId, MessageType; PayloadSize bytes of the payload
-call_in kind.PostMessage block element = PostMessage (field block 0 4) (field block 8 4) (bytes_at block 16 (field block 12 4))
+call_in kind.PostMessage block element = PostMessage (field block 0 4) (field block 8 4)
+    (bytes_at block 16 (field block 12 4))
 -- ConnectionId, FlagNumber
 call_in kind.SignalEvent block element = SignalEvent (field block 0 4) (field block 4 2)
 -- PortPartition, PortId, ConnectionPartition, PortType, TargetSint, TargetVp, BaseFlagNumber, FlagCount
 call_in kind.CreatePort block element =
-    CreatePort (field block 0 8) (field block 8 4) (field block 16 8) (port_kind (field block 24 4)) (field block 32 4)
+    CreatePort (field block 0 8) (field block 8 4) (field block 16 8) (port_kind (field block 24 4))
+    (field block 32 4)
     (port_aim (field block 36 4)) (field block 40 2) (field block 42 2)
 -- ConnectionPartition, ConnectionId, PortPartition, PortId, PortType
 call_in kind.ConnectPort block element =
-    ConnectPort (field block 0 8) (field block 8 4) (field block 16 8) (field block 24 4) (port_kind (field block 32 4))
+    ConnectPort (field block 0 8) (field block 8 4) (field block 16 8) (field block 24 4)
+    (port_kind (field block 32 4))

@@ -16,7 +16,8 @@ element_at kind start = (row_of kind).input + start * (row_of kind).input_elemen
 
 -- the call of this kind that a frame holds, whether or not its parameters are well formed
 abbrev pub parameters : {A : Type 0} → CallKind → Frame A → Call
-parameters kind frame = call_in kind (input_of frame (is_fast frame.rcx)) (element_at kind (bits frame.rcx 48 12))
+parameters kind frame = call_in kind (input_of frame (is_fast frame.rcx))
+    (element_at kind (bits frame.rcx 48 12))
 
 -- whether they are
 abbrev pub are_parameters_valid : {A : Type 0} → CallKind → Frame A → Bool
@@ -30,4 +31,5 @@ pub record Params {A : Type 0} (frame : Frame A) (kind : CallKind) (c : Call) : 
 
 -- the call of this kind that stands in a block, if its parameters are well formed
 abbrev pub decoded : CallKind → List ℕ → ℕ → Result Call Malformed
-decoded kind block element = if are_well_formed kind block element then Ok (call_in kind block element) else Err record {}
+decoded kind block element = if are_well_formed kind block element then Ok (call_in kind block element) else
+    Err record {}

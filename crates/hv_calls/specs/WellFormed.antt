@@ -1,9 +1,18 @@
 -- Which parameters are malformed by themselves, rule P7.
 use Rattle.std.specs.Prelude.{ℕ, ◌+◌, ◌==◌, ◌&&◌, ◌||◌, not, nat_le, nat_lt, Bool, true, List}
 use Rattle.hv_abi.specs.declared.call_kind.CallKind.{CallKind}
-use Rattle.hv_abi.specs.declared.call_kind.CallKind.TheVariants.{CreatePartition, InitializePartition, FinalizePartition, DeletePartition, GetPartitionProperty, SetPartitionProperty, GetPartitionId, GetNextChildPartition, DepositMemory, WithdrawMemory, GetMemoryBalance, CreateVp, DeleteVp, GetVpRegisters, SetVpRegisters, DeletePort, DisconnectPort, PostMessage, SignalEvent, CreatePort, ConnectPort}
+use Rattle.hv_abi.specs.declared.call_kind.CallKind.TheVariants.{CreatePartition, InitializePartition}
+use Rattle.hv_abi.specs.declared.call_kind.CallKind.TheVariants.{FinalizePartition, DeletePartition}
+use Rattle.hv_abi.specs.declared.call_kind.CallKind.TheVariants.{GetPartitionProperty, SetPartitionProperty}
+use Rattle.hv_abi.specs.declared.call_kind.CallKind.TheVariants.{GetPartitionId, GetNextChildPartition}
+use Rattle.hv_abi.specs.declared.call_kind.CallKind.TheVariants.{DepositMemory, WithdrawMemory}
+use Rattle.hv_abi.specs.declared.call_kind.CallKind.TheVariants.{GetMemoryBalance, CreateVp, DeleteVp}
+use Rattle.hv_abi.specs.declared.call_kind.CallKind.TheVariants.{GetVpRegisters, SetVpRegisters, DeletePort}
+use Rattle.hv_abi.specs.declared.call_kind.CallKind.TheVariants.{DisconnectPort, PostMessage, SignalEvent}
+use Rattle.hv_abi.specs.declared.call_kind.CallKind.TheVariants.{CreatePort, ConnectPort}
 use Rattle.hv_defs.specs.Field.{field}
-use Rattle.hv_defs.specs.declared.sizes.TheConstants.{EVENT_FLAGS, MAX_MESSAGE_TYPE, MAX_PAYLOAD, MAX_PORT_ID, SINTS}
+use Rattle.hv_defs.specs.declared.sizes.TheConstants.{EVENT_FLAGS, MAX_MESSAGE_TYPE, MAX_PAYLOAD, MAX_PORT_ID}
+use Rattle.hv_defs.specs.declared.sizes.TheConstants.{SINTS}
 
 -- the id of a port or of a connection: 24 bits, the upper 8 of 32 being zero
 abbrev pub is_id : ℕ → Bool
@@ -46,4 +55,5 @@ are_well_formed SignalEvent block element = is_id (field block 0 4)
 are_well_formed CreatePort block element =
     is_id (field block 8 4) && is_port_type (field block 24 4) && nat_lt (field block 32 4) SINTS
     && are_flags (field block 24 4) (field block 40 2) (field block 42 2)
-are_well_formed ConnectPort block element = is_id (field block 8 4) && is_id (field block 24 4) && is_port_type (field block 32 4)
+are_well_formed ConnectPort block element = is_id (field block 8 4) && is_id (field block 24 4) &&
+    is_port_type (field block 32 4)

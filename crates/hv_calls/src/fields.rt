@@ -94,8 +94,8 @@ pub fn head_u32s<A: Allocator>(frame: &Frame<A>, shape: &Shape) -> (u32, u32, u3
     )
 }
 
-// The number of so many bytes at a place of RDX and then R8, by shifts. No field of a fast call stands in both of
-// them.
+// The number of so many bytes at a place of RDX and then R8, by shifts. No field of a fast call stands in
+// both of them.
 fn fast_number(rdx: u64, r8: u64, at: usize, size: usize) -> u64
     requires place { at < 2 ^ 33 }
     requires few { size ≤ 8 }
@@ -135,8 +135,8 @@ fn low_bytes(number: u64, at: usize, size: usize) -> u64
     (number >> (8 * at as u32)) % (1 << (8 * size as u32))
 }
 
-// The number of so many bytes at a place of a list, where those past its end are 0. From the last on that is there,
-// in a register: bytes that are written to memory and read as a number are waited for.
+// The number of so many bytes at a place of a list, where those past its end are 0. From the last on that is
+// there, in a register: bytes that are written to memory and read as a number are waited for.
 fn last_number(input: &[u8], at: usize, size: usize) -> u64
     requires { size ≤ 8 }
     ensures number { result ≡ field input.now at size }

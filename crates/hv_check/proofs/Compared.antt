@@ -1,5 +1,6 @@
 -- A line beside the policy's.
-use Rattle.std.proofs.Common.{◌≡◌, ℕ, ◌+◌, ◌<◌, ◌≢◌, List, [], ◌∷◌, ◌++◌, refl, sym, ap, ◌∙◌, subst, arith, append_assoc, append-nil, length, length-append, take, drop, get_or, Bool, true, false, Option, None, Some, inl, inr}
+use Rattle.std.proofs.Common.{◌≡◌, ℕ, ◌+◌, ◌<◌, ◌≢◌, List, [], ◌∷◌, ◌++◌, refl, sym, ap, ◌∙◌, subst, arith, append_assoc, append-nil, length, length-append, take, drop, get_or, Bool, true, false}
+use Rattle.std.proofs.Common.{Option, None, Some, inl, inr}
 use Rattle.std.specs.Prelude.{◌⊎◌, All, codes, IfNone, IfSome, OnOk, Result, Ok, Err, is_some, nat_eq}
 use Rattle.std.specs.Cmp.Lexicographic.{bytes_decides, pointwise}
 use Rattle.std.proofs.lemmas.Bool.{false≢true}
@@ -58,7 +59,8 @@ line_some number e text line rest is all = all ∙ ap (λ (l : Bytes). l ++ rest
 abbrev IsPlain : ℕ → Entry Global → Type 0
 IsPlain number e = (bare_text number e ≡ entry_text number e) × IsTail e.reply [] × ((tail : Bytes) → IsTail e.reply tail → tail ≡ [])
 
-plain_reply : (number : ℕ) (e : Entry Global) (reply : Reply) → e.reply ≡ reply → bare_reply_text e.event.what reply ≡ reply_text e.event.what reply → IsTail reply [] → ((tail : Bytes) → IsTail reply tail → tail ≡ []) → IsPlain number e
+plain_reply : (number : ℕ) (e : Entry Global) (reply : Reply) → e.reply ≡ reply → bare_reply_text e.event.what reply ≡ reply_text e.event.what reply → IsTail reply [] →
+    ((tail : Bytes) → IsTail reply tail → tail ≡ []) → IsPlain number e
 plain_reply number e reply is same none only = (
   bare_front number e ∙ ap (λ (r : Reply). front number e ++ bare_reply_text e.event.what r) is ∙ ap (λ (l : Bytes). front number e ++ l) same
       ∙ ap (λ (r : Reply). front number e ++ reply_text e.event.what r) (sym is) ∙ sym (entry_front number e),
@@ -72,7 +74,8 @@ plain_of number e (answer.More next) output none is = plain_reply number e (More
 plain_of number e (answer.Denied rule status reps) output none is = absurd (cc)
 plain_of number e (answer.Fault rule) output none is = absurd (cc)
 
-pub plain_some : (rules : Bool) (number : ℕ) (e : Entry Global) (a : Answer) (output text line rest : Bytes) → (rules ≡ true) ⊎ (name_in a ≡ None) → line ≡ entry_text number e ++ codes "\n" → e.reply ≡ reply_of a output → text ≡ line ++ rest
+pub plain_some : (rules : Bool) (number : ℕ) (e : Entry Global) (a : Answer) (output text line rest : Bytes) → (rules ≡ true) ⊎ (name_in a ≡ None) → line ≡ entry_text number e ++ codes "\n" → e.reply
+    ≡ reply_of a output → text ≡ line ++ rest
     → IsLine rules number e text rest
 plain_some true number e a output text line rest plain is reply all = line_some number e text line rest is all
 plain_some false number e a output text line rest (inl off) is reply all = absurd (cc)
@@ -80,7 +83,8 @@ plain_some false number e a output text line rest (inr none) is reply all =
     let plain = plain_of number e a output none reply in
     record { tail = []; name = plain.1; all = line_some number e text line rest is all ∙ ap (λ (l : Bytes). l ++ (codes "\n" ++ rest)) (sym plain.0) }
 
-pub plain_none : (rules : Bool) (number : ℕ) (e : Entry Global) (a : Answer) (output text line : Bytes) → (rules ≡ true) ⊎ (name_in a ≡ None) → line ≡ entry_text number e ++ codes "\n" → e.reply ≡ reply_of a output
+pub plain_none : (rules : Bool) (number : ℕ) (e : Entry Global) (a : Answer) (output text line : Bytes) → (rules ≡ true) ⊎ (name_in a ≡ None) → line ≡ entry_text number e ++ codes "\n" → e.reply ≡
+    reply_of a output
     → ((rest : Bytes) → text ≡ line ++ rest → ⊥) → (rest : Bytes) → IsLine rules number e text rest → ⊥
 plain_none true number e a output text line plain is reply none rest all =
     none rest (all ∙ sym (append_assoc (entry_text number e) (codes "\n") rest) ∙ ap (λ (l : Bytes). l ++ rest) (sym is))
@@ -130,7 +134,8 @@ bare_line number e a rule output line some is reply =
 pub name_length : (name : Bytes) → length (codes " " ++ name ++ codes "\n") ≡ length name + 2
 name_length name = omega (arith, length-append name (codes "\n"))
 
-pub named_some : (rules : Bool) (number : ℕ) (e : Entry Global) (a : Answer) (rule : Rule) (output text bare mid rest : Bytes) → rules ≡ false → name_in a ≡ Some rule → e.reply ≡ reply_of a output → bare ≡ bare_text number e → text ≡ bare ++ mid
+pub named_some : (rules : Bool) (number : ℕ) (e : Entry Global) (a : Answer) (rule : Rule) (output text bare mid rest : Bytes) → rules ≡ false → name_in a ≡ Some rule → e.reply ≡ reply_of a output →
+    bare ≡ bare_text number e → text ≡ bare ++ mid
     → IsBehindName mid rest → IsLine rules number e text rest
 named_some true number e a rule output text bare mid rest off some reply is all name = absurd (cc)
 named_some false number e a rule output text bare mid rest off some reply is all name = record {
@@ -139,7 +144,8 @@ named_some false number e a rule output text bare mid rest off some reply is all
   all = all ∙ (λ i. is i ++ name.all i);
 }
 
-pub named_none : (rules : Bool) (number : ℕ) (e : Entry Global) (a : Answer) (rule : Rule) (output text bare : Bytes) → rules ≡ false → name_in a ≡ Some rule → e.reply ≡ reply_of a output → bare ≡ bare_text number e
+pub named_none : (rules : Bool) (number : ℕ) (e : Entry Global) (a : Answer) (rule : Rule) (output text bare : Bytes) → rules ≡ false → name_in a ≡ Some rule → e.reply ≡ reply_of a output → bare ≡
+    bare_text number e
     → ((mid rest : Bytes) → text ≡ bare ++ mid → IsBehindName mid rest → ⊥) → (rest : Bytes) → IsLine rules number e text rest → ⊥
 named_none true number e a rule output text bare off some reply is none rest line = absurd (cc)
 named_none false number e a rule output text bare off some reply is none rest line =
@@ -210,7 +216,8 @@ none_if None b P is no_one p = p
 none_if (Some t) b P is no_one p = absurd (false≢true (sym no_one ∙ is))
 
 -- the last line of an audit, part by part
-pub end_cancel : (text count feed digits rest : Bytes) → text ≡ codes "events " ++ count → count ≡ digits ++ feed → text ≡ ((codes "events " ++ digits) ++ codes "\n") ++ rest → feed ≡ codes "\n" ++ rest
+pub end_cancel : (text count feed digits rest : Bytes) → text ≡ codes "events " ++ count → count ≡ digits ++ feed → text ≡ ((codes "events " ++ digits) ++ codes "\n") ++ rest → feed ≡ codes "\n" ++
+    rest
 end_cancel text count feed digits rest one two all =
     append_cancel_left digits feed (codes "\n" ++ rest)
     (sym two ∙ append_cancel_left (codes "events ") count (digits ++ (codes "\n" ++ rest)) (sym one ∙ all ∙ regroup (codes "events ") digits (codes "\n") rest))

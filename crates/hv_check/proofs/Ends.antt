@@ -30,7 +30,8 @@ last_whole replay events text Good begun idle is = λ lines stands. (all_over re
 last_whole replay events text (Bad wrong) begun idle is = λ lines stands over last. is last
 
 -- the end of what is left
-module _ (kept : Kept Global) (replay : Replay) (text : Bytes) (prefix : Bool) (events : ℕ) (count : events ≡ length kept.history) (few : length kept.history < 2 ^ 32) (run : IsRun kept) (rules : Bool) (lines : Lines) (stands : StandsFor replay lines) where
+module _ (kept : Kept Global) (replay : Replay) (text : Bytes) (prefix : Bool) (events : ℕ) (count : events ≡ length kept.history) (few : length kept.history < 2 ^ 32) (run : IsRun kept)
+    (rules : Bool) (lines : Lines) (stands : StandsFor replay lines) where
   pub ends_well : IsEnding prefix replay events text Good → IsLegalFrom prefix rules kept lines text
   ends_well good =
       let is = good lines stands in
@@ -59,7 +60,8 @@ pub not_moved : (rules : Bool) (k : Kept Global) (replay : Replay) (lines : Line
 not_moved rules k replay lines text stands = record { left = lines; stands = stands; forth = λ prefix is. is; back = λ prefix is. is }
 
 -- a line more
-pub moved_on : (rules : Bool) (a b c : Kept Global) (mid new : Replay) (lines : Lines) (text behind rest : Bytes) (first : HasMoved rules a b mid lines text behind) → HasMoved rules b c new first.left behind rest
+pub moved_on : (rules : Bool) (a b c : Kept Global) (mid new : Replay) (lines : Lines) (text behind rest : Bytes) (first : HasMoved rules a b mid lines text behind) → HasMoved rules b c new first.left
+    behind rest
     → HasMoved rules a c new lines text rest
 moved_on rules a b c mid new lines text behind rest first then = record {
   left = then.left;

@@ -4,7 +4,7 @@ use Rattle.std.specs.Prelude.{All, reverse}
 use Rattle.std.proofs.lemmas.List.Elements.{All-nil, All-push}
 use Rattle.std.specs.declared.alloc.Global.{Global}
 use Rattle.hv_phases.specs.Lines.{asked_by}
-use Rattle.hv_phases.proofs.Asked.{asked_by-append}
+use Rattle.hv_phases.proofs.Request.{asked_by-append}
 use Rattle.hv_policy.specs.declared.event.Caller.{Caller}
 use Rattle.hv_script.specs.declared.line.Line.{Line}
 use Rattle.hv_check.specs.Replay.{todo_of}
@@ -22,7 +22,8 @@ pub record IsHanded (first : Line Global) (old : Lines) (turns : List Turn) (new
   pub asked : (by : Caller) → todo_of by turns ≡ asked_by by (first ∷ more)
 
 -- the first of them
-pub handed_first : (first : Line Global) (old : Lines) (before turns : List Turn) → before ≡ [] → ((by : Caller) → todo_of by turns ≡ todo_of by before ++ asked_by by (first ∷ [])) → IsHanded first old turns old
+pub handed_first : (first : Line Global) (old : Lines) (before turns : List Turn) → before ≡ [] → ((by : Caller) → todo_of by turns ≡ todo_of by before ++ asked_by by (first ∷ [])) → IsHanded first
+    old turns old
 handed_first first old before turns none given = record {
   more = [];
   all = refl;
@@ -31,7 +32,8 @@ handed_first first old before turns none given = record {
 }
 
 -- one more
-pub handed_more : (first line : Line Global) (old : Lines) (turns given : List Turn) (later rest : Lines) → IsHanded first old turns (reverse later) → later ≡ rest ++ line ∷ [] → line.phase ≡ first.phase
+pub handed_more : (first line : Line Global) (old : Lines) (turns given : List Turn) (later rest : Lines) → IsHanded first old turns (reverse later) → later ≡ rest ++ line ∷ [] → line.phase ≡
+    first.phase
     → ((by : Caller) → todo_of by given ≡ todo_of by turns ++ asked_by by (line ∷ [])) → IsHanded first old given (reverse rest)
 handed_more first line old turns given later rest is last phase more = record {
   more = is.more ++ line ∷ [];
@@ -41,5 +43,6 @@ handed_more first line old turns given later rest is last phase more = record {
 }
 
 -- all of them
-pub handed_all : (first : Line Global) (old : Lines) (turns : List Turn) (later : Lines) → IsHanded first old turns (reverse later) → IsPastAtEnd first.phase later → HasGiven first old turns (reverse later)
+pub handed_all : (first : Line Global) (old : Lines) (turns : List Turn) (later : Lines) → IsHanded first old turns (reverse later) → IsPastAtEnd first.phase later → HasGiven first old turns
+    (reverse later)
 handed_all first old turns later is past = record { more = is.more; all = is.all; one = is.one; asked = is.asked; past = past_reverse first.phase later past }

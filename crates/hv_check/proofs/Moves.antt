@@ -9,7 +9,7 @@ use Rattle.hv_history.specs.Kept.{HasGained, IsRun, Kept}
 use Rattle.hv_history.specs.Run.{restart, start_of}
 use Rattle.hv_history.specs.declared.entry.Entry.{Entry}
 use Rattle.hv_phases.specs.Lines.{AreApart, asked_by}
-use Rattle.hv_phases.proofs.Asked.{asked_by-append}
+use Rattle.hv_phases.proofs.Request.{asked_by-append}
 use Rattle.hv_policy.specs.Next.{GoesOn}
 use Rattle.hv_policy.specs.declared.event.Action.{Action}
 use Rattle.hv_policy.specs.declared.event.Action.TheVariants.{Hypercall, ReadMsr, WriteMsr, ReadSlot, ClearSlot, ReadFlags, ClearFlag, TakeInterrupt}
@@ -41,7 +41,8 @@ same_first c [] (y ∷ ys) l m us vs p q one two is = let same : l ≡ y = cc in
 same_first c (x ∷ xs) [] l m us vs p q one two is = let same : m ≡ x = cc in absurd (All-head (λ (o : Line Global). o.by ≢ c) x xs p (subst (λ (o : Line Global). o.by ≡ c) same two))
 same_first c (x ∷ xs) (y ∷ ys) l m us vs p q one two is =
     let first : x ≡ y = cc in
-    let rest = same_first c xs ys l m us vs (All-tail (λ (o : Line Global). o.by ≢ c) x xs p) (All-tail (λ (o : Line Global). o.by ≢ c) y ys q) one two (let same : xs ++ l ∷ us ≡ ys ++ m ∷ vs = cc in same) in
+    let rest = same_first c xs ys l m us vs (All-tail (λ (o : Line Global). o.by ≢ c) x xs p) (All-tail (λ (o : Line Global). o.by ≢ c) y ys q) one two
+    (let same : xs ++ l ∷ us ≡ ys ++ m ∷ vs = cc in same) in
     ((λ i. first i ∷ rest.0 i), rest.1, rest.2)
 
 -- so is the next event of a processor, and what is left then
@@ -394,11 +395,13 @@ module _ (rules : Bool) (old_kept new_kept : Kept Global) (old new : Replay) (te
   differs = differs_by first_by_it
 
 -- Where a processor has nothing left to do in the phase, no event of it is next.
-module _ (old : Replay) (lines : Lines) (stands : StandsFor old lines) (begun : IsBegun old) (by : Caller) (none : left_by by old ≡ []) (e : Entry Global) (next : Lines) (is : IsNext lines e next) (by_is : e.event.by ≡ by) where
+module _ (old : Replay) (lines : Lines) (stands : StandsFor old lines) (begun : IsBegun old) (by : Caller) (none : left_by by old ≡ []) (e : Entry Global) (next : Lines) (is : IsNext lines e next)
+    (by_is : e.event.by ≡ by) where
   line_by : is.line.by ≡ by
   line_by = sym (ap (λ (event : Event Global). event.by) is.event) ∙ by_is
 
-  within_none : (block rest : Lines) → lines ≡ block ++ later_of old → ((c : Caller) → left_by c old ≡ asked_by c block) → AreApart block (later_of old) → is.before ≡ block ++ rest → later_of old ≡ rest ++ is.line ∷ is.after → ⊥
+  within_none : (block rest : Lines) → lines ≡ block ++ later_of old → ((c : Caller) → left_by c old ≡ asked_by c block) → AreApart block (later_of old) → is.before ≡ block ++ rest → later_of old ≡
+      rest ++ is.line ∷ is.after → ⊥
   within_none [] rest all asked apart front back = let none : later_of old ≡ [] = begun asked in nothing rest (sym none ∙ back)
     where
       nothing : (rest : Lines) → [] ≡ rest ++ is.line ∷ is.after → ⊥
@@ -429,7 +432,8 @@ module _ (old : Replay) (lines : Lines) (stands : StandsFor old lines) (begun : 
     | inr front ↦ beyond_none front.one front.rest front.front front.back
   ]
 
-pub idle : (prefix rules : Bool) (k : Kept Global) (old : Replay) (lines : Lines) (text : Bytes) (by : Caller) → StandsFor old lines → IsBegun old → left_by by old ≡ [] → length k.history < 2 ^ 32 → IsNoEnd text
+pub idle : (prefix rules : Bool) (k : Kept Global) (old : Replay) (lines : Lines) (text : Bytes) (by : Caller) → StandsFor old lines → IsBegun old → left_by by old ≡ [] → length k.history < 2 ^ 32 →
+    IsNoEnd text
     → ((c : Caller) → IsNamedIn text c → c ≡ by) → IsLegalFrom prefix rules k lines text → ⊥
 idle prefix rules k old lines text by stands begun none few go_on reads is =
     let claims = claims_in prefix rules k lines text stands.read few go_on by reads is in

@@ -6,7 +6,7 @@ use Rattle.std.proofs.lemmas.Bool.{false≢true}
 use Rattle.std.specs.declared.alloc.Global.{Global}
 use Rattle.hv_history.specs.declared.entry.Entry.{Entry}
 use Rattle.hv_phases.specs.Lines.{AreRun, asked_by}
-use Rattle.hv_phases.proofs.Asked.{asked_by-append, asked_by_other, asked_by_own}
+use Rattle.hv_phases.proofs.Request.{asked_by-append, asked_by_other, asked_by_own}
 use Rattle.hv_policy.specs.declared.event.Caller.{Caller}
 use Rattle.hv_script.specs.declared.line.Line.{Line}
 use Rattle.hv_shared.proofs.Callers.{is_itself, same_caller}
@@ -86,7 +86,8 @@ module _ (lines : Lines) (e : Entry Global) (left : Lines) (next : IsNext lines 
   not_its c is same = false≢true (sym is ∙ is_itself c e.event.by (by_is ∙ same))
 
   module _ (es : Entries) where
-    own_run : IsInTurn next.line.action e.reply → AreAll next.line.by (asked_by next.line.by left) (own_of next.line.by es) → AreAll next.line.by (asked_by next.line.by lines) (e ∷ own_of next.line.by es)
+    own_run : IsInTurn next.line.action e.reply → AreAll next.line.by (asked_by next.line.by left) (own_of next.line.by es) → AreAll next.line.by (asked_by next.line.by lines)
+        (e ∷ own_of next.line.by es)
     own_run turn all =
         subst (λ (l : Actions). AreAll next.line.by l (e ∷ own_of next.line.by es)) (sym here)
         (next.event, turn, subst (λ (l : Actions). AreAll next.line.by l (own_of next.line.by es)) here_left all)

@@ -6,7 +6,7 @@ use Rattle.std.proofs.lemmas.List.Elements.{All-append, All-cons, All-head, All-
 use Rattle.std.specs.declared.alloc.Global.{Global}
 use Rattle.hv_history.specs.declared.entry.Entry.{Entry}
 use Rattle.hv_phases.specs.Lines.{AreApart, ArePhased, AreRun, HasCut, asked_by}
-use Rattle.hv_phases.proofs.Asked.{asked_by-append}
+use Rattle.hv_phases.proofs.Request.{asked_by-append}
 use Rattle.hv_policy.specs.declared.event.Caller.{Caller}
 use Rattle.hv_script.specs.declared.line.Line.{Line}
 use Rattle.hv_shared.proofs.Callers.{is_another, is_itself, same_caller}
@@ -15,7 +15,8 @@ use Rattle.hv_check.specs.Read.{AreSorted}
 use Rattle.hv_check.specs.Takes.{IsNext, Takes, action_left, line_left}
 use Rattle.hv_check.proofs.Leaves.{Actions, AreAll, Entries, IsInTurn, own_of}
 use Rattle.hv_check.proofs.Next.{AreRuns, Lines, asked_behind, asked_first, asked_of_others, back, run, run_of, runs_of}
-use Rattle.hv_check.proofs.Sorted.{All-both, All-left, All-right, Beyond, Cuts, IsFrom, PartsAt, Within, apart_at, cuts, late_lefts, lefts_all, parts_at, sorted_across, sorted_before, sorted_lefts, sorted_other, sorted_right}
+use Rattle.hv_check.proofs.Sorted.{All-both, All-left, All-right, Beyond, Cuts, IsFrom, PartsAt, Within, apart_at, cuts, late_lefts, lefts_all, parts_at, sorted_across, sorted_before, sorted_lefts}
+use Rattle.hv_check.proofs.Sorted.{sorted_other, sorted_right}
 
 -- each reply to a call says that it goes on with the element after its own, if it goes on
 abbrev pub AreInTurn : Entries → Type 0
@@ -57,7 +58,8 @@ not_apart : (phase : ℕ) (b : Line Global) (bs : Lines) (y : Line Global) (ys z
 not_apart phase b bs y ys zs after same is apart =
     let first : b.phase ≡ phase = All-head (IsIn phase) b (bs ++ y ∷ ys) same in
     let other : y.phase ≡ phase = All-head (IsIn phase) y ys (All-right (IsIn phase) (b ∷ bs) (y ∷ ys) same) in
-    let behind : All (λ (n : Line Global). b.phase < n.phase) (y ∷ zs) = subst (All (λ (n : Line Global). b.phase < n.phase)) is (All-head (λ (l : Line Global). All (λ n. l.phase < n.phase) after) b bs apart) in
+    let behind : All (λ (n : Line Global). b.phase < n.phase) (y ∷ zs) = subst (All (λ (n : Line Global). b.phase < n.phase)) is
+    (All-head (λ (l : Line Global). All (λ n. l.phase < n.phase) after) b bs apart) in
     let less : b.phase < y.phase = All-head (λ (n : Line Global). b.phase < n.phase) y zs behind in
     omega (arith, first, other, less)
 
@@ -150,7 +152,8 @@ pub record FirstBy (c : Caller) (lines : Lines) : Type 0 where
 abbrev IsOther : Caller → Line Global → Type 0
 IsOther c l = l.by ≡ c → ⊥
 
-first_by : (c : Caller) (line : Line Global) (lines : Lines) (t : Bool) → is_caller c line.by ≡ t → (asked_by c lines ≡ []) ⊎ FirstBy c lines → (asked_by c (line ∷ lines) ≡ []) ⊎ FirstBy c (line ∷ lines)
+first_by : (c : Caller) (line : Line Global) (lines : Lines) (t : Bool) → is_caller c line.by ≡ t → (asked_by c lines ≡ []) ⊎ FirstBy c lines → (asked_by c (line ∷ lines) ≡ []) ⊎ FirstBy c
+    (line ∷ lines)
 first_by c line lines true is rest = inr (record { before = []; line = line; after = lines; all = refl; by_is = same_caller c line.by is; first = All-nil (IsOther c) })
 first_by c line lines false is (inl none) = inl (asked_behind c line lines (λ same. false≢true (sym is ∙ is_itself c line.by same)) ∙ none)
 first_by c line lines false is (inr some) = inr (record {
@@ -226,7 +229,8 @@ module _ (lines : Lines) (e : Entry Global) (es : Entries) (sorted : AreSorted l
       by [] front back = ap (asked_by c) (front ∙ append-nil some.before) ∙ asked_of_others c some.before some.first
       by (y ∷ rest) front back =
           let same : some.line ≡ y = cc in
-          let at : y.phase < here = All-head (λ (l : Line Global). l.phase < here) y rest (All-right (λ (l : Line Global). l.phase < here) some.before (y ∷ rest) (subst (All (λ (l : Line Global). l.phase < here)) front early)) in
+          let at : y.phase < here = All-head (λ (l : Line Global). l.phase < here) y rest (All-right (λ (l : Line Global). l.phase < here) some.before (y ∷ rest)
+          (subst (All (λ (l : Line Global). l.phase < here)) front early)) in
           absurd (omega (arith, at, ap (λ (l : Line Global). l.phase) same))
   cut_none b bs after early (inr is) =
       asked_of_others c (b ∷ bs) (All-left (IsOther c) (b ∷ bs) (is.one ∷ is.rest) (subst (All (IsOther c)) is.front some.first))
@@ -357,7 +361,8 @@ runs_take [] [] sorted runs part = refl
 runs_take (line ∷ lines) [] sorted runs part = absurd (some_asked line lines runs)
 runs_take lines (e ∷ es) sorted runs part =
     elim (find_by e.event.by lines) [
-      | inl none ↦ absurd (nothing_asked e.event.by (asked_by e.event.by lines) e (own_of e.event.by es) none (subst (AreAll e.event.by (asked_by e.event.by lines)) (own_first e es) (runs e.event.by)))
+      | inl none ↦ absurd (nothing_asked e.event.by (asked_by e.event.by lines) e (own_of e.event.by es) none
+          (subst (AreAll e.event.by (asked_by e.event.by lines)) (own_first e es) (runs e.event.by)))
       | inr some ↦ (
         left lines e es sorted runs part some,
         is_next lines e es sorted runs part some,

@@ -6,7 +6,7 @@ use Rattle.hv_history.specs.Kept.{IsRun, Kept}
 use Rattle.hv_history.specs.Row.{events_of, replies_of}
 use Rattle.hv_history.specs.Run.{GoesOnAt, IsMore, start_of}
 use Rattle.hv_history.specs.declared.entry.Entry.{Entry}
-use Rattle.hv_laws.proofs.Replies.{goes_on}
+use Rattle.hv_invariants.proofs.Replies.{goes_on}
 use Rattle.hv_policy.specs.Boot.{boot}
 use Rattle.hv_policy.specs.Flat.{Flat}
 use Rattle.hv_policy.specs.Next.{GoesOn}
@@ -65,7 +65,8 @@ reply_from f (x ∷ h) e other more same one two =
     reply_from (step f x.event).0 h e other more same (rest_same x.reply (step f x.event).1 (replies_of (h ++ e ∷ more)) (run_from (step f x.event).0 (events_of (h ++ e ∷ more))).1 one)
     (rest_same x.reply (step f x.event).1 (replies_of (h ++ other ∷ [])) (run_from (step f x.event).0 (events_of (h ++ other ∷ []))).1 two)
 
-pub one_reply : (a b : Kept Global) (h : Entries) (e other : Entry Global) (more : Entries) → IsRun a → IsRun b → a.config ≡ b.config → a.history ≡ h ++ e ∷ more → b.history ≡ h ++ other ∷ [] → e.event ≡ other.event
+pub one_reply : (a b : Kept Global) (h : Entries) (e other : Entry Global) (more : Entries) → IsRun a → IsRun b → a.config ≡ b.config → a.history ≡ h ++ e ∷ more → b.history ≡ h ++ other ∷ [] →
+    e.event ≡ other.event
     → e.reply ≡ other.reply
 one_reply a b h e other more run_a run_b config all own same =
     reply_from (boot b.config) h e other more same

@@ -80,7 +80,8 @@ sorted_across (x ∷ xs) ys sorted =
 -- so what stands before it is of its phase or an earlier one
 pub sorted_before : (xs : Lines) (line : Line Global) (ys : Lines) → AreSorted (xs ++ line ∷ ys) → All (λ x. x.phase ≤ line.phase) xs
 sorted_before xs line ys sorted =
-    All-weaker (λ (x : Line Global). All (IsFrom x.phase) (line ∷ ys)) (λ (x : Line Global). x.phase ≤ line.phase) (λ x all. All-head (IsFrom x.phase) line ys all) xs (sorted_across xs (line ∷ ys) sorted)
+    All-weaker (λ (x : Line Global). All (IsFrom x.phase) (line ∷ ys)) (λ (x : Line Global). x.phase ≤ line.phase) (λ x all. All-head (IsFrom x.phase) line ys all) xs
+    (sorted_across xs (line ∷ ys) sorted)
 
 -- other lines behind, which are as late
 pub sorted_other : (xs ys zs : Lines) → AreSorted (xs ++ ys) → AreSorted zs → ((n : ℕ) → All (IsFrom n) ys → All (IsFrom n) zs) → AreSorted (xs ++ zs)

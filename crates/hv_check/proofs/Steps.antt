@@ -64,17 +64,20 @@ module _ (rules : Bool) (old_kept new_kept : Kept Global) (old new : Replay) (te
       let some = first_some (left_by event.by old) event.what asked in
       moved rules old_kept new_kept old new text event.by event.what some.0 reply (took some) lines stands rest (subst (λ (n : ℕ). IsLine rules n entry text rest) count_is line)
 
-  pub step_not : ((rest : Bytes) → IsLine rules (length new_kept.history) entry text rest → ⊥) → (lines : Lines) → StandsFor old lines → (prefix : Bool) → IsLegalFrom prefix rules old_kept lines text → ⊥
+  pub step_not : ((rest : Bytes) → IsLine rules (length new_kept.history) entry text rest → ⊥) → (lines : Lines) → StandsFor old lines → (prefix : Bool) → IsLegalFrom prefix rules old_kept lines text
+      → ⊥
   step_not none lines stands prefix =
       let some = first_some (left_by event.by old) event.what asked in
       differs rules old_kept new_kept old new text event.by event.what some.0 reply (took some) lines stands
       (λ rest line. none rest (subst (λ (n : ℕ). IsLine rules n entry text rest) (sym count_is) line)) prefix
 
-pub step_full : (rules : Bool) (k : Kept Global) (old : Replay) (text : Bytes) (by : Caller) → length k.history < 2 ^ 32 → IsNoEnd text → ((c : Caller) → IsNamedIn text c → c ≡ by) → length k.history ≡ k.limit
+pub step_full : (rules : Bool) (k : Kept Global) (old : Replay) (text : Bytes) (by : Caller) → length k.history < 2 ^ 32 → IsNoEnd text → ((c : Caller) → IsNamedIn text c → c ≡ by) → length k.history
+    ≡ k.limit
     → (lines : Lines) → StandsFor old lines → (prefix : Bool) → IsLegalFrom prefix rules k lines text → ⊥
 step_full rules k old text by few go_on reads full lines stands prefix is = claims_full prefix rules k lines text stands.read few go_on by reads full is
 
-pub step_idle : (rules : Bool) (k : Kept Global) (old : Replay) (text : Bytes) (by : Caller) → length k.history < 2 ^ 32 → IsNoEnd text → ((c : Caller) → IsNamedIn text c → c ≡ by) → IsBegun old → first_of (left_by by old) ≡ None
+pub step_idle : (rules : Bool) (k : Kept Global) (old : Replay) (text : Bytes) (by : Caller) → length k.history < 2 ^ 32 → IsNoEnd text → ((c : Caller) → IsNamedIn text c → c ≡ by) → IsBegun old →
+    first_of (left_by by old) ≡ None
     → (lines : Lines) → StandsFor old lines → (prefix : Bool) → IsLegalFrom prefix rules k lines text → ⊥
 step_idle rules k old text by few go_on reads begun none lines stands prefix is = idle prefix rules k old lines text by stands begun (first_none (left_by by old) none) few go_on reads is
 

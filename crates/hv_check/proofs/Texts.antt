@@ -80,17 +80,24 @@ module _ (number : ℕ) (e : Entry Global) where
 
   -- it begins with the number
   pub begins_with_number : (rules : Bool) (text rest : Bytes) → IsLine rules number e text rest → (more : Bytes) × (text ≡ decimal number ++ more)
-  begins_with_number true text rest is =
-      (codes " " ++ (decimal e.event.by.part ++ (codes "." ++ (decimal e.event.by.vp ++ (codes " " ++ (what ++ (codes " " ++ (reply_text e.event.what e.reply ++ (codes "\n" ++ rest)))))))), is ∙ entry_parts (codes "\n" ++ rest))
-  begins_with_number false text rest is =
-      (codes " " ++ (decimal e.event.by.part ++ (codes "." ++ (decimal e.event.by.vp ++ (codes " " ++ (what ++ (codes " " ++ (bare_reply_text e.event.what e.reply ++ (is.tail ++ (codes "\n" ++ rest))))))))), is.all ∙ bare_parts (is.tail ++ (codes "\n" ++ rest)))
+  begins_with_number true text rest is = (
+    codes " " ++ (decimal e.event.by.part ++ (codes "." ++ (decimal e.event.by.vp ++ (codes " " ++ (what ++ (codes " " ++ (reply_text e.event.what e.reply ++ (codes "\n" ++ rest)))))))),
+    is ∙
+        entry_parts (codes "\n" ++ rest),
+  )
+  begins_with_number false text rest is = (
+    codes " " ++ (decimal e.event.by.part ++ (codes "." ++ (decimal e.event.by.vp ++ (codes " " ++
+        (what ++ (codes " " ++ (bare_reply_text e.event.what e.reply ++ (is.tail ++ (codes "\n" ++ rest))))))))),
+    is.all ∙ bare_parts (is.tail ++ (codes "\n" ++ rest)),
+  )
 
 -- so its first byte is a digit
 first_digit : (digits more text : Bytes) → IsNumeral 10 digits → text ≡ digits ++ more → (c : ℕ) × (rest : Bytes) × (text ≡ c ∷ rest) × (digit_value c < 10)
 first_digit [] more text is all = absurd (let some = is.0 in omega (arith, some))
 first_digit (c ∷ digits) more text is all = (c, digits ++ more, all, is.1.0)
 
-pub begins_with_digit : (rules : Bool) (number : ℕ) (e : Entry Global) (text rest : Bytes) → number < 2 ^ 64 → IsLine rules number e text rest → (c : ℕ) × (more : Bytes) × (text ≡ c ∷ more) × (digit_value c < 10)
+pub begins_with_digit : (rules : Bool) (number : ℕ) (e : Entry Global) (text rest : Bytes) → number < 2 ^ 64 → IsLine rules number e text rest → (c : ℕ) × (more : Bytes) × (text ≡ c ∷ more) ×
+    (digit_value c < 10)
 begins_with_digit rules number e text rest few is =
     let first = begins_with_number number e rules text rest is in
     first_digit (decimal number) first.0 text (decimal_is_IsNumeral number few).0 first.1
@@ -144,7 +151,8 @@ pub one_rest : (rules : Bool) (number : ℕ) (e : Entry Global) (text one other 
 one_rest true number e text one other p q =
     let same : codes "\n" ++ one ≡ codes "\n" ++ other = append_cancel_left (entry_text number e) (codes "\n" ++ one) (codes "\n" ++ other) (sym p ∙ q) in cc
 one_rest false number e text one other p q =
-    (parted 10 p.tail q.tail one other (tail_all e.reply p.tail p.name) (tail_all e.reply q.tail q.name) (append_cancel_left (bare_text number e) (p.tail ++ 10 ∷ one) (q.tail ++ 10 ∷ other) (sym p.all ∙ q.all))).1
+    (parted 10 p.tail q.tail one other (tail_all e.reply p.tail p.name) (tail_all e.reply q.tail q.name)
+    (append_cancel_left (bare_text number e) (p.tail ++ 10 ∷ one) (q.tail ++ 10 ∷ other) (sym p.all ∙ q.all))).1
 
 -- The line of an event without the name of a rule.
 module _ (number : ℕ) (e : Entry Global) where

@@ -2,14 +2,15 @@
 use Rattle.std.specs.Prelude.{◌⊎◌, nat_le}
 use Rattle.std.proofs.lemmas.Bool.{cases_lt}
 use Rattle.std.proofs.lemmas.Bool.Decides.{nat_tests}
-use Rattle.std.proofs.Common.{◌≡◌, ℕ, zero, suc, inl, inr, ◌+◌, ◌<◌, ◌≤◌, ◌≢◌, List, [], ◌∷◌, ◌++◌, refl, sym, ap, ◌∙◌, subst, arith, append_assoc, append-nil, add-one, length, get_or, take, drop, Bool, true, false, cond, Option, Some}
+use Rattle.std.proofs.Common.{◌≡◌, ℕ, zero, suc, inl, inr, ◌+◌, ◌<◌, ◌≤◌, ◌≢◌, List, [], ◌∷◌, ◌++◌, refl, sym, ap, ◌∙◌, subst, arith, append_assoc, append-nil, add-one, length, get_or, take, drop}
+use Rattle.std.proofs.Common.{Bool, true, false, cond, Option, Some}
 use Rattle.std.proofs.Math.ListN.{set}
 use Rattle.std.proofs.Math.Seq.{drop-cons, get_or-append_seam, set-append_seam, take-suc}
 use Rattle.std.proofs.lemmas.Bool.{false≢true}
 use Rattle.std.proofs.lemmas.List.{drop_all, length-drop, length-take-le, take-append-drop}
 use Rattle.std.specs.declared.alloc.Global.{Global}
 use Rattle.hv_phases.specs.Lines.{asked_by}
-use Rattle.hv_phases.proofs.Asked.{asked_by_other, asked_by_own}
+use Rattle.hv_phases.proofs.Request.{asked_by_other, asked_by_own}
 use Rattle.hv_policy.specs.declared.event.Action.{Action}
 use Rattle.hv_policy.specs.declared.event.Action.TheVariants as action
 use Rattle.hv_policy.specs.declared.event.Caller.{Caller}
@@ -66,7 +67,8 @@ is_at by turns i turn less is own none some = record {
   some = some;
 }
 
-pub none_more : (by : Caller) (turns : Turns) (i : ℕ) (turn : Turn) → i < length turns → turn ≡ get_or turns i turn → todo_of by (take i turns) ≡ [] → todo_of by (turn ∷ []) ≡ [] → todo_of by (take (i + 1) turns) ≡ []
+pub none_more : (by : Caller) (turns : Turns) (i : ℕ) (turn : Turn) → i < length turns → turn ≡ get_or turns i turn → todo_of by (take i turns) ≡ [] → todo_of by (turn ∷ []) ≡ [] → todo_of by
+    (take (i + 1) turns) ≡ []
 none_more by turns i turn less is none one =
     ap (todo_of by) (take_one turns i turn less is) ∙ todo_of-append by (take i turns) (turn ∷ []) ∙ (λ j. none j ++ one j)
 
@@ -92,7 +94,8 @@ is_last by turns i turn less is own none = record {
   last = none;
 }
 
-pub none_behind : (by : Caller) (turns : Turns) (i : ℕ) (turn : Turn) → i < length turns → turn ≡ get_or turns i turn → (turn.by ≡ by → ⊥) → todo_of by (drop (i + 1) turns) ≡ [] → todo_of by (drop i turns) ≡ []
+pub none_behind : (by : Caller) (turns : Turns) (i : ℕ) (turn : Turn) → i < length turns → turn ≡ get_or turns i turn → (turn.by ≡ by → ⊥) → todo_of by (drop (i + 1) turns) ≡ [] → todo_of by
+    (drop i turns) ≡ []
 none_behind by turns i turn less is other none =
     ap (todo_of by) (drop-cons turns i turn less ∙ (λ j. sym is j ∷ drop (sym (add-one i) j) turns)) ∙ todo_other by turn (drop (i + 1) turns) other ∙ none
 
@@ -138,7 +141,8 @@ module _ (by : Caller) (turns : Turns) (i : ℕ) (at : IsAt by turns i) where
 abbrev IsMoreFor : Turns → Turns → Line Global → Type 0
 IsMoreFor old new line = (c : Caller) → todo_of c new ≡ todo_of c old ++ asked_by c (line ∷ [])
 
-by_case : (c : Caller) (line : Line Global) (old new : Turns) → (line.by ≡ c → todo_of c new ≡ todo_of c old ++ line.action ∷ []) → ((line.by ≡ c → ⊥) → todo_of c new ≡ todo_of c old) → todo_of c new ≡ todo_of c old ++ asked_by c (line ∷ [])
+by_case : (c : Caller) (line : Line Global) (old new : Turns) → (line.by ≡ c → todo_of c new ≡ todo_of c old ++ line.action ∷ []) → ((line.by ≡ c → ⊥) → todo_of c new ≡ todo_of c old) → todo_of c new
+    ≡ todo_of c old ++ asked_by c (line ∷ [])
 by_case c line old new own other = at (is_caller c line.by) refl
   where
     at : (t : Bool) → is_caller c line.by ≡ t → todo_of c new ≡ todo_of c old ++ asked_by c (line ∷ [])
@@ -148,14 +152,16 @@ by_case c line old new own other = at (is_caller c line.by) refl
         other apart ∙ sym (append-nil (todo_of c old)) ∙ ap (λ (l : Actions). todo_of c old ++ l) (sym (asked_by_other c line apart))
 
 -- which its last turn gets
-pub last_more : (line : Line Global) (turns : Turns) (i : ℕ) (at : IsLast line.by turns i) (turn : Turn) → turn.by ≡ at.turn.by → todo turn ≡ todo at.turn ++ line.action ∷ [] → IsMoreFor turns (set turns i turn) line
+pub last_more : (line : Line Global) (turns : Turns) (i : ℕ) (at : IsLast line.by turns i) (turn : Turn) → turn.by ≡ at.turn.by → todo turn ≡ todo at.turn ++ line.action ∷ [] → IsMoreFor turns
+    (set turns i turn) line
 last_more line turns i at turn same is c =
     by_case c line turns (set turns i turn)
     (λ own.
     let left : todo_of c at.after ≡ [] = subst (λ (d : Caller). todo_of d at.after ≡ []) own at.last in
     ap (todo_of c) is_set ∙ round_own c at.before turn at.after (same ∙ at.by_is ∙ own) ∙ (λ j. todo_of c at.before ++ (is j ++ left j))
     ∙ regroup (todo_of c at.before) (todo at.turn) (line.action ∷ [])
-    ∙ ap (λ (l : Actions). l ++ line.action ∷ []) (sym (ap (todo_of c) at.all ∙ round_own c at.before at.turn at.after (at.by_is ∙ own) ∙ ap (λ (l : Actions). todo_of c at.before ++ (todo at.turn ++ l)) left)))
+    ∙ ap (λ (l : Actions). l ++ line.action ∷ []) (sym (ap (todo_of c) at.all ∙ round_own c at.before at.turn at.after (at.by_is ∙ own) ∙ ap
+    (λ (l : Actions). todo_of c at.before ++ (todo at.turn ++ l)) left)))
     (λ other.
     ap (todo_of c) is_set ∙ round_other c at.before turn at.after (λ its. other (sym (same ∙ at.by_is) ∙ its))
     ∙ sym (ap (todo_of c) at.all ∙ round_other c at.before at.turn at.after (λ its. other (sym at.by_is ∙ its))))
@@ -205,7 +211,8 @@ pub todo_parts : (items : Actions) (done : ℕ) (a : Action Global) → done < l
 todo_parts items done a less is = drop-cons items done a less ∙ (λ j. sym is j ∷ drop (sym (add-one done) j) items)
 
 -- what is left once it got a reply after which it doesn't go on
-pub todo_done : (items : Actions) (done : ℕ) (reply : Reply) → done < length items → ((next : ℕ) (output : List ℕ) → reply ≡ More next output → ⊥) → drop (done + 1) items ≡ after_reply (drop done items) reply
+pub todo_done : (items : Actions) (done : ℕ) (reply : Reply) → done < length items → ((next : ℕ) (output : List ℕ) → reply ≡ More next output → ⊥) → drop (done + 1) items ≡ after_reply
+    (drop done items) reply
 todo_done items done reply less other =
     let first = get_or items done action.TakeInterrupt in
     let parts : drop done items ≡ first ∷ drop (done + 1) items = drop-cons items done action.TakeInterrupt less ∙ (λ j. first ∷ drop (sym (add-one done) j) items) in

@@ -1,5 +1,6 @@
 -- What is left of an audit, line by line.
-use Rattle.std.specs.Prelude.{ℕ, ◌≡◌, ◌+◌, ◌<◌, ◌^◌, Bool, true, false, List, [], ◌∷◌, ◌++◌, length, codes, decimal}
+use Rattle.std.specs.Prelude.{ℕ, ◌≡◌, ◌+◌, ◌<◌, ◌^◌, Bool, true, false, List, [], ◌∷◌, ◌++◌, length, codes}
+use Rattle.std.specs.Prelude.{decimal}
 use Rattle.std.specs.declared.alloc.Global.{Global}
 use Rattle.hv_history.specs.Kept.{Kept, IsRun}
 use Rattle.hv_history.specs.declared.entry.Entry.{Entry}
@@ -19,9 +20,10 @@ abbrev pub IsOver : Bool → List (Line Global) → Type 0
 IsOver false lines = lines ≡ []
 IsOver true lines = Unit {0}
 
--- The rest of an audit is legal behind what is kept, where these lines are left: the history goes on as a run, each entry is of
--- the next event of its processor, and the text is that of these entries.
-pub record IsLegalFrom (prefix rules : Bool) (k : Kept Global) (lines : List (Line Global)) (text : List ℕ) : Type 0 where
+-- The rest of an audit is legal behind what is kept, where these lines are left: the history goes on as a
+-- run, each entry is of the next event of its processor, and the text is that of these entries.
+pub record IsLegalFrom (prefix rules : Bool) (k : Kept Global) (lines : List (Line Global)) (text : List ℕ) :
+    Type 0 where
   pub kept : Kept Global
   pub run : IsRun kept
   pub config : kept.config ≡ k.config
@@ -40,7 +42,8 @@ pub record IsNamedIn (text : List ℕ) (by : Caller) : Type 0 where
   pub few : number < 2 ^ 64
   pub part : by.part < 2 ^ 64
   pub vp : by.vp < 2 ^ 32
-  pub all : text ≡ decimal number ++ (codes " " ++ (decimal by.part ++ (codes "." ++ (decimal by.vp ++ (codes " " ++ rest)))))
+  pub all : text ≡ decimal number ++ (codes " " ++
+      (decimal by.part ++ (codes "." ++ (decimal by.vp ++ (codes " " ++ rest)))))
 
 -- no audit ends with this text
 abbrev pub IsNoEnd : List ℕ → Type 0
@@ -48,19 +51,25 @@ IsNoEnd text = (prefix : Bool) (events : ℕ) → IsEnd prefix events text → �
 
 -- the text doesn't begin with the line of an event
 abbrev pub IsNoLine : List ℕ → Type 0
-IsNoLine text = (rules : Bool) (number : ℕ) (entry : Entry Global) (rest : List ℕ) → number < 2 ^ 64 → IsLine rules number entry text rest → ⊥
+IsNoLine text = (rules : Bool) (number : ℕ) (entry : Entry Global) (rest : List ℕ) → number < 2 ^ 64 → IsLine
+    rules number entry text rest → ⊥
 
 -- behind a line the rest of the audit is legal just where it was before that line
-pub record HasMoved (rules : Bool) (old_kept new_kept : Kept Global) (new : Replay) (lines : List (Line Global)) (text rest : List ℕ) : Type 0 where
+pub record HasMoved (rules : Bool) (old_kept new_kept : Kept Global) (new : Replay)
+    (lines : List (Line Global)) (text rest : List ℕ) : Type 0 where
   pub left : List (Line Global)
   pub stands : StandsFor new left
-  pub forth : (prefix : Bool) → IsLegalFrom prefix rules old_kept lines text → IsLegalFrom prefix rules new_kept left rest
-  pub back : (prefix : Bool) → IsLegalFrom prefix rules new_kept left rest → IsLegalFrom prefix rules old_kept lines text
+  pub forth : (prefix : Bool) → IsLegalFrom prefix rules old_kept lines text → IsLegalFrom prefix rules
+      new_kept left rest
+  pub back : (prefix : Bool) → IsLegalFrom prefix rules new_kept left rest → IsLegalFrom prefix rules old_kept
+      lines text
 
 -- a line was taken, or no audit is legal that goes on with this text
 abbrev pub IsStep : Bool → Kept Global → Kept Global → Replay → Replay → List ℕ → Step → Type 0
-IsStep rules old_kept new_kept old new text (On rest) = (lines : List (Line Global)) → StandsFor old lines → HasMoved rules old_kept new_kept new lines text rest.now
-IsStep rules old_kept new_kept old new text (Not wrong) = (lines : List (Line Global)) → StandsFor old lines → (prefix : Bool) → IsLegalFrom prefix rules old_kept lines text → ⊥
+IsStep rules old_kept new_kept old new text (On rest) = (lines : List (Line Global)) → StandsFor old lines →
+    HasMoved rules old_kept new_kept new lines text rest.now
+IsStep rules old_kept new_kept old new text (Not wrong) = (lines : List (Line Global)) → StandsFor old lines →
+    (prefix : Bool) → IsLegalFrom prefix rules old_kept lines text → ⊥
 
 -- what stands behind a line is shorter
 abbrev pub IsShorter : List ℕ → Step → Type 0
@@ -69,8 +78,10 @@ IsShorter text (Not wrong) = Unit {0}
 
 -- the audit ends well, or it doesn't
 abbrev pub IsEnding : Bool → Replay → ℕ → List ℕ → Ending → Type 0
-IsEnding prefix replay events text Good = (lines : List (Line Global)) → StandsFor replay lines → IsOver prefix lines × IsEnd prefix events text
-IsEnding prefix replay events text (Bad wrong) = (lines : List (Line Global)) → StandsFor replay lines → IsOver prefix lines → IsEnd prefix events text → ⊥
+IsEnding prefix replay events text Good = (lines : List (Line Global)) → StandsFor replay lines → IsOver
+    prefix lines × IsEnd prefix events text
+IsEnding prefix replay events text (Bad wrong) = (lines : List (Line Global)) → StandsFor replay lines →
+    IsOver prefix lines → IsEnd prefix events text → ⊥
 
 -- the text is the last line of an audit of so many events, or it isn't
 abbrev pub IsLastLine : ℕ → List ℕ → Ending → Type 0

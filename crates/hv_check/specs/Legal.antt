@@ -1,5 +1,6 @@
 -- When an audit is a legal run of a script.
-use Rattle.std.specs.Prelude.{ℕ, ◌≡◌, ◌≢◌, ◌⊎◌, ◌+◌, Bool, true, false, List, [], ◌∷◌, ◌++◌, All, length, codes, decimal, Ok}
+use Rattle.std.specs.Prelude.{ℕ, ◌≡◌, ◌≢◌, ◌⊎◌, ◌+◌, Bool, true, false, List, [], ◌∷◌, ◌++◌, All, length}
+use Rattle.std.specs.Prelude.{codes, decimal, Ok}
 use Rattle.std.specs.declared.alloc.Global.{Global}
 use Rattle.hv_history.specs.Kept.{Kept, IsRun}
 use Rattle.hv_history.specs.declared.entry.Entry.{Entry}
@@ -22,7 +23,8 @@ bare_reply_text what (Fault rule) = codes "fault"
 -- the line of an event with its number, without the name of a rule and without its line feed
 unfoldable pub bare_text : ℕ → Entry Global → List ℕ
 bare_text number entry =
-    decimal number ++ codes " " ++ caller_text entry.event.by ++ codes " " ++ what_text entry.event.what ++ codes " " ++ bare_reply_text entry.event.what entry.reply
+    decimal number ++ codes " " ++ caller_text entry.event.by ++ codes " " ++ what_text entry.event.what ++
+    codes " " ++ bare_reply_text entry.event.what entry.reply
 
 -- nothing, or a space and bytes with no line feed
 abbrev pub IsName : List ℕ → Type 0
@@ -35,7 +37,8 @@ IsTail (More next output) tail = tail ≡ []
 IsTail (Denied rule status reps) tail = IsName tail
 IsTail (Fault rule) tail = IsName tail
 
--- a text begins with the line of an event, whatever it has in place of a rule's name, and this stands behind it
+-- a text begins with the line of an event, whatever it has in place of a rule's name, and this stands behind
+-- it
 pub record IsBareLine (number : ℕ) (entry : Entry Global) (text rest : List ℕ) : Type 0 where
   pub tail : List ℕ
   pub name : IsTail entry.reply tail
@@ -61,7 +64,8 @@ AreLines prefix rules before [] text = IsEnd prefix before text
 AreLines prefix rules before (e ∷ es) text =
     (rest : List ℕ) × IsLine rules (before + 1) e text rest × AreLines prefix rules (before + 1) es rest
 
--- each processor's events are those that its lines ask for, in their order, each of them to its end, phase by phase
+-- each processor's events are those that its lines ask for, in their order, each of them to its end, phase by
+-- phase
 pub record AreDone (lines : List (Line Global)) (history : List (Entry Global)) : Type 0 where
   pub run : AreRun lines history
   pub phased : ArePhased lines history
@@ -77,10 +81,10 @@ IsAudit false true history bytes = bytes ≡ audit_text history
 IsAudit false false history bytes = AreLines false false 0 history bytes
 IsAudit true rules history bytes = AreLines true rules 0 history bytes
 
--- There is a history that is a run from the script's boot, with at most as many events as its limit; each processor's events are
--- those that its lines ask for, in their order, each of them to its end, phase by phase; and the bytes are its audit. With
--- `prefix` the lines may be done in part, and the audit may end behind any event. Without `rules` the names of rules are not
--- looked at.
+-- There is a history that is a run from the script's boot, with at most as many events as its limit; each
+-- processor's events are those that its lines ask for, in their order, each of them to its end, phase by
+-- phase; and the bytes are its audit. With `prefix` the lines may be done in part, and the audit may end
+-- behind any event. Without `rules` the names of rules are not looked at.
 pub record IsLegal (prefix rules : Bool) (said : Said Global) (bytes : List ℕ) : Type 0 where
   pub kept : Kept Global
   pub run : IsRun kept

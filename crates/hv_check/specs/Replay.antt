@@ -1,11 +1,13 @@
 -- What a replay of a script's lines stands for.
-use Rattle.std.specs.Prelude.{ℕ, ◌≡◌, List, [], ◌∷◌, ◌++◌, All, drop, reverse, if◌then◌else◌, Option, None, Some}
+use Rattle.std.specs.Prelude.{ℕ, ◌≡◌, List, [], ◌∷◌, ◌++◌, All, drop, reverse, if◌then◌else◌, Option, None}
+use Rattle.std.specs.Prelude.{Some}
 use Rattle.std.specs.declared.alloc.Global.{Global}
 use Rattle.hv_abi.specs.declared.frame.Frame.{Frame}
 use Rattle.hv_history.specs.Run.{restart}
 use Rattle.hv_phases.specs.Lines.{AreApart, asked_by}
 use Rattle.hv_policy.specs.declared.event.Action.{Action}
-use Rattle.hv_policy.specs.declared.event.Action.TheVariants.{Hypercall, ReadMsr, WriteMsr, ReadSlot, ClearSlot, ReadFlags, ClearFlag, TakeInterrupt}
+use Rattle.hv_policy.specs.declared.event.Action.TheVariants.{Hypercall, ReadMsr, WriteMsr, ReadSlot}
+use Rattle.hv_policy.specs.declared.event.Action.TheVariants.{ClearSlot, ReadFlags, ClearFlag, TakeInterrupt}
 use Rattle.hv_policy.specs.declared.event.Caller.{Caller}
 use Rattle.hv_policy.specs.declared.reply.Reply.{Reply}
 use Rattle.hv_policy.specs.declared.reply.Reply.TheVariants.{Served, More, Denied, Fault}
@@ -56,8 +58,8 @@ later_of replay = reverse replay.later.items
 abbrev pub left_by : Caller → Replay → List (Action Global)
 left_by by replay = todo_of by replay.turns.items
 
--- These lines are left: first those of the phase that is on, of which each processor has left to do what they ask of it, and then
--- those of later phases.
+-- These lines are left: first those of the phase that is on, of which each processor has left to do what they
+-- ask of it, and then those of later phases.
 pub record StandsFor (replay : Replay) (lines : List (Line Global)) : Type 0 where
   pub block : List (Line Global)
   pub all : lines ≡ block ++ later_of replay

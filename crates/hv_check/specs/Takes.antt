@@ -5,12 +5,14 @@ use Rattle.hv_abi.specs.declared.frame.Frame.{Frame}
 use Rattle.hv_history.specs.Run.{restart, start_of}
 use Rattle.hv_history.specs.declared.entry.Entry.{Entry}
 use Rattle.hv_policy.specs.declared.event.Action.{Action}
-use Rattle.hv_policy.specs.declared.event.Action.TheVariants.{Hypercall, ReadMsr, WriteMsr, ReadSlot, ClearSlot, ReadFlags, ClearFlag, TakeInterrupt}
+use Rattle.hv_policy.specs.declared.event.Action.TheVariants.{Hypercall, ReadMsr, WriteMsr, ReadSlot}
+use Rattle.hv_policy.specs.declared.event.Action.TheVariants.{ClearSlot, ReadFlags, ClearFlag, TakeInterrupt}
 use Rattle.hv_policy.specs.declared.reply.Reply.{Reply}
 use Rattle.hv_policy.specs.declared.reply.Reply.TheVariants.{Served, More, Denied, Fault}
 use Rattle.hv_script.specs.declared.line.Line.{Line}
 
--- what is left of a call after the reply to an element: where the call goes on, its next element, and else nothing
+-- what is left of a call after the reply to an element: where the call goes on, its next element, and else
+-- nothing
 abbrev pub call_left : Frame Global → Reply → List (Action Global)
 call_left frame (Served output) = []
 call_left frame (More next output) = Hypercall (restart frame (start_of frame + 1)) ∷ []
@@ -32,8 +34,8 @@ action_left TakeInterrupt reply = []
 abbrev pub line_left : Line Global → Reply → List (Line Global)
 line_left line reply = map (λ action. record line { action = action }) (action_left line.action reply)
 
--- The event is the next one of its processor: what its first line asks for, in the phase that is on, which is that of all lines
--- before it. These lines are left then.
+-- The event is the next one of its processor: what its first line asks for, in the phase that is on, which is
+-- that of all lines before it. These lines are left then.
 pub record IsNext (lines : List (Line Global)) (e : Entry Global) (left : List (Line Global)) : Type 0 where
   pub before : List (Line Global)
   pub line : Line Global

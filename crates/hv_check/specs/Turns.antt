@@ -1,4 +1,5 @@
--- Where a turn stands among others, and what is handed out for a phase. Only contracts of private functions cite these words.
+-- Where a turn stands among others, and what is handed out for a phase. Only contracts of private functions
+-- cite these words.
 use Rattle.std.specs.Prelude.{ℕ, ◌≡◌, ◌≢◌, List, [], ◌∷◌, ◌++◌, All, length}
 use Rattle.std.specs.declared.alloc.Global.{Global}
 use Rattle.hv_phases.specs.Lines.{asked_by}
@@ -30,13 +31,16 @@ pub record IsLast (by : Caller) (turns : List Turn) (at : ℕ) : Type 0 where
 
 -- no line that stands first, or last, is of this phase
 abbrev pub IsPast : ℕ → List (Line Global) → Type 0
-IsPast phase lines = (line : Line Global) (rest : List (Line Global)) → lines ≡ line ∷ rest → line.phase ≢ phase
+IsPast phase lines = (line : Line Global) (rest : List (Line Global)) → lines ≡ line ∷ rest → line.phase ≢
+    phase
 
 abbrev pub IsPastAtEnd : ℕ → List (Line Global) → Type 0
-IsPastAtEnd phase lines = (line : Line Global) (rest : List (Line Global)) → lines ≡ rest ++ line ∷ [] → line.phase ≢ phase
+IsPastAtEnd phase lines = (line : Line Global) (rest : List (Line Global)) → lines ≡ rest ++ line ∷ [] →
+    line.phase ≢ phase
 
 -- a line and the next ones of its phase were handed to their processors
-pub record HasGiven (first : Line Global) (old : List (Line Global)) (turns : List Turn) (new : List (Line Global)) : Type 0 where
+pub record HasGiven (first : Line Global) (old : List (Line Global)) (turns : List Turn)
+    (new : List (Line Global)) : Type 0 where
   pub more : List (Line Global)
   pub all : old ≡ more ++ new
   pub one : All (λ line. line.phase ≡ first.phase) more

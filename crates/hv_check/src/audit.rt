@@ -24,7 +24,7 @@ use hv_script::Script;
 use std::alloc::{AllocError, Global};
 
 /// Checks an audit beside its script, whose lines are those of a script that was read. Where a line differs
-/// from the policy's, `own` has the policy's. Want of memory is a failure that says nothing of the audit.
+/// from the policy's, `own` has the policy's. Out of memory is a failure that says nothing of the audit.
 pub fn check<'a>(
     alloc: Global,
     script: Script<Global>,
@@ -33,7 +33,8 @@ pub fn check<'a>(
     own: &mut OwnLine,
 ) -> Result<Verdict<'a>, Failure>
     requires { AreRead script.lines.items }
-    ensures verdict { IfOk result (λ verdict. Says verdict (IsLegal ask.prefix ask.rules (said script) audit.now)) }
+    ensures verdict { IfOk result (λ verdict. Says verdict
+        (IsLegal ask.prefix ask.rules (said script) audit.now)) }
     ensures refused { IfErr result (λ failure. exit_of failure ≡ exit.Script
         → IsLegal ask.prefix ask.rules (said script) audit.now → ⊥) }
 {

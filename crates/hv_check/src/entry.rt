@@ -15,10 +15,10 @@ use hv_script::parse;
 use std::alloc::Global;
 use std::io::Write;
 
-/// Checks an audit beside its script, and prints `legal, N events` on `out`, or the first line that isn't legal
-/// and what the policy answers there. With `prefix` an audit may end before the script's lines do, and without
-/// `rules` the names of rules aren't compared. A fault of the script, a refused boot and what the host lacks are
-/// told on `err`, in one line.
+/// Checks an audit beside its script, and prints `legal, N events` on `out`, or the first line that isn't
+/// legal and what the policy answers there. With `prefix` an audit may end before the script's lines do, and
+/// without `rules` the names of rules aren't compared. A fault of the script, a refused boot and what the
+/// host lacks are told on `err`, in one line.
 pub fn check_text<W: Write, E: Write>(
     alloc: Global,
     script: &[u8],
@@ -50,7 +50,8 @@ fn verdict_of<'a>(
     ask: Ask,
     own: &mut OwnLine,
 ) -> Result<Verdict<'a>, Failure>
-    ensures verdict { IfOk result (λ verdict. Says verdict (IsLegalOf ask.prefix ask.rules script.now audit.now)) }
+    ensures verdict { IfOk result (λ verdict. Says verdict
+        (IsLegalOf ask.prefix ask.rules script.now audit.now)) }
     ensures refused { IfErr result (λ failure. exit_of failure ≡ exit.Script
         → IsLegalOf ask.prefix ask.rules script.now audit.now → ⊥) }
 {

@@ -48,7 +48,8 @@ impl OwnLine {
     /// Makes it the line of the last event of a history.
     pub(crate) fn put_last(&mut self, kept: &Kept<Global>)
         requires { 0 < length kept.now.history }
-        ensures { (before : List (Entry GlobalValue)) (last : Entry GlobalValue) → kept.now.history ≡ before ++ last ∷ []
+        ensures { (before : List (Entry GlobalValue)) (last : Entry GlobalValue) → kept.now.history ≡ before
+            ++ last ∷ []
             → self.new ≡ entry_text (length kept.now.history) last ++ codes "\n" }
     {
         let history = kept.history();

@@ -69,7 +69,8 @@ impl Replay {
     pub fn go_on(&mut self, by: Caller, reply: &Reply)
         requires { next_in reply.now < REPS_END }
         ensures own { left_by by self.new ≡ after_reply (left_by by self.old) reply.now }
-        ensures others { (other : CallerValue) → other ≢ by → left_by other self.new ≡ left_by other self.old }
+        ensures others { (other : CallerValue) → other ≢ by → left_by other self.new ≡ left_by other self.old
+            }
         ensures later { later_of self.new ≡ later_of self.old }
     {
         if let Some(at) = find(&self.turns, by) {
@@ -123,7 +124,8 @@ fn begin_with(
     first: Line<Global>,
 ) -> Result<(), AllocError>
     requires { turns.old.items ≡ [] }
-    ensures { OnOk result (HasGiven first (reverse later.old.items) turns.new.items (reverse later.new.items)) }
+    ensures { OnOk result (HasGiven first (reverse later.old.items) turns.new.items (reverse later.new.items))
+        }
 {
     let phase = first.phase;
     give(turns, first)?;
@@ -174,7 +176,8 @@ fn turn_of(alloc: Global, by: Caller, action: Action<Global>) -> Result<Turn, Al
 
 // Takes out the next line, if there is one and it is of this phase.
 fn next_of(later: &mut Vec<Line<Global>>, phase: u32) -> Option<Line<Global>>
-    ensures some { IfSome result (λ line. (later.old.items ≡ later.new.items ++ line ∷ []) × (line.phase ≡ phase)) }
+    ensures some { IfSome result (λ line. (later.old.items ≡ later.new.items ++ line ∷ []) ×
+        (line.phase ≡ phase)) }
     ensures same { IfNone result (later.new ≡ later.old) }
     ensures none { IfNone result (IsPastAtEnd phase later.new.items) }
 {

@@ -64,12 +64,14 @@ module _ {K X : Type 0} (R : K → K → Ordering) where
   absent k (e ∷ es) h = ap (λ b. cond b (Some e.1) (find R k es)) h.0 ∙ absent k es h.1
 
   -- a key stands among those whose rows pass exactly if its own row does
-  pub passing_keys : IsAntisymmetric R → (p : K × X → Bool) (q : K) (es : List (K × X)) → IsDistinct (eq_by_cmp R) (keys_of es) → list_any (eq_by_cmp R q) (keys_of (filter p es)) ≡ passes p q (find R q es)
+  pub passing_keys : IsAntisymmetric R → (p : K × X → Bool) (q : K) (es : List (K × X)) → IsDistinct (eq_by_cmp R) (keys_of es) → list_any (eq_by_cmp R q) (keys_of (filter p es)) ≡ passes p q
+      (find R q es)
   unfolding IsDistinct
   passing_keys same p q [] d = refl
   passing_keys same p q (e ∷ es) d = by (eq_by_cmp R q e.0) (p e) refl refl (passing_keys same p q es d.1)
     where
-      by : (t b : Bool) → eq_by_cmp R q e.0 ≡ t → p e ≡ b → list_any (eq_by_cmp R q) (keys_of (filter p es)) ≡ passes p q (find R q es) → list_any (eq_by_cmp R q) (keys_of (cond b (e ∷ filter p es) (filter p es))) ≡ passes p q (cond t (Some e.1) (find R q es))
+      by : (t b : Bool) → eq_by_cmp R q e.0 ≡ t → p e ≡ b → list_any (eq_by_cmp R q) (keys_of (filter p es)) ≡ passes p q (find R q es) → list_any (eq_by_cmp R q)
+          (keys_of (cond b (e ∷ filter p es) (filter p es))) ≡ passes p q (cond t (Some e.1) (find R q es))
       by true true t b rest =
           let is : q ≡ e.0 = same q e.0 ((Equal-is (R q e.0)).0 t) in
           ap (λ c. c || list_any (eq_by_cmp R q) (keys_of (filter p es))) t ∙ sym (ap (λ k. p (k, e.1)) is ∙ b)
@@ -80,7 +82,8 @@ module _ {K X : Type 0} (R : K → K → Ordering) where
       by false false t b rest = rest
 
   -- where a list holds just the keys whose rows pass, each once, it is as long as they are many
-  pub count_by-keys : IsTotalOrder R → IsAntisymmetric R → (m : FinMap R X) (p : K × X → Bool) (ks : List K) → IsDistinct (eq_by_cmp R) ks → ((q : K) → passes p q (get m q) ≡ list_any (eq_by_cmp R q) ks) → count_by p (entries m) ≡ length ks
+  pub count_by-keys : IsTotalOrder R → IsAntisymmetric R → (m : FinMap R X) (p : K × X → Bool) (ks : List K) → IsDistinct (eq_by_cmp R) ks →
+      ((q : K) → passes p q (get m q) ≡ list_any (eq_by_cmp R q) ks) → count_by p (entries m) ≡ length ks
   count_by-keys o same m p ks d h =
       let es : List (K × X) = entries m in
       let apart = distinct_keys es (entries_sorted m) in

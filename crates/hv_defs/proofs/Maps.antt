@@ -21,7 +21,8 @@ find-mapped : {X : Type 0} (g : X → X) (q : ℕ) (es : List (ℕ × X)) → ma
 find-mapped g q [] = refl
 find-mapped g q (e ∷ es) = by (eq_by_cmp nat_cmp q e.0) (find-mapped g q es)
   where
-    by : (b : Bool) → map.find nat_cmp q (map (λ e. (e.0, g e.1)) es) ≡ option_map g (map.find nat_cmp q es) → cond b (Some (g e.1)) (map.find nat_cmp q (map (λ e. (e.0, g e.1)) es)) ≡ option_map g (cond b (Some e.1) (map.find nat_cmp q es))
+    by : (b : Bool) → map.find nat_cmp q (map (λ e. (e.0, g e.1)) es) ≡ option_map g (map.find nat_cmp q es) → cond b (Some (g e.1)) (map.find nat_cmp q (map (λ e. (e.0, g e.1)) es)) ≡ option_map g
+        (cond b (Some e.1) (map.find nat_cmp q es))
     by true rest = refl
     by false rest = rest
 
@@ -56,7 +57,8 @@ found_is {X = X} p (x ∷ es) h c e =
         by true s = absurd (let same : c.0 ≡ x.0 = eqb-true c.0 x.0 (sym (unsigned_tied c.0 x.0) ∙ s) in omega (arith, same, lt))
         by false s = e
 
-    by : (a : Bool) → p x ≡ a → cond a (Some x) (find p es) ≡ Some c → (find p es ≡ Some c → (map.find nat_cmp c.0 es ≡ Some c.1) × (p c ≡ true)) → ((row : X) → map.find nat_cmp c.0 es ≡ Some row → x.0 < c.0) → (map.find nat_cmp c.0 (x ∷ es) ≡ Some c.1) × (p c ≡ true)
+    by : (a : Bool) → p x ≡ a → cond a (Some x) (find p es) ≡ Some c → (find p es ≡ Some c → (map.find nat_cmp c.0 es ≡ Some c.1) × (p c ≡ true)) →
+        ((row : X) → map.find nat_cmp c.0 es ≡ Some row → x.0 < c.0) → (map.find nat_cmp c.0 (x ∷ es) ≡ Some c.1) × (p c ≡ true)
     by true s e rest above =
         let is : x ≡ c = cc in
         let own : eq_by_cmp nat_cmp c.0 x.0 ≡ true = unsigned_tied c.0 x.0 ∙ eq-eqb c.0 x.0 (ap (λ e. e.0) (sym is)) in
@@ -64,13 +66,16 @@ found_is {X = X} p (x ∷ es) h c e =
     by false s e rest above = let (found, next) = rest e in (later found (above c.1 found), next)
 
 -- the first entry that passes has the least key of all that pass
-first_least : {X : Type 0} (p : ℕ × X → Bool) (es : List (ℕ × X)) → T (is_sorted nat_cmp es) → (found : Option (ℕ × X)) → find p es ≡ found → (q : ℕ) (row : X) → map.find nat_cmp q es ≡ Some row → p (q, row) ≡ true → (c : ℕ × X) × (found ≡ Some c) × (c.0 ≤ q)
+first_least : {X : Type 0} (p : ℕ × X → Bool) (es : List (ℕ × X)) → T (is_sorted nat_cmp es) → (found : Option (ℕ × X)) → find p es ≡ found → (q : ℕ) (row : X) → map.find nat_cmp q es ≡ Some row → p
+    (q, row) ≡ true → (c : ℕ × X) × (found ≡ Some c) × (c.0 ≤ q)
 first_least p [] h found is q row e next = cc
 first_least {X = X} p (x ∷ es) h found is q row e next =
     let parts = both_parts (below_all nat_cmp x.0 es) (is_sorted nat_cmp es) h in
     by (p x) (eq_by_cmp nat_cmp q x.0) refl refl is e (above_key x.0 es q row parts.0) (λ found is e. first_least p es parts.1 found is q row e next)
   where
-    by : (a b : Bool) → p x ≡ a → eq_by_cmp nat_cmp q x.0 ≡ b → cond a (Some x) (find p es) ≡ found → cond b (Some x.1) (map.find nat_cmp q es) ≡ Some row → (map.find nat_cmp q es ≡ Some row → x.0 < q) → ((found : Option (ℕ × X)) → find p es ≡ found → map.find nat_cmp q es ≡ Some row → (c : ℕ × X) × (found ≡ Some c) × (c.0 ≤ q)) → (c : ℕ × X) × (found ≡ Some c) × (c.0 ≤ q)
+    by : (a b : Bool) → p x ≡ a → eq_by_cmp nat_cmp q x.0 ≡ b → cond a (Some x) (find p es) ≡ found → cond b (Some x.1) (map.find nat_cmp q es) ≡ Some row →
+        (map.find nat_cmp q es ≡ Some row → x.0 < q) → ((found : Option (ℕ × X)) → find p es ≡ found → map.find nat_cmp q es ≡ Some row → (c : ℕ × X) × (found ≡ Some c) × (c.0 ≤ q)) → (c : ℕ × X) ×
+        (found ≡ Some c) × (c.0 ≤ q)
     by true true s t is e above rest = (x, sym is, let same : q ≡ x.0 = eqb-true q x.0 (sym (unsigned_tied q x.0) ∙ t) in omega (arith, same))
     by true false s t is e above rest = (x, sym is, let lt = above e in omega (arith, lt))
     by false true s t is e above rest =

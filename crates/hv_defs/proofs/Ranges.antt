@@ -59,7 +59,8 @@ range_upper s t low high next e range made =
     let counted = range.count in
     let longer = ap len made ∙ one_more s high (range.members high ∙ beyond low high high (omega arith)) in
     record {
-      members = λ k. ap (λ u. contains u k) made ∙ contains-insert nat_cmp_total s high k ∙ ap (λ b. b || contains s k) (unsigned_tied k high) ∙ ap (λ b. (k == high) || b) (range.members k) ∙ upper low high next k e (omega arith);
+      members = λ k. ap (λ u. contains u k) made ∙ contains-insert nat_cmp_total s high k ∙ ap (λ b. b || contains s k) (unsigned_tied k high) ∙ ap (λ b. (k == high) || b) (range.members k) ∙ upper
+          low high next k e (omega arith);
       count = omega arith;
     }
 

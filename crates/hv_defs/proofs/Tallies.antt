@@ -27,11 +27,13 @@ module _ {K : Type 0} {R : K → K → Ordering} (o : IsTotalOrder R) (same : Is
   length_counted p m = length-map (filter p (entries m)) (λ e. e.0) ∙ length-filter p (entries m)
 
   -- where the rows at each key pass alike, as many pass
-  pub count-alike : {X Y : Type 0} (p : K × X → Bool) (r : K × Y → Bool) (m : FinMap R X) (n : FinMap R Y) → ((q : K) → passes p q (get m q) ≡ passes r q (get n q)) → count_by p (entries m) ≡ count_by r (entries n)
+  pub count-alike : {X Y : Type 0} (p : K × X → Bool) (r : K × Y → Bool) (m : FinMap R X) (n : FinMap R Y) → ((q : K) → passes p q (get m q) ≡ passes r q (get n q)) → count_by p (entries m) ≡ count_by
+      r (entries n)
   count-alike p r m n h = count_by-keys R o same m p (counted_keys r n) (distinct_counted r n) (λ q. h q ∙ sym (counted_key r n q)) ∙ length_counted r n
 
   -- where each that passes in the one passes in the other, no more do
-  pub count-fewer : {X Y : Type 0} (p : K × X → Bool) (r : K × Y → Bool) (m : FinMap R X) (n : FinMap R Y) → ((q : K) → passes p q (get m q) ≡ true → passes r q (get n q) ≡ true) → count_by p (entries m) ≤ count_by r (entries n)
+  pub count-fewer : {X Y : Type 0} (p : K × X → Bool) (r : K × Y → Bool) (m : FinMap R X) (n : FinMap R Y) → ((q : K) → passes p q (get m q) ≡ true → passes r q (get n q) ≡ true) → count_by p
+      (entries m) ≤ count_by r (entries n)
   count-fewer p r m n h =
       let few = length-le_from_is_member (eq_by_cmp_equiv o) (counted_keys p m) (counted_keys r n) (distinct_counted p m) (λ q is. counted_key r n q ∙ h q (sym (counted_key p m q) ∙ is)) in
       let old = length_counted p m in
@@ -43,7 +45,8 @@ module _ {K : Type 0} {R : K → K → Ordering} (o : IsTotalOrder R) (same : Is
   none_at k (y ∷ ks) h = let parts = or_parts (eq_by_cmp R k y) (list_any (eq_by_cmp R k) ks) h in (parts.0, none_at k ks parts.1)
 
   -- where one key more passes, one more does
-  pub count-more : {X Y : Type 0} (p : K × X → Bool) (r : K × Y → Bool) (m : FinMap R X) (n : FinMap R Y) (k : K) → passes r k (get n k) ≡ false → ((q : K) → passes p q (get m q) ≡ eq_by_cmp R q k || passes r q (get n q)) → count_by p (entries m) ≡ count_by r (entries n) + 1
+  pub count-more : {X Y : Type 0} (p : K × X → Bool) (r : K × Y → Bool) (m : FinMap R X) (n : FinMap R Y) (k : K) → passes r k (get n k) ≡ false →
+      ((q : K) → passes p q (get m q) ≡ eq_by_cmp R q k || passes r q (get n q)) → count_by p (entries m) ≡ count_by r (entries n) + 1
   unfolding IsDistinct
   count-more p r m n k new h =
       let ks : List K = counted_keys r n in
@@ -60,7 +63,8 @@ module _ {K : Type 0} {R : K → K → Ordering} (o : IsTotalOrder R) (same : Is
       by (k ∷ ks) e = absurd (omega arith)
 
   -- at least as many rows pass as there are keys of which each passes
-  pub count-from_keys : {X : Type 0} (p : K × X → Bool) (m : FinMap R X) (ks : List K) → IsDistinct (eq_by_cmp R) ks → ((q : K) → list_any (eq_by_cmp R q) ks ≡ true → passes p q (get m q) ≡ true) → length ks ≤ count_by p (entries m)
+  pub count-from_keys : {X : Type 0} (p : K × X → Bool) (m : FinMap R X) (ks : List K) → IsDistinct (eq_by_cmp R) ks → ((q : K) → list_any (eq_by_cmp R q) ks ≡ true → passes p q (get m q) ≡ true) →
+      length ks ≤ count_by p (entries m)
   count-from_keys p m ks d h =
       let few = length-le_from_is_member (eq_by_cmp_equiv o) ks (counted_keys p m) d (λ q is. counted_key p m q ∙ h q is) in
       let all = length_counted p m in

@@ -25,4 +25,5 @@ number_where test (suc n) = number_where test n + cond (test n) (2 ^ n) 0
 
 -- the 256 bytes of a SINT's flags: flag f is bit f % 8 of byte f / 8
 unfoldable pub flag_bytes : FlagSet → ℕ → List ℕ
-flag_bytes flags sint = map (λ i. number_where (λ j. set.contains flags (sint, i * 8 + j)) 8) (range_with_len 0 256)
+flag_bytes flags sint = map (λ i. number_where (λ j. set.contains flags (sint, i * 8 + j)) 8)
+    (range_with_len 0 256)

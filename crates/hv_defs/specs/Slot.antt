@@ -7,7 +7,8 @@ use Rattle.hv_defs.specs.declared.sizes.TheConstants.{MAX_PAYLOAD}
 abbrev pub zeros : ℕ → List ℕ
 zeros n = replicate n 0
 
--- a slot that shows a message: type, payload size, flags with bit 0 where another message stands at the SINT, two zeros, port id, and the payload with zeros after it
+-- a slot that shows a message: type, payload size, flags with bit 0 where another message stands at the SINT,
+-- two zeros, port id, and the payload with zeros after it
 abbrev pub message_bytes : ℕ → ℕ → List ℕ → Bool → List ℕ
 message_bytes type port payload pending =
     to_le_bytes w32 type ++ length payload ∷ (if pending then 1 else 0) ∷ 0 ∷ 0

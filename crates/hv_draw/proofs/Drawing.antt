@@ -10,7 +10,7 @@ use Rattle.hv_run.specs.Failure.{exit_of}
 use Rattle.hv_run.specs.declared.failure.Exit.TheVariants.{Host, Script}
 use Rattle.hv_run.specs.declared.failure.Failure.{Failure}
 use Rattle.hv_script.specs.Script.{Said}
-use Rattle.hv_tie.specs.Room.{roomless}
+use Rattle.hv_refine.specs.Room.{roomless}
 use Rattle.hv_tree.specs.Rows.{Rows}
 use Rattle.hv_draw.specs.Drawn.{HasDrawn, HasGraph, HasRun, IsGraph}
 use Rattle.hv_draw.specs.Graph.{HasBlocks}

@@ -8,13 +8,14 @@ use Rattle.hv_history.specs.declared.entry.Entry.{Entry}
 use Rattle.hv_partition.specs.Partition.{PartitionState}
 use Rattle.hv_phases.specs.Lines.{AreInOrder}
 use Rattle.hv_policy.specs.declared.event.Action.{Action}
-use Rattle.hv_policy.specs.declared.event.Action.TheVariants.{Hypercall, ReadMsr, WriteMsr, ReadSlot, ClearSlot, ReadFlags, ClearFlag, TakeInterrupt}
+use Rattle.hv_policy.specs.declared.event.Action.TheVariants.{Hypercall, ReadMsr, WriteMsr, ReadSlot}
+use Rattle.hv_policy.specs.declared.event.Action.TheVariants.{ClearSlot, ReadFlags, ClearFlag, TakeInterrupt}
 use Rattle.hv_policy.specs.declared.event.Caller.{Caller}
 use Rattle.hv_script.specs.Script.{Said, script_of}
 use Rattle.hv_script.specs.declared.line.Line.{Line}
 use Rattle.hv_shared.specs.ByCaller.{receipts_by}
 use Rattle.hv_threads.specs.Perform.{IsWhole}
-use Rattle.hv_tie.specs.Room.{roomless}
+use Rattle.hv_refine.specs.Room.{roomless}
 use Rattle.hv_tree.specs.Rows.{Rows}
 use Rattle.hv_draw.specs.Graph.{AreBlocks}
 
@@ -46,7 +47,8 @@ pub record HasRun (lines : List (Line Global)) (old new : Kept Global) : Type 0 
   pub config : new.config ≡ old.config
   pub limit : new.limit ≡ old.limit
 
--- the graph of what is kept: the block of each partition of its machine, by rising id, with something before and behind them
+-- the graph of what is kept: the block of each partition of its machine, by rising id, with something before
+-- and behind them
 pub record IsGraph (kept : Kept Global) (text : List ℕ) : Type 0 where
   pub tree : Rows PartitionState
   pub shown : roomless tree ≡ kept.machine.rows
@@ -62,8 +64,9 @@ pub record HasGraph (kept : Kept Global) (old new : Option (List ℕ)) : Type 0 
   pub graph : IsGraph kept text
   pub told : Appends old new text
 
--- The writer got the graph of the machine of a history that is a run from the script's boot, with at most as many events as its
--- limit; its events are those that the lines ask for, those of each line behind those of the line before it.
+-- The writer got the graph of the machine of a history that is a run from the script's boot, with at most as
+-- many events as its limit; its events are those that the lines ask for, those of each line behind those of
+-- the line before it.
 pub record HasDrawn (said : Said Global) (old new : Option (List ℕ)) : Type 0 where
   pub kept : Kept Global
   pub run : IsRun kept

@@ -27,7 +27,8 @@ rank_text depth p = codes ", depth " ++ decimal depth ++ codes "|mask 0x" ++ hex
 
 -- .. how many pages it has, ..
 abbrev pub pages_text : PartitionState → List ℕ
-pages_text p = codes "|pages: " ++ decimal (set.len p.loose.pages) ++ codes " loose, " ++ decimal (set.len p.pooled.pages)
+pages_text p = codes "|pages: " ++ decimal (set.len p.loose.pages) ++ codes " loose, " ++ decimal
+    (set.len p.pooled.pages)
 
 -- .. and how many of them it uses, with so many children
 abbrev pub use_text : ℕ → PartitionState → List ℕ
@@ -36,7 +37,8 @@ use_text children p = codes " pooled, " ++ decimal (in_use children p) ++ codes 
 -- the edge to a partition and its node, with this depth and so many children
 abbrev pub node_text : ℕ → ℕ → ℕ → Row PartitionState → List ℕ
 node_text id depth children row =
-    edge_text row.0 id ++ opening_text id ++ name_text id row.1 ++ rank_text depth row.1 ++ pages_text row.1 ++ use_text children row.1
+    edge_text row.0 id ++ opening_text id ++ name_text id row.1 ++ rank_text depth row.1 ++ pages_text row.1
+    ++ use_text children row.1
 
 -- the block of a partition begins with its edge and its node
 pub record IsBlock (tree : Rows PartitionState) (e : ℕ × Row PartitionState) (block : List ℕ) : Type 0 where
@@ -52,10 +54,11 @@ AreBlocks tree (e ∷ es) text =
     (own : List ℕ) × (rest : List ℕ) × (text ≡ own ++ rest) × IsBlock tree e own × AreBlocks tree es rest
 
 -- a text has the block of a partition more
-pub record HasBlock (tree : Rows PartitionState) (e : ℕ × Row PartitionState) (old new : List ℕ) : Type 0 where
-  pub own : List ℕ
-  pub block : IsBlock tree e own
-  pub added : new ≡ old ++ own
+pub record HasBlock (tree : Rows PartitionState) (e : ℕ × Row PartitionState) (old new : List ℕ) : Type 0
+  where
+    pub own : List ℕ
+    pub block : IsBlock tree e own
+    pub added : new ≡ old ++ own
 
 -- a text has the block of each partition of a tree more, by rising id
 pub record HasBlocks (tree : Rows PartitionState) (old new : List ℕ) : Type 0 where

@@ -28,8 +28,8 @@ digraph hvpm {\n\
 /// Runs a script in its order, and writes the state in which it ends as a graph for Graphviz to `out`. Why it
 /// didn't all run goes to `err`, in one line.
 ///
-/// After a fault of the script or a refused boot nothing is written to `out`. Where the host refuses an event,
-/// no later line is run, and the state so far is drawn.
+/// After a fault of the script or a refused boot nothing is written to `out`. Where the host refuses an
+/// event, no later line is run, and the state so far is drawn.
 pub fn draw_text<W: Write, E: Write>(alloc: Global, script: &[u8], out: &mut W, err: &mut E) -> Exit
     ensures drawn { result ≡ Exit.Done → HasDrawnOf script.now (W.contents out.old) (W.contents out.new) }
     ensures silent { result ≡ Exit.Script → out.new ≡ out.old }

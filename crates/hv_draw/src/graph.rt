@@ -12,7 +12,7 @@ use crate::made::MadePort;
 use crate::text::{push, push_hex_64, push_number};
 use hv_defs::Life;
 use hv_partition::{PageKind, Partition};
-use hv_tie::Partitions;
+use hv_refine::Partitions;
 use std::alloc::{AllocError, Global};
 
 /// Adds the block of each partition with one of these ids, which are all.

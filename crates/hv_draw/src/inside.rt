@@ -8,7 +8,7 @@ use hv_defs::{Aim, PortKind};
 use hv_partition::Partition;
 use hv_policy::Caller;
 use hv_ports::Port;
-use hv_tie::Partitions;
+use hv_refine::Partitions;
 use hv_vp::Vp;
 use std::alloc::{AllocError, Global};
 

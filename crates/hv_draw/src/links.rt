@@ -3,7 +3,7 @@
 use crate::inside::push_port_name;
 use crate::text::{push, push_number};
 use hv_ports::Conn;
-use hv_tie::Partitions;
+use hv_refine::Partitions;
 use std::alloc::{AllocError, Global};
 
 /// Adds the edges of all connections of the partitions with these ids.

@@ -1,10 +1,10 @@
-// The ports that a history made. A processor tells how many messages it keeps of a port and its birth, and it keeps
-// those of a port that is gone, which the partition doesn't list.
+// The ports that a history made. A processor tells how many messages it keeps of a port and its birth, and it
+// keeps those of a port that is gone, which the partition doesn't list.
 
 use hv_abi::{Bytes, Frame};
 use hv_calls::{Call, decode};
-use hv_history::{Answer, Asked, EntryRef, Kept};
-use hv_tie::meant;
+use hv_history::{Answer, EntryRef, Kept, Request};
+use hv_refine::resolve_partition_id;
 use std::alloc::{AllocError, Global};
 
 /// A port that an event made, of which nothing says that it is still there.
@@ -50,7 +50,7 @@ fn port_of(
     entry: &EntryRef<'_>,
     served: u64,
 ) -> Result<Option<MadePort>, AllocError> {
-    let Asked::Hypercall { rcx, rdx, r8 } = entry.asked else {
+    let Request::Hypercall { rcx, rdx, r8 } = entry.asked else {
         return Ok(None);
     };
     let mut bytes = Vec::new(alloc);
@@ -74,7 +74,7 @@ fn port_of(
                 ..
             },
         ) => Ok(Some(MadePort {
-            part: meant(entry.by.part, partition),
+            part: resolve_partition_id(entry.by.part, partition),
             port,
             born: served,
             sint,

@@ -6,10 +6,10 @@ use Rattle.hv_abi.specs.Check.{call_of}
 use Rattle.hv_abi.specs.declared.frame.Frame.{Frame}
 use Rattle.hv_calls.specs.declared.call.Call.{Call}
 use Rattle.hv_defs.specs.declared.registers.TheConstants.{EOM}
-use Rattle.hv_laws.proofs.Granted.{is_served as served_call}
-use Rattle.hv_laws.specs.Lawful.{IsLawful}
+use Rattle.hv_invariants.proofs.Granted.{is_served as served_call}
+use Rattle.hv_invariants.specs.StateInvariant.{StateInvariant}
 use Rattle.hv_machine.specs.IsFlat.{IsFlat}
-use Rattle.hv_machine.specs.Lasting.{IsLasting}
+use Rattle.hv_machine.specs.MachineInvariant.{MachineInvariant}
 use Rattle.hv_machine.specs.State.{State}
 use Rattle.hv_partition.specs.Partition.{PartitionState}
 use Rattle.hv_policy.proofs.Unmet.{past_caller, unmet_by_caller}
@@ -32,10 +32,10 @@ use Rattle.hv_policy.specs.declared.rule.Rule.TheVariants.{CallCode}
 use Rattle.hv_abi.specs.declared.status.Status.{Status}
 use Rattle.hv_policy.specs.Rule.{rule_status}
 use Rattle.hv_policy.specs.Step.{denied_with}
-use Rattle.hv_tie.proofs.Room.{tied_roomless}
-use Rattle.hv_tie.specs.Room.{roomless}
-use Rattle.hv_tie.specs.Served.{AreLawful}
-use Rattle.hv_tie.specs.Tie.{IsTied}
+use Rattle.hv_refine.proofs.Room.{tied_roomless}
+use Rattle.hv_refine.specs.Room.{roomless}
+use Rattle.hv_refine.specs.Served.{TreeInvariant}
+use Rattle.hv_refine.specs.Tie.{Refines}
 use Rattle.hv_tree.specs.Rows.{Rows}
 use Rattle.hv_vp.specs.Vp.{VpState}
 use Rattle.hv_effects.proofs.Ended.{ends_there}
@@ -55,10 +55,10 @@ use Rattle.hv_effects.specs.declared.look.Look.{Look}
 use Rattle.hv_effects.specs.declared.look.Look.TheVariants.{Told, Ends, Takes}
 
 -- the tree of a machine is tied to its flat states
-pub tree_tied : (rows : Rows PartitionState) (m : State) → roomless rows ≡ m.rows → (f : Flat) → IsFlat m f → IsTied rows f
-tree_tied rows m is f flat = tied_roomless rows f (subst (λ rows. IsTied rows f) (sym is) flat.tied)
+pub tree_tied : (rows : Rows PartitionState) (m : State) → roomless rows ≡ m.rows → (f : Flat) → IsFlat m f → Refines rows f
+tree_tied rows m is f flat = tied_roomless rows f (subst (λ rows. Refines rows f) (sym is) flat.tied)
 
-pub tree_lawful : (rows : Rows PartitionState) (m : State) → roomless rows ≡ m.rows → IsLasting m → AreLawful rows
+pub tree_lawful : (rows : Rows PartitionState) (m : State) → roomless rows ≡ m.rows → MachineInvariant m → TreeInvariant rows
 tree_lawful rows m is l = record {
   pages = m.pages;
   bounded = l.bounded;
@@ -68,7 +68,7 @@ tree_lawful rows m is l = record {
 }
 
 -- the count of events isn't tied
-uncounted : (rows : Rows PartitionState) (f : Flat) → IsTied rows (counted f) → IsTied rows f
+uncounted : (rows : Rows PartitionState) (f : Flat) → Refines rows (counted f) → Refines rows f
 uncounted rows f flat = record {
   rows = λ id. let s = flat.rows id in record { part = s.part; page = s.page; vp = s.vp; port = s.port; conn = s.conn; mail = s.mail };
 }
@@ -81,33 +81,35 @@ unserved f g same = subst (Tells variant.Nothing f) same (untold f f refl refl r
 pub told_after : (e : Effect) (taken : Option ℕ) (f g : Flat) (reply : Reply) → IsAsTold (Told e) taken f g reply → Tells e f g
 told_after e taken f g reply t = subst (Tells e f) (sym t.counts) (once_counted e f t.before t.foretold)
 
-module _ (rows : Rows PartitionState) (part vp bits : ℕ) (taken : Option ℕ) (f g : Flat) (reply : Reply) (flat : IsTied rows g) (typed : AreTyped g) (t : IsAsTold (Ends part vp bits) taken f g reply) where
-  abbrev ending : IsEnding f t.before part vp bits
-  ending = t.foretold
+module _ (rows : Rows PartitionState) (part vp bits : ℕ) (taken : Option ℕ) (f g : Flat) (reply : Reply) (flat : Refines rows g) (typed : AreTyped g) (t : IsAsTold (Ends part vp bits) taken f g reply)
+  where
+    abbrev ending : IsEnding f t.before part vp bits
+    ending = t.foretold
 
-  tied_before : IsTied rows t.before
-  tied_before = uncounted rows t.before (subst (IsTied rows) t.counts flat)
+    tied_before : Refines rows t.before
+    tied_before = uncounted rows t.before (subst (Refines rows) t.counts flat)
 
-  typed_before : AreTyped t.before
-  typed_before = subst AreTyped t.counts typed
+    typed_before : AreTyped t.before
+    typed_before = subst AreTyped t.counts typed
 
-  -- at a processor that is there
-  pub ends_found : vp_at rows part vp ≡ None → ⊥
-  ends_found none =
-      let here : contains_key t.before.vp (part, vp) ≡ true = ap (λ (h : Flat). contains_key h.vp (part, vp)) ending.written ∙ ends_there part vp ending.value f ending.there in
-      let gone : contains_key t.before.vp (part, vp) ≡ false = ap is_some (none_seen rows t.before tied_before part vp none) in
-      let clash = sym gone ∙ here in cc
+    -- at a processor that is there
+    pub ends_found : vp_at rows part vp ≡ None → ⊥
+    ends_found none =
+        let here : contains_key t.before.vp (part, vp) ≡ true = ap (λ (h : Flat). contains_key h.vp (part, vp)) ending.written ∙ ends_there part vp ending.value f ending.there in
+        let gone : contains_key t.before.vp (part, vp) ≡ false = ap is_some (none_seen rows t.before tied_before part vp none) in
+        let clash = sym gone ∙ here in cc
 
-  pub ends_after : (e : Effect) (v : VpState) → vp_at rows part vp ≡ Some v
-      → (IsSeen (write_register part vp EOM ending.value f) part vp v → AreShown f part vp bits → Tells e f (write_register part vp EOM ending.value f)) → Tells e f g
-  ends_after e v is told =
-      subst (Tells e f) (sym t.counts)
-      (once_counted e f t.before
-      (subst (Tells e f) (sym ending.written)
-      (told (subst (λ h. IsSeen h part vp v) ending.written (is_seen rows t.before tied_before typed_before part vp v is)) ending.shown)))
+    pub ends_after : (e : Effect) (v : VpState) → vp_at rows part vp ≡ Some v
+        → (IsSeen (write_register part vp EOM ending.value f) part vp v → AreShown f part vp bits → Tells e f (write_register part vp EOM ending.value f)) → Tells e f g
+    ends_after e v is told =
+        subst (Tells e f) (sym t.counts)
+        (once_counted e f t.before
+        (subst (Tells e f) (sym ending.written)
+        (told (subst (λ h. IsSeen h part vp v) ending.written (is_seen rows t.before tied_before typed_before part vp v is)) ending.shown)))
 
 -- and a vector that was taken
-pub taken_after : (part vp : ℕ) (s : Synic) → s ≡ quiet part vp → (taken : Option ℕ) (f g : Flat) (reply : Reply) → IsAsTold (Takes part vp) taken f g reply → Tells (variant.Synic (record s { taken = taken })) f g
+pub taken_after : (part vp : ℕ) (s : Synic) → s ≡ quiet part vp → (taken : Option ℕ) (f g : Flat) (reply : Reply) → IsAsTold (Takes part vp) taken f g reply → Tells
+    (variant.Synic (record s { taken = taken })) f g
 taken_after part vp s is taken f g reply t =
     let e : IsTaking f t.before reply part vp = t.foretold in
     let vector : taken ≡ Some (vector_of (get f.vp (part, vp))) = t.vector (vector_of (get f.vp (part, vp))) e.answered in
@@ -178,7 +180,8 @@ module _ {A : Type 0} (f : Flat) (by : Caller) (frame : Frame A) (met : unmet f 
       let same : s.call ≡ call = (let both : Some s.call ≡ Some call = sym s.called ∙ is in cc) in
       subst (IsAllowed f by.part) same s.granted
 
-  pub frame_foretold : (look : Look) (reply : Reply) (call : Call) → called frame ≡ Some call → Foretells look f (call_effect call f by.part (target_of call by.part)) reply → Foretells look f (action_effect f by (Hypercall frame)) reply
+  pub frame_foretold : (look : Look) (reply : Reply) (call : Call) → called frame ≡ Some call → Foretells look f (call_effect call f by.part (target_of call by.part)) reply → Foretells look f
+      (action_effect f by (Hypercall frame)) reply
   frame_foretold look reply call is h = subst (λ call. Foretells look f (served_effect f by.part call) reply) (sym is) h
 
   -- so no rule of the frame refuses
@@ -190,7 +193,8 @@ module _ {A : Type 0} (f : Flat) (by : Caller) (frame : Frame A) (met : unmet f 
       at (Some first) is = let clash : None ≡ Some first = sym met ∙ unmet_by_caller f (call_event by frame) first is in cc
 
 -- the vector that a served access put out is the first byte of its output
-pub first_byte : {A : Type 0} (f : Flat) (event : Event A) (output : List ℕ) (n : ℕ) → unmet f event ≡ None → Served output ≡ (step f event).1 → action_answer f event.by event.what ≡ Served (n ∷ []) → slice_get output 0 ≡ Some n
+pub first_byte : {A : Type 0} (f : Flat) (event : Event A) (output : List ℕ) (n : ℕ) → unmet f event ≡ None → Served output ≡ (step f event).1 → action_answer f event.by event.what ≡ Served (n ∷ []) →
+    slice_get output 0 ≡ Some n
 first_byte f event output n met said told =
     let both : Served output ≡ Served (n ∷ []) = said ∙ ap (λ o. (step_by f event o).1) met ∙ told in
     let same : output ≡ n ∷ [] = cc in

@@ -1,12 +1,13 @@
 -- What a write of EOM tells.
-use Rattle.std.proofs.Common.{◌≡◌, ◌≢◌, ℕ, zero, suc, ◌+◌, ◌<◌, ◌≤◌, ◌==◌, ◌&&◌, ◌||◌, not, nat_lt, is_some, Bool, true, false, cond, List, [], ◌∷◌, find, Option, Some, None, inl, inr, refl, sym, ap, subst, ◌∙◌, arith}
+use Rattle.std.proofs.Common.{◌≡◌, ◌≢◌, ℕ, zero, suc, ◌+◌, ◌<◌, ◌≤◌, ◌==◌, ◌&&◌, ◌||◌, not, nat_lt, is_some, Bool, true, false, cond, List, [], ◌∷◌, find, Option, Some, None, inl, inr, refl, sym, ap}
+use Rattle.std.proofs.Common.{subst, ◌∙◌, arith}
 use Rattle.std.proofs.lemmas.Bool.{and_from, and_parts, cases_eq, cases_lt, eq-eqb, eqb-false, eqb-true, le-ltb, lt-ltb, ltb-true, ne_eqb}
 use Rattle.std.specs.FinMap.{FinMap, contains_key, get}
 use Rattle.std.specs.FinSet as set
 use Rattle.std.specs.List.{list_any}
 use Rattle.std.specs.Option.{option_map}
 use Rattle.std.specs.Ordering.{nat_cmp}
-use Rattle.hv_confine.specs.Same.{has_flag, has_vector, place}
+use Rattle.hv_integrity.specs.Same.{has_flag, has_vector, place}
 use Rattle.hv_defs.specs.Vectors.{raised}
 use Rattle.hv_defs.specs.declared.registers.TheConstants.{EOM}
 use Rattle.hv_defs.specs.declared.sizes.TheConstants.{SINTS}
@@ -125,7 +126,8 @@ module _ (part vp : ℕ) (f : Flat) where
   next_still : (k : ℕ) → has_next (place part vp k) (show_each part vp k f).mail ≡ next_at k
   next_still k =
       let none : (is_there (place part vp k) && nat_lt k k) ≡ false = (λ i. itself part vp i && le-ltb k k (omega arith) i) in
-      ap (λ rows. not (list_any is_shown rows) && is_some_row rows) (mail_each k (place part vp k) ∙ ap (λ b. cond b (next_rows (mail_at (place part vp k) f.mail)) (mail_at (place part vp k) f.mail)) none)
+      ap (λ rows. not (list_any is_shown rows) && is_some_row rows) (mail_each k (place part vp k) ∙ ap (λ b. cond b (next_rows (mail_at (place part vp k) f.mail)) (mail_at (place part vp k) f.mail))
+      none)
 
   -- and at each processor
   pub vp_each : (n id index : ℕ) → get (show_each part vp n f).vp (id, index) ≡ cond ((id == part) && (index == vp)) (option_map (raised_each next_at n) (get f.vp (part, vp))) (get f.vp (id, index))
@@ -155,8 +157,10 @@ module _ (part vp : ℕ) (f : Flat) where
       twice None = refl
       twice (Some row) = refl
 
-      by : (b : Bool) → get before.vp (id, index) ≡ cond b (option_map (raised_each next_at k) (get f.vp (part, vp))) (get f.vp (id, index)) → get before.vp (part, vp) ≡ option_map (raised_each next_at k) (get f.vp (part, vp))
-          → cond b (option_map (row_raised (has_next (place part vp k) before.mail) k) (get before.vp (part, vp))) (get before.vp (id, index)) ≡ cond b (option_map (raised_each next_at (suc k)) (get f.vp (part, vp))) (get f.vp (id, index))
+      by : (b : Bool) → get before.vp (id, index) ≡ cond b (option_map (raised_each next_at k) (get f.vp (part, vp))) (get f.vp (id, index)) → get before.vp (part, vp) ≡ option_map
+          (raised_each next_at k) (get f.vp (part, vp))
+          → cond b (option_map (row_raised (has_next (place part vp k) before.mail) k) (get before.vp (part, vp))) (get before.vp (id, index)) ≡ cond b
+          (option_map (raised_each next_at (suc k)) (get f.vp (part, vp))) (get f.vp (id, index))
       by true rest own = (λ i. option_map (row_raised (next_still k i) k) (own i)) ∙ twice (get f.vp (part, vp))
       by false rest own = rest
 
@@ -243,7 +247,8 @@ module _ (part vp value : ℕ) (f : Flat) where
           subst (λ at. mail_at at g.mail ≡ mail_at at f.mail) (sym same) (there_mail at.sint (left_false (has_bit mask at.sint) false off))
       messages at false here off = else_mail at here
 
-      vectors : (id index vector : ℕ) (b : Bool) → (id == part) && (index == vp) ≡ b → b && (set.contains told.raised vector || false) ≡ false → has_vector (get g.vp (id, index)) vector ≡ has_vector (get f.vp (id, index)) vector
+      vectors : (id index vector : ℕ) (b : Bool) → (id == part) && (index == vp) ≡ b → b && (set.contains told.raised vector || false) ≡ false → has_vector (get g.vp (id, index)) vector ≡ has_vector
+          (get f.vp (id, index)) vector
       vectors id index vector true here off =
           let parts = and_parts (id == part) (index == vp) here in
           let p = eqb-true id part parts.0 in
@@ -295,7 +300,8 @@ module _ (part vp value : ℕ) (f : Flat) where
   mail_now : (at : Place) → mail_at at ended.mail ≡ cond (((at.part == part) && (at.vp == vp)) && nat_lt at.sint SINTS) (next_rows (mail_at at f.mail)) (mail_at at f.mail)
   mail_now at = mail_each part vp begun SINTS at
 
-  vp_now : (id index : ℕ) → get ended.vp (id, index) ≡ cond ((id == part) && (index == vp)) (option_map (raised_each (next_at part vp begun) SINTS) (get begun.vp (part, vp))) (get begun.vp (id, index))
+  vp_now : (id index : ℕ) → get ended.vp (id, index) ≡ cond ((id == part) && (index == vp)) (option_map (raised_each (next_at part vp begun) SINTS) (get begun.vp (part, vp)))
+      (get begun.vp (id, index))
   vp_now id index = vp_each part vp begun SINTS id index
 
   next_there_is : (k : ℕ) → k < SINTS → mail_at (place part vp k) ended.mail ≡ next_rows (mail_at (place part vp k) f.mail)
@@ -336,7 +342,8 @@ module _ (part vp value : ℕ) (f : Flat) where
       flags id index sint flag = ap (λ r. has_flag r sint flag) (vp_now id index) ∙ by ((id == part) && (index == vp)) refl ∙ begun_flag id index sint flag
         where
           by : (b : Bool) → (id == part) && (index == vp) ≡ b
-              → has_flag (cond b (option_map (raised_each (next_at part vp begun) SINTS) (get begun.vp (part, vp))) (get begun.vp (id, index))) sint flag ≡ has_flag (get begun.vp (id, index)) sint flag
+              → has_flag (cond b (option_map (raised_each (next_at part vp begun) SINTS) (get begun.vp (part, vp))) (get begun.vp (id, index))) sint flag ≡ has_flag (get begun.vp (id, index)) sint
+              flag
           by true here =
               let parts = and_parts (id == part) (index == vp) here in
               let p = eqb-true id part parts.0 in
@@ -356,7 +363,8 @@ module _ (part vp value : ℕ) (f : Flat) where
           let same : row.registers ≡ w.registers = sym (each_registers (next_at part vp begun) SINTS row) ∙ ap (λ (row : VpRow). row.registers) made in
           each_pending (next_at part vp begun) SINTS row vector ∙ ap (λ registers. set.contains (vectors_of (next_at part vp begun) registers SINTS) vector || set.contains row.pending vector) same
 
-      there_vector : (vector : ℕ) → has_vector (get ended.vp (part, vp)) vector ≡ (set.contains (vectors_of (became_shown part vp f ended) w.registers SINTS) vector || has_vector (get f.vp (part, vp)) vector)
+      there_vector : (vector : ℕ) → has_vector (get ended.vp (part, vp)) vector ≡ (set.contains (vectors_of (became_shown part vp f ended) w.registers SINTS) vector || has_vector (get f.vp (part, vp))
+          vector)
       there_vector vector =
           ap (λ r. has_vector r vector) there_row ∙ each_vector (get begun.vp (part, vp)) vector (sym there_row ∙ is)
           ∙ (λ i. set.contains (vectors_same (next_at part vp begun) (became_shown part vp f ended) w.registers SINTS (λ k less. sym (became_is k less)) i) vector || begun_vector part vp vector i)
@@ -367,8 +375,10 @@ module _ (part vp value : ℕ) (f : Flat) where
           ∙ ap (λ b. has_vector (cond b (option_map (raised_each (next_at part vp begun) SINTS) (get begun.vp (part, vp))) (get begun.vp (id, index))) vector) off
           ∙ begun_vector id index vector
 
-  pub write_ends : (w : VpRow) → get (write_register part vp EOM value f).vp (part, vp) ≡ Some w → (mask : ℕ) → ((k : ℕ) → has_bit mask k ≡ (nat_lt k SINTS && became_shown part vp f (write_register part vp EOM value f) k))
-      → Tells (variant.Synic (record (quiet part vp) { shown = mask; raised = vectors_of (became_shown part vp f (write_register part vp EOM value f)) w.registers SINTS })) f (write_register part vp EOM value f)
+  pub write_ends : (w : VpRow) → get (write_register part vp EOM value f).vp (part, vp) ≡ Some w → (mask : ℕ) →
+      ((k : ℕ) → has_bit mask k ≡ (nat_lt k SINTS && became_shown part vp f (write_register part vp EOM value f) k))
+      → Tells (variant.Synic (record (quiet part vp) { shown = mask; raised = vectors_of (became_shown part vp f (write_register part vp EOM value f)) w.registers SINTS })) f
+      (write_register part vp EOM value f)
   write_ends w is mask bit = by (on_vp begun (part, vp) is_ready_for_messages) is bit
     where
       by : (b : Bool) → get (cond b ended begun).vp (part, vp) ≡ Some w → ((k : ℕ) → has_bit mask k ≡ (nat_lt k SINTS && became_shown part vp f (cond b ended begun) k))

@@ -1,5 +1,6 @@
 -- What is made of a processor's state tells what the flat state has of it.
-use Rattle.std.proofs.Common.{◌≡◌, ℕ, ◌+◌, ◌*◌, ◌%◌, ◌^◌, ◌<◌, ◌≤◌, ◌==◌, ◌&&◌, ◌||◌, not, nat_lt, is_some, Bool, true, false, cond, List, Option, Some, None, inl, inr, refl, sym, ap, subst, ◌∙◌, arith, add-one}
+use Rattle.std.proofs.Common.{◌≡◌, ℕ, ◌+◌, ◌*◌, ◌%◌, ◌^◌, ◌<◌, ◌≤◌, ◌==◌, ◌&&◌, ◌||◌, not, nat_lt, is_some, Bool, true, false, cond, List, Option, Some, None, inl, inr, refl, sym, ap, subst, ◌∙◌}
+use Rattle.std.proofs.Common.{arith, add-one}
 use Rattle.std.proofs.Math.Pow.{pow-lt}
 use Rattle.std.proofs.lemmas.Bool.{cases_eq, cases_lt, eq-eqb, le-ltb, lt-ltb, ne_eqb}
 use Rattle.std.proofs.lemmas.Nat.Bits.{bit_at-pow_other, bit_at-pow_same}
@@ -8,7 +9,7 @@ use Rattle.std.specs.FinSet as set
 use Rattle.std.specs.Int.{bit_at}
 use Rattle.std.specs.Option.{option_map}
 use Rattle.std.specs.Ordering.{nat_cmp}
-use Rattle.hv_confine.specs.Same.{place}
+use Rattle.hv_integrity.specs.Same.{place}
 use Rattle.hv_defs.specs.Vectors.{VectorSet, raised}
 use Rattle.hv_defs.specs.declared.registers.TheConstants.{EOM}
 use Rattle.hv_defs.specs.declared.sizes.TheConstants.{SINTS}
@@ -17,7 +18,7 @@ use Rattle.hv_mail.specs.declared.message.Message.{Message}
 use Rattle.hv_policy.specs.Effect.{post, row_signalled, with_vp, write_register}
 use Rattle.hv_policy.specs.Flat.{Flat, MailRow, VpRow}
 use Rattle.hv_policy.specs.Mail.{cleared, shown_at}
-use Rattle.hv_tie.specs.Tie.{vp_row_of}
+use Rattle.hv_refine.specs.Tie.{vp_row_of}
 use Rattle.hv_vp.specs.Vp.{VpState}
 use Rattle.hv_effects.proofs.Ended.{vectors_same, write_ends}
 use Rattle.hv_effects.proofs.Posted.{post_shows, post_waits}
@@ -54,21 +55,26 @@ module _ (part vp sint : ℕ) (f : Flat) (v : VpState) (seen : IsSeen f part vp 
   made_shows port born type payload vectors made low none =
       let quiet_vectors : vectors ≡ raised v.registers sint set.empty = made ∙ ap (λ (s : Synic). raised v.registers sint s.raised) is in
       subst (λ s. Tells (variant.Synic (record s { shown = 1 * 2 ^ sint % 2 ^ 16; raised = vectors })) f (post (message part vp sint port born type payload) f)) (sym is)
-      (subst (λ vectors. Tells (variant.Synic (record (quiet part vp) { shown = 1 * 2 ^ sint % 2 ^ 16; raised = vectors })) f (post (message part vp sint port born type payload) f)) (sym quiet_vectors)
+      (subst (λ vectors. Tells (variant.Synic (record (quiet part vp) { shown = 1 * 2 ^ sint % 2 ^ 16; raised = vectors })) f (post (message part vp sint port born type payload) f))
+      (sym quiet_vectors)
       (post_shows (message part vp sint port born type payload) f refl (1 * 2 ^ sint % 2 ^ 16) (mask_bit sint low) (vp_row_of v) seen.row (seen.shown sint ∙ none)))
 
   pub made_signal : (flag : ℕ) (vectors : VectorSet) → vectors ≡ raised v.registers sint s.raised → set.contains v.flags (sint, flag) ≡ false
       → Tells (variant.Synic (record s { flag = Some (record { sint = sint; flag = flag; is_set = true }); raised = vectors })) f (record f { vp = with_vp f.vp (part, vp) (row_signalled sint flag) })
   made_signal flag vectors made clear =
       let quiet_vectors : vectors ≡ raised v.registers sint set.empty = made ∙ ap (λ (s : Synic). raised v.registers sint s.raised) is in
-      subst (λ s. Tells (variant.Synic (record s { flag = Some (record { sint = sint; flag = flag; is_set = true }); raised = vectors })) f (record f { vp = with_vp f.vp (part, vp) (row_signalled sint flag) })) (sym is)
-      (subst (λ vectors. Tells (variant.Synic (record (quiet part vp) { flag = Some (record { sint = sint; flag = flag; is_set = true }); raised = vectors })) f (record f { vp = with_vp f.vp (part, vp) (row_signalled sint flag) })) (sym quiet_vectors)
+      subst (λ s. Tells (variant.Synic (record s { flag = Some (record { sint = sint; flag = flag; is_set = true }); raised = vectors })) f
+      (record f { vp = with_vp f.vp (part, vp) (row_signalled sint flag) })) (sym is)
+      (subst (λ vectors. Tells (variant.Synic (record (quiet part vp) { flag = Some (record { sint = sint; flag = flag; is_set = true }); raised = vectors })) f
+      (record f { vp = with_vp f.vp (part, vp) (row_signalled sint flag) })) (sym quiet_vectors)
       (signal_turns part vp sint flag f (vp_row_of v) seen.row clear))
 
   pub made_clear : (flag : ℕ) → set.contains v.flags (sint, flag) ≡ true
-      → Tells (variant.Synic (record s { flag = Some (record { sint = sint; flag = flag; is_set = false }) })) f (record f { vp = with_vp f.vp (part, vp) (λ row. record row { flags = set.remove row.flags (sint, flag) }) })
+      → Tells (variant.Synic (record s { flag = Some (record { sint = sint; flag = flag; is_set = false }) })) f
+      (record f { vp = with_vp f.vp (part, vp) (λ row. record row { flags = set.remove row.flags (sint, flag) }) })
   made_clear flag there =
-      subst (λ s. Tells (variant.Synic (record s { flag = Some (record { sint = sint; flag = flag; is_set = false }) })) f (record f { vp = with_vp f.vp (part, vp) (λ row. record row { flags = set.remove row.flags (sint, flag) }) })) (sym is)
+      subst (λ s. Tells (variant.Synic (record s { flag = Some (record { sint = sint; flag = flag; is_set = false }) })) f
+      (record f { vp = with_vp f.vp (part, vp) (λ row. record row { flags = set.remove row.flags (sint, flag) }) })) (sym is)
       (clear_turns part vp sint flag f (vp_row_of v) seen.row there)
 
   pub made_slot : (port : ℕ) → sint < 16 → port_of (at v.mail sint).slot ≡ Some port
@@ -88,7 +94,8 @@ module _ (part vp sint : ℕ) (f : Flat) (v : VpState) (seen : IsSeen f part vp 
   pub same_signal : (flag : ℕ) → set.contains v.flags (sint, flag) ≡ true → Tells variant.Nothing f (record f { vp = with_vp f.vp (part, vp) (row_signalled sint flag) })
   same_signal flag there = signal_again part vp sint flag f (vp_row_of v) seen.row there
 
-  pub same_clear : (flag : ℕ) → set.contains v.flags (sint, flag) ≡ false → Tells variant.Nothing f (record f { vp = with_vp f.vp (part, vp) (λ row. record row { flags = set.remove row.flags (sint, flag) }) })
+  pub same_clear : (flag : ℕ) → set.contains v.flags (sint, flag) ≡ false → Tells variant.Nothing f
+      (record f { vp = with_vp f.vp (part, vp) (λ row. record row { flags = set.remove row.flags (sint, flag) }) })
   same_clear flag clear = clear_again part vp sint flag f (vp_row_of v) seen.row clear
 
   pub same_slot : port_of (at v.mail sint).slot ≡ None → Tells variant.Nothing f (record f { mail = cleared (place part vp sint) f.mail })
@@ -111,7 +118,8 @@ vectors_more test registers sint old new so_far is made =
     ∙ sym (ap (λ b. cond b (raised registers sint (vectors_of test registers sint)) (vectors_of test registers sint)) is)
     ∙ ap (vectors_of test registers) (sym (add-one sint))
 
-pub vectors_still : (test : ℕ → Bool) (registers : FinMap nat_cmp ℕ) (sint : ℕ) (old : VectorSet) → old ≡ vectors_of test registers sint → test sint ≡ false → old ≡ vectors_of test registers (sint + 1)
+pub vectors_still : (test : ℕ → Bool) (registers : FinMap nat_cmp ℕ) (sint : ℕ) (old : VectorSet) → old ≡ vectors_of test registers sint → test sint ≡ false → old ≡ vectors_of test registers
+    (sint + 1)
 unfolding vectors_of
 vectors_still test registers sint old so_far is =
     so_far
@@ -127,7 +135,8 @@ pub made_ended : (part vp before value : ℕ) (f : Flat) (v : VpState) → IsSee
     → (mask : ℕ) → mask < 2 ^ 16 → ((k : ℕ) → k < 16 → (bit_at mask k == 1) ≡ (nat_lt k 16 && test_of v before k)) → (vectors : VectorSet) → vectors ≡ vectors_of (test_of v before) v.registers 16
     → Tells (variant.Synic (record (quiet part vp) { shown = mask; raised = vectors })) f (write_register part vp EOM value f)
 made_ended part vp before value f v seen were mask fits bits vectors made =
-    subst (λ vectors. Tells (variant.Synic (record (quiet part vp) { shown = mask; raised = vectors })) f g) (sym (made ∙ vectors_same (test_of v before) (became_shown part vp f g) v.registers 16 same))
+    subst (λ vectors. Tells (variant.Synic (record (quiet part vp) { shown = mask; raised = vectors })) f g)
+    (sym (made ∙ vectors_same (test_of v before) (became_shown part vp f g) v.registers 16 same))
     (write_ends part vp value f (vp_row_of v) seen.row mask bit)
   where
     g : Flat

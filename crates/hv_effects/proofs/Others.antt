@@ -6,7 +6,7 @@ use Rattle.std.specs.FinMap.{FinMap, entries, from_entries, get, get-insert, get
 use Rattle.std.specs.FinSet as set
 use Rattle.std.specs.Option.{option_map}
 use Rattle.std.specs.Ordering.{eq_by_cmp, nat_cmp}
-use Rattle.hv_confine.specs.Same.{has_flag, has_vector, place}
+use Rattle.hv_integrity.specs.Same.{has_flag, has_vector, place}
 use Rattle.hv_defs.proofs.Maps.{get-mapped, get_at-insert}
 use Rattle.hv_defs.specs.Flags.{pair_cmp}
 use Rattle.hv_policy.proofs.Pairs.{pair_cmp_total, tied_pairs}
@@ -23,7 +23,8 @@ use Rattle.hv_effects.specs.declared.effect.Effect.TheVariants as variant
 module _ (f : Flat) where
   -- where neither messages nor processors nor pages change
   pub untold : (g : Flat) → f.mail ≡ g.mail → f.vp ≡ g.vp → f.page ≡ g.page → Tells variant.Nothing f g
-  untold g mail vps pages = nothing_told f g mail (λ part vp sint flag. ap (λ m. has_flag (get m (part, vp)) sint flag) (sym vps)) (λ part vp vector. ap (λ m. has_vector (get m (part, vp)) vector) (sym vps)) pages
+  untold g mail vps pages = nothing_told f g mail (λ part vp sint flag. ap (λ m. has_flag (get m (part, vp)) sint flag) (sym vps))
+      (λ part vp vector. ap (λ m. has_vector (get m (part, vp)) vector) (sym vps)) pages
 
   -- where a register is written, but for EOM
   pub register_untold : (part vp name value : ℕ) → Tells variant.Nothing f (record f { vp = with_vp f.vp (part, vp) (written name value) })
@@ -56,7 +57,8 @@ module _ (f : Flat) where
       row = record { owner = owner; pooled = pooled }
 
   -- the pages of a partition that is gone
-  pub pages_told : (from to : ℕ) (part : FinMap nat_cmp PartRow) → Tells (variant.Pages from to) f (record f { part = part; page = from_entries (map (λ e. (e.0, inherited from to e.1)) (entries f.page)) })
+  pub pages_told : (from to : ℕ) (part : FinMap nat_cmp PartRow) → Tells (variant.Pages from to) f
+      (record f { part = part; page = from_entries (map (λ e. (e.0, inherited from to e.1)) (entries f.page)) })
   pages_told from to part = record {
     unnamed = record {
       messages = λ at _. refl;

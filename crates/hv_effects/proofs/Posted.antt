@@ -5,7 +5,7 @@ use Rattle.std.specs.FinMap.{get}
 use Rattle.std.specs.FinSet as set
 use Rattle.std.specs.List.{list_any}
 use Rattle.std.specs.Option.{option_map}
-use Rattle.hv_confine.specs.Same.{has_flag, has_vector, place}
+use Rattle.hv_integrity.specs.Same.{has_flag, has_vector, place}
 use Rattle.hv_defs.specs.Vectors.{raised}
 use Rattle.hv_policy.proofs.Places.{head_shown, is_place_same, last_there, next_rows, posted, posted_apart, posted_there}
 use Rattle.hv_policy.specs.Effect.{post, row_raised}
@@ -73,7 +73,8 @@ module _ (row : MailRow) (f : Flat) (waiting : row.shown ≡ false) where
     unnamed = record {
       messages = λ at off. posted_apart at row (unplaced_too (at.part == row.part) (at.vp == row.vp) (has_bit 0 at.sint) (at.sint == row.sint) off) f.mail;
       flags = λ at flag _. flags_kept at flag;
-      vectors = λ part vp vector _. seen (λ r. has_vector r vector) f.vp row.part row.vp (row_raised did row.sint) part vp (λ _. unraised did row.sint (get f.vp (row.part, row.vp)) vector (did_is ∙ ap not some));
+      vectors = λ part vp vector _. seen (λ r. has_vector r vector) f.vp row.part row.vp (row_raised did row.sint) part vp
+          (λ _. unraised did row.sint (get f.vp (row.part, row.vp)) vector (did_is ∙ ap not some));
       pages = λ page _. refl;
     };
     named = record {
@@ -102,26 +103,34 @@ module _ (row : MailRow) (f : Flat) (waiting : row.shown ≡ false) where
     pub post_shows : list_any is_shown rows ≡ false → Tells (variant.Synic told) f (post row f)
     post_shows none = record {
       unnamed = record {
-        messages = λ at off. posted_apart at row (ap (λ b. (at.part == row.part) && ((at.vp == row.vp) && b)) (sym (bit at.sint)) ∙ unplaced (at.part == row.part) (at.vp == row.vp) (has_bit mask at.sint) false off) f.mail;
+        messages = λ at off. posted_apart at row (ap (λ b. (at.part == row.part) && ((at.vp == row.vp) && b)) (sym (bit at.sint)) ∙ unplaced (at.part == row.part) (at.vp == row.vp)
+            (has_bit mask at.sint) false off) f.mail;
         flags = λ at flag _. flags_kept at flag;
-        vectors = λ part vp vector off. seen (λ r. has_vector r vector) f.vp row.part row.vp (row_raised did row.sint) part vp (λ here. vector_kept vector (left_false (set.contains told.raised vector) false (rest_false (is_at told part vp) (set.contains told.raised vector || false) off here)));
+        vectors = λ part vp vector off. seen (λ r. has_vector r vector) f.vp row.part row.vp (row_raised did row.sint) part vp
+            (λ here. vector_kept vector (left_false (set.contains told.raised vector) false (rest_false (is_at told part vp) (set.contains told.raised vector || false) off here)));
         pages = λ page _. refl;
       };
       named = record {
-        shown = λ sint is. (let same : sint ≡ row.sint = eqb-true sint row.sint (sym (bit sint) ∙ is) in subst (λ sint. shown_at (place row.part row.vp sint) (post row f).mail ≢ shown_at (place row.part row.vp sint) f.mail) (sym same) changed);
+        shown = λ sint is. (let same : sint ≡ row.sint = eqb-true sint row.sint (sym (bit sint) ∙ is) in subst
+            (λ sint. shown_at (place row.part row.vp sint) (post row f).mail ≢ shown_at (place row.part row.vp sint) f.mail) (sym same) changed);
         waiting = λ sint is. cc;
         flag = λ change is. cc;
-        raised = λ vector there. ap (λ r. has_vector r vector) (there_itself f.vp row.part row.vp (row_raised did row.sint)) ∙ vector_now vector ∙ ap (λ b. b || has_vector (get f.vp (row.part, row.vp)) vector) there;
+        raised = λ vector there. ap (λ r. has_vector r vector) (there_itself f.vp row.part row.vp (row_raised did row.sint)) ∙ vector_now vector ∙ ap
+            (λ b. b || has_vector (get f.vp (row.part, row.vp)) vector) there;
         taken = λ vector is. cc;
         freed = λ port is. cc;
-        left = λ sint message is was gone. (let same : sint ≡ row.sint = eqb-true sint row.sint (sym (bit sint) ∙ is) in absurd (subst (λ sint. shown_at (place row.part row.vp sint) (post row f).mail ≢ None) (sym same) stays gone));
+        left = λ sint message is was gone. (let same : sint ≡ row.sint = eqb-true sint row.sint (sym (bit sint) ∙ is) in absurd
+            (subst (λ sint. shown_at (place row.part row.vp sint) (post row f).mail ≢ None) (sym same) stays gone));
       };
     }
       where
-        vector_now : (vector : ℕ) → has_vector (option_map (row_raised did row.sint) (get f.vp (row.part, row.vp))) vector ≡ (set.contains told.raised vector || has_vector (get f.vp (row.part, row.vp)) vector)
-        vector_now vector = subst (λ r. has_vector (option_map (row_raised did row.sint) r) vector ≡ (set.contains told.raised vector || has_vector r vector)) (sym is) (raise_vector did row.sint v vector (did_is ∙ ap not none))
+        vector_now : (vector : ℕ) → has_vector (option_map (row_raised did row.sint) (get f.vp (row.part, row.vp))) vector ≡
+            (set.contains told.raised vector || has_vector (get f.vp (row.part, row.vp)) vector)
+        vector_now vector = subst (λ r. has_vector (option_map (row_raised did row.sint) r) vector ≡ (set.contains told.raised vector || has_vector r vector)) (sym is)
+            (raise_vector did row.sint v vector (did_is ∙ ap not none))
 
-        vector_kept : (vector : ℕ) → set.contains told.raised vector ≡ false → has_vector (option_map (row_raised did row.sint) (get f.vp (row.part, row.vp))) vector ≡ has_vector (get f.vp (row.part, row.vp)) vector
+        vector_kept : (vector : ℕ) → set.contains told.raised vector ≡ false → has_vector (option_map (row_raised did row.sint) (get f.vp (row.part, row.vp))) vector ≡ has_vector
+            (get f.vp (row.part, row.vp)) vector
         vector_kept vector none = vector_now vector ∙ ap (λ b. b || has_vector (get f.vp (row.part, row.vp)) vector) none
 
         stays : shown_at at_row (post row f).mail ≢ None

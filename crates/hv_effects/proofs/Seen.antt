@@ -8,7 +8,7 @@ use Rattle.std.specs.FinSet as set
 use Rattle.std.specs.List.{list_any}
 use Rattle.std.specs.Option.{option_map}
 use Rattle.std.specs.Ordering.{eq_by_cmp, nat_cmp}
-use Rattle.hv_confine.specs.Same.{has_flag, has_vector, place}
+use Rattle.hv_integrity.specs.Same.{has_flag, has_vector, place}
 use Rattle.hv_defs.specs.Bits.{bits}
 use Rattle.hv_defs.specs.Flags.{pair_cmp}
 use Rattle.hv_defs.specs.Vectors.{VectorSet, raised, with_vector}
@@ -110,7 +110,8 @@ raised_both registers sint vectors vector = by (get registers (SINT0 + sint))
     three true b c is = refl
     three false b c is = ap (λ x. x || c) (sym is)
 
-    one : (value : ℕ) (masked : Bool) → set.contains (cond masked vectors (set.insert vectors (bits value 0 8))) vector ≡ (set.contains (cond masked no_vectors (set.insert no_vectors (bits value 0 8))) vector || set.contains vectors vector)
+    one : (value : ℕ) (masked : Bool) → set.contains (cond masked vectors (set.insert vectors (bits value 0 8))) vector ≡
+        (set.contains (cond masked no_vectors (set.insert no_vectors (bits value 0 8))) vector || set.contains vectors vector)
     one value true = none
     one value false =
         set.contains-insert nat_cmp_total vectors (bits value 0 8) vector

@@ -6,7 +6,7 @@ use Rattle.std.specs.FinMap.{get}
 use Rattle.std.specs.FinSet as set
 use Rattle.std.specs.Option.{option_map}
 use Rattle.std.specs.Ordering.{eq_by_cmp}
-use Rattle.hv_confine.specs.Same.{has_flag, has_vector}
+use Rattle.hv_integrity.specs.Same.{has_flag, has_vector}
 use Rattle.hv_defs.specs.Flags.{FlagSet, pair_cmp}
 use Rattle.hv_defs.specs.Vectors.{raised}
 use Rattle.hv_policy.proofs.Pairs.{pair_cmp_total, tied_pairs}
@@ -45,8 +45,11 @@ module _ (part vp sint flag : ℕ) (f : Flat) (v : VpRow) (is : get f.vp (part, 
   -- a signal to a flag that is set
   pub signal_again : set.contains v.flags (sint, flag) ≡ true → Tells variant.Nothing f signalled
   signal_again set_already = nothing_told f signalled refl
-      (λ id index s n. seen (λ r. has_flag r s n) f.vp part vp (row_signalled sint flag) id index (λ _. subst (λ r. has_flag (option_map (row_signalled sint flag) r) s n ≡ has_flag r s n) (sym is) (inserted v.flags sint flag s n ∙ by s n ((s == sint) && (n == flag)) refl)))
-      (λ id index vector. seen (λ r. has_vector r vector) f.vp part vp (row_signalled sint flag) id index (λ _. subst (λ r. has_vector (option_map (row_signalled sint flag) r) vector ≡ has_vector r vector) (sym is) (ap (λ b. set.contains (cond (not b) (raised v.registers sint v.pending) v.pending) vector) set_already)))
+      (λ id index s n. seen (λ r. has_flag r s n) f.vp part vp (row_signalled sint flag) id index
+      (λ _. subst (λ r. has_flag (option_map (row_signalled sint flag) r) s n ≡ has_flag r s n) (sym is) (inserted v.flags sint flag s n ∙ by s n ((s == sint) && (n == flag)) refl)))
+      (λ id index vector. seen (λ r. has_vector r vector) f.vp part vp (row_signalled sint flag) id index
+      (λ _. subst (λ r. has_vector (option_map (row_signalled sint flag) r) vector ≡ has_vector r vector) (sym is)
+      (ap (λ b. set.contains (cond (not b) (raised v.registers sint v.pending) v.pending) vector) set_already)))
       refl
     where
       by : (s n : ℕ) (b : Bool) → (s == sint) && (n == flag) ≡ b → (b || set.contains v.flags (s, n)) ≡ set.contains v.flags (s, n)
@@ -61,8 +64,12 @@ module _ (part vp sint flag : ℕ) (f : Flat) (v : VpRow) (is : get f.vp (part, 
   signal_turns clear = record {
     unnamed = record {
       messages = λ at _. refl;
-      flags = λ at n off. seen (λ r. has_flag r at.sint n) f.vp part vp (row_signalled sint flag) at.part at.vp (λ here. subst (λ r. has_flag (option_map (row_signalled sint flag) r) at.sint n ≡ has_flag r at.sint n) (sym is) (inserted v.flags sint flag at.sint n ∙ ap (λ b. b || set.contains v.flags (at.sint, n)) (rest_false (is_at told at.part at.vp) (is_change told.flag at.sint n) off here)));
-      vectors = λ id index vector off. seen (λ r. has_vector r vector) f.vp part vp (row_signalled sint flag) id index (λ here. vector_now vector ∙ ap (λ b. b || has_vector (get f.vp (part, vp)) vector) (left_false (set.contains told.raised vector) false (rest_false (is_at told id index) (set.contains told.raised vector || false) off here)));
+      flags = λ at n off. seen (λ r. has_flag r at.sint n) f.vp part vp (row_signalled sint flag) at.part at.vp
+          (λ here. subst (λ r. has_flag (option_map (row_signalled sint flag) r) at.sint n ≡ has_flag r at.sint n) (sym is)
+          (inserted v.flags sint flag at.sint n ∙ ap (λ b. b || set.contains v.flags (at.sint, n)) (rest_false (is_at told at.part at.vp) (is_change told.flag at.sint n) off here)));
+      vectors = λ id index vector off. seen (λ r. has_vector r vector) f.vp part vp (row_signalled sint flag) id index
+          (λ here. vector_now vector ∙ ap (λ b. b || has_vector (get f.vp (part, vp)) vector)
+          (left_false (set.contains told.raised vector) false (rest_false (is_at told id index) (set.contains told.raised vector || false) off here)));
       pages = λ page _. refl;
     };
     named = record {
@@ -87,7 +94,8 @@ module _ (part vp sint flag : ℕ) (f : Flat) (v : VpRow) (is : get f.vp (part, 
       }
 
       vector_now : (vector : ℕ) → has_vector (option_map (row_signalled sint flag) (get f.vp (part, vp))) vector ≡ (set.contains told.raised vector || has_vector (get f.vp (part, vp)) vector)
-      vector_now vector = subst (λ r. has_vector (option_map (row_signalled sint flag) r) vector ≡ (set.contains told.raised vector || has_vector r vector)) (sym is) (raise_vector (not (set.contains v.flags (sint, flag))) sint v vector (ap not clear))
+      vector_now vector = subst (λ r. has_vector (option_map (row_signalled sint flag) r) vector ≡ (set.contains told.raised vector || has_vector r vector)) (sym is)
+          (raise_vector (not (set.contains v.flags (sint, flag))) sint v vector (ap not clear))
 
   -- a flag is cleared that is clear, or that is set
   abbrev clear_it : VpRow → VpRow
@@ -105,7 +113,8 @@ module _ (part vp sint flag : ℕ) (f : Flat) (v : VpRow) (is : get f.vp (part, 
 
   pub clear_again : set.contains v.flags (sint, flag) ≡ false → Tells variant.Nothing f cleared
   clear_again clear = nothing_told f cleared refl
-      (λ id index s n. seen (λ r. has_flag r s n) f.vp part vp clear_it id index (λ _. subst (λ r. has_flag (option_map clear_it r) s n ≡ has_flag r s n) (sym is) (removed v.flags sint flag s n ∙ by s n ((s == sint) && (n == flag)) refl)))
+      (λ id index s n. seen (λ r. has_flag r s n) f.vp part vp clear_it id index (λ _. subst (λ r. has_flag (option_map clear_it r) s n ≡ has_flag r s n) (sym is)
+      (removed v.flags sint flag s n ∙ by s n ((s == sint) && (n == flag)) refl)))
       vectors_kept refl
     where
       by : (s n : ℕ) (b : Bool) → (s == sint) && (n == flag) ≡ b → (not b && set.contains v.flags (s, n)) ≡ set.contains v.flags (s, n)
@@ -119,7 +128,9 @@ module _ (part vp sint flag : ℕ) (f : Flat) (v : VpRow) (is : get f.vp (part, 
   clear_turns set_there = record {
     unnamed = record {
       messages = λ at _. refl;
-      flags = λ at n off. seen (λ r. has_flag r at.sint n) f.vp part vp clear_it at.part at.vp (λ here. subst (λ r. has_flag (option_map clear_it r) at.sint n ≡ has_flag r at.sint n) (sym is) (removed v.flags sint flag at.sint n ∙ ap (λ b. not b && set.contains v.flags (at.sint, n)) (rest_false (is_at told_clear at.part at.vp) (is_change told_clear.flag at.sint n) off here)));
+      flags = λ at n off. seen (λ r. has_flag r at.sint n) f.vp part vp clear_it at.part at.vp
+          (λ here. subst (λ r. has_flag (option_map clear_it r) at.sint n ≡ has_flag r at.sint n) (sym is)
+          (removed v.flags sint flag at.sint n ∙ ap (λ b. not b && set.contains v.flags (at.sint, n)) (rest_false (is_at told_clear at.part at.vp) (is_change told_clear.flag at.sint n) off here)));
       vectors = λ id index vector off. vectors_kept id index vector;
       pages = λ page _. refl;
     };

@@ -1,5 +1,6 @@
 -- What a cleared slot and a taken vector tell.
-use Rattle.std.proofs.Common.{◌≡◌, ◌≢◌, ℕ, zero, suc, ◌%◌, ◌^◌, ◌<◌, ◌==◌, ◌&&◌, ◌||◌, not, Bool, true, false, cond, List, [], ◌∷◌, find, Option, Some, None, inl, inr, refl, sym, ap, subst, ◌∙◌, arith}
+use Rattle.std.proofs.Common.{◌≡◌, ◌≢◌, ℕ, zero, suc, ◌%◌, ◌^◌, ◌<◌, ◌==◌, ◌&&◌, ◌||◌, not, Bool, true, false, cond, List, [], ◌∷◌, find, Option, Some, None, inl, inr, refl, sym, ap, subst, ◌∙◌}
+use Rattle.std.proofs.Common.{arith}
 use Rattle.std.proofs.lemmas.Bool.{cases_eq, eq-eqb, eqb-true}
 use Rattle.std.specs.Cmp.{nat_cmp_total, unsigned_tied}
 use Rattle.std.specs.FinMap.{get}
@@ -7,7 +8,7 @@ use Rattle.std.specs.FinSet as set
 use Rattle.std.specs.List.{filter, list_any}
 use Rattle.std.specs.Option.{option_map, option_map_or}
 use Rattle.std.specs.Ordering.{eq_by_cmp, nat_cmp}
-use Rattle.hv_confine.specs.Same.{has_flag, has_vector, place}
+use Rattle.hv_integrity.specs.Same.{has_flag, has_vector, place}
 use Rattle.hv_defs.specs.Vectors.{VectorSet, highest, highest_below, without}
 use Rattle.hv_policy.proofs.Places.{cleared_apart, cleared_there, is_place, is_place_true}
 use Rattle.hv_policy.specs.Answer.{vector_of}
@@ -25,7 +26,8 @@ pub all_wait : (rows : List MailRow) → list_any is_shown rows ≡ false → fi
 all_wait [] none = refl
 all_wait (row ∷ rows) none = by row.shown refl none (all_wait rows)
   where
-    by : (b : Bool) → row.shown ≡ b → b || list_any is_shown rows ≡ false → (list_any is_shown rows ≡ false → filter (λ row. not row.shown) rows ≡ rows) → cond (not b) (row ∷ filter (λ row. not row.shown) rows) (filter (λ row. not row.shown) rows) ≡ row ∷ rows
+    by : (b : Bool) → row.shown ≡ b → b || list_any is_shown rows ≡ false → (list_any is_shown rows ≡ false → filter (λ row. not row.shown) rows ≡ rows) → cond (not b)
+        (row ∷ filter (λ row. not row.shown) rows) (filter (λ row. not row.shown) rows) ≡ row ∷ rows
     by true is none rest = cc
     by false is none rest = ap (λ rows. row ∷ rows) (rest none)
 
@@ -33,7 +35,8 @@ none_left : (rows : List MailRow) → find is_shown (filter (λ row. not row.sho
 none_left [] = refl
 none_left (row ∷ rows) = by row.shown refl (none_left rows)
   where
-    by : (b : Bool) → row.shown ≡ b → find is_shown (filter (λ row. not row.shown) rows) ≡ None → find is_shown (cond (not b) (row ∷ filter (λ row. not row.shown) rows) (filter (λ row. not row.shown) rows)) ≡ None
+    by : (b : Bool) → row.shown ≡ b → find is_shown (filter (λ row. not row.shown) rows) ≡ None → find is_shown
+        (cond (not b) (row ∷ filter (λ row. not row.shown) rows) (filter (λ row. not row.shown) rows)) ≡ None
     by true is rest = rest
     by false is rest = ap (λ b. cond b (Some row) (find is_shown (filter (λ row. not row.shown) rows))) is ∙ rest
 
@@ -68,13 +71,15 @@ module _ (at_slot : Place) (f : Flat) where
       → Tells (variant.Synic (record (quiet at_slot.part at_slot.vp) { shown = mask; freed = Some port })) f slot_cleared
   cleared_shown mask port bit row before by = record {
     unnamed = record {
-      messages = λ at off. cleared_apart at at_slot (ap (λ b. (at.part == at_slot.part) && ((at.vp == at_slot.vp) && b)) (sym (bit at.sint)) ∙ unplaced (at.part == at_slot.part) (at.vp == at_slot.vp) (has_bit mask at.sint) false off) f.mail;
+      messages = λ at off. cleared_apart at at_slot (ap (λ b. (at.part == at_slot.part) && ((at.vp == at_slot.vp) && b)) (sym (bit at.sint)) ∙ unplaced (at.part == at_slot.part) (at.vp == at_slot.vp)
+          (has_bit mask at.sint) false off) f.mail;
       flags = λ at flag _. refl;
       vectors = λ part vp vector _. refl;
       pages = λ page _. refl;
     };
     named = record {
-      shown = λ sint is. (let same : sint ≡ at_slot.sint = eqb-true sint at_slot.sint (sym (bit sint) ∙ is) in subst (λ sint. shown_at (place at_slot.part at_slot.vp sint) slot_cleared.mail ≢ shown_at (place at_slot.part at_slot.vp sint) f.mail) (sym same) changed);
+      shown = λ sint is. (let same : sint ≡ at_slot.sint = eqb-true sint at_slot.sint (sym (bit sint) ∙ is) in subst
+          (λ sint. shown_at (place at_slot.part at_slot.vp sint) slot_cleared.mail ≢ shown_at (place at_slot.part at_slot.vp sint) f.mail) (sym same) changed);
       waiting = λ sint is. cc;
       flag = λ change is. cc;
       raised = λ vector is. absurd (no_vector vector is);
@@ -101,7 +106,8 @@ unfolding highest_below
 none_below zero vectors none k less = absurd (omega arith)
 none_below (suc n) vectors none k less = by (set.contains vectors n) refl none (λ none less. none_below n vectors none k less)
   where
-    by : (b : Bool) → set.contains vectors n ≡ b → cond b (Some n) (highest_below n vectors) ≡ None → (highest_below n vectors ≡ None → k < n → set.contains vectors k ≡ false) → set.contains vectors k ≡ false
+    by : (b : Bool) → set.contains vectors n ≡ b → cond b (Some n) (highest_below n vectors) ≡ None → (highest_below n vectors ≡ None → k < n → set.contains vectors k ≡ false) → set.contains vectors k
+        ≡ false
     by true is none rest = cc
     by false is none rest =
         elim (cases_eq k n) [
@@ -122,7 +128,10 @@ module _ (part vp : ℕ) (f : Flat) (v : VpRow) (is : get f.vp (part, vp) ≡ So
     unnamed = record {
       messages = λ at _. refl;
       flags = λ at flag _. seen (λ r. has_flag r at.sint flag) f.vp part vp take_it at.part at.vp (λ _. flag_kept (get f.vp (part, vp)) at.sint flag);
-      vectors = λ id index other off. seen (λ r. has_vector r other) f.vp part vp take_it id index (λ here. subst (λ r. has_vector (option_map take_it r) other ≡ has_vector r other) (sym is) (kept other (highest v.pending) (right_false (set.contains no_vectors other) (other == vector) (rest_false (is_at s id index) (set.contains s.raised other || is_number s.taken other) off here)) now));
+      vectors = λ id index other off. seen (λ r. has_vector r other) f.vp part vp take_it id index
+          (λ here. subst (λ r. has_vector (option_map take_it r) other ≡ has_vector r other) (sym is)
+          (kept other (highest v.pending) (right_false (set.contains no_vectors other) (other == vector)
+          (rest_false (is_at s id index) (set.contains s.raised other || is_number s.taken other) off here)) now));
       pages = λ page _. refl;
     };
     named = record {

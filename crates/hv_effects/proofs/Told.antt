@@ -1,5 +1,6 @@
 -- Bits of flags and of SINTs, and what is read of a processor that a flat state has.
-use Rattle.std.proofs.Common.{◌≡◌, ℕ, zero, suc, ◌+◌, ◌*◌, ◌/◌, ◌%◌, ◌^◌, ◌<◌, ◌≤◌, ◌==◌, ◌&&◌, ◌||◌, nat_eq, nat_lt, is_some, Bool, true, false, cond, List, [], ◌∷◌, find, map, Option, Some, None, bit_and, get_or, refl, sym, ap, subst, ◌∙◌, arith}
+use Rattle.std.proofs.Common.{◌≡◌, ℕ, zero, suc, ◌+◌, ◌*◌, ◌/◌, ◌%◌, ◌^◌, ◌<◌, ◌≤◌, ◌==◌, ◌&&◌, ◌||◌, nat_eq, nat_lt, is_some, Bool, true, false, cond, List, [], ◌∷◌, find, map, Option, Some, None}
+use Rattle.std.proofs.Common.{bit_and, get_or, refl, sym, ap, subst, ◌∙◌, arith}
 use Rattle.std.proofs.lemmas.Bool.{and_from, eq-eqb, le-ltb}
 use Rattle.std.proofs.lemmas.List.FromFn.{get_or-map-range_with_len}
 use Rattle.std.proofs.lemmas.Nat.Bits.{bit_at_above, shr_and_one}
@@ -8,15 +9,15 @@ use Rattle.std.specs.FinSet as set
 use Rattle.std.specs.Int.{bit_at}
 use Rattle.std.specs.List.{AllByRecursion, list_any, range_with_len}
 use Rattle.std.specs.Option.{option_and_then, option_map}
-use Rattle.hv_confine.specs.Same.{place}
+use Rattle.hv_integrity.specs.Same.{place}
 use Rattle.hv_defs.specs.Flags.{FlagSet, flag_bytes, number_where}
 use Rattle.hv_mail.specs.Mail.{SintMail, at}
 use Rattle.hv_mail.specs.declared.message.Message.{Message}
 use Rattle.hv_partition.specs.Partition.{PartitionState}
 use Rattle.hv_policy.specs.Flat.{Flat, MailRow}
 use Rattle.hv_policy.specs.Mail.{Place, is_shown, mail_at}
-use Rattle.hv_tie.proofs.Staff.{rows_there, vp_in, vp_there}
-use Rattle.hv_tie.specs.Tie.{IsTied, here, mail_row, rows_of, sint_mail, vp_row_of}
+use Rattle.hv_refine.proofs.Staff.{rows_there, vp_in, vp_there}
+use Rattle.hv_refine.specs.Tie.{Refines, here, mail_row, rows_of, sint_mail, vp_row_of}
 use Rattle.hv_tree.specs.Rows.{Row, Rows, content}
 use Rattle.hv_vp.specs.Vp.{VpState}
 use Rattle.hv_effects.proofs.Types.{typed_there}
@@ -60,8 +61,10 @@ bit_of w0 w1 w2 w3 w4 w5 w6 w7 l0 l1 l2 l3 l4 l5 l6 l7 n is = (((omega arith, om
 pub number_bit : (t : ℕ → Bool) (j : ℕ) → j < 8 → (bit_at (number_where t 8) j == 1) ≡ t j
 number_bit t j less = by j less
   where
-    all : ((((number_where t 8 % 2 ≡ one_of (t 0)) × (number_where t 8 / 2 % 2 ≡ one_of (t 1))) × ((number_where t 8 / 4 % 2 ≡ one_of (t 2)) × (number_where t 8 / 8 % 2 ≡ one_of (t 3)))) × (((number_where t 8 / 16 % 2 ≡ one_of (t 4)) × (number_where t 8 / 32 % 2 ≡ one_of (t 5))) × ((number_where t 8 / 64 % 2 ≡ one_of (t 6)) × (number_where t 8 / 128 % 2 ≡ one_of (t 7)))))
-    all = bit_of (one_of (t 0)) (one_of (t 1)) (one_of (t 2)) (one_of (t 3)) (one_of (t 4)) (one_of (t 5)) (one_of (t 6)) (one_of (t 7)) (low (t 0)) (low (t 1)) (low (t 2)) (low (t 3)) (low (t 4)) (low (t 5)) (low (t 6)) (low (t 7)) (number_where t 8) (byte t)
+    all : ((((number_where t 8 % 2 ≡ one_of (t 0)) × (number_where t 8 / 2 % 2 ≡ one_of (t 1))) × ((number_where t 8 / 4 % 2 ≡ one_of (t 2)) × (number_where t 8 / 8 % 2 ≡ one_of (t 3)))) ×
+        (((number_where t 8 / 16 % 2 ≡ one_of (t 4)) × (number_where t 8 / 32 % 2 ≡ one_of (t 5))) × ((number_where t 8 / 64 % 2 ≡ one_of (t 6)) × (number_where t 8 / 128 % 2 ≡ one_of (t 7)))))
+    all = bit_of (one_of (t 0)) (one_of (t 1)) (one_of (t 2)) (one_of (t 3)) (one_of (t 4)) (one_of (t 5)) (one_of (t 6)) (one_of (t 7)) (low (t 0)) (low (t 1)) (low (t 2)) (low (t 3)) (low (t 4))
+        (low (t 5)) (low (t 6)) (low (t 7)) (number_where t 8) (byte t)
 
     first : number_where t 8 / 1 ≡ number_where t 8
     first = omega arith
@@ -83,7 +86,8 @@ pub flag_told : (flags : FlagSet) (sint flag : ℕ) (bytes : List ℕ) (i : ℕ)
 unfolding flag_bytes
 flag_told flags sint flag bytes i less is at =
     let test : ℕ → Bool = λ j. set.contains flags (sint, i * 8 + j) in
-    let byte : get_or bytes i 0 ≡ number_where test 8 = ap (λ bytes. get_or bytes i 0) is ∙ get_or-map-range_with_len (λ i. number_where (λ j. set.contains flags (sint, i * 8 + j)) 8) 0 256 i i 0 (omega arith) (omega arith) in
+    let byte : get_or bytes i 0 ≡ number_where test 8 = ap (λ bytes. get_or bytes i 0) is ∙ get_or-map-range_with_len (λ i. number_where (λ j. set.contains flags (sint, i * 8 + j)) 8) 0 256 i i 0
+    (omega arith) (omega arith) in
     let sum : i * 8 + flag % 8 ≡ flag = omega arith in
     ap (λ n. n == 1) (ap (λ byte. bit_and (byte / 2 ^ (flag % 8)) 1) byte ∙ shr_and_one (number_where test 8) (flag % 8))
     ∙ number_bit test (flag % 8) (omega arith) ∙ ap (λ n. set.contains flags (sint, n)) sum
@@ -120,26 +124,28 @@ port_rows at_sint mail = by mail.slot mail.waiting
     by None waiting = waits waiting
     by (Some message) waiting = refl
 
-typed_rows : (at_sint : Place) (slot : Option Message) (waiting : List Message) → AllByRecursion (λ row. is_typed row ≡ true) (rows_of at_sint (record { slot = slot; waiting = waiting })) → IsSlotTyped slot
+typed_rows : (at_sint : Place) (slot : Option Message) (waiting : List Message) → AllByRecursion (λ row. is_typed row ≡ true) (rows_of at_sint (record { slot = slot; waiting = waiting })) →
+    IsSlotTyped slot
 typed_rows at_sint None waiting all = tt
 typed_rows at_sint (Some message) waiting all = all.0
 
 -- so it is what the flat state has of it
-pub is_seen : (rows : Rows PartitionState) (f : Flat) → IsTied rows f → AreTyped f → (part vp : ℕ) (v : VpState) → vp_at rows part vp ≡ Some v → IsSeen f part vp v
+pub is_seen : (rows : Rows PartitionState) (f : Flat) → Refines rows f → AreTyped f → (part vp : ℕ) (v : VpState) → vp_at rows part vp ≡ Some v → IsSeen f part vp v
 is_seen rows f flat typed part vp v is =
     let there : vp_in vp (get rows part) ≡ Some v = sym (at_is_in rows part vp) ∙ is in
     record {
       row = vp_there rows f flat part vp ∙ ap (option_map vp_row_of) there;
       shown = λ sint. ap (list_any is_shown) (mail_there sint there) ∙ shown_rows (here part vp sint) (at v.mail sint);
       ports = λ sint. ap (λ rows. option_map (λ row. row.port % 2 ^ 32) (find is_shown rows)) (mail_there sint there) ∙ port_rows (here part vp sint) (at v.mail sint);
-      typed = λ sint less. typed_rows (here part vp sint) (at v.mail sint).slot (at v.mail sint).waiting (subst (AllByRecursion (λ row. is_typed row ≡ true)) (mail_there sint there) (typed_there (here part vp sint) f.mail typed));
+      typed = λ sint less. typed_rows (here part vp sint) (at v.mail sint).slot (at v.mail sint).waiting
+          (subst (AllByRecursion (λ row. is_typed row ≡ true)) (mail_there sint there) (typed_there (here part vp sint) f.mail typed));
     }
   where
     mail_there : (sint : ℕ) → vp_in vp (get rows part) ≡ Some v → mail_at (here part vp sint) f.mail ≡ rows_of (here part vp sint) (at v.mail sint)
     mail_there sint there = rows_there rows f flat part vp sint ∙ ap (λ v. rows_of (here part vp sint) (sint_mail sint v)) there
 
 -- and where none is found there is none
-pub none_seen : (rows : Rows PartitionState) (f : Flat) → IsTied rows f → (part vp : ℕ) → vp_at rows part vp ≡ None → get f.vp (part, vp) ≡ None
+pub none_seen : (rows : Rows PartitionState) (f : Flat) → Refines rows f → (part vp : ℕ) → vp_at rows part vp ≡ None → get f.vp (part, vp) ≡ None
 none_seen rows f flat part vp is = vp_there rows f flat part vp ∙ ap (option_map vp_row_of) (sym (at_is_in rows part vp) ∙ is)
 
 -- one bit of a mask

@@ -11,14 +11,16 @@ use Rattle.hv_calls.specs.Blocks.{call_in}
 use Rattle.hv_calls.specs.Params.{element_at, parameters}
 use Rattle.hv_calls.specs.WellFormed.{are_well_formed, is_id, is_message_type}
 use Rattle.hv_calls.specs.declared.call.Call.{Call}
-use Rattle.hv_calls.specs.declared.call.Call.TheVariants.{CreatePartition, InitializePartition, FinalizePartition, DeletePartition, GetPartitionProperty, SetPartitionProperty, GetPartitionId, GetNextChildPartition, DepositMemory, WithdrawMemory, GetMemoryBalance, CreateVp, DeleteVp, GetVpRegisters, SetVpRegisters, DeletePort, DisconnectPort, PostMessage, SignalEvent, CreatePort, ConnectPort}
+use Rattle.hv_calls.specs.declared.call.Call.TheVariants.{CreatePartition, InitializePartition, FinalizePartition, DeletePartition, GetPartitionProperty, SetPartitionProperty, GetPartitionId}
+use Rattle.hv_calls.specs.declared.call.Call.TheVariants.{GetNextChildPartition, DepositMemory, WithdrawMemory, GetMemoryBalance, CreateVp, DeleteVp, GetVpRegisters, SetVpRegisters, DeletePort}
+use Rattle.hv_calls.specs.declared.call.Call.TheVariants.{DisconnectPort, PostMessage, SignalEvent, CreatePort, ConnectPort}
 use Rattle.hv_defs.specs.Bits.{bits}
 use Rattle.hv_defs.specs.Field.{field}
 use Rattle.hv_defs.specs.Registers.{name_of_msr}
 use Rattle.hv_defs.specs.declared.registers.TheConstants.{EOM}
 use Rattle.hv_defs.specs.declared.sizes.TheConstants.{MAX_PAYLOAD, SINTS}
 use Rattle.hv_policy.proofs.Unmet.{all_met}
-use Rattle.hv_policy.specs.Aim.{Aimed, aim_of, flag_taker, is_ready_for_messages, message_taker, on_vp}
+use Rattle.hv_policy.specs.Aim.{ResolvedPort, aim_of, flag_taker, is_ready_for_messages, message_taker, on_vp}
 use Rattle.hv_policy.specs.Boot.{boot}
 use Rattle.hv_policy.specs.Call.{call_event, called}
 use Rattle.hv_policy.specs.Effect.{call_effect, effect, end_if, post, post_at, post_to, served_effect, show, show_each, signal_at, signal_to, write_msr, write_register}
@@ -92,7 +94,7 @@ msr_typed part vp None value f all = all
 msr_typed part vp (Some name) value f all = register_typed part vp name value f all
 
 -- a message is posted
-post_typed : (aim : Option Aimed) (type : ℕ) (payload : List ℕ) (f : Flat) → is_message_type type ≡ true → AreTyped f → AreTyped (post_to aim type payload f)
+post_typed : (aim : Option ResolvedPort) (type : ℕ) (payload : List ℕ) (f : Flat) → is_message_type type ≡ true → AreTyped f → AreTyped (post_to aim type payload f)
 post_typed None type payload f is all = all
 post_typed (Some aim) type payload f is all = by (message_taker f aim)
   where
@@ -100,7 +102,7 @@ post_typed (Some aim) type payload f is all = by (message_taker f aim)
     by None = all
     by (Some vp) = all_shown _ _ (all_last f.mail _ all is)
 
-signal_typed : (aim : Option Aimed) (flag : ℕ) (f : Flat) → AreTyped f → AreTyped (signal_to aim flag f)
+signal_typed : (aim : Option ResolvedPort) (flag : ℕ) (f : Flat) → AreTyped f → AreTyped (signal_to aim flag f)
 signal_typed None flag f all = all
 signal_typed (Some aim) flag f all = by (flag_taker f aim)
   where

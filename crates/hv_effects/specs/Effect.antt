@@ -1,10 +1,11 @@
 -- What an effect names of a flat state, and when it tells what is different in another one.
-use Rattle.std.specs.Prelude.{◌≡◌, ◌≢◌, ℕ, ◌%◌, ◌^◌, ◌==◌, ◌&&◌, ◌||◌, not, Bool, true, false, List, [], ◌∷◌, ◌++◌, Option, None, Some}
+use Rattle.std.specs.Prelude.{◌≡◌, ◌≢◌, ℕ, ◌%◌, ◌^◌, ◌==◌, ◌&&◌, ◌||◌, not, Bool, true, false, List, [], ◌∷◌}
+use Rattle.std.specs.Prelude.{◌++◌, Option, None, Some}
 use Rattle.std.specs.FinMap.{get}
 use Rattle.std.specs.FinSet as set
 use Rattle.std.specs.Int.{bit_at}
 use Rattle.std.specs.Option.{option_map_or}
-use Rattle.hv_confine.specs.Same.{has_flag, has_vector, place}
+use Rattle.hv_integrity.specs.Same.{has_flag, has_vector, place}
 use Rattle.hv_policy.specs.Answer.{vector_of}
 use Rattle.hv_policy.specs.Flat.{Flat, MailRow, PageRow}
 use Rattle.hv_policy.specs.Mail.{Place, mail_at, shown_at}
@@ -16,7 +17,16 @@ use Rattle.hv_effects.specs.declared.effect.Synic.{Synic}
 -- a processor of which nothing is named
 abbrev pub quiet : ℕ → ℕ → Synic
 quiet part vp =
-    record { part = part; vp = vp; shown = 0; waiting = None; flag = None; raised = set.empty; taken = None; freed = None }
+    record {
+      part = part;
+      vp = vp;
+      shown = 0;
+      waiting = None;
+      flag = None;
+      raised = set.empty;
+      taken = None;
+      freed = None;
+    }
 
 -- whether the processor with this index of a partition is the one that is named
 abbrev pub is_at : Synic → ℕ → ℕ → Bool
@@ -36,7 +46,8 @@ is_change named sint flag = option_map_or (λ c. (sint == c.sint) && (flag == c.
 -- an effect names the messages at a SINT of a processor
 abbrev pub names_messages : Effect → Place → Bool
 names_messages effect.Nothing at = false
-names_messages (effect.Synic s) at = is_at s at.part at.vp && (has_bit s.shown at.sint || is_number s.waiting at.sint)
+names_messages (effect.Synic s) at = is_at s at.part at.vp &&
+    (has_bit s.shown at.sint || is_number s.waiting at.sint)
 names_messages (effect.Page page owner pooled) at = false
 names_messages (effect.Pages from to) at = false
 names_messages (effect.Processor part vp) at = (at.part == part) && (at.vp == vp)
@@ -54,7 +65,8 @@ names_flag (effect.Partition part) at flag = at.part == part
 -- a vector of the processor with this index of a partition
 abbrev pub names_vector : Effect → ℕ → ℕ → ℕ → Bool
 names_vector effect.Nothing id index vector = false
-names_vector (effect.Synic s) id index vector = is_at s id index && (set.contains s.raised vector || is_number s.taken vector)
+names_vector (effect.Synic s) id index vector = is_at s id index &&
+    (set.contains s.raised vector || is_number s.taken vector)
 names_vector (effect.Page page owner pooled) id index vector = false
 names_vector (effect.Pages from to) id index vector = false
 names_vector (effect.Processor part vp) id index vector = (id == part) && (index == vp)
@@ -81,7 +93,8 @@ pub record LeavesUnnamed (effect : Effect) (f g : Flat) : Type 0 where
       → has_flag (get g.vp (at.part, at.vp)) at.sint flag ≡ has_flag (get f.vp (at.part, at.vp)) at.sint flag
   pub vectors : (part vp vector : ℕ) → names_vector effect part vp vector ≡ false
       → has_vector (get g.vp (part, vp)) vector ≡ has_vector (get f.vp (part, vp)) vector
-  pub pages : (page : ℕ) → names_page effect page (get f.page page) ≡ false → get g.page page ≡ get f.page page
+  pub pages : (page : ℕ) → names_page effect page (get f.page page) ≡ false → get g.page page ≡ get f.page
+      page
 
 -- one more message waits at a SINT, behind all others
 pub record WaitsMore (at : Place) (f g : Flat) : Type 0 where
@@ -99,7 +112,8 @@ pub record IsTaken (s : Synic) (vector : ℕ) (f g : Flat) : Type 0 where
   pub before : vector ≡ vector_of (get f.vp (s.part, s.vp))
   pub now : has_vector (get g.vp (s.part, s.vp)) vector ≡ false
 
--- a message left its slot that came by the port with this id of the processor's partition. An id has 24 bits, and 32 are told
+-- a message left its slot that came by the port with this id of the processor's partition. An id has 24 bits,
+-- and 32 are told
 pub record IsFreed (s : Synic) (port : ℕ) (f g : Flat) : Type 0 where
   pub sint : ℕ
   pub message : MailRow
@@ -115,11 +129,13 @@ pub record IsSynic (s : Synic) (f g : Flat) : Type 0 where
   pub waiting : (sint : ℕ) → s.waiting ≡ Some sint → WaitsMore (place s.part s.vp sint) f g
   pub flag : (change : FlagChange) → s.flag ≡ Some change → IsTurned s change f g
   -- each vector that was raised is pending
-  pub raised : (vector : ℕ) → set.contains s.raised vector ≡ true → has_vector (get g.vp (s.part, s.vp)) vector ≡ true
+  pub raised : (vector : ℕ) → set.contains s.raised vector ≡ true → has_vector (get g.vp (s.part, s.vp))
+      vector ≡ true
   pub taken : (vector : ℕ) → s.taken ≡ Some vector → IsTaken s vector f g
   pub freed : (port : ℕ) → s.freed ≡ Some port → IsFreed s port f g
   -- and where a message left its slot, and no other is shown there, its port is named
-  pub left : (sint : ℕ) (message : MailRow) → has_bit s.shown sint ≡ true → shown_at (place s.part s.vp sint) f.mail ≡ Some message
+  pub left : (sint : ℕ) (message : MailRow) → has_bit s.shown sint ≡ true → shown_at (place s.part s.vp sint)
+      f.mail ≡ Some message
       → shown_at (place s.part s.vp sint) g.mail ≡ None → s.freed ≡ Some (message.port % 2 ^ 32)
 
 -- a processor has nothing
@@ -134,7 +150,8 @@ IsSo effect.Nothing f g = Unit {0}
 IsSo (effect.Synic s) f g = IsSynic s f g
 IsSo (effect.Page page owner pooled) f g = get g.page page ≡ Some (record { owner = owner; pooled = pooled })
 IsSo (effect.Pages from to) f g =
-    (page : ℕ) → was_of from (get f.page page) ≡ true → get g.page page ≡ Some (record { owner = to; pooled = false })
+    (page : ℕ) → was_of from (get f.page page) ≡ true → get g.page page ≡ Some
+    (record { owner = to; pooled = false })
 IsSo (effect.Processor part vp) f g = HasNothing part vp g
 IsSo (effect.Partition part) f g = (vp : ℕ) → HasNothing part vp g
 

@@ -4,7 +4,7 @@ use Rattle.std.specs.FinMap.{FinMap}
 use Rattle.std.specs.FinSet as set
 use Rattle.std.specs.List.{list_any}
 use Rattle.std.specs.Ordering.{nat_cmp}
-use Rattle.hv_confine.specs.Same.{place}
+use Rattle.hv_integrity.specs.Same.{place}
 use Rattle.hv_defs.specs.Vectors.{VectorSet, raised}
 use Rattle.hv_policy.specs.Flat.{Flat}
 use Rattle.hv_policy.specs.Mail.{is_shown, mail_at}
@@ -12,7 +12,8 @@ use Rattle.hv_policy.specs.Mail.{is_shown, mail_at}
 -- the vectors of those of the first so many SINTs that pass a test, at a processor with these registers
 unfoldable pub vectors_of : (ℕ → Bool) → FinMap nat_cmp ℕ → ℕ → VectorSet
 vectors_of test registers zero = set.empty
-vectors_of test registers (suc sint) = cond (test sint) (raised registers sint (vectors_of test registers sint)) (vectors_of test registers sint)
+vectors_of test registers (suc sint) = cond (test sint)
+    (raised registers sint (vectors_of test registers sint)) (vectors_of test registers sint)
 
 -- whether a SINT of a processor shows a message
 abbrev pub shows : ℕ → ℕ → Flat → ℕ → Bool

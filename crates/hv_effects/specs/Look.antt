@@ -62,7 +62,8 @@ is_served (More next output) = true
 is_served (Denied rule status reps) = false
 is_served (Fault rule) = false
 
--- an event that is served leads from `f` to `g`, which counts it, as was told; and if its reply is a vector, this is it
+-- an event that is served leads from `f` to `g`, which counts it, as was told; and if its reply is a vector,
+-- this is it
 pub record IsAsTold (look : Look) (taken : Option ℕ) (f g : Flat) (reply : Reply) : Type 0 where
   pub before : Flat
   pub counts : g ≡ counted before

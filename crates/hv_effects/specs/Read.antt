@@ -3,14 +3,14 @@ use Rattle.std.specs.Prelude.{◌≡◌, ℕ, ◌%◌, ◌^◌, ◌<◌, is_some
 use Rattle.std.specs.FinMap.{get}
 use Rattle.std.specs.Option.{option_and_then, option_map}
 use Rattle.hv_calls.specs.WellFormed.{is_message_type}
-use Rattle.hv_confine.specs.Same.{place}
+use Rattle.hv_integrity.specs.Same.{place}
 use Rattle.hv_defs.specs.declared.sizes.TheConstants.{SINTS}
 use Rattle.hv_mail.specs.Mail.{Mail, at}
 use Rattle.hv_mail.specs.declared.message.Message.{Message}
 use Rattle.hv_partition.specs.Partition.{PartitionState}
 use Rattle.hv_policy.specs.Flat.{Flat}
 use Rattle.hv_policy.specs.Mail.{shown_at}
-use Rattle.hv_tie.specs.Tie.{vp_row_of}
+use Rattle.hv_refine.specs.Tie.{vp_row_of}
 use Rattle.hv_tree.specs.Rows.{Rows, content}
 use Rattle.hv_vp.specs.Vp.{VpState}
 use Rattle.hv_effects.specs.Ended.{shows}
@@ -36,5 +36,6 @@ port_of slot = option_map (λ message. message.port % 2 ^ 32) slot
 pub record IsSeen (f : Flat) (part vp : ℕ) (v : VpState) : Type 0 where
   pub row : get f.vp (part, vp) ≡ Some (vp_row_of v)
   pub shown : (sint : ℕ) → shows part vp f sint ≡ is_some (at v.mail sint).slot
-  pub ports : (sint : ℕ) → option_map (λ row. row.port % 2 ^ 32) (shown_at (place part vp sint) f.mail) ≡ port_of (at v.mail sint).slot
+  pub ports : (sint : ℕ) → option_map (λ row. row.port % 2 ^ 32) (shown_at (place part vp sint) f.mail) ≡
+      port_of (at v.mail sint).slot
   pub typed : AreSlotsTyped v.mail

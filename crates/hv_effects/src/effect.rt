@@ -2,8 +2,8 @@
 
 use hv_mail::Pending;
 
-/// What an event changed of messages, event flags, pending interrupt vectors and pages, of all partitions. What
-/// it doesn't name is as it was before the event.
+/// What an event changed of messages, event flags, pending interrupt vectors and pages, of all partitions.
+/// What it doesn't name is as it was before the event.
 #[derive(Drop)]
 pub enum Effect {
     /// Nothing of them. So does each event that a rule refuses.
@@ -36,8 +36,8 @@ pub struct Synic {
     pub raised: Pending,
     /// The vector that the processor took, or 0 where none was pending.
     pub taken: Option<u8>,
-    /// The id of the port, in the processor's own partition, by which the message came that left its slot. So the
-    /// port, if it is still there, has room for one more.
+    /// The id of the port, in the processor's own partition, by which the message came that left its slot. So
+    /// the port, if it is still there, has room for one more.
     pub freed: Option<u32>,
 }
 

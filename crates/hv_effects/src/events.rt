@@ -12,7 +12,7 @@ ghost use Rattle.hv_policy.specs.Rules.{unmet};
 ghost use Rattle.hv_policy.specs.Step.{step};
 ghost use Rattle.hv_policy.specs.declared.event.Action.TheVariants.{Hypercall};
 ghost use Rattle.hv_policy.specs.declared.reply.Reply.{Reply};
-ghost use Rattle.hv_tie.specs.Tie.{IsTied};
+ghost use Rattle.hv_refine.specs.Tie.{Refines};
 ghost use Rattle.hv_effects.specs.Effect.{Tells};
 ghost use Rattle.hv_effects.specs.Look.{Foretells, IsToldBy, is_served as is_served_reply};
 ghost use Rattle.hv_effects.specs.Typed.{AreTyped};
@@ -24,11 +24,11 @@ use crate::synic::{ended, quiet};
 use hv_abi::{CallKind, Frame, InputValue};
 use hv_machine::{HostRefused, Machine};
 use hv_policy::{Access, Answer, CallReply, Caller, Output, Rule, ask_frame};
-use hv_tie::Partitions;
+use hv_refine::Partitions;
 use std::alloc::Allocator;
 
-/// Takes one hypercall of a processor, as [`Machine::hypercall`] does, with the same promises, and says what it
-/// changed of messages, event flags, pending vectors and pages.
+/// Takes one hypercall of a processor, as [`Machine::hypercall`] does, with the same promises, and says what
+/// it changed of messages, event flags, pending vectors and pages.
 pub fn hypercall<A: Allocator + Clone>(
     machine: &mut Machine<A>,
     by: Caller,
@@ -120,7 +120,7 @@ fn effect_of<A: Allocator>(
     served: bool,
     taken: Option<u8>,
 ) -> Effect
-    ensures { (f g : Flat) (reply : Reply) → IsTied tree.now g → AreTyped g
+    ensures { (f g : Flat) (reply : Reply) → Refines tree.now g → AreTyped g
         → IsToldBy look served taken f g reply → Tells result f g }
 {
     if !served {

@@ -1,17 +1,17 @@
-//! Events with what they did elsewhere. A virtual machine monitor learns from it, after a hypercall or an access
-//! of one processor, which processor it has to wake, which message slots it has to write again, which event flag
-//! changed, which interrupt vectors were raised, and which pages belong to another partition now.
+//! Events with what they did elsewhere. A virtual machine monitor learns from it, after a hypercall or an
+//! access of one processor, which processor it has to wake, which message slots it has to write again, which
+//! event flag changed, which interrupt vectors were raised, and which pages belong to another partition now.
 //!
-//! [`hypercall`] and [`access`] take an event as the functions of `hv_machine` do, with the same promises, and
-//! hand back its [`Effect`] beside the reply. `Tells` in `specs/Effect.antt` says what an effect promises of the
-//! flat state before the event and of the one after it: what it doesn't name is as it was, at every processor of
-//! every partition (`LeavesUnnamed`), and what it names is so (`IsSo`). The promise is of flat states whose
-//! messages have a type that a guest may post, as those of every run have (`each_message_has_a_type`): a slot
-//! without a message is told by its type, 0.
+//! [`hypercall`] and [`access`] take an event as the functions of `hv_machine` do, with the same promises,
+//! and hand back its [`Effect`] beside the reply. `Tells` in `specs/Effect.antt` says what an effect promises
+//! of the flat state before the event and of the one after it: what it doesn't name is as it was, at every
+//! processor of every partition (`LeavesUnnamed`), and what it names is so (`IsSo`). The promise is of flat
+//! states whose messages have a type that a guest may post, as those of every run have
+//! (`each_message_has_a_type`): a slot without a message is told by its type, 0.
 //!
-//! An effect is read off the partitions before the event, by what the call or the access is about. A write of EOM
-//! is seen after it too, since nothing tells before it at which SINTs a message waits. No memory is taken, and
-//! the time is that of looking at one processor.
+//! An effect is read off the partitions before the event, by what the call or the access is about. A write of
+//! EOM is seen after it too, since nothing tells before it at which SINTs a message waits. No memory is
+//! taken, and the time is that of looking at one processor.
 #![tactic(auto)]
 
 ghost use Rattle.std.specs.Prelude.{List};

@@ -6,26 +6,27 @@ ghost use Rattle.hv_policy.specs.Aim.{aim_of, on_aim};
 ghost use Rattle.hv_policy.specs.Answer.{action_answer};
 ghost use Rattle.hv_policy.specs.Call.{action_of};
 ghost use Rattle.hv_policy.specs.Count.{lowest_pooled as lowest_pooled_of};
-ghost use Rattle.hv_policy.specs.Effect.{action_effect, call_effect, post_to, signal_to, withdrawn, write_register};
+ghost use Rattle.hv_policy.specs.Effect.{action_effect, call_effect, post_to, signal_to, withdrawn};
+ghost use Rattle.hv_policy.specs.Effect.{write_register};
 ghost use Rattle.hv_policy.specs.Flat.{Flat};
 ghost use Rattle.hv_policy.specs.Met.{has_flag};
 ghost use Rattle.hv_policy.specs.Needs.{target_of};
 ghost use Rattle.hv_policy.specs.Rules.{IsAllowed, unmet};
 ghost use Rattle.hv_policy.specs.declared.event.Access.TheVariants as access;
 ghost use Rattle.hv_policy.specs.declared.reply.Reply.{Reply};
-ghost use Rattle.hv_tie.specs.Served.{AreLawful};
-ghost use Rattle.hv_tie.specs.Tie.{IsTied};
+ghost use Rattle.hv_refine.specs.Served.{TreeInvariant};
+ghost use Rattle.hv_refine.specs.Tie.{Refines};
 ghost use Rattle.hv_effects.specs.Effect.{Tells};
 ghost use Rattle.hv_effects.specs.Look.{Foretells};
 ghost use Rattle.hv_effects.specs.Typed.{AreTyped};
 
 use crate::effect::Effect;
-use crate::reading::{lowest_pooled, shown_bits, taker, vp_of, way};
+use crate::reading::{lowest_pooled, select_vp, shown_bits, vp_of, way};
 use crate::synic::{flag_cleared, posted, signalled, slot_cleared};
 use hv_calls::Call;
 use hv_defs::{EOM, EVENT_FLAGS, PortKind, SINTS};
 use hv_policy::{Access, Caller};
-use hv_tie::{Partitions, meant};
+use hv_refine::{Partitions, resolve_partition_id};
 use hv_vp::name_of_msr;
 use std::alloc::Allocator;
 
@@ -34,7 +35,8 @@ use std::alloc::Allocator;
 pub enum Look {
     // All that it changes.
     Told(Effect),
-    // A message ends at a processor, of which these SINTs show one before. Which show their next one is told after it.
+    // A message ends at a processor, of which these SINTs show one before. Which show their next one is told
+    // after it.
     Ends { part: u64, vp: u32, shown: u16 },
     // A processor takes a vector, which the event itself tells.
     Takes { part: u64, vp: u32 },
@@ -42,8 +44,8 @@ pub enum Look {
 
 // Of a call whose rules are met.
 pub fn look_at_call<A: Allocator>(tree: &Partitions<A>, caller: u64, call: &Call<'_>) -> Look
-    requires { AreLawful tree.now }
-    ensures { (f : Flat) (reply : Reply) → IsTied tree.now f → AreTyped f → IsAllowed f caller call.now
+    requires { TreeInvariant tree.now }
+    ensures { (f : Flat) (reply : Reply) → Refines tree.now f → AreTyped f → IsAllowed f caller call.now
         → Foretells result f (call_effect call.now f caller (target_of call.now caller)) reply }
 {
     match *call {
@@ -60,28 +62,28 @@ pub fn look_at_call<A: Allocator>(tree: &Partitions<A>, caller: u64, call: &Call
         | Call::CreatePort { .. }
         | Call::ConnectPort { .. } => Look::Told(Effect::Nothing),
         Call::FinalizePartition { partition } => Look::Told(Effect::Partition {
-            part: meant(caller, partition),
+            part: resolve_partition_id(caller, partition),
         }),
         Call::DeletePartition { partition } => Look::Told(Effect::Pages {
-            from: meant(caller, partition),
+            from: resolve_partition_id(caller, partition),
             to: caller,
         }),
         Call::DepositMemory { partition, page } => Look::Told(Effect::Page {
             page,
-            owner: meant(caller, partition),
+            owner: resolve_partition_id(caller, partition),
             pooled: true,
         }),
         Call::WithdrawMemory { partition } => Look::Told(look_at_pool(
             tree,
-            meant(caller, partition),
+            resolve_partition_id(caller, partition),
             caller,
         )),
         Call::CreateVp { partition, vp } => Look::Told(Effect::Processor {
-            part: meant(caller, partition),
+            part: resolve_partition_id(caller, partition),
             vp,
         }),
         Call::DeleteVp { partition, vp } => Look::Told(Effect::Processor {
-            part: meant(caller, partition),
+            part: resolve_partition_id(caller, partition),
             vp,
         }),
         Call::SetVpRegisters {
@@ -89,7 +91,7 @@ pub fn look_at_call<A: Allocator>(tree: &Partitions<A>, caller: u64, call: &Call
             vp,
             name,
             ..
-        } => look_at_write(tree, meant(caller, partition), vp, name),
+        } => look_at_write(tree, resolve_partition_id(caller, partition), vp, name),
         Call::PostMessage { connection, .. } => {
             Look::Told(look_at_post(tree, caller, connection))
         }
@@ -101,7 +103,7 @@ pub fn look_at_call<A: Allocator>(tree: &Partitions<A>, caller: u64, call: &Call
 
 // Of the lowest page of a pool that goes to a partition, if there is one.
 fn look_at_pool<A: Allocator>(tree: &Partitions<A>, from: u64, to: u64) -> Effect
-    ensures { (f : Flat) → IsTied tree.now f
+    ensures { (f : Flat) → Refines tree.now f
         → Tells result f (record f { page = withdrawn to (lowest_pooled_of f from) f.page }) }
 {
     match lowest_pooled(tree, from) {
@@ -116,14 +118,14 @@ fn look_at_pool<A: Allocator>(tree: &Partitions<A>, from: u64, to: u64) -> Effec
 
 // Of a message through a connection of the caller.
 fn look_at_post<A: Allocator>(tree: &Partitions<A>, caller: u64, connection: u32) -> Effect
-    requires { AreLawful tree.now }
-    ensures { (f : Flat) (type : ℕ) (payload : List ℕ) → IsTied tree.now f → AreTyped f
+    requires { TreeInvariant tree.now }
+    ensures { (f : Flat) (type : ℕ) (payload : List ℕ) → Refines tree.now f → AreTyped f
         → Tells result f (post_to (aim_of f (caller, connection)) type payload f) }
 {
     let Some((conn, port, home)) = way(tree, caller, connection) else {
         return Effect::Nothing;
     };
-    let Some(index) = taker(home, conn, port, PortKind::Message) else {
+    let Some(index) = select_vp(home, conn, port, PortKind::Message) else {
         return Effect::Nothing;
     };
     let Some(vp) = home.vp(index) else {
@@ -139,8 +141,9 @@ fn look_at_signal<A: Allocator>(
     connection: u32,
     flag: u16,
 ) -> Effect
-    requires { AreLawful tree.now }
-    ensures { (f : Flat) → IsTied tree.now f → AreTyped f → on_aim f (caller, connection) (has_flag flag) ≡ true
+    requires { TreeInvariant tree.now }
+    ensures { (f : Flat) → Refines tree.now f → AreTyped f → on_aim f (caller, connection) (has_flag flag) ≡
+        true
         → Tells result f (signal_to (aim_of f (caller, connection)) flag f) }
 {
     let Some((conn, port, home)) = way(tree, caller, connection) else {
@@ -149,7 +152,7 @@ fn look_at_signal<A: Allocator>(
     if flag >= port.count {
         return Effect::Nothing;
     }
-    let Some(index) = taker(home, conn, port, PortKind::Event) else {
+    let Some(index) = select_vp(home, conn, port, PortKind::Event) else {
         return Effect::Nothing;
     };
     let Some(vp) = home.vp(index) else {
@@ -160,7 +163,7 @@ fn look_at_signal<A: Allocator>(
 
 // Of a write to the register with this name of a processor that is there.
 fn look_at_write<A: Allocator>(tree: &Partitions<A>, part: u64, index: u32, name: u32) -> Look
-    ensures { (f : Flat) (value : ℕ) (reply : Reply) → IsTied tree.now f → AreTyped f
+    ensures { (f : Flat) (value : ℕ) (reply : Reply) → Refines tree.now f → AreTyped f
         → contains_key f.vp (part, index) ≡ true
         → Foretells result f (write_register part index name value f) reply }
 {
@@ -179,7 +182,7 @@ fn look_at_write<A: Allocator>(tree: &Partitions<A>, part: u64, index: u32, name
 
 // Of an access whose rules are met.
 pub fn look_at_access<A: Allocator>(tree: &Partitions<A>, by: Caller, access: Access) -> Look
-    ensures { (f : Flat) → IsTied tree.now f → AreTyped f
+    ensures { (f : Flat) → Refines tree.now f → AreTyped f
         → unmet {A = A} f (record { by = by; what = action_of access }) ≡ None
         → Foretells result f (action_effect {A = A} f by (action_of access))
         (action_answer {A = A} f by (action_of access)) }
@@ -203,7 +206,7 @@ pub fn look_at_access<A: Allocator>(tree: &Partitions<A>, by: Caller, access: Ac
 
 // Of a slot of the caller that is cleared.
 fn look_at_slot<A: Allocator>(tree: &Partitions<A>, by: Caller, sint: u8) -> Effect
-    ensures { (f : Flat) → IsTied tree.now f → AreTyped f
+    ensures { (f : Flat) → Refines tree.now f → AreTyped f
         → unmet {A = A} f (record { by = by; what = action_of (access.ClearSlot sint) }) ≡ None
         → Tells result f (action_effect {A = A} f by (action_of (access.ClearSlot sint))) }
 {
@@ -218,7 +221,7 @@ fn look_at_slot<A: Allocator>(tree: &Partitions<A>, by: Caller, sint: u8) -> Eff
 
 // Of an event flag of the caller that is cleared.
 fn look_at_flag<A: Allocator>(tree: &Partitions<A>, by: Caller, sint: u8, flag: u16) -> Effect
-    ensures { (f : Flat) → IsTied tree.now f → AreTyped f
+    ensures { (f : Flat) → Refines tree.now f → AreTyped f
         → unmet {A = A} f (record { by = by; what = action_of (access.ClearFlag sint flag) }) ≡ None
         → Tells result f (action_effect {A = A} f by (action_of (access.ClearFlag sint flag))) }
 {

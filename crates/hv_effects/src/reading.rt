@@ -1,16 +1,17 @@
 // What is read of a processor, and of where a connection leads.
-ghost use Rattle.std.specs.Prelude.{◌≡◌, ◌<◌, ◌==◌, ◌&&◌, ℕ, nat_lt, is_some, None, Some, IfNone, IfSome, option_copied};
+ghost use Rattle.std.specs.Prelude.{◌≡◌, ◌<◌, ◌==◌, ◌&&◌, ℕ, nat_lt, is_some, None, Some, IfNone, IfSome};
+ghost use Rattle.std.specs.Prelude.{option_copied};
 ghost use Rattle.std.specs.FinSet as set;
 ghost use Rattle.std.specs.Int.{bit_at};
 ghost use Rattle.hv_defs.specs.Vectors.{raised as raised_of};
 ghost use Rattle.hv_defs.specs.declared.sizes.TheConstants.{EVENT_FLAGS, SINTS};
 ghost use Rattle.hv_mail.specs.Mail.{at};
-ghost use Rattle.hv_messages.specs.Aimed.{aim_row, taker_of};
+ghost use Rattle.hv_messages.specs.ResolvedPort.{aim_row, taker_of};
 ghost use Rattle.hv_partition.specs.Partition.{PartitionState};
 ghost use Rattle.hv_policy.specs.Aim.{aim_of};
 ghost use Rattle.hv_policy.specs.Count.{lowest_pooled as lowest_pooled_of};
 ghost use Rattle.hv_policy.specs.Flat.{Flat};
-ghost use Rattle.hv_tie.specs.Tie.{IsTied};
+ghost use Rattle.hv_refine.specs.Tie.{Refines};
 ghost use Rattle.hv_tree.specs.Rows.{Rows, content};
 ghost use Rattle.hv_effects.specs.Read.{AreSlotsTyped, IsSlotTyped, port_of, vp_at};
 
@@ -18,7 +19,7 @@ use hv_defs::{Aim, PortKind, SINT0, SINTS};
 use hv_mail::Pending;
 use hv_partition::{PageKind, Partition};
 use hv_ports::{Conn, Port};
-use hv_tie::Partitions;
+use hv_refine::Partitions;
 use hv_vp::Vp;
 use std::alloc::Allocator;
 
@@ -93,7 +94,7 @@ pub fn raise<A: Allocator>(raised: &mut Pending, vp: &Vp<A>, sint: u8)
 
 // The lowest pooled page of a partition, if it has one.
 pub fn lowest_pooled<A: Allocator>(tree: &Partitions<A>, id: u64) -> Option<u64>
-    ensures { (f : Flat) → IsTied tree.now f → result ≡ lowest_pooled_of f id }
+    ensures { (f : Flat) → Refines tree.now f → result ≡ lowest_pooled_of f id }
 {
     let Some(partition) = tree.get(id) else {
         return None;
@@ -111,10 +112,10 @@ pub fn way<'t, A: Allocator>(
     caller: u64,
     connection: u32,
 ) -> Option<(Conn, Port, &'t Partition<A>)>
-    ensures leads { IfSome result (λ way. (f : Flat) → IsTied tree.now f
+    ensures leads { IfSome result (λ way. (f : Flat) → Refines tree.now f
         → aim_of f (caller, connection) ≡ Some (aim_row way.0 way.1)) }
     ensures home { IfSome result (λ way. content tree.now way.0.part ≡ Some way.2.now) }
-    ensures none { IfNone result ((f : Flat) → IsTied tree.now f → aim_of f (caller, connection) ≡ None) }
+    ensures none { IfNone result ((f : Flat) → Refines tree.now f → aim_of f (caller, connection) ≡ None) }
 {
     let Some(own) = tree.get(caller) else {
         return None;
@@ -131,16 +132,16 @@ pub fn way<'t, A: Allocator>(
     Some((conn, port, home))
 }
 
-// The processor that takes what comes to a port of this kind, if there is one: the one at which the port aims,
-// if it is ready, and for any the lowest of those that are.
-pub fn taker<A: Allocator>(
+// The processor that takes what comes to a port of this kind, if there is one: the one at which the port
+// aims, if it is ready, and for any the lowest of those that are.
+pub fn select_vp<A: Allocator>(
     home: &Partition<A>,
     conn: Conn,
     port: Port,
     kind: PortKind,
 ) -> Option<u32>
     ensures { (f : Flat) (rows : Rows PartitionState) → content rows conn.part ≡ Some home.now
-        → IsTied rows f → result ≡ taker_of kind f (aim_row conn port) }
+        → Refines rows f → result ≡ taker_of kind f (aim_row conn port) }
 {
     match port.vp {
         Aim::One(index) => {
@@ -149,6 +150,6 @@ pub fn taker<A: Allocator>(
             };
             if vp.is_ready(kind) { Some(index) } else { None }
         }
-        Aim::Any => home.lowest_ready(kind),
+        Aim::Any => home.lowest_ready_vp(kind),
     }
 }

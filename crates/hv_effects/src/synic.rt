@@ -1,7 +1,7 @@
 // What comes to a processor, or what it does itself, as an effect.
 ghost use Rattle.std.specs.Prelude.{◌≡◌, ◌<◌, ◌&&◌, ℕ, List, is_some, not};
 ghost use Rattle.std.specs.FinSet as set;
-ghost use Rattle.hv_confine.specs.Same.{place};
+ghost use Rattle.hv_integrity.specs.Same.{place};
 ghost use Rattle.hv_defs.specs.declared.registers.TheConstants.{EOM};
 ghost use Rattle.hv_defs.specs.declared.sizes.TheConstants.{EVENT_FLAGS, SINTS};
 ghost use Rattle.hv_policy.specs.Effect.{post, row_signalled, with_vp, write_register};
@@ -35,8 +35,8 @@ pub fn quiet(part: u64, vp: u32) -> Synic
     }
 }
 
-// A message is posted at a SINT below 16 of the processor: it waits where one is shown, and else the oldest is
-// shown, and the SINT raises its vector.
+// A message is posted at a SINT below 16 of the processor: it waits where one is shown, and else the oldest
+// is shown, and the SINT raises its vector.
 pub fn posted<A: Allocator>(part: u64, index: u32, sint: u8, vp: &Vp<A>) -> Effect
     requires { sint < SINTS }
     ensures { (f : Flat) (port born type : ℕ) (payload : List ℕ) → IsSeen f part index vp.now
@@ -52,8 +52,8 @@ pub fn posted<A: Allocator>(part: u64, index: u32, sint: u8, vp: &Vp<A>) -> Effe
     Effect::Synic(synic)
 }
 
-// An event flag below 2,048 of a SINT below 16 of the processor is set. Where it was clear, the SINT raises its
-// vector.
+// An event flag below 2,048 of a SINT below 16 of the processor is set. Where it was clear, the SINT raises
+// its vector.
 pub fn signalled<A: Allocator>(part: u64, index: u32, sint: u8, flag: u16, vp: &Vp<A>) -> Effect
     requires sint { sint < SINTS }
     requires flag { flag < EVENT_FLAGS }

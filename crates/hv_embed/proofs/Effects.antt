@@ -38,7 +38,8 @@ refused_effect f event rule told nothing is = record {
 }
 
 -- and what is shown of an access, whichever it became, is its effect
-pub access_effect : (f : Flat) (event : Event Global) (became : Result Effect Rule) (output : List ℕ) (told : HvEffect) → access_reply became output ≡ (step f event).1 → IfOk became (λ e. IsShown e told) → OnErr became (told.kind ≡ EFFECT_NOTHING)
+pub access_effect : (f : Flat) (event : Event Global) (became : Result Effect Rule) (output : List ℕ) (told : HvEffect) → access_reply became output ≡ (step f event).1 → IfOk became
+    (λ e. IsShown e told) → OnErr became (told.kind ≡ EFFECT_NOTHING)
     → IfOk became (λ e. Tells e f (step f event).0) → IsEffect told f (step f event).0
 access_effect f event (Ok e) output told is shown nothing tells = record { effect = e; shown = shown; tells = tells }
 access_effect f event (Err rule) output told is shown nothing tells = refused_effect f event rule told nothing is
@@ -83,7 +84,8 @@ typed_more (suc n) by ran typed =
     step_typed (run n by ran).flat (typed_more n by ran typed) (call_event by (restart (run n by ran).frame (next_in (run n by ran).reply)))
 
 -- the effect of the element with which a call goes on
-pub effect_on : (by : Caller) (m : State) (last next : Frame Global) (reply : Reply) (out : List ℕ) (ran : Ran) (e : Effect) (told : HvEffect) → IsAt ran m last reply out → next ≡ restart last (next_in reply) → AreTyped ran.flat → IsShown e told
+pub effect_on : (by : Caller) (m : State) (last next : Frame Global) (reply : Reply) (out : List ℕ) (ran : Ran) (e : Effect) (told : HvEffect) → IsAt ran m last reply out → next ≡ restart last
+    (next_in reply) → AreTyped ran.flat → IsShown e told
     → ((f : Flat) → IsFlat m f → AreTyped f → Tells e f (step f (call_event by next)).0) → IsEffect told ran.flat (on by ran).flat
 effect_on by m last next reply out ran e told at is typed shown tells =
     let same : next ≡ restart ran.frame (next_in ran.reply) = is ∙ ap (λ (f : Frame Global). restart f (next_in reply)) at.frame ∙ ap (λ (r : Reply). restart ran.frame (next_in r)) at.reply in
@@ -94,7 +96,8 @@ effect_on by m last next reply out ran e told at is typed shown tells =
     }
 
 -- one more element, after one whose effect names at most a page
-pub one_more_effect : (n : ℕ) (f : Flat) (by : Caller) (ran : Ran) (old new : HvEffect) → IsLastEffect n f by ran old → is_quiet_kind old.kind ≡ true → IsEffect new (run n by ran).flat (run (suc n) by ran).flat → IsLastEffect (n + 1) f by ran new
+pub one_more_effect : (n : ℕ) (f : Flat) (by : Caller) (ran : Ran) (old new : HvEffect) → IsLastEffect n f by ran old → is_quiet_kind old.kind ≡ true → IsEffect new (run n by ran).flat
+    (run (suc n) by ran).flat → IsLastEffect (n + 1) f by ran new
 one_more_effect n f by ran old new was quiet now =
     subst (λ k. IsLastEffect k f by ran new) (sym (add-one n))
     (record { last = now; calm = calm_on f (flat_before n f by ran) (run n by ran).flat was.calm (quiet_calm old (flat_before n f by ran) (run n by ran).flat was.last quiet) })

@@ -42,14 +42,17 @@ module _ (by : Caller) (m new : State) (last next : Frame Global) (told answer :
   }
 
 -- where they have come to after the first
-pub at_first : (f : Flat) (by : Caller) (frame : Frame Global) (m : State) (answer : Reply) (out : List ℕ) → answer ≡ (step f (call_event by frame)).1 → IsFlat m (step f (call_event by frame)).0 → out ≡ [] ++ output_in answer
+pub at_first : (f : Flat) (by : Caller) (frame : Frame Global) (m : State) (answer : Reply) (out : List ℕ) → answer ≡ (step f (call_event by frame)).1 → IsFlat m (step f (call_event by frame)).0 → out
+    ≡ [] ++ output_in answer
     → IsAt (first f by frame) m frame answer out
 at_first f by frame m answer out reply state put = record { state = state; frame = refl; reply = reply; bytes = put ∙ ap (λ (r : Reply). [] ++ output_in r) reply }
 
 -- what C is answered once no more are taken
-pub has_run : (by : Caller) (start : Ran) (before n : ℕ) (m : State) (last : Frame Global) (told : Reply) (answer : HvReply) (outputs : List ℕ) (at : ℕ) → IsAtMore n by start m last told (take at outputs) → at ≤ length outputs
+pub has_run : (by : Caller) (start : Ran) (before n : ℕ) (m : State) (last : Frame Global) (told : Reply) (answer : HvReply) (outputs : List ℕ) (at : ℕ) → IsAtMore n by start m last told
+    (take at outputs) → at ≤ length outputs
     → IsAnswer answer (Hypercall last) told
-    → (IsMore told → is_quiet_kind answer.effect.kind ≡ true → at + ELEMENT_OUTPUT ≤ length outputs → is_used_up m.served (before + (n + 1)) ≡ false → n < REPS_END → IsTrue (may_take_memory (call_event by (restart last (next_in told)))))
+    → (IsMore told → is_quiet_kind answer.effect.kind ≡ true → at + ELEMENT_OUTPUT ≤ length outputs → is_used_up m.served (before + (n + 1)) ≡ false → n < REPS_END → IsTrue
+    (may_take_memory (call_event by (restart last (next_in told)))))
     → HasRun by start before m answer outputs (record { events = n + 1; output_len = at })
 has_run by start before n m last told answer outputs at is within says stopped =
     let now = is.stands in
@@ -64,6 +67,7 @@ has_run by start before n m last told answer outputs at is within says stopped =
       len = omega (arith, length-take at outputs, ap length now.bytes);
       bytes = now.bytes;
       stopped = λ more quiet left free few.
-          subst (λ (f : Frame Global). IsTrue (may_take_memory (call_event by f))) (ap (λ (f : Frame Global). restart f (next_in told)) now.frame ∙ ap (λ (r : Reply). restart (run n by start).frame (next_in r)) now.reply)
+          subst (λ (f : Frame Global). IsTrue (may_take_memory (call_event by f))) (ap (λ (f : Frame Global). restart f (next_in told)) now.frame ∙ ap
+          (λ (r : Reply). restart (run n by start).frame (next_in r)) now.reply)
           (stopped (subst IsMore (sym now.reply) more) quiet (omega arith) free few);
     }

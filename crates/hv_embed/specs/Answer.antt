@@ -9,7 +9,8 @@ use Rattle.hv_policy.specs.declared.config.BootRefused.{BootRefused}
 use Rattle.hv_policy.specs.declared.config.BootRefused.TheVariants as boot
 use Rattle.hv_policy.specs.declared.config.Config.{Config}
 use Rattle.hv_policy.specs.declared.event.Action.{Action}
-use Rattle.hv_policy.specs.declared.event.Action.TheVariants.{Hypercall, ReadMsr, WriteMsr, ReadSlot, ClearSlot, ReadFlags, ClearFlag, TakeInterrupt}
+use Rattle.hv_policy.specs.declared.event.Action.TheVariants.{Hypercall, ReadMsr, WriteMsr, ReadSlot}
+use Rattle.hv_policy.specs.declared.event.Action.TheVariants.{ClearSlot, ReadFlags, ClearFlag, TakeInterrupt}
 use Rattle.hv_policy.specs.declared.event.Caller.{Caller}
 use Rattle.hv_policy.specs.declared.event.Event.{Event}
 use Rattle.hv_policy.specs.declared.reply.Reply.{Reply}
@@ -32,7 +33,12 @@ caller_of by = record { part = by.part; vp = by.vp }
 
 -- the frame of a call with this input list
 abbrev pub frame_of : HvRegisters → List ℕ → Frame Global
-frame_of registers input = record { rcx = registers.rcx; rdx = registers.rdx; r8 = registers.r8; input = input }
+frame_of registers input = record {
+  rcx = registers.rcx;
+  rdx = registers.rdx;
+  r8 = registers.r8;
+  input = input;
+}
 
 -- an event of that processor
 abbrev pub event_of : HvCaller → Action Global → Event Global
@@ -54,12 +60,13 @@ pub record HasOutput (a : HvReply) (output : List ℕ) : Type 0 where
   pub len : a.output_len ≡ length output
   pub bytes : take a.output_len a.output ≡ output
 
--- an answer says of a reply how it ended, which rule refused, or 0, with which element the call goes on, or 0,
--- and what was put out
+-- an answer says of a reply how it ended, which rule refused, or 0, with which element the call goes on, or
+-- 0, and what was put out
 abbrev pub Says : HvReply → Reply → Type 0
 Says a (Served output) = (a.kind ≡ SERVED) × (a.rule ≡ 0) × (a.next ≡ 0) × HasOutput a output
 Says a (More next output) = (a.kind ≡ MORE) × (a.rule ≡ 0) × (a.next ≡ next) × HasOutput a output
-Says a (Denied rule status reps) = (a.kind ≡ DENIED) × (a.rule ≡ rule_number rule) × (a.next ≡ 0) × (a.output_len ≡ 0)
+Says a (Denied rule status reps) = (a.kind ≡ DENIED) × (a.rule ≡ rule_number rule) × (a.next ≡ 0) ×
+    (a.output_len ≡ 0)
 Says a (Fault rule) = (a.kind ≡ FAULT) × (a.rule ≡ rule_number rule) × (a.next ≡ 0) × (a.output_len ≡ 0)
 
 -- an answer is that of a reply to an event

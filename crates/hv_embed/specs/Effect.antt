@@ -1,7 +1,7 @@
 -- What C is shown of an effect.
 use Rattle.std.specs.Prelude.{◌≡◌, ℕ, ◌<◌, ◌==◌, ◌||◌, Bool, if◌then◌else◌, Option, None, Some}
 use Rattle.std.specs.FinMap.{get}
-use Rattle.hv_confine.specs.Same.{has_flag, has_vector}
+use Rattle.hv_integrity.specs.Same.{has_flag, has_vector}
 use Rattle.hv_defs.specs.declared.sizes.TheConstants.{SINTS}
 use Rattle.hv_effects.specs.Effect.{Tells, has_bit, is_number}
 use Rattle.hv_effects.specs.declared.effect.Effect.{Effect}
@@ -12,7 +12,9 @@ use Rattle.hv_mail.specs.Words.{numbers_of}
 use Rattle.hv_policy.specs.Flat.{Flat}
 use Rattle.hv_policy.specs.Mail.{Place, mail_at}
 use Rattle.hv_embed.specs.declared.layout.HvEffect.{HvEffect}
-use Rattle.hv_embed.specs.declared.layout.TheConstants.{EFFECT_NOTHING, EFFECT_SYNIC, EFFECT_PAGE, EFFECT_PAGES, EFFECT_PROCESSOR, EFFECT_PARTITION, FLAG_SET, FLAG_CLEARED}
+use Rattle.hv_embed.specs.declared.layout.TheConstants.{EFFECT_NOTHING, EFFECT_SYNIC, EFFECT_PAGE}
+use Rattle.hv_embed.specs.declared.layout.TheConstants.{EFFECT_PAGES, EFFECT_PROCESSOR, EFFECT_PARTITION}
+use Rattle.hv_embed.specs.declared.layout.TheConstants.{FLAG_SET, FLAG_CLEARED}
 
 -- the event flag that changed, its SINT and how, or that none did
 abbrev pub IsFlag : Option FlagChange → (flag sint is : ℕ) → Type 0
@@ -41,7 +43,8 @@ abbrev pub IsShown : Effect → HvEffect → Type 0
 IsShown effect.Nothing told = told.kind ≡ EFFECT_NOTHING
 IsShown (effect.Synic s) told = IsSynicShown s told
 IsShown (effect.Page page owner pooled) told =
-    (told.kind ≡ EFFECT_PAGE) × (told.page ≡ page) × (told.part ≡ owner) × (told.pooled ≡ (if pooled then 1 else 0))
+    (told.kind ≡ EFFECT_PAGE) × (told.page ≡ page) × (told.part ≡ owner) ×
+    (told.pooled ≡ (if pooled then 1 else 0))
 IsShown (effect.Pages from to) told = (told.kind ≡ EFFECT_PAGES) × (told.page ≡ from) × (told.part ≡ to)
 IsShown (effect.Processor part vp) told = (told.kind ≡ EFFECT_PROCESSOR) × (told.part ≡ part) × (told.vp ≡ vp)
 IsShown (effect.Partition part) told = (told.kind ≡ EFFECT_PARTITION) × (told.part ≡ part)
@@ -61,4 +64,5 @@ pub record IsCalm (f g : Flat) : Type 0 where
   pub messages : (at : Place) → mail_at at g.mail ≡ mail_at at f.mail
   pub flags : (at : Place) (flag : ℕ)
       → has_flag (get g.vp (at.part, at.vp)) at.sint flag ≡ has_flag (get f.vp (at.part, at.vp)) at.sint flag
-  pub vectors : (part vp vector : ℕ) → has_vector (get g.vp (part, vp)) vector ≡ has_vector (get f.vp (part, vp)) vector
+  pub vectors : (part vp vector : ℕ) → has_vector (get g.vp (part, vp)) vector ≡ has_vector
+      (get f.vp (part, vp)) vector

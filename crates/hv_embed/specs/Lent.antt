@@ -3,13 +3,13 @@ use base.Fml.{Fml}
 use Rattle.std.specs.Borrow.{Lends, MutBor}
 use Rattle.hv_machine.specs.State.{State}
 use Rattle.hv_embed.specs.Holds.{machine_row}
-use Rattle.hv_embed.specs.contracts.held.Held.{the_row}
-use Rattle.hv_embed.specs.declared.held.Held.{Held}
+use Rattle.hv_embed.specs.contracts.raw_machine.RawMachine.{the_row}
+use Rattle.hv_embed.specs.declared.raw_machine.RawMachine.{RawMachine}
 
 -- it with another machine
-abbrev pub with_machine : Held → State → Held
+abbrev pub with_machine : RawMachine → State → RawMachine
 with_machine h m = record h { machine = m }
 
 -- it ends with the last machine behind r
-abbrev pub LendsMachine : MutBor Held → MutBor State → Fml
+abbrev pub LendsMachine : MutBor RawMachine → MutBor State → Fml
 LendsMachine h r = Lends the_row machine_row h r (with_machine h.now)

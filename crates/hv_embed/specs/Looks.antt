@@ -15,7 +15,8 @@ use Rattle.hv_embed.specs.declared.handle.HvMachine.{HvMachine}
 use Rattle.hv_embed.specs.declared.layout.HvConnection.{HvConnection}
 use Rattle.hv_embed.specs.declared.layout.HvPartition.{HvPartition}
 use Rattle.hv_embed.specs.declared.layout.HvPort.{HvPort}
-use Rattle.hv_embed.specs.declared.layout.TheConstants.{LIFE_CREATED, LIFE_ACTIVE, LIFE_FINALIZED, PORT_MESSAGES, PORT_EVENTS}
+use Rattle.hv_embed.specs.declared.layout.TheConstants.{LIFE_CREATED, LIFE_ACTIVE, LIFE_FINALIZED}
+use Rattle.hv_embed.specs.declared.layout.TheConstants.{PORT_MESSAGES, PORT_EVENTS}
 use Rattle.hv_embed.specs.declared.status.TheConstants.{DONE, EMPTY, NONE}
 
 -- the status of what is shown, which stands in its place, or of what isn't there
@@ -23,12 +24,13 @@ abbrev pub Shows : {X : Type 0} → Option X → ℕ → X → Type 0
 Shows None status place = status ≡ NONE
 Shows (Some x) status place = (status ≡ DONE) × (place ≡ x)
 
--- What a look at a handle answers: that it is empty; and else what is shown of each flat state that its machine stands for, or
--- that there is none. Nothing is written but what is shown.
-pub record IsLook {X : Type 0} (m : HvMachine) (shown : Flat → Option X) (status : ℕ) (old new : X) : Type 0 where
-  pub empty : m.live ≡ false → status ≡ EMPTY
-  pub shows : m.live ≡ true → (f : Flat) → IsFlat m.held.machine f → Shows (shown f) status new
-  pub unwritten : status ≢ DONE → new ≡ old
+-- What a look at a handle answers: that it is empty; and else what is shown of each flat state that its
+-- machine stands for, or that there is none. Nothing is written but what is shown.
+pub record IsLook {X : Type 0} (m : HvMachine) (shown : Flat → Option X) (status : ℕ) (old new : X) : Type 0
+  where
+    pub empty : m.live ≡ false → status ≡ EMPTY
+    pub shows : m.live ≡ true → (f : Flat) → IsFlat m.raw_machine.machine f → Shows (shown f) status new
+    pub unwritten : status ≢ DONE → new ≡ old
 
 -- the numbers by which C knows life states, types of ports and aims
 abbrev pub life_number : Life → ℕ

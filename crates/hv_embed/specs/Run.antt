@@ -1,12 +1,13 @@
 -- The elements of one call, one after another.
-use Rattle.std.specs.Prelude.{ℕ, zero, suc, ◌≡◌, ◌+◌, ◌-◌, ◌<◌, ◌≤◌, List, [], ◌++◌, IsTrue, true, false, not, nat_lt, length, take, if◌then◌else◌}
+use Rattle.std.specs.Prelude.{ℕ, zero, suc, ◌≡◌, ◌+◌, ◌-◌, ◌<◌, ◌≤◌, List, [], ◌++◌, IsTrue, true, false, not}
+use Rattle.std.specs.Prelude.{nat_lt, length, take, if◌then◌else◌}
 use Rattle.std.specs.Global.{Global}
 use Rattle.hv_abi.specs.declared.frame.Frame.{Frame}
 use Rattle.hv_defs.specs.declared.sizes.TheConstants.{REPS_END}
 use Rattle.hv_policy.specs.Parts.{next_in}
 use Rattle.hv_history.specs.Run.{IsMore, restart}
 use Rattle.hv_machine.specs.IsFlat.{IsFlat}
-use Rattle.hv_machine.specs.Lasting.{IsLasting}
+use Rattle.hv_machine.specs.MachineInvariant.{MachineInvariant}
 use Rattle.hv_machine.specs.Sound.{IsSound}
 use Rattle.hv_machine.specs.State.{State}
 use Rattle.hv_policy.specs.Call.{call_event, may_take_memory}
@@ -34,8 +35,8 @@ output_in (More next output) = output
 output_in (Denied rule status reps) = []
 output_in (Fault rule) = []
 
--- what elements of a call have come to: the state that the last of them left, its frame and its reply, and what all of them
--- put out, one after another
+-- what elements of a call have come to: the state that the last of them left, its frame and its reply, and
+-- what all of them put out, one after another
 pub record Ran : Type 0 where
   pub flat : Flat
   pub frame : Frame Global
@@ -76,22 +77,26 @@ pub record IsAt (ran : Ran) (m : State) (last : Frame Global) (told : Reply) (ou
   pub bytes : out ≡ ran.bytes
 
 -- and this is where so many more of them have come to
-pub record IsAtMore (n : ℕ) (by : Caller) (ran : Ran) (m : State) (last : Frame Global) (told : Reply) (out : List ℕ) : Type 0 where
+pub record IsAtMore (n : ℕ) (by : Caller) (ran : Ran) (m : State) (last : Frame Global) (told : Reply)
+    (out : List ℕ) : Type 0 where
   pub goes : GoesOn n by ran
   pub stands : IsAt (run n by ran) m last told out
 
--- The elements of a call end here: it doesn't go on, or the last one's effect names more than a page, or too few bytes are left for
--- another output, or no more events are counted, or there were so many more already as no call has elements. Else the host refused
--- the next one, which may take memory.
+-- The elements of a call end here: it doesn't go on, or the last one's effect names more than a page, or too
+-- few bytes are left for another output, or no more events are counted, or there were so many more already as
+-- no call has elements. Else the host refused the next one, which may take memory.
 abbrev pub HasStopped : Caller → Ran → State → HvEffect → (left more events : ℕ) → Type 0
 HasStopped by ran m told left more events =
-    IsMore ran.reply → is_quiet_kind told.kind ≡ true → ELEMENT_OUTPUT ≤ left → is_used_up m.served events ≡ false → more < REPS_END
+    IsMore ran.reply → is_quiet_kind told.kind ≡ true → ELEMENT_OUTPUT ≤ left → is_used_up m.served events ≡
+    false → more < REPS_END
     → IsTrue (may_take_memory (call_event by (restart ran.frame (next_in ran.reply))))
 
--- The first element of a call was taken, before which there were so many events, and more after it, as many as can be. All but
--- the last are answered that the call goes on; the answer is the last one's reply, the machine stands for the state that it
--- left, and as many bytes of a buffer as were put out are those of all of them.
-pub record HasRun (by : Caller) (start : Ran) (before : ℕ) (m : State) (told : HvReply) (buffer : List ℕ) (done : HvRun) : Type 0 where
+-- The first element of a call was taken, before which there were so many events, and more after it, as many
+-- as can be. All but the last are answered that the call goes on; the answer is the last one's reply, the
+-- machine stands for the state that it left, and as many bytes of a buffer as were put out are those of all
+-- of them.
+pub record HasRun (by : Caller) (start : Ran) (before : ℕ) (m : State) (told : HvReply) (buffer : List ℕ)
+    (done : HvRun) : Type 0 where
   pub more : ℕ
   pub events : done.events ≡ more + 1
   pub goes : GoesOn more by start
@@ -99,15 +104,16 @@ pub record HasRun (by : Caller) (start : Ran) (before : ℕ) (m : State) (told :
   pub answer : IsAnswer told (Hypercall (run more by start).frame) (run more by start).reply
   pub len : done.output_len ≡ length (run more by start).bytes
   pub bytes : take done.output_len buffer ≡ (run more by start).bytes
-  pub stopped : HasStopped by (run more by start) m told.effect (length buffer - done.output_len) more (before + done.events)
+  pub stopped : HasStopped by (run more by start) m told.effect (length buffer - done.output_len) more
+      (before + done.events)
 
 -- the state before the last of so many more elements, of which the first one was taken in this state
 abbrev pub flat_before : ℕ → Flat → Caller → Ran → Flat
 flat_before zero f by ran = f
 flat_before (suc n) f by ran = (run n by ran).flat
 
--- C is shown the effect of the last of so many more elements, and those before it left messages, event flags and pending
--- vectors as they were
+-- C is shown the effect of the last of so many more elements, and those before it left messages, event flags
+-- and pending vectors as they were
 pub record IsLastEffect (n : ℕ) (f : Flat) (by : Caller) (ran : Ran) (told : HvEffect) : Type 0 where
   pub last : IsEffect told (flat_before n f by ran) (run n by ran).flat
   pub calm : IsCalm f (flat_before n f by ran)
@@ -118,16 +124,19 @@ pub record IsRunEffect (events : ℕ) (f : Flat) (by : Caller) (start : Ran) (to
   pub counted : events ≡ more + 1
   pub shown : IsLastEffect more f by start told
 
--- Elements of a call were taken so, of each flat state that the machine of a handle stood for. It now stands for a lawful one, is
--- sound, and has as many pages; as many events more are counted as elements were taken. No line is put.
-pub record IsRunTaken (by : Caller) (frame : Frame Global) (old new : HvMachine) (answer : HvReply) (buffer : List ℕ) (done : HvRun) : Type 0 where
-  pub ran : (f : Flat) → IsFlat old.held.machine f → HasRun by (first f by frame) old.events new.held.machine answer buffer done
-  pub effect : (f : Flat) → IsFlat old.held.machine f → AreTyped f
+-- Elements of a call were taken so, of each flat state that the machine of a handle stood for. It now stands
+-- for a lawful one, is sound, and has as many pages; as many events more are counted as elements were taken.
+-- No line is put.
+pub record IsRunTaken (by : Caller) (frame : Frame Global) (old new : HvMachine) (answer : HvReply)
+    (buffer : List ℕ) (done : HvRun) : Type 0 where
+  pub ran : (f : Flat) → IsFlat old.raw_machine.machine f → HasRun by (first f by frame) old.events
+      new.raw_machine.machine answer buffer done
+  pub effect : (f : Flat) → IsFlat old.raw_machine.machine f → AreTyped f
       → IsRunEffect done.events f by (first f by frame) answer.effect
   pub line : answer.line_len ≡ 0
-  pub pages : new.held.machine.pages ≡ old.held.machine.pages
-  pub lasting : IsLasting new.held.machine
-  pub sound : IsSound new.held.machine
+  pub pages : new.raw_machine.machine.pages ≡ old.raw_machine.machine.pages
+  pub lasting : MachineInvariant new.raw_machine.machine
+  pub sound : IsSound new.raw_machine.machine
   pub some : 0 < done.events
   pub events : new.events ≡ old.events + done.events
   pub live : new.live ≡ true
@@ -137,5 +146,5 @@ abbrev pub run_readiness : HvMachine → ℕ → ℕ
 run_readiness m len =
     if not m.live then EMPTY
     else if nat_lt len ELEMENT_OUTPUT then SHORT
-    else if is_used_up m.held.machine.served m.events then USED_UP
+    else if is_used_up m.raw_machine.machine.served m.events then USED_UP
     else DONE

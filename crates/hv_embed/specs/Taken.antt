@@ -1,8 +1,9 @@
 -- What a call does to a handle.
-use Rattle.std.specs.Prelude.{◌≡◌, ◌+◌, ◌<◌, ◌&&◌, ◌||◌, ℕ, List, Bool, true, not, nat_le, nat_lt, length, take, None, if◌then◌else◌}
+use Rattle.std.specs.Prelude.{◌≡◌, ◌+◌, ◌<◌, ◌&&◌, ◌||◌, ℕ, List, Bool, true, not, nat_le, nat_lt, length}
+use Rattle.std.specs.Prelude.{take, None, if◌then◌else◌}
 use Rattle.std.specs.Global.{Global}
 use Rattle.hv_machine.specs.IsFlat.{IsFlat}
-use Rattle.hv_machine.specs.Lasting.{IsLasting}
+use Rattle.hv_machine.specs.MachineInvariant.{MachineInvariant}
 use Rattle.hv_machine.specs.Sound.{IsSound}
 use Rattle.hv_machine.specs.State.{State}
 use Rattle.hv_defs.specs.declared.sizes.TheConstants.{MAX_SERVED}
@@ -26,17 +27,17 @@ pub record IsStarted (config : Config) (m : State) : Type 0 where
   pub accepted : boot_fault config ≡ None
   pub state : IsFlat m (boot config)
   pub pages : m.pages ≡ config.pages
-  pub lasting : IsLasting m
+  pub lasting : MachineInvariant m
   pub sound : IsSound m
 
 -- a handle that has such a machine
 pub record IsBooted (config : Config) (new : HvMachine) : Type 0 where
   pub live : new.live ≡ true
   pub events : new.events ≡ 0
-  pub machine : IsStarted config new.held.machine
+  pub machine : IsStarted config new.raw_machine.machine
 
--- a boot with this configuration is refused with the status of its first fault, or, where it has none, for want
--- of memory
+-- a boot with this configuration is refused with the status of its first fault, or, where it has none, for
+-- out of memory
 pub record IsRefused (config : Config) (told : ℕ) : Type 0 where
   pub why : BootRefused
   pub first : IsBootRefusal config why
@@ -50,28 +51,31 @@ pub record HasLine (buffer : List ℕ) (count : ℕ) (line : List ℕ) : Type 0 
 
 -- The event was taken. Of each flat state that the machine stood for, the answer and the line with the
 -- event's number are those of the flat step's reply, and the machine now stands for that step's state. If the
--- messages have types, as those of each run have, the answer's effect tells what that step changed. The machine
--- stands for a lawful state, is sound, and has as many pages.
-pub record IsStepped (event : Event Global) (number : ℕ) (old new : State) (answer : HvReply) (buffer : List ℕ) : Type 0 where
+-- messages have types, as those of each run have, the answer's effect tells what that step changed. The
+-- machine stands for a lawful state, is sound, and has as many pages.
+pub record IsStepped (event : Event Global) (number : ℕ) (old new : State) (answer : HvReply)
+    (buffer : List ℕ) : Type 0 where
   pub reply : (f : Flat) → IsFlat old f → IsAnswer answer event.what (step f event).1
-  pub line : (f : Flat) → IsFlat old f → HasLine buffer answer.line_len (line_text number event (step f event).1)
+  pub line : (f : Flat) → IsFlat old f → HasLine buffer answer.line_len
+      (line_text number event (step f event).1)
   pub state : (f : Flat) → IsFlat old f → IsFlat new (step f event).0
   pub effect : (f : Flat) → IsFlat old f → AreTyped f → IsEffect answer.effect f (step f event).0
   pub pages : new.pages ≡ old.pages
-  pub lasting : IsLasting new
+  pub lasting : MachineInvariant new
   pub sound : IsSound new
 
 -- the machine of a handle took it, and one event more is counted, whose number the line has
-pub record IsTaken (event : Event Global) (old new : HvMachine) (answer : HvReply) (buffer : List ℕ) : Type 0 where
-  pub step : IsStepped event new.events old.held.machine new.held.machine answer buffer
-  pub events : new.events ≡ old.events + 1
-  pub live : new.live ≡ true
+pub record IsTaken (event : Event Global) (old new : HvMachine) (answer : HvReply) (buffer : List ℕ) : Type 0
+  where
+    pub step : IsStepped event new.events old.raw_machine.machine new.raw_machine.machine answer buffer
+    pub events : new.events ≡ old.events + 1
+    pub live : new.live ≡ true
 
 -- nothing changed
 pub record IsAsBefore (old new : HvMachine) : Type 0 where
   pub live : new.live ≡ old.live
   pub events : new.events ≡ old.events
-  pub machine : old.live ≡ true → new.held.machine ≡ old.held.machine
+  pub machine : old.live ≡ true → new.raw_machine.machine ≡ old.raw_machine.machine
 
 -- a line's buffer has bytes, but not for every line
 abbrev pub is_short : ℕ → Bool
@@ -86,5 +90,5 @@ abbrev pub readiness : HvMachine → ℕ → ℕ
 readiness m len =
     if not m.live then EMPTY
     else if is_short len then SHORT
-    else if is_used_up m.held.machine.served m.events then USED_UP
+    else if is_used_up m.raw_machine.machine.served m.events then USED_UP
     else DONE

@@ -1,16 +1,20 @@
 -- Texts that are put into a buffer of C's.
-use Rattle.std.specs.Prelude.{◌≡◌, ◌≢◌, ◌++◌, ◌&&◌, ◌==◌, ℕ, nat_le, nat_lt, List, length, take, drop, codes, Option, None, Some, if◌then◌else◌}
+use Rattle.std.specs.Prelude.{◌≡◌, ◌≢◌, ◌++◌, ◌&&◌, ◌==◌, ℕ, nat_le, nat_lt, List, length, take, drop, codes}
+use Rattle.std.specs.Prelude.{Option, None, Some, if◌then◌else◌}
 use Rattle.std.specs.Global.{Global}
 use Rattle.hv_policy.specs.Call.{action_of}
 use Rattle.hv_policy.specs.declared.event.Access.{Access}
-use Rattle.hv_policy.specs.declared.event.Access.TheVariants.{ReadMsr, WriteMsr, ReadSlot, ClearSlot, ReadFlags, ClearFlag, TakeInterrupt}
+use Rattle.hv_policy.specs.declared.event.Access.TheVariants.{ReadMsr, WriteMsr, ReadSlot, ClearSlot}
+use Rattle.hv_policy.specs.declared.event.Access.TheVariants.{ReadFlags, ClearFlag, TakeInterrupt}
 use Rattle.hv_policy.specs.declared.event.Caller.{Caller}
 use Rattle.hv_record.specs.Recorded.{line_text}
-use Rattle.hv_embed.specs.declared.layout.TheConstants.{READ_MSR, WRITE_MSR, READ_SLOT, CLEAR_SLOT, READ_FLAGS, CLEAR_FLAG, TAKE_INTERRUPT}
+use Rattle.hv_embed.specs.declared.layout.TheConstants.{READ_MSR, WRITE_MSR, READ_SLOT, CLEAR_SLOT}
+use Rattle.hv_embed.specs.declared.layout.TheConstants.{READ_FLAGS, CLEAR_FLAG, TAKE_INTERRUPT}
 use Rattle.hv_embed.specs.declared.status.TheConstants.{DONE, MEMORY, NONE, SHORT}
 use Rattle.hv_embed.specs.declared.texts.TheConstants.{MOST_INPUT}
 
--- A text was put into a buffer that has room for it, and its length is told. Of want of memory nothing is written.
+-- A text was put into a buffer that has room for it, and its length is told. Of out of memory nothing is
+-- written.
 pub record IsPut (text : List ℕ) (status : ℕ) (old new : List ℕ) (old_len new_len : ℕ) : Type 0 where
   pub told : status ≢ MEMORY → status ≡ if nat_lt (length old) (length text) then SHORT else DONE
   pub len : status ≢ MEMORY → new_len ≡ length text

@@ -12,14 +12,14 @@ ghost use Rattle.hv_embed.specs.Taken.{HasLine, is_short as is_short_len};
 
 use crate::layout::{DENIED, FAULT, HvReply, MORE, SERVED};
 use hv_abi::Frame;
-use hv_history::{Asked, EntryRef};
+use hv_history::{EntryRef, Request};
 use hv_machine::{Access, Answer, Caller};
 use hv_policy::result_value;
 use hv_text::{LINE, Scratch, audit_line};
 use std::alloc::Global;
 
-// Answers an event with its reply, whose effect stays, and puts the audit's line with this number into a buffer
-// that has bytes.
+// Answers an event with its reply, whose effect stays, and puts the audit's line with this number into a
+// buffer that has bytes.
 pub(crate) fn answer(
     entry: &EntryRef<'_>,
     number: u64,
@@ -36,7 +36,7 @@ pub(crate) fn answer(
         (entry_by entry.now).event (entry_by {A = Global} entry.now).reply) }
     ensures effect { reply.new.effect ≡ reply.old.effect }
 {
-    say(entry.answer, entry.output, reply);
+    fill_reply(entry.answer, entry.output, reply);
     reply.result = result_in(entry.asked, entry.answer);
     reply.line_len = if line.is_empty() {
         0
@@ -66,7 +66,7 @@ pub(crate) fn answer_call(
 {
     let entry = EntryRef {
         by,
-        asked: Asked::Hypercall {
+        asked: Request::Hypercall {
             rcx: frame.rcx,
             rdx: frame.rdx,
             r8: frame.r8,
@@ -79,22 +79,22 @@ pub(crate) fn answer_call(
 }
 
 // What an access asks for.
-pub(crate) fn asked_of(access: Access) -> Asked
+pub(crate) fn asked_of(access: Access) -> Request
     ensures { (input : List ℕ) → action_of {A = Global} result input ≡ action_by access }
 {
     match access {
-        Access::ReadMsr(msr) => Asked::ReadMsr(msr),
-        Access::WriteMsr(msr, value) => Asked::WriteMsr(msr, value),
-        Access::ReadSlot(sint) => Asked::ReadSlot(sint),
-        Access::ClearSlot(sint) => Asked::ClearSlot(sint),
-        Access::ReadFlags(sint) => Asked::ReadFlags(sint),
-        Access::ClearFlag(sint, flag) => Asked::ClearFlag(sint, flag),
-        Access::TakeInterrupt => Asked::TakeInterrupt,
+        Access::ReadMsr(msr) => Request::ReadMsr(msr),
+        Access::WriteMsr(msr, value) => Request::WriteMsr(msr, value),
+        Access::ReadSlot(sint) => Request::ReadSlot(sint),
+        Access::ClearSlot(sint) => Request::ClearSlot(sint),
+        Access::ReadFlags(sint) => Request::ReadFlags(sint),
+        Access::ClearFlag(sint, flag) => Request::ClearFlag(sint, flag),
+        Access::TakeInterrupt => Request::TakeInterrupt,
     }
 }
 
 // Says how an event ended, and what it put out.
-fn say(answer: Answer, output: &[u8], reply: &mut HvReply)
+fn fill_reply(answer: Answer, output: &[u8], reply: &mut HvReply)
     requires { length output.now ≤ 256 }
     ensures says { Says reply.new (reply_of answer output.now) }
     ensures effect { reply.new.effect ≡ reply.old.effect }
@@ -124,20 +124,20 @@ fn put(kind: u32, rule: u32, next: u32, output: &[u8], reply: &mut HvReply)
 }
 
 // The result value of a call that was answered so. An access has none.
-fn result_in(asked: Asked, answer: Answer) -> u64
+fn result_in(asked: Request, answer: Answer) -> u64
     requires { next_in (reply_of answer []) < REPS_END }
     ensures { (input output : List ℕ)
         → result ≡ result_by (action_of asked input) (reply_of answer output) }
 {
     match asked {
-        Asked::Hypercall { rcx, .. } => result_value::<Global>(rcx, answer).bits(),
-        Asked::ReadMsr(_)
-        | Asked::WriteMsr(_, _)
-        | Asked::ReadSlot(_)
-        | Asked::ClearSlot(_)
-        | Asked::ReadFlags(_)
-        | Asked::ClearFlag(_, _)
-        | Asked::TakeInterrupt => 0,
+        Request::Hypercall { rcx, .. } => result_value::<Global>(rcx, answer).bits(),
+        Request::ReadMsr(_)
+        | Request::WriteMsr(_, _)
+        | Request::ReadSlot(_)
+        | Request::ClearSlot(_)
+        | Request::ReadFlags(_)
+        | Request::ClearFlag(_, _)
+        | Request::TakeInterrupt => 0,
     }
 }
 

@@ -20,8 +20,8 @@ ghost use Rattle.hv_embed.specs.declared.status.TheConstants.{DONE, MEMORY, OCCU
 
 use crate::answer::is_short;
 use crate::handle::HvMachine;
-use crate::housed::Housed;
 use crate::layout::{ELEMENT_OUTPUT, HvCaller, HvConfig, HvRegisters, HvReply, HvRun};
+use crate::machine_state::MachineState;
 use crate::run::step_run;
 use crate::status::{DONE, EMPTY, OCCUPIED, SHORT, status_of};
 use crate::take::{caller_of, step_call, take_access};
@@ -52,7 +52,7 @@ pub extern "C" fn hv_embed_boot(alloc: Global, machine: &mut HvMachine, config: 
 }
 
 // A machine in a block of its own.
-fn boot(alloc: Global, config: &HvConfig) -> Result<Box<Housed>, BootRefused>
+fn boot(alloc: Global, config: &HvConfig) -> Result<Box<MachineState>, BootRefused>
     ensures booted { IfOk result (λ boxed. IsStarted (config_of config.now) boxed.value) }
     ensures refused { IfErr result (IsBootRefusal (config_of config.now)) }
 {
@@ -63,7 +63,7 @@ fn boot(alloc: Global, config: &HvConfig) -> Result<Box<Housed>, BootRefused>
         mask: Privileges::of(config.mask),
     };
     let machine = Machine::boot(alloc, wanted)?;
-    match Box::new(alloc, Housed::of(machine, alloc)) {
+    match Box::new(alloc, MachineState::of(machine, alloc)) {
         Ok(boxed) => Ok(boxed),
         Err(_) => Err(BootRefused::Memory),
     }
@@ -97,9 +97,9 @@ pub extern "C" fn hv_embed_hypercall(
         return SHORT;
     }
     let mut events = machine.events;
-    let mut housed = replace(machine, HvMachine::none(alloc)).open();
+    let mut machine_state = replace(machine, HvMachine::none(alloc)).open();
     let status = step_call(
-        &mut housed,
+        &mut machine_state,
         &mut events,
         caller_of(by),
         registers,
@@ -107,17 +107,17 @@ pub extern "C" fn hv_embed_hypercall(
         reply,
         line,
     );
-    housed.trim(alloc);
-    replace(machine, HvMachine::full(housed, events)).let_go();
+    machine_state.trim(alloc);
+    replace(machine, HvMachine::full(machine_state, events)).let_go();
     status
 }
 
 /// Takes a hypercall of a processor as [`hv_embed_hypercall`] does, and of a rep call the elements after it,
 /// one after another: up to the last or to one that isn't served or whose effect names more than a page, or
-/// until fewer than 16 bytes of the buffer for their outputs are left, the handle or the machine takes no more
-/// events, or the host has no memory. The reply is that of the last that was taken, with its effect, so a call
-/// that goes on may be made again from the next element on. Bytes of the buffer past the outputs may be
-/// written, too. No line is put.
+/// until fewer than 16 bytes of the buffer for their outputs are left, the handle or the machine takes no
+/// more events, or the host has no memory. The reply is that of the last that was taken, with its effect, so
+/// a call that goes on may be made again from the next element on. Bytes of the buffer past the outputs may
+/// be written, too. No line is put.
 #[unsafe(no_mangle)]
 pub extern "C" fn hv_embed_run(
     alloc: Global,
@@ -145,10 +145,10 @@ pub extern "C" fn hv_embed_run(
         return SHORT;
     }
     let mut events = machine.events;
-    let mut housed = replace(machine, HvMachine::none(alloc)).open();
+    let mut machine_state = replace(machine, HvMachine::none(alloc)).open();
     let status = step_run(
         alloc,
-        &mut housed,
+        &mut machine_state,
         &mut events,
         caller_of(by),
         registers,
@@ -157,8 +157,8 @@ pub extern "C" fn hv_embed_run(
         outputs,
         done,
     );
-    housed.trim(alloc);
-    replace(machine, HvMachine::full(housed, events)).let_go();
+    machine_state.trim(alloc);
+    replace(machine, HvMachine::full(machine_state, events)).let_go();
     status
 }
 

@@ -1,9 +1,9 @@
 // The handle of C.
 ghost use Rattle.std.specs.Prelude.{◌≡◌, true, false};
 
-use crate::held::Held;
-use crate::housed::Housed;
+use crate::machine_state::MachineState;
 use crate::parts::Parts;
+use crate::raw_machine::RawMachine;
 use std::alloc::Global;
 
 /// A machine, or nothing. C makes one of zeros, which is nothing.
@@ -12,8 +12,8 @@ pub struct HvMachine {
     pub(crate) live: bool,
     // How many events it took, served or not.
     pub(crate) events: u64,
-    pub(crate) held: Held,
-    ghost tied: { held.full ≡ live },
+    pub(crate) raw_machine: RawMachine,
+    ghost tied: { raw_machine.full ≡ live },
 }
 
 impl HvMachine {
@@ -25,34 +25,34 @@ impl HvMachine {
         HvMachine {
             live: false,
             events: 0,
-            held: Held::none(alloc),
+            raw_machine: RawMachine::none(alloc),
         }
     }
 
     // This machine, which took so many events.
-    pub(crate) fn full(machine: Box<Housed>, events: u64) -> HvMachine
+    pub(crate) fn full(machine: Box<MachineState>, events: u64) -> HvMachine
         ensures live { result.live ≡ true }
         ensures events { result.events ≡ events }
-        ensures machine { result.held.machine ≡ machine.value }
+        ensures machine { result.raw_machine.machine ≡ machine.value }
     {
         HvMachine {
             live: true,
             events,
-            held: Held::of_parts(Parts::of(machine)),
+            raw_machine: RawMachine::of_parts(Parts::of(machine)),
         }
     }
 
     // The machine that is there.
-    pub(crate) fn open(self) -> Box<Housed>
+    pub(crate) fn open(self) -> Box<MachineState>
         requires { self.live ≡ true }
-        ensures { result.value ≡ self.held.machine }
+        ensures { result.value ≡ self.raw_machine.machine }
     {
         let HvMachine {
             live: _,
             events: _,
-            held,
+            raw_machine,
         } = self;
-        held.into_parts().into_box()
+        raw_machine.into_parts().into_box()
     }
 
     // Lets go of one that holds nothing.
@@ -62,9 +62,9 @@ impl HvMachine {
         let HvMachine {
             live: _,
             events: _,
-            held,
+            raw_machine,
         } = self;
-        held.let_go();
+        raw_machine.let_go();
     }
 }
 

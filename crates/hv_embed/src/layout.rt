@@ -52,8 +52,8 @@ pub struct HvReply {
     pub effect: HvEffect,
 }
 
-/// What an event changed of messages, event flags, pending vectors and pages. Only the fields of its kind have a
-/// meaning.
+/// What an event changed of messages, event flags, pending vectors and pages. Only the fields of its kind
+/// have a meaning.
 #[repr(C)]
 #[derive(Clone, Copy)]
 pub struct HvEffect {

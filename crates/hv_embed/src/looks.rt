@@ -9,7 +9,7 @@ ghost use Rattle.hv_looks.specs.Look.{partition_seen, pending_seen, slot_seen};
 ghost use Rattle.hv_machine.specs.IsFlat.{IsFlat};
 ghost use Rattle.hv_mail.specs.Words.{numbers_of};
 ghost use Rattle.hv_policy.specs.Flat.{Flat};
-ghost use Rattle.hv_tie.specs.Tie.{conn_row_of, port_row_of};
+ghost use Rattle.hv_refine.specs.Tie.{conn_row_of, port_row_of};
 ghost use Rattle.hv_embed.specs.Answer.{caller_of as caller_by};
 ghost use Rattle.hv_embed.specs.Looks.{IsLook, Shows, aim_number, conn_shown, life_number};
 ghost use Rattle.hv_embed.specs.Looks.{partition_shown, port_shown, type_number};
@@ -44,7 +44,10 @@ pub extern "C" fn hv_embed_peek_slot(
     if !machine.live {
         return EMPTY;
     }
-    put(slot(&machine.held.look().machine, caller_of(of), sint), out)
+    put(
+        slot(&machine.raw_machine.look().machine, caller_of(of), sint),
+        out,
+    )
 }
 
 /// Looks at the event flags of a SINT of a processor, of 256 bytes.
@@ -62,7 +65,7 @@ pub extern "C" fn hv_embed_peek_flags(
         return EMPTY;
     }
     put(
-        flags(&machine.held.look().machine, caller_of(of), sint),
+        flags(&machine.raw_machine.look().machine, caller_of(of), sint),
         out,
     )
 }
@@ -82,7 +85,7 @@ pub extern "C" fn hv_embed_peek_msr(
         return EMPTY;
     }
     put(
-        hv_looks::msr(&machine.held.look().machine, caller_of(of), msr),
+        hv_looks::msr(&machine.raw_machine.look().machine, caller_of(of), msr),
         value,
     )
 }
@@ -102,7 +105,10 @@ pub extern "C" fn hv_embed_peek_pending(
     if !machine.live {
         return EMPTY;
     }
-    put(pending(&machine.held.look().machine, caller_of(of)), out)
+    put(
+        pending(&machine.raw_machine.look().machine, caller_of(of)),
+        out,
+    )
 }
 
 /// Looks at a partition.
@@ -112,13 +118,14 @@ pub extern "C" fn hv_embed_peek_partition(
     id: u64,
     out: &mut HvPartition,
 ) -> u32
-    ensures look { IsLook machine.old (λ f. option_map partition_shown (partition_seen f id)) result out.old out.new }
+    ensures look { IsLook machine.old (λ f. option_map partition_shown (partition_seen f id)) result out.old
+        out.new }
     ensures kept { IsAsBefore machine.old machine.new }
 {
     if !machine.live {
         return EMPTY;
     }
-    match partition(&machine.held.look().machine, id) {
+    match partition(&machine.raw_machine.look().machine, id) {
         Some(look) => {
             *out = show_partition(look);
             DONE
@@ -143,7 +150,7 @@ pub extern "C" fn hv_embed_child_after(
         return EMPTY;
     }
     put(
-        child_after(&machine.held.look().machine, parent, previous),
+        child_after(&machine.raw_machine.look().machine, parent, previous),
         child,
     )
 }
@@ -157,7 +164,7 @@ pub extern "C" fn hv_embed_page_owner(machine: &mut HvMachine, page: u64, owner:
     if !machine.live {
         return EMPTY;
     }
-    put(page_owner(&machine.held.look().machine, page), owner)
+    put(page_owner(&machine.raw_machine.look().machine, page), owner)
 }
 
 /// Looks at a port of a partition.
@@ -175,7 +182,7 @@ pub extern "C" fn hv_embed_peek_port(
     if !machine.live {
         return EMPTY;
     }
-    match port(&machine.held.look().machine, part, id) {
+    match port(&machine.raw_machine.look().machine, part, id) {
         Some(row) => {
             *out = show_port(part, id, row);
             DONE
@@ -199,7 +206,7 @@ pub extern "C" fn hv_embed_peek_connection(
     if !machine.live {
         return EMPTY;
     }
-    match connection(&machine.held.look().machine, part, id) {
+    match connection(&machine.raw_machine.look().machine, part, id) {
         Some(row) => {
             *out = show_connection(part, id, row);
             DONE
@@ -217,7 +224,7 @@ pub extern "C" fn hv_embed_features(machine: &mut HvMachine, part: u64, out: &mu
     if !machine.live {
         return EMPTY;
     }
-    put(features(&machine.held.look().machine, part), out)
+    put(features(&machine.raw_machine.look().machine, part), out)
 }
 
 /// Whether an MSR with this number is one that a machine keeps.

@@ -5,7 +5,7 @@ ghost use Rattle.hv_defs.specs.declared.sizes.TheConstants.{REPS_END};
 ghost use Rattle.hv_policy.specs.Parts.{next_in};
 ghost use Rattle.hv_history.specs.Run.{IsMore, restart as restarted_at};
 ghost use Rattle.hv_machine.specs.IsFlat.{IsFlat};
-ghost use Rattle.hv_machine.specs.Lasting.{IsLasting};
+ghost use Rattle.hv_machine.specs.MachineInvariant.{MachineInvariant};
 ghost use Rattle.hv_machine.specs.Sound.{IsSound};
 ghost use Rattle.hv_policy.specs.Call.{call_event, may_take_memory};
 ghost use Rattle.hv_policy.specs.Flat.{Flat};
@@ -13,15 +13,16 @@ ghost use Rattle.hv_policy.specs.Result.{HasResult};
 ghost use Rattle.hv_effects.specs.Typed.{AreTyped};
 ghost use Rattle.hv_embed.specs.Answer.{frame_of as frame_by};
 ghost use Rattle.hv_embed.specs.Effect.{is_quiet_kind};
-ghost use Rattle.hv_embed.specs.Run.{HasRun, IsAt, IsAtMore, IsLastEffect, IsRunEffect, Ran, first, output_in};
+ghost use Rattle.hv_embed.specs.Run.{HasRun, IsAt, IsAtMore, IsLastEffect, IsRunEffect, Ran, first};
+ghost use Rattle.hv_embed.specs.Run.{output_in};
 ghost use Rattle.hv_embed.specs.Taken.{is_used_up as is_used_up_at};
 ghost use Rattle.hv_embed.specs.declared.layout.TheConstants.{ELEMENT_OUTPUT};
 ghost use Rattle.hv_embed.specs.declared.status.TheConstants.{DONE, USED_UP, MEMORY};
 
 use crate::answer::answer_call;
 use crate::effect::{is_quiet, shown};
-use crate::housed::{Housed, no_frame, refill};
 use crate::layout::{ELEMENT_OUTPUT, HvEffect, HvRegisters, HvReply, HvRun};
+use crate::machine_state::{MachineState, no_frame, refill};
 use crate::status::{DONE, MEMORY, USED_UP};
 use crate::take::is_used_up;
 use hv_abi::Frame;
@@ -36,7 +37,7 @@ use std::mem::replace;
 // which it goes on, and counts them with the events before.
 pub(crate) fn step_run(
     alloc: Global,
-    housed: &mut Housed,
+    machine_state: &mut MachineState,
     events: &mut u64,
     by: Caller,
     registers: &HvRegisters,
@@ -46,40 +47,42 @@ pub(crate) fn step_run(
     done: &mut HvRun,
 ) -> u32
     requires { ELEMENT_OUTPUT ≤ length outputs.old }
-    ensures ran { (f : Flat) → IsFlat housed.old f → result ≡ DONE → HasRun by
-        (first f by (frame_by registers.now input.now)) events.old housed.new reply.new outputs.new done.new }
-    ensures effect { (f : Flat) → IsFlat housed.old f → AreTyped f → result ≡ DONE → IsRunEffect done.new.events
+    ensures ran { (f : Flat) → IsFlat machine_state.old f → result ≡ DONE → HasRun by
+        (first f by (frame_by registers.now input.now)) events.old machine_state.new reply.new outputs.new done.new }
+    ensures effect { (f : Flat) → IsFlat machine_state.old f → AreTyped f → result ≡ DONE → IsRunEffect
+        done.new.events
         f by (first f by (frame_by registers.now input.now)) reply.new.effect }
     ensures line { result ≡ DONE → reply.new.line_len ≡ 0 }
-    ensures pages { housed.new.pages ≡ housed.old.pages }
-    ensures lasting { IsLasting housed.new }
-    ensures sound { result ≡ DONE → IsSound housed.new }
+    ensures pages { machine_state.new.pages ≡ machine_state.old.pages }
+    ensures lasting { MachineInvariant machine_state.new }
+    ensures sound { result ≡ DONE → IsSound machine_state.new }
     ensures some { result ≡ DONE → 0 < done.new.events }
     ensures count { result ≡ DONE → events.new ≡ events.old + done.new.events }
-    ensures kept { result ≢ DONE → (housed.new ≡ housed.old) × (events.new ≡ events.old) }
+    ensures kept { result ≢ DONE → (machine_state.new ≡ machine_state.old) × (events.new ≡ events.old) }
     ensures unwritten { result ≢ DONE → (reply.new ≡ reply.old) × (outputs.new ≡ outputs.old)
         × (done.new ≡ done.old) }
     ensures ready { result ≢ MEMORY
-        → result ≡ if is_used_up_at housed.old.served events.old then USED_UP else DONE }
+        → result ≡ if is_used_up_at machine_state.old.served events.old then USED_UP else DONE }
 {
-    if is_used_up(&housed.machine, *events) {
+    if is_used_up(&machine_state.machine, *events) {
         return USED_UP;
     }
-    let Ok(()) = refill(&mut housed.frame, registers, input) else {
+    let Ok(()) = refill(&mut machine_state.frame, registers, input) else {
         return MEMORY;
     };
-    let Ok((mut last, effect)) = hypercall(&mut housed.machine, by, &housed.frame) else {
+    let Ok((mut last, effect)) = hypercall(&mut machine_state.machine, by, &machine_state.frame)
+    else {
         return MEMORY;
     };
     let mut effect = shown(effect);
     *events += 1;
-    let mut at = put_out(&last, outputs, 0);
+    let mut at = append_output(&last, outputs, 0);
     let more = run_on(
         alloc,
-        &mut housed.machine,
+        &mut machine_state.machine,
         events,
         by,
-        &mut housed.frame,
+        &mut machine_state.frame,
         &mut last,
         &mut effect,
         outputs,
@@ -89,11 +92,11 @@ pub(crate) fn step_run(
     let (told, output, len) = last.parts();
     answer_call(
         by,
-        &housed.frame,
+        &machine_state.frame,
         told,
         &output[..len],
         *events,
-        &mut housed.scratch,
+        &mut machine_state.scratch,
         reply,
         &mut [],
     );
@@ -120,22 +123,24 @@ fn run_on(
 ) -> u32
     requires place { at.old ≤ length outputs.old }
     requires index { HasResult last.old }
-    requires lasting { IsLasting machine.old }
+    requires lasting { MachineInvariant machine.old }
     requires sound { IsSound machine.old }
     ensures ran { (ran : Ran) → IsAt ran machine.old frame.old last.old (take at.old outputs.old)
         → IsAtMore result by ran machine.new frame.new last.new (take at.new outputs.new) }
-    ensures effect { (ran : Ran) (f : Flat) → IsAt ran machine.old frame.old last.old (take at.old outputs.old)
+    ensures effect { (ran : Ran) (f : Flat) → IsAt ran machine.old frame.old last.old
+        (take at.old outputs.old)
         → AreTyped ran.flat → IsLastEffect 0 f by ran effect.old → IsLastEffect result f by ran effect.new }
     ensures most { result ≤ REPS_END }
     ensures count { events.new ≡ events.old + result }
-    ensures stopped { IsMore last.new → is_quiet_kind effect.new.kind ≡ true → at.new + ELEMENT_OUTPUT ≤ length outputs.new
+    ensures stopped { IsMore last.new → is_quiet_kind effect.new.kind ≡ true → at.new + ELEMENT_OUTPUT ≤
+        length outputs.new
         → is_used_up_at machine.new.served events.new ≡ false → result < REPS_END
         → IsTrue (may_take_memory (call_event by (restarted_at frame.new (next_in last.new)))) }
     ensures place { at.new ≤ length outputs.old }
     ensures few { at.new ≤ at.old + ELEMENT_OUTPUT * result }
     ensures index { HasResult last.new }
     ensures pages { machine.new.pages ≡ machine.old.pages }
-    ensures lasting { IsLasting machine.new }
+    ensures lasting { MachineInvariant machine.new }
     ensures sound { IsSound machine.new }
 {
     for more in 0..u32::from(REPS_END) {
@@ -154,7 +159,7 @@ fn run_on(
             frame.rcx = rcx;
             return more;
         };
-        *at = put_out(&reply, outputs, *at);
+        *at = append_output(&reply, outputs, *at);
         *last = reply;
         *effect = shown(told);
         *events += 1;
@@ -171,7 +176,7 @@ fn restart(alloc: Global, frame: &mut Frame<Global>, start: u16)
 }
 
 // Puts the output of a reply into a buffer at a place, and answers the place after it.
-fn put_out(reply: &CallReply, outputs: &mut [u8], at: usize) -> usize
+fn append_output(reply: &CallReply, outputs: &mut [u8], at: usize) -> usize
     requires { at + ELEMENT_OUTPUT ≤ length outputs.old }
     ensures bytes { take result outputs.new ≡ take at outputs.old ++ output_in reply.now }
     ensures most { result ≤ at + ELEMENT_OUTPUT }

@@ -1,7 +1,7 @@
 // One event of a handle's machine.
 ghost use Rattle.std.specs.Prelude.{◌≡◌, ◌≢◌, ◌+◌, length, false, if◌then◌else◌};
 ghost use Rattle.hv_machine.specs.Access.{access_event};
-ghost use Rattle.hv_machine.specs.Lasting.{IsLasting};
+ghost use Rattle.hv_machine.specs.MachineInvariant.{MachineInvariant};
 ghost use Rattle.hv_policy.specs.Call.{action_of, call_event};
 ghost use Rattle.hv_embed.specs.Answer.{caller_of as caller_by, event_of as event_by, frame_of as frame_by};
 ghost use Rattle.hv_embed.specs.Taken.{IsAsBefore, IsStepped, IsTaken, is_short as is_short_len};
@@ -11,8 +11,8 @@ ghost use Rattle.hv_embed.specs.declared.status.TheConstants.{DONE, USED_UP, MEM
 use crate::answer::{answer, answer_call, asked_of, is_short};
 use crate::effect::{parted, shown};
 use crate::handle::HvMachine;
-use crate::housed::{Housed, refill};
 use crate::layout::{HvCaller, HvRegisters, HvReply};
+use crate::machine_state::{MachineState, refill};
 use crate::status::{DONE, EMPTY, MAX_EVENTS, MEMORY, SHORT, USED_UP};
 use hv_defs::MAX_SERVED;
 use hv_effects::{access as access_of, hypercall};
@@ -43,15 +43,22 @@ pub(crate) fn take_access(
         return SHORT;
     }
     let mut events = machine.events;
-    let mut housed = replace(machine, HvMachine::none(alloc)).open();
-    let status = step_access(&mut housed, &mut events, caller_of(by), access, reply, line);
-    replace(machine, HvMachine::full(housed, events)).let_go();
+    let mut machine_state = replace(machine, HvMachine::none(alloc)).open();
+    let status = step_access(
+        &mut machine_state,
+        &mut events,
+        caller_of(by),
+        access,
+        reply,
+        line,
+    );
+    replace(machine, HvMachine::full(machine_state, events)).let_go();
     status
 }
 
 // Lets a machine take an access, and counts it with the events before.
 fn step_access(
-    housed: &mut Housed,
+    machine_state: &mut MachineState,
     events: &mut u64,
     by: Caller,
     access: Access,
@@ -60,17 +67,23 @@ fn step_access(
 ) -> u32
     requires { is_short_len (length line.old) ≡ false }
     ensures taken { result ≡ DONE
-        → IsStepped (access_event by access) events.new housed.old housed.new reply.new line.new }
+        → IsStepped (access_event by access) events.new machine_state.old machine_state.new reply.new line.new
+            }
     ensures count { result ≡ DONE → events.new ≡ events.old + 1 }
-    ensures kept { result ≢ DONE → (housed.new ≡ housed.old) × (events.new ≡ events.old) }
+    ensures kept { result ≢ DONE → (machine_state.new ≡ machine_state.old) × (events.new ≡ events.old) }
     ensures unwritten { result ≢ DONE → (reply.new ≡ reply.old) × (line.new ≡ line.old) }
-    ensures ready { result ≡ if is_used_up_at housed.old.served events.old then USED_UP else DONE }
+    ensures ready { result ≡ if is_used_up_at machine_state.old.served events.old then USED_UP else DONE }
 {
-    if is_used_up(&housed.machine, *events) {
+    if is_used_up(&machine_state.machine, *events) {
         return USED_UP;
     }
-    housed.output.clear();
-    let became = access_of(&mut housed.machine, by, access, &mut housed.output);
+    machine_state.output.clear();
+    let became = access_of(
+        &mut machine_state.machine,
+        by,
+        access,
+        &mut machine_state.output,
+    );
     *events += 1;
     let (became, effect) = parted(became);
     reply.effect = effect;
@@ -79,16 +92,16 @@ fn step_access(
         asked: asked_of(access),
         input: &[],
         answer: answer_of(became),
-        output: housed.output.as_slice(),
+        output: machine_state.output.as_slice(),
     };
-    answer(&entry, *events, &mut housed.scratch, reply, line);
+    answer(&entry, *events, &mut machine_state.scratch, reply, line);
     DONE
 }
 
 // Lets a machine take a call with these registers and the bytes of its input list, and counts it with the
 // events before.
 pub(crate) fn step_call(
-    housed: &mut Housed,
+    machine_state: &mut MachineState,
     events: &mut u64,
     by: Caller,
     registers: &HvRegisters,
@@ -98,20 +111,20 @@ pub(crate) fn step_call(
 ) -> u32
     requires { is_short_len (length line.old) ≡ false }
     ensures taken { result ≡ DONE → IsStepped (call_event by (frame_by registers.now input.now)) events.new
-        housed.old housed.new reply.new line.new }
+        machine_state.old machine_state.new reply.new line.new }
     ensures count { result ≡ DONE → events.new ≡ events.old + 1 }
-    ensures kept { result ≢ DONE → (housed.new ≡ housed.old) × (events.new ≡ events.old) }
+    ensures kept { result ≢ DONE → (machine_state.new ≡ machine_state.old) × (events.new ≡ events.old) }
     ensures unwritten { result ≢ DONE → (reply.new ≡ reply.old) × (line.new ≡ line.old) }
     ensures ready { result ≢ MEMORY
-        → result ≡ if is_used_up_at housed.old.served events.old then USED_UP else DONE }
+        → result ≡ if is_used_up_at machine_state.old.served events.old then USED_UP else DONE }
 {
-    if is_used_up(&housed.machine, *events) {
+    if is_used_up(&machine_state.machine, *events) {
         return USED_UP;
     }
-    let Ok(()) = refill(&mut housed.frame, registers, input) else {
+    let Ok(()) = refill(&mut machine_state.frame, registers, input) else {
         return MEMORY;
     };
-    let Ok((told, effect)) = hypercall(&mut housed.machine, by, &housed.frame) else {
+    let Ok((told, effect)) = hypercall(&mut machine_state.machine, by, &machine_state.frame) else {
         return MEMORY;
     };
     *events += 1;
@@ -119,11 +132,11 @@ pub(crate) fn step_call(
     let (told, output, len) = told.parts();
     answer_call(
         by,
-        &housed.frame,
+        &machine_state.frame,
         told,
         &output[..len],
         *events,
-        &mut housed.scratch,
+        &mut machine_state.scratch,
         reply,
         line,
     );
@@ -133,7 +146,7 @@ pub(crate) fn step_call(
 // Whether a machine served, or a handle counted, as many events as are counted.
 pub(crate) fn is_used_up(machine: &Machine<Global>, events: u64) -> bool
     ensures used { result ≡ is_used_up_at machine.now.served events }
-    ensures lasting { IsLasting machine.now }
+    ensures lasting { MachineInvariant machine.now }
 {
     machine.served() >= MAX_SERVED || events >= MAX_EVENTS
 }

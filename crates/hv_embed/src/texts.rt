@@ -1,5 +1,5 @@
-// Texts for C: a machine's table, and events as lines of a script. None is an event. A buffer that has room for
-// a text takes it, and its length is told.
+// Texts for C: a machine's table, and events as lines of a script. None is an event. A buffer that has room
+// for a text takes it, and its length is told.
 ghost use Rattle.std.specs.Prelude.{◌≡◌, ◌≢◌, ◌++◌, codes, length, nat_lt, take, true, false};
 ghost use Rattle.std.specs.Prelude.{IfSome, if◌then◌else◌};
 ghost use Rattle.hv_machine.specs.IsFlat.{IsFlat};
@@ -15,11 +15,11 @@ ghost use Rattle.hv_embed.specs.Texts.{readable as readable_of};
 ghost use Rattle.hv_embed.specs.declared.status.TheConstants.{DONE, EMPTY, SHORT};
 
 use crate::handle::HvMachine;
-use crate::housed::{no_frame, refill};
 use crate::layout::{
     CLEAR_FLAG, CLEAR_SLOT, HvCaller, HvRegisters, READ_FLAGS, READ_MSR, READ_SLOT, TAKE_INTERRUPT,
     WRITE_MSR,
 };
+use crate::machine_state::{no_frame, refill};
 use crate::status::{DONE, EMPTY, MEMORY, NONE, SHORT};
 use crate::take::caller_of;
 use hv_machine::{Access, Caller, Machine};
@@ -31,8 +31,8 @@ use std::alloc::Global;
 // The most bytes of an input list: it lies in a page.
 pub const MOST_INPUT: usize = 4096;
 
-/// Puts the table of the partitions into a buffer that has room for it, and tells how many bytes the table has.
-/// It takes memory for the table, and for the partitions' ids.
+/// Puts the table of the partitions into a buffer that has room for it, and tells how many bytes the table
+/// has. It takes memory for the table, and for the partitions' ids.
 #[unsafe(no_mangle)]
 pub extern "C" fn hv_embed_table(
     alloc: Global,
@@ -41,7 +41,7 @@ pub extern "C" fn hv_embed_table(
     len: &mut usize,
 ) -> u32
     ensures empty { machine.old.live ≡ false → result ≡ EMPTY }
-    ensures table { machine.old.live ≡ true → (f : Flat) → IsFlat machine.old.held.machine f
+    ensures table { machine.old.live ≡ true → (f : Flat) → IsFlat machine.old.raw_machine.machine f
         → IsPut (table_text f) result text.old text.new len.old len.new }
     ensures kept { IsAsBefore machine.old machine.new }
     ensures unwritten { result ≢ DONE → text.new ≡ text.old }
@@ -50,14 +50,14 @@ pub extern "C" fn hv_embed_table(
     if !machine.live {
         return EMPTY;
     }
-    match table_bytes(alloc, &machine.held.look().machine) {
+    match table_bytes(alloc, &machine.raw_machine.look().machine) {
         Some(bytes) => put_text(&bytes, text, len),
         None => MEMORY,
     }
 }
 
-/// Puts the line of a script by which a processor asks for a hypercall into a buffer that has room for it, and
-/// tells how many bytes the line has, with its line feed. Of the input list it has the first 4,096 bytes.
+/// Puts the line of a script by which a processor asks for a hypercall into a buffer that has room for it,
+/// and tells how many bytes the line has, with its line feed. Of the input list it has the first 4,096 bytes.
 #[unsafe(no_mangle)]
 pub extern "C" fn hv_embed_hypercall_line(
     alloc: Global,
@@ -101,7 +101,7 @@ pub extern "C" fn hv_embed_access_line(
     }
 }
 
-// The table of a machine, or want of memory.
+// The table of a machine, or out of memory.
 fn table_bytes(alloc: Global, machine: &Machine<Global>) -> Option<Vec<u8>>
     ensures { (f : Flat) → IsFlat machine.now f → IfSome result (λ bytes. bytes.items ≡ table_text f) }
 {
@@ -112,7 +112,7 @@ fn table_bytes(alloc: Global, machine: &Machine<Global>) -> Option<Vec<u8>>
     }
 }
 
-// The line of a call, or want of memory.
+// The line of a call, or out of memory.
 fn call_line(alloc: Global, by: HvCaller, registers: &HvRegisters, input: &[u8]) -> Option<Vec<u8>>
     ensures { IfSome result (λ line. line.items
         ≡ line_text (caller_by by) (Hypercall (frame_by registers.now (readable_of input.now))) ++ codes "\n") }
@@ -134,7 +134,7 @@ fn readable(input: &[u8]) -> &[u8]
     &input[..MOST_INPUT]
 }
 
-// The line of an event with its line feed, or want of memory.
+// The line of an event with its line feed, or out of memory.
 fn event_line(alloc: Global, by: Caller, what: &Action<Global>) -> Option<Vec<u8>>
     ensures { IfSome result (λ line. line.items ≡ line_text by what.now ++ codes "\n") }
 {

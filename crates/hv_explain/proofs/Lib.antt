@@ -1,3 +1,3 @@
-pub mod Told
+pub mod Written
 pub mod Whole
 pub mod Lines

@@ -11,8 +11,8 @@ use Rattle.hv_script.specs.Script.{Said}
 use Rattle.hv_script.specs.declared.line.Line.{Line}
 use Rattle.hv_shared.specs.ByCaller.{receipts_by}
 use Rattle.hv_threads.specs.Perform.{IsWhole}
-use Rattle.hv_explain.specs.Told.{AreTold, HasExplained, HasToldAll, HasToldLines}
-use Rattle.hv_explain.proofs.Told.{told_then}
+use Rattle.hv_explain.specs.Written.{AreTold, HasExplained, HasWrittenAll, HasWrittenLines}
+use Rattle.hv_explain.proofs.Written.{told_then}
 use Rattle.hv_explain.proofs.Whole.{IsBy}
 
 -- what a line asks for is done behind what was done before
@@ -33,19 +33,20 @@ order_push n (x ∷ ran) es line own some all whole =
 
 module _ (old : Kept Global) (v : Option (List ℕ)) where
   -- one line more
-  pub lines_more : (ran : List (Line Global)) (line : Line Global) (mid new : Kept Global) (u w : Option (List ℕ)) → HasToldLines ran old mid v u → HasToldAll line.by line.action mid new u w
-      → HasToldLines (ran ++ line ∷ []) old new v w
+  pub lines_more : (ran : List (Line Global)) (line : Line Global) (mid new : Kept Global) (u w : Option (List ℕ)) → HasWrittenLines ran old mid v u → HasWrittenAll line.by line.action mid new u w
+      → HasWrittenLines (ran ++ line ∷ []) old new v w
   lines_more ran line mid new u w first second =
       let at : 1 + length mid.history ≡ (1 + length old.history) + length first.more = let e = ap length first.told.history in omega (arith, e, length-append old.history first.more) in
       record {
         more = first.more ++ second.own;
         told = told_then first.more second.own old mid new v u w first.told second.told;
-        order = order_push (1 + length old.history) ran first.more line second.own first.order second.all (subst (λ (k : ℕ). IsWhole line.by line.action (receipts_by line.by k second.own)) at second.whole);
+        order = order_push (1 + length old.history) ran first.more line second.own first.order second.all
+            (subst (λ (k : ℕ). IsWhole line.by line.action (receipts_by line.by k second.own)) at second.whole);
       }
 
 -- the whole of a script's lines, from a boot on
 pub explained : (s : Said Global) (lines : List (Line Global)) (old new : Kept Global) (u v w : Option (List ℕ)) → lines ≡ s.lines → old.history ≡ [] → old.config ≡ s.config → old.limit ≡ s.limit
-    → IsRun new → HasToldLines lines old new u v → Keeps v w → HasExplained s u w
+    → IsRun new → HasWrittenLines lines old new u v → Keeps v w → HasExplained s u w
 explained s lines old new u v w is empty config limit run told kept =
     let all : new.history ≡ told.more = told.told.history ∙ ap (λ (h : List (Entry Global)). h ++ told.more) empty in
     let first : 1 + length old.history ≡ 1 = let e = ap length empty in omega (arith, e) in

@@ -15,8 +15,8 @@ use Rattle.hv_shared.specs.ByCaller.{receipts_by}
 use Rattle.hv_shared.specs.Drive.{entry_in}
 use Rattle.hv_shared.specs.Pass.{receipt}
 use Rattle.hv_shared.specs.declared.receipts.Receipt.{Receipt}
-use Rattle.hv_explain.specs.Told.{HasTold, HasToldAll, HasToldElement}
-use Rattle.hv_explain.proofs.Told.{told_then}
+use Rattle.hv_explain.specs.Written.{HasWritten, HasWrittenAll, HasWrittenElement}
+use Rattle.hv_explain.proofs.Written.{told_then}
 
 abbrev pub IsBy : Caller → Entry Global → Type 0
 IsBy by e = e.event.by ≡ by
@@ -58,14 +58,14 @@ module _ (by : Caller) (old : Kept Global) (v : Option (List ℕ)) where
   pub record HasBegun (frame now : Frame Global) (new : Kept Global) (w : Option (List ℕ)) : Type 0 where
     pub before : List (Entry Global)
     pub elements : AreElements by frame before now
-    pub told : HasTold before old new v w
+    pub told : HasWritten before old new v w
 
   elements_by : (frame : Frame Global) (es : List (Entry Global)) (now : Frame Global) → AreElements by frame es now → All (IsBy by) es
   elements_by frame [] now is = All-nil (IsBy by)
   elements_by frame (e ∷ es) now is = All-cons (IsBy by) e es (ap (λ x. x.by) is.0) (elements_by (restart frame (start_of frame + 1)) es now is.2)
 
   -- one element more, after which the call goes on
-  pub begun_more : (frame now next : Frame Global) (n : ℕ) (mid new : Kept Global) (u w : Option (List ℕ)) → HasBegun frame now mid u → (told : HasToldElement by now (Some n) mid new u w)
+  pub begun_more : (frame now next : Frame Global) (n : ℕ) (mid new : Kept Global) (u w : Option (List ℕ)) → HasBegun frame now mid u → (told : HasWrittenElement by now (Some n) mid new u w)
       → next ≡ restart now n → HasBegun frame next new w
   begun_more frame now next n mid new u w begun told is =
       let goes = told.goes in
@@ -78,8 +78,8 @@ module _ (by : Caller) (old : Kept Global) (v : Option (List ℕ)) where
       }
 
   -- the last one
-  pub begun_ends : (frame now : Frame Global) (mid new : Kept Global) (u w : Option (List ℕ)) → HasBegun frame now mid u → HasToldElement by now None mid new u w
-      → HasToldAll by (Hypercall frame) old new v w
+  pub begun_ends : (frame now : Frame Global) (mid new : Kept Global) (u w : Option (List ℕ)) → HasBegun frame now mid u → HasWrittenElement by now None mid new u w
+      → HasWrittenAll by (Hypercall frame) old new v w
   begun_ends frame now mid new u w begun told =
       let last : Entry Global = record { event = element by now; reply = told.reply } in
       let all = elements_by frame begun.before now begun.elements in

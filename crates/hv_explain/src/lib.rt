@@ -1,5 +1,5 @@
-//! The events of a script in words: a line for each, with the call or the access, its answer, and for a refusal
-//! the rule that failed and the values that decided.
+//! The events of a script in words: a line for each, with the call or the access, its answer, and for a
+//! refusal the rule that failed and the values that decided.
 //!
 //! [`explain_text`] runs a script's lines in their order and explains each event as it happens. Its contract
 //! says that what is run is the run, and that each event has one line, which begins with its number and its

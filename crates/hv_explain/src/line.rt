@@ -5,10 +5,10 @@ ghost use Rattle.hv_history.specs.Kept.{HasGained, IsRun};
 ghost use Rattle.hv_policy.specs.Next.{GoesOn};
 ghost use Rattle.hv_run.specs.Failure.{exit_of};
 ghost use Rattle.hv_words.specs.Words.{IsPlain};
-ghost use Rattle.hv_explain.specs.Told.{HasToldOne, head_text};
+ghost use Rattle.hv_explain.specs.Written.{HasWrittenOne, head_text};
 
 use hv_history::Kept;
-use hv_phases::Unfinished;
+use hv_phases::RunError;
 use hv_policy::{Action, Caller, Event, Reply};
 use hv_reasons::push_event;
 use hv_run::{Exit, Failure};
@@ -29,7 +29,8 @@ pub fn explain_event<W: Write>(
     room: &mut Words,
     out: &mut W,
 ) -> Result<Reply, Failure>
-    ensures told { IfOk result (λ reply. HasToldOne by what.now reply kept.old kept.new (W.contents out.old)
+    ensures told { IfOk result (λ reply. HasWrittenOne by what.now reply kept.old kept.new
+        (W.contents out.old)
         (W.contents out.new)) }
     ensures next { IfOk result (GoesOn what.now) }
     ensures run { IsRun kept.new }
@@ -50,7 +51,8 @@ fn happen(
     by: Caller,
     what: &Action<Global>,
 ) -> Result<(u64, Reply), Failure>
-    ensures applied { IfOk result (λ r. HasGained (record { by = by; what = what.now }) r.1 kept.old kept.new) }
+    ensures applied { IfOk result (λ r. HasGained (record { by = by; what = what.now }) r.1 kept.old kept.new)
+        }
     ensures number { IfOk result (λ r. r.0 ≡ 1 + length kept.old.history) }
     ensures next { IfOk result (λ r. GoesOn what.now r.1) }
     ensures run { IsRun kept.new }
@@ -63,7 +65,7 @@ fn happen(
     };
     match kept.apply(Event { by, what }) {
         Ok(happened) => Ok(happened),
-        Err(why) => Err(Failure::from(Unfinished::Host(why))),
+        Err(why) => Err(Failure::from(RunError::Host(why))),
     }
 }
 

@@ -3,7 +3,7 @@ ghost use Rattle.std.specs.Prelude.{◌≡◌, IfErr, IfOk, OnOk};
 ghost use Rattle.hv_history.specs.Kept.{IsRun};
 ghost use Rattle.hv_policy.specs.declared.event.Action.TheVariants.{Hypercall};
 ghost use Rattle.hv_run.specs.Failure.{exit_of};
-ghost use Rattle.hv_explain.specs.Told.{HasToldAll, HasToldElement, HasToldLines};
+ghost use Rattle.hv_explain.specs.Written.{HasWrittenAll, HasWrittenElement, HasWrittenLines};
 
 use crate::line::explain_event;
 use hv_abi::Frame;
@@ -22,7 +22,7 @@ pub fn explain_lines<W: Write>(
     lines: &[Line<Global>],
     out: &mut W,
 ) -> Result<(), Failure>
-    ensures told { OnOk result (HasToldLines lines.now kept.old kept.new (W.contents out.old)
+    ensures told { OnOk result (HasWrittenLines lines.now kept.old kept.new (W.contents out.old)
         (W.contents out.new)) }
     ensures run { IsRun kept.new }
     ensures host { IfErr result (λ failure. exit_of failure ≡ Exit.Host) }
@@ -43,7 +43,8 @@ fn explain_line<W: Write>(
     room: &mut Words,
     out: &mut W,
 ) -> Result<(), Failure>
-    ensures told { OnOk result (HasToldAll line.now.by line.now.action kept.old kept.new (W.contents out.old)
+    ensures told { OnOk result (HasWrittenAll line.now.by line.now.action kept.old kept.new
+        (W.contents out.old)
         (W.contents out.new)) }
     ensures run { IsRun kept.new }
     ensures host { IfErr result (λ failure. exit_of failure ≡ Exit.Host) }
@@ -65,7 +66,7 @@ fn explain_call<W: Write>(
     room: &mut Words,
     out: &mut W,
 ) -> Result<(), Failure>
-    ensures told { OnOk result (HasToldAll by (Hypercall frame.now) kept.old kept.new (W.contents out.old)
+    ensures told { OnOk result (HasWrittenAll by (Hypercall frame.now) kept.old kept.new (W.contents out.old)
         (W.contents out.new)) }
     ensures run { IsRun kept.new }
     ensures host { IfErr result (λ failure. exit_of failure ≡ Exit.Host) }
@@ -93,7 +94,7 @@ fn explain_element<W: Write>(
     room: &mut Words,
     out: &mut W,
 ) -> Result<Option<u16>, Failure>
-    ensures told { IfOk result (λ next. HasToldElement by frame.now next kept.old kept.new
+    ensures told { IfOk result (λ next. HasWrittenElement by frame.now next kept.old kept.new
         (W.contents out.old) (W.contents out.new)) }
     ensures run { IsRun kept.new }
     ensures host { IfErr result (λ failure. exit_of failure ≡ Exit.Host) }

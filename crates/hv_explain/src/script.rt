@@ -3,7 +3,7 @@ ghost use Rattle.std.specs.Prelude.{◌≡◌, ◌≢◌, ◌<◌, length, IfErr
 ghost use Rattle.hv_run.specs.Failure.{exit_of};
 ghost use Rattle.hv_script.specs.Reading.{said};
 ghost use Rattle.hv_script.specs.declared.script.TheConstants.{MOST_BYTES as MOST};
-ghost use Rattle.hv_explain.specs.Told.{HasExplained, HasExplainedText};
+ghost use Rattle.hv_explain.specs.Written.{HasExplained, HasExplainedText};
 
 use crate::run::explain_lines;
 use hv_history::Kept;

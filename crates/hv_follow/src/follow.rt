@@ -12,9 +12,9 @@ use hv_words::Words;
 use std::alloc::Global;
 use std::io::Write;
 
-/// Explains the events of an audit in its order, each in a line on `out`. The audit may end early. Of one that
-/// isn't legal the first line that isn't is told on `out`, as a check tells it, and nothing else. A fault of the
-/// script, a refused boot and what the host lacks are told on `err`, in one line.
+/// Explains the events of an audit in its order, each in a line on `out`. The audit may end early. Of one
+/// that isn't legal the first line that isn't is told on `out`, as a check tells it, and nothing else. A
+/// fault of the script, a refused boot and what the host lacks are told on `err`, in one line.
 pub fn follow_text<W: Write, E: Write>(
     alloc: Global,
     script: &[u8],
@@ -107,7 +107,8 @@ fn step<W: Write>(
     Ok(())
 }
 
-// The processor of the first line of an audit, if it is the line of an event, and what stands behind the line.
+// The processor of the first line of an audit, if it is the line of an event, and what stands behind the
+// line.
 fn next_caller(audit: &[u8]) -> Option<(Caller, &[u8])>
     ensures { IfSome result (λ r. length r.1.now < length audit.now) }
 {

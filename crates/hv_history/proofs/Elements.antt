@@ -137,7 +137,8 @@ module _ {A : Type 0} where
           })
 
       -- or which happens
-      pub goes_on : (later : Reply) (new : Kept A) (count : ℕ) → count ≡ events + 1 → events ≢ most → IsTaken (element by (restart is.last next)) later now new → HasRunTo by frame later count most old new
+      pub goes_on : (later : Reply) (new : Kept A) (count : ℕ) → count ≡ events + 1 → events ≢ most → IsTaken (element by (restart is.last next)) later now new → HasRunTo by frame later count most old
+          new
       goes_on later new count counted fewer taken =
           let asked : IsTaken (element by (restart is.last (start_of is.last + 1))) later now new =
           subst (λ n. IsTaken (element by (restart is.last n)) later now new) goes.0 taken in

@@ -1,16 +1,16 @@
 -- Two histories that are runs answer members alike.
 use Rattle.std.proofs.Common.{◌≡◌, ℕ, Bool, cond, List, [], ◌∷◌, ◌++◌, length, refl, sym, subst, ap, ◌∙◌, arith}
 use Rattle.std.proofs.lemmas.List.{length-map, map-append}
-use Rattle.hv_isolation.proofs.Beside.{alike_of_same}
-use Rattle.hv_isolation.proofs.Runs.{replies_matched}
-use Rattle.hv_isolation.proofs.Sends.{chain}
-use Rattle.hv_isolation.specs.Alike.{AreAlike}
-use Rattle.hv_isolation.specs.Turns.{AreAnsweredAlike, IsReached, events_here, events_there, own_replies}
+use Rattle.hv_noninterference.proofs.Beside.{alike_of_same}
+use Rattle.hv_noninterference.proofs.Runs.{replies_matched}
+use Rattle.hv_noninterference.proofs.Sends.{chain}
+use Rattle.hv_noninterference.specs.Alike.{AreLowEquivalent}
+use Rattle.hv_noninterference.specs.Turns.{AreAnsweredAlike, IsReached, events_here, events_there, own_replies}
 use Rattle.hv_policy.specs.Boot.{boot}
 use Rattle.hv_policy.specs.Flat.{Flat}
 use Rattle.hv_policy.specs.Step.{run, run_from, step}
 use Rattle.hv_policy.specs.declared.event.Event.{Event}
-use Rattle.hv_machine.proofs.Confined.{flat_same}
+use Rattle.hv_machine.proofs.Integrity.{flat_same}
 use Rattle.hv_machine.specs.IsFlat.{IsFlat}
 use Rattle.hv_history.specs.Beside.{AreSideBySide, replies_to}
 use Rattle.hv_history.specs.Kept.{Kept, IsRun}
@@ -81,12 +81,13 @@ module _ {A : Type 0} (members : ℕ → Bool) (here there : Kept A) (is : IsRun
       ∙ sym (ap (own_replies members (events_of both.after_there)) (told there is_too both.before_there both.after_there both.is_there))
       ∙ own_is members both.after_there
 
-  pub left_alike : (one other : Flat) → IsFlat here.machine one → IsFlat there.machine other → AreAlike members one other
+  pub left_alike : (one other : Flat) → IsFlat here.machine one → IsFlat there.machine other → AreLowEquivalent members one other
   left_alike one other stands stands_too id own =
       let left : Flat = (run_from f (events_here both.turns)).0 in
       let left_too : Flat = (run_from g (events_there both.turns)).0 in
       let ends : IsFlat here.machine left = subst (λ events. IsFlat here.machine (run_from f events).0) both.events (ended here is both.before both.after both.is) in
-      let ends_too : IsFlat there.machine left_too = subst (λ events. IsFlat there.machine (run_from g events).0) both.events_too (ended there is_too both.before_there both.after_there both.is_there) in
+      let ends_too : IsFlat there.machine left_too = subst (λ events. IsFlat there.machine (run_from g events).0) both.events_too (ended there is_too both.before_there both.after_there both.is_there)
+      in
       let first = alike_of_same members one left (λ id own. flat_same here.machine one left stands ends id) id own in
       let last = alike_of_same members left_too other (λ id own. flat_same there.machine left_too other ends_too stands_too id) id own in
       chain members id one left other first (chain members id left left_too other (alike_after.1 id own) last)

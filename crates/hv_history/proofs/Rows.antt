@@ -36,7 +36,8 @@ placed_in heads more_heads outputs more_outputs rows hs outs placed =
     }) rows placed
 
 -- and one more is placed with them
-pub placed_more : (heads outputs more_outputs : ℕ) (rows : List Row) (row : Row) → outputs ≤ more_outputs → ArePlaced heads outputs rows → IsPlaced heads more_outputs row → ArePlaced heads more_outputs (rows ++ row ∷ [])
+pub placed_more : (heads outputs more_outputs : ℕ) (rows : List Row) (row : Row) → outputs ≤ more_outputs → ArePlaced heads outputs rows → IsPlaced heads more_outputs row → ArePlaced heads
+    more_outputs (rows ++ row ∷ [])
 placed_more heads outputs more_outputs rows row outs placed is =
     All-push (IsPlaced heads more_outputs) rows row (placed_in heads heads outputs more_outputs rows (omega arith) outs placed) is
 

@@ -1,8 +1,8 @@
 -- A run that goes on by one event.
 use Rattle.std.proofs.Common.{◌≡◌, ℕ, ◌≤◌, ◌<◌, List, [], ◌∷◌, ◌++◌, length, None, Ok, true, false, IsTrue, refl, sym, subst, ap, ◌∙◌, arith, length-append}
 use Rattle.std.proofs.lemmas.List.{length-map, map-append}
-use Rattle.hv_laws.proofs.Counted.{run_few}
-use Rattle.hv_laws.proofs.Replies.{goes_on}
+use Rattle.hv_invariants.proofs.Counted.{run_few}
+use Rattle.hv_invariants.proofs.Replies.{goes_on}
 use Rattle.hv_policy.specs.Boot.{boot}
 use Rattle.hv_policy.specs.BootFault.{boot_fault}
 use Rattle.hv_policy.specs.Flat.{Flat}

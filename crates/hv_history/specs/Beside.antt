@@ -1,7 +1,7 @@
 -- Two histories side by side.
 use Rattle.std.specs.Prelude.{◌≡◌, ℕ, if◌then◌else◌, Bool, List, [], ◌∷◌, ◌++◌}
-use Rattle.hv_isolation.specs.Alike.{AreAlike}
-use Rattle.hv_isolation.specs.Turns.{AreMatched, Turn, events_here, events_there}
+use Rattle.hv_noninterference.specs.Alike.{AreLowEquivalent}
+use Rattle.hv_noninterference.specs.Turns.{AreMatched, Turn, events_here, events_there}
 use Rattle.hv_policy.specs.Step.{run}
 use Rattle.hv_policy.specs.declared.reply.Reply.{Reply}
 use Rattle.hv_history.specs.Kept.{Kept}
@@ -12,10 +12,11 @@ use Rattle.hv_history.specs.declared.entry.Entry.{Entry}
 abbrev pub replies_to : {A : Type 0} → (ℕ → Bool) → List (Entry A) → List Reply
 replies_to members [] = []
 replies_to members (entry ∷ entries) =
-    if members entry.event.by.part then entry.reply ∷ replies_to members entries else replies_to members entries
+    if members entry.event.by.part then entry.reply ∷ replies_to members entries else replies_to members
+    entries
 
--- Two histories, each from some entry on: what came before left members alike, and then, turn by turn, members do the same, the same is
--- done to them, and they see alike what their events look at outside.
+-- Two histories, each from some entry on: what came before left members alike, and then, turn by turn,
+-- members do the same, the same is done to them, and they see alike what their events look at outside.
 pub record AreSideBySide {A : Type 0} (members : ℕ → Bool) (here there : Kept A) : Type 0 where
   pub before : List (Entry A)
   pub after : List (Entry A)
@@ -26,5 +27,7 @@ pub record AreSideBySide {A : Type 0} (members : ℕ → Bool) (here there : Kep
   pub is_there : there.history ≡ before_there ++ after_there
   pub events : events_of after ≡ events_here turns
   pub events_too : events_of after_there ≡ events_there turns
-  pub alike : AreAlike members (run here.config (events_of before)).0 (run there.config (events_of before_there)).0
-  pub matched : AreMatched members turns (run here.config (events_of before)).0 (run there.config (events_of before_there)).0
+  pub alike : AreLowEquivalent members (run here.config (events_of before)).0
+      (run there.config (events_of before_there)).0
+  pub matched : AreMatched members turns (run here.config (events_of before)).0
+      (run there.config (events_of before_there)).0

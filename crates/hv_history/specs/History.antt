@@ -17,7 +17,8 @@ entry_by e = entry_from e.by e.asked e.input.now e.answer e.output.now
 
 -- for how many more events there is room: each takes a row, a head and at most 256 bytes of output
 abbrev pub room_of : {A : Type 0} → History A → ℕ
-room_of h = min (min (vec_capacity h.rows - vec_len h.rows) (vec_capacity h.heads - vec_len h.heads)) ((vec_capacity h.outputs - vec_len h.outputs) / MOST_OUTPUT)
+room_of h = min (min (vec_capacity h.rows - vec_len h.rows) (vec_capacity h.heads - vec_len h.heads))
+    ((vec_capacity h.outputs - vec_len h.outputs) / MOST_OUTPUT)
 
 -- the head of the last event
 abbrev pub last_head : {A : Type 0} → History A → Event A

@@ -10,8 +10,8 @@ use Rattle.hv_policy.specs.declared.event.Action.TheVariants as action
 use Rattle.hv_policy.specs.declared.event.Caller.{Caller}
 use Rattle.hv_policy.specs.declared.event.Event.{Event}
 use Rattle.hv_policy.specs.declared.reply.Reply.{Reply}
-use Rattle.hv_history.specs.declared.entry.Asked.{Asked}
-use Rattle.hv_history.specs.declared.entry.Asked.TheVariants as asked
+use Rattle.hv_history.specs.declared.entry.Request.{Request}
+use Rattle.hv_history.specs.declared.entry.Request.TheVariants as asked
 use Rattle.hv_history.specs.declared.entry.Entry.{Entry}
 use Rattle.hv_history.specs.declared.row.Row.{Row}
 use Rattle.hv_history.specs.declared.row.TheConstants.{MOST_OUTPUT}
@@ -43,8 +43,9 @@ abbrev pub asking : {A : Type 0} → Event A → ℕ → Event A
 asking event rcx = record { by = event.by; what = with_rcx event.what rcx }
 
 -- what was asked for, with these bytes as the input list of a call
-abbrev pub action_of : {A : Type 0} → Asked → List ℕ → Action A
-action_of (asked.Hypercall rcx rdx r8) input = action.Hypercall (record { rcx = rcx; rdx = rdx; r8 = r8; input = input })
+abbrev pub action_of : {A : Type 0} → Request → List ℕ → Action A
+action_of (asked.Hypercall rcx rdx r8) input = action.Hypercall
+    (record { rcx = rcx; rdx = rdx; r8 = r8; input = input })
 action_of (asked.ReadMsr msr) input = action.ReadMsr msr
 action_of (asked.WriteMsr msr value) input = action.WriteMsr msr value
 action_of (asked.ReadSlot sint) input = action.ReadSlot sint
@@ -54,16 +55,21 @@ action_of (asked.ClearFlag sint flag) input = action.ClearFlag sint flag
 action_of asked.TakeInterrupt input = action.TakeInterrupt
 
 -- an event with its reply
-abbrev pub entry_from : {A : Type 0} → Caller → Asked → List ℕ → Answer → List ℕ → Entry A
-entry_from by asked input answer output = record { event = record { by = by; what = action_of asked input }; reply = reply_of answer output }
+abbrev pub entry_from : {A : Type 0} → Caller → Request → List ℕ → Answer → List ℕ → Entry A
+entry_from by asked input answer output = record {
+  event = record { by = by; what = action_of asked input };
+  reply = reply_of answer output;
+}
 
 -- the head at a place; a row names a place at which there is one
 abbrev pub head_at : {A : Type 0} → List (Event A) → ℕ → Event A
-head_at heads at = slice_index_or heads at (record { by = record { part = 0; vp = 0 }; what = action.TakeInterrupt })
+head_at heads at = slice_index_or heads at (record
+    { by = record { part = 0; vp = 0 }; what = action.TakeInterrupt })
 
 -- the last of some rows
 abbrev pub last_row : List Row → Row
-last_row rows = slice_index_or rows (length rows - 1) (record { rcx = 0; head = 0; output = 0; output_len = 0; answer = answer.Served })
+last_row rows = slice_index_or rows (length rows - 1)
+    (record { rcx = 0; head = 0; output = 0; output_len = 0; answer = answer.Served })
 
 -- so many of the bytes, from a place on
 abbrev pub bytes_at : List ℕ → ℕ → ℕ → List ℕ
@@ -71,7 +77,11 @@ bytes_at bytes start len = take len (drop start bytes)
 
 -- the event and the reply of a row, whose head is among the heads, and whose output is among the bytes
 abbrev pub entry_of : {A : Type 0} → List (Event A) → List ℕ → Row → Entry A
-entry_of heads outputs row = record { event = asking (head_at heads row.head) row.rcx; reply = reply_of row.answer (bytes_at outputs row.output row.output_len) }
+entry_of heads outputs row = record {
+  event = asking (head_at heads row.head) row.rcx;
+  reply = reply_of
+      row.answer (bytes_at outputs row.output row.output_len);
+}
 
 abbrev pub entries_of : {A : Type 0} → List (Event A) → List ℕ → List Row → List (Entry A)
 entries_of heads outputs rows = map (entry_of heads outputs) rows
@@ -82,8 +92,8 @@ events_of entries = map (λ entry. entry.event) entries
 abbrev pub replies_of : {A : Type 0} → List (Entry A) → List Reply
 replies_of entries = map (λ entry. entry.reply) entries
 
--- the row's head is one of so many, its output stands within so many bytes and is no longer than an output may be, and where its
--- call goes on, the next element has an index
+-- the row's head is one of so many, its output stands within so many bytes and is no longer than an output
+-- may be, and where its call goes on, the next element has an index
 pub record IsPlaced (heads outputs : ℕ) (row : Row) : Type 0 where
   pub head : row.head < heads
   pub output : row.output + row.output_len ≤ outputs

@@ -40,21 +40,25 @@ GoesOnAt start (Served output) = ⊥
 GoesOnAt start (Denied rule status reps) = ⊥
 GoesOnAt start (Fault rule) = ⊥
 
--- One entry for each element of a call: the first asks for the one at the frame's start index, and each later one for the one
--- after that of the entry before it. All are answered that the call goes on with the next element, and `now` is the frame that
--- asks for it.
+-- One entry for each element of a call: the first asks for the one at the frame's start index, and each later
+-- one for the one after that of the entry before it. All are answered that the call goes on with the next
+-- element, and `now` is the frame that asks for it.
 abbrev pub AreElements : {A : Type 0} → Caller → Frame A → List (Entry A) → Frame A → Type 0
 AreElements by frame [] now = now ≡ frame
 AreElements by frame (e ∷ es) now =
-    (e.event ≡ element by frame) × GoesOnAt (start_of frame + 1) e.reply × AreElements by (restart frame (start_of frame + 1)) es now
+    (e.event ≡ element by frame) × GoesOnAt (start_of frame + 1) e.reply × AreElements by
+    (restart frame (start_of frame + 1)) es now
 
--- The history has so many elements of a call more, from this frame on, in order: all but the last are answered that the call
--- goes on, and the last, that of the frame `last`, has this reply. They are as many as there may be, or the call ended.
-pub record HasRun {A : Type 0} (by : Caller) (frame : Frame A) (reply : Reply) (events most : ℕ) (old new : Kept A) : Type 0 where
+-- The history has so many elements of a call more, from this frame on, in order: all but the last are
+-- answered that the call goes on, and the last, that of the frame `last`, has this reply. They are as many as
+-- there may be, or the call ended.
+pub record HasRun {A : Type 0} (by : Caller) (frame : Frame A) (reply : Reply) (events most : ℕ)
+    (old new : Kept A) : Type 0 where
   pub before : List (Entry A)
   pub last : Frame A
   pub elements : AreElements by frame before last
-  pub history : new.history ≡ old.history ++ (before ++ record { event = element by last; reply = reply } ∷ [])
+  pub history : new.history ≡ old.history ++ (before ++ record { event = element by last; reply = reply } ∷
+      [])
   pub config : new.config ≡ old.config
   pub limit : new.limit ≡ old.limit
   pub count : events ≡ length before + 1
@@ -64,9 +68,10 @@ pub record HasRun {A : Type 0} (by : Caller) (frame : Frame A) (reply : Reply) (
   pub result : HasResult reply
   pub next : GoesOn (Hypercall last) reply
 
--- The history has so many elements of a call more, from this frame on, in order, all of which are answered that the call goes
--- on. They are fewer than there may be.
-pub record HasStopped {A : Type 0} (by : Caller) (frame : Frame A) (events most : ℕ) (old new : Kept A) : Type 0 where
+-- The history has so many elements of a call more, from this frame on, in order, all of which are answered
+-- that the call goes on. They are fewer than there may be.
+pub record HasStopped {A : Type 0} (by : Caller) (frame : Frame A) (events most : ℕ) (old new : Kept A) : Type
+    0 where
   pub before : List (Entry A)
   pub now : Frame A
   pub elements : AreElements by frame before now

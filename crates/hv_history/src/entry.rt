@@ -13,7 +13,7 @@ pub struct Entry<A: Allocator> {
 
 /// What an event asked for, but for the bytes of a call's input list.
 #[derive(Clone, Copy, PartialEq, Eq, Debug)]
-pub enum Asked {
+pub enum Request {
     /// A simple hypercall, or the element of a rep hypercall at its start index: the registers of its frame.
     Hypercall { rcx: u64, rdx: u64, r8: u64 },
     /// A read of a model-specific register.
@@ -32,30 +32,30 @@ pub enum Asked {
     TakeInterrupt,
 }
 
-impl Asked {
+impl Request {
     ghost use Rattle.hv_history.specs.Row.{action_of, with_rcx};
 
-    // What an action asks for, with this RCX where it is a call, and the bytes of its input list. An access has
-    // none.
-    pub(crate) fn of<A: Allocator>(what: &Action<A>, rcx: u64) -> (Asked, &[u8])
+    // What an action asks for, with this RCX where it is a call, and the bytes of its input list. An access
+    // has none.
+    pub(crate) fn of<A: Allocator>(what: &Action<A>, rcx: u64) -> (Request, &[u8])
         ensures { action_of result.0 result.1.now ≡ with_rcx what.now rcx }
     {
         match what {
             Action::Hypercall(frame) => (
-                Asked::Hypercall {
+                Request::Hypercall {
                     rcx,
                     rdx: frame.rdx,
                     r8: frame.r8,
                 },
                 frame.input.as_slice(),
             ),
-            Action::ReadMsr(msr) => (Asked::ReadMsr(*msr), &[]),
-            Action::WriteMsr(msr, value) => (Asked::WriteMsr(*msr, *value), &[]),
-            Action::ReadSlot(sint) => (Asked::ReadSlot(*sint), &[]),
-            Action::ClearSlot(sint) => (Asked::ClearSlot(*sint), &[]),
-            Action::ReadFlags(sint) => (Asked::ReadFlags(*sint), &[]),
-            Action::ClearFlag(sint, flag) => (Asked::ClearFlag(*sint, *flag), &[]),
-            Action::TakeInterrupt => (Asked::TakeInterrupt, &[]),
+            Action::ReadMsr(msr) => (Request::ReadMsr(*msr), &[]),
+            Action::WriteMsr(msr, value) => (Request::WriteMsr(*msr, *value), &[]),
+            Action::ReadSlot(sint) => (Request::ReadSlot(*sint), &[]),
+            Action::ClearSlot(sint) => (Request::ClearSlot(*sint), &[]),
+            Action::ReadFlags(sint) => (Request::ReadFlags(*sint), &[]),
+            Action::ClearFlag(sint, flag) => (Request::ClearFlag(*sint, *flag), &[]),
+            Action::TakeInterrupt => (Request::TakeInterrupt, &[]),
         }
     }
 }
@@ -65,7 +65,7 @@ impl Asked {
 pub struct EntryRef<'h> {
     /// The processor that asked.
     pub by: Caller,
-    pub asked: Asked,
+    pub asked: Request,
     /// The bytes of the input list of a call. An access has none.
     pub input: &'h [u8],
     pub answer: Answer,
@@ -91,14 +91,14 @@ impl<'h> EntryRef<'h> {
             ≡ action_of other.now.asked other.now.input.now) }
     {
         match self.asked {
-            Asked::Hypercall { .. } => self.asked == other.asked && self.input == other.input,
-            Asked::ReadMsr(_)
-            | Asked::WriteMsr(_, _)
-            | Asked::ReadSlot(_)
-            | Asked::ClearSlot(_)
-            | Asked::ReadFlags(_)
-            | Asked::ClearFlag(_, _)
-            | Asked::TakeInterrupt => self.asked == other.asked,
+            Request::Hypercall { .. } => self.asked == other.asked && self.input == other.input,
+            Request::ReadMsr(_)
+            | Request::WriteMsr(_, _)
+            | Request::ReadSlot(_)
+            | Request::ClearSlot(_)
+            | Request::ReadFlags(_)
+            | Request::ClearFlag(_, _)
+            | Request::TakeInterrupt => self.asked == other.asked,
         }
     }
 

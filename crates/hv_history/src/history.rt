@@ -10,7 +10,7 @@ ghost use Rattle.hv_history.specs.declared.entry.Entry.{Entry};
 ghost use Rattle.hv_policy.specs.Parts.{next_in, reply_of};
 ghost use Rattle.hv_policy.specs.declared.event.Action.TheVariants.{Hypercall};
 
-use crate::entry::{Asked, EntryRef};
+use crate::entry::{EntryRef, Request};
 use crate::row::{History, MOST_OUTPUT, Row};
 use hv_abi::Frame;
 use hv_machine::{Action, Answer, Caller, Event};
@@ -47,7 +47,7 @@ impl<A: Allocator> History<A> {
     {
         let row = self.rows[at];
         let head = &self.heads[row.head];
-        let (asked, input) = Asked::of(&head.what, row.rcx);
+        let (asked, input) = Request::of(&head.what, row.rcx);
         EntryRef {
             by: head.by,
             asked,

@@ -12,7 +12,7 @@ ghost use Rattle.hv_policy.specs.Result.{HasResult};
 ghost use Rattle.hv_policy.specs.Step.{NamesAsked};
 ghost use Rattle.hv_policy.specs.declared.event.Action.TheVariants.{Hypercall};
 ghost use Rattle.hv_history.specs.History.{entries};
-ghost use Rattle.hv_history.specs.Justified.{IsJustified, deeds_in, states_in};
+ghost use Rattle.hv_history.specs.Justified.{IsJustified, operations_in, states_in};
 ghost use Rattle.hv_history.specs.Kept.{HasGained, IsRun, IsTaken};
 ghost use Rattle.hv_history.specs.Run.{element, restart};
 ghost use Rattle.hv_history.specs.declared.entry.Entry.{Entry};
@@ -98,7 +98,7 @@ impl<A: Allocator + Clone> Kept<A> {
         ensures number { IfOk result (λ r. r.0 ≡ length self.new.history) }
         ensures run { IsRun self.new }
 
-        // A full history takes no event, before any rule. Else the host wants memory, for the machine or
+        // A full history takes no event, before any rule. Else the host needs memory, for the machine or
         // for the history.
         ensures full { IsErrOf result HostRefused.HistoryFull ↔ (length self.old.history ≡ self.old.limit) }
         ensures refused { OnErr result (self.new ≡ self.old) }
@@ -169,7 +169,8 @@ impl<A: Allocator> Kept<A> {
         ensures machine { result.now ≡ self.now.machine }
         ensures run { IsRun self.now }
         ensures masks { AreMasksWithin self.now.machine.rows }
-        ensures justified { IsJustified (states_in self.now.config self.now.history) (deeds_in self.now.history)
+        ensures justified { IsJustified (states_in self.now.config self.now.history)
+            (operations_in self.now.history)
             self.now.machine.rows }
     {
         &self.machine

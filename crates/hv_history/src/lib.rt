@@ -14,7 +14,7 @@ mod row;
 mod run;
 
 pub use beside::members_are_answered_alike;
-pub use entry::{Asked, Entry, EntryRef};
+pub use entry::{Entry, EntryRef, Request};
 pub use hv_machine::Answer;
 pub use kept::{HostRefused, Kept, answer_of};
 pub use row::History;

@@ -33,7 +33,7 @@ impl<A: Allocator + Clone> Kept<A> {
         // Each reply is that of the run.
         ensures run { IsRun self.new }
 
-        // The host refuses an element for a full history where there is one, and else for want of memory.
+        // The host refuses an element for a full history where there is one, and else for lack of memory.
         ensures full { IfErr result.last (λ why. (why ≡ HostRefused.HistoryFull)
             ↔ (length self.new.history ≡ self.new.limit)) }
     {

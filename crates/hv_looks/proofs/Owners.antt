@@ -6,10 +6,10 @@ use Rattle.std.specs.Option.{option_map}
 use Rattle.hv_defs.specs.declared.sizes.TheConstants.{MAX_PAGES}
 use Rattle.hv_partition.specs.Partition.{PartitionState}
 use Rattle.hv_policy.specs.Flat.{Flat, PageRow}
-use Rattle.hv_tie.proofs.Held.{held_alone, held_by_owner}
-use Rattle.hv_tie.proofs.Lawful.{page_below}
-use Rattle.hv_tie.specs.Served.{AreLawful}
-use Rattle.hv_tie.specs.Tie.{IsTied, holds, is_held}
+use Rattle.hv_refine.proofs.Held.{held_alone, held_by_owner}
+use Rattle.hv_refine.proofs.StateInvariant.{page_below}
+use Rattle.hv_refine.specs.Served.{TreeInvariant}
+use Rattle.hv_refine.specs.Tie.{Refines, holds, is_held}
 use Rattle.hv_tree.specs.Rows.{Row, Rows, content}
 use Rattle.hv_looks.specs.Look.{owner_seen}
 use Rattle.hv_looks.specs.Rows.{has_page}
@@ -34,7 +34,7 @@ kind_has page (Some r) true held = by (set.contains r.1.loose.pages page)
     by true = refl
     by false = held
 
-module _ (rows : Rows PartitionState) (f : Flat) (flat : IsTied rows f) (page : ℕ) where
+module _ (rows : Rows PartitionState) (f : Flat) (flat : Refines rows f) (page : ℕ) where
   -- the partition that has it is its owner
   pub owner_is : (id : ℕ) → has_page page (content rows id) ≡ true → Some id ≡ owner_seen f page
   owner_is id has = (let (kind, held) = has_kind page (get rows id) has in by (get f.page page) refl kind ((flat.rows id).page page kind ∙ held))
@@ -65,7 +65,7 @@ has_there rows page id has = by (get rows id) has
     by (Some r) has = refl
 
 -- no page has a number past the most pages
-pub too_high : (rows : Rows PartitionState) (law : AreLawful rows) (f : Flat) → IsTied rows f → (page : ℕ) → MAX_PAGES ≤ page → None ≡ owner_seen f page
+pub too_high : (rows : Rows PartitionState) (law : TreeInvariant rows) (f : Flat) → Refines rows f → (page : ℕ) → MAX_PAGES ≤ page → None ≡ owner_seen f page
 too_high rows law f flat page le = by (get f.page page) refl
   where
     by : (row : Option PageRow) → get f.page page ≡ row → None ≡ owner_seen f page

@@ -4,23 +4,23 @@ use Rattle.std.specs.FinMap.{contains_key, get}
 use Rattle.std.specs.FinMap as map
 use Rattle.std.specs.FinSet as set
 use Rattle.std.specs.Option.{option_map, option_and_then}
-use Rattle.hv_life.proofs.Depths.{has_depth}
-use Rattle.hv_life.proofs.Listed.{next_is, id_or_0}
+use Rattle.hv_partition_calls.proofs.Depths.{has_depth}
+use Rattle.hv_partition_calls.proofs.Listed.{next_is, id_or_0}
 use Rattle.hv_partition.specs.Partition.{PartitionState, in_use}
 use Rattle.hv_policy.specs.Answer.{next_child}
 use Rattle.hv_policy.specs.Flat.{Flat, PartRow}
 use Rattle.hv_privs.specs.declared.Privileges.{Privileges}
-use Rattle.hv_tie.proofs.Counted.{children_counted, conns_counted, pool_counted, ports_counted, use_counted, vps_counted}
-use Rattle.hv_tie.proofs.Found.{content_row}
-use Rattle.hv_tie.proofs.Lawful.{parents_below}
-use Rattle.hv_tie.specs.Served.{AreLawful}
-use Rattle.hv_tie.specs.Tie.{IsTied, conn_row, conn_row_of, part_row, port_row, port_row_of}
+use Rattle.hv_refine.proofs.Counted.{children_counted, conns_counted, pool_counted, ports_counted, use_counted, vps_counted}
+use Rattle.hv_refine.proofs.Found.{content_row}
+use Rattle.hv_refine.proofs.StateInvariant.{parents_below}
+use Rattle.hv_refine.specs.Served.{TreeInvariant}
+use Rattle.hv_refine.specs.Tie.{Refines, conn_row, conn_row_of, part_row, port_row, port_row_of}
 use Rattle.hv_tree.specs.Rows.{HasDepth, IsLeastAbove, Row, Rows, children, content, parent}
 use Rattle.hv_looks.specs.Look.{child_seen, features_seen, leaf_of, look_of, partition_seen}
 use Rattle.hv_looks.specs.declared.partitions.PartitionLook.{PartitionLook}
 
 -- a partition whose content is there has a row, and a flat one
-module _ (rows : Rows PartitionState) (f : Flat) (flat : IsTied rows f) (id : ℕ) where
+module _ (rows : Rows PartitionState) (f : Flat) (flat : Refines rows f) (id : ℕ) where
   none : None ≡ content rows id → get f.part id ≡ None
   none gone = (flat.rows id).part ∙ by (get rows id) gone
     where
@@ -97,7 +97,7 @@ module _ (rows : Rows PartitionState) (f : Flat) (flat : IsTied rows f) (id : �
       conns = map.len p.conns.rows;
     }
 
-    pub look_is : AreLawful rows → (above : Option ℕ) (depth count : ℕ) → above ≡ parent rows id → HasDepth rows id depth → count ≡ length (children rows id)
+    pub look_is : TreeInvariant rows → (above : Option ℕ) (depth count : ℕ) → above ≡ parent rows id → HasDepth rows id depth → count ≡ length (children rows id)
         → Some (kept_look above depth count) ≡ partition_seen f id
     look_is law above depth count named deep counted =
         let (r, there, same) = found in

@@ -9,19 +9,19 @@ use Rattle.hv_defs.specs.declared.sizes.TheConstants.{SINTS}
 use Rattle.hv_mail.specs.Mail.{at}
 use Rattle.hv_mail.specs.Slot.{slot_bytes}
 use Rattle.hv_machine.specs.IsFlat.{IsFlat}
-use Rattle.hv_machine.specs.Lasting.{IsLasting}
+use Rattle.hv_machine.specs.MachineInvariant.{MachineInvariant}
 use Rattle.hv_machine.specs.State.{State}
 use Rattle.hv_partition.specs.Partition.{PartitionState}
 use Rattle.hv_policy.specs.Answer.{register_of}
 use Rattle.hv_policy.specs.Flat.{Flat}
 use Rattle.hv_policy.specs.Mail.{place_at, slot_at}
 use Rattle.hv_policy.specs.declared.event.Caller.{Caller}
-use Rattle.hv_tie.proofs.Mailed.{slot_told}
-use Rattle.hv_tie.proofs.Room.{tied_roomless}
-use Rattle.hv_tie.proofs.Staff.{vp_in}
-use Rattle.hv_tie.specs.Room.{roomless}
-use Rattle.hv_tie.specs.Served.{AreLawful}
-use Rattle.hv_tie.specs.Tie.{IsTied, part_row, vp_row, vp_row_of}
+use Rattle.hv_refine.proofs.Mailed.{slot_told}
+use Rattle.hv_refine.proofs.Room.{tied_roomless}
+use Rattle.hv_refine.proofs.Staff.{vp_in}
+use Rattle.hv_refine.specs.Room.{roomless}
+use Rattle.hv_refine.specs.Served.{TreeInvariant}
+use Rattle.hv_refine.specs.Tie.{Refines, part_row, vp_row, vp_row_of}
 use Rattle.hv_tree.specs.Rows.{Row, Rows}
 use Rattle.hv_vp.specs.Vp.{VpState}
 use Rattle.hv_looks.specs.Look.{at_sint, flags_seen, msr_seen, slot_seen, vp_at}
@@ -29,14 +29,14 @@ use Rattle.hv_looks.specs.Rows.{vp_of, vp_there}
 
 -- the tree of a machine is tied to what the machine stands for, and its rows are lawful
 module _ (tree : Rows PartitionState) (m : State) (seen : roomless tree ≡ m.rows) where
-  pub tree_tied : (f : Flat) → IsFlat m f → IsTied tree f
-  tree_tied f flat = tied_roomless tree f (subst (λ (rows : Rows PartitionState). IsTied rows f) (sym seen) flat.tied)
+  pub tree_tied : (f : Flat) → IsFlat m f → Refines tree f
+  tree_tied f flat = tied_roomless tree f (subst (λ (rows : Rows PartitionState). Refines rows f) (sym seen) flat.tied)
 
-  pub tree_lawful : IsLasting m → AreLawful tree
+  pub tree_lawful : MachineInvariant m → TreeInvariant tree
   tree_lawful l = record { pages = m.pages; bounded = l.bounded; flat = l.flat; tied = tree_tied l.flat l.stands; lawful = l.lawful }
 
   -- each id is below the next one
-  pub tree_below : IsLasting m → (id : ℕ) → contains_key tree id ≡ true → id < m.next
+  pub tree_below : MachineInvariant m → (id : ℕ) → contains_key tree id ≡ true → id < m.next
   tree_below l id there = by (get tree id) refl there
     where
       by : (r : Option (Row PartitionState)) → get tree id ≡ r → is_some r ≡ true → id < m.next
@@ -50,7 +50,7 @@ past_sint sint shown le = ap (λ b. cond b shown None) (sym (le-ltb sint SINTS l
 pub at_its_sint : {X : Type 0} (sint : ℕ) (shown : Option X) → sint < SINTS → shown ≡ at_sint sint shown
 at_its_sint sint shown lt = ap (λ b. cond b shown None) (sym (lt-ltb sint SINTS lt))
 
-module _ (rows : Rows PartitionState) (f : Flat) (flat : IsTied rows f) (of : Caller) where
+module _ (rows : Rows PartitionState) (f : Flat) (flat : Refines rows f) (of : Caller) where
   by_row : (r : Option (Row PartitionState)) → vp_row of.vp r ≡ option_map vp_row_of (vp_of of.vp (option_map (λ r. r.1) r))
   by_row None = refl
   by_row (Some r) = refl

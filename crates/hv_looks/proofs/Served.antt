@@ -53,7 +53,8 @@ module _ (A : Type 0) (f : Flat) (of : Caller) where
           → IsSomeAnd (option_map (to_le_bytes w64) (option_and_then (λ row. option_map (register_of (Some row)) name) row)) (λ bytes. (step f (event (ReadMsr msr))).1 ≡ Served bytes)
       by None is name named there known = cc
       by (Some row) is None named there known = cc
-      by (Some row) is (Some name) named there known = told (ReadMsr msr) met ∙ ap (λ (row : Option VpRow). Served (to_le_bytes w64 (msr_of row (name_of_msr msr)))) is ∙ ap (λ (name : Option ℕ). Served (to_le_bytes w64 (msr_of (Some row) name))) named
+      by (Some row) is (Some name) named there known = told (ReadMsr msr) met ∙ ap (λ (row : Option VpRow). Served (to_le_bytes w64 (msr_of row (name_of_msr msr)))) is ∙ ap
+          (λ (name : Option ℕ). Served (to_le_bytes w64 (msr_of (Some row) name))) named
 
   pub pending_served : ShowsServed f (event TakeInterrupt) (option_map highest_of (pending_seen f of))
   pending_served met = (let all = all_met (asks f (event TakeInterrupt)) met in by (vp_at f of) refl all.1.1.0)

@@ -1,5 +1,6 @@
 -- What looks show of a flat state. A look is no event: it asks nothing of a caller, and changes nothing.
-use Rattle.std.specs.Prelude.{◌≡◌, ℕ, ◌^◌, ◌/◌, ◌%◌, nat_lt, if◌then◌else◌, List, [], ◌∷◌, Option, None, Some, IsSomeAnd, option_and_then}
+use Rattle.std.specs.Prelude.{◌≡◌, ℕ, ◌^◌, ◌/◌, ◌%◌, nat_lt, if◌then◌else◌, List, [], ◌∷◌, Option, None, Some}
+use Rattle.std.specs.Prelude.{IsSomeAnd, option_and_then}
 use Rattle.std.specs.FinMap.{get}
 use Rattle.std.specs.Option.{option_map, option_map_or}
 use Rattle.hv_defs.specs.Flags.{flag_bytes}
@@ -37,7 +38,8 @@ flags_seen f of sint = at_sint sint (option_map (λ row. flag_bytes row.flags si
 
 -- the value of one of its model-specific registers, where there is one with this number
 abbrev pub msr_seen : Flat → Caller → ℕ → Option ℕ
-msr_seen f of msr = option_and_then (λ row. option_map (register_of (Some row)) (name_of_msr msr)) (vp_at f of)
+msr_seen f of msr = option_and_then (λ row. option_map (register_of (Some row)) (name_of_msr msr))
+    (vp_at f of)
 
 -- the vectors that are pending at a processor
 abbrev pub pending_seen : Flat → Caller → Option VectorSet
@@ -69,7 +71,8 @@ look_of f id row = record {
 abbrev pub partition_seen : Flat → ℕ → Option PartitionLook
 partition_seen f id = option_map (look_of f id) (get f.part id)
 
--- the least id above `previous` among a partition's children, 0 if there is none, where the partition is there
+-- the least id above `previous` among a partition's children, 0 if there is none, where the partition is
+-- there
 abbrev pub child_seen : Flat → ℕ → ℕ → Option ℕ
 child_seen f parent previous = option_map (λ row. next_child f parent previous) (get f.part parent)
 

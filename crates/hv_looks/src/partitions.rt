@@ -2,8 +2,8 @@
 ghost use Rattle.std.specs.Prelude.{◌≡◌};
 ghost use Rattle.hv_machine.specs.IsFlat.{IsFlat};
 ghost use Rattle.hv_policy.specs.Flat.{Flat};
-ghost use Rattle.hv_tie.specs.Served.{AreLawful};
-ghost use Rattle.hv_tie.specs.Tie.{IsTied};
+ghost use Rattle.hv_refine.specs.Served.{TreeInvariant};
+ghost use Rattle.hv_refine.specs.Tie.{Refines};
 ghost use Rattle.hv_tree.specs.Rows.{content};
 ghost use Rattle.hv_looks.specs.Look.{child_seen, owner_seen, partition_seen};
 ghost use Rattle.hv_looks.specs.Rows.{has_page as has_page_of};
@@ -13,7 +13,7 @@ use hv_defs::{Life, MAX_PAGES};
 use hv_machine::Machine;
 use hv_partition::PageKind;
 use hv_privs::Privileges;
-use hv_tie::Partitions;
+use hv_refine::Partitions;
 use std::alloc::Allocator;
 
 // No page has a number as high.
@@ -52,8 +52,8 @@ pub fn partition<A: Allocator>(machine: &Machine<A>, id: u64) -> Option<Partitio
 }
 
 fn partition_in<A: Allocator>(tree: &Partitions<A>, id: u64) -> Option<PartitionLook>
-    requires { AreLawful tree.now }
-    ensures { (f : Flat) → IsTied tree.now f → result ≡ partition_seen f id }
+    requires { TreeInvariant tree.now }
+    ensures { (f : Flat) → Refines tree.now f → result ≡ partition_seen f id }
 {
     let Some(partition) = tree.get(id) else {
         return None;

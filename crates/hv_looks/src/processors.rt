@@ -6,14 +6,15 @@ ghost use Rattle.hv_machine.specs.Access.{access_event};
 ghost use Rattle.hv_machine.specs.IsFlat.{IsFlat};
 ghost use Rattle.hv_mail.specs.Words.{numbers_of};
 ghost use Rattle.hv_policy.specs.Flat.{Flat};
-ghost use Rattle.hv_policy.specs.declared.event.Access.TheVariants.{ReadFlags, ReadMsr, ReadSlot, TakeInterrupt};
-ghost use Rattle.hv_tie.specs.Tie.{IsTied};
+ghost use Rattle.hv_policy.specs.declared.event.Access.TheVariants.{ReadFlags, ReadMsr, ReadSlot};
+ghost use Rattle.hv_policy.specs.declared.event.Access.TheVariants.{TakeInterrupt};
+ghost use Rattle.hv_refine.specs.Tie.{Refines};
 ghost use Rattle.hv_looks.specs.Look.{ShowsServed, flags_seen, highest_of, msr_seen, pending_seen, slot_seen};
 
 use crate::tree::{tree_of, vp_at};
 use hv_defs::SINTS;
 use hv_machine::{Caller, Machine};
-use hv_tie::Partitions;
+use hv_refine::Partitions;
 use hv_vp::name_of_msr;
 use std::alloc::Allocator;
 
@@ -59,7 +60,7 @@ pub fn pending<A: Allocator>(machine: &Machine<A>, of: Caller) -> Option<[u64; 4
 }
 
 fn slot_in<A: Allocator>(tree: &Partitions<A>, of: Caller, sint: u8) -> Option<[u8; 256]>
-    ensures { (f : Flat) → IsTied tree.now f → result ≡ slot_seen f of sint }
+    ensures { (f : Flat) → Refines tree.now f → result ≡ slot_seen f of sint }
 {
     if u32::from(sint) >= SINTS {
         return None;
@@ -71,7 +72,7 @@ fn slot_in<A: Allocator>(tree: &Partitions<A>, of: Caller, sint: u8) -> Option<[
 }
 
 fn flags_in<A: Allocator>(tree: &Partitions<A>, of: Caller, sint: u8) -> Option<[u8; 256]>
-    ensures { (f : Flat) → IsTied tree.now f → result ≡ flags_seen f of sint }
+    ensures { (f : Flat) → Refines tree.now f → result ≡ flags_seen f of sint }
 {
     if u32::from(sint) >= SINTS {
         return None;
@@ -83,7 +84,7 @@ fn flags_in<A: Allocator>(tree: &Partitions<A>, of: Caller, sint: u8) -> Option<
 }
 
 fn pending_in<A: Allocator>(tree: &Partitions<A>, of: Caller) -> Option<[u64; 4]>
-    ensures { (f : Flat) → IsTied tree.now f → option_map numbers_of result ≡ pending_seen f of }
+    ensures { (f : Flat) → Refines tree.now f → option_map numbers_of result ≡ pending_seen f of }
 {
     match vp_at(tree, of) {
         Some(vp) => Some(vp.pending()),
@@ -92,7 +93,7 @@ fn pending_in<A: Allocator>(tree: &Partitions<A>, of: Caller) -> Option<[u64; 4]
 }
 
 fn msr_in<A: Allocator>(tree: &Partitions<A>, of: Caller, msr: u32) -> Option<u64>
-    ensures { (f : Flat) → IsTied tree.now f → result ≡ msr_seen f of msr }
+    ensures { (f : Flat) → Refines tree.now f → result ≡ msr_seen f of msr }
 {
     let Some(vp) = vp_at(tree, of) else {
         return None;

@@ -4,20 +4,20 @@ ghost use Rattle.std.specs.FinMap.{contains_key};
 ghost use Rattle.std.specs.Option.{option_copied};
 ghost use Rattle.hv_machine.specs.IsFlat.{IsFlat};
 ghost use Rattle.hv_policy.specs.Flat.{Flat};
-ghost use Rattle.hv_tie.specs.Served.{AreLawful};
-ghost use Rattle.hv_tie.specs.Tie.{IsTied};
+ghost use Rattle.hv_refine.specs.Served.{TreeInvariant};
+ghost use Rattle.hv_refine.specs.Tie.{Refines};
 ghost use Rattle.hv_looks.specs.Rows.{vp_there};
 
 use hv_machine::{Caller, Machine};
-use hv_tie::Partitions;
+use hv_refine::Partitions;
 use hv_vp::Vp;
 use std::alloc::Allocator;
 
-// The partitions, tied to each flat state that the machine stands for. Their rows are those of a lawful one, and
-// their ids are below the next one.
+// The partitions, tied to each flat state that the machine stands for. Their rows are those of a lawful one,
+// and their ids are below the next one.
 pub(crate) fn tree_of<A: Allocator>(machine: &Machine<A>) -> &Partitions<A>
-    ensures tied { (f : Flat) → IsFlat machine.now f → IsTied result.now f }
-    ensures lawful { AreLawful result.now }
+    ensures tied { (f : Flat) → IsFlat machine.now f → Refines result.now f }
+    ensures lawful { TreeInvariant result.now }
     ensures below { (id : ℕ) → contains_key result.now id ≡ true → id < machine.now.next }
 {
     // Proof: that a machine stands for a lawful state is told with its count.

@@ -1,10 +1,10 @@
--- From what a chapter made of an access to the machine.
+-- From what a call group made of an access to the machine.
 use Rattle.std.proofs.Common.{◌≡◌, ℕ, ◌+◌, List, Option, None, refl, sym, ap, subst, ◌∙◌}
 use Rattle.std.specs.declared.result.Result.TheVariants.{Ok, Err}
 use Rattle.hv_defs.specs.Registers.{name_of_msr}
-use Rattle.hv_laws.proofs.Counted.{action_served}
-use Rattle.hv_laws.proofs.Ended.{write_next_is}
-use Rattle.hv_laws.proofs.Laws.{lawful_effect}
+use Rattle.hv_invariants.proofs.Counted.{action_served}
+use Rattle.hv_invariants.proofs.Ended.{write_next_is}
+use Rattle.hv_invariants.proofs.Laws.{lawful_effect}
 use Rattle.hv_partition.specs.Partition.{PartitionState}
 use Rattle.hv_policy.proofs.Unmet.{past_caller}
 use Rattle.hv_policy.specs.Call.{action_of}
@@ -19,15 +19,15 @@ use Rattle.hv_policy.specs.declared.event.Caller.{Caller}
 use Rattle.hv_policy.specs.declared.event.Event.{Event}
 use Rattle.hv_policy.specs.declared.reply.Reply.TheVariants.{Served, Fault}
 use Rattle.hv_policy.specs.declared.rule.Rule.{Rule}
-use Rattle.hv_tie.proofs.Room.{roomless_tied}
-use Rattle.hv_tie.specs.Access.{IsAnswered}
-use Rattle.hv_tie.specs.Tie.{IsTied}
+use Rattle.hv_refine.proofs.Room.{roomless_tied}
+use Rattle.hv_refine.specs.Access.{IsAnswered}
+use Rattle.hv_refine.specs.Tie.{Refines}
 use Rattle.hv_tree.specs.Rows.{Rows}
 use Rattle.hv_machine.proofs.Serving.{state_of, tied_tree}
 use Rattle.hv_machine.proofs.Steps.{answered, denied}
 use Rattle.hv_machine.specs.Access.{access_event}
 use Rattle.hv_machine.specs.IsFlat.{IsFlat}
-use Rattle.hv_machine.specs.Lasting.{IsLasting}
+use Rattle.hv_machine.specs.MachineInvariant.{MachineInvariant}
 use Rattle.hv_machine.specs.Step.{IsStep}
 
 -- an access that is an event's
@@ -55,7 +55,8 @@ module _ (A : Type 0) where
 
 module _ (A : Type 0) (tree new : Rows PartitionState) (pages next served : ℕ) (by : Caller) (access : Access) where
   -- the machine after an access stands for what the policy makes of each flat state that it stood for
-  pub accessed_flat : (f : Flat) → IsFlat (state_of tree pages next served) f → IsTied new (action_effect {A = A} f by (action_of access)) → IsFlat (state_of new pages next (served + 1)) (counted (action_effect {A = A} f by (action_of access)))
+  pub accessed_flat : (f : Flat) → IsFlat (state_of tree pages next served) f → Refines new (action_effect {A = A} f by (action_of access)) → IsFlat (state_of new pages next (served + 1))
+      (counted (action_effect {A = A} f by (action_of access)))
   accessed_flat f flat tied =
       let shown = roomless_tied new (action_effect {A = A} f by (action_of access)) tied in
       record {
@@ -65,7 +66,8 @@ module _ (A : Type 0) (tree new : Rows PartitionState) (pages next served : ℕ)
       }
 
   -- and that is lawful
-  pub accessed_lasting : (l : IsLasting (state_of tree pages next served)) → unmet l.flat (access_event {A = A} by access) ≡ None → IsTied new (action_effect {A = A} l.flat by (action_of access)) → IsLasting (state_of new pages next (served + 1))
+  pub accessed_lasting : (l : MachineInvariant (state_of tree pages next served)) → unmet l.flat (access_event {A = A} by access) ≡ None → Refines new
+      (action_effect {A = A} l.flat by (action_of access)) → MachineInvariant (state_of new pages next (served + 1))
   accessed_lasting l met tied = record {
     flat = counted (action_effect {A = A} l.flat by (action_of access));
     stands = accessed_flat l.flat l.stands tied;
@@ -74,17 +76,20 @@ module _ (A : Type 0) (tree new : Rows PartitionState) (pages next served : ℕ)
   }
 
   -- so an access is a step where it is served, and where a rule refuses it
-  pub served_step : IsLasting (state_of tree pages next served) → (output : List ℕ) → ((f : Flat) → IsTied tree f → IsAnswered {A = A} f by (action_of access) tree (Ok output) new)
+  pub served_step : MachineInvariant (state_of tree pages next served) → (output : List ℕ) → ((f : Flat) → Refines tree f → IsAnswered {A = A} f by (action_of access) tree (Ok output) new)
       → IsStep {A = A} (access_event by access) (state_of tree pages next served) (Ok (Served output)) (state_of new pages next (served + 1))
   served_step l output done =
       let tied = tied_tree tree pages next served in
       let met = λ (f : Flat) (flat : IsFlat (state_of tree pages next served) f). unmet_own A f by access None (done f (tied f flat)).0 (done f (tied f flat)).1.met in
       answered (access_event {A = A} by access) (state_of tree pages next served) l (Served output) (state_of new pages next (served + 1))
       (accessed_lasting l (met l.flat l.stands) (done l.flat (tied l.flat l.stands)).1.rows) refl
-      (λ f flat. let step_is = served_access A f by access (met f flat) in
-      ((done f (tied f flat)).1.reply ∙ sym (ap (λ s. s.1) step_is), subst (IsFlat (state_of new pages next (served + 1))) (sym (ap (λ s. s.0) step_is)) (accessed_flat f flat (done f (tied f flat)).1.rows)))
+      (λ f flat. let step_is = served_access A f by access (met f flat) in (
+        (done f (tied f flat)).1.reply ∙ sym (ap (λ s. s.1) step_is),
+        subst (IsFlat (state_of new pages next (served + 1))) (sym (ap (λ s. s.0) step_is))
+            (accessed_flat f flat (done f (tied f flat)).1.rows),
+      ))
 
-  pub refused_step : IsLasting (state_of tree pages next served) → (rule : Rule) → ((f : Flat) → IsTied tree f → IsAnswered {A = A} f by (action_of access) tree (Err rule) new)
+  pub refused_step : MachineInvariant (state_of tree pages next served) → (rule : Rule) → ((f : Flat) → Refines tree f → IsAnswered {A = A} f by (action_of access) tree (Err rule) new)
       → IsStep {A = A} (access_event by access) (state_of tree pages next served) (Ok (Fault rule)) (state_of new pages next served)
   refused_step l rule kept =
       let tied = tied_tree tree pages next served in

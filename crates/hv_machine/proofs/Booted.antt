@@ -6,7 +6,7 @@ use Rattle.std.specs.FinMap.{get, empty, get-empty}
 use Rattle.std.specs.Option.{option_map}
 use Rattle.std.specs.Ordering.{nat_cmp}
 use Rattle.hv_defs.proofs.Maps.{get_at-insert}
-use Rattle.hv_laws.proofs.Booting.{fits_most, fits_pages, lawful_boot, page_at, part_at, vp_at}
+use Rattle.hv_invariants.proofs.Booting.{fits_most, fits_pages, lawful_boot, page_at, part_at, vp_at}
 use Rattle.hv_partition.specs.Partition.{PartitionState}
 use Rattle.hv_policy.specs.Boot.{boot, boot_page, root_row, start_vp}
 use Rattle.hv_policy.specs.BootFault.{boot_fault}
@@ -14,14 +14,14 @@ use Rattle.hv_defs.specs.Flags.{pair_cmp}
 use Rattle.hv_policy.specs.declared.config.Config.{Config}
 use Rattle.hv_policy.specs.Mail.{mail_at}
 use Rattle.hv_mail.specs.Mail.{no_mail}
-use Rattle.hv_tie.proofs.Room.{roomless_tied}
-use Rattle.hv_tie.proofs.Staff.{new_mail}
-use Rattle.hv_tie.specs.Room.{roomless}
-use Rattle.hv_tie.specs.Tie.{IsTied, Shows, conn_row, conn_row_of, here, holds, is_held, mail_there, part_row, port_row, port_row_of, rows_of, sint_mail, vp_row, vp_row_of}
+use Rattle.hv_refine.proofs.Room.{roomless_tied}
+use Rattle.hv_refine.proofs.Staff.{new_mail}
+use Rattle.hv_refine.specs.Room.{roomless}
+use Rattle.hv_refine.specs.Tie.{Refines, PartitionRelation, conn_row, conn_row_of, here, holds, is_held, mail_there, part_row, port_row, port_row_of, rows_of, sint_mail, vp_row, vp_row_of}
 use Rattle.hv_tree.specs.Rows.{Row, Rows}
 use Rattle.hv_machine.specs.BootTree.{IsBootTree}
 use Rattle.hv_machine.specs.IsFlat.{IsFlat}
-use Rattle.hv_machine.specs.Lasting.{IsLasting}
+use Rattle.hv_machine.specs.MachineInvariant.{MachineInvariant}
 use Rattle.hv_machine.specs.State.{State}
 use Rattle.hv_vp.specs.Vp.{new_vp}
 
@@ -80,7 +80,8 @@ module _ (config : Config) (rows : Rows PartitionState) (made : IsBootTree confi
   shown_part id false is = part_at config id ∙ ap (λ b. cond b (Some (root_row config.mask)) None) is
 
   shown_page : (id : ℕ) (b : Bool) → id == 1 ≡ b → (page : ℕ) (pooled : Bool) → is_held id pooled (get (boot config).page page) ≡ holds pooled page (root_only b)
-  shown_page id true is page true = ap (is_held id true) (page_at config page) ∙ pool_seen config.pool config.pages id page true (nat_eq_equiv.symm 1 id ∙ is) (fits_pages config sane) ∙ sym (made.root.pooled page)
+  shown_page id true is page true = ap (is_held id true) (page_at config page) ∙ pool_seen config.pool config.pages id page true (nat_eq_equiv.symm 1 id ∙ is) (fits_pages config sane) ∙ sym
+      (made.root.pooled page)
   shown_page id true is page false = ap (is_held id false) (page_at config page) ∙ loose_seen config.pool config.pages id page true (nat_eq_equiv.symm 1 id ∙ is) ∙ sym (made.root.loose page)
   shown_page id false is page true = ap (is_held id true) (page_at config page) ∙ pool_seen config.pool config.pages id page false (nat_eq_equiv.symm 1 id ∙ is) (fits_pages config sane)
   shown_page id false is page false = ap (is_held id false) (page_at config page) ∙ loose_seen config.pool config.pages id page false (nat_eq_equiv.symm 1 id ∙ is)
@@ -90,7 +91,8 @@ module _ (config : Config) (rows : Rows PartitionState) (made : IsBootTree confi
   row_if index false = refl
 
   shown_vp : (id : ℕ) (b : Bool) → id == 1 ≡ b → (index : ℕ) → get (boot config).vp (id, index) ≡ vp_row index (root_only b)
-  shown_vp id true is index = vp_at config id index ∙ ap (λ b. cond b (cond (nat_lt index config.vps) (Some (start_vp index)) None) None) is ∙ sym (ap (option_map vp_row_of) (made.root.vps index) ∙ row_if index (nat_lt index config.vps))
+  shown_vp id true is index = vp_at config id index ∙ ap (λ b. cond b (cond (nat_lt index config.vps) (Some (start_vp index)) None) None) is ∙ sym
+      (ap (option_map vp_row_of) (made.root.vps index) ∙ row_if index (nat_lt index config.vps))
   shown_vp id false is index = vp_at config id index ∙ ap (λ b. cond b (cond (nat_lt index config.vps) (Some (start_vp index)) None) None) is
 
   -- there are no ports and no connections
@@ -115,7 +117,7 @@ module _ (config : Config) (rows : Rows PartitionState) (made : IsBootTree confi
   shown_mail id true index sint = ap (rows_of (here id index sint)) (sym (ap (sint_mail sint) (made.root.vps index) ∙ none_there index sint (nat_lt index config.vps)))
   shown_mail id false index sint = refl
 
-  shown : (id : ℕ) → Shows (boot config) id (root_only (id == 1))
+  shown : (id : ℕ) → PartitionRelation (boot config) id (root_only (id == 1))
   shown id = record {
     part = shown_part id (id == 1) refl;
     page = shown_page id (id == 1) refl;
@@ -126,13 +128,13 @@ module _ (config : Config) (rows : Rows PartitionState) (made : IsBootTree confi
   }
 
   -- the tree that boot makes is tied to boot's flat state
-  booted_tied : IsTied rows (boot config)
-  booted_tied = record { rows = λ id. subst (λ r. Shows (boot config) id r) (sym (row_at id)) (shown id) }
+  booted_tied : Refines rows (boot config)
+  booted_tied = record { rows = λ id. subst (λ r. PartitionRelation (boot config) id r) (sym (row_at id)) (shown id) }
 
   -- so the machine that boots stands for it
   pub booted_flat : IsFlat (booted_state config rows) (boot config)
   booted_flat = record { tied = roomless_tied rows (boot config) booted_tied; next = refl; served = refl }
 
   -- and has what a machine keeps
-  pub booted_lasting : IsLasting (booted_state config rows)
+  pub booted_lasting : MachineInvariant (booted_state config rows)
   booted_lasting = record { flat = boot config; stands = booted_flat; lawful = lawful_boot config sane; bounded = fits_most config sane }

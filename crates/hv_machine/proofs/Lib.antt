@@ -1,7 +1,7 @@
 pub mod Accessing
 pub mod Booted
 pub mod Calls
-pub mod Confined
+pub mod Integrity
 pub mod Root
 pub mod Serving
 pub mod Sound

@@ -22,7 +22,8 @@ root_made config bare loose pooled staffed new first second third from to pool v
     let same_pool : staffed.pooled ≡ pooled.pooled = ap (λ (p : PartitionState). p.pooled) third in
     let same_loose : staffed.loose ≡ loose.loose = ap (λ (p : PartitionState). p.loose) third ∙ ap (λ (p : PartitionState). p.loose) second in
     record {
-      start = third ∙ ap (λ (p : PartitionState). record p { vps = staffed.vps }) (second ∙ ap (λ (p : PartitionState). record p { pooled = pooled.pooled }) (first ∙ ap (λ (p : PartitionState). record p { loose = loose.loose }) new))
+      start = third ∙ ap (λ (p : PartitionState). record p { vps = staffed.vps }) (second ∙ ap (λ (p : PartitionState). record p { pooled = pooled.pooled })
+          (first ∙ ap (λ (p : PartitionState). record p { loose = loose.loose }) new))
           ∙ (λ i. record (new_partition Active config.mask) { loose = sym same_loose i; pooled = sym same_pool i; vps = staffed.vps });
       loose = λ page. ap (λ (s : PagesAndRoom). set.contains s.pages page) same_loose ∙ from page;
       pooled = λ page. ap (λ (s : PagesAndRoom). set.contains s.pages page) same_pool ∙ to page ∙ ap (λ b. b && nat_lt page config.pool) (le-leb 0 page (omega arith));

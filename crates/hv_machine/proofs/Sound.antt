@@ -4,14 +4,14 @@ use Rattle.std.proofs.lemmas.Bool.{lt-ltb}
 use Rattle.std.specs.FinMap.{get}
 use Rattle.std.specs.Option.{option_map}
 use Rattle.hv_policy.specs.Flat.{PageRow}
-use Rattle.hv_tie.proofs.Held.{held_alone, held_by_owner}
-use Rattle.hv_tie.proofs.Lawful.{beyond, uses_within}
-use Rattle.hv_tie.specs.Tie.{is_held, part_row}
-use Rattle.hv_machine.specs.Lasting.{IsLasting}
+use Rattle.hv_refine.proofs.Held.{held_alone, held_by_owner}
+use Rattle.hv_refine.proofs.StateInvariant.{beyond, uses_within}
+use Rattle.hv_refine.specs.Tie.{is_held, part_row}
+use Rattle.hv_machine.specs.MachineInvariant.{MachineInvariant}
 use Rattle.hv_machine.specs.Sound.{IsHeldOnce, IsSound}
 use Rattle.hv_machine.specs.State.{State}
 
-module _ (m : State) (l : IsLasting m) where
+module _ (m : State) (l : MachineInvariant m) where
   once : (page : ℕ) (row : Option PageRow) → get l.flat.page page ≡ row → is_some row ≡ true → IsHeldOnce m page
   once page None is there = cc
   once page (Some row) is there = record {
@@ -27,5 +27,6 @@ module _ (m : State) (l : IsLasting m) where
     others = λ page id kind le. beyond m.rows l.flat l.stands.tied m.pages l.lawful id page kind le;
     within = λ id r is. uses_within m.rows l.flat l.stands.tied m.pages l.lawful id r is;
     masks = λ id parent child above is named there.
-        l.lawful.masks id parent (part_row child) (part_row above) ((l.stands.tied.rows id).part ∙ ap (option_map part_row) is) named ((l.stands.tied.rows parent).part ∙ ap (option_map part_row) there);
+        l.lawful.masks id parent (part_row child) (part_row above) ((l.stands.tied.rows id).part ∙ ap (option_map part_row) is) named
+        ((l.stands.tied.rows parent).part ∙ ap (option_map part_row) there);
   }

@@ -6,7 +6,7 @@ use Rattle.std.specs.declared.result.Result.TheVariants.{Ok, Err}
 use Rattle.hv_abi.specs.declared.frame.Frame.{Frame}
 use Rattle.hv_abi.specs.declared.frame.Shape.{Shape}
 use Rattle.hv_calls.specs.declared.call.Call.{Call}
-use Rattle.hv_laws.proofs.Replies.{has_result, names_asked}
+use Rattle.hv_invariants.proofs.Replies.{has_result, names_asked}
 use Rattle.hv_policy.specs.Answer.{output_of, reply_with}
 use Rattle.hv_policy.specs.Call.{IsCall, call_event, may_take_memory}
 use Rattle.hv_policy.specs.Effect.{counted, served_effect}
@@ -20,12 +20,12 @@ use Rattle.hv_policy.specs.declared.event.Caller.{Caller}
 use Rattle.hv_policy.specs.declared.event.Event.{Event}
 use Rattle.hv_policy.specs.declared.reply.Reply.{Reply}
 use Rattle.hv_policy.specs.declared.rule.Rule.{Rule}
-use Rattle.hv_tie.specs.Served.{unmet_further}
-use Rattle.hv_tie.specs.declared.refused.Refused.TheVariants as refused
-use Rattle.hv_machine.proofs.Confined.{nothing_is_confined, nothing_leaves, step_is_confined, step_leaves}
+use Rattle.hv_refine.specs.Served.{unmet_further}
+use Rattle.hv_refine.specs.declared.refused.CallError.TheVariants as refused
+use Rattle.hv_machine.proofs.Integrity.{nothing_is_confined, nothing_leaves, step_is_confined, step_leaves}
 use Rattle.hv_machine.proofs.Sound.{sound}
 use Rattle.hv_machine.specs.IsFlat.{IsFlat}
-use Rattle.hv_machine.specs.Lasting.{IsLasting}
+use Rattle.hv_machine.specs.MachineInvariant.{MachineInvariant}
 use Rattle.hv_machine.specs.Served.{IsDone, IsResult}
 use Rattle.hv_machine.specs.State.{State}
 use Rattle.hv_machine.specs.Step.{IsStep}
@@ -36,9 +36,9 @@ use Rattle.hv_machine.specs.declared.machine.HostRefused.TheVariants.{Memory}
 pub same_event : {A : Type 0} {e event : Event A} {old new : State} {became : Result Reply HostRefused} → e ≡ event → IsStep e old became new → IsStep event old became new
 same_event {old = old} {new = new} {became = became} is made = subst (λ e. IsStep e old became new) is made
 
-module _ {A : Type 0} (event : Event A) (old : State) (was : IsLasting old) where
+module _ {A : Type 0} (event : Event A) (old : State) (was : MachineInvariant old) where
   -- an event whose reply and state are those of the flat step was answered
-  pub answered : (reply : Reply) (new : State) → IsLasting new → new.pages ≡ old.pages
+  pub answered : (reply : Reply) (new : State) → MachineInvariant new → new.pages ≡ old.pages
       → ((f : Flat) → IsFlat old f → (reply ≡ (step f event).1) × IsFlat new (step f event).0) → IsStep event old (Ok reply) new
   answered reply new now pages is =
       let told : reply ≡ (step was.flat event).1 = (is was.flat was.stands).0 in
@@ -62,7 +62,7 @@ module _ {A : Type 0} (event : Event A) (old : State) (was : IsLasting old) wher
       → IsStep event old (Ok reply) new
   denied rule reply new first told same =
       let at = λ (f : Flat) (flat : IsFlat old f). ap (step_by f event) (first f flat) in
-      answered reply new (subst IsLasting (sym same) was) (ap (λ (m : State). m.pages) same)
+      answered reply new (subst MachineInvariant (sym same) was) (ap (λ (m : State). m.pages) same)
       (λ f flat. (told ∙ sym (ap (λ s. s.1) (at f flat)), subst (IsFlat new) (sym (ap (λ s. s.0) (at f flat))) (subst (λ m. IsFlat m f) (sym same) flat)))
 
   -- nor does one for which the host has no memory
@@ -77,15 +77,16 @@ module _ {A : Type 0} (event : Event A) (old : State) (was : IsLasting old) wher
     others = λ f g flat. nothing_leaves new event f g (subst (λ m. IsFlat m f) (sym same) flat);
     asked = tt;
     result = λ frame what. tt;
-    lasting = subst IsLasting (sym same) was;
+    lasting = subst MachineInvariant (sym same) was;
     pages = ap (λ (m : State). m.pages) same;
-    sound = sound new (subst IsLasting (sym same) was);
+    sound = sound new (subst MachineInvariant (sym same) was);
   }
 
-module _ {A : Type 0} (by : Caller) (frame : Frame A) (old : State) (was : IsLasting old) (shape : Shape) (call : Call) (is : IsCall frame shape call)
+module _ {A : Type 0} (by : Caller) (frame : Frame A) (old : State) (was : MachineInvariant old) (shape : Shape) (call : Call) (is : IsCall frame shape call)
     (further : (f : Flat) → IsFlat old f → unmet f (call_event by frame) ≡ unmet_further f by.part call) where
-  -- a call for which P1 to P10 are met, as its chapter served it
-  pub served_call : (reply : Reply) (bytes : List ℕ) (new : State) → ((f : Flat) → IsFlat old f → IsDone f by.part call bytes new) → reply ≡ reply_with frame bytes → IsLasting new → new.pages ≡ old.pages
+  -- a call for which P1 to P10 are met, as its call group served it
+  pub served_call : (reply : Reply) (bytes : List ℕ) (new : State) → ((f : Flat) → IsFlat old f → IsDone f by.part call bytes new) → reply ≡ reply_with frame bytes → MachineInvariant new → new.pages ≡
+      old.pages
       → IsStep (call_event by frame) old (Ok reply) new
   served_call reply bytes new done told now pages =
       let at = λ (f : Flat) (flat : IsFlat old f). ap (step_by f (call_event by frame)) (further f flat ∙ (done f flat).met) in

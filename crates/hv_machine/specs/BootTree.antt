@@ -11,8 +11,10 @@ use Rattle.hv_vp.specs.Vp.{new_vp}
 
 -- the root partition that boot makes: the first pages pooled, the others loose, and so many processors
 pub record IsBootRoot (config : Config) (p : PartitionState) : Type 0 where
-  pub start : p ≡ record (new_partition Active config.mask) { loose = p.loose; pooled = p.pooled; vps = p.vps }
-  pub loose : (page : ℕ) → set.contains p.loose.pages page ≡ nat_le config.pool page && nat_lt page config.pages
+  pub start : p ≡ record (new_partition Active config.mask)
+      { loose = p.loose; pooled = p.pooled; vps = p.vps }
+  pub loose : (page : ℕ) → set.contains p.loose.pages page ≡ nat_le config.pool page && nat_lt page
+      config.pages
   pub pooled : (page : ℕ) → set.contains p.pooled.pages page ≡ nat_lt page config.pool
   pub pool : set.len p.pooled.pages ≡ config.pool
   pub vps : (index : ℕ) → map.get p.vps.vps index ≡ cond (nat_lt index config.vps) (Some (new_vp index)) None

@@ -1,7 +1,7 @@
 pub mod Access
 pub mod BootTree
 pub mod IsFlat
-pub mod Lasting
+pub mod MachineInvariant
 pub mod Masks
 pub mod Next
 pub mod Served

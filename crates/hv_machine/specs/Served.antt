@@ -8,9 +8,9 @@ use Rattle.hv_policy.specs.Answer.{output}
 use Rattle.hv_policy.specs.Effect.{call_effect, counted}
 use Rattle.hv_policy.specs.Flat.{Flat}
 use Rattle.hv_policy.specs.Needs.{takes_memory, target_of}
-use Rattle.hv_tie.specs.Served.{unmet_further}
-use Rattle.hv_tie.specs.declared.refused.Refused.{Refused}
-use Rattle.hv_tie.specs.declared.refused.Refused.TheVariants.{Unmet, Memory}
+use Rattle.hv_refine.specs.Served.{unmet_further}
+use Rattle.hv_refine.specs.declared.refused.CallError.{CallError}
+use Rattle.hv_refine.specs.declared.refused.CallError.TheVariants.{Unmet, Memory}
 use Rattle.hv_machine.specs.IsFlat.{IsFlat}
 use Rattle.hv_machine.specs.State.{State}
 
@@ -20,8 +20,9 @@ pub record IsDone (f : Flat) (caller : ℕ) (call : Call) (bytes : List ℕ) (ne
   pub output : bytes ≡ output call f caller (target_of call caller)
   pub flat : IsFlat new (counted (call_effect call f caller (target_of call caller)))
 
--- it was served, or refused by its first unmet rule or for want of memory, and then nothing changed
-abbrev pub IsResult : Flat → ℕ → Call → State → Result (List ℕ) Refused → State → Type 0
+-- it was served, or refused by its first unmet rule or for lack of memory, and then nothing changed
+abbrev pub IsResult : Flat → ℕ → Call → State → Result (List ℕ) CallError → State → Type 0
 IsResult f caller call old (Ok bytes) new = IsDone f caller call bytes new
 IsResult f caller call old (Err (Unmet rule)) new = (unmet_further f caller call ≡ Some rule) × (new ≡ old)
-IsResult f caller call old (Err Memory) new = (unmet_further f caller call ≡ None) × (takes_memory (kind_of_call call) ≡ true) × (new ≡ old)
+IsResult f caller call old (Err Memory) new = (unmet_further f caller call ≡ None) ×
+    (takes_memory (kind_of_call call) ≡ true) × (new ≡ old)

@@ -1,10 +1,11 @@
--- What holds of every machine: each page has one owner, use is within the pool, masks are within the parent's.
+-- What holds of every machine: each page has one owner, use is within the pool, masks are within the
+-- parent's.
 use Rattle.std.specs.Prelude.{◌≡◌, ℕ, ◌≤◌, ◌<◌, Bool, true, false, length, Some}
 use Rattle.std.specs.FinMap.{get}
 use Rattle.std.specs.FinSet as set
 use Rattle.hv_partition.specs.Partition.{PartitionState, in_use}
 use Rattle.hv_tree.specs.Rows.{Row, children}
-use Rattle.hv_tie.specs.Tie.{holds}
+use Rattle.hv_refine.specs.Tie.{holds}
 use Rattle.hv_machine.specs.Masks.{AreMasksWithin}
 use Rattle.hv_machine.specs.State.{State}
 
@@ -15,10 +16,11 @@ pub record IsHeldOnce (m : State) (page : ℕ) : Type 0 where
   pub held : holds pooled page (get m.rows owner) ≡ true
   pub alone : (id : ℕ) (kind : Bool) → holds kind page (get m.rows id) ≡ true → (id ≡ owner) × (kind ≡ pooled)
 
--- each boot page stands in exactly one page set, and no other page in any; what a partition uses is at most what its
--- pool has; and it has no privilege that its parent lacks
+-- each boot page stands in exactly one page set, and no other page in any; what a partition uses is at most
+-- what its pool has; and it has no privilege that its parent lacks
 pub record IsSound (m : State) : Type 0 where
   pub once : (page : ℕ) → page < m.pages → IsHeldOnce m page
   pub others : (page id : ℕ) (kind : Bool) → m.pages ≤ page → holds kind page (get m.rows id) ≡ false
-  pub within : (id : ℕ) (r : Row PartitionState) → get m.rows id ≡ Some r → in_use (length (children m.rows id)) r.1 ≤ set.len r.1.pooled.pages
+  pub within : (id : ℕ) (r : Row PartitionState) → get m.rows id ≡ Some r → in_use
+      (length (children m.rows id)) r.1 ≤ set.len r.1.pooled.pages
   pub masks : AreMasksWithin m.rows

@@ -16,5 +16,8 @@ pub record State : Type 0 where
 -- such a state is stored as the tuple of its fields
 abbrev pub state_code : Coded State
 state_code =
-    code_by (Rows PartitionState × (ℕ × (ℕ × ℕ))) (coded× (map.code coded_ℕ (coded× (coded_option coded_ℕ) partition_code)) (coded× coded_ℕ (coded× coded_ℕ coded_ℕ)))
-    (λ s. (s.rows, (s.pages, (s.next, s.served)))) (λ t. record { rows = t.0; pages = t.1.0; next = t.1.1.0; served = t.1.1.1 }) (λ _. refl)
+    code_by (Rows PartitionState × (ℕ × (ℕ × ℕ))) (coded×
+    (map.code coded_ℕ (coded× (coded_option coded_ℕ) partition_code))
+    (coded× coded_ℕ (coded× coded_ℕ coded_ℕ)))
+    (λ s. (s.rows, (s.pages, (s.next, s.served))))
+    (λ t. record { rows = t.0; pages = t.1.0; next = t.1.1.0; served = t.1.1.1 }) (λ _. refl)

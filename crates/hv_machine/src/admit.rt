@@ -1,11 +1,11 @@
 // The rules up to P10, asked in the policy's order.
 ghost use Rattle.std.specs.Prelude.{◌≡◌, Some, IfOk, IfErr};
 ghost use Rattle.hv_abi.specs.Check.{IsShape, call_of};
-ghost use Rattle.hv_laws.specs.Bounded.{IsBounded};
+ghost use Rattle.hv_invariants.specs.Bounded.{IsBounded};
 ghost use Rattle.hv_policy.specs.Call.{IsCall, call_event};
 ghost use Rattle.hv_policy.specs.Flat.{Flat};
 ghost use Rattle.hv_policy.specs.Rules.{unmet};
-ghost use Rattle.hv_tie.specs.Served.{unmet_further};
+ghost use Rattle.hv_refine.specs.Served.{unmet_further};
 ghost use Rattle.hv_machine.specs.Access.{HasAccess};
 ghost use Rattle.hv_machine.specs.IsFlat.{IsFlat};
 
@@ -13,7 +13,7 @@ use crate::machine::Machine;
 use hv_abi::{CallKind, Frame, Shape};
 use hv_calls::Call;
 use hv_policy::{Caller, Rule, ask_frame};
-use hv_tie::{caller_in, unmet_by_target};
+use hv_refine::{caller_in, unmet_by_target};
 use std::alloc::Allocator;
 
 impl<A: Allocator> Machine<A> {

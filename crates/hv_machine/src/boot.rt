@@ -8,7 +8,7 @@ ghost use Rattle.hv_policy.specs.Boot.{boot as booted};
 ghost use Rattle.hv_policy.specs.BootFault.{boot_fault, IsBootRefusal};
 ghost use Rattle.hv_machine.specs.BootTree.{IsBootRoot, IsBootTree};
 ghost use Rattle.hv_machine.specs.IsFlat.{IsFlat};
-ghost use Rattle.hv_machine.specs.Lasting.{IsLasting};
+ghost use Rattle.hv_machine.specs.MachineInvariant.{MachineInvariant};
 ghost use Rattle.hv_machine.specs.Sound.{IsSound};
 ghost use Rattle.hv_vp.specs.Vp.{new_vp};
 
@@ -30,7 +30,7 @@ impl<A: Allocator + Copy> Machine<A> {
 
         // The state is lawful, so that what is said of each flat state that the machine stands for is
         // said of one.
-        ensures lasting { IfOk result IsLasting }
+        ensures lasting { IfOk result MachineInvariant }
         ensures sound { IfOk result IsSound }
     {
         check_config(config)?;

@@ -1,33 +1,33 @@
-// The calls and accesses, each to its chapter.
+// The calls and accesses, each to its call group.
 ghost use Rattle.std.specs.Prelude.{◌≡◌, ◌+◌, ◌-◌, ◌^◌, ◌<◌, []};
 ghost use Rattle.std.specs.Result.{result_map_both};
 ghost use Rattle.hv_defs.specs.declared.sizes.TheConstants.{MAX_SERVED};
 ghost use Rattle.hv_policy.specs.Call.{action_of};
 ghost use Rattle.hv_policy.specs.Flat.{Flat};
-ghost use Rattle.hv_tie.specs.Access.{IsAnswered};
-ghost use Rattle.hv_tie.specs.Served.{IsAdmitted, IsOutcome};
-ghost use Rattle.hv_tie.specs.Tie.{IsTied};
+ghost use Rattle.hv_refine.specs.Access.{IsAnswered};
+ghost use Rattle.hv_refine.specs.Served.{IsAdmitted, IsOutcome};
+ghost use Rattle.hv_refine.specs.Tie.{Refines};
 ghost use Rattle.hv_machine.specs.Next.{next_after as next_id_after};
 
 use hv_calls::Call;
-use hv_life::{
-    create_partition, delete_partition, finalize_partition, get_next_child_partition,
-    get_partition_id, initialize_partition,
-};
-use hv_links::{NewPort, connect_port, create_port, delete_port, disconnect_port};
 use hv_messages::{
     clear_flag, clear_slot, post_message, read_flags, read_slot, signal_event, take_interrupt,
 };
+use hv_partition_calls::{
+    create_partition, delete_partition, finalize_partition, get_next_child_partition,
+    get_partition_id, initialize_partition,
+};
 use hv_policy::{Access, CallOutput, Caller, Output, Rule};
 use hv_pools::{deposit_memory, get_memory_balance, withdraw_memory};
+use hv_port_calls::{NewPort, connect_port, create_port, delete_port, disconnect_port};
 use hv_processors::{
     create_vp, delete_vp, get_vp_registers, read_msr, set_vp_registers, write_msr,
 };
 use hv_properties::{get_partition_property, set_partition_property};
-use hv_tie::{Partitions, Refused};
+use hv_refine::{CallError, Partitions};
 use std::alloc::Allocator;
 
-// Hands a call for which P1 to P10 are met to its chapter. `next` is the id that the next partition gets,
+// Hands a call for which P1 to P10 are met to its call group. `next` is the id that the next partition gets,
 // and `served` how many events were served.
 // Inlined: calls for the own id in bench/embed.sh.
 #[inline(always)]
@@ -38,10 +38,10 @@ pub fn dispatch<A: Allocator + Clone>(
     next: u64,
     served: u64,
     call: &Call<'_>,
-) -> Result<CallOutput, Refused>
+) -> Result<CallOutput, CallError>
     requires admitted { (a : IsAdmitted tree.old caller call.now) × (a.rows.flat.next ≡ next) }
     requires count { served < MAX_SERVED }
-    ensures { (f : Flat) → IsTied tree.old f → f.next ≡ next → f.served ≡ served
+    ensures { (f : Flat) → Refines tree.old f → f.next ≡ next → f.served ≡ served
         → IsOutcome f caller call.now tree.old result tree.new }
 {
     match *call {
@@ -128,8 +128,8 @@ pub fn dispatch<A: Allocator + Clone>(
     }
 }
 
-// Hands an access to its chapter, which asks P1 to P3, too. What it puts out is added to an output that is empty
-// before.
+// Hands an access to its call group, which asks P1 to P3, too. What it puts out is added to an output that is
+// empty before.
 pub fn dispatch_access<A: Allocator>(
     tree: &mut Partitions<A>,
     by: Caller,
@@ -137,7 +137,7 @@ pub fn dispatch_access<A: Allocator>(
     output: &mut Output,
 ) -> Result<(), Rule>
     requires { output.old ≡ [] }
-    ensures { (f : Flat) → IsTied tree.old f → IsAnswered {A = A} f by (action_of access) tree.old
+    ensures { (f : Flat) → Refines tree.old f → IsAnswered {A = A} f by (action_of access) tree.old
         (result_map_both (λ _. output.new) (λ rule. rule) result) tree.new }
 {
     match access {

@@ -2,20 +2,20 @@
 ghost use Rattle.std.specs.Prelude.{◌≡◌, ◌<◌, [], None, IsTrue, IfOk, OnOk, OnErr};
 ghost use Rattle.hv_abi.specs.Check.{IsShape, call_of};
 ghost use Rattle.hv_abi.specs.declared.frame.Frame.{Frame as CallFrame};
-ghost use Rattle.hv_confine.specs.Confined.{IsConfined};
-ghost use Rattle.hv_laws.specs.Bounded.{IsBounded};
+ghost use Rattle.hv_integrity.specs.Integrity.{Integrity};
+ghost use Rattle.hv_invariants.specs.Bounded.{IsBounded};
 ghost use Rattle.hv_policy.specs.Call.{IsCall, call_event, may_take_memory};
 ghost use Rattle.hv_policy.specs.Flat.{Flat};
-ghost use Rattle.hv_isolation.specs.Misses.{LeavesOthers};
+ghost use Rattle.hv_noninterference.specs.Misses.{LeavesOthers};
 ghost use Rattle.hv_policy.specs.Result.{HasResult};
 ghost use Rattle.hv_policy.specs.Step.{NamesAsked, step};
 ghost use Rattle.hv_policy.specs.Rules.{unmet};
 ghost use Rattle.hv_policy.specs.declared.event.Action.TheVariants.{Hypercall};
-ghost use Rattle.hv_tie.specs.Room.{roomless};
-ghost use Rattle.hv_tie.specs.Served.{unmet_further};
+ghost use Rattle.hv_refine.specs.Room.{roomless};
+ghost use Rattle.hv_refine.specs.Served.{unmet_further};
 ghost use Rattle.hv_machine.specs.Access.{HasAccess, access_event, access_reply};
 ghost use Rattle.hv_machine.specs.IsFlat.{IsFlat};
-ghost use Rattle.hv_machine.specs.Lasting.{IsLasting};
+ghost use Rattle.hv_machine.specs.MachineInvariant.{MachineInvariant};
 ghost use Rattle.hv_machine.specs.Served.{IsResult};
 ghost use Rattle.hv_machine.specs.Sound.{IsSound};
 ghost use Rattle.hv_machine.specs.Step.{IsStep};
@@ -28,7 +28,7 @@ use hv_defs::MAX_SERVED;
 use hv_policy::{
     Access, CallOutput, CallReply, Caller, Event, Output, Reply, Rule, refused_reply, served_reply,
 };
-use hv_tie::{Partitions, Refused};
+use hv_refine::{CallError, Partitions};
 use std::alloc::Allocator;
 use std::marker::Model;
 
@@ -49,12 +49,13 @@ impl<A: Allocator> Model for Machine<A> {
 
     ghost coded = { state_code };
 
-    ghost use Rattle.hv_machine.specs.Lasting.{IsLasting};
-    ghost use Rattle.hv_tie.specs.Room.{roomless};
+    ghost use Rattle.hv_machine.specs.MachineInvariant.{MachineInvariant};
+    ghost use Rattle.hv_refine.specs.Room.{roomless};
 
-    ghost view = { λ m. record { rows = roomless m.tree; pages = m.pages; next = m.next; served = m.served } };
+    ghost view = { λ m. record { rows = roomless m.tree; pages = m.pages; next = m.next; served = m.served }
+        };
 
-    ghost invariant = { λ m. IsLasting (record {
+    ghost invariant = { λ m. MachineInvariant (record {
       rows = roomless m.tree;
       pages = m.pages;
       next = m.next;
@@ -90,7 +91,7 @@ impl<A: Allocator + Clone> Machine<A> {
 
         // Nothing changes of a partition that is neither the caller nor a child of it, before or after,
         // but for what a post or a signal adds where its connection's port aims.
-        ensures confined { (f g : Flat) → IsFlat self.old f → IsFlat self.new g → IsConfined event.now f g }
+        ensures confined { (f g : Flat) → IsFlat self.old f → IsFlat self.new g → Integrity event.now f g }
 
         // Nor of a partition that the event isn't about: that is neither its target nor made by it, nor
         // where it sends to, nor below a mask that it narrows, nor the caller where it moves the
@@ -104,7 +105,7 @@ impl<A: Allocator + Clone> Machine<A> {
         // The machine stands for a lawful flat state, so that what is said of each is said of one; each
         // boot page stays in exactly one page set, what is in use within what is pooled, and each mask
         // within the parent's.
-        ensures lasting { IsLasting self.new }
+        ensures lasting { MachineInvariant self.new }
         ensures pages { self.new.pages ≡ self.old.pages }
         ensures sound { IsSound self.new }
     {
@@ -129,8 +130,8 @@ impl<A: Allocator + Clone> Machine<A> {
         requires { self.old.served < MAX_SERVED }
         ensures { IsStep (call_event by frame.now) self.old result self.new }
     {
-        // A call that guests make again and again has a way of its own, on which it is known which one it is, so that
-        // the compiler leaves out what that tells. The others share the last.
+        // A call that guests make again and again has a way of its own, on which it is known which one it is,
+        // so that the compiler leaves out what that tells. The others share the last.
         match CallKind::of(InputValue::read(frame.rcx).call) {
             Some(CallKind::GetPartitionProperty) => self.take(
                 by,
@@ -207,13 +208,13 @@ impl<A: Allocator + Clone> Machine<A> {
         let _ = &self.tree;
         match self.serve(by, call) {
             Ok(output) => Ok(served_reply(frame, shape, output)),
-            Err(Refused::Unmet(rule)) => Ok(refused_reply(frame, rule)),
-            Err(Refused::Memory) => Err(HostRefused::Memory),
+            Err(CallError::Unmet(rule)) => Ok(refused_reply(frame, rule)),
+            Err(CallError::Memory) => Err(HostRefused::Memory),
         }
     }
 
-    /// Takes one access of a processor, as [`Machine::step`] takes it as an event, with the same promises. What
-    /// it puts out is added to `output`, which is empty before. The host refuses none.
+    /// Takes one access of a processor, as [`Machine::step`] takes it as an event, with the same promises.
+    /// What it puts out is added to `output`, which is empty before. The host refuses none.
     pub fn access(&mut self, by: Caller, access: Access, output: &mut Output) -> Result<(), Rule>
         requires count { self.old.served < MAX_SERVED }
         requires empty { output.old ≡ [] }
@@ -232,13 +233,13 @@ impl<A: Allocator + Clone> Machine<A> {
     // Serves a call for which P1 to P10 are met, where its own rules are met too.
     // Inlined: calls for the own id in bench/embed.sh.
     #[inline(always)]
-    fn serve(&mut self, by: Caller, call: &Call<'_>) -> Result<CallOutput, Refused>
+    fn serve(&mut self, by: Caller, call: &Call<'_>) -> Result<CallOutput, CallError>
         requires count { self.old.served < MAX_SERVED }
         requires bounded { IsBounded call.now }
         requires access { (f : Flat) → IsFlat self.old f → HasAccess f by.part call.now }
         ensures outcome { (f : Flat) → IsFlat self.old f
             → IsResult f by.part call.now self.old result self.new }
-        ensures lasting { IsLasting self.new }
+        ensures lasting { MachineInvariant self.new }
         ensures pages { self.new.pages ≡ self.old.pages }
     {
         match dispatch(
@@ -263,7 +264,7 @@ impl<A: Allocator> Machine<A> {
     /// How many events were served. Every machine stands for a lawful flat state.
     pub fn served(&self) -> u64
         ensures count { result ≡ self.now.served }
-        ensures lasting { IsLasting self.now }
+        ensures lasting { MachineInvariant self.now }
     {
         self.served
     }

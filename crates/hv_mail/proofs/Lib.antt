@@ -6,7 +6,7 @@ pub mod Opened
 pub mod Queues
 pub mod Quiet
 pub mod Rows
-pub mod Shows
+pub mod PartitionRelation
 pub mod SlotBytes
 pub mod Standing
 pub mod Totals

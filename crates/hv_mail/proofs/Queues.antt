@@ -64,7 +64,8 @@ roomy_set (q ∷ queues) (suc k) v r h =
     and_from q.room _ parts.0 (roomy_set queues k v r parts.1)
 
 -- one queue changed
-pub write_queue : (queues : List QueueState) (k : ℕ) (old new : QueueState) (f : SintMail → SintMail) → k < length queues → old ≡ get_or queues k old → new.mail ≡ f old.mail → mail_from 0 (set queues k new) ≡ with_at (mail_from 0 queues) k (f (at (mail_from 0 queues) k))
+pub write_queue : (queues : List QueueState) (k : ℕ) (old new : QueueState) (f : SintMail → SintMail) → k < length queues → old ≡ get_or queues k old → new.mail ≡ f old.mail → mail_from 0
+    (set queues k new) ≡ with_at (mail_from 0 queues) k (f (at (mail_from 0 queues) k))
 write_queue queues k old new f less is made =
     let there : at (mail_from 0 queues) k ≡ old.mail = ap (at (mail_from 0 queues)) (sym (zero-add k)) ∙ at-mail_from 0 queues k old less ∙ ap {A = QueueState} (λ q. q.mail) (sym is) in
     mail_from-set 0 queues k new less ∙ ap (λ n. with_at (mail_from 0 queues) n new.mail) (zero-add k)
@@ -75,7 +76,8 @@ pub read_queue : (queues : List QueueState) (k : ℕ) (old : QueueState) → k <
 read_queue queues k old less is = ap (at (mail_from 0 queues)) (sym (zero-add k)) ∙ at-mail_from 0 queues k old less ∙ ap {A = QueueState} (λ q. q.mail) (sym is)
 
 -- one queue more has room
-pub roomy_more : (queues : List QueueState) (i : ℕ) (v : QueueState) → i < length queues → list_all (λ q. q.room) (take i queues) ≡ true → v.room ≡ true → list_all (λ q. q.room) (take (suc i) (set queues i v)) ≡ true
+pub roomy_more : (queues : List QueueState) (i : ℕ) (v : QueueState) → i < length queues → list_all (λ q. q.room) (take i queues) ≡ true → v.room ≡ true → list_all (λ q. q.room)
+    (take (suc i) (set queues i v)) ≡ true
 roomy_more [] i v less h r = absurd (omega arith)
 roomy_more (q ∷ queues) zero v less h r = ap (λ b. b && true) r
 roomy_more (q ∷ queues) (suc i) v less h r =

@@ -6,4 +6,5 @@ use Rattle.hv_mail.specs.Words.{has_bit, keys_where}
 
 -- a flag of a SINT is bit sint * EVENT_FLAGS + flag
 unfoldable pub flags_of : List ℕ → FlagSet
-flags_of words = keys_where pair_cmp (λ k. (k / EVENT_FLAGS, k % EVENT_FLAGS)) (has_bit words) (64 * length words)
+flags_of words = keys_where pair_cmp (λ k. (k / EVENT_FLAGS, k % EVENT_FLAGS)) (has_bit words)
+    (64 * length words)

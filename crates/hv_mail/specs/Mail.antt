@@ -1,5 +1,6 @@
 -- What contracts see of a mailbox.
-use Rattle.std.specs.Prelude.{ℕ, zero, suc, ◌+◌, ◌==◌, ◌&&◌, Bool, true, false, if◌then◌else◌, List, [], ◌∷◌, ◌++◌, Option, None, Some, count_by, refl}
+use Rattle.std.specs.Prelude.{ℕ, zero, suc, ◌+◌, ◌==◌, ◌&&◌, Bool, true, false, if◌then◌else◌, List, [], ◌∷◌}
+use Rattle.std.specs.Prelude.{◌++◌, Option, None, Some, count_by, refl}
 use Rattle.std.specs.Coded.{Coded, code_by, coded×, coded_ℕ, coded_bool, coded_list, coded_option}
 use Rattle.std.specs.List.{sum_by}
 use Rattle.std.specs.Ordering.{nat_cmp}
@@ -7,7 +8,8 @@ use Rattle.std.specs.FinMap as map
 use Rattle.hv_mail.specs.Message.{message_code}
 use Rattle.hv_mail.specs.declared.message.Message.{Message}
 
--- what stands at one SINT: the message that its slot shows, if it shows one, and those that wait, the oldest first
+-- what stands at one SINT: the message that its slot shows, if it shows one, and those that wait, the oldest
+-- first
 pub record SintMail : Type 0 where
   pub slot : Option Message
   pub waiting : List Message

@@ -1,5 +1,6 @@
 -- What contracts see of one SINT's queue, and of all sixteen.
-use Rattle.std.specs.Prelude.{◌≡◌, ℕ, suc, ◌<◌, ◌==◌, ◌||◌, ◌&&◌, not, Bool, true, false, List, [], ◌∷◌, Some, None, length, refl}
+use Rattle.std.specs.Prelude.{◌≡◌, ℕ, suc, ◌<◌, ◌==◌, ◌||◌, ◌&&◌, not, Bool, true, false, List, [], ◌∷◌, Some}
+use Rattle.std.specs.Prelude.{None, length, refl}
 use Rattle.std.specs.Coded.{Coded, code_by, coded×, coded_bool}
 use Rattle.std.specs.FinMap as map
 use Rattle.std.specs.Int.{bit_at}
@@ -15,7 +16,8 @@ pub record QueueState : Type 0 where
 
 -- it is stored as the pair of its fields
 abbrev pub queue_code : Coded QueueState
-queue_code = code_by (SintMail × Bool) (coded× sint_mail_code coded_bool) (λ q. (q.mail, q.room)) (λ t. record { mail = t.0; room = t.1 }) (λ _. refl)
+queue_code = code_by (SintMail × Bool) (coded× sint_mail_code coded_bool) (λ q. (q.mail, q.room))
+    (λ t. record { mail = t.0; room = t.1 }) (λ _. refl)
 
 -- what stands at a SINT with these messages, the oldest first, of which the first may be shown
 abbrev pub standing : Bool → List Message → SintMail

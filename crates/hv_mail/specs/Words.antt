@@ -17,7 +17,8 @@ byte_of words i = slice_index words (i / 8) / 2 ^ (i % 8 * 8) % 256
 -- the keys of the places below n that pass the test
 unfoldable pub keys_where : {K : Type 0} → (R : K → K → Ordering) → (ℕ → K) → (ℕ → Bool) → ℕ → set.FinSet R
 keys_where R key test zero = set.empty
-keys_where R key test (suc n) = cond (test n) (set.insert (keys_where R key test n) (key n)) (keys_where R key test n)
+keys_where R key test (suc n) = cond (test n) (set.insert (keys_where R key test n) (key n))
+    (keys_where R key test n)
 
 -- the set whose number k is in where bit k of the words is 1
 unfoldable pub numbers_of : List ℕ → VectorSet

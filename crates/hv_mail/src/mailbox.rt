@@ -134,7 +134,8 @@ impl<A: Allocator> Mailbox<A> {
     /// where a message became shown at SINT n.
     pub fn advance_all(&mut self) -> u16
         ensures mail { self.new.mail ≡ all_next SINTS self.old.mail }
-        ensures shown { (sint : ℕ) → sint < SINTS → (bit_at result sint == 1) ≡ has_next (at self.old.mail sint) }
+        ensures shown { (sint : ℕ) → sint < SINTS → (bit_at result sint == 1) ≡ has_next
+            (at self.old.mail sint) }
         ensures kept { self.old.room ≡ true → self.new.room ≡ true }
     {
         let mut shown = 0;
@@ -146,7 +147,8 @@ impl<A: Allocator> Mailbox<A> {
         shown
     }
 
-    // Shows the oldest message that waits at a SINT, where one waits and none is shown. Says whether one became shown.
+    // Shows the oldest message that waits at a SINT, where one waits and none is shown. Says whether one
+    // became shown.
     fn advance(&mut self, sint: u8) -> bool
         requires { sint < SINTS }
         ensures mail { self.new.mail ≡ with_at self.old.mail sint (with_next (at self.old.mail sint)) }

@@ -1,4 +1,4 @@
--- The calls and accesses of this chapter, carried over to the flat state.
+-- The calls and accesses of this call group, carried over to the flat state.
 use Rattle.std.proofs.Common.{◌≡◌, ℕ, ◌+◌, ◌<◌, ◌≤◌, true, false, Bool, cond, is_some, List, [], ◌∷◌, Option, Some, None, refl, sym, ap, subst, ◌∙◌}
 use Rattle.std.proofs.lemmas.Bool.{eqb-true, false≢true}
 use Rattle.std.specs.FinMap.{contains_key, get}
@@ -14,7 +14,7 @@ use Rattle.hv_defs.specs.declared.sizes.TheConstants.{EVENT_FLAGS, SINTS}
 use Rattle.hv_mail.specs.Mail.{count_of}
 use Rattle.hv_mail.specs.declared.message.Message.{Message}
 use Rattle.hv_partition.specs.Partition.{PartitionState}
-use Rattle.hv_policy.specs.Aim.{Aimed, flag_taker, is_ready_for_flags, is_ready_for_messages, message_taker, taker}
+use Rattle.hv_policy.specs.Aim.{ResolvedPort, flag_taker, is_ready_for_flags, is_ready_for_messages, message_taker, select_vp}
 use Rattle.hv_policy.specs.Effect.{call_effect, post, post_at, post_to, signal_at, signal_to, with_vp}
 use Rattle.hv_policy.specs.Flat.{Flat, MailRow, VpRow}
 use Rattle.hv_policy.specs.Met.{is_running}
@@ -25,21 +25,21 @@ use Rattle.hv_policy.specs.Mail.{cleared, kept_of, place_at}
 use Rattle.hv_policy.specs.declared.event.Caller.{Caller}
 use Rattle.hv_ports.specs.declared.ports.Conn.{Conn}
 use Rattle.hv_ports.specs.declared.ports.Port.{Port}
-use Rattle.hv_tie.proofs.Kept.{kept_by_any, kept_by_one}
-use Rattle.hv_tie.proofs.Mailed.{flag_cleared_tied, interrupted_tied, posted_tied, signalled_tied, slot_cleared_tied}
-use Rattle.hv_tie.proofs.Staff.{vp_in, vp_there}
-use Rattle.hv_tie.proofs.Takers.{lowest_gone, lowest_there, one_there, taker_there}
-use Rattle.hv_tie.specs.Served.{AreLawful}
-use Rattle.hv_tie.specs.Tie.{IsTied, here, mail_row, port_row_of, vp_row_of}
-use Rattle.hv_tie.specs.Vp.{with_state_of}
+use Rattle.hv_refine.proofs.Kept.{kept_by_any, kept_by_one}
+use Rattle.hv_refine.proofs.Mailed.{flag_cleared_tied, interrupted_tied, posted_tied, signalled_tied, slot_cleared_tied}
+use Rattle.hv_refine.proofs.Staff.{vp_in, vp_there}
+use Rattle.hv_refine.proofs.Takers.{lowest_gone, lowest_there, one_there, taker_there}
+use Rattle.hv_refine.specs.Served.{TreeInvariant}
+use Rattle.hv_refine.specs.Tie.{Refines, here, mail_row, port_row_of, vp_row_of}
+use Rattle.hv_refine.specs.Vp.{with_state_of}
 use Rattle.hv_tree.specs.Rows.{Row, Rows, change, content}
 use Rattle.hv_vp.specs.Vps.{is_ready, kept_by_all, lowest}
 use Rattle.hv_vp.specs.Vp.{VpState, flag_cleared, interrupted, posted, signalled, slot_cleared}
-use Rattle.hv_messages.specs.Aimed.{IsReached, aim_row, taker_of}
+use Rattle.hv_messages.specs.ResolvedPort.{IsReached, aim_row, taker_of}
 use Rattle.hv_messages.specs.declared.aims.Target.{Target}
 
 -- where P3 is met, the processor that was looked up is the one that makes the access
-module _ (rows : Rows PartitionState) (f : Flat) (flat : IsTied rows f) (by : Caller) (v : VpState) where
+module _ (rows : Rows PartitionState) (f : Flat) (flat : Refines rows f) (by : Caller) (v : VpState) where
   p3_met : (p1 p2 p3 : Bool) → first_unmet ((CallerExists, p1) ∷ (CallerActive, p2) ∷ (CallerVpExists, p3) ∷ []) ≡ None → p3 ≡ true
   p3_met true true true met = refl
   p3_met true true false met = cc
@@ -55,40 +55,48 @@ module _ (rows : Rows PartitionState) (f : Flat) (flat : IsTied rows f) (by : Ca
           absurd (false≢true (sym none ∙ p3_met (contains_key f.part by.part) (is_running f by.part) (contains_key f.vp (by.part, by.vp)) met))
       found (Some r) is there = there
 
-module _ (rows new : Rows PartitionState) (f : Flat) (flat : IsTied rows f) (by : Caller) where
-  pub slot_gone : (sint : ℕ) → new ≡ change rows by.part (with_state_of by.vp (slot_cleared sint)) → IsTied new (record f { mail = cleared (place_at by sint) f.mail })
-  slot_gone sint is = subst (λ r. IsTied r (record f { mail = cleared (place_at by sint) f.mail })) (sym is) (slot_cleared_tied rows f flat by.part by.vp sint)
+module _ (rows new : Rows PartitionState) (f : Flat) (flat : Refines rows f) (by : Caller) where
+  pub slot_gone : (sint : ℕ) → new ≡ change rows by.part (with_state_of by.vp (slot_cleared sint)) → Refines new (record f { mail = cleared (place_at by sint) f.mail })
+  slot_gone sint is = subst (λ r. Refines r (record f { mail = cleared (place_at by sint) f.mail })) (sym is) (slot_cleared_tied rows f flat by.part by.vp sint)
 
-  pub flag_gone : (sint flag : ℕ) → new ≡ change rows by.part (with_state_of by.vp (flag_cleared sint flag)) → IsTied new (record f { vp = with_vp f.vp (by.part, by.vp) (λ row. record row { flags = set.remove row.flags (sint, flag) }) })
-  flag_gone sint flag is = subst (λ r. IsTied r (record f { vp = with_vp f.vp (by.part, by.vp) (λ row. record row { flags = set.remove row.flags (sint, flag) }) })) (sym is) (flag_cleared_tied rows f flat by.part by.vp sint flag)
+  pub flag_gone : (sint flag : ℕ) → new ≡ change rows by.part (with_state_of by.vp (flag_cleared sint flag)) → Refines new
+      (record f { vp = with_vp f.vp (by.part, by.vp) (λ row. record row { flags = set.remove row.flags (sint, flag) }) })
+  flag_gone sint flag is = subst (λ r. Refines r (record f { vp = with_vp f.vp (by.part, by.vp) (λ row. record row { flags = set.remove row.flags (sint, flag) }) })) (sym is)
+      (flag_cleared_tied rows f flat by.part by.vp sint flag)
 
-  pub vector_gone : new ≡ change rows by.part (with_state_of by.vp interrupted) → IsTied new (record f { vp = with_vp f.vp (by.part, by.vp) (λ row. record row { pending = without row.pending (highest row.pending) }) })
-  vector_gone is = subst (λ r. IsTied r (record f { vp = with_vp f.vp (by.part, by.vp) (λ row. record row { pending = without row.pending (highest row.pending) }) })) (sym is) (interrupted_tied rows f flat by.part by.vp)
+  pub vector_gone : new ≡ change rows by.part (with_state_of by.vp interrupted) → Refines new
+      (record f { vp = with_vp f.vp (by.part, by.vp) (λ row. record row { pending = without row.pending (highest row.pending) }) })
+  vector_gone is = subst (λ r. Refines r (record f { vp = with_vp f.vp (by.part, by.vp) (λ row. record row { pending = without row.pending (highest row.pending) }) })) (sym is)
+      (interrupted_tied rows f flat by.part by.vp)
 
-module _ (rows new : Rows PartitionState) (f : Flat) (flat : IsTied rows f) (caller connection : ℕ) (target : Target) (reached : IsReached f (caller, connection) target.conn target.port) where
-  abbrev aim : Aimed
+module _ (rows new : Rows PartitionState) (f : Flat) (flat : Refines rows f) (caller connection : ℕ) (target : Target) (reached : IsReached f (caller, connection) target.conn target.port) where
+  abbrev aim : ResolvedPort
   aim = aim_row target.conn target.port
 
-  pub flag_set : (sint flag at : ℕ) → flag_taker f aim ≡ Some target.vp → sint ≡ target.port.sint → at ≡ target.port.base + flag → new ≡ change rows target.conn.part (with_state_of target.vp (signalled sint at)) → IsTied new (call_effect (SignalEvent connection flag) f caller caller)
+  pub flag_set : (sint flag at : ℕ) → flag_taker f aim ≡ Some target.vp → sint ≡ target.port.sint → at ≡ target.port.base + flag → new ≡ change rows target.conn.part
+      (with_state_of target.vp (signalled sint at)) → Refines new (call_effect (SignalEvent connection flag) f caller caller)
   flag_set sint flag at taken same sum is =
-      subst (λ aim. IsTied new (signal_to aim flag f)) (sym reached.aim)
-      (subst (λ vp. IsTied new (signal_at aim vp flag f)) (sym taken)
-      (subst (λ r. IsTied r (signal_at aim (Some target.vp) flag f)) (sym (is ∙ ap (λ s. change rows target.conn.part (with_state_of target.vp (signalled s at))) same ∙ ap (λ n. change rows target.conn.part (with_state_of target.vp (signalled target.port.sint n))) sum))
+      subst (λ aim. Refines new (signal_to aim flag f)) (sym reached.aim)
+      (subst (λ vp. Refines new (signal_at aim vp flag f)) (sym taken)
+      (subst (λ r. Refines r (signal_at aim (Some target.vp) flag f)) (sym (is ∙ ap (λ s. change rows target.conn.part (with_state_of target.vp (signalled s at))) same ∙ ap
+      (λ n. change rows target.conn.part (with_state_of target.vp (signalled target.port.sint n))) sum))
       (signalled_tied rows f flat target.conn.part target.vp target.port.sint (target.port.base + flag))))
 
-  pub message_posted : (sint type : ℕ) (payload : List ℕ) (message : Message) → message_taker f aim ≡ Some target.vp → sint ≡ target.port.sint → message.port ≡ target.conn.port → message.born ≡ target.conn.born → message.kind ≡ type → message.payload.items ≡ payload → new ≡ change rows target.conn.part (with_state_of target.vp (posted sint message)) → IsTied new (call_effect (PostMessage connection type payload) f caller caller)
+  pub message_posted : (sint type : ℕ) (payload : List ℕ) (message : Message) → message_taker f aim ≡ Some target.vp → sint ≡ target.port.sint → message.port ≡ target.conn.port → message.born ≡
+      target.conn.born → message.kind ≡ type → message.payload.items ≡ payload → new ≡ change rows target.conn.part (with_state_of target.vp (posted sint message)) → Refines new
+      (call_effect (PostMessage connection type payload) f caller caller)
   message_posted sint type payload message taken at port born kind bytes is =
       let (v, there) = taker_there rows f flat target.conn.part is_ready_for_messages target.port.vp target.vp taken in
       let row : MailRow = mail_row (here target.conn.part target.vp sint) false message in
       let same : row ≡ record { part = target.conn.part; vp = target.vp; sint = target.port.sint; port = target.conn.port; born = target.conn.born; type = type; payload = payload; shown = false } =
       (λ i. record { part = target.conn.part; vp = target.vp; sint = at i; port = port i; born = born i; type = kind i; payload = bytes i; shown = false }) in
-      subst (λ aim. IsTied new (post_to aim type payload f)) (sym reached.aim)
-      (subst (λ vp. IsTied new (post_at aim vp type payload f)) (sym taken)
-      (subst (λ row. IsTied new (post row f)) same
-      (subst (λ r. IsTied r (post row f)) (sym is) (posted_tied rows f flat target.conn.part target.vp sint v there message))))
+      subst (λ aim. Refines new (post_to aim type payload f)) (sym reached.aim)
+      (subst (λ vp. Refines new (post_at aim vp type payload f)) (sym taken)
+      (subst (λ row. Refines new (post row f)) same
+      (subst (λ r. Refines r (post row f)) (sym is) (posted_tied rows f flat target.conn.part target.vp sint v there message))))
 
 -- the processor that takes what comes to a port, as the tree has it
-module _ (rows : Rows PartitionState) (f : Flat) (flat : IsTied rows f) (conn : Conn) (port : Port) where
+module _ (rows : Rows PartitionState) (f : Flat) (flat : Refines rows f) (conn : Conn) (port : Port) where
   -- of a partition that isn't there none
   pub taker_gone : (kind : PortKind) → content rows conn.part ≡ None → taker_of kind f (aim_row conn port) ≡ None
   taker_gone kind gone = by_kind kind
@@ -97,8 +105,9 @@ module _ (rows : Rows PartitionState) (f : Flat) (flat : IsTied rows f) (conn : 
       none None is = refl
       none (Some r) is = cc
 
-      by_aim : (test : VpRow → Bool) (aim : Aim) → taker test f conn.part aim ≡ None
-      by_aim test (One index) = ap (λ b. cond b (Some index) None) (one_there rows f flat conn.part test index ∙ ap (λ r. option_map_or (λ v. test (vp_row_of v)) (vp_in index r) false) (none (get rows conn.part) gone))
+      by_aim : (test : VpRow → Bool) (aim : Aim) → select_vp test f conn.part aim ≡ None
+      by_aim test (One index) = ap (λ b. cond b (Some index) None) (one_there rows f flat conn.part test index ∙ ap (λ r. option_map_or (λ v. test (vp_row_of v)) (vp_in index r) false)
+          (none (get rows conn.part) gone))
       by_aim test Any = lowest_gone rows f flat conn.part test (none (get rows conn.part) gone)
 
       by_kind : (kind : PortKind) → taker_of kind f (aim_row conn port) ≡ None
@@ -117,15 +126,15 @@ module _ (rows : Rows PartitionState) (f : Flat) (flat : IsTied rows f) (conn : 
             vps : p.vps.vps ≡ r.1.vps.vps
             vps = let same : p ≡ r.1 = cc in ap (λ (p : PartitionState). p.vps.vps) same
 
-            by_aim : (test : VpRow → Bool) → lowest (λ v. test (vp_row_of v)) p.vps.vps ≡ taker test f conn.part port.vp
-            by_aim test = ap (lowest (λ v. test (vp_row_of v))) vps ∙ sym (ap (taker test f conn.part) any ∙ lowest_there rows f flat conn.part test r there)
+            by_aim : (test : VpRow → Bool) → lowest (λ v. test (vp_row_of v)) p.vps.vps ≡ select_vp test f conn.part port.vp
+            by_aim test = ap (lowest (λ v. test (vp_row_of v))) vps ∙ sym (ap (select_vp test f conn.part) any ∙ lowest_there rows f flat conn.part test r there)
 
             by_kind : (kind : PortKind) → lowest (is_ready kind) p.vps.vps ≡ taker_of kind f (aim_row conn port)
             by_kind port_type.Message = by_aim is_ready_for_messages
             by_kind port_type.Event = by_aim is_ready_for_flags
 
 -- where a connection leads, the law says what its port may keep
-module _ (rows : Rows PartitionState) (a : AreLawful rows) (key : ℕ × ℕ) (conn : Conn) (port : Port) (reached : (f : Flat) → IsTied rows f → IsReached f key conn port) where
+module _ (rows : Rows PartitionState) (a : TreeInvariant rows) (key : ℕ × ℕ) (conn : Conn) (port : Port) (reached : (f : Flat) → Refines rows f → IsReached f key conn port) where
   pub sint_bound : port.sint < SINTS
   sint_bound = (a.lawful.ports (conn.part, conn.port) _ (reached a.flat a.tied).row).sint
 
@@ -133,8 +142,9 @@ module _ (rows : Rows PartitionState) (a : AreLawful rows) (key : ℕ × ℕ) (c
   flags_bound = (a.lawful.ports (conn.part, conn.port) _ (reached a.flat a.tied).row).flags
 
   -- and that the messages that came through it are those of its processor's mailbox, or of all its partition's
-  module _ (f : Flat) (flat : IsTied rows f) (p : PartitionState) (is : content rows conn.part ≡ Some p) where
-    kept_is : (n : ℕ → ℕ) → ((r : Row PartitionState) → get rows conn.part ≡ Some r → r.1 ≡ p → kept_of conn.part conn.port port.born a.flat.mail ≡ n port.born) → kept_of conn.part conn.port conn.born f.mail ≡ n conn.born
+  module _ (f : Flat) (flat : Refines rows f) (p : PartitionState) (is : content rows conn.part ≡ Some p) where
+    kept_is : (n : ℕ → ℕ) → ((r : Row PartitionState) → get rows conn.part ≡ Some r → r.1 ≡ p → kept_of conn.part conn.port port.born a.flat.mail ≡ n port.born) → kept_of conn.part conn.port conn.born
+        f.mail ≡ n conn.born
     kept_is n counted = by (get rows conn.part) refl is
       where
         by : (o : Option (Row PartitionState)) → get rows conn.part ≡ o → option_map (λ r. r.1) o ≡ Some p → kept_of conn.part conn.port conn.born f.mail ≡ n conn.born
@@ -148,9 +158,11 @@ module _ (rows : Rows PartitionState) (a : AreLawful rows) (key : ℕ × ℕ) (c
     pub kept_at_one : (vp : ℕ) (v : VpState) → port.vp ≡ One vp → get p.vps.vps vp ≡ Some v → kept_of conn.part conn.port conn.born f.mail ≡ count_of conn.port conn.born v.mail
     kept_at_one vp v aim found =
         kept_is (λ b. count_of conn.port b v.mail)
-        (λ r there same. kept_by_one rows a.flat a.tied a.pages a.lawful conn.part conn.port (port_row_of port) (reached a.flat a.tied).row r there vp v (ap {A = PartitionState} (λ p. get p.vps.vps vp) same ∙ found) aim)
+        (λ r there same. kept_by_one rows a.flat a.tied a.pages a.lawful conn.part conn.port (port_row_of port) (reached a.flat a.tied).row r there vp v
+        (ap {A = PartitionState} (λ p. get p.vps.vps vp) same ∙ found) aim)
 
     pub kept_at_any : kept_of conn.part conn.port conn.born f.mail ≡ kept_by_all conn.port conn.born p.vps.vps
     kept_at_any =
         kept_is (λ b. kept_by_all conn.port b p.vps.vps)
-        (λ r there same. kept_by_any rows a.flat a.tied a.pages a.lawful conn.part conn.port (port_row_of port) (reached a.flat a.tied).row r there ∙ ap {A = PartitionState} (λ p. kept_by_all conn.port port.born p.vps.vps) same)
+        (λ r there same. kept_by_any rows a.flat a.tied a.pages a.lawful conn.part conn.port (port_row_of port) (reached a.flat a.tied).row r there ∙ ap {A = PartitionState}
+        (λ p. kept_by_all conn.port port.born p.vps.vps) same)

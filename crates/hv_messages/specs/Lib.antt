@@ -1,1 +1,1 @@
-pub mod Aimed
+pub mod ResolvedPort

@@ -1,5 +1,5 @@
-// The accesses of this chapter, each with P1 to P3. No access asks for a privilege. What one puts out goes into an
-// output that has room for a whole slot and stays where it is.
+// The accesses of this call group, each with P1 to P3. No access asks for a privilege. What one puts out goes
+// into an output that has room for a whole slot and stays where it is.
 ghost use Rattle.std.specs.Prelude.{◌≡◌, [], ◌∷◌, Some, false};
 ghost use Rattle.std.specs.Prelude.{◌++◌};
 ghost use Rattle.std.specs.Result.{result_map_both};
@@ -7,13 +7,13 @@ ghost use Rattle.hv_policy.specs.Flat.{Flat};
 ghost use Rattle.hv_policy.specs.Rules.{caller_asks, first_unmet};
 ghost use Rattle.hv_policy.specs.declared.event.Action.TheVariants as action;
 ghost use Rattle.hv_policy.specs.declared.rule.Rule.TheVariants as rule;
-ghost use Rattle.hv_tie.specs.Access.{IsAnswered};
-ghost use Rattle.hv_tie.specs.Tie.{IsTied};
+ghost use Rattle.hv_refine.specs.Access.{IsAnswered};
+ghost use Rattle.hv_refine.specs.Tie.{Refines};
 
 use crate::rows::{clear, clear_one_flag, flags, slot, take};
 use hv_defs::{EVENT_FLAGS, SINTS};
 use hv_policy::{Caller, Output, Rule};
-use hv_tie::{Partitions, caller_in};
+use hv_refine::{Partitions, caller_in};
 use std::alloc::Allocator;
 
 /// A read of the message slot of one of the caller's SINTs, in 256 bytes.
@@ -24,7 +24,7 @@ pub fn read_slot<A: Allocator>(
     output: &mut Output,
 ) -> Result<(), Rule>
     requires { output.old ≡ [] }
-    ensures { (f : Flat) → IsTied tree.old f → IsAnswered {A = A} f by (action.ReadSlot sint) tree.old
+    ensures { (f : Flat) → Refines tree.old f → IsAnswered {A = A} f by (action.ReadSlot sint) tree.old
         (result_map_both (λ _. output.new) (λ rule. rule) result) tree.new }
 {
     if u32::from(sint) >= SINTS {
@@ -35,7 +35,7 @@ pub fn read_slot<A: Allocator>(
 
 /// The message that one of the caller's SINTs shows is removed, if it shows one. None is shown in its place.
 pub fn clear_slot<A: Allocator>(tree: &mut Partitions<A>, by: Caller, sint: u8) -> Result<(), Rule>
-    ensures { (f : Flat) → IsTied tree.old f → IsAnswered {A = A} f by (action.ClearSlot sint) tree.old
+    ensures { (f : Flat) → Refines tree.old f → IsAnswered {A = A} f by (action.ClearSlot sint) tree.old
         (result_map_both (λ _. []) (λ rule. rule) result) tree.new }
 {
     if u32::from(sint) >= SINTS {
@@ -55,7 +55,7 @@ pub fn read_flags<A: Allocator>(
     output: &mut Output,
 ) -> Result<(), Rule>
     requires { output.old ≡ [] }
-    ensures { (f : Flat) → IsTied tree.old f → IsAnswered {A = A} f by (action.ReadFlags sint) tree.old
+    ensures { (f : Flat) → Refines tree.old f → IsAnswered {A = A} f by (action.ReadFlags sint) tree.old
         (result_map_both (λ _. output.new) (λ rule. rule) result) tree.new }
 {
     if u32::from(sint) >= SINTS {
@@ -71,7 +71,7 @@ pub fn clear_flag<A: Allocator>(
     sint: u8,
     flag: u16,
 ) -> Result<(), Rule>
-    ensures { (f : Flat) → IsTied tree.old f → IsAnswered {A = A} f by (action.ClearFlag sint flag) tree.old
+    ensures { (f : Flat) → Refines tree.old f → IsAnswered {A = A} f by (action.ClearFlag sint flag) tree.old
         (result_map_both (λ _. []) (λ rule. rule) result) tree.new }
 {
     if u32::from(sint) >= SINTS || u32::from(flag) >= EVENT_FLAGS {
@@ -90,7 +90,7 @@ pub fn take_interrupt<A: Allocator>(
     output: &mut Output,
 ) -> Result<(), Rule>
     requires { output.old ≡ [] }
-    ensures { (f : Flat) → IsTied tree.old f → IsAnswered {A = A} f by action.TakeInterrupt tree.old
+    ensures { (f : Flat) → Refines tree.old f → IsAnswered {A = A} f by action.TakeInterrupt tree.old
         (result_map_both (λ _. output.new) (λ rule. rule) result) tree.new }
 {
     match take(tree, by) {
@@ -104,11 +104,11 @@ pub fn take_interrupt<A: Allocator>(
 
 // The first unmet rule of an access to a SINT or a flag that no processor has: one of P1 to P3, or else P21.
 fn no_subject<A: Allocator>(tree: &Partitions<A>, by: Caller) -> Rule
-    ensures { (f : Flat) → IsTied tree.now f
-        → first_unmet (caller_asks f by ++ ((rule.Subject, false) ∷ [])) ≡ Some result }
+    ensures { (f : Flat) → Refines tree.now f
+        → first_unmet (caller_asks f by ++ ((rule.Operand, false) ∷ [])) ≡ Some result }
 {
     match caller_in(tree, by) {
-        Ok(_) => Rule::Subject,
+        Ok(_) => Rule::Operand,
         Err(rule) => rule,
     }
 }

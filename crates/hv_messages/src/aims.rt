@@ -6,21 +6,21 @@ ghost use Rattle.hv_policy.specs.Aim.{has_target as has_target_of};
 ghost use Rattle.hv_policy.specs.Flat.{Flat};
 ghost use Rattle.hv_policy.specs.Met.{has_message_room as has_message_room_of};
 ghost use Rattle.hv_policy.specs.Rules.{first_unmet};
-ghost use Rattle.hv_tie.specs.Served.{AreLawful};
-ghost use Rattle.hv_tie.specs.Tie.{IsTied, conn_row_of, port_row_of};
+ghost use Rattle.hv_refine.specs.Served.{TreeInvariant};
+ghost use Rattle.hv_refine.specs.Tie.{Refines, conn_row_of, port_row_of};
 ghost use Rattle.hv_tree.specs.Rows.{Rows, content};
-ghost use Rattle.hv_messages.specs.Aimed.{IsReached, aim_row, reach_asks, taker_of};
+ghost use Rattle.hv_messages.specs.ResolvedPort.{IsReached, aim_row, reach_asks, taker_of};
 
 use hv_defs::{Aim, MAX_MESSAGES, PortKind};
 use hv_partition::Partition;
 use hv_policy::Rule;
 use hv_ports::{Conn, Port};
-use hv_tie::Partitions;
+use hv_refine::Partitions;
 use std::alloc::Allocator;
 
 // What a connection is aimed at: the connection, and the port with the id that it keeps.
 #[derive(Clone, Copy)]
-pub struct Aimed {
+pub struct ResolvedPort {
     pub conn: Conn,
     pub port: Port,
 }
@@ -33,17 +33,18 @@ pub struct Target {
     pub vp: u32,
 }
 
-// P16, P17 and P19 of a post or a signal: where the caller's connection leads and the partition of the port, or
-// the first of them that isn't met. What is asked of the port's partition is asked of the one that was found.
-pub fn reach<'t, A: Allocator>(
+// P16, P17 and P19 of a post or a signal: where the caller's connection leads and the partition of the port,
+// or the first of them that isn't met. What is asked of the port's partition is asked of the one that was
+// found.
+pub fn resolve_connection<'t, A: Allocator>(
     tree: &'t Partitions<A>,
     caller: u64,
     connection: u32,
-) -> Result<(Aimed, &'t Partition<A>), Rule>
-    ensures reached { IfOk result (λ found. (f : Flat) → IsTied tree.now f
+) -> Result<(ResolvedPort, &'t Partition<A>), Rule>
+    ensures reached { IfOk result (λ found. (f : Flat) → Refines tree.now f
         → IsReached f (caller, connection) found.0.conn found.0.port) }
     ensures home { IfOk result (λ found. content tree.now found.0.conn.part ≡ Some found.1.now) }
-    ensures first { IfErr result (λ rule. (f : Flat) → IsTied tree.now f
+    ensures first { IfErr result (λ rule. (f : Flat) → Refines tree.now f
         → first_unmet (reach_asks f (caller, connection)) ≡ Some rule) }
 {
     let Some(conn) = conn_of(tree, caller, connection) else {
@@ -58,12 +59,12 @@ pub fn reach<'t, A: Allocator>(
     if !has_target(home, port.vp) {
         return Err(Rule::VpExists);
     }
-    Ok((Aimed { conn, port }, home))
+    Ok((ResolvedPort { conn, port }, home))
 }
 
 // A partition's connection with this id, if it has one.
 fn conn_of<A: Allocator>(tree: &Partitions<A>, id: u64, connection: u32) -> Option<Conn>
-    ensures { (f : Flat) → IsTied tree.now f → option_map conn_row_of result ≡ get f.conn (id, connection) }
+    ensures { (f : Flat) → Refines tree.now f → option_map conn_row_of result ≡ get f.conn (id, connection) }
 {
     match tree.get(id) {
         None => None,
@@ -77,7 +78,7 @@ fn port_of<'t, A: Allocator>(
     id: u64,
     port: u32,
 ) -> Option<(Port, &'t Partition<A>)>
-    ensures port { (f : Flat) → IsTied tree.now f → option_map (λ found. port_row_of found.0) result
+    ensures port { (f : Flat) → Refines tree.now f → option_map (λ found. port_row_of found.0) result
         ≡ get f.port (id, port) }
     ensures home { IfSome result (λ found. content tree.now id ≡ Some found.1.now) }
 {
@@ -93,7 +94,7 @@ fn port_of<'t, A: Allocator>(
 // P19 of a port: whether the one processor of its partition at which it aims is there. For any it is met.
 fn has_target<A: Allocator>(home: &Partition<A>, aim: Aim) -> bool
     ensures { (f : Flat) (rows : Rows PartitionState) (id : ℕ) → content rows id ≡ Some home.now
-        → IsTied rows f → result ≡ has_target_of f id aim }
+        → Refines rows f → result ≡ has_target_of f id aim }
 {
     match aim {
         Aim::One(index) => home.vp(index).is_some(),
@@ -103,9 +104,13 @@ fn has_target<A: Allocator>(home: &Partition<A>, aim: Aim) -> bool
 
 // P22: the processor of the port's partition that takes what a port of this kind takes, if there is one: the
 // one at which the port aims, if it is ready, and for any the lowest of those that are.
-pub fn taker<A: Allocator>(home: &Partition<A>, aimed: Aimed, kind: PortKind) -> Option<u32>
+pub fn select_vp<A: Allocator>(
+    home: &Partition<A>,
+    aimed: ResolvedPort,
+    kind: PortKind,
+) -> Option<u32>
     ensures { (f : Flat) (rows : Rows PartitionState) → content rows aimed.conn.part ≡ Some home.now
-        → IsTied rows f → result ≡ taker_of kind f (aim_row aimed.conn aimed.port) }
+        → Refines rows f → result ≡ taker_of kind f (aim_row aimed.conn aimed.port) }
 {
     match aimed.port.vp {
         Aim::One(index) => {
@@ -114,17 +119,17 @@ pub fn taker<A: Allocator>(home: &Partition<A>, aimed: Aimed, kind: PortKind) ->
             };
             if vp.is_ready(kind) { Some(index) } else { None }
         }
-        Aim::Any => home.lowest_ready(kind),
+        Aim::Any => home.lowest_ready_vp(kind),
     }
 }
 
 // P23: whether fewer than the most messages of the port and its birth are kept. They stand at the processor
 // at which the port aims, and for any at processors of its partition.
-pub fn has_message_room<A: Allocator>(home: &Partition<A>, aimed: Aimed) -> bool
+pub fn has_message_room<A: Allocator>(home: &Partition<A>, aimed: ResolvedPort) -> bool
     ensures { (f : Flat) (rows : Rows PartitionState) (caller connection : ℕ)
-        → content rows aimed.conn.part ≡ Some home.now → AreLawful rows
-        → ((f : Flat) → IsTied rows f → IsReached f (caller, connection) aimed.conn aimed.port)
-        → IsTied rows f → result ≡ has_message_room_of f (aim_row aimed.conn aimed.port) }
+        → content rows aimed.conn.part ≡ Some home.now → TreeInvariant rows
+        → ((f : Flat) → Refines rows f → IsReached f (caller, connection) aimed.conn aimed.port)
+        → Refines rows f → result ≡ has_message_room_of f (aim_row aimed.conn aimed.port) }
 {
     let most = MAX_MESSAGES as usize;
     match aimed.port.vp {

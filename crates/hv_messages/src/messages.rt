@@ -1,40 +1,40 @@
-// The calls of this chapter.
+// The calls of this call group.
 ghost use Rattle.std.specs.Prelude.{◌≡◌, ◌&&◌, ◌<◌, ℕ, List, nat_lt, None, Some, IfOk, IfErr};
 ghost use Rattle.hv_calls.specs.declared.call.Call.TheVariants as call;
 ghost use Rattle.hv_defs.specs.declared.port_kind.PortKind.TheVariants as port_type;
 ghost use Rattle.hv_policy.specs.Flat.{Flat};
 ghost use Rattle.hv_policy.specs.Met.{is_kind};
-ghost use Rattle.hv_tie.specs.Served.{AreLawful, IsAdmitted, IsOutcome, unmet_further};
-ghost use Rattle.hv_tie.specs.Tie.{IsTied};
-ghost use Rattle.hv_messages.specs.Aimed.{IsReached, aim_row, taker_of};
+ghost use Rattle.hv_refine.specs.Served.{TreeInvariant, IsAdmitted, IsOutcome, unmet_further};
+ghost use Rattle.hv_refine.specs.Tie.{Refines};
+ghost use Rattle.hv_messages.specs.ResolvedPort.{IsReached, aim_row, taker_of};
 
-use crate::aims::{Target, has_message_room, reach, taker};
+use crate::aims::{Target, has_message_room, resolve_connection, select_vp};
 use crate::rows::{post, signal};
 use hv_calls::Payload;
 use hv_defs::PortKind;
 use hv_mail::Message;
 use hv_policy::{CallOutput, Rule};
 use hv_ports::Port;
-use hv_tie::{Partitions, Refused};
+use hv_refine::{CallError, Partitions};
 use std::alloc::{AllocError, Allocator};
 
 /// HvPostMessage: a message goes last among those at the SINT at which the connection's port aims, of the
-/// processor at which it aims, or of the lowest that is ready for messages where it aims at any. Where none is
-/// shown there, the oldest is, and the SINT raises its vector.
+/// processor at which it aims, or of the lowest that is ready for messages where it aims at any. Where none
+/// is shown there, the oldest is, and the SINT raises its vector.
 pub fn post_message<A: Allocator + Clone>(
     tree: &mut Partitions<A>,
     caller: u64,
     connection: u32,
     message_type: u32,
     payload: &Payload<'_>,
-) -> Result<CallOutput, Refused>
+) -> Result<CallOutput, CallError>
     requires { IsAdmitted tree.old caller (call.PostMessage connection message_type payload.now) }
-    ensures { (f : Flat) → IsTied tree.old f
+    ensures { (f : Flat) → Refines tree.old f
         → IsOutcome f caller (call.PostMessage connection message_type payload.now) tree.old result tree.new }
 {
     let target = match ask_post(tree, caller, connection) {
         Ok(target) => target,
-        Err(rule) => return Err(Refused::Unmet(rule)),
+        Err(rule) => return Err(CallError::Unmet(rule)),
     };
     let message = Message {
         port: target.conn.port,
@@ -45,35 +45,35 @@ pub fn post_message<A: Allocator + Clone>(
     let sint = target.port.sint as u8;
     match post(tree, target.conn.part, target.vp, sint, message) {
         Ok(()) => Ok(CallOutput::new()),
-        Err(AllocError) => Err(Refused::Memory),
+        Err(AllocError) => Err(CallError::Memory),
     }
 }
 
-// P16, P17, P19, P21, P22 and P23: where the connection leads and the processor that takes the message, or the
-// first of them that isn't met.
+// P16, P17, P19, P21, P22 and P23: where the connection leads and the processor that takes the message, or
+// the first of them that isn't met.
 fn ask_post<A: Allocator>(
     tree: &Partitions<A>,
     caller: u64,
     connection: u32,
 ) -> Result<Target, Rule>
-    requires { AreLawful tree.now }
-    ensures reached { IfOk result (λ target. (f : Flat) → IsTied tree.now f
+    requires { TreeInvariant tree.now }
+    ensures reached { IfOk result (λ target. (f : Flat) → Refines tree.now f
         → IsReached f (caller, connection) target.conn target.port) }
-    ensures taker { IfOk result (λ target. (f : Flat) → IsTied tree.now f
+    ensures select_vp { IfOk result (λ target. (f : Flat) → Refines tree.now f
         → taker_of port_type.Message f (aim_row target.conn target.port) ≡ Some target.vp) }
-    ensures met { IfOk result (λ _. (f : Flat) (type : ℕ) (payload : List ℕ) → IsTied tree.now f
+    ensures met { IfOk result (λ _. (f : Flat) (type : ℕ) (payload : List ℕ) → Refines tree.now f
         → unmet_further f caller (call.PostMessage connection type payload) ≡ None) }
-    ensures first { IfErr result (λ rule. (f : Flat) (type : ℕ) (payload : List ℕ) → IsTied tree.now f
+    ensures first { IfErr result (λ rule. (f : Flat) (type : ℕ) (payload : List ℕ) → Refines tree.now f
         → unmet_further f caller (call.PostMessage connection type payload) ≡ Some rule) }
 {
-    let (aimed, home) = match reach(tree, caller, connection) {
+    let (aimed, home) = match resolve_connection(tree, caller, connection) {
         Ok(found) => found,
         Err(rule) => return Err(rule),
     };
     if !is_for_messages(aimed.port) {
-        return Err(Rule::Subject);
+        return Err(Rule::Operand);
     }
-    let Some(vp) = taker(home, aimed, PortKind::Message) else {
+    let Some(vp) = select_vp(home, aimed, PortKind::Message) else {
         return Err(Rule::VpReady);
     };
     if !has_message_room(home, aimed) {
@@ -97,21 +97,21 @@ fn is_for_messages(port: Port) -> bool
 }
 
 /// HvSignalEvent: an event flag of the SINT at which the connection's port aims is set, counted from the
-/// port's first flag, at the processor at which it aims, or at the lowest that is ready for event flags where it
-/// aims at any. Where it was clear, the SINT raises its vector.
+/// port's first flag, at the processor at which it aims, or at the lowest that is ready for event flags where
+/// it aims at any. Where it was clear, the SINT raises its vector.
 pub fn signal_event<A: Allocator>(
     tree: &mut Partitions<A>,
     caller: u64,
     connection: u32,
     flag: u16,
-) -> Result<CallOutput, Refused>
+) -> Result<CallOutput, CallError>
     requires { IsAdmitted tree.old caller (call.SignalEvent connection flag) }
-    ensures { (f : Flat) → IsTied tree.old f
+    ensures { (f : Flat) → Refines tree.old f
         → IsOutcome f caller (call.SignalEvent connection flag) tree.old result tree.new }
 {
     let target = match ask_signal(tree, caller, connection, flag) {
         Ok(target) => target,
-        Err(rule) => return Err(Refused::Unmet(rule)),
+        Err(rule) => return Err(CallError::Unmet(rule)),
     };
     let sint = target.port.sint as u8;
     signal(
@@ -132,24 +132,24 @@ fn ask_signal<A: Allocator>(
     connection: u32,
     flag: u16,
 ) -> Result<Target, Rule>
-    ensures reached { IfOk result (λ target. (f : Flat) → IsTied tree.now f
+    ensures reached { IfOk result (λ target. (f : Flat) → Refines tree.now f
         → IsReached f (caller, connection) target.conn target.port) }
-    ensures taker { IfOk result (λ target. (f : Flat) → IsTied tree.now f
+    ensures select_vp { IfOk result (λ target. (f : Flat) → Refines tree.now f
         → taker_of port_type.Event f (aim_row target.conn target.port) ≡ Some target.vp) }
     ensures flag { IfOk result (λ target. flag < target.port.count) }
-    ensures met { IfOk result (λ _. (f : Flat) → IsTied tree.now f
+    ensures met { IfOk result (λ _. (f : Flat) → Refines tree.now f
         → unmet_further f caller (call.SignalEvent connection flag) ≡ None) }
-    ensures first { IfErr result (λ rule. (f : Flat) → IsTied tree.now f
+    ensures first { IfErr result (λ rule. (f : Flat) → Refines tree.now f
         → unmet_further f caller (call.SignalEvent connection flag) ≡ Some rule) }
 {
-    let (aimed, home) = match reach(tree, caller, connection) {
+    let (aimed, home) = match resolve_connection(tree, caller, connection) {
         Ok(found) => found,
         Err(rule) => return Err(rule),
     };
     if !has_flag(aimed.port, flag) {
-        return Err(Rule::Subject);
+        return Err(Rule::Operand);
     }
-    let Some(vp) = taker(home, aimed, PortKind::Event) else {
+    let Some(vp) = select_vp(home, aimed, PortKind::Event) else {
         return Err(Rule::VpReady);
     };
     Ok(Target {

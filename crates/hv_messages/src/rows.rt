@@ -1,4 +1,4 @@
-// What the calls and accesses of this chapter change in the tree, and read of it.
+// What the calls and accesses of this call group change in the tree, and read of it.
 ghost use Rattle.std.specs.Prelude.{◌≡◌, ◌<◌, [], None, Some, IfOk, IfErr, OnOk, OnErr};
 ghost use Rattle.hv_policy.specs.Rules.{caller_asks, first_unmet};
 ghost use Rattle.std.specs.FinMap.{get};
@@ -6,18 +6,18 @@ ghost use Rattle.hv_defs.specs.declared.sizes.TheConstants.{EVENT_FLAGS, SINTS};
 ghost use Rattle.hv_policy.specs.Answer.{flags_at, vector_of};
 ghost use Rattle.hv_policy.specs.Flat.{Flat};
 ghost use Rattle.hv_policy.specs.Mail.{slot_at};
-ghost use Rattle.hv_tie.specs.Tie.{IsTied, here};
-ghost use Rattle.hv_tie.specs.Vp.{with_state_of};
+ghost use Rattle.hv_refine.specs.Tie.{Refines, here};
+ghost use Rattle.hv_refine.specs.Vp.{with_state_of};
 ghost use Rattle.hv_tree.specs.Rows.{change as changed};
 ghost use Rattle.hv_vp.specs.Vp.{flag_cleared, interrupted, posted, signalled, slot_cleared};
 
 use hv_mail::Message;
 use hv_policy::{Caller, Output, Rule};
-use hv_tie::{Partitions, caller_vp};
+use hv_refine::{Partitions, caller_vp};
 use std::alloc::{AllocError, Allocator};
 
 // Posts a message at a SINT of a processor, where both are there.
-#[tactic(auto, using(hv_tree::proofs::Laws::unchanged, hv_tie::proofs::Written::same_vp))]
+#[tactic(auto, using(hv_tree::proofs::Laws::unchanged, hv_refine::proofs::Written::same_vp))]
 pub fn post<A: Allocator + Clone>(
     tree: &mut Partitions<A>,
     id: u64,
@@ -57,10 +57,11 @@ pub fn signal<A: Allocator>(tree: &mut Partitions<A>, id: u64, index: u32, sint:
 #[tactic(auto, using(hv_tree::proofs::Laws::unchanged))]
 pub fn clear<A: Allocator>(tree: &mut Partitions<A>, by: Caller, sint: u8) -> Result<(), Rule>
     requires { sint < SINTS }
-    ensures cleared { OnOk result (tree.new ≡ changed tree.old by.part (with_state_of by.vp (slot_cleared sint))) }
+    ensures cleared { OnOk result (tree.new ≡ changed tree.old by.part
+        (with_state_of by.vp (slot_cleared sint))) }
     ensures kept { OnErr result (tree.new ≡ tree.old) }
-    ensures met { IfOk result (λ _. (f : Flat) → IsTied tree.old f → first_unmet (caller_asks f by) ≡ None) }
-    ensures unmet { IfErr result (λ rule. (f : Flat) → IsTied tree.old f
+    ensures met { IfOk result (λ _. (f : Flat) → Refines tree.old f → first_unmet (caller_asks f by) ≡ None) }
+    ensures unmet { IfErr result (λ rule. (f : Flat) → Refines tree.old f
         → first_unmet (caller_asks f by) ≡ Some rule) }
 {
     let vp = match caller_vp(tree, by) {
@@ -84,8 +85,8 @@ pub fn clear_one_flag<A: Allocator>(
     ensures cleared { OnOk result (tree.new
         ≡ changed tree.old by.part (with_state_of by.vp (flag_cleared sint flag))) }
     ensures kept { OnErr result (tree.new ≡ tree.old) }
-    ensures met { IfOk result (λ _. (f : Flat) → IsTied tree.old f → first_unmet (caller_asks f by) ≡ None) }
-    ensures unmet { IfErr result (λ rule. (f : Flat) → IsTied tree.old f
+    ensures met { IfOk result (λ _. (f : Flat) → Refines tree.old f → first_unmet (caller_asks f by) ≡ None) }
+    ensures unmet { IfErr result (λ rule. (f : Flat) → Refines tree.old f
         → first_unmet (caller_asks f by) ≡ Some rule) }
 {
     let vp = match caller_vp(tree, by) {
@@ -99,12 +100,12 @@ pub fn clear_one_flag<A: Allocator>(
 // Takes the highest vector that is pending at the calling processor, or 0 where none is.
 #[tactic(auto, using(hv_tree::proofs::Laws::unchanged))]
 pub fn take<A: Allocator>(tree: &mut Partitions<A>, by: Caller) -> Result<u8, Rule>
-    ensures vector { IfOk result (λ vector. (f : Flat) → IsTied tree.old f
+    ensures vector { IfOk result (λ vector. (f : Flat) → Refines tree.old f
         → vector ≡ vector_of (get f.vp (by.part, by.vp))) }
     ensures taken { OnOk result (tree.new ≡ changed tree.old by.part (with_state_of by.vp interrupted)) }
     ensures kept { OnErr result (tree.new ≡ tree.old) }
-    ensures met { IfOk result (λ _. (f : Flat) → IsTied tree.old f → first_unmet (caller_asks f by) ≡ None) }
-    ensures unmet { IfErr result (λ rule. (f : Flat) → IsTied tree.old f
+    ensures met { IfOk result (λ _. (f : Flat) → Refines tree.old f → first_unmet (caller_asks f by) ≡ None) }
+    ensures unmet { IfErr result (λ rule. (f : Flat) → Refines tree.old f
         → first_unmet (caller_asks f by) ≡ Some rule) }
 {
     let vp = match caller_vp(tree, by) {
@@ -127,11 +128,11 @@ pub fn slot<A: Allocator>(
 ) -> Result<(), Rule>
     requires sint { sint < SINTS }
     requires empty { output.old ≡ [] }
-    ensures read { IfOk result (λ _. (f : Flat) → IsTied tree.old f
+    ensures read { IfOk result (λ _. (f : Flat) → Refines tree.old f
         → output.new ≡ slot_at (here by.part by.vp sint) f.mail) }
     ensures kept { tree.new ≡ tree.old }
-    ensures met { IfOk result (λ _. (f : Flat) → IsTied tree.old f → first_unmet (caller_asks f by) ≡ None) }
-    ensures unmet { IfErr result (λ rule. (f : Flat) → IsTied tree.old f
+    ensures met { IfOk result (λ _. (f : Flat) → Refines tree.old f → first_unmet (caller_asks f by) ≡ None) }
+    ensures unmet { IfErr result (λ rule. (f : Flat) → Refines tree.old f
         → first_unmet (caller_asks f by) ≡ Some rule) }
 {
     let vp = match caller_vp(tree, by) {
@@ -152,11 +153,11 @@ pub fn flags<A: Allocator>(
 ) -> Result<(), Rule>
     requires sint { sint < SINTS }
     requires empty { output.old ≡ [] }
-    ensures read { IfOk result (λ _. (f : Flat) → IsTied tree.old f
+    ensures read { IfOk result (λ _. (f : Flat) → Refines tree.old f
         → output.new ≡ flags_at (get f.vp (by.part, by.vp)) sint) }
     ensures kept { tree.new ≡ tree.old }
-    ensures met { IfOk result (λ _. (f : Flat) → IsTied tree.old f → first_unmet (caller_asks f by) ≡ None) }
-    ensures unmet { IfErr result (λ rule. (f : Flat) → IsTied tree.old f
+    ensures met { IfOk result (λ _. (f : Flat) → Refines tree.old f → first_unmet (caller_asks f by) ≡ None) }
+    ensures unmet { IfErr result (λ rule. (f : Flat) → Refines tree.old f
         → first_unmet (caller_asks f by) ≡ Some rule) }
 {
     let vp = match caller_vp(tree, by) {

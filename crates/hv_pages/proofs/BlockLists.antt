@@ -1,5 +1,6 @@
 -- Lists of blocks: their runs and their weight, where one block is changed, halved or taken out.
-use Rattle.std.proofs.Common.{◌≡◌, ℕ, zero, suc, ◌+◌, ◌-◌, ◌*◌, ◌<◌, ◌≤◌, List, [], ◌∷◌, ◌++◌, length, get_or, set as list_set, take, drop, arith, refl, ap, sym, subst, ◌∙◌, append_assoc, drop-cons, length-append, length-drop}
+use Rattle.std.proofs.Common.{◌≡◌, ℕ, zero, suc, ◌+◌, ◌-◌, ◌*◌, ◌<◌, ◌≤◌, List, [], ◌∷◌, ◌++◌, length, get_or, set as list_set, take, drop, arith, refl, ap, sym, subst, ◌∙◌, append_assoc, drop-cons}
+use Rattle.std.proofs.Common.{length-append, length-drop}
 use Rattle.std.specs.Prelude.{All}
 use Rattle.std.specs.List.{insert as list_insert, remove as list_remove}
 use Rattle.std.proofs.Math.Seq.{take-append_seam, get_or-append_seam, take-append-add}

@@ -89,7 +89,8 @@ ends_are (x ∷ xs) h q =
             | inr over ↦
                 elim (cases_eq x.last q) [
                   | inl same ↦
-                      is_last a b c d (span_in x.first q (x.last + 1) from (omega (arith, same))) (span_over x.first (q + 1) (x.last + 1) (omega (arith, same))) (rest_none (q + 1) (omega (arith, from)))
+                      is_last a b c d (span_in x.first q (x.last + 1) from (omega (arith, same))) (span_over x.first (q + 1) (x.last + 1) (omega (arith, same)))
+                      (rest_none (q + 1) (omega (arith, from)))
                       ∙ sym (or_left _ _ (eq-eqb x.last q same))
                   | inr apart ↦
                       first_none a b c d (span_over x.first q (x.last + 1) (omega (arith, apart, over))) (rest_none q (omega (arith, from)))

@@ -9,7 +9,8 @@ ghost use Rattle.arrayvec.specs.ArrayVec.{ArrayVec as Items};
 ghost use Rattle.hv_pages.specs.declared.runs.Run.{Run as ARun};
 ghost use Rattle.hv_pages.specs.declared.blocks.Place.{Place as APlace};
 ghost use Rattle.hv_pages.specs.Blocks.{Block as ABlock, flat, lowest_of};
-ghost use Rattle.hv_pages.specs.Blocks.{AreBlocks, HasPlace, HasRun, HaveRoom, IsLoose, index_of, run_at, runs_above, runs_from, runs_in};
+ghost use Rattle.hv_pages.specs.Blocks.{AreBlocks, HasPlace, HasRun, HaveRoom, IsLoose, index_of, run_at};
+ghost use Rattle.hv_pages.specs.Blocks.{runs_above, runs_from, runs_in};
 ghost use Rattle.hv_pages.specs.Runs.{AreRuns};
 
 use crate::runs::Run;
@@ -51,8 +52,8 @@ fn insert_into<A: Allocator>(blocks: &mut Vec<Block, A>, block: usize, at: usize
     blocks[block].insert(at, run);
 }
 
-// Puts a block in at a place. The blocks from there on turn by one place, which the compiler makes one move of
-// memory. Of `Vec::insert` it would make a loop.
+// Puts a block in at a place. The blocks from there on turn by one place, which the compiler makes one move
+// of memory. Of `Vec::insert` it would make a loop.
 fn insert_block<A: Allocator>(blocks: &mut Vec<Block, A>, at: usize, block: Block)
     requires room { vec_len blocks.old < vec_capacity blocks.old }
     requires within { at ≤ vec_len blocks.old }
@@ -309,8 +310,8 @@ impl<A: Allocator> Blocks<A> {
         Ok(())
     }
 
-    // Takes out the run at a place. A block that has no other run goes, and a block that has become small joins
-    // a neighbor, so that few runs never take many blocks.
+    // Takes out the run at a place. A block that has no other run goes, and a block that has become small
+    // joins a neighbor, so that few runs never take many blocks.
     pub(crate) fn remove(&mut self, place: Place)
         requires blocks { AreBlocks self.old }
         requires place { HasRun self.old place }

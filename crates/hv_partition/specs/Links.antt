@@ -44,9 +44,19 @@ aim_code = code_by (Option ℕ) (coded_option coded_ℕ) index_of aim_of aim_of-
 abbrev pub port_code : Coded Port
 port_code =
     code_by (PortKind × (ℕ × (ℕ × (Aim × (ℕ × (ℕ × ℕ))))))
-    (coded× kind_code (coded× coded_ℕ (coded× coded_ℕ (coded× aim_code (coded× coded_ℕ (coded× coded_ℕ coded_ℕ))))))
+    (coded× kind_code (coded× coded_ℕ (coded× coded_ℕ
+    (coded× aim_code (coded× coded_ℕ (coded× coded_ℕ coded_ℕ))))))
     (λ p. (p.kind, (p.peer, (p.sint, (p.vp, (p.base, (p.count, p.born)))))))
-    (λ t. record { kind = t.0; peer = t.1.0; sint = t.1.1.0; vp = t.1.1.1.0; base = t.1.1.1.1.0; count = t.1.1.1.1.1.0; born = t.1.1.1.1.1.1 })
+    (λ t. record {
+      kind = t.0;
+      peer = t.1.0;
+      sint = t.1.1.0;
+      vp = t.1.1.1.0;
+      base = t.1.1.1.1.0;
+      count =
+          t.1.1.1.1.1.0;
+      born = t.1.1.1.1.1.1;
+    })
     (λ _. refl)
 
 abbrev pub conn_code : Coded Conn

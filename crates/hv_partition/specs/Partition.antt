@@ -5,7 +5,9 @@ use Rattle.std.specs.FinMap as map
 use Rattle.std.specs.FinSet as set
 use Rattle.hv_defs.specs.declared.life.Life.{Life}
 use Rattle.hv_defs.specs.declared.life.Life.TheVariants.{Created, Active, Finalized}
-use Rattle.hv_defs.specs.declared.sizes.TheConstants.{CONNECTION_CHARGE, CPU_CAP_START, CPU_RESERVE_START, CPU_WEIGHT_START, PARTITION_CHARGE, PORT_CHARGE, VP_CHARGE}
+use Rattle.hv_defs.specs.declared.sizes.TheConstants.{CONNECTION_CHARGE, CPU_CAP_START, CPU_RESERVE_START}
+use Rattle.hv_defs.specs.declared.sizes.TheConstants.{CPU_WEIGHT_START, PARTITION_CHARGE, PORT_CHARGE}
+use Rattle.hv_defs.specs.declared.sizes.TheConstants.{VP_CHARGE}
 use Rattle.hv_pages.specs.PageSet.{PagesAndRoom, pages_and_room_code}
 use Rattle.hv_partition.specs.Links.{conn_code, port_code}
 use Rattle.hv_partition.specs.declared.kind.PageKind.{PageKind}
@@ -19,8 +21,8 @@ use Rattle.hv_privs.specs.declared.Privileges.{Privileges}
 use Rattle.hv_vp.specs.Vp.{VpState}
 use Rattle.hv_vp.specs.Vps.{VpsState, cleared, no_vps, vps_code, with_vp}
 
--- a partition: its life state, its privilege mask, its CPU properties, its loose and pooled pages, its processors, and its
--- ports and connections
+-- a partition: its life state, its privilege mask, its CPU properties, its loose and pooled pages, its
+-- processors, and its ports and connections
 pub record PartitionState : Type 0 where
   pub life : Life
   pub mask : Privileges
@@ -59,10 +61,42 @@ mask_code = code_by ℕ coded_ℕ bits_of of (λ _. refl)
 -- a partition is stored as the tuple of its fields
 abbrev pub partition_code : Coded PartitionState
 partition_code =
-    code_by (Life × (Privileges × (ℕ × (ℕ × (ℕ × (PagesAndRoom × (PagesAndRoom × (VpsState × (TableState Port × TableState Conn)))))))))
-    (coded× life_code (coded× mask_code (coded× coded_ℕ (coded× coded_ℕ (coded× coded_ℕ (coded× pages_and_room_code (coded× pages_and_room_code (coded× vps_code (coded× (table_code port_code) (table_code conn_code))))))))))
-    (λ p. (p.life, (p.mask, (p.reserve, (p.cap, (p.weight, (p.loose, (p.pooled, (p.vps, (p.ports, p.conns))))))))))
-    (λ t. record { life = t.0; mask = t.1.0; reserve = t.1.1.0; cap = t.1.1.1.0; weight = t.1.1.1.1.0; loose = t.1.1.1.1.1.0; pooled = t.1.1.1.1.1.1.0; vps = t.1.1.1.1.1.1.1.0; ports = t.1.1.1.1.1.1.1.1.0; conns = t.1.1.1.1.1.1.1.1.1 })
+    code_by (Life × (Privileges × (ℕ × (ℕ × (ℕ × (PagesAndRoom ×
+    (PagesAndRoom × (VpsState × (TableState Port × TableState Conn)))))))))
+    (coded× life_code (coded× mask_code (coded× coded_ℕ
+    (coded× coded_ℕ (coded× coded_ℕ (coded× pages_and_room_code
+    (coded× pages_and_room_code (coded× vps_code
+    (coded× (table_code port_code) (table_code conn_code))))))))))
+    (λ p. (
+      p.life,
+      (
+        p.mask,
+        (
+          p.reserve,
+          (
+            p.cap,
+            (
+              p.weight,
+              (p.loose, (p.pooled, (p.vps, (p.ports, p.conns)))),
+            ),
+          ),
+        ),
+      ),
+    ))
+    (λ t. record {
+      life = t.0;
+      mask = t.1.0;
+      reserve = t.1.1.0;
+      cap = t.1.1.1.0;
+      weight = t.1.1.1.1.0;
+      loose =
+          t.1.1.1.1.1.0;
+      pooled = t.1.1.1.1.1.1.0;
+      vps = t.1.1.1.1.1.1.1.0;
+      ports = t.1.1.1.1.1.1.1.1.0;
+      conns =
+          t.1.1.1.1.1.1.1.1.1;
+    })
     (λ _. refl)
 
 -- a partition's pages of a kind
@@ -101,7 +135,8 @@ new_partition life mask = record {
 -- the pooled pages that so many children and its processors, ports and connections use
 abbrev pub in_use : ℕ → PartitionState → ℕ
 in_use children p =
-    PARTITION_CHARGE * children + VP_CHARGE * map.len p.vps.vps + PORT_CHARGE * map.len p.ports.rows + CONNECTION_CHARGE * map.len p.conns.rows
+    PARTITION_CHARGE * children + VP_CHARGE * map.len p.vps.vps + PORT_CHARGE * map.len p.ports.rows +
+    CONNECTION_CHARGE * map.len p.conns.rows
 
 -- the pooled pages that it may still use
 abbrev pub available : ℕ → PartitionState → ℕ
@@ -109,4 +144,10 @@ available children p = set.len p.pooled.pages - in_use children p
 
 -- the partition once it is finalized: its processors, ports and connections go, and its pages stay
 abbrev pub finalized : PartitionState → PartitionState
-finalized p = record p { life = Finalized; vps = cleared p.vps; ports = table.cleared p.ports; conns = table.cleared p.conns }
+finalized p = record p {
+  life = Finalized;
+  vps = cleared p.vps;
+  ports = table.cleared p.ports;
+  conns =
+      table.cleared p.conns;
+}

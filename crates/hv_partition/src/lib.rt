@@ -1,9 +1,9 @@
 //! One partition: its life state, its privileges, its CPU properties, its pages, its processors, its ports
 //! and its connections.
 //!
-//! The chapters of the TLFS 4.0 are "Partition Management" and "Inter-Partition Communication". Each function
-//! says what it changes, and that all else stays the same. Which partition may ask for a change, and when, is
-//! not said here.
+//! The call groups of the TLFS 4.0 are "Partition Management" and "Inter-Partition Communication". Each
+//! function says what it changes, and that all else stays the same. Which partition may ask for a change, and
+//! when, is not said here.
 //!
 //! Contracts see a partition as the record of these parts (`PartitionState` in `specs/`), its processors as a
 //! map by index, its ports and its connections as maps by id. Memory is asked for in `new`, in `reserve`, in

@@ -16,8 +16,8 @@ impl<A: Allocator> Partition<A> {
         self.parts.ports.find(id)
     }
 
-    /// The port at a place, with its id, where the ports stand by rising ids from place 0 on. `None` where there
-    /// are no more.
+    /// The port at a place, with its id, where the ports stand by rising ids from place 0 on. `None` where
+    /// there are no more.
     pub fn port_at(&self, place: u32) -> Option<(u32, Port)>
         ensures { result ≡ slice_get (map.entries self.now.ports.rows) place }
     {
@@ -80,8 +80,8 @@ impl<A: Allocator> Partition<A> {
         self.parts.conns.find(id)
     }
 
-    /// The connection at a place, with its id, where the connections stand by rising ids from place 0 on. `None`
-    /// where there are no more.
+    /// The connection at a place, with its id, where the connections stand by rising ids from place 0 on.
+    /// `None` where there are no more.
     pub fn conn_at(&self, place: u32) -> Option<(u32, Conn)>
         ensures { result ≡ slice_get (map.entries self.now.conns.rows) place }
     {

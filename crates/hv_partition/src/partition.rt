@@ -230,14 +230,14 @@ impl<A: Allocator> Partition<A> {
     }
 
     /// The lowest index of a processor that is ready for what a port of this kind takes, if one is.
-    pub fn lowest_ready(&self, kind: PortKind) -> Option<u32>
+    pub fn lowest_ready_vp(&self, kind: PortKind) -> Option<u32>
         ensures { result ≡ lowest (is_ready kind) self.now.vps.vps }
     {
-        self.parts.vps.lowest_ready(kind)
+        self.parts.vps.lowest_ready_vp(kind)
     }
 
-    /// Whether all its processors together have fewer messages than so many, shown or waiting, that came through
-    /// this port of this birth.
+    /// Whether all its processors together have fewer messages than so many, shown or waiting, that came
+    /// through this port of this birth.
     pub fn keep_fewer(&self, port: u32, born: u64, most: usize) -> bool
         ensures { result ≡ nat_lt (kept_by_all port born self.now.vps.vps) most }
     {

@@ -6,7 +6,7 @@ use Rattle.std.proofs.lemmas.List.Elements.{All-append, All-nil, All-weaker}
 use Rattle.std.specs.declared.alloc.Global.{Global}
 use Rattle.hv_policy.specs.declared.event.Action.{Action}
 use Rattle.hv_policy.specs.declared.event.Caller.{Caller}
-use Rattle.hv_phases.specs.Crew.{AreBehind, AreOfOne, ArePast, IsWithin, Past, last_in, lines_in}
+use Rattle.hv_phases.specs.PassMap.{AreBehind, AreOfOne, ArePast, IsWithin, Past, last_in, lines_in}
 use Rattle.hv_phases.specs.Lines.{asked_by}
 use Rattle.hv_phases.proofs.Asked.{All-first, All-second, asked_by-append, asked_by_none, whole-append}
 use Rattle.hv_script.specs.declared.line.Line.{Line}
@@ -27,7 +27,8 @@ pub past-push : (last : ℕ) (past : List Past) (phase : Past) → ArePast last 
 past-push last [] phase none one rises = (one, rises, tt)
 past-push last (first ∷ past) phase some one rises = (some.0, some.1, past-push first.last past phase some.2 one rises)
 
-pub behind-push : (by : Caller) (last : ℕ) (past : List Past) (receipts : List Receipt) (phase : Past) (more : List Receipt) → AreBehind by last past receipts → AreWhole by (asked_by by phase.lines) more
+pub behind-push : (by : Caller) (last : ℕ) (past : List Past) (receipts : List Receipt) (phase : Past) (more : List Receipt) → AreBehind by last past receipts → AreWhole by (asked_by by phase.lines)
+    more
     → All (IsWithin (last_in last past) phase.last) more → AreBehind by last (past ++ phase ∷ []) (receipts ++ more)
 behind-push by last [] receipts phase more none whole within =
     (more, [], ap (λ (l : List Receipt). l ++ more) none ∙ sym (append-nil more), whole, within, refl)

@@ -6,7 +6,8 @@ use Rattle.std.proofs.lemmas.List.Elements.{All-cons, All-head, All-nil, All-pus
 use Rattle.std.proofs.lemmas.List.Sorted.{All-permutation, IsPermutation-reverse}
 use Rattle.std.specs.declared.alloc.Global.{Global}
 use Rattle.hv_policy.specs.declared.event.Caller.{Caller}
-use Rattle.hv_phases.specs.Crew.{AreKeyed, ArePast, Crew, Each, HasDone, HasGiven, HasHandedOut, HasRun, HasRunAll, HasRunAllPhases, HasRunPhase, IsGiven, IsReady, IsThere, Past, StayThere, last_in, lines_in}
+use Rattle.hv_phases.specs.PassMap.{AreKeyed, ArePast, PassMap, Each, HasDone, HasGiven, HasHandedOut, HasRun, HasRunAll, HasRunAllPhases, HasRunPhase, IsGiven, IsReady, IsThere, Past, StayThere}
+use Rattle.hv_phases.specs.PassMap.{last_in, lines_in}
 use Rattle.hv_phases.proofs.Asked.{All-first, All-second}
 use Rattle.hv_phases.proofs.Behind.{behind_whole, last_in-push, lines_in-push, past-push}
 use Rattle.hv_phases.proofs.Members.{ended}
@@ -41,7 +42,8 @@ turned left rest line is = ap reverse is ∙ reverse-append rest (line ∷ [])
 
 module _ {L S : Type 0} where
   -- the first line was handed out
-  pub handed_first : (first : Line Global) (left : List (Line Global)) (members : List Caller) (old new : Crew L S) → HasGiven first [] members old new → HasHandedOut first left left members old new
+  pub handed_first : (first : Line Global) (left : List (Line Global)) (members : List Caller) (old new : PassMap L S) → HasGiven first [] members old new → HasHandedOut first left left members old
+      new
   handed_first first left members old new given =
       record {
         more = [];
@@ -52,7 +54,7 @@ module _ {L S : Type 0} where
       }
 
   -- one line more was
-  pub handed_more : (first line : Line Global) (all left rest : List (Line Global)) (xs ys : List Caller) (old mid new : Crew L S) → (so_far : HasHandedOut first all left xs old mid)
+  pub handed_more : (first line : Line Global) (all left rest : List (Line Global)) (xs ys : List Caller) (old mid new : PassMap L S) → (so_far : HasHandedOut first all left xs old mid)
       → left ≡ rest ++ line ∷ [] → line.phase ≡ first.phase → HasGiven line xs ys mid new → HasHandedOut first all rest ys old new
   handed_more first line all left rest xs ys old mid new so_far is same given =
       record {
@@ -64,26 +66,27 @@ module _ {L S : Type 0} where
       }
 
   -- fewer are left
-  pub handed_fewer : (first : Line Global) (left after : List (Line Global)) (members : List Caller) (old new : Crew L S) → HasHandedOut first left after members old new → length after < length left + 1
+  pub handed_fewer : (first : Line Global) (left after : List (Line Global)) (members : List Caller) (old new : PassMap L S) → HasHandedOut first left after members old new → length after < length
+      left + 1
   handed_fewer first left after members old new handed =
       omega (arith, ap length handed.order, length-append handed.more (reverse after), length-reverse after, length-reverse left)
 
   -- these lines were run, in order, and the others are left, the first of them last
-  pub record IsBetween (lines left : List (Line Global)) (old now : Crew L S) : Type 0 where
+  pub record IsBetween (lines left : List (Line Global)) (old now : PassMap L S) : Type 0 where
     pub ran : List (Line Global)
     pub order : ran ++ reverse left ≡ lines
     pub each : Each (IsReady ran) now
     pub there : StayThere old now
 
-  unfoldable pub between_first : (lines left : List (Line Global)) (old : Crew L S) → left ≡ reverse lines → Each (IsReady []) old → IsBetween lines left old old
+  unfoldable pub between_first : (lines left : List (Line Global)) (old : PassMap L S) → left ≡ reverse lines → Each (IsReady []) old → IsBetween lines left old old
   between_first lines left old is each =
       record { ran = []; order = ap reverse is ∙ reverse-reverse lines; each = each; there = λ c there. there }
 
-  pub keyed : (ran : List (Line Global)) (crew : Crew L S) → Each (IsReady ran) crew → AreKeyed crew
-  keyed ran crew each c m is = (each c m is).0
+  pub keyed : (ran : List (Line Global)) (pass_map : PassMap L S) → Each (IsReady ran) pass_map → AreKeyed pass_map
+  keyed ran pass_map each c m is = (each c m is).0
 
   -- a line was run
-  unfoldable pub between_line : (lines left rest : List (Line Global)) (line : Line Global) (old now new : Crew L S) → IsBetween lines left old now → left ≡ rest ++ line ∷ []
+  unfoldable pub between_line : (lines left rest : List (Line Global)) (line : Line Global) (old now new : PassMap L S) → IsBetween lines left old now → left ≡ rest ++ line ∷ []
       → IsThere old line.by → HasDone line now new → IsBetween lines rest old new
   between_line lines left rest line old now new at is there done =
       record {
@@ -94,7 +97,7 @@ module _ {L S : Type 0} where
       }
 
   -- all lines were run
-  pub between_ends : (lines left : List (Line Global)) (old now : Crew L S) → IsBetween lines left old now → left ≡ [] → HasRunAll lines old now
+  pub between_ends : (lines left : List (Line Global)) (old now : PassMap L S) → IsBetween lines left old now → left ≡ [] → HasRunAll lines old now
   between_ends lines left old now at none =
       record {
         each = subst (λ (ls : List (Line Global)). Each (IsReady ls) now) (sym (append-nil at.ran) ∙ ap (λ (ls : List (Line Global)). at.ran ++ reverse ls) (sym none) ∙ at.order) at.each;
@@ -102,7 +105,7 @@ module _ {L S : Type 0} where
       }
 
   -- these phases were run, one behind the other up to the last number, and the other lines are left, the first of them last
-  pub record IsBetweenPhases (lines left : List (Line Global)) (last : ℕ) (old now : Crew L S) : Type 0 where
+  pub record IsBetweenPhases (lines left : List (Line Global)) (last : ℕ) (old now : PassMap L S) : Type 0 where
     pub past : List Past
     pub order : lines_in past ++ reverse left ≡ lines
     pub rises : ArePast 0 past
@@ -110,7 +113,7 @@ module _ {L S : Type 0} where
     pub each : Each (IsGiven past []) now
     pub there : StayThere old now
 
-  pub phases_first : (lines left : List (Line Global)) (old : Crew L S) → left ≡ reverse lines → Each (IsReady []) old → IsBetweenPhases lines left 0 old old
+  pub phases_first : (lines left : List (Line Global)) (old : PassMap L S) → left ≡ reverse lines → Each (IsReady []) old → IsBetweenPhases lines left 0 old old
   phases_first lines left old is each =
       record {
         past = [];
@@ -122,7 +125,8 @@ module _ {L S : Type 0} where
       }
 
   -- a phase was run
-  pub phases_more : (lines left rest after : List (Line Global)) (first : Line Global) (members : List Caller) (last number : ℕ) (old now mid new : Crew L S) → IsBetweenPhases lines left last old now
+  pub phases_more : (lines left rest after : List (Line Global)) (first : Line Global) (members : List Caller) (last number : ℕ) (old now mid new : PassMap L S) → IsBetweenPhases lines left last old
+      now
       → left ≡ rest ++ first ∷ [] → HasHandedOut first rest after members now mid → HasRunPhase members last number mid new → IsBetweenPhases lines after number old new
   phases_more lines left rest after first members last number old now mid new at is handed done =
       let was = handed.each at.past at.each in
@@ -133,7 +137,8 @@ module _ {L S : Type 0} where
       record {
         past = at.past ++ phase ∷ [];
         order = ap (λ (ls : List (Line Global)). ls ++ reverse after) (lines_in-push at.past phase) ∙ append_assoc (lines_in at.past) taken (reverse after)
-            ∙ ap (λ (ls : List (Line Global)). lines_in at.past ++ first ∷ ls) (sym handed.order) ∙ ap (λ (ls : List (Line Global)). lines_in at.past ++ ls) (sym (turned left rest first is)) ∙ at.order;
+            ∙ ap (λ (ls : List (Line Global)). lines_in at.past ++ first ∷ ls) (sym handed.order) ∙ ap (λ (ls : List (Line Global)). lines_in at.past ++ ls) (sym (turned left rest first is)) ∙
+            at.order;
         rises = past-push 0 at.past phase at.rises
             (first.phase, All-cons (λ (line : Line Global). line.phase ≡ first.phase) first handed.more refl handed.phase) (omega (arith, up, last_is));
         last_is = last_in-push 0 at.past phase;
@@ -142,11 +147,11 @@ module _ {L S : Type 0} where
       }
 
   -- all phases were run
-  all_lines : (lines left : List (Line Global)) (last : ℕ) (old now : Crew L S) → (at : IsBetweenPhases lines left last old now) → left ≡ [] → lines_in at.past ≡ lines
+  all_lines : (lines left : List (Line Global)) (last : ℕ) (old now : PassMap L S) → (at : IsBetweenPhases lines left last old now) → left ≡ [] → lines_in at.past ≡ lines
   all_lines lines left last old now at none =
       sym (append-nil (lines_in at.past)) ∙ ap (λ (ls : List (Line Global)). lines_in at.past ++ reverse ls) (sym none) ∙ at.order
 
-  pub phases_run : (lines left : List (Line Global)) (last : ℕ) (old now : Crew L S) → IsBetweenPhases lines left last old now → left ≡ [] → HasRunAllPhases lines now
+  pub phases_run : (lines left : List (Line Global)) (last : ℕ) (old now : PassMap L S) → IsBetweenPhases lines left last old now → left ≡ [] → HasRunAllPhases lines now
   phases_run lines left last old now at none =
       record {
         past = at.past;
@@ -155,7 +160,7 @@ module _ {L S : Type 0} where
         run = λ c m is. let e = at.each c m is in (e.0, e.1.run);
       }
 
-  pub phases_end : (lines left : List (Line Global)) (last : ℕ) (old now : Crew L S) → IsBetweenPhases lines left last old now → left ≡ [] → HasRunAll lines old now
+  pub phases_end : (lines left : List (Line Global)) (last : ℕ) (old now : PassMap L S) → IsBetweenPhases lines left last old now → left ≡ [] → HasRunAll lines old now
   phases_end lines left last old now at none =
       record {
         each = λ c m is.
@@ -172,5 +177,5 @@ module _ {L S : Type 0} where
       }
 
   -- who is named by the lines that are left is there
-  pub there_now : (left : List (Line Global)) (old now : Crew L S) → StayThere old now → All (λ line. IsThere old line.by) left → All (λ line. IsThere now line.by) left
+  pub there_now : (left : List (Line Global)) (old now : PassMap L S) → StayThere old now → All (λ line. IsThere old line.by) left → All (λ line. IsThere now line.by) left
   there_now left old now stay all k d h = stay _ (all k d h)

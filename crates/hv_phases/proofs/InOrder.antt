@@ -1,5 +1,6 @@
 -- Lines whose entries stand in a history one line after the other.
-use Rattle.std.proofs.Common.{◌≡◌, ℕ, zero, suc, ◌+◌, ◌<◌, ◌==◌, List, [], ◌∷◌, ◌++◌, length, get_or, refl, sym, ap, ◌∙◌, subst, arith, append-nil, append_assoc, Bool, true, false, Option, None, Some, inl, inr}
+use Rattle.std.proofs.Common.{◌≡◌, ℕ, zero, suc, ◌+◌, ◌<◌, ◌==◌, List, [], ◌∷◌, ◌++◌, length, get_or, refl, sym, ap, ◌∙◌, subst, arith, append-nil, append_assoc, Bool, true, false, Option, None, Some}
+use Rattle.std.proofs.Common.{inl, inr}
 use Rattle.std.specs.Prelude.{◌⊎◌, drop, map, option_and_then, option_map, slice_get, reverse, All, if◌then◌else◌}
 use Rattle.std.specs.List.{Contains}
 use Rattle.std.proofs.lemmas.Bool.{eq-eqb, eqb-true, false≢true}
@@ -10,9 +11,9 @@ use Rattle.std.proofs.lemmas.List.Elements.{All-cons, All-head, All-nil, All-tai
 use Rattle.std.specs.declared.alloc.Global.{Global}
 use Rattle.hv_history.specs.declared.entry.Entry.{Entry}
 use Rattle.hv_policy.specs.declared.event.Caller.{Caller}
-use Rattle.hv_phases.specs.Crew.{AreCallersOf, Crew, Each, HasDone, HasRunInOrder, HaveRun, HaveRunInOrder, IsReady, IsThere, IsToldOf, IsTurn, KeepsOrder, last_in_turn, member_of}
+use Rattle.hv_phases.specs.PassMap.{AreCallersOf, PassMap, Each, HasDone, HasRunInOrder, HaveRun, HaveRunInOrder, IsReady, IsThere, IsToldOf, IsTurn, KeepsOrder, last_in_turn, member_of}
 use Rattle.hv_phases.specs.Lines.{AreInOrder}
-use Rattle.hv_phases.specs.declared.crew.Member.{Member}
+use Rattle.hv_phases.specs.declared.pass_map.PassEntry.{PassEntry}
 use Rattle.hv_phases.proofs.Asked.{action_by}
 use Rattle.hv_phases.proofs.Handing.{IsBetween, between_first, between_line}
 use Rattle.hv_phases.proofs.Members.{each_changed, none_there}
@@ -102,9 +103,11 @@ not_empty x xs same = cc
 -- the entries of two histories, of each of which each caller has the receipts
 module _ (n : ℕ) (x y : Entry Global) (xs ys : List (Entry Global)) where
   first_at : (t : Bool) → is_caller x.event.by y.event.by ≡ t → receipts_by x.event.by n (x ∷ xs) ≡ receipts_by x.event.by n (y ∷ ys) → x ≡ y
-  first_at t is same = by t (sym (own_first x.event.by n x xs refl) ∙ same ∙ ap (λ (b : Bool). if b then receipt n y.event y.reply ∷ receipts_by x.event.by (n + 1) ys else receipts_by x.event.by (n + 1) ys) is)
+  first_at t is same = by t (sym (own_first x.event.by n x xs refl) ∙ same ∙ ap (λ (b : Bool). if b then receipt n y.event y.reply ∷ receipts_by x.event.by (n + 1) ys else receipts_by x.event.by
+      (n + 1) ys) is)
     where
-      by : (t : Bool) → receipt n x.event x.reply ∷ receipts_by x.event.by (n + 1) xs ≡ (if t then receipt n y.event y.reply ∷ receipts_by x.event.by (n + 1) ys else receipts_by x.event.by (n + 1) ys) → x ≡ y
+      by : (t : Bool) → receipt n x.event x.reply ∷ receipts_by x.event.by (n + 1) xs ≡ (if t then receipt n y.event y.reply ∷ receipts_by x.event.by (n + 1) ys else receipts_by x.event.by (n + 1) ys)
+          → x ≡ y
       by true same = ap entry_in (first_of _ _ _ _ same)
       by false same =
           let above : n < n = All-head (λ (r : Receipt). n < r.number) (receipt n x.event x.reply) (receipts_by x.event.by (n + 1) xs)
@@ -179,7 +182,7 @@ entries_by c [] all = All-nil (IsBy c)
 entries_by c (r ∷ rs) all =
     All-cons (IsBy c) (entry_in r) (map entry_in rs) (All-head (λ (r : Receipt). r.event.by ≡ c) r rs all) (entries_by c rs (All-tail (λ (r : Receipt). r.event.by ≡ c) r rs all))
 
-module _ {L S : Type 0} (line : Line Global) (old new : Crew L S) (m n : Member L) (was : member_of line.by old ≡ Some m) (here : member_of line.by new ≡ Some n)
+module _ {L S : Type 0} (line : Line Global) (old new : PassMap L S) (m n : PassEntry L) (was : member_of line.by old ≡ Some m) (here : member_of line.by new ≡ Some n)
     (others : (c : Caller) → (c ≡ line.by → ⊥) → member_of c new ≡ member_of c old) (did : HasPerformed line.action m.pass n.pass) where
   -- one line more was run, whose receipts are in their turn
   one_more : (ran : List (Line Global)) → m.pass.caller ≡ line.by → (run : HasRunInOrder ran old) → (last now : ℕ) → length run.history ≡ last → last_in_turn last did.more ≡ Some now
@@ -197,12 +200,13 @@ module _ {L S : Type 0} (line : Line Global) (old new : Crew L S) (m n : Member 
         record {
           history = before ++ entries;
           order = order-push 1 ran before line entries run.order all (subst (IsWhole line.by line.action) told whole);
-          told = each_changed old new line.by others (λ (x : Member L). IsToldOf before x.pass) (λ (x : Member L). IsToldOf (before ++ entries) x.pass) n here caller
+          told = each_changed old new line.by others (λ (x : PassEntry L). IsToldOf before x.pass) (λ (x : PassEntry L). IsToldOf (before ++ entries) x.pass) n here caller
               (did.gained.receipts ∙ ap (λ (l : List Receipt). l ++ did.more) ((run.told line.by m was).1 ∙ ap (λ (c : Caller). receipts_by c 1 before) keyed)
               ∙ ap (λ (l : List Receipt). receipts_by line.by 1 before ++ l) told ∙ sym (ends line.by) ∙ ap (λ (c : Caller). receipts_by c 1 (before ++ entries)) (sym caller))
               (λ c x other is_its it.
               it ∙ sym (append-nil (receipts_by x.pass.caller 1 before))
-              ∙ ap (λ (l : List Receipt). receipts_by x.pass.caller 1 before ++ l) (sym (receipts_of_other x.pass.caller line.by (λ same. other (sym is_its ∙ sym same)) (1 + length before) entries all))
+              ∙ ap (λ (l : List Receipt). receipts_by x.pass.caller 1 before ++ l) (sym (receipts_of_other x.pass.caller line.by (λ same. other (sym is_its ∙ sym same)) (1 + length before) entries
+              all))
               ∙ sym (ends x.pass.caller))
               run.told;
         },
@@ -221,7 +225,8 @@ module _ {L S : Type 0} (line : Line Global) (old new : Crew L S) (m n : Member 
   by_turn ran keyed None run = tt
   by_turn ran keyed (Some last) run = by_last ran keyed run.0 last run.1 (last_in_turn last did.more) refl
 
-  pub order_more : (turn_old turn_new : Option ℕ) → turn_new ≡ option_and_then (λ last. last_in_turn last (drop (length m.pass.receipts) n.pass.receipts)) turn_old → KeepsOrder line turn_old turn_new old new
+  pub order_more : (turn_old turn_new : Option ℕ) → turn_new ≡ option_and_then (λ last. last_in_turn last (drop (length m.pass.receipts) n.pass.receipts)) turn_old → KeepsOrder line turn_old turn_new
+      old new
   order_more turn_old turn_new is ran there each run =
       subst (λ (turn : Option ℕ). IsTurn (ran ++ line ∷ []) turn new)
       (sym (is ∙ ap (λ (rs : List Receipt). option_and_then (λ last. last_in_turn last rs) turn_old) gained))
@@ -229,38 +234,42 @@ module _ {L S : Type 0} (line : Line Global) (old new : Crew L S) (m n : Member 
 
 module _ {L S : Type 0} where
   -- these lines were run in order, and the others are left, the first of them last
-  pub record IsBetweenInTurn (lines left : List (Line Global)) (turn : Option ℕ) (old now : Crew L S) : Type 0 where
+  pub record IsBetweenInTurn (lines left : List (Line Global)) (turn : Option ℕ) (old now : PassMap L S) : Type 0 where
     pub between : IsBetween lines left old now
     pub in_turn : IsTurn between.ran turn now
 
-  pub in_turn_first : (lines left : List (Line Global)) (turn : Option ℕ) (old : Crew L S) → left ≡ reverse lines → turn ≡ Some 0 → Each (IsReady []) old → IsBetweenInTurn lines left turn old old
+  pub in_turn_first : (lines left : List (Line Global)) (turn : Option ℕ) (old : PassMap L S) → left ≡ reverse lines → turn ≡ Some 0 → Each (IsReady []) old → IsBetweenInTurn lines left turn old old
   unfolding between_first
   in_turn_first lines left turn old is first each =
       let none : HasRunInOrder [] old = record { history = []; order = refl; told = λ c m here. ((each c m here).0, (each c m here).1.run) } in
       record { between = between_first lines left old is each; in_turn = subst (λ (t : Option ℕ). IsTurn [] t old) (sym first) (none, refl) }
 
-  pub in_turn_line : (lines left rest : List (Line Global)) (line : Line Global) (turn_now turn_new : Option ℕ) (old now new : Crew L S) → IsBetweenInTurn lines left turn_now old now → left ≡ rest ++ line ∷ []
+  pub in_turn_line : (lines left rest : List (Line Global)) (line : Line Global) (turn_now turn_new : Option ℕ) (old now new : PassMap L S) → IsBetweenInTurn lines left turn_now old now → left ≡ rest
+      ++ line ∷ []
       → IsThere old line.by → HasDone line now new → KeepsOrder line turn_now turn_new now new → IsBetweenInTurn lines rest turn_new old new
   unfolding between_line
   in_turn_line lines left rest line turn_now turn_new old now new at is there done keeps =
       let b = at.between in
       record { between = between_line lines left rest line old now new b is there done; in_turn = keeps b.ran (b.there line.by there) b.each at.in_turn }
 
-  pub in_turn_ends : (lines left : List (Line Global)) (turn : Option ℕ) (last : ℕ) (old now : Crew L S) → IsBetweenInTurn lines left turn old now → left ≡ [] → turn ≡ Some last → HasRunInOrder lines now
+  pub in_turn_ends : (lines left : List (Line Global)) (turn : Option ℕ) (last : ℕ) (old now : PassMap L S) → IsBetweenInTurn lines left turn old now → left ≡ [] → turn ≡ Some last → HasRunInOrder
+      lines now
   in_turn_ends lines left turn last old now at none is =
       let b = at.between in
       subst (λ (ls : List (Line Global)). HasRunInOrder ls now) (sym (append-nil b.ran) ∙ ap (λ (ls : List (Line Global)). b.ran ++ reverse ls) (sym none) ∙ b.order)
       (subst (λ (t : Option ℕ). IsTurn b.ran t now) is at.in_turn).0
 
   -- a line's processor isn't there, or it was stopped
-  pub order_none : (line : Line Global) (turn_old turn_new : Option ℕ) (old new : Crew L S) → member_of line.by old ≡ None → KeepsOrder line turn_old turn_new old new
+  pub order_none : (line : Line Global) (turn_old turn_new : Option ℕ) (old new : PassMap L S) → member_of line.by old ≡ None → KeepsOrder line turn_old turn_new old new
   order_none line turn_old turn_new old new none ran there each run = absurd (none_there (member_of line.by old) none there)
 
-  pub order_stopped : (line : Line Global) (turn_old turn_new : Option ℕ) (old new : Crew L S) (m : Member L) → member_of line.by old ≡ Some m → m.stopped ≡ true → KeepsOrder line turn_old turn_new old new
+  pub order_stopped : (line : Line Global) (turn_old turn_new : Option ℕ) (old new : PassMap L S) (m : PassEntry L) → member_of line.by old ≡ Some m → m.stopped ≡ true → KeepsOrder line turn_old
+      turn_new old new
   order_stopped line turn_old turn_new old new m was stopped ran there each run = absurd (false≢true (sym (each line.by m was).1.going ∙ stopped))
 
 -- a history that is settled is the one of which the passes have the receipts
-module _ (lines : List (Line Global)) (passes : List PassValue) (history : List (Entry Global)) (ran : HaveRun lines passes) (merge : IsMerge history (receipts_of passes)) (run : HaveRunInOrder lines passes) where
+module _ (lines : List (Line Global)) (passes : List PassValue) (history : List (Entry Global)) (ran : HaveRun lines passes) (merge : IsMerge history (receipts_of passes))
+    (run : HaveRunInOrder lines passes) where
   abbrev callers : List Caller
   callers = map (λ (p : PassValue). p.caller) passes
 

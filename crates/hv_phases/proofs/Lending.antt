@@ -6,9 +6,9 @@ use Rattle.std.proofs.lemmas.List.{drop_more, get_or-map, length-map, map-append
 use Rattle.std.proofs.lemmas.List.Elements.{All-cons, All-head, All-nil, All-push, All-tail, Contains-append_left, Contains-push}
 use Rattle.std.specs.declared.alloc.Global.{Global}
 use Rattle.hv_policy.specs.declared.event.Caller.{Caller}
-use Rattle.hv_phases.specs.Crew.{AreBusy, AreKeyed, Crew, HasJoined, HasLent, HasRunPhase, HasRunPhases, HasTaken, HaveGained, IsGiven, IsWithin, IsWorkOf, Past, last_in, member_of}
+use Rattle.hv_phases.specs.PassMap.{AreBusy, AreKeyed, PassMap, HasJoined, HasLent, HasRunPhase, HasRunPhases, HasTaken, HaveGained, IsGiven, IsWithin, IsWorkOf, Past, last_in, member_of}
 use Rattle.hv_phases.specs.Lines.{asked_by}
-use Rattle.hv_phases.specs.declared.crew.Member.{Member}
+use Rattle.hv_phases.specs.declared.pass_map.PassEntry.{PassEntry}
 use Rattle.hv_phases.proofs.Members.{each_without, ended, idle_given, joined, none_there, some_there, worked}
 use Rattle.hv_phases.proofs.Named.{either}
 use Rattle.hv_script.specs.declared.line.Line.{Line}
@@ -66,15 +66,15 @@ callers_same {L} works dones did =
 
 module _ {L S : Type 0} where
   -- nothing was taken out yet
-  pub lent_none : (members : List Caller) (works : List (Work L)) (crew : Crew L S) → works ≡ [] → HasLent members members works crew crew
-  lent_none members works crew none =
+  pub lent_none : (members : List Caller) (works : List (Work L)) (pass_map : PassMap L S) → works ≡ [] → HasLent members members works pass_map pass_map
+  lent_none members works pass_map none =
       record {
         each = λ past taken each. (each, subst (All (IsWorkOf past taken)) (sym none) (All-nil (IsWorkOf past taken)));
         idle = λ busy. busy;
         there = λ keyed. (keyed, λ c there. inl there);
       }
 
-  module _ (members : List Caller) (at : ℕ) (d : Caller) (less : at < length members) (works : List (Work L)) (old now new : Crew L S) (so_far : HasLent members (drop at members) works old now)
+  module _ (members : List Caller) (at : ℕ) (d : Caller) (less : at < length members) (works : List (Work L)) (old now new : PassMap L S) (so_far : HasLent members (drop at members) works old now)
       (gone : member_of (get_or members at d) new ≡ None) (others : (c : Caller) → (c ≡ get_or members at d → ⊥) → member_of c new ≡ member_of c now) where
     abbrev by : Caller
     by = get_or members at d
@@ -95,7 +95,8 @@ module _ {L S : Type 0} where
         (λ other. keyed c m (sym (others c other) ∙ is))
 
     -- a work was
-    pub lent_more : (m : Member L) (work : Work L) → member_of by now ≡ Some m → work.pass ≡ m.pass → work.actions.items ≡ m.asked.items → HasLent members (drop (at + 1) members) (works ++ work ∷ []) old new
+    pub lent_more : (m : PassEntry L) (work : Work L) → member_of by now ≡ Some m → work.pass ≡ m.pass → work.actions.items ≡ m.asked.items → HasLent members (drop (at + 1) members)
+        (works ++ work ∷ []) old new
     lent_more m work was pass asked =
         record {
           each = λ past taken each.
@@ -115,7 +116,7 @@ module _ {L S : Type 0} where
                     let own : work.pass.caller ≡ c = ap (λ (p : PassValue). p.caller) pass ∙ t.0 by m was ∙ sym same in
                     inr (subst (λ (xs : List Caller). Contains xs c) (sym all) (subst (λ (x : Caller). Contains (callers_in works ++ x ∷ []) c) (sym own) (Contains-push (callers_in works) c))))
                     (λ other. elim (t.1 c there) [
-                      | inl here ↦ inl (subst (λ (o : Option (Member L)). IsSome o) (sym (others c other)) here)
+                      | inl here ↦ inl (subst (λ (o : Option (PassEntry L)). IsSome o) (sym (others c other)) here)
                       | inr lent ↦ inr (subst (λ (xs : List Caller). Contains xs c) (sym all) (Contains-append_left (callers_in works) (work.pass.caller ∷ []) c lent))
                     ]),
               );
@@ -132,19 +133,19 @@ module _ {L S : Type 0} where
                 still_keyed t.0,
                 λ c there. elim (t.1 c there) [
                   | inl here ↦ either by c (λ same. absurd (none_there (member_of c now) (ap (λ (x : Caller). member_of x now) same ∙ none) here))
-                      (λ other. inl (subst (λ (o : Option (Member L)). IsSome o) (sym (others c other)) here))
+                      (λ other. inl (subst (λ (o : Option (PassEntry L)). IsSome o) (sym (others c other)) here))
                   | inr lent ↦ inr lent
                 ],
               );
         }
 
   -- all were
-  pub lent_all : (members left : List Caller) (works : List (Work L)) (old new : Crew L S) → HasLent members left works old new → left ≡ [] → HasLent members [] works old new
+  pub lent_all : (members left : List Caller) (works : List (Work L)) (old new : PassMap L S) → HasLent members left works old new → left ≡ [] → HasLent members [] works old new
   lent_all members left works old new lent none = subst (λ (xs : List Caller). HasLent members xs works old new) none lent
 
   -- nothing came back yet
-  pub taken_none : (crew : Crew L S) → HasTaken [] crew crew
-  taken_none crew =
+  pub taken_none : (pass_map : PassMap L S) → HasTaken [] pass_map pass_map
+  taken_none pass_map =
       record {
         ended = All-nil (λ (d : Done L). d.end ≡ Finished);
         each = λ past all each. each;
@@ -155,7 +156,8 @@ module _ {L S : Type 0} where
       }
 
   -- one that the host didn't stop did
-  pub taken_more : (done : Done L) (stopped : Bool) (dones : List (Done L)) (old now new : Crew L S) → HasTaken dones old now → HasJoined done.pass stopped now new → done.end ≡ Finished → stopped ≡ false
+  pub taken_more : (done : Done L) (stopped : Bool) (dones : List (Done L)) (old now new : PassMap L S) → HasTaken dones old now → HasJoined done.pass stopped now new → done.end ≡ Finished → stopped ≡
+      false
       → HasTaken (done ∷ dones) old new
   taken_more done stopped dones old now new so_far is finished going =
       record {
@@ -171,14 +173,15 @@ module _ {L S : Type 0} where
         there = λ c there.
             either done.pass.caller c
             (λ same. some_there (member_of c new) is.member (ap (λ (x : Caller). member_of x new) same ∙ is.here))
-            (λ other. subst (λ (o : Option (Member L)). IsSome o) (sym (is.others c other)) (so_far.there c (elim there [
+            (λ other. subst (λ (o : Option (PassEntry L)). IsSome o) (sym (is.others c other)) (so_far.there c (elim there [
               | inl here ↦ inl here
               | inr lent ↦ inr (among_rest c done.pass.caller (callers_done dones) lent.0 other lent.1 lent.2)
             ])));
       }
 
   -- a phase was run
-  pub phase_run : (members : List Caller) (works : List (Work L)) (counts : List ℕ) (dones : List (Done L)) (last now : ℕ) (old mid new : Crew L S) → HasLent members [] works old mid → EachDone works dones
+  pub phase_run : (members : List Caller) (works : List (Work L)) (counts : List ℕ) (dones : List (Done L)) (last now : ℕ) (old mid new : PassMap L S) → HasLent members [] works old mid → EachDone
+      works dones
       → counts ≡ map (λ w. length w.pass.receipts) works → HaveGained counts last now dones → HasTaken dones mid new → HasRunPhase members last now old new
   phase_run members works counts dones last now old mid new lent did counted gained took =
       record {

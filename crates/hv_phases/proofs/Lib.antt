@@ -1,6 +1,6 @@
 pub mod Asked
 pub mod Behind
-pub mod Crews
+pub mod PassMaps
 pub mod Handing
 pub mod InOrder
 pub mod Lending

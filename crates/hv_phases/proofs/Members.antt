@@ -8,9 +8,9 @@ use Rattle.std.proofs.lemmas.List.Elements.{All-nil}
 use Rattle.std.specs.declared.alloc.Global.{Global}
 use Rattle.hv_policy.specs.declared.event.Action.{Action}
 use Rattle.hv_policy.specs.declared.event.Caller.{Caller}
-use Rattle.hv_phases.specs.Crew.{AreBehind, Crew, Each, HasDone, HasGiven, HasJoined, HasRun, HasRunPhases, IsGiven, IsReady, IsWithin, IsWorkOf, Past, StayThere, last_in, member_of}
+use Rattle.hv_phases.specs.PassMap.{AreBehind, PassMap, Each, HasDone, HasGiven, HasJoined, HasRun, HasRunPhases, IsGiven, IsReady, IsWithin, IsWorkOf, Past, StayThere, last_in, member_of}
 use Rattle.hv_phases.specs.Lines.{asked_by}
-use Rattle.hv_phases.specs.declared.crew.Member.{Member}
+use Rattle.hv_phases.specs.declared.pass_map.PassEntry.{PassEntry}
 use Rattle.hv_phases.proofs.Asked.{asked_by-append, asked_by_other, asked_by_own}
 use Rattle.hv_phases.proofs.Behind.{behind-push}
 use Rattle.hv_phases.proofs.Named.{either}
@@ -46,7 +46,8 @@ abbrev pub ended : List (Line Global) → ℕ → Past
 ended lines last = record { lines = lines; last = last }
 
 -- what a thread did that the host didn't stop, behind all that was done before
-pub worked : {L : Type 0} (past : List Past) (taken : List (Line Global)) (now : ℕ) (work : Work L) (done : Done L) → IsDone work done.pass done.done done.end → done.end ≡ Finished → IsWorkOf past taken work
+pub worked : {L : Type 0} (past : List Past) (taken : List (Line Global)) (now : ℕ) (work : Work L) (done : Done L) → IsDone work done.pass done.done done.end → done.end ≡ Finished → IsWorkOf past
+    taken work
     → All (IsWithin (last_in 0 past) now) (drop (length work.pass.receipts) done.pass.receipts) → HasRunPhases (past ++ ended taken now ∷ []) done.pass
 worked past taken now work done did finished is behind =
     let by = work.pass.caller in
@@ -63,7 +64,7 @@ worked past taken now work done did finished is behind =
     (subst (All (IsWithin (last_in 0 past) now)) gained behind)))
 
 -- nothing was asked of it
-pub idle_given : {L : Type 0} (past : List Past) (taken : List (Line Global)) (now : ℕ) (m : Member L) → IsGiven past taken m → m.asked.items ≡ [] → IsGiven (past ++ ended taken now ∷ []) [] m
+pub idle_given : {L : Type 0} (past : List Past) (taken : List (Line Global)) (now : ℕ) (m : PassEntry L) → IsGiven past taken m → m.asked.items ≡ [] → IsGiven (past ++ ended taken now ∷ []) [] m
 idle_given past taken now m given idle =
     let c = m.pass.caller in
     let none : AreWhole c (asked_by c taken) [] = subst (λ (acts : List (Action Global)). AreWhole c acts []) (sym idle ∙ given.asked) refl in
@@ -87,33 +88,33 @@ there_is (Some x) there = (x, refl)
 pub none_there : {X : Type 0} (o : Option X) → o ≡ None → IsSome o → ⊥
 none_there o none there = let is = sym none ∙ (there_is o there).1 in cc
 
-module _ {L S : Type 0} (old new : Crew L S) (by : Caller) (others : (c : Caller) → (c ≡ by → ⊥) → member_of c new ≡ member_of c old) where
+module _ {L S : Type 0} (old new : PassMap L S) (by : Caller) (others : (c : Caller) → (c ≡ by → ⊥) → member_of c new ≡ member_of c old) where
   -- what holds of each, where one was changed
-  pub each_changed : (P Q : Member L → Type 0) (n : Member L) → member_of by new ≡ Some n → n.pass.caller ≡ by → Q n
-      → ((c : Caller) (m : Member L) → (c ≡ by → ⊥) → m.pass.caller ≡ c → P m → Q m) → Each P old → Each Q new
+  pub each_changed : (P Q : PassEntry L → Type 0) (n : PassEntry L) → member_of by new ≡ Some n → n.pass.caller ≡ by → Q n
+      → ((c : Caller) (m : PassEntry L) → (c ≡ by → ⊥) → m.pass.caller ≡ c → P m → Q m) → Each P old → Each Q new
   each_changed P Q n here keyed holds stays each = λ c m is.
       either by c
       (λ same.
       let e : n ≡ m = some_is n m (sym here ∙ ap (λ (x : Caller). member_of x new) (sym same) ∙ is) in
-      subst (λ (x : Member L). (x.pass.caller ≡ c) × Q x) e (keyed ∙ sym same, holds))
+      subst (λ (x : PassEntry L). (x.pass.caller ≡ c) × Q x) e (keyed ∙ sym same, holds))
       (λ other. let was = each c m (sym (others c other) ∙ is) in (was.0, stays c m other was.0 was.1))
 
   -- what holds of each, where one was taken out
-  pub each_without : (P : Member L → Type 0) → member_of by new ≡ None → Each P old → Each P new
+  pub each_without : (P : PassEntry L → Type 0) → member_of by new ≡ None → Each P old → Each P new
   each_without P none each = λ c m is.
       either by c
       (λ same. let wrong = sym none ∙ ap (λ (x : Caller). member_of x new) (sym same) ∙ is in cc)
       (λ other. each c m (sym (others c other) ∙ is))
 
-  pub stay_changed : (n : Member L) → member_of by new ≡ Some n → StayThere old new
+  pub stay_changed : (n : PassEntry L) → member_of by new ≡ Some n → StayThere old new
   stay_changed n here = λ c there.
       either by c
       (λ same. some_there (member_of c new) n (ap (λ (x : Caller). member_of x new) same ∙ here))
-      (λ other. subst (λ (o : Option (Member L)). IsSome o) (sym (others c other)) there)
+      (λ other. subst (λ (o : Option (PassEntry L)). IsSome o) (sym (others c other)) there)
 
-module _ {L S : Type 0} (line : Line Global) (old new : Crew L S) (m n : Member L) (was : member_of line.by old ≡ Some m) (here : member_of line.by new ≡ Some n)
+module _ {L S : Type 0} (line : Line Global) (old new : PassMap L S) (m n : PassEntry L) (was : member_of line.by old ≡ Some m) (here : member_of line.by new ≡ Some n)
     (others : (c : Caller) → (c ≡ line.by → ⊥) → member_of c new ≡ member_of c old) where
-  not_own : (c : Caller) (x : Member L) → (c ≡ line.by → ⊥) → x.pass.caller ≡ c → line.by ≡ x.pass.caller → ⊥
+  not_own : (c : Caller) (x : PassEntry L) → (c ≡ line.by → ⊥) → x.pass.caller ≡ c → line.by ≡ x.pass.caller → ⊥
   not_own c x other keyed same = other (sym keyed ∙ sym same)
 
   -- a line was handed to its processor
@@ -164,8 +165,8 @@ module _ {L S : Type 0} (line : Line Global) (old new : Crew L S) (m n : Member 
       }
 
 -- a pass joined
-pub joined : {L S : Type 0} (P : Member L → Type 0) (pass : PassValue) (stopped : Bool) (old new : Crew L S) → HasJoined pass stopped old new
-    → ((m : Member L) → m.pass ≡ pass → m.asked.items ≡ [] → m.stopped ≡ stopped → P m) → Each P old → Each P new
+pub joined : {L S : Type 0} (P : PassEntry L → Type 0) (pass : PassValue) (stopped : Bool) (old new : PassMap L S) → HasJoined pass stopped old new
+    → ((m : PassEntry L) → m.pass ≡ pass → m.asked.items ≡ [] → m.stopped ≡ stopped → P m) → Each P old → Each P new
 joined P pass stopped old new is holds each =
     each_changed old new pass.caller is.others P P is.member is.here (ap (λ (p : PassValue). p.caller) is.pass_is) (holds is.member is.pass_is is.idle is.stopped_is)
     (λ c m other keyed so. so) each

@@ -14,7 +14,7 @@ use Rattle.std.proofs.lemmas.Map.Keys.{IsDistinct-IsPermutation}
 use Rattle.std.proofs.lemmas.Map.Made.{AllPairs-from_IsDistinct, IsDistinct-from_AllPairs}
 use Rattle.std.specs.declared.alloc.Global.{Global}
 use Rattle.hv_policy.specs.declared.event.Caller.{Caller}
-use Rattle.hv_phases.specs.Crew.{AreCallersOf, HasCaller, IsSetOf, is_key, key_of}
+use Rattle.hv_phases.specs.PassMap.{AreCallersOf, HasCaller, IsSetOf, is_key, key_of}
 use Rattle.hv_script.specs.declared.line.Line.{Line}
 use Rattle.hv_shared.proofs.Callers.{is_itself, same_caller}
 use Rattle.hv_shared.specs.ByCaller.{AreDifferent, is_caller}

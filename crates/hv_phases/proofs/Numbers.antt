@@ -5,7 +5,7 @@ use Rattle.std.proofs.lemmas.Bool.Decides.{nat_tests}
 use Rattle.std.proofs.lemmas.List.{get_or_default}
 use Rattle.std.proofs.lemmas.List.Elements.{All-cons, All-nil, All-weaker}
 use Rattle.std.proofs.lemmas.Option.{none-some, same_Some}
-use Rattle.hv_phases.specs.Crew.{HaveGained, IsWithin, highest_above}
+use Rattle.hv_phases.specs.PassMap.{HaveGained, IsWithin, highest_above}
 use Rattle.hv_phases.proofs.InOrder.{here_is}
 use Rattle.hv_shared.specs.declared.receipts.Receipt.{Receipt}
 use Rattle.hv_threads.specs.declared.phase.Done.{Done}

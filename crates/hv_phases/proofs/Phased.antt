@@ -9,7 +9,7 @@ use Rattle.std.specs.declared.alloc.Global.{Global}
 use Rattle.hv_history.specs.declared.entry.Entry.{Entry}
 use Rattle.hv_policy.specs.declared.event.Action.{Action}
 use Rattle.hv_policy.specs.declared.event.Caller.{Caller}
-use Rattle.hv_phases.specs.Crew.{AreBehind, AreCallersOf, ArePast, HaveRun, HaveRunPhases, Past, last_in, lines_in}
+use Rattle.hv_phases.specs.PassMap.{AreBehind, AreCallersOf, ArePast, HaveRun, HaveRunPhases, Past, last_in, lines_in}
 use Rattle.hv_phases.specs.Lines.{AreApart, AreInOrder, ArePhased, HasCut, asked_by}
 use Rattle.hv_phases.proofs.Asked.{All-second, asked_by-append, asked_by_other, asked_by_own}
 use Rattle.hv_phases.proofs.Behind.{AreSplit, behind_above, behind_none, behind_split, behind_up_to, behind_whole, past_split}
@@ -185,7 +185,8 @@ same_cut last (x ∷ xs) ys [] ws is low high low_too high_too =
     absurd (omega (arith, above, below))
 same_cut last (x ∷ xs) ys (z ∷ zs) ws is low high low_too high_too =
     let one : x ≡ z = first_of x z (xs ++ ys) (zs ++ ws) is in
-    let more = same_cut last xs ys zs ws (rest_of x z (xs ++ ys) (zs ++ ws) is) (All-tail (λ (r : Receipt). r.number ≤ last) x xs low) high (All-tail (λ (r : Receipt). r.number ≤ last) z zs low_too) high_too in
+    let more = same_cut last xs ys zs ws (rest_of x z (xs ++ ys) (zs ++ ws) is) (All-tail (λ (r : Receipt). r.number ≤ last) x xs low) high (All-tail (λ (r : Receipt). r.number ≤ last) z zs low_too)
+    high_too in
     ((λ i. one i ∷ more.0 i), more.1)
 
 -- a history of whose phases each processor's receipts are told is cut where its phases are
@@ -228,7 +229,8 @@ phased past history rises behind before after is apart =
     is_cut past history rises behind before after cut (cut_by (last_in 0 cut.firsts) 1 history)
 
 -- a history that is settled with passes that have run phase by phase
-module _ (lines : List (Line Global)) (passes : List PassValue) (history : List (Entry Global)) (ran : HaveRun lines passes) (merge : IsMerge history (receipts_of passes)) (run : HaveRunPhases lines passes) where
+module _ (lines : List (Line Global)) (passes : List PassValue) (history : List (Entry Global)) (ran : HaveRun lines passes) (merge : IsMerge history (receipts_of passes))
+    (run : HaveRunPhases lines passes) where
   abbrev callers : List Caller
   callers = map (λ (p : PassValue). p.caller) passes
 

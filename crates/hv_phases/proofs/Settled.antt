@@ -8,7 +8,7 @@ use Rattle.std.specs.declared.alloc.Global.{Global}
 use Rattle.hv_history.specs.declared.entry.Entry.{Entry}
 use Rattle.hv_policy.specs.declared.event.Action.{Action}
 use Rattle.hv_policy.specs.declared.event.Caller.{Caller}
-use Rattle.hv_phases.specs.Crew.{AreCallersOf, HaveRun}
+use Rattle.hv_phases.specs.PassMap.{AreCallersOf, HaveRun}
 use Rattle.hv_phases.specs.Lines.{AreRun, asked_by}
 use Rattle.hv_phases.proofs.Asked.{asked_by_none, whole_by}
 use Rattle.hv_script.specs.declared.line.Line.{Line}

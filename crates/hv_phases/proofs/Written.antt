@@ -5,8 +5,8 @@ use Rattle.std.proofs.lemmas.Bool.{false≢true}
 use Rattle.std.proofs.lemmas.Bool.Decides.{nat_tests}
 use Rattle.std.specs.declared.alloc.Global.{Global}
 use Rattle.hv_policy.specs.declared.event.Caller.{Caller}
-use Rattle.hv_phases.specs.Crew.{Crew, HasDone, HasJoined, IsThere, is_key, key_of, member_of}
-use Rattle.hv_phases.specs.declared.crew.Member.{Member}
+use Rattle.hv_phases.specs.PassMap.{PassMap, HasDone, HasJoined, IsThere, is_key, key_of, member_of}
+use Rattle.hv_phases.specs.declared.pass_map.PassEntry.{PassEntry}
 use Rattle.hv_phases.proofs.Members.{none_there, stay_changed}
 use Rattle.hv_phases.proofs.Named.{apart}
 use Rattle.hv_script.specs.declared.line.Line.{Line}
@@ -35,10 +35,10 @@ on_not_err (Err e) P is p = absurd (false≢true is)
 
 module _ {L S : Type 0} (by : Caller) (key : ℕ × ℕ) (is : key ≡ key_of by) where
   -- what was found at the key
-  pub found_at : (crew : Crew L S) (o : Option (Member L)) → o ≡ get_by (is_key key) crew → member_of by crew ≡ o
-  found_at crew o found = ap (λ (k : ℕ × ℕ). get is_key crew k) (sym is) ∙ sym found
+  pub found_at : (pass_map : PassMap L S) (o : Option (PassEntry L)) → o ≡ get_by (is_key key) pass_map → member_of by pass_map ≡ o
+  found_at pass_map o found = ap (λ (k : ℕ × ℕ). get is_key pass_map k) (sym is) ∙ sym found
 
-  module _ (old new : Crew L S) (w : Option (Member L)) (did : UpdatesBy is_key (is_key key) old new w) where
+  module _ (old new : PassMap L S) (w : Option (PassEntry L)) (did : UpdatesBy is_key (is_key key) old new w) where
     pub here : member_of by new ≡ w
     here = ap (λ (k : ℕ × ℕ). get is_key new k) (sym is) ∙ did.1
 
@@ -46,7 +46,8 @@ module _ {L S : Type 0} (by : Caller) (key : ℕ × ℕ) (is : key ≡ key_of by
     others c other = did.2 (key_of c) (ap (λ (k : ℕ × ℕ). is_key k (key_of c)) is ∙ apart by c other)
 
 -- a pass joined
-pub has_joined : {L S : Type 0} (pass : PassValue) (stopped : Bool) (key : ℕ × ℕ) (m : Member L) (old new : Crew L S) → key ≡ key_of pass.caller → m.pass ≡ pass → m.asked.items ≡ [] → m.stopped ≡ stopped
+pub has_joined : {L S : Type 0} (pass : PassValue) (stopped : Bool) (key : ℕ × ℕ) (m : PassEntry L) (old new : PassMap L S) → key ≡ key_of pass.caller → m.pass ≡ pass → m.asked.items ≡ [] → m.stopped
+    ≡ stopped
     → UpdatesBy is_key (is_key key) old new (Some m) → HasJoined pass stopped old new
 has_joined pass stopped key m old new is own idle going did =
     record {
@@ -59,15 +60,15 @@ has_joined pass stopped key m old new is own idle going did =
     }
 
 -- a line's processor isn't there
-pub done_none : {L S : Type 0} (line : Line Global) (old new : Crew L S) → new ≡ old → member_of line.by old ≡ None → HasDone line old new
+pub done_none : {L S : Type 0} (line : Line Global) (old new : PassMap L S) → new ≡ old → member_of line.by old ≡ None → HasDone line old new
 done_none {L} {S} line old new same none =
     record {
       each = λ ran there each. absurd (none_there (member_of line.by old) none there);
-      there = λ c there. subst (λ (x : Crew L S). IsThere x c) (sym same) there;
+      there = λ c there. subst (λ (x : PassMap L S). IsThere x c) (sym same) there;
     }
 
 -- it was stopped
-pub done_stopped : {L S : Type 0} (line : Line Global) (old new : Crew L S) (m n : Member L) → member_of line.by old ≡ Some m → m.stopped ≡ true → member_of line.by new ≡ Some n
+pub done_stopped : {L S : Type 0} (line : Line Global) (old new : PassMap L S) (m n : PassEntry L) → member_of line.by old ≡ Some m → m.stopped ≡ true → member_of line.by new ≡ Some n
     → ((c : Caller) → (c ≡ line.by → ⊥) → member_of c new ≡ member_of c old) → HasDone line old new
 done_stopped line old new m n was stopped now rest =
     record {

@@ -1,2 +1,2 @@
-pub mod Crew
+pub mod PassMap
 pub mod Lines

@@ -12,8 +12,8 @@ use Rattle.hv_threads.specs.Perform.{AreWhole, IsWhole}
 abbrev pub asked_by : Caller → List (Line Global) → List (Action Global)
 asked_by by lines = map (λ line. line.action) (filter (λ line. is_caller by line.by) lines)
 
--- what each processor did, in the history's order, is what its lines ask for, in their order, each of them to its end; and
--- one that no line names did nothing
+-- what each processor did, in the history's order, is what its lines ask for, in their order, each of them to
+-- its end; and one that no line names did nothing
 abbrev pub AreRun : List (Line Global) → List (Entry Global) → Type 0
 AreRun lines history = (by : Caller) → AreWhole by (asked_by by lines) (receipts_by by 1 history)
 
@@ -29,14 +29,17 @@ pub record HasCut (before after : List (Line Global)) (history : List (Entry Glo
   pub before_run : AreRun before own
   pub after_run : AreRun after rest
 
--- wherever one phase ends and another begins, all that was done in the phases before stands before all that was done after
+-- wherever one phase ends and another begins, all that was done in the phases before stands before all that
+-- was done after
 abbrev pub ArePhased : List (Line Global) → List (Entry Global) → Type 0
-ArePhased lines history = (before after : List (Line Global)) → lines ≡ before ++ after → AreApart before after → HasCut before after history
+ArePhased lines history = (before after : List (Line Global)) → lines ≡ before ++ after → AreApart before
+    after → HasCut before after history
 
--- The entries of these lines, from number n on, those of each behind those of the line before it: all by the line's processor, and
--- what the line asks for, to its end.
+-- The entries of these lines, from number n on, those of each behind those of the line before it: all by the
+-- line's processor, and what the line asks for, to its end.
 abbrev pub AreInOrder : ℕ → List (Line Global) → List (Entry Global) → Type 0
 AreInOrder n [] entries = entries ≡ []
 AreInOrder n (line ∷ lines) entries =
-    (own : List (Entry Global)) × (rest : List (Entry Global)) × (entries ≡ own ++ rest) × All (λ e. e.event.by ≡ line.by) own
+    (own : List (Entry Global)) × (rest : List (Entry Global)) × (entries ≡ own ++ rest) × All
+    (λ e. e.event.by ≡ line.by) own
     × IsWhole line.by line.action (receipts_by line.by n own) × AreInOrder (n + length own) lines rest

@@ -1,6 +1,6 @@
 // What shows that a phase began after the one before it had ended: the numbers of its receipts.
 ghost use Rattle.std.specs.Prelude.{◌≡◌, IfOk, IfSome, drop, length, map};
-ghost use Rattle.hv_phases.specs.Crew.{HaveGained, highest_above};
+ghost use Rattle.hv_phases.specs.PassMap.{HaveGained, highest_above};
 ghost use Rattle.hv_shared.specs.Receipts.{list_of};
 
 use hv_threads::{Done, Receipts, Work};

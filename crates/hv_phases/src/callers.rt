@@ -1,8 +1,8 @@
 // The processors of a script.
 ghost use Rattle.std.specs.Prelude.{IfOk, OnOk};
-ghost use Rattle.hv_phases.specs.Crew.{AreCallersOf, HasCaller, IsSetOf};
+ghost use Rattle.hv_phases.specs.PassMap.{AreCallersOf, HasCaller, IsSetOf};
 
-use crate::crew::key_of;
+use crate::pass_map::key_of;
 use hv_policy::Caller;
 use hv_script::Line;
 use indexmap::IndexSet;

@@ -1,13 +1,13 @@
 // The lines of a script in its order, by one thread.
 ghost use Rattle.std.specs.Prelude.{◌≡◌, [], All, IfNone, IsSome, OnErr, OnOk, drop};
 ghost use Rattle.std.specs.Prelude.{option_and_then};
-ghost use Rattle.hv_phases.specs.Crew.{Each, HasDone, HasRunAll, HasRunInOrder, IsReady, KeepsOrder};
-ghost use Rattle.hv_phases.specs.Crew.{last_in_turn, member_of};
+ghost use Rattle.hv_phases.specs.PassMap.{Each, HasDone, HasRunAll, HasRunInOrder, IsReady, KeepsOrder};
+ghost use Rattle.hv_phases.specs.PassMap.{last_in_turn, member_of};
 ghost use Rattle.hv_shared.specs.Receipts.{list_of};
 ghost use Rattle.hv_threads.specs.Perform.{HasBegun, HasPerformed};
 
-use crate::crew::{Crew, key_of};
-use crate::run::Unfinished;
+use crate::pass_map::{PassMap, key_of};
+use crate::run::RunError;
 use hv_history::HostRefused;
 use hv_policy::Action;
 use hv_script::Line;
@@ -24,13 +24,13 @@ pub fn run_in_order<L: Ledger, R: Wait, G: Gate>(
     rt: &R,
     gate: &G,
     shared: &Shared<L>,
-    crew: &mut Crew<L>,
+    pass_map: &mut PassMap<L>,
     lines: Vec<Line<Global>>,
-) -> Option<Unfinished>
-    requires ready { Each (IsReady []) crew.old }
-    requires named { All (λ line. IsSome (member_of line.by crew.old)) lines.items }
-    ensures run { IfNone result (HasRunAll lines.items crew.old crew.new) }
-    ensures order { IfNone result (HasRunInOrder lines.items crew.new) }
+) -> Option<RunError>
+    requires ready { Each (IsReady []) pass_map.old }
+    requires named { All (λ line. IsSome (member_of line.by pass_map.old)) lines.items }
+    ensures run { IfNone result (HasRunAll lines.items pass_map.old pass_map.new) }
+    ensures order { IfNone result (HasRunInOrder lines.items pass_map.new) }
 {
     let mut left = lines;
     left.reverse();
@@ -40,18 +40,18 @@ pub fn run_in_order<L: Ledger, R: Wait, G: Gate>(
     while let Some(line) = left.pop() {
         if line.phase != phase {
             if let Some(why) = stop {
-                return Some(Unfinished::Host(why));
+                return Some(RunError::Host(why));
             }
             phase = line.phase;
         }
-        if let Err(why) = run_line(rt, gate, shared, crew, line, &mut turn) {
+        if let Err(why) = run_line(rt, gate, shared, pass_map, line, &mut turn) {
             stop = stop.or(Some(why));
         }
     }
     match (stop, turn) {
         (None, Some(_)) => None,
-        (None, None) => Some(Unfinished::Settlement(SettleFault::Differs)),
-        (Some(why), _) => Some(Unfinished::Host(why)),
+        (None, None) => Some(RunError::Settlement(SettleFault::Differs)),
+        (Some(why), _) => Some(RunError::Host(why)),
     }
 }
 
@@ -61,15 +61,15 @@ fn run_line<L: Ledger, R: Wait, G: Gate>(
     rt: &R,
     gate: &G,
     shared: &Shared<L>,
-    crew: &mut Crew<L>,
+    pass_map: &mut PassMap<L>,
     line: Line<Global>,
     turn: &mut Option<u64>,
 ) -> Result<(), HostRefused>
-    ensures done { OnOk result (HasDone line crew.old crew.new) }
-    ensures order { OnOk result (KeepsOrder line turn.old turn.new crew.old crew.new) }
+    ensures done { OnOk result (HasDone line pass_map.old pass_map.new) }
+    ensures order { OnOk result (KeepsOrder line turn.old turn.new pass_map.old pass_map.new) }
 {
     let Line { by, action, .. } = line;
-    let Some(member) = crew.get_mut(&key_of(by)) else {
+    let Some(member) = pass_map.get_mut(&key_of(by)) else {
         return Ok(());
     };
     if member.stopped {

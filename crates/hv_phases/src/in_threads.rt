@@ -1,12 +1,12 @@
 // The phases of a script, each processor of a phase in a thread of its own.
 ghost use Rattle.std.specs.Prelude.{◌≡◌, ◌++◌, ◌∷◌, [], All, IfNone, IfOk, IfSome, IsNone, IsSome};
 ghost use Rattle.std.specs.Prelude.{Err, OnOk, Some};
-ghost use Rattle.hv_phases.specs.Crew.{AreBusy, Each, HasGiven, HasHandedOut, HasLent, HasRunAll};
-ghost use Rattle.hv_phases.specs.Crew.{HasRunAllPhases, HasRunPhase, HasTaken, IsReady, member_of};
+ghost use Rattle.hv_phases.specs.PassMap.{AreBusy, Each, HasGiven, HasHandedOut, HasLent, HasRunAll};
+ghost use Rattle.hv_phases.specs.PassMap.{HasRunAllPhases, HasRunPhase, HasTaken, IsReady, member_of};
 
 use crate::barrier::{counts_of, end_of_phase};
-use crate::crew::{Crew, Member, join, key_of};
-use crate::run::Unfinished;
+use crate::pass_map::{PassEntry, PassMap, join, key_of};
+use crate::run::RunError;
 use hv_history::HostRefused;
 use hv_policy::Caller;
 use hv_script::Line;
@@ -16,28 +16,29 @@ use std::sync::Wait;
 use std::sync::ledger::Ledger;
 use std::thread::Threads;
 
-/// Runs the lines phase by phase, and tells why the host stopped a processor, of all that it stopped in a phase
-/// the first. No phase begins after one in which a processor was stopped, and none that there is no memory for.
+/// Runs the lines phase by phase, and tells why the host stopped a processor, of all that it stopped in a
+/// phase the first. No phase begins after one in which a processor was stopped, and none that there is no
+/// memory for.
 pub fn run_in_threads<L: Ledger + Send + Sync, R: Threads + Wait + Sync, G: Gate>(
     rt: &R,
     gate: &G,
     shared: &Shared<L>,
-    crew: &mut Crew<L>,
+    pass_map: &mut PassMap<L>,
     lines: Vec<Line<Global>>,
-) -> Option<Unfinished>
-    requires ready { Each (IsReady []) crew.old }
-    requires named { All (λ line. IsSome (member_of line.by crew.old)) lines.items }
-    ensures run { IfNone result (HasRunAll lines.items crew.old crew.new) }
-    ensures phases { IfNone result (HasRunAllPhases lines.items crew.new) }
+) -> Option<RunError>
+    requires ready { Each (IsReady []) pass_map.old }
+    requires named { All (λ line. IsSome (member_of line.by pass_map.old)) lines.items }
+    ensures run { IfNone result (HasRunAll lines.items pass_map.old pass_map.new) }
+    ensures phases { IfNone result (HasRunAllPhases lines.items pass_map.new) }
 {
     let mut left = lines;
     left.reverse();
     let mut last = 0;
     while let Some(first) = left.pop() {
-        let Ok(members) = hand_out(crew, first, &mut left) else {
-            return Some(Unfinished::Host(HostRefused::Memory));
+        let Ok(members) = distribute(pass_map, first, &mut left) else {
+            return Some(RunError::Host(HostRefused::Memory));
         };
-        match run_members(rt, gate, shared, crew, &members, last) {
+        match run_members(rt, gate, shared, pass_map, &members, last) {
             Ok(now) => last = now,
             Err(why) => return Some(why),
         }
@@ -47,21 +48,22 @@ pub fn run_in_threads<L: Ledger + Send + Sync, R: Threads + Wait + Sync, G: Gate
 
 // Hands out the lines of a phase, of which this is the first, and tells whom they name, in the order of their
 // first lines. The lines that are left stand with the next one last.
-fn hand_out<L: Ledger>(
-    crew: &mut Crew<L>,
+fn distribute<L: Ledger>(
+    pass_map: &mut PassMap<L>,
     first: Line<Global>,
     left: &mut Vec<Line<Global>>,
 ) -> Result<Vec<Caller>, AllocError>
-    requires first { IsSome (member_of first.by crew.old) }
-    requires left { All (λ line. IsSome (member_of line.by crew.old)) left.old.items }
-    ensures { IfOk result (λ members. HasHandedOut first left.old.items left.new.items members.items crew.old
-        crew.new) }
+    requires first { IsSome (member_of first.by pass_map.old) }
+    requires left { All (λ line. IsSome (member_of line.by pass_map.old)) left.old.items }
+    ensures { IfOk result (λ members. HasHandedOut first left.old.items left.new.items members.items
+        pass_map.old
+        pass_map.new) }
 {
     let phase = first.phase;
     let mut members = Vec::new(*left.allocator());
-    give(crew, &mut members, first)?;
+    give(pass_map, &mut members, first)?;
     while let Some(line) = next_of(left, phase) {
-        give(crew, &mut members, line)?;
+        give(pass_map, &mut members, line)?;
     }
     Ok(members)
 }
@@ -80,15 +82,15 @@ fn next_of(left: &mut Vec<Line<Global>>, phase: u32) -> Option<Line<Global>>
 
 // Hands a line to its processor, and notes it among the members of the phase where it had nothing to do yet.
 fn give<L: Ledger>(
-    crew: &mut Crew<L>,
+    pass_map: &mut PassMap<L>,
     members: &mut Vec<Caller>,
     line: Line<Global>,
 ) -> Result<(), AllocError>
-    requires { IsSome (member_of line.by crew.old) }
-    ensures { OnOk result (HasGiven line members.old.items members.new.items crew.old crew.new) }
+    requires { IsSome (member_of line.by pass_map.old) }
+    ensures { OnOk result (HasGiven line members.old.items members.new.items pass_map.old pass_map.new) }
 {
     let Line { by, action, .. } = line;
-    let Some(member) = crew.get_mut(&key_of(by)) else {
+    let Some(member) = pass_map.get_mut(&key_of(by)) else {
         return Ok(());
     };
     if member.asked.is_empty() {
@@ -98,60 +100,63 @@ fn give<L: Ledger>(
     Ok(())
 }
 
-// Does what was handed to these processors, each in a thread of its own. Answers the highest number of a receipt
-// at the end of the phase, where `last` is the highest before it, or why the run isn't whole: why the host
-// stopped the first of those that it stopped, or that a number isn't above `last`.
+// Does what was handed to these processors, each in a thread of its own. Answers the highest number of a
+// receipt at the end of the phase, where `last` is the highest before it, or why the run isn't whole: why the
+// host stopped the first of those that it stopped, or that a number isn't above `last`.
 fn run_members<L: Ledger + Send + Sync, R: Threads + Wait + Sync, G: Gate>(
     rt: &R,
     gate: &G,
     shared: &Shared<L>,
-    crew: &mut Crew<L>,
+    pass_map: &mut PassMap<L>,
     members: &[Caller],
     last: u64,
-) -> Result<u64, Unfinished>
-    ensures { IfOk result (λ now. HasRunPhase members.now last now crew.old crew.new) }
+) -> Result<u64, RunError>
+    ensures { IfOk result (λ now. HasRunPhase members.now last now pass_map.old pass_map.new) }
 {
-    let Ok(works) = works_of(crew, members) else {
-        return Err(Unfinished::Host(HostRefused::Memory));
+    let Ok(works) = works_of(pass_map, members) else {
+        return Err(RunError::Host(HostRefused::Memory));
     };
-    let Ok(counts) = counts_of(*crew.allocator(), &works) else {
-        put_back(crew, works);
-        return Err(Unfinished::Host(HostRefused::Memory));
+    let Ok(counts) = counts_of(*pass_map.allocator(), &works) else {
+        put_back(pass_map, works);
+        return Err(RunError::Host(HostRefused::Memory));
     };
     match run_phase(rt, shared, gate, works) {
         Ok(dones) => {
             let now = end_of_phase(&dones, &counts, last);
-            told(take_back(crew, dones), now)
+            told(take_back(pass_map, dones), now)
         }
         Err(refused) => {
-            put_back(crew, refused.work);
-            Err(Unfinished::Host(HostRefused::Memory))
+            put_back(pass_map, refused.work);
+            Err(RunError::Host(HostRefused::Memory))
         }
     }
 }
 
 // How a phase ended: why the host stopped a processor comes before numbers that aren't above the last one.
-fn told(stop: Option<HostRefused>, now: Option<u64>) -> Result<u64, Unfinished>
+fn told(stop: Option<HostRefused>, now: Option<u64>) -> Result<u64, RunError>
     ensures none { IfOk result (λ _. IsNone stop) }
     ensures now { IfOk result (λ number. now ≡ Some number) }
-    ensures first { IfSome stop (λ why. result ≡ Err (Unfinished.Host why)) }
+    ensures first { IfSome stop (λ why. result ≡ Err (RunError.Host why)) }
 {
     match (stop, now) {
-        (Some(why), _) => Err(Unfinished::Host(why)),
-        (None, None) => Err(Unfinished::Settlement(SettleFault::Differs)),
+        (Some(why), _) => Err(RunError::Host(why)),
+        (None, None) => Err(RunError::Settlement(SettleFault::Differs)),
         (None, Some(number)) => Ok(number),
     }
 }
 
 // Takes out of the crew what these processors are to do.
-fn works_of<L: Ledger>(crew: &mut Crew<L>, members: &[Caller]) -> Result<Vec<Work<L>>, AllocError>
-    ensures { IfOk result (λ works. HasLent members.now [] works.items crew.old
-        crew.new) }
+fn works_of<L: Ledger>(
+    pass_map: &mut PassMap<L>,
+    members: &[Caller],
+) -> Result<Vec<Work<L>>, AllocError>
+    ensures { IfOk result (λ works. HasLent members.now [] works.items pass_map.old
+        pass_map.new) }
 {
-    let mut works = Vec::with_capacity(*crew.allocator(), members.len())?;
+    let mut works = Vec::with_capacity(*pass_map.allocator(), members.len())?;
     for at in 0..members.len() {
-        if let Some(member) = crew.swap_remove(&key_of(members[at])) {
-            let Member { pass, asked, .. } = member;
+        if let Some(member) = pass_map.swap_remove(&key_of(members[at])) {
+            let PassEntry { pass, asked, .. } = member;
             works.push(Work {
                 pass,
                 actions: asked,
@@ -162,8 +167,8 @@ fn works_of<L: Ledger>(crew: &mut Crew<L>, members: &[Caller]) -> Result<Vec<Wor
 }
 
 // Takes back what was done, and tells why the host stopped the first of those that it stopped.
-fn take_back<L: Ledger>(crew: &mut Crew<L>, dones: Vec<Done<L>>) -> Option<HostRefused>
-    ensures { IfNone result (HasTaken dones.items crew.old crew.new) }
+fn take_back<L: Ledger>(pass_map: &mut PassMap<L>, dones: Vec<Done<L>>) -> Option<HostRefused>
+    ensures { IfNone result (HasTaken dones.items pass_map.old pass_map.new) }
 {
     let mut left = dones;
     let mut stop = None;
@@ -176,7 +181,7 @@ fn take_back<L: Ledger>(crew: &mut Crew<L>, dones: Vec<Done<L>>) -> Option<HostR
                 true
             }
         };
-        if join(crew, pass, stopped).is_err() {
+        if join(pass_map, pass, stopped).is_err() {
             stop = Some(HostRefused::Memory);
         }
     }
@@ -184,12 +189,12 @@ fn take_back<L: Ledger>(crew: &mut Crew<L>, dones: Vec<Done<L>>) -> Option<HostR
 }
 
 // Takes back what wasn't begun.
-fn put_back<L: Ledger>(crew: &mut Crew<L>, works: Vec<Work<L>>) {
+fn put_back<L: Ledger>(pass_map: &mut PassMap<L>, works: Vec<Work<L>>) {
     let mut left = works;
     while let Some(work) = left.pop() {
         let Work { pass, actions } = work;
         drop(actions);
-        if join(crew, pass, true).is_err() {
+        if join(pass_map, pass, true).is_err() {
             return;
         }
     }

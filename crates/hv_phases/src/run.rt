@@ -1,13 +1,13 @@
 // A whole run of lines, from a machine to which nothing happened to its settlement.
 ghost use Rattle.std.specs.Prelude.{◌≡◌, ◌<◌, [], All, IfNone, IsFalse, IsNone, IsTrue, Some, map, vec_len};
-ghost use Rattle.hv_phases.specs.Crew.{AreCallersOf, HaveRun, HaveRunInOrder, HaveRunPhases};
+ghost use Rattle.hv_phases.specs.PassMap.{AreCallersOf, HaveRun, HaveRunInOrder, HaveRunPhases};
 ghost use Rattle.hv_phases.specs.Lines.{AreInOrder, ArePhased, AreRun};
 ghost use Rattle.hv_shared.specs.Merge.{IsMerge, receipts_of};
 
 use crate::callers::callers_of;
-use crate::crew::{crew_of, leave};
 use crate::in_order::run_in_order;
 use crate::in_threads::run_in_threads;
+use crate::pass_map::{leave, pass_map_of};
 use hv_history::{HostRefused, Kept};
 use hv_policy::Caller;
 use hv_script::Line;
@@ -20,11 +20,11 @@ use std::thread::Threads;
 
 /// Why not all lines were run, or what was run doesn't count.
 #[derive(Clone, Copy, PartialEq, Eq, Debug)]
-pub enum Unfinished {
+pub enum RunError {
     /// The host refused an event, or had no memory for a phase or for the passes.
     Host(HostRefused),
-    /// The receipts don't make the history, or those of a phase aren't behind those of the phases before it, or
-    /// with `serial` those of a line don't follow those of the line before it.
+    /// The receipts don't make the history, or those of a phase aren't behind those of the phases before it,
+    /// or with `serial` those of a line don't follow those of the line before it.
     Settlement(SettleFault),
 }
 
@@ -39,7 +39,7 @@ pub fn run_lines<R: Threads + Wait + Sync, G: Gate>(
     kept: Kept<Global>,
     lines: Vec<Line<Global>>,
     serial: bool,
-) -> (Kept<Global>, Option<Unfinished>)
+) -> (Kept<Global>, Option<RunError>)
     requires empty { kept.history ≡ [] }
     ensures config { IfNone result.1 (result.0.config ≡ kept.config) }
     ensures limit { IfNone result.1 (result.0.limit ≡ kept.limit) }
@@ -48,7 +48,7 @@ pub fn run_lines<R: Threads + Wait + Sync, G: Gate>(
     ensures order { IsTrue serial → IfNone result.1 (AreInOrder 1 lines.items result.0.history) }
 {
     let Ok(callers) = callers_of(*lines.allocator(), &lines) else {
-        return (kept, Some(Unfinished::Host(HostRefused::Memory)));
+        return (kept, Some(RunError::Host(HostRefused::Memory)));
     };
     if callers.is_empty() {
         return (kept, None);
@@ -66,7 +66,7 @@ fn run_under<L: Ledger + Send + Sync, R: Threads + Wait + Sync, G: Gate>(
     callers: Vec<Caller>,
     lines: Vec<Line<Global>>,
     serial: bool,
-) -> (Kept<Global>, Option<Unfinished>)
+) -> (Kept<Global>, Option<RunError>)
     requires empty { kept.history ≡ [] }
     requires some { 0 < vec_len callers }
     requires ledger { (blank.name ≡ L.name) × (blank.parts ≡ L.parts) × (blank.parts ≡ vec_len callers) }
@@ -78,18 +78,19 @@ fn run_under<L: Ledger + Send + Sync, R: Threads + Wait + Sync, G: Gate>(
     ensures order { IsTrue serial → IfNone result.1 (AreInOrder 1 lines.items result.0.history) }
 {
     let Ok(order) = callers.clone() else {
-        return (kept, Some(Unfinished::Host(HostRefused::Memory)));
+        return (kept, Some(RunError::Host(HostRefused::Memory)));
     };
     match Shared::<L>::new(kept, blank, callers) {
         Ok((shared, mut passes)) => {
             let stop = run_on(rt, gate, &shared, &order, &mut passes, lines, serial);
             finish(shared, passes, stop)
         }
-        Err(kept) => (kept, Some(Unfinished::Host(HostRefused::Memory))),
+        Err(kept) => (kept, Some(RunError::Host(HostRefused::Memory))),
     }
 }
 
-// Runs the lines on fresh passes of these callers, and tells why they didn't all run in order, if they didn't.
+// Runs the lines on fresh passes of these callers, and tells why they didn't all run in order, if they
+// didn't.
 fn run_on<L: Ledger + Send + Sync, R: Threads + Wait + Sync, G: Gate>(
     rt: &R,
     gate: &G,
@@ -98,7 +99,7 @@ fn run_on<L: Ledger + Send + Sync, R: Threads + Wait + Sync, G: Gate>(
     passes: &mut Vec<Pass<L>>,
     lines: Vec<Line<Global>>,
     serial: bool,
-) -> Option<Unfinished>
+) -> Option<RunError>
     requires callers { AreCallersOf lines.items callers.now }
     requires passes { map (λ pass. pass.caller) passes.old.items ≡ callers.now }
     requires fresh { All (λ pass. pass.receipts ≡ []) passes.old.items }
@@ -106,17 +107,17 @@ fn run_on<L: Ledger + Send + Sync, R: Threads + Wait + Sync, G: Gate>(
     ensures phases { IsFalse serial → IfNone result (HaveRunPhases lines.items passes.new.items) }
     ensures order { IsTrue serial → IfNone result (HaveRunInOrder lines.items passes.new.items) }
 {
-    let Ok(mut crew) = crew_of(passes) else {
-        return Some(Unfinished::Host(HostRefused::Memory));
+    let Ok(mut pass_map) = pass_map_of(passes) else {
+        return Some(RunError::Host(HostRefused::Memory));
     };
     let stop = if serial {
-        run_in_order(rt, gate, shared, &mut crew, lines)
+        run_in_order(rt, gate, shared, &mut pass_map, lines)
     } else {
-        run_in_threads(rt, gate, shared, &mut crew, lines)
+        run_in_threads(rt, gate, shared, &mut pass_map, lines)
     };
-    match leave(crew, callers, passes) {
+    match leave(pass_map, callers, passes) {
         Ok(()) => stop,
-        Err(_) => Some(Unfinished::Host(HostRefused::Memory)),
+        Err(_) => Some(RunError::Host(HostRefused::Memory)),
     }
 }
 
@@ -124,18 +125,18 @@ fn run_on<L: Ledger + Send + Sync, R: Threads + Wait + Sync, G: Gate>(
 fn finish<L: Ledger>(
     shared: Shared<L>,
     passes: Vec<Pass<L>>,
-    stop: Option<Unfinished>,
-) -> (Kept<Global>, Option<Unfinished>)
+    stop: Option<RunError>,
+) -> (Kept<Global>, Option<RunError>)
     ensures config { IfNone result.1 (result.0.config ≡ shared.config) }
     ensures limit { IfNone result.1 (result.0.limit ≡ shared.limit) }
     ensures merge { IfNone result.1 (IsMerge result.0.history (receipts_of passes.items)) }
     ensures stop { IfNone result.1 (IsNone stop) }
-    ensures first { (why : Unfinished) → stop ≡ Some why → result.1 ≡ Some why }
+    ensures first { (why : RunError) → stop ≡ Some why → result.1 ≡ Some why }
 {
     match (settle(shared, passes), stop) {
         (Ok(kept), None) => (kept, None),
         (Ok(kept), Some(why)) => (kept, Some(why)),
-        (Err(refused), None) => (refused.kept, Some(Unfinished::Settlement(refused.fault))),
+        (Err(refused), None) => (refused.kept, Some(RunError::Settlement(refused.fault))),
         (Err(refused), Some(why)) => (refused.kept, Some(why)),
     }
 }

@@ -25,7 +25,8 @@ module _ {A : Type 0} (f : Flat) (caller : ℕ) (frame : Frame A) where
   faulty None fault.Alignment h = cc
   faulty (Some kind) wrong h = by _ (is_input_valid (row_of kind) frame.rcx) (are_lists_placed (row_of kind) frame) wrong h
     where
-      by : (rest : Option Rule) (valid placed : Bool) (wrong : AbiFault) → cond (not valid) (Some Input) (cond (not placed) (Some fault.Alignment) None) ≡ Some wrong → cond valid (cond placed rest (Some Alignment)) (Some InputValue) ≡ Some (rule_of wrong)
+      by : (rest : Option Rule) (valid placed : Bool) (wrong : AbiFault) → cond (not valid) (Some Input) (cond (not placed) (Some fault.Alignment) None) ≡ Some wrong → cond valid
+          (cond placed rest (Some Alignment)) (Some InputValue) ≡ Some (rule_of wrong)
       by rest false placed UnknownCode h = cc
       by rest false placed Input h = refl
       by rest false placed fault.Alignment h = cc

@@ -56,15 +56,19 @@ module _ {X : Type 0} (id : ℕ) where
   numbered i [] = refl
   numbered i (e ∷ es) = by (own e) refl (numbered i es)
     where
-      by : (b : Bool) → own e ≡ b → list_any (eq_by_cmp nat_cmp i) (numbers es) ≡ list_any (eq_by_cmp pair_cmp (id, i)) (keys_of (filter own es)) → list_any (eq_by_cmp nat_cmp i) (map (λ e. e.0.1) (cond b (e ∷ filter own es) (filter own es))) ≡ list_any (eq_by_cmp pair_cmp (id, i)) (keys_of (cond b (e ∷ filter own es) (filter own es)))
+      by : (b : Bool) → own e ≡ b → list_any (eq_by_cmp nat_cmp i) (numbers es) ≡ list_any (eq_by_cmp pair_cmp (id, i)) (keys_of (filter own es)) → list_any (eq_by_cmp nat_cmp i)
+          (map (λ e. e.0.1) (cond b (e ∷ filter own es) (filter own es))) ≡ list_any (eq_by_cmp pair_cmp (id, i)) (keys_of (cond b (e ∷ filter own es) (filter own es)))
       by true is rest = ap (λ t. t || list_any (eq_by_cmp nat_cmp i) (numbers es)) (sym (own_tied e i is)) ∙ ap (λ t. eq_by_cmp pair_cmp (id, i) e.0 || t) rest
       by false is rest = rest
 
-  apart_numbers : (e : (ℕ × ℕ) × X) (es : List ((ℕ × ℕ) × X)) → own e ≡ true → AllByRecursion (λ y. eq_by_cmp pair_cmp e.0 y ≡ false) (keys_of (filter own es)) → AllByRecursion (λ y. eq_by_cmp nat_cmp e.0.1 y ≡ false) (numbers es)
+  apart_numbers : (e : (ℕ × ℕ) × X) (es : List ((ℕ × ℕ) × X)) → own e ≡ true → AllByRecursion (λ y. eq_by_cmp pair_cmp e.0 y ≡ false) (keys_of (filter own es)) → AllByRecursion
+      (λ y. eq_by_cmp nat_cmp e.0.1 y ≡ false) (numbers es)
   apart_numbers e [] is a = tt
   apart_numbers e (d ∷ es) is a = by (own d) refl a (apart_numbers e es is)
     where
-      by : (b : Bool) → own d ≡ b → AllByRecursion (λ y. eq_by_cmp pair_cmp e.0 y ≡ false) (keys_of (cond b (d ∷ filter own es) (filter own es))) → (AllByRecursion (λ y. eq_by_cmp pair_cmp e.0 y ≡ false) (keys_of (filter own es)) → AllByRecursion (λ y. eq_by_cmp nat_cmp e.0.1 y ≡ false) (numbers es)) → AllByRecursion (λ y. eq_by_cmp nat_cmp e.0.1 y ≡ false) (map (λ e. e.0.1) (cond b (d ∷ filter own es) (filter own es)))
+      by : (b : Bool) → own d ≡ b → AllByRecursion (λ y. eq_by_cmp pair_cmp e.0 y ≡ false) (keys_of (cond b (d ∷ filter own es) (filter own es))) →
+          (AllByRecursion (λ y. eq_by_cmp pair_cmp e.0 y ≡ false) (keys_of (filter own es)) → AllByRecursion (λ y. eq_by_cmp nat_cmp e.0.1 y ≡ false) (numbers es)) → AllByRecursion
+          (λ y. eq_by_cmp nat_cmp e.0.1 y ≡ false) (map (λ e. e.0.1) (cond b (d ∷ filter own es) (filter own es)))
       by true t a rest = (sym (own_tied d e.0.1 t) ∙ ap (λ n. eq_by_cmp pair_cmp (n, e.0.1) d.0) (sym (eqb-true e.0.0 id is)) ∙ a.0, rest a.1)
       by false t a rest = rest a
 
@@ -73,7 +77,9 @@ module _ {X : Type 0} (id : ℕ) where
   distinct_numbers [] d = tt
   distinct_numbers (e ∷ es) d = by (own e) refl d (distinct_numbers es)
     where
-      by : (b : Bool) → own e ≡ b → IsDistinct (eq_by_cmp pair_cmp) (keys_of (cond b (e ∷ filter own es) (filter own es))) → (IsDistinct (eq_by_cmp pair_cmp) (keys_of (filter own es)) → IsDistinct (eq_by_cmp nat_cmp) (numbers es)) → IsDistinct (eq_by_cmp nat_cmp) (map (λ e. e.0.1) (cond b (e ∷ filter own es) (filter own es)))
+      by : (b : Bool) → own e ≡ b → IsDistinct (eq_by_cmp pair_cmp) (keys_of (cond b (e ∷ filter own es) (filter own es))) →
+          (IsDistinct (eq_by_cmp pair_cmp) (keys_of (filter own es)) → IsDistinct (eq_by_cmp nat_cmp) (numbers es)) → IsDistinct (eq_by_cmp nat_cmp)
+          (map (λ e. e.0.1) (cond b (e ∷ filter own es) (filter own es)))
       by true is d rest = (apart_numbers e es is d.0, rest d.1)
       by false is d rest = rest d
 
@@ -83,7 +89,8 @@ module _ {X : Type 0} (id : ℕ) where
       let es : List ((ℕ × ℕ) × X) = entries m in
       let apart = distinct_keys pair_cmp es (entries_sorted m) in
       let ns : List ℕ = numbers es in
-      let all : from_list ns ≡ s = same_set nat_cmp_total nat_cmp-IsAntisymmetric (from_list ns) s (λ i. contains-from_list nat_cmp_total ns i ∙ numbered i es ∙ passing_keys pair_cmp pair_cmp_exact own (id, i) es apart ∙ ap (passes own (id, i)) (sym (get-entries m (id, i))) ∙ h i) in
+      let all : from_list ns ≡ s = same_set nat_cmp_total nat_cmp-IsAntisymmetric (from_list ns) s
+      (λ i. contains-from_list nat_cmp_total ns i ∙ numbered i es ∙ passing_keys pair_cmp pair_cmp_exact own (id, i) es apart ∙ ap (passes own (id, i)) (sym (get-entries m (id, i))) ∙ h i) in
       sym (length-filter own es) ∙ sym (length-map (filter own es) (λ e. e.0.1))
       ∙ sym (len-from_list nat_cmp nat_cmp_total ns (distinct_numbers es (IsDistinct-keys_filter (eq_by_cmp pair_cmp) own es apart))) ∙ ap len all
 
@@ -99,7 +106,8 @@ module _ {X : Type 0} (id : ℕ) where
       by (own e) refl (own_above i es parts.1)
     where
       by : (b : Bool) → own e ≡ b → T (below_all nat_cmp i (own_rows es)) → T (below_all nat_cmp i (cond b ((e.0.1, e.1) ∷ own_rows es) (own_rows es)))
-      by true is rest = both_from (is_lt (nat_cmp i e.0.1)) (below_all nat_cmp i (own_rows es)) (ordered id i e.0 is (both_parts (is_lt (pair_cmp (id, i) e.0)) (below_all pair_cmp (id, i) es) h).0) rest
+      by true is rest = both_from (is_lt (nat_cmp i e.0.1)) (below_all nat_cmp i (own_rows es)) (ordered id i e.0 is (both_parts (is_lt (pair_cmp (id, i) e.0)) (below_all pair_cmp (id, i) es) h).0)
+          rest
       by false is rest = rest
 
   own_sorted : (es : List ((ℕ × ℕ) × X)) → T (is_sorted pair_cmp es) → T (is_sorted nat_cmp (own_rows es))
@@ -109,14 +117,16 @@ module _ {X : Type 0} (id : ℕ) where
       by (own e) refl (own_sorted es parts.1) parts.0
     where
       by : (b : Bool) → own e ≡ b → T (is_sorted nat_cmp (own_rows es)) → T (below_all pair_cmp e.0 es) → T (is_sorted nat_cmp (cond b ((e.0.1, e.1) ∷ own_rows es) (own_rows es)))
-      by true is rest above = both_from (below_all nat_cmp e.0.1 (own_rows es)) (is_sorted nat_cmp (own_rows es)) (own_above e.0.1 es (subst (λ n. T (below_all pair_cmp (n, e.0.1) es)) (eqb-true e.0.0 id is) above)) rest
+      by true is rest above = both_from (below_all nat_cmp e.0.1 (own_rows es)) (is_sorted nat_cmp (own_rows es))
+          (own_above e.0.1 es (subst (λ n. T (below_all pair_cmp (n, e.0.1) es)) (eqb-true e.0.0 id is) above)) rest
       by false is rest above = rest
 
   own_found : (i : ℕ) (es : List ((ℕ × ℕ) × X)) → finmap.find nat_cmp i (own_rows es) ≡ finmap.find pair_cmp (id, i) es
   own_found i [] = refl
   own_found i (e ∷ es) = by (own e) refl (own_found i es)
     where
-      by : (b : Bool) → own e ≡ b → finmap.find nat_cmp i (own_rows es) ≡ finmap.find pair_cmp (id, i) es → finmap.find nat_cmp i (cond b ((e.0.1, e.1) ∷ own_rows es) (own_rows es)) ≡ cond (eq_by_cmp pair_cmp (id, i) e.0) (Some e.1) (finmap.find pair_cmp (id, i) es)
+      by : (b : Bool) → own e ≡ b → finmap.find nat_cmp i (own_rows es) ≡ finmap.find pair_cmp (id, i) es → finmap.find nat_cmp i (cond b ((e.0.1, e.1) ∷ own_rows es) (own_rows es)) ≡ cond
+          (eq_by_cmp pair_cmp (id, i) e.0) (Some e.1) (finmap.find pair_cmp (id, i) es)
       by true is rest = ap (λ t. cond t (Some e.1) (finmap.find nat_cmp i (own_rows es))) (sym (own_tied e i is)) ∙ ap (cond (eq_by_cmp pair_cmp (id, i) e.0) (Some e.1)) rest
       by false is rest = rest ∙ sym (ap (λ t. cond t (Some e.1) (finmap.find pair_cmp (id, i) es)) (tied_pairs id i e.0.0 e.0.1 ∙ ap (λ t. t && eq_by_cmp nat_cmp i e.0.1) (apart_back e.0.0 id is)))
 
@@ -125,13 +135,15 @@ module _ {X : Type 0} (id : ℕ) where
   first_own test [] = refl
   first_own test (e ∷ es) = by (own e) (test e.1) refl refl (first_own test es)
     where
-      by : (a b : Bool) → own e ≡ a → test e.1 ≡ b → option_map (λ e. e.0.1) (find (λ e. own e && test e.1) es) ≡ option_map (λ e. e.0) (find (λ e. test e.1) (own_rows es)) → option_map (λ e. e.0.1) (cond (a && b) (Some e) (find (λ e. own e && test e.1) es)) ≡ option_map (λ e. e.0) (find (λ e. test e.1) (cond a ((e.0.1, e.1) ∷ own_rows es) (own_rows es)))
+      by : (a b : Bool) → own e ≡ a → test e.1 ≡ b → option_map (λ e. e.0.1) (find (λ e. own e && test e.1) es) ≡ option_map (λ e. e.0) (find (λ e. test e.1) (own_rows es)) → option_map (λ e. e.0.1)
+          (cond (a && b) (Some e) (find (λ e. own e && test e.1) es)) ≡ option_map (λ e. e.0) (find (λ e. test e.1) (cond a ((e.0.1, e.1) ∷ own_rows es) (own_rows es)))
       by true true is passes rest = rw passes refl
       by true false is passes rest = rw passes rest
       by false b is passes rest = rest
 
   -- so two maps that have the same rows of a partition have the same first of them
-  pub first_alike : (test : X → Bool) (m n : FinMap pair_cmp X) → ((i : ℕ) → get m (id, i) ≡ get n (id, i)) → option_map (λ e. e.0.1) (find (λ e. own e && test e.1) (entries m)) ≡ option_map (λ e. e.0.1) (find (λ e. own e && test e.1) (entries n))
+  pub first_alike : (test : X → Bool) (m n : FinMap pair_cmp X) → ((i : ℕ) → get m (id, i) ≡ get n (id, i)) → option_map (λ e. e.0.1) (find (λ e. own e && test e.1) (entries m)) ≡ option_map
+      (λ e. e.0.1) (find (λ e. own e && test e.1) (entries n))
   first_alike test m n h =
       let rows : own_rows (entries m) ≡ own_rows (entries n) =
       same_entries nat_cmp nat_cmp_total nat_cmp-IsAntisymmetric (own_rows (entries m)) (own_rows (entries n))
@@ -156,7 +168,8 @@ module _ {X : Type 0} (id : ℕ) where
     changed_found i [] = refl
     changed_found i (e ∷ es) = by (eq_by_cmp nat_cmp i e.0) (changed_found i es)
       where
-        by : (b : Bool) → finmap.find nat_cmp i (changed es) ≡ option_map g (finmap.find nat_cmp i es) → cond b (Some (g e.1)) (finmap.find nat_cmp i (changed es)) ≡ option_map g (cond b (Some e.1) (finmap.find nat_cmp i es))
+        by : (b : Bool) → finmap.find nat_cmp i (changed es) ≡ option_map g (finmap.find nat_cmp i es) → cond b (Some (g e.1)) (finmap.find nat_cmp i (changed es)) ≡ option_map g
+            (cond b (Some e.1) (finmap.find nat_cmp i es))
         by true rest = refl
         by false rest = rest
 
@@ -164,7 +177,8 @@ module _ {X : Type 0} (id : ℕ) where
     first_changed test [] = refl
     first_changed test (e ∷ es) = by (test (g e.1)) (first_changed test es)
       where
-        by : (b : Bool) → option_map (λ e. e.0) (find (λ e. test e.1) (changed es)) ≡ option_map (λ e. e.0) (find (λ e. test (g e.1)) es) → option_map (λ e. e.0) (cond b (Some (e.0, g e.1)) (find (λ e. test e.1) (changed es))) ≡ option_map (λ e. e.0) (cond b (Some e) (find (λ e. test (g e.1)) es))
+        by : (b : Bool) → option_map (λ e. e.0) (find (λ e. test e.1) (changed es)) ≡ option_map (λ e. e.0) (find (λ e. test (g e.1)) es) → option_map (λ e. e.0)
+            (cond b (Some (e.0, g e.1)) (find (λ e. test e.1) (changed es))) ≡ option_map (λ e. e.0) (cond b (Some e) (find (λ e. test (g e.1)) es))
         by true rest = refl
         by false rest = rest
 
@@ -175,5 +189,6 @@ module _ {X : Type 0} (id : ℕ) where
         (λ i. own_found i (entries m) ∙ sym (get-entries m (id, i)) ∙ h i ∙ ap (option_map g) (get-entries n i) ∙ sym (changed_found i (entries n)))
 
     -- so the first of a partition's rows that passes a test is the first there
-    pub first_there : (test : X → Bool) (m : FinMap pair_cmp X) (n : FinMap nat_cmp Y) → ((i : ℕ) → get m (id, i) ≡ option_map g (get n i)) → option_map (λ e. e.0.1) (find (λ e. own e && test e.1) (entries m)) ≡ option_map (λ e. e.0) (find (λ e. test (g e.1)) (entries n))
+    pub first_there : (test : X → Bool) (m : FinMap pair_cmp X) (n : FinMap nat_cmp Y) → ((i : ℕ) → get m (id, i) ≡ option_map g (get n i)) → option_map (λ e. e.0.1)
+        (find (λ e. own e && test e.1) (entries m)) ≡ option_map (λ e. e.0) (find (λ e. test (g e.1)) (entries n))
     first_there test m n h = first_own test (entries m) ∙ ap (λ es. option_map (λ e. e.0) (find (λ e. test e.1) es)) (own_entries m n h) ∙ first_changed test (entries n)

@@ -40,7 +40,8 @@ first_there : (place : Place) (mail : List MailRow) → mail_at place (with_firs
 first_there place [] = refl
 first_there place (row ∷ mail) = by (stands_at place row) refl (first_there place mail)
   where
-    by : (b : Bool) → stands_at place row ≡ b → mail_at place (with_first_shown place mail) ≡ head_shown (mail_at place mail) → mail_at place (cond b (as_shown row ∷ mail) (row ∷ with_first_shown place mail)) ≡ head_shown (cond b (row ∷ mail_at place mail) (mail_at place mail))
+    by : (b : Bool) → stands_at place row ≡ b → mail_at place (with_first_shown place mail) ≡ head_shown (mail_at place mail) → mail_at place
+        (cond b (as_shown row ∷ mail) (row ∷ with_first_shown place mail)) ≡ head_shown (cond b (row ∷ mail_at place mail) (mail_at place mail))
     by true is rest = rw is refl
     by false is rest = rw is rest
 
@@ -48,7 +49,8 @@ first_apart : (place other : Place) → is_place other place ≡ false → (mail
 first_apart place other h [] = refl
 first_apart place other h (row ∷ mail) = by (stands_at other row) (stands_at place row) refl refl (first_apart place other h mail)
   where
-    by : (a b : Bool) → stands_at other row ≡ a → stands_at place row ≡ b → mail_at place (with_first_shown other mail) ≡ mail_at place mail → mail_at place (cond a (as_shown row ∷ mail) (row ∷ with_first_shown other mail)) ≡ cond b (row ∷ mail_at place mail) (mail_at place mail)
+    by : (a b : Bool) → stands_at other row ≡ a → stands_at place row ≡ b → mail_at place (with_first_shown other mail) ≡ mail_at place mail → mail_at place
+        (cond a (as_shown row ∷ mail) (row ∷ with_first_shown other mail)) ≡ cond b (row ∷ mail_at place mail) (mail_at place mail)
     by true true s t rest = let no = sym (apart other place h row t) ∙ s in cc
     by true false s t rest = rw t refl
     by false true s t rest = rw t (ap (λ rows. row ∷ rows) rest)
@@ -94,7 +96,8 @@ pub cleared_there : (place : Place) (mail : List MailRow) → mail_at place (cle
 cleared_there place [] = refl
 cleared_there place (row ∷ mail) = by (stands_at place row) row.shown refl refl (cleared_there place mail)
   where
-    by : (a b : Bool) → stands_at place row ≡ a → row.shown ≡ b → mail_at place (cleared place mail) ≡ filter (λ row. not row.shown) (mail_at place mail) → mail_at place (cond (not (a && b)) (row ∷ cleared place mail) (cleared place mail)) ≡ filter (λ row. not row.shown) (cond a (row ∷ mail_at place mail) (mail_at place mail))
+    by : (a b : Bool) → stands_at place row ≡ a → row.shown ≡ b → mail_at place (cleared place mail) ≡ filter (λ row. not row.shown) (mail_at place mail) → mail_at place
+        (cond (not (a && b)) (row ∷ cleared place mail) (cleared place mail)) ≡ filter (λ row. not row.shown) (cond a (row ∷ mail_at place mail) (mail_at place mail))
     by true true s t rest = rest ∙ sym (ap (λ c. cond (not c) (row ∷ filter (λ row. not row.shown) (mail_at place mail)) (filter (λ row. not row.shown) (mail_at place mail))) t)
     by true false s t rest =
         ap (λ c. cond c (row ∷ mail_at place (cleared place mail)) (mail_at place (cleared place mail))) s ∙ ap (λ rows. row ∷ rows) rest
@@ -113,12 +116,16 @@ abbrev pub is_vp : ℕ → ℕ → Place → Bool
 is_vp part vp place = (place.part == part) && (place.vp == vp)
 
 pub but_vp_there : (part vp : ℕ) (place : Place) (b : Bool) → is_vp part vp place ≡ b → (mail : List MailRow) → mail_at place (mail_but_at part vp mail) ≡ cond b [] (mail_at place mail)
-but_vp_there part vp place true h mail = filter_gone (stands_at place) (λ row. not (is_vp part vp (place_of row))) (λ row is. ap not (ap (is_vp part vp) (is_place_true place (place_of row) is) ∙ h)) mail
-but_vp_there part vp place false h mail = filter_kept (stands_at place) (λ row. not (is_vp part vp (place_of row))) (λ row is. ap not (ap (is_vp part vp) (is_place_true place (place_of row) is) ∙ h)) mail
+but_vp_there part vp place true h mail = filter_gone (stands_at place) (λ row. not (is_vp part vp (place_of row))) (λ row is. ap not (ap (is_vp part vp) (is_place_true place (place_of row) is) ∙ h))
+    mail
+but_vp_there part vp place false h mail = filter_kept (stands_at place) (λ row. not (is_vp part vp (place_of row))) (λ row is. ap not (ap (is_vp part vp) (is_place_true place (place_of row) is) ∙ h))
+    mail
 
 pub but_part_there : (part : ℕ) (place : Place) (b : Bool) → place.part == part ≡ b → (mail : List MailRow) → mail_at place (mail_but part mail) ≡ cond b [] (mail_at place mail)
-but_part_there part place true h mail = filter_gone (stands_at place) (λ row. not (row.part == part)) (λ row is. ap not (ap {A = Place} (λ p. p.part == part) (is_place_true place (place_of row) is) ∙ h)) mail
-but_part_there part place false h mail = filter_kept (stands_at place) (λ row. not (row.part == part)) (λ row is. ap not (ap {A = Place} (λ p. p.part == part) (is_place_true place (place_of row) is) ∙ h)) mail
+but_part_there part place true h mail = filter_gone (stands_at place) (λ row. not (row.part == part))
+    (λ row is. ap not (ap {A = Place} (λ p. p.part == part) (is_place_true place (place_of row) is) ∙ h)) mail
+but_part_there part place false h mail = filter_kept (stands_at place) (λ row. not (row.part == part))
+    (λ row is. ap not (ap {A = Place} (λ p. p.part == part) (is_place_true place (place_of row) is) ∙ h)) mail
 
 -- messages that pass a test of their own go from each place alike, as those of one port
 pub left_there : (keep : MailRow → Bool) (place : Place) (mail : List MailRow) → mail_at place (filter keep mail) ≡ filter keep (mail_at place mail)

@@ -30,7 +30,8 @@ find-mapped_at : {X : Type 0} (g : ℕ → X → X) (q : ℕ) (es : List (ℕ ×
 find-mapped_at g q [] = refl
 find-mapped_at {X = X} g q (e ∷ es) = by (eq_by_cmp nat_cmp q e.0) refl (find-mapped_at g q es)
   where
-    by : (b : Bool) → eq_by_cmp nat_cmp q e.0 ≡ b → finite.find nat_cmp q (map (λ e. (e.0, g e.0 e.1)) es) ≡ option_map (g q) (finite.find nat_cmp q es) → cond b (Some (g e.0 e.1)) (finite.find nat_cmp q (map (λ e. (e.0, g e.0 e.1)) es)) ≡ option_map (g q) (cond b (Some e.1) (finite.find nat_cmp q es))
+    by : (b : Bool) → eq_by_cmp nat_cmp q e.0 ≡ b → finite.find nat_cmp q (map (λ e. (e.0, g e.0 e.1)) es) ≡ option_map (g q) (finite.find nat_cmp q es) → cond b (Some (g e.0 e.1))
+        (finite.find nat_cmp q (map (λ e. (e.0, g e.0 e.1)) es)) ≡ option_map (g q) (cond b (Some e.1) (finite.find nat_cmp q es))
     by true is rest = ap (λ n. Some (g n e.1)) (sym (eqb-true q e.0 (sym (unsigned_tied q e.0) ∙ is)))
     by false is rest = rest
 

@@ -15,7 +15,8 @@ module _ (mail others : List MailRow) (same : IsSameMail mail others) where
   posted_same row place = by (is_place (place_of row) place) refl
     where
       by : (b : Bool) → is_place (place_of row) place ≡ b → mail_at place (posted row mail) ≡ mail_at place (posted row others)
-      by true h = subst (λ p. mail_at p (posted row mail) ≡ mail_at p (posted row others)) (sym (is_place_true (place_of row) place h)) (posted_there row mail ∙ ap (λ rows. next_rows (rows ++ row ∷ [])) (same (place_of row)) ∙ sym (posted_there row others))
+      by true h = subst (λ p. mail_at p (posted row mail) ≡ mail_at p (posted row others)) (sym (is_place_true (place_of row) place h))
+          (posted_there row mail ∙ ap (λ rows. next_rows (rows ++ row ∷ [])) (same (place_of row)) ∙ sym (posted_there row others))
       by false h = posted_apart place row h mail ∙ same place ∙ sym (posted_apart place row h others)
 
   -- Show
@@ -23,7 +24,8 @@ module _ (mail others : List MailRow) (same : IsSameMail mail others) where
   next_same at place = by (is_place at place) refl
     where
       by : (b : Bool) → is_place at place ≡ b → mail_at place (shown_next at mail) ≡ mail_at place (shown_next at others)
-      by true h = subst (λ p. mail_at p (shown_next at mail) ≡ mail_at p (shown_next at others)) (sym (is_place_true at place h)) (next_there at mail ∙ ap next_rows (same at) ∙ sym (next_there at others))
+      by true h = subst (λ p. mail_at p (shown_next at mail) ≡ mail_at p (shown_next at others)) (sym (is_place_true at place h))
+          (next_there at mail ∙ ap next_rows (same at) ∙ sym (next_there at others))
       by false h = next_apart place at h mail ∙ same place ∙ sym (next_apart place at h others)
 
   -- messages that pass a test go from both, as those shown at a place, or of a processor, or of a partition
@@ -36,7 +38,8 @@ module _ (mail others : List MailRow) (same : IsSameMail mail others) where
 nothing_at : (others : List MailRow) → ((place : Place) → [] ≡ mail_at place others) → others ≡ []
 nothing_at [] h = refl
 nothing_at (row ∷ others) h =
-    let some : mail_at (place_of row) (row ∷ others) ≡ row ∷ mail_at (place_of row) others = ap (λ b. cond b (row ∷ mail_at (place_of row) others) (mail_at (place_of row) others)) (is_place_same (place_of row)) in
+    let some : mail_at (place_of row) (row ∷ others) ≡ row ∷ mail_at (place_of row) others = ap (λ b. cond b (row ∷ mail_at (place_of row) others) (mail_at (place_of row) others))
+    (is_place_same (place_of row)) in
     let none = h (place_of row) ∙ some in cc
 
 -- lists that are the same place by place are counted alike
@@ -60,14 +63,19 @@ pub kept_same : (part port born : ℕ) (mail others : List MailRow) → IsSameMa
 kept_same part port born mail others same = count_same (came_through part port born) (length mail) mail others (omega arith) same
 
 -- where all messages of a port pass a test, those that pass it are counted alone
-pub kept_among : (part port born : ℕ) (here : MailRow → Bool) (mail : List MailRow) → AllByRecursion (λ row. came_through part port born row ≡ true → here row ≡ true) mail → kept_of part port born mail ≡ kept_of part port born (filter here mail)
+pub kept_among : (part port born : ℕ) (here : MailRow → Bool) (mail : List MailRow) → AllByRecursion (λ row. came_through part port born row ≡ true → here row ≡ true) mail → kept_of part port born
+    mail ≡ kept_of part port born (filter here mail)
 kept_among part port born here [] h = refl
-kept_among part port born here (row ∷ mail) h = sum_by-cons (λ r. cond (came_through part port born r) 1 0) row mail ∙ by (came_through part port born row) (here row) refl refl (kept_among part port born here mail h.1)
+kept_among part port born here (row ∷ mail) h = sum_by-cons (λ r. cond (came_through part port born r) 1 0) row mail ∙ by (came_through part port born row) (here row) refl refl
+    (kept_among part port born here mail h.1)
   where
-    by : (a b : Bool) → came_through part port born row ≡ a → here row ≡ b → kept_of part port born mail ≡ kept_of part port born (filter here mail) → cond a 1 0 + kept_of part port born mail ≡ kept_of part port born (cond b (row ∷ filter here mail) (filter here mail))
-    by true true s t rest = ap (λ n. 1 + n) rest ∙ sym (sum_by-cons (λ r. cond (came_through part port born r) 1 0) row (filter here mail) ∙ ap (λ b. cond b 1 0 + kept_of part port born (filter here mail)) s)
+    by : (a b : Bool) → came_through part port born row ≡ a → here row ≡ b → kept_of part port born mail ≡ kept_of part port born (filter here mail) → cond a 1 0 + kept_of part port born mail ≡
+        kept_of part port born (cond b (row ∷ filter here mail) (filter here mail))
+    by true true s t rest = ap (λ n. 1 + n) rest ∙ sym (sum_by-cons (λ r. cond (came_through part port born r) 1 0) row (filter here mail) ∙ ap
+        (λ b. cond b 1 0 + kept_of part port born (filter here mail)) s)
     by true false s t rest = let is = h.0 s in cc
-    by false true s t rest = ap (λ n. 0 + n) rest ∙ sym (sum_by-cons (λ r. cond (came_through part port born r) 1 0) row (filter here mail) ∙ ap (λ b. cond b 1 0 + kept_of part port born (filter here mail)) s)
+    by false true s t rest = ap (λ n. 0 + n) rest ∙ sym (sum_by-cons (λ r. cond (came_through part port born r) 1 0) row (filter here mail) ∙ ap
+        (λ b. cond b 1 0 + kept_of part port born (filter here mail)) s)
     by false false s t rest = zero-add _ ∙ rest
 
 -- what all of one list have all of the other have
@@ -81,7 +89,8 @@ all_pass : (test : MailRow → Bool) (mail : List MailRow) → count_by (λ row.
 all_pass test [] none = tt
 all_pass test (row ∷ mail) none = by (test row) refl (sym (sum_by-cons (λ r. cond (not (test r)) 1 0) row mail) ∙ none) (all_pass test mail)
   where
-    by : (b : Bool) → test row ≡ b → cond (not b) 1 0 + count_by (λ row. not (test row)) mail ≡ 0 → (count_by (λ row. not (test row)) mail ≡ 0 → AllByRecursion (λ row. test row ≡ true) mail) → (test row ≡ true) × AllByRecursion (λ row. test row ≡ true) mail
+    by : (b : Bool) → test row ≡ b → cond (not b) 1 0 + count_by (λ row. not (test row)) mail ≡ 0 → (count_by (λ row. not (test row)) mail ≡ 0 → AllByRecursion (λ row. test row ≡ true) mail) →
+        (test row ≡ true) × AllByRecursion (λ row. test row ≡ true) mail
     by true is none rest = (is, rest (sym (zero-add _) ∙ none))
     by false is none rest = absurd (omega arith)
 

@@ -14,7 +14,8 @@ module _ (parent_of : ℕ → Option ℕ) (top : ℕ) where
   within_leads zero id h = (0, eqb-true id top h)
   within_leads (suc steps) id h = by (id == top) (parent_of id) refl refl h (within_leads steps)
     where
-      by : (b : Bool) (o : Option ℕ) → id == top ≡ b → parent_of id ≡ o → b || option_map_or (leads_within steps parent_of top) o false ≡ true → ((p : ℕ) → leads_within steps parent_of top p ≡ true → (n : ℕ) × LeadsUp parent_of top n p) → (n : ℕ) × LeadsUp parent_of top n id
+      by : (b : Bool) (o : Option ℕ) → id == top ≡ b → parent_of id ≡ o → b || option_map_or (leads_within steps parent_of top) o false ≡ true →
+          ((p : ℕ) → leads_within steps parent_of top p ≡ true → (n : ℕ) × LeadsUp parent_of top n p) → (n : ℕ) × LeadsUp parent_of top n id
       by true o here is h rest = (0, eqb-true id top here)
       by false None here is h rest = cc
       by false (Some p) here is h rest = let (n, leads) = rest p h in (suc n, (p, is, leads))
@@ -26,7 +27,8 @@ module _ (parent_of : ℕ → Option ℕ) (top : ℕ) where
   within_more (suc steps) zero id le h = absurd (omega (arith, le))
   within_more (suc steps) (suc more) id le h = by (id == top) (parent_of id) h (λ p. within_more steps more p (omega (arith, le)))
     where
-      by : (b : Bool) (o : Option ℕ) → b || option_map_or (leads_within steps parent_of top) o false ≡ true → ((p : ℕ) → leads_within steps parent_of top p ≡ true → leads_within more parent_of top p ≡ true) → b || option_map_or (leads_within more parent_of top) o false ≡ true
+      by : (b : Bool) (o : Option ℕ) → b || option_map_or (leads_within steps parent_of top) o false ≡ true →
+          ((p : ℕ) → leads_within steps parent_of top p ≡ true → leads_within more parent_of top p ≡ true) → b || option_map_or (leads_within more parent_of top) o false ≡ true
       by true o h rest = refl
       by false None h rest = h
       by false (Some p) h rest = rest p h

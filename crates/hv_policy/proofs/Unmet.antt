@@ -19,7 +19,8 @@ first_of_front : (asks rest : List Ask) (rule : Rule) → first_unmet asks ≡ S
 first_of_front [] rest rule e = cc
 first_of_front (ask ∷ asks) rest rule e = by ask.1 e (first_of_front asks rest rule)
   where
-    by : (met : Bool) → cond met (first_unmet asks) (Some ask.0) ≡ Some rule → (first_unmet asks ≡ Some rule → first_unmet (asks ++ rest) ≡ Some rule) → cond met (first_unmet (asks ++ rest)) (Some ask.0) ≡ Some rule
+    by : (met : Bool) → cond met (first_unmet asks) (Some ask.0) ≡ Some rule → (first_unmet asks ≡ Some rule → first_unmet (asks ++ rest) ≡ Some rule) → cond met (first_unmet (asks ++ rest))
+        (Some ask.0) ≡ Some rule
     by true e past = past e
     by false e past = e
 
@@ -28,7 +29,8 @@ first_of_back : (asks rest : List Ask) → first_unmet asks ≡ None → first_u
 first_of_back [] rest e = refl
 first_of_back (ask ∷ asks) rest e = by ask.1 e (first_of_back asks rest)
   where
-    by : (met : Bool) → cond met (first_unmet asks) (Some ask.0) ≡ None → (first_unmet asks ≡ None → first_unmet (asks ++ rest) ≡ first_unmet rest) → cond met (first_unmet (asks ++ rest)) (Some ask.0) ≡ first_unmet rest
+    by : (met : Bool) → cond met (first_unmet asks) (Some ask.0) ≡ None → (first_unmet asks ≡ None → first_unmet (asks ++ rest) ≡ first_unmet rest) → cond met (first_unmet (asks ++ rest)) (Some ask.0)
+        ≡ first_unmet rest
     by true e past = past e
     by false e past = cc
 

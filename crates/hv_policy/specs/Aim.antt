@@ -7,27 +7,28 @@ use Rattle.hv_defs.specs.declared.aim.Aim.{Aim}
 use Rattle.hv_defs.specs.declared.aim.Aim.TheVariants.{One, Any}
 use Rattle.hv_policy.specs.Flat.{Flat, ConnRow, PortRow, VpRow}
 
--- what a connection is aimed at: the connection, and the port with the id that it keeps, whatever that port's birth
-pub record Aimed : Type 0 where
+-- what a connection is aimed at: the connection, and the port with the id that it keeps, whatever that port's
+-- birth
+pub record ResolvedPort : Type 0 where
   pub conn : ConnRow
   pub port : PortRow
 
-abbrev pub aim_with : ConnRow → Option PortRow → Option Aimed
+abbrev pub aim_with : ConnRow → Option PortRow → Option ResolvedPort
 aim_with conn port = option_map (λ port. record { conn = conn; port = port }) port
 
-abbrev pub aim_by : Flat → Option ConnRow → Option Aimed
+abbrev pub aim_by : Flat → Option ConnRow → Option ResolvedPort
 aim_by f conn = option_and_then (λ conn. aim_with conn (get f.port (conn.part, conn.port))) conn
 
 -- of the connection with this key, if both are there
-abbrev pub aim_of : Flat → ℕ × ℕ → Option Aimed
+abbrev pub aim_of : Flat → ℕ × ℕ → Option ResolvedPort
 aim_of f key = aim_by f (get f.conn key)
 
 -- a test of both, which fails where one is missing
-abbrev pub on_aim : Flat → ℕ × ℕ → (Aimed → Bool) → Bool
+abbrev pub on_aim : Flat → ℕ × ℕ → (ResolvedPort → Bool) → Bool
 on_aim f key test = option_map_or test (aim_of f key) false
 
 -- the port is the one that was there when the connection was made
-abbrev pub is_same_birth : Aimed → Bool
+abbrev pub is_same_birth : ResolvedPort → Bool
 is_same_birth aim = aim.port.born == aim.conn.born
 
 -- a port aims at the processor with this index, among others where it aims at any
@@ -44,15 +45,16 @@ has_target f id Any = true
 abbrev pub on_vp : Flat → ℕ × ℕ → (VpRow → Bool) → Bool
 on_vp f key test = option_map_or test (get f.vp key) false
 
--- the lowest processor of a partition that meets a test: the rows stand by rising partition, and then by rising index
+-- the lowest processor of a partition that meets a test: the rows stand by rising partition, and then by
+-- rising index
 abbrev pub lowest_vp : (VpRow → Bool) → Flat → ℕ → Option ℕ
 lowest_vp test f id = option_map (λ e. e.0.1) (find (λ e. (e.0.0 == id) && test e.1) (entries f.vp))
 
--- the processor of a partition that takes what comes to a port with this aim, where a test says which are ready: the
--- one at which it aims, if it is ready, and for any the lowest of those that are
-abbrev pub taker : (VpRow → Bool) → Flat → ℕ → Aim → Option ℕ
-taker is_ready f id (One vp) = if on_vp f (id, vp) is_ready then Some vp else None
-taker is_ready f id Any = lowest_vp is_ready f id
+-- the processor of a partition that takes what comes to a port with this aim, where a test says which are
+-- ready: the one at which it aims, if it is ready, and for any the lowest of those that are
+abbrev pub select_vp : (VpRow → Bool) → Flat → ℕ → Aim → Option ℕ
+select_vp is_ready f id (One vp) = if on_vp f (id, vp) is_ready then Some vp else None
+select_vp is_ready f id Any = lowest_vp is_ready f id
 
 -- a processor is ready for messages, or for event flags
 abbrev pub is_ready_for_messages : VpRow → Bool
@@ -62,8 +64,8 @@ abbrev pub is_ready_for_flags : VpRow → Bool
 is_ready_for_flags row = register.takes_flags row.registers
 
 -- the processor of the port's partition that takes a message, or an event flag, if there is one
-abbrev pub message_taker : Flat → Aimed → Option ℕ
-message_taker f aim = taker is_ready_for_messages f aim.conn.part aim.port.vp
+abbrev pub message_taker : Flat → ResolvedPort → Option ℕ
+message_taker f aim = select_vp is_ready_for_messages f aim.conn.part aim.port.vp
 
-abbrev pub flag_taker : Flat → Aimed → Option ℕ
-flag_taker f aim = taker is_ready_for_flags f aim.conn.part aim.port.vp
+abbrev pub flag_taker : Flat → ResolvedPort → Option ℕ
+flag_taker f aim = select_vp is_ready_for_flags f aim.conn.part aim.port.vp

@@ -1,5 +1,6 @@
 -- What a served event answers.
-use Rattle.std.specs.Prelude.{ℕ, ◌+◌, ◌&&◌, Bool, true, nat_lt, if◌then◌else◌, List, [], ◌∷◌, ◌++◌, find, Option, None, Some}
+use Rattle.std.specs.Prelude.{ℕ, ◌+◌, ◌&&◌, Bool, true, nat_lt, if◌then◌else◌, List, [], ◌∷◌, ◌++◌, find}
+use Rattle.std.specs.Prelude.{Option, None, Some}
 use Rattle.std.specs.FinMap.{get, entries}
 use Rattle.std.specs.Int.{w64, to_le_bytes}
 use Rattle.std.specs.Option.{option_map_or}
@@ -12,9 +13,17 @@ use Rattle.hv_abi.specs.Check.{call_of}
 use Rattle.hv_abi.specs.declared.call_kind.CallKind.{CallKind}
 use Rattle.hv_abi.specs.declared.frame.Frame.{Frame}
 use Rattle.hv_calls.specs.declared.call.Call.{Call}
-use Rattle.hv_calls.specs.declared.call.Call.TheVariants.{CreatePartition, InitializePartition, FinalizePartition, DeletePartition, GetPartitionProperty, SetPartitionProperty, GetPartitionId, GetNextChildPartition, DepositMemory, WithdrawMemory, GetMemoryBalance, CreateVp, DeleteVp, GetVpRegisters, SetVpRegisters, DeletePort, DisconnectPort, PostMessage, SignalEvent, CreatePort, ConnectPort}
+use Rattle.hv_calls.specs.declared.call.Call.TheVariants.{CreatePartition, InitializePartition}
+use Rattle.hv_calls.specs.declared.call.Call.TheVariants.{FinalizePartition, DeletePartition}
+use Rattle.hv_calls.specs.declared.call.Call.TheVariants.{GetPartitionProperty, SetPartitionProperty}
+use Rattle.hv_calls.specs.declared.call.Call.TheVariants.{GetPartitionId, GetNextChildPartition}
+use Rattle.hv_calls.specs.declared.call.Call.TheVariants.{DepositMemory, WithdrawMemory, GetMemoryBalance}
+use Rattle.hv_calls.specs.declared.call.Call.TheVariants.{CreateVp, DeleteVp, GetVpRegisters, SetVpRegisters}
+use Rattle.hv_calls.specs.declared.call.Call.TheVariants.{DeletePort, DisconnectPort, PostMessage}
+use Rattle.hv_calls.specs.declared.call.Call.TheVariants.{SignalEvent, CreatePort, ConnectPort}
 use Rattle.hv_policy.specs.declared.event.Action.{Action}
-use Rattle.hv_policy.specs.declared.event.Action.TheVariants.{Hypercall, ReadMsr, WriteMsr, ReadSlot, ClearSlot, ReadFlags, ClearFlag, TakeInterrupt}
+use Rattle.hv_policy.specs.declared.event.Action.TheVariants.{Hypercall, ReadMsr, WriteMsr, ReadSlot}
+use Rattle.hv_policy.specs.declared.event.Action.TheVariants.{ClearSlot, ReadFlags, ClearFlag, TakeInterrupt}
 use Rattle.hv_policy.specs.declared.event.Caller.{Caller}
 use Rattle.hv_policy.specs.declared.event.Event.{Event}
 use Rattle.hv_policy.specs.declared.reply.Reply.{Reply}
@@ -32,7 +41,8 @@ first_id e = option_map_or (λ e. e.0) e 0
 
 -- the least id above `previous` among the children of `parent`, 0 if there is none: ids stand in rising order
 abbrev pub next_child : Flat → ℕ → ℕ → ℕ
-next_child f parent previous = first_id (find (λ e. is_parent parent e.1.parent && nat_lt previous e.0) (entries f.part))
+next_child f parent previous = first_id (find (λ e. is_parent parent e.1.parent && nat_lt previous e.0)
+    (entries f.part))
 
 abbrev pub page_or_0 : Option ℕ → ℕ
 page_or_0 page = option_map_or (λ page. page) page 0
@@ -62,9 +72,11 @@ vector_of row = option_map_or (λ row. option_map_or (λ vector. vector) (highes
 -- the output bytes of a call, about its target; of a rep call those of its own element
 abbrev pub output : Call → Flat → ℕ → ℕ → List ℕ
 output (CreatePartition flags) f caller target = to_le_bytes w64 f.next
-output (GetPartitionProperty partition code) f caller target = to_le_bytes w64 (value_of (property_of code) (get f.part target))
+output (GetPartitionProperty partition code) f caller target = to_le_bytes w64
+    (value_of (property_of code) (get f.part target))
 output GetPartitionId f caller target = to_le_bytes w64 caller
-output (GetNextChildPartition partition previous) f caller target = to_le_bytes w64 (next_child f target previous)
+output (GetNextChildPartition partition previous) f caller target = to_le_bytes w64
+    (next_child f target previous)
 output (WithdrawMemory partition) f caller target = to_le_bytes w64 (page_or_0 (lowest_pooled f target))
 output (GetMemoryBalance partition) f caller target =
     to_le_bytes w64 (available f target) ++ to_le_bytes w64 (in_use f target)
@@ -93,12 +105,14 @@ is_done frame kind = option_map_or (λ kind. is_last kind frame) kind true
 
 -- the reply to a call that is served, which is done with its last element
 abbrev pub reply_with : {A : Type 0} → Frame A → List ℕ → Reply
-reply_with frame bytes = if is_done frame (call_of frame) then Served bytes else More (bits frame.rcx 48 12 + 1) bytes
+reply_with frame bytes = if is_done frame (call_of frame) then Served bytes else More
+    (bits frame.rcx 48 12 + 1) bytes
 
 -- the reply to an action that is served; an access reads its own processor
 abbrev pub action_answer : {A : Type 0} → Flat → Caller → Action A → Reply
 action_answer f by (Hypercall frame) = reply_with frame (output_of f by.part (called frame))
-action_answer f by (ReadMsr msr) = Served (to_le_bytes w64 (msr_of (get f.vp (by.part, by.vp)) (name_of_msr msr)))
+action_answer f by (ReadMsr msr) = Served (to_le_bytes w64
+    (msr_of (get f.vp (by.part, by.vp)) (name_of_msr msr)))
 action_answer f by (WriteMsr msr value) = Served []
 action_answer f by (ReadSlot sint) = Served (slot_at (place_at by sint) f.mail)
 action_answer f by (ClearSlot sint) = Served []

@@ -4,7 +4,8 @@ use Rattle.std.specs.List.{range_with_len}
 use Rattle.std.specs.FinMap as map
 use Rattle.std.specs.FinSet as set
 use Rattle.hv_defs.specs.Registers.{start_registers}
-use Rattle.hv_defs.specs.declared.sizes.TheConstants.{ROOT_ID, FIRST_CHILD_ID, CPU_RESERVE_START, CPU_CAP_START, CPU_WEIGHT_START}
+use Rattle.hv_defs.specs.declared.sizes.TheConstants.{ROOT_ID, FIRST_CHILD_ID, CPU_RESERVE_START}
+use Rattle.hv_defs.specs.declared.sizes.TheConstants.{CPU_CAP_START, CPU_WEIGHT_START}
 use Rattle.hv_defs.specs.declared.life.Life.TheVariants.{Active}
 use Rattle.hv_privs.specs.declared.Privileges.{Privileges}
 use Rattle.hv_policy.specs.declared.config.Config.{Config}

@@ -10,10 +10,11 @@ abbrev pub boot_fault : Config → Option BootRefused
 boot_fault config =
     if (config.pages == 0) || nat_lt MAX_PAGES config.pages then Some Pages
     else if nat_lt config.pages config.pool then Some Pool
-    else if (config.vps == 0) || nat_lt MAX_VPS config.vps || nat_lt config.pool (VP_CHARGE * config.vps) then Some Vps
+    else if (config.vps == 0) || nat_lt MAX_VPS config.vps || nat_lt config.pool (VP_CHARGE * config.vps) then
+    Some Vps
     else None
 
--- a configuration is refused for its first fault, and one without a fault for want of memory alone
+-- a configuration is refused for its first fault, and one without a fault for lack of memory alone
 abbrev pub IsBootRefusal : Config → BootRefused → Type 0
 IsBootRefusal config Pages = boot_fault config ≡ Some Pages
 IsBootRefusal config Pool = boot_fault config ≡ Some Pool

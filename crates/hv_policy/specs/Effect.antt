@@ -1,27 +1,37 @@
 -- What a served event changes.
-use Rattle.std.specs.Prelude.{ℕ, zero, suc, ◌+◌, ◌==◌, ◌&&◌, not, true, false, Bool, cond, if◌then◌else◌, List, [], ◌∷◌, ◌++◌, map, Option, None, Some}
+use Rattle.std.specs.Prelude.{ℕ, zero, suc, ◌+◌, ◌==◌, ◌&&◌, not, true, false, Bool, cond, if◌then◌else◌}
+use Rattle.std.specs.Prelude.{List, [], ◌∷◌, ◌++◌, map, Option, None, Some}
 use Rattle.std.specs.Option.{option_map_or}
 use Rattle.std.specs.Ordering.{nat_cmp}
 use Rattle.std.specs.declared.cmp.Ordering.{Ordering}
 use Rattle.std.specs.FinSet as set
 use Rattle.std.specs.FinMap.{FinMap, get, insert, remove, entries, from_entries, retain_keys}
 use Rattle.hv_calls.specs.declared.call.Call.{Call}
-use Rattle.hv_calls.specs.declared.call.Call.TheVariants.{CreatePartition, InitializePartition, FinalizePartition, DeletePartition, GetPartitionProperty, SetPartitionProperty, GetPartitionId, GetNextChildPartition, DepositMemory, WithdrawMemory, GetMemoryBalance, CreateVp, DeleteVp, GetVpRegisters, SetVpRegisters, DeletePort, DisconnectPort, PostMessage, SignalEvent, CreatePort, ConnectPort}
+use Rattle.hv_calls.specs.declared.call.Call.TheVariants.{CreatePartition, InitializePartition}
+use Rattle.hv_calls.specs.declared.call.Call.TheVariants.{FinalizePartition, DeletePartition}
+use Rattle.hv_calls.specs.declared.call.Call.TheVariants.{GetPartitionProperty, SetPartitionProperty}
+use Rattle.hv_calls.specs.declared.call.Call.TheVariants.{GetPartitionId, GetNextChildPartition}
+use Rattle.hv_calls.specs.declared.call.Call.TheVariants.{DepositMemory, WithdrawMemory, GetMemoryBalance}
+use Rattle.hv_calls.specs.declared.call.Call.TheVariants.{CreateVp, DeleteVp, GetVpRegisters, SetVpRegisters}
+use Rattle.hv_calls.specs.declared.call.Call.TheVariants.{DeletePort, DisconnectPort, PostMessage}
+use Rattle.hv_calls.specs.declared.call.Call.TheVariants.{SignalEvent, CreatePort, ConnectPort}
 use Rattle.hv_defs.specs.Registers as register
 use Rattle.hv_defs.specs.Vectors as vectors
 use Rattle.hv_defs.specs.declared.life.Life.TheVariants.{Created, Active, Finalized}
 use Rattle.hv_defs.specs.declared.port_kind.PortKind.{PortKind}
 use Rattle.hv_defs.specs.declared.port_kind.PortKind.TheVariants as port_type
-use Rattle.hv_defs.specs.declared.sizes.TheConstants.{CPU_RESERVE_START, CPU_CAP_START, CPU_WEIGHT_START, SINTS}
+use Rattle.hv_defs.specs.declared.sizes.TheConstants.{CPU_RESERVE_START, CPU_CAP_START, CPU_WEIGHT_START}
+use Rattle.hv_defs.specs.declared.sizes.TheConstants.{SINTS}
 use Rattle.hv_defs.specs.declared.registers.TheConstants.{EOM}
 use Rattle.hv_privs.specs.declared.Privileges.{Privileges}
 use Rattle.hv_privs.specs.declared.TheConstants.Privileges as privilege
 use Rattle.hv_privs.specs.Privileges.{of, restrict}
 use Rattle.hv_policy.specs.declared.event.Action.{Action}
-use Rattle.hv_policy.specs.declared.event.Action.TheVariants.{Hypercall, ReadMsr, WriteMsr, ReadSlot, ClearSlot, ReadFlags, ClearFlag, TakeInterrupt}
+use Rattle.hv_policy.specs.declared.event.Action.TheVariants.{Hypercall, ReadMsr, WriteMsr, ReadSlot}
+use Rattle.hv_policy.specs.declared.event.Action.TheVariants.{ClearSlot, ReadFlags, ClearFlag, TakeInterrupt}
 use Rattle.hv_policy.specs.declared.event.Caller.{Caller}
 use Rattle.hv_policy.specs.declared.event.Event.{Event}
-use Rattle.hv_policy.specs.Aim.{Aimed, aim_of, flag_taker, is_ready_for_messages, message_taker, on_vp}
+use Rattle.hv_policy.specs.Aim.{ResolvedPort, aim_of, flag_taker, is_ready_for_messages, message_taker, on_vp}
 use Rattle.hv_policy.specs.Boot.{start_vp}
 use Rattle.hv_policy.specs.Call.{called}
 use Rattle.hv_policy.specs.Count.{lowest_pooled}
@@ -30,11 +40,12 @@ use Rattle.hv_policy.specs.Flat.{Flat, PartRow, PageRow, VpRow, PortRow, MailRow
 use Rattle.hv_policy.specs.Mail as mail
 use Rattle.hv_policy.specs.Mail.{Place, place_at}
 use Rattle.hv_policy.specs.Met.{is_running}
-use Rattle.hv_policy.specs.Needs.{meant_id, target_of}
+use Rattle.hv_policy.specs.Needs.{resolved_id, target_of}
 use Rattle.hv_policy.specs.Property.{property_of, with_property}
 use Rattle.hv_policy.specs.Subtree.{is_in_subtree}
 use Rattle.hv_policy.specs.declared.property.Property.{Property}
-use Rattle.hv_policy.specs.declared.property.Property.TheVariants.{PrivilegeFlags, CpuReserve, CpuCap, CpuWeight}
+use Rattle.hv_policy.specs.declared.property.Property.TheVariants.{PrivilegeFlags, CpuReserve, CpuCap}
+use Rattle.hv_policy.specs.declared.property.Property.TheVariants.{CpuWeight}
 
 -- the mask of a partition's row, and no privilege where there is none
 abbrev pub mask_of : Option PartRow → Privileges
@@ -51,7 +62,8 @@ new_row parent mask = record {
   weight = CPU_WEIGHT_START;
 }
 
-abbrev pub changed_at : {K X : Type 0} {cmp : K → K → Ordering} → FinMap cmp X → K → (X → X) → Option X → FinMap cmp X
+abbrev pub changed_at : {K X : Type 0} {cmp : K → K → Ordering} → FinMap cmp X → K → (X → X) → Option X →
+    FinMap cmp X
 changed_at rows key change None = rows
 changed_at rows key change (Some row) = insert rows key (change row)
 
@@ -65,7 +77,10 @@ rows_but id rows = retain_keys rows (λ key. not (key.0 == id))
 
 -- a processor's row once a value was written to the register with this name, if it took it
 abbrev pub written : ℕ → ℕ → VpRow → VpRow
-written name value row = record row { registers = register.after_write row.registers name (register.kept (register.row_of name) value) }
+written name value row = record row {
+  registers = register.after_write row.registers name
+      (register.kept (register.row_of name) value);
+}
 
 -- the processors with the row of one of them changed
 abbrev pub with_vp : FinMap pair_cmp VpRow → ℕ × ℕ → (VpRow → VpRow) → FinMap pair_cmp VpRow
@@ -80,9 +95,9 @@ flags_of port_type.Event number = number
 abbrev pub born_of : Option PortRow → ℕ
 born_of row = option_map_or (λ row. row.born) row 0
 
--- a page that is a loose page of `heir` if `id` held it, and else as it was
+-- a page that is a loose page of `new_owner` if `id` held it, and else as it was
 abbrev pub inherited : ℕ → ℕ → PageRow → PageRow
-inherited id heir row = if row.owner == id then record { owner = heir; pooled = false } else row
+inherited id new_owner row = if row.owner == id then record { owner = new_owner; pooled = false } else row
 
 -- the pages once one of them is a loose page of `id`
 abbrev pub withdrawn : ℕ → Option ℕ → FinMap nat_cmp PageRow → FinMap nat_cmp PageRow
@@ -96,7 +111,10 @@ given (Some property) value row = with_property property value row
 
 -- a processor's row once a SINT raised its vector, where it did
 abbrev pub row_raised : Bool → ℕ → VpRow → VpRow
-row_raised did sint row = record row { pending = cond did (vectors.raised row.registers sint row.pending) row.pending }
+row_raised did sint row = record row {
+  pending = cond did (vectors.raised row.registers sint row.pending)
+      row.pending;
+}
 
 -- a partition's row with its mask restricted to a value, which gives no bit that it hasn't got
 abbrev pub narrowed_row : Privileges → PartRow → PartRow
@@ -105,7 +123,8 @@ narrowed_row value row = record row { mask = restrict row.mask value }
 -- the partitions with each mask in the subtree of one of them restricted to a value
 abbrev pub narrowed : Flat → ℕ → Privileges → FinMap nat_cmp PartRow
 narrowed f top value =
-    from_entries (map (λ e. (e.0, if is_in_subtree f top e.0 then narrowed_row value e.1 else e.1)) (entries f.part))
+    from_entries (map (λ e. (e.0, if is_in_subtree f top e.0 then narrowed_row value e.1 else e.1))
+    (entries f.part))
 
 -- whether a property is the mask
 abbrev pub is_mask : Option Property → Bool
@@ -119,7 +138,8 @@ is_mask (Some CpuWeight) = false
 abbrev pub narrows : Option Property → Flat → ℕ → Bool
 narrows property f id = is_mask property && is_running f id
 
--- the partitions once a property of one of them was set: its row gets the value, or the value narrows its subtree
+-- the partitions once a property of one of them was set: its row gets the value, or the value narrows its
+-- subtree
 abbrev pub property_set : Flat → ℕ → Option Property → ℕ → FinMap nat_cmp PartRow
 property_set f id property value =
     if narrows property f id then narrowed f id (of value) else with_row f.part id (given property value)
@@ -134,7 +154,8 @@ show place f = record f {
 -- Show at each of the first so many SINTs of a processor
 unfoldable pub show_each : ℕ → ℕ → ℕ → Flat → Flat
 show_each part vp zero f = f
-show_each part vp (suc sint) f = show (record { part = part; vp = vp; sint = sint }) (show_each part vp sint f)
+show_each part vp (suc sint) f = show (record { part = part; vp = vp; sint = sint })
+    (show_each part vp sint f)
 
 -- a message ends: where the processor takes messages, Show at each of its SINTs
 abbrev pub end_message : ℕ → ℕ → Flat → Flat
@@ -145,7 +166,8 @@ end_if is part vp f = cond is (end_message part vp f) f
 
 -- a value is written to a register of a processor; the write of EOM ends a message
 abbrev pub write_register : ℕ → ℕ → ℕ → ℕ → Flat → Flat
-write_register part vp name value f = end_if (name == EOM) part vp (record f { vp = with_vp f.vp (part, vp) (written name value) })
+write_register part vp name value f = end_if (name == EOM) part vp
+    (record f { vp = with_vp f.vp (part, vp) (written name value) })
 
 -- the same for a model-specific register, by the name that it has
 abbrev pub write_msr : ℕ → ℕ → Option ℕ → ℕ → Flat → Flat
@@ -157,7 +179,7 @@ abbrev pub post : MailRow → Flat → Flat
 post row f = show (mail.place_of row) (record f { mail = f.mail ++ row ∷ [] })
 
 -- through a connection, to the port's SINT of the processor that takes it
-abbrev pub post_at : Aimed → Option ℕ → ℕ → List ℕ → Flat → Flat
+abbrev pub post_at : ResolvedPort → Option ℕ → ℕ → List ℕ → Flat → Flat
 post_at aim None type payload f = f
 post_at aim (Some vp) type payload f =
     post (record {
@@ -171,22 +193,23 @@ post_at aim (Some vp) type payload f =
       shown = false;
     }) f
 
-abbrev pub post_to : Option Aimed → ℕ → List ℕ → Flat → Flat
+abbrev pub post_to : Option ResolvedPort → ℕ → List ℕ → Flat → Flat
 post_to None type payload f = f
 post_to (Some aim) type payload f = post_at aim (message_taker f aim) type payload f
 
 -- a processor's row once a flag of a SINT was set, which raises the SINT's vector where it was clear
 abbrev pub row_signalled : ℕ → ℕ → VpRow → VpRow
 row_signalled sint flag row =
-    row_raised (not (set.contains row.flags (sint, flag))) sint (record row { flags = set.insert row.flags (sint, flag) })
+    row_raised (not (set.contains row.flags (sint, flag))) sint
+    (record row { flags = set.insert row.flags (sint, flag) })
 
 -- a flag is set through a connection, counted from the first of its port, at the processor that takes it
-abbrev pub signal_at : Aimed → Option ℕ → ℕ → Flat → Flat
+abbrev pub signal_at : ResolvedPort → Option ℕ → ℕ → Flat → Flat
 signal_at aim None flag f = f
 signal_at aim (Some vp) flag f =
     record f { vp = with_vp f.vp (aim.conn.part, vp) (row_signalled aim.port.sint (aim.port.base + flag)) }
 
-abbrev pub signal_to : Option Aimed → ℕ → Flat → Flat
+abbrev pub signal_to : Option ResolvedPort → ℕ → Flat → Flat
 signal_to None flag f = f
 signal_to (Some aim) flag f = signal_at aim (flag_taker f aim) flag f
 
@@ -196,7 +219,8 @@ call_effect (CreatePartition flags) f caller target = record f {
   part = insert f.part f.next (new_row caller (mask_of (get f.part caller)));
   next = f.next + 1;
 }
-call_effect (InitializePartition partition) f caller target = record f { part = with_row f.part target (λ row. record row { life = Active }) }
+call_effect (InitializePartition partition) f caller target = record f
+    { part = with_row f.part target (λ row. record row { life = Active }) }
 call_effect (FinalizePartition partition) f caller target = record f {
   part = with_row f.part target (λ row. record row { life = Finalized });
   vp = rows_but target f.vp;
@@ -208,7 +232,8 @@ call_effect (DeletePartition partition) f caller target = record f {
   part = remove f.part target;
   page = from_entries (map (λ e. (e.0, inherited target caller e.1)) (entries f.page));
 }
-call_effect (SetPartitionProperty partition code value) f caller target = record f { part = property_set f target (property_of code) value }
+call_effect (SetPartitionProperty partition code value) f caller target = record f
+    { part = property_set f target (property_of code) value }
 call_effect (DepositMemory partition page) f caller target =
     record f { page = insert f.page page (record { owner = target; pooled = true }) }
 call_effect (WithdrawMemory partition) f caller target =
@@ -224,13 +249,15 @@ call_effect (SetVpRegisters partition vp name value) f caller target =
     write_register target vp name value f
 call_effect (GetVpRegisters partition vp name) f caller target = f
 call_effect (DeletePort partition port) f caller target = record f { port = remove f.port (target, port) }
-call_effect (DisconnectPort partition connection) f caller target = record f { conn = remove f.conn (target, connection) }
-call_effect (PostMessage connection message_type payload) f caller target = post_to (aim_of f (target, connection)) message_type payload f
+call_effect (DisconnectPort partition connection) f caller target = record f
+    { conn = remove f.conn (target, connection) }
+call_effect (PostMessage connection message_type payload) f caller target = post_to
+    (aim_of f (target, connection)) message_type payload f
 call_effect (SignalEvent connection flag) f caller target = signal_to (aim_of f (target, connection)) flag f
 call_effect (CreatePort partition port peer port_kind sint vp base count) f caller target = record f {
   port = insert f.port (target, port) (record {
     kind = port_kind;
-    peer = meant_id caller peer;
+    peer = resolved_id caller peer;
     sint = sint;
     vp = vp;
     base = flags_of port_kind base;
@@ -240,10 +267,10 @@ call_effect (CreatePort partition port peer port_kind sint vp base count) f call
 }
 call_effect (ConnectPort partition connection port_partition port port_kind) f caller target = record f {
   conn = insert f.conn (target, connection) (record {
-    part = meant_id caller port_partition;
+    part = resolved_id caller port_partition;
     port = port;
     kind = port_kind;
-    born = born_of (get f.port (meant_id caller port_partition, port));
+    born = born_of (get f.port (resolved_id caller port_partition, port));
   });
 }
 
@@ -259,9 +286,15 @@ action_effect f by (ReadSlot sint) = f
 action_effect f by (ClearSlot sint) = record f { mail = mail.cleared (place_at by sint) f.mail }
 action_effect f by (ReadFlags sint) = f
 action_effect f by (ClearFlag sint flag) =
-    record f { vp = with_vp f.vp (by.part, by.vp) (λ row. record row { flags = set.remove row.flags (sint, flag) }) }
+    record f {
+      vp = with_vp f.vp (by.part, by.vp) (λ row. record row
+          { flags = set.remove row.flags (sint, flag) });
+    }
 action_effect f by TakeInterrupt =
-    record f { vp = with_vp f.vp (by.part, by.vp) (λ row. record row { pending = vectors.without row.pending (vectors.highest row.pending) }) }
+    record f {
+      vp = with_vp f.vp (by.part, by.vp) (λ row. record row
+          { pending = vectors.without row.pending (vectors.highest row.pending) });
+    }
 
 -- a state with 1 more served event
 abbrev pub counted : Flat → Flat

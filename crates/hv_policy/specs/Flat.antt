@@ -30,8 +30,8 @@ pub record VpRow : Type 0 where
   pub flags : FlagSet
   pub pending : VectorSet
 
--- a port: what it takes, the partition that may connect, the SINT it aims at and at which processor, the first
--- of its event flags and their count, and the count of served events that its making gave
+-- a port: what it takes, the partition that may connect, the SINT it aims at and at which processor, the
+-- first of its event flags and their count, and the count of served events that its making gave
 pub record PortRow : Type 0 where
   pub kind : PortKind
   pub peer : ℕ
@@ -41,8 +41,8 @@ pub record PortRow : Type 0 where
   pub count : ℕ
   pub born : ℕ
 
--- a connection: the partition and id of its port, and the port's birth and kind when it was made. The kind is kept, and no rule
--- reads it
+-- a connection: the partition and id of its port, and the port's birth and kind when it was made. The kind is
+-- kept, and no rule reads it
 pub record ConnRow : Type 0 where
   pub part : ℕ
   pub port : ℕ

@@ -1,5 +1,6 @@
 -- The messages of the flat state: one list in the order of posting, and what stands at a place.
-use Rattle.std.specs.Prelude.{ℕ, ◌==◌, ◌&&◌, not, Bool, true, false, if◌then◌else◌, nat_lt, length, List, [], ◌∷◌, Option, None, Some, count_by, find}
+use Rattle.std.specs.Prelude.{ℕ, ◌==◌, ◌&&◌, not, Bool, true, false, if◌then◌else◌, nat_lt, length, List, []}
+use Rattle.std.specs.Prelude.{◌∷◌, Option, None, Some, count_by, find}
 use Rattle.std.specs.List.{filter, list_any}
 use Rattle.hv_defs.specs.Slot.{zeros, message_bytes}
 use Rattle.hv_policy.specs.declared.event.Caller.{Caller}
@@ -34,7 +35,8 @@ as_shown row = record row { shown = true }
 -- the messages with the first at a place shown
 abbrev pub with_first_shown : Place → List MailRow → List MailRow
 with_first_shown place [] = []
-with_first_shown place (row ∷ mail) = if stands_at place row then as_shown row ∷ mail else row ∷ with_first_shown place mail
+with_first_shown place (row ∷ mail) = if stands_at place row then as_shown row ∷ mail else row ∷
+    with_first_shown place mail
 
 -- where none is shown at a place, the first there is
 abbrev pub shown_next : Place → List MailRow → List MailRow

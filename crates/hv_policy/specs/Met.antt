@@ -1,5 +1,6 @@
 -- The tests that rules ask. Each fails where what it is about isn't there.
-use Rattle.std.specs.Prelude.{ℕ, ◌+◌, ◌==◌, ◌&&◌, ◌||◌, not, nat_le, nat_lt, Bool, true, false, is_ok, is_some, Option, None, Some}
+use Rattle.std.specs.Prelude.{ℕ, ◌+◌, ◌==◌, ◌&&◌, ◌||◌, not, nat_le, nat_lt, Bool, true, false, is_ok}
+use Rattle.std.specs.Prelude.{is_some, Option, None, Some}
 use Rattle.std.specs.FinMap.{get, contains_key}
 use Rattle.std.specs.Option.{option_map_or}
 use Rattle.hv_defs.specs.Registers as register
@@ -11,7 +12,7 @@ use Rattle.hv_defs.specs.declared.registers.RegisterRow.{RegisterRow}
 use Rattle.hv_defs.specs.declared.sizes.TheConstants.{MAX_DEPTH, MAX_MESSAGES, MAX_VPS}
 use Rattle.hv_privs.specs.Privileges.{contains, of}
 use Rattle.hv_privs.specs.declared.Privileges.{Privileges}
-use Rattle.hv_policy.specs.Aim.{Aimed, flag_taker, has_target, message_taker}
+use Rattle.hv_policy.specs.Aim.{ResolvedPort, flag_taker, has_target, message_taker}
 use Rattle.hv_policy.specs.Count.{available, child_count, depth, is_parent}
 use Rattle.hv_policy.specs.Flat.{Flat, PartRow, PageRow, PortRow}
 use Rattle.hv_policy.specs.Mail.{kept_of}
@@ -21,7 +22,8 @@ use Rattle.hv_policy.specs.declared.need.Kin.{Kin}
 use Rattle.hv_policy.specs.declared.need.Kin.TheVariants as kin
 use Rattle.hv_policy.specs.declared.need.States.{States}
 use Rattle.hv_policy.specs.declared.property.Property.{Property}
-use Rattle.hv_policy.specs.declared.property.Property.TheVariants.{PrivilegeFlags, CpuReserve, CpuCap, CpuWeight}
+use Rattle.hv_policy.specs.declared.property.Property.TheVariants.{PrivilegeFlags, CpuReserve, CpuCap}
+use Rattle.hv_policy.specs.declared.property.Property.TheVariants.{CpuWeight}
 
 -- a test of a partition's row
 abbrev pub test_row : (PartRow → Bool) → Option PartRow → Bool
@@ -88,7 +90,8 @@ may_give (Some CpuWeight) value f caller = true
 abbrev pub is_in_range : Option Property → ℕ → Bool
 is_in_range property value = option_map_or (λ property. takes_value property value) property false
 
--- a partition may access the register with this row: its mask has the register's privilege. One that there isn't needs none
+-- a partition may access the register with this row: its mask has the register's privilege. One that there
+-- isn't needs none
 abbrev pub may_access : Flat → ℕ → Option RegisterRow → Bool
 may_access f id None = true
 may_access f id (Some row) = has_privilege f id (of row.privilege)
@@ -112,24 +115,25 @@ is_kind Event Event = true
 is_kind kind other = false
 
 -- where a connection leads: the port takes messages, or it has an event flag of this number
-abbrev pub is_for_messages : Aimed → Bool
+abbrev pub is_for_messages : ResolvedPort → Bool
 is_for_messages aim = is_kind aim.port.kind Message
 
-abbrev pub has_flag : ℕ → Aimed → Bool
+abbrev pub has_flag : ℕ → ResolvedPort → Bool
 has_flag flag aim = is_kind aim.port.kind Event && nat_lt flag aim.port.count
 
 -- the processor at which the port aims is there, if it aims at one
-abbrev pub is_aimed_at_vp : Flat → Aimed → Bool
+abbrev pub is_aimed_at_vp : Flat → ResolvedPort → Bool
 is_aimed_at_vp f aim = has_target f aim.conn.part aim.port.vp
 
--- a processor takes a message, or an event flag, that comes that way: the one at which the port aims is ready, and for
--- any some processor of its partition
-abbrev pub has_message_taker : Flat → Aimed → Bool
+-- a processor takes a message, or an event flag, that comes that way: the one at which the port aims is
+-- ready, and for any some processor of its partition
+abbrev pub has_message_taker : Flat → ResolvedPort → Bool
 has_message_taker f aim = is_some (message_taker f aim)
 
-abbrev pub has_flag_taker : Flat → Aimed → Bool
+abbrev pub has_flag_taker : Flat → ResolvedPort → Bool
 has_flag_taker f aim = is_some (flag_taker f aim)
 
--- fewer than the most messages of the port and its birth are kept, of all that are, at whichever processor they stand
-abbrev pub has_message_room : Flat → Aimed → Bool
+-- fewer than the most messages of the port and its birth are kept, of all that are, at whichever processor
+-- they stand
+abbrev pub has_message_room : Flat → ResolvedPort → Bool
 has_message_room f aim = nat_lt (kept_of aim.conn.part aim.conn.port aim.conn.born f.mail) MAX_MESSAGES

@@ -1,10 +1,12 @@
 -- The properties of a partition: their codes and ranges, and where they stand in a partition's row.
 use Rattle.std.specs.Prelude.{ℕ, ◌==◌, ◌&&◌, nat_le, Bool, true, [], ◌∷◌, Option, find}
-use Rattle.hv_defs.specs.declared.sizes.TheConstants.{MAX_CPU_CAP, MAX_CPU_RESERVE, MAX_CPU_WEIGHT, MIN_CPU_WEIGHT}
+use Rattle.hv_defs.specs.declared.sizes.TheConstants.{MAX_CPU_CAP, MAX_CPU_RESERVE, MAX_CPU_WEIGHT}
+use Rattle.hv_defs.specs.declared.sizes.TheConstants.{MIN_CPU_WEIGHT}
 use Rattle.hv_privs.specs.Privileges.{bits_of, of}
 use Rattle.hv_policy.specs.Flat.{PartRow}
 use Rattle.hv_policy.specs.declared.property.Property.{Property}
-use Rattle.hv_policy.specs.declared.property.Property.TheVariants.{PrivilegeFlags, CpuReserve, CpuCap, CpuWeight}
+use Rattle.hv_policy.specs.declared.property.Property.TheVariants.{PrivilegeFlags, CpuReserve, CpuCap}
+use Rattle.hv_policy.specs.declared.property.Property.TheVariants.{CpuWeight}
 
 -- the code of a property
 abbrev pub property_code : Property → ℕ
@@ -15,7 +17,8 @@ property_code CpuWeight = 0x00020003
 
 -- the property with this code, if the profile has one
 abbrev pub property_of : ℕ → Option Property
-property_of code = find (λ property. property_code property == code) (PrivilegeFlags ∷ CpuReserve ∷ CpuCap ∷ CpuWeight ∷ [])
+property_of code = find (λ property. property_code property == code)
+    (PrivilegeFlags ∷ CpuReserve ∷ CpuCap ∷ CpuWeight ∷ [])
 
 -- whether a value is in a property's range. What a mask may be is rule P18's
 abbrev pub takes_value : Property → ℕ → Bool

@@ -19,7 +19,8 @@ kind_in rcx = kind_of (bits rcx 0 16)
 
 -- the reps completed of a call that was refused: its start index where P4 and P5 are met, else 0
 abbrev pub refused_reps : ℕ → ℕ
-refused_reps rcx = option_map_or (λ kind. if is_input_valid (row_of kind) rcx then bits rcx 48 12 else 0) (kind_in rcx) 0
+refused_reps rcx = option_map_or (λ kind. if is_input_valid (row_of kind) rcx then bits rcx 48 12 else 0)
+    (kind_in rcx) 0
 
 -- the reps completed of a call whose last element was served: all of them, and none of a simple call
 abbrev pub completed_reps : ℕ → ℕ

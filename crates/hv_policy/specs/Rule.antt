@@ -3,9 +3,22 @@ use Rattle.std.specs.Prelude.{ℕ, List, codes, Option, Some, None}
 use Rattle.hv_abi.specs.declared.call_kind.CallKind.{CallKind}
 use Rattle.hv_abi.specs.declared.call_kind.CallKind.TheVariants.{WithdrawMemory}
 use Rattle.hv_abi.specs.declared.status.Status.{Status}
-use Rattle.hv_abi.specs.declared.status.Status.TheVariants.{AccessDenied, InsufficientBuffers, InsufficientMemory, InvalidAlignment, InvalidConnectionId, InvalidHypercallCode, InvalidHypercallInput, InvalidParameter, InvalidPartitionId, InvalidPartitionState, InvalidPortId, InvalidSynicState, InvalidVpIndex, NoResources, ObjectInUse, PartitionTooDeep, PropertyValueOutOfRange, UnknownProperty}
+use Rattle.hv_abi.specs.declared.status.Status.TheVariants.{AccessDenied, InsufficientBuffers}
+use Rattle.hv_abi.specs.declared.status.Status.TheVariants.{InsufficientMemory, InvalidAlignment}
+use Rattle.hv_abi.specs.declared.status.Status.TheVariants.{InvalidConnectionId, InvalidHypercallCode}
+use Rattle.hv_abi.specs.declared.status.Status.TheVariants.{InvalidHypercallInput, InvalidParameter}
+use Rattle.hv_abi.specs.declared.status.Status.TheVariants.{InvalidPartitionId, InvalidPartitionState}
+use Rattle.hv_abi.specs.declared.status.Status.TheVariants.{InvalidPortId, InvalidSynicState, InvalidVpIndex}
+use Rattle.hv_abi.specs.declared.status.Status.TheVariants.{NoResources, ObjectInUse, PartitionTooDeep}
+use Rattle.hv_abi.specs.declared.status.Status.TheVariants.{PropertyValueOutOfRange, UnknownProperty}
 use Rattle.hv_policy.specs.declared.rule.Rule.{Rule}
-use Rattle.hv_policy.specs.declared.rule.Rule.TheVariants.{CallerExists, CallerActive, CallerVpExists, CallCode, InputValue, Alignment, Parameters, Privilege, TargetExists, Kinship, PropertyKnown, TargetState, NoChildren, Depth, OtherExists, Connection, Port, Right, VpExists, PropertyRange, Subject, VpReady, PortRoom, Pages, MsrKnown, MsrPrivilege, MsrWrite}
+use Rattle.hv_policy.specs.declared.rule.Rule.TheVariants.{CallerExists, CallerActive, CallerVpExists}
+use Rattle.hv_policy.specs.declared.rule.Rule.TheVariants.{CallCode, InputValue, Alignment, Parameters}
+use Rattle.hv_policy.specs.declared.rule.Rule.TheVariants.{Privilege, TargetExists, TargetScope}
+use Rattle.hv_policy.specs.declared.rule.Rule.TheVariants.{PropertyKnown, TargetState, NoChildren, Depth}
+use Rattle.hv_policy.specs.declared.rule.Rule.TheVariants.{PeerExists, Connection, Port, Entitlement}
+use Rattle.hv_policy.specs.declared.rule.Rule.TheVariants.{VpExists, PropertyRange, Operand, VpReady}
+use Rattle.hv_policy.specs.declared.rule.Rule.TheVariants.{PortRoom, Pages, MsrKnown, MsrPrivilege, MsrWrite}
 
 -- a rule's number and name, and the status with which a call is refused by it, if calls are asked it
 pub record RuleRow : Type 0 where
@@ -27,18 +40,18 @@ rule_row Alignment = row 6 (codes "P6") (Some InvalidAlignment)
 rule_row Parameters = row 7 (codes "P7") (Some InvalidParameter)
 rule_row Privilege = row 8 (codes "P8") (Some AccessDenied)
 rule_row TargetExists = row 9 (codes "P9") (Some InvalidPartitionId)
-rule_row Kinship = row 10 (codes "P10") (Some AccessDenied)
+rule_row TargetScope = row 10 (codes "P10") (Some AccessDenied)
 rule_row PropertyKnown = row 11 (codes "P11") (Some UnknownProperty)
 rule_row TargetState = row 12 (codes "P12") (Some InvalidPartitionState)
 rule_row NoChildren = row 13 (codes "P13") (Some ObjectInUse)
 rule_row Depth = row 14 (codes "P14") (Some PartitionTooDeep)
-rule_row OtherExists = row 15 (codes "P15") (Some InvalidPartitionId)
+rule_row PeerExists = row 15 (codes "P15") (Some InvalidPartitionId)
 rule_row Connection = row 16 (codes "P16") (Some InvalidConnectionId)
 rule_row Port = row 17 (codes "P17") (Some InvalidPortId)
-rule_row Right = row 18 (codes "P18") (Some AccessDenied)
+rule_row Entitlement = row 18 (codes "P18") (Some AccessDenied)
 rule_row VpExists = row 19 (codes "P19") (Some InvalidVpIndex)
 rule_row PropertyRange = row 20 (codes "P20") (Some PropertyValueOutOfRange)
-rule_row Subject = row 21 (codes "P21") (Some InvalidParameter)
+rule_row Operand = row 21 (codes "P21") (Some InvalidParameter)
 rule_row VpReady = row 22 (codes "P22") (Some InvalidSynicState)
 rule_row PortRoom = row 23 (codes "P23") (Some InsufficientBuffers)
 rule_row Pages = row 24 (codes "P24") (Some InsufficientMemory)

@@ -7,7 +7,8 @@ use Rattle.hv_policy.specs.Mail.{Place, mail_at}
 abbrev pub IsSameMail : List MailRow → List MailRow → Type 0
 IsSameMail mail others = (place : Place) → mail_at place mail ≡ mail_at place others
 
--- all but the messages is equal, and the messages agree place by place. No rule, reply or change looks at more
+-- all but the messages is equal, and the messages agree place by place. No rule, reply or change looks at
+-- more
 pub record IsSame (f g : Flat) : Type 0 where
   pub part : f.part ≡ g.part
   pub page : f.page ≡ g.page

@@ -7,7 +7,8 @@ use Rattle.hv_policy.specs.Flat.{Flat}
 -- so many steps up, each from a partition to its parent, lead from `id` to `top`
 abbrev pub LeadsUp : (ℕ → Option ℕ) → ℕ → ℕ → ℕ → Type 0
 LeadsUp parent_of top zero id = id ≡ top
-LeadsUp parent_of top (suc steps) id = (parent : ℕ) × (parent_of id ≡ Some parent) × LeadsUp parent_of top steps parent
+LeadsUp parent_of top (suc steps) id = (parent : ℕ) × (parent_of id ≡ Some parent) × LeadsUp parent_of top
+    steps parent
 
 -- a partition is in the subtree of another: a chain of parents leads from it to that one
 abbrev pub IsInSubtree : Flat → ℕ → ℕ → Type 0
@@ -16,7 +17,8 @@ IsInSubtree f top id = (steps : ℕ) × LeadsUp (parent_of f) top steps id
 -- the same as a test, looking at most so many steps up
 abbrev pub leads_within : ℕ → (ℕ → Option ℕ) → ℕ → ℕ → Bool
 leads_within zero parent_of top id = id == top
-leads_within (suc steps) parent_of top id = (id == top) || option_map_or (leads_within steps parent_of top) (parent_of id) false
+leads_within (suc steps) parent_of top id = (id == top) || option_map_or (leads_within steps parent_of top)
+    (parent_of id) false
 
 -- a parent's id is below its child's, so that as many steps as the id reach the root
 abbrev pub is_in_subtree : Flat → ℕ → ℕ → Bool

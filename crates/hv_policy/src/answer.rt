@@ -34,8 +34,8 @@ pub enum Answer {
 /// bytes.
 #[derive(Debug, Drop)]
 pub struct CallOutput {
-    // The two numbers don't stand side by side: a copy would read them at once where each was written by itself,
-    // for which a processor waits.
+    // The two numbers don't stand side by side: a copy would read them at once where each was written by
+    // itself, for which a processor waits.
     first: u64,
     // How many bytes there are.
     len: usize,

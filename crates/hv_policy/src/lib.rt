@@ -3,7 +3,7 @@
 //! The model stands in `specs/`. It sees the state as flat maps of rows, without trees, queues or sizes
 //! kept: `Flat` is that state, `asks` lists the rules that are asked of an event, call by call and each
 //! beside whether it is met, `unmet` is the first that isn't, `effect` and `answer` say what a served
-//! event changes and answers, and `step` puts them together. Chapters of the TLFS 4.0: "Partition
+//! event changes and answers, and `step` puts them together. Call groups of the TLFS 4.0: "Partition
 //! Management", "Virtual Processor Management", "Inter-Partition Communication". The order of the rules,
 //! the privilege that each call needs and the charges are this project's own.
 //!

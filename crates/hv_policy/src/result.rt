@@ -25,8 +25,8 @@ pub fn result_of<A: Allocator>(frame: &Frame<A>, reply: &Reply) -> ResultValue
     result_value::<A>(frame.rcx, reply.parts().0)
 }
 
-/// The result value of a hypercall with this input value that was answered so. What it put out doesn't matter.
-/// A fault, which is no answer to a hypercall, has 0.
+/// The result value of a hypercall with this input value that was answered so. What it put out doesn't
+/// matter. A fault, which is no answer to a hypercall, has 0.
 pub fn result_value<A: Allocator>(rcx: u64, answer: Answer) -> ResultValue
     requires { next_in (reply_of answer []) < REPS_END }
     ensures { (frame : CallFrame A) (output : List ℕ) → frame.rcx ≡ rcx

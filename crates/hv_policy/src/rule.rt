@@ -29,7 +29,7 @@ pub enum Rule {
     /// P9: the target partition is there.
     TargetExists = 9,
     /// P10: the target is the caller or a child of the caller, as the call allows.
-    Kinship = 10,
+    TargetScope = 10,
     /// P11: the property code is known.
     PropertyKnown = 11,
     /// P12: the target's life state is one that the call allows.
@@ -40,7 +40,7 @@ pub enum Rule {
     Depth = 14,
     /// P15: the other named partition is there, or the previous child is 0 or a child of the
     /// target.
-    OtherExists = 15,
+    PeerExists = 15,
     /// P16: the connection id is there; on connecting it is free.
     Connection = 16,
     /// P17: the port id is there; on making a port it is free; on posting and signalling the port
@@ -48,14 +48,14 @@ pub enum Rule {
     Port = 17,
     /// P18: the port's peer is the connecting partition; the new mask lies within the caller's; the
     /// caller has the register's privilege.
-    Right = 18,
+    Entitlement = 18,
     /// P19: the virtual processor is there; on making one its index is at most 63 and free.
     VpExists = 19,
     /// P20: the property value is in range.
     PropertyRange = 20,
     /// P21: the page is a loose page of the caller; the register is known and, on writing, writable
     /// with this value; the slot and flag numbers are in range; the port's type is the call's.
-    Subject = 21,
+    Operand = 21,
     /// P22: the target virtual processor is ready for a message or a flag.
     VpReady = 22,
     /// P23: fewer than 8 messages of this port and birth are kept.
@@ -92,18 +92,18 @@ impl Rule {
             Rule::Parameters => "P7",
             Rule::Privilege => "P8",
             Rule::TargetExists => "P9",
-            Rule::Kinship => "P10",
+            Rule::TargetScope => "P10",
             Rule::PropertyKnown => "P11",
             Rule::TargetState => "P12",
             Rule::NoChildren => "P13",
             Rule::Depth => "P14",
-            Rule::OtherExists => "P15",
+            Rule::PeerExists => "P15",
             Rule::Connection => "P16",
             Rule::Port => "P17",
-            Rule::Right => "P18",
+            Rule::Entitlement => "P18",
             Rule::VpExists => "P19",
             Rule::PropertyRange => "P20",
-            Rule::Subject => "P21",
+            Rule::Operand => "P21",
             Rule::VpReady => "P22",
             Rule::PortRoom => "P23",
             Rule::Pages => "P24",
@@ -119,7 +119,7 @@ impl Rule {
         ensures { result ≡ rule_status self call }
     {
         match self {
-            Rule::CallerExists | Rule::TargetExists | Rule::OtherExists => Some(
+            Rule::CallerExists | Rule::TargetExists | Rule::PeerExists => Some(
                 Status::InvalidPartitionId,
             ),
             Rule::CallerActive | Rule::TargetState => Some(Status::InvalidPartitionState),
@@ -127,8 +127,8 @@ impl Rule {
             Rule::CallCode => Some(Status::InvalidHypercallCode),
             Rule::InputValue => Some(Status::InvalidHypercallInput),
             Rule::Alignment => Some(Status::InvalidAlignment),
-            Rule::Parameters | Rule::Subject => Some(Status::InvalidParameter),
-            Rule::Privilege | Rule::Kinship | Rule::Right => Some(Status::AccessDenied),
+            Rule::Parameters | Rule::Operand => Some(Status::InvalidParameter),
+            Rule::Privilege | Rule::TargetScope | Rule::Entitlement => Some(Status::AccessDenied),
             Rule::PropertyKnown => Some(Status::UnknownProperty),
             Rule::NoChildren => Some(Status::ObjectInUse),
             Rule::Depth => Some(Status::PartitionTooDeep),

@@ -8,16 +8,16 @@ use Rattle.hv_policy.specs.Count.{lowest_pooled, number_of}
 use Rattle.hv_policy.specs.Flat.{Flat, PageRow}
 use Rattle.hv_policy.specs.Met.{is_loose}
 use Rattle.hv_tree.specs.Rows.{Row, Rows}
-use Rattle.hv_tie.proofs.Counted.{pooled_at}
+use Rattle.hv_refine.proofs.Counted.{pooled_at}
 use Rattle.hv_defs.proofs.Maps.{found_least, found_row}
-use Rattle.hv_tie.specs.Tie.{IsTied, is_held, holds}
+use Rattle.hv_refine.specs.Tie.{Refines, is_held, holds}
 
 -- a loose page of a partition is one that it holds so
 pub loose_is_held : (id : ℕ) (page : Option PageRow) → is_loose id page ≡ is_held id false page
 loose_is_held id None = refl
 loose_is_held id (Some page) = refl
 
-module _ (rows : Rows PartitionState) (f : Flat) (flat : IsTied rows f) (id : ℕ) where
+module _ (rows : Rows PartitionState) (f : Flat) (flat : Refines rows f) (id : ℕ) where
   pub loose_held : (page : ℕ) → is_loose id (get f.page page) ≡ holds false page (get rows id)
   loose_held page = loose_is_held id (get f.page page) ∙ (flat.rows id).page page false
 

@@ -14,9 +14,9 @@ use Rattle.hv_policy.specs.Flat.{Flat}
 use Rattle.hv_tree.specs.Rows.{Row, Rows}
 use Rattle.hv_pools.proofs.Moves.{alike, get-with_pages, is_pooled, pages_after, pages_if}
 use Rattle.hv_defs.proofs.Maps.{get_at-insert}
-use Rattle.hv_tie.proofs.Held.{apart_sets}
+use Rattle.hv_refine.proofs.Held.{apart_sets}
 use Rattle.hv_pools.specs.Change.{IsMoved, IsWithdrawn, other, pages_at, with_pages_at}
-use Rattle.hv_tie.specs.Tie.{IsTied, is_held, conn_row, here, holds, mail_there, part_row, port_row, rows_of, vp_row}
+use Rattle.hv_refine.specs.Tie.{Refines, is_held, conn_row, here, holds, mail_there, part_row, port_row, rows_of, vp_row}
 
 -- a row without its pages
 abbrev still : Row PartitionState → Row PartitionState
@@ -52,19 +52,20 @@ record IsGiven (old new : Rows PartitionState) (page to : ℕ) (kind : PageKind)
   rest : (id : ℕ) → option_map still (get new id) ≡ option_map still (get old id)
   held : (id q : ℕ) (pooled : Bool) → holds pooled q (get new id) ≡ cond (q == page) (id == to && alike (kind_of pooled) kind) (holds pooled q (get old id))
 
-module _ (rows : Rows PartitionState) (f : Flat) (flat : IsTied rows f) (new : Rows PartitionState) (page to : ℕ) (kind : PageKind) (moved : IsGiven rows new page to kind) where
+module _ (rows : Rows PartitionState) (f : Flat) (flat : Refines rows f) (new : Rows PartitionState) (page to : ℕ) (kind : PageKind) (moved : IsGiven rows new page to kind) where
   abbrev given : Flat
   given = record f { page = insert f.page page (record { owner = to; pooled = is_pooled kind }) }
 
   page_held : (id q : ℕ) (pooled : Bool) → is_held id pooled (get given.page q) ≡ cond (q == page) (id == to && alike (kind_of pooled) kind) (is_held id pooled (get f.page q))
   page_held id q pooled = ap (is_held id pooled) (get_at-insert f.page page (record { owner = to; pooled = is_pooled kind }) q) ∙ by (q == page) pooled
     where
-      by : (b pooled : Bool) → is_held id pooled (cond b (Some (record { owner = to; pooled = is_pooled kind })) (get f.page q)) ≡ cond b (id == to && alike (kind_of pooled) kind) (is_held id pooled (get f.page q))
+      by : (b pooled : Bool) → is_held id pooled (cond b (Some (record { owner = to; pooled = is_pooled kind })) (get f.page q)) ≡ cond b (id == to && alike (kind_of pooled) kind)
+          (is_held id pooled (get f.page q))
       by true true = ap (λ t. t && is_pooled kind) (nat_eq_equiv.symm to id)
       by true false = ap (λ t. t && not (is_pooled kind)) (nat_eq_equiv.symm to id)
       by false pooled = refl
 
-  given_tied : IsTied new given
+  given_tied : Refines new given
   given_tied = record {
     rows = λ id. let old = flat.rows id in record {
       part = old.part ∙ part_still (get rows id) ∙ ap (option_map part_row) (sym (moved.rest id)) ∙ sym (part_still (get new id));
@@ -95,10 +96,12 @@ loses s t page q is = ap (λ u. set.contains u q) is ∙ set.contains-remove nat
     by false = refl
 
 -- the row of a partition whose pages are these
-pub pages_row : (rows : Rows PartitionState) (id : ℕ) (kind : PageKind) (v : PagesAndRoom) → pages_at rows id kind ≡ Some v → (r : Row PartitionState) × (get rows id ≡ Some r) × (pages_in kind r.1 ≡ v)
+pub pages_row : (rows : Rows PartitionState) (id : ℕ) (kind : PageKind) (v : PagesAndRoom) → pages_at rows id kind ≡ Some v → (r : Row PartitionState) × (get rows id ≡ Some r) ×
+    (pages_in kind r.1 ≡ v)
 pages_row rows id kind v at = by (get rows id) refl at
   where
-    by : (r : Option (Row PartitionState)) → get rows id ≡ r → option_map (pages_in kind) (option_map (λ r. r.1) r) ≡ Some v → (r : Row PartitionState) × (get rows id ≡ Some r) × (pages_in kind r.1 ≡ v)
+    by : (r : Option (Row PartitionState)) → get rows id ≡ r → option_map (pages_in kind) (option_map (λ r. r.1) r) ≡ Some v → (r : Row PartitionState) × (get rows id ≡ Some r) ×
+        (pages_in kind r.1 ≡ v)
     by None is h = cc
     by (Some r) is h = (r, is, cc)
 
@@ -142,11 +145,13 @@ still_written true Pooled v (Some r) = refl
 still_with : (rows : Rows PartitionState) (id : ℕ) (kind : PageKind) (v : PagesAndRoom) (q : ℕ) → option_map still (get (with_pages_at rows id kind v) q) ≡ option_map still (get rows q)
 still_with rows id kind v q = ap (option_map still) (get-with_pages rows id kind v q) ∙ still_written (q == id) kind v (get rows q)
 
-module _ (rows : Rows PartitionState) (f : Flat) (flat : IsTied rows f) (new : Rows PartitionState) (from to page : ℕ) (kind : PageKind) (m : IsMoved rows new from to page kind) (one : among page (pages_at rows from kind) ≡ true) where
+module _ (rows : Rows PartitionState) (f : Flat) (flat : Refines rows f) (new : Rows PartitionState) (from to page : ℕ) (kind : PageKind) (m : IsMoved rows new from to page kind)
+    (one : among page (pages_at rows from kind) ≡ true) where
   rest : (id : ℕ) → option_map still (get new id) ≡ option_map still (get rows id)
   rest id = ap (λ rows. option_map still (get rows id)) m.rows ∙ still_with (with_pages_at rows from kind m.left) to (other kind) m.come id ∙ still_with rows from kind m.left id
 
-  after : (id : ℕ) (j : PageKind) → pages_at new id j ≡ option_map (λ old. cond (id == to && alike j (other kind)) m.come old) (option_map (λ old. cond (id == from && alike j kind) m.left old) (pages_at rows id j))
+  after : (id : ℕ) (j : PageKind) → pages_at new id j ≡ option_map (λ old. cond (id == to && alike j (other kind)) m.come old)
+      (option_map (λ old. cond (id == from && alike j kind) m.left old) (pages_at rows id j))
   after id j =
       ap (λ rows. pages_at rows id j) m.rows
       ∙ pages_after (with_pages_at rows from kind m.left) to (other kind) m.come id j
@@ -157,7 +162,8 @@ module _ (rows : Rows PartitionState) (f : Flat) (flat : IsTied rows f) (new : R
   absent id j differ q = by (q == page) refl
     where
       apart : holds (is_pooled j) page (get rows id) ≡ false
-      apart = apart_sets rows f flat from id (is_pooled kind) (is_pooled j) (λ e. let no = sym (and_from (id == from) (alike j kind) (eq-eqb id from (sym e.0)) (alike-same j kind e.1)) ∙ differ in cc) page (holds_kind rows from page kind ∙ one)
+      apart = apart_sets rows f flat from id (is_pooled kind) (is_pooled j) (λ e. let no = sym (and_from (id == from) (alike j kind) (eq-eqb id from (sym e.0)) (alike-same j kind e.1)) ∙ differ in cc)
+          page (holds_kind rows from page kind ∙ one)
 
       by : (s : Bool) → q == page ≡ s → among q (pages_at rows id j) ≡ cond s false (among q (pages_at rows id j))
       by true at = ap (λ n. among n (pages_at rows id j)) (eqb-true q page at) ∙ sym (holds_kind rows id page j) ∙ apart
@@ -174,23 +180,28 @@ module _ (rows : Rows PartitionState) (f : Flat) (flat : IsTied rows f) (new : R
       as_it_was None = refl
       as_it_was (Some p) = refl
 
-      by : (s t : Bool) → (id == to && alike j (other kind)) ≡ s → (id == from && alike j kind) ≡ t → among q (option_map (λ old. cond s m.come old) (option_map (λ old. cond t m.left old) (pages_at rows id j))) ≡ cond (q == page) s (among q (pages_at rows id j))
+      by : (s t : Bool) → (id == to && alike j (other kind)) ≡ s → (id == from && alike j kind) ≡ t → among q
+          (option_map (λ old. cond s m.come old) (option_map (λ old. cond t m.left old) (pages_at rows id j))) ≡ cond (q == page) s (among q (pages_at rows id j))
       by true t here at =
           let own = named id to j (other kind) m.target m.there here in
-          ap (λ o. among q (option_map (λ old. cond true m.come old) (option_map (λ old. cond t m.left old) o))) own ∙ gains m.target.pages m.come.pages page q m.gained ∙ ap (λ o. cond (q == page) true (among q o)) (sym own)
+          ap (λ o. among q (option_map (λ old. cond true m.come old) (option_map (λ old. cond t m.left old) o))) own ∙ gains m.target.pages m.come.pages page q m.gained ∙ ap
+          (λ o. cond (q == page) true (among q o)) (sym own)
       by false true here at =
           let own = named id from j kind m.source m.had at in
-          ap (λ o. among q (option_map (λ old. cond false m.come old) (option_map (λ old. cond true m.left old) o))) own ∙ loses m.source.pages m.left.pages page q m.lost ∙ ap (λ o. cond (q == page) false (among q o)) (sym own)
+          ap (λ o. among q (option_map (λ old. cond false m.come old) (option_map (λ old. cond true m.left old) o))) own ∙ loses m.source.pages m.left.pages page q m.lost ∙ ap
+          (λ o. cond (q == page) false (among q o)) (sym own)
       by false false here at = as_it_was (pages_at rows id j) ∙ absent id j at q
 
-  pub moved_tied : IsTied new (record f { page = insert f.page page (record { owner = to; pooled = is_pooled (other kind) }) })
+  pub moved_tied : Refines new (record f { page = insert f.page page (record { owner = to; pooled = is_pooled (other kind) }) })
   moved_tied = given_tied rows f flat new page to (other kind) (record {
     rest = rest;
     held = λ id q pooled. holds_among new id q pooled ∙ held id q (kind_of pooled) ∙ ap (cond (q == page) (id == to && alike (kind_of pooled) (other kind))) (sym (holds_among rows id q pooled));
   })
 
-pub deposited_tied : (rows : Rows PartitionState) (f : Flat) → IsTied rows f → (new : Rows PartitionState) (from to page : ℕ) → IsMoved rows new from to page Loose → holds false page (get rows from) ≡ true → IsTied new (record f { page = insert f.page page (record { owner = to; pooled = true }) })
+pub deposited_tied : (rows : Rows PartitionState) (f : Flat) → Refines rows f → (new : Rows PartitionState) (from to page : ℕ) → IsMoved rows new from to page Loose → holds false page (get rows from)
+    ≡ true → Refines new (record f { page = insert f.page page (record { owner = to; pooled = true }) })
 deposited_tied rows f flat new from to page m one = moved_tied rows f flat new from to page Loose m (sym (holds_among rows from page false) ∙ one)
 
-pub withdrawn_tied : (rows : Rows PartitionState) (f : Flat) → IsTied rows f → (new : Rows PartitionState) (from to : ℕ) (d : IsWithdrawn rows new from to) → IsTied new (record f { page = insert f.page d.page (record { owner = to; pooled = false }) })
+pub withdrawn_tied : (rows : Rows PartitionState) (f : Flat) → Refines rows f → (new : Rows PartitionState) (from to : ℕ) (d : IsWithdrawn rows new from to) → Refines new
+    (record f { page = insert f.page d.page (record { owner = to; pooled = false }) })
 withdrawn_tied rows f flat new from to d = moved_tied rows f flat new from to d.page Pooled d.moved (ap (among d.page) d.moved.had ∙ d.lowest.held)

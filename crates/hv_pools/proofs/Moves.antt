@@ -12,11 +12,12 @@ use Rattle.hv_partition.specs.declared.kind.PageKind.{PageKind}
 use Rattle.hv_partition.specs.declared.kind.PageKind.TheVariants.{Loose, Pooled}
 use Rattle.hv_tree.proofs.Laws.{same_rows, get-change, change-of}
 use Rattle.hv_tree.specs.Rows.{Row, Rows, content, change}
-use Rattle.hv_tie.specs.Room.{IsSameButRoom, bare}
+use Rattle.hv_refine.specs.Room.{IsSameButRoom, bare}
 use Rattle.hv_pools.specs.Change.{CanGain, HasGained, HasLost, HasLostLowest, HasOneRoom, HasPages, IsMoved, IsWithdrawn, MayWithdraw, other, pages_at, with_pages_at}
 
 -- a partition that was lent, and its pages of a kind changed
-pub written : (rows : Rows PartitionState) (id : ℕ) (kind : PageKind) (p w : PartitionState) (How : PagesAndRoom → PagesAndRoom → Type 0) → Some p ≡ content rows id → w ≡ with_pages kind (pages_in kind w) p → How (pages_in kind p) (pages_in kind w) → HasPages rows (change rows id (λ _. w)) id kind How
+pub written : (rows : Rows PartitionState) (id : ℕ) (kind : PageKind) (p w : PartitionState) (How : PagesAndRoom → PagesAndRoom → Type 0) → Some p ≡ content rows id → w ≡ with_pages kind
+    (pages_in kind w) p → How (pages_in kind p) (pages_in kind w) → HasPages rows (change rows id (λ _. w)) id kind How
 written rows id kind p w How there rest how = record {
   before = pages_in kind p;
   at = ap (option_map (pages_in kind)) (sym there);
@@ -73,10 +74,12 @@ pages_of true Pooled Loose v p = refl
 pages_of true Pooled Pooled v p = refl
 
 -- the pages of any kind and partition once those of one kind of one partition were written
-pub pages_after : (rows : Rows PartitionState) (id : ℕ) (kind : PageKind) (v : PagesAndRoom) (q : ℕ) (j : PageKind) → pages_at (with_pages_at rows id kind v) q j ≡ option_map (λ old. cond (q == id && alike j kind) v old) (pages_at rows q j)
+pub pages_after : (rows : Rows PartitionState) (id : ℕ) (kind : PageKind) (v : PagesAndRoom) (q : ℕ) (j : PageKind) → pages_at (with_pages_at rows id kind v) q j ≡ option_map
+    (λ old. cond (q == id && alike j kind) v old) (pages_at rows q j)
 pages_after rows id kind v q j = ap (λ r. option_map (pages_in j) (option_map (λ r. r.1) r)) (get-with_pages rows id kind v q) ∙ by (get rows q)
   where
-    by : (r : Option (Row PartitionState)) → option_map (pages_in j) (option_map (λ r. r.1) (option_map (pages_if (q == id) kind v) r)) ≡ option_map (λ old. cond (q == id && alike j kind) v old) (option_map (pages_in j) (option_map (λ r. r.1) r))
+    by : (r : Option (Row PartitionState)) → option_map (pages_in j) (option_map (λ r. r.1) (option_map (pages_if (q == id) kind v) r)) ≡ option_map (λ old. cond (q == id && alike j kind) v old)
+        (option_map (pages_in j) (option_map (λ r. r.1) r))
     by None = refl
     by (Some r) = ap Some (pages_of (q == id) j kind v r.1)
 
@@ -98,14 +101,17 @@ pages_apart rows id kind v q j apart =
     ∙ unmapped (pages_at rows q j)
 
 -- the last write alone shows
-again : (rows : Rows PartitionState) (to from : ℕ) (kind : PageKind) (first left come : PagesAndRoom) → with_pages_at (with_pages_at (with_pages_at rows to (other kind) first) from kind left) to (other kind) come ≡ with_pages_at (with_pages_at rows from kind left) to (other kind) come
+again : (rows : Rows PartitionState) (to from : ℕ) (kind : PageKind) (first left come : PagesAndRoom) → with_pages_at (with_pages_at (with_pages_at rows to (other kind) first) from kind left) to
+    (other kind) come ≡ with_pages_at (with_pages_at rows from kind left) to (other kind) come
 again rows to from kind first left come = same_rows _ _ (λ q.
     get-with_pages (with_pages_at (with_pages_at rows to (other kind) first) from kind left) to (other kind) come q
-    ∙ ap (option_map (pages_if (q == to) (other kind) come)) (get-with_pages (with_pages_at rows to (other kind) first) from kind left q ∙ ap (option_map (pages_if (q == from) kind left)) (get-with_pages rows to (other kind) first q))
+    ∙ ap (option_map (pages_if (q == to) (other kind) come)) (get-with_pages (with_pages_at rows to (other kind) first) from kind left q ∙ ap (option_map (pages_if (q == from) kind left))
+    (get-with_pages rows to (other kind) first q))
     ∙ by (q == to) (q == from) kind (get rows q)
     ∙ sym (get-with_pages (with_pages_at rows from kind left) to (other kind) come q ∙ ap (option_map (pages_if (q == to) (other kind) come)) (get-with_pages rows from kind left q)))
   where
-    by : (s t : Bool) (kind : PageKind) (r : Option (Row PartitionState)) → option_map (pages_if s (other kind) come) (option_map (pages_if t kind left) (option_map (pages_if s (other kind) first) r)) ≡ option_map (pages_if s (other kind) come) (option_map (pages_if t kind left) r)
+    by : (s t : Bool) (kind : PageKind) (r : Option (Row PartitionState)) → option_map (pages_if s (other kind) come) (option_map (pages_if t kind left) (option_map (pages_if s (other kind) first) r))
+        ≡ option_map (pages_if s (other kind) come) (option_map (pages_if t kind left) r)
     by s t kind None = refl
     by false t kind (Some r) = refl
     by true false kind (Some r) = ap (λ p. Some (r.0, p)) (with_twice (other kind) come first r.1)
@@ -127,11 +133,13 @@ room_alone old new id kind room q = ap (λ rows. option_map bare (get rows q)) r
     by b None is at = refl
     by false (Some r) is at = refl
     by true (Some r) is at =
-        let same : pages_in kind r.1 ≡ room.before = some_same (pages_at old q kind) (pages_in kind r.1) room.before (ap (λ r. option_map (pages_in kind) (option_map (λ r. r.1) r)) at) (ap (λ n. pages_at old n kind) (eqb-true q id is) ∙ room.at) in
+        let same : pages_in kind r.1 ≡ room.before = some_same (pages_at old q kind) (pages_in kind r.1) room.before (ap (λ r. option_map (pages_in kind) (option_map (λ r. r.1) r)) at)
+        (ap (λ n. pages_at old n kind) (eqb-true q id is) ∙ room.at) in
         ap Some (bare_with kind room.after r (room.how.0 ∙ ap {A = PagesAndRoom} (λ p. p.pages) (sym same)))
 
 -- a page that moves from one kind of `from` to the other kind of `to`, once there is room for it
-module _ (old roomy : Rows PartitionState) (from to : ℕ) (kind : PageKind) (source target : PagesAndRoom) (had : pages_at old from kind ≡ Some source) (there : pages_at old to (other kind) ≡ Some target) (room : HasPages old roomy to (other kind) HasOneRoom) where
+module _ (old roomy : Rows PartitionState) (from to : ℕ) (kind : PageKind) (source target : PagesAndRoom) (had : pages_at old from kind ≡ Some source)
+    (there : pages_at old to (other kind) ≡ Some target) (room : HasPages old roomy to (other kind) HasOneRoom) where
   target_is : room.before ≡ target
   target_is = some_same (pages_at old to (other kind)) room.before target room.at there
 
@@ -147,7 +155,8 @@ module _ (old roomy : Rows PartitionState) (from to : ℕ) (kind : PageKind) (so
     source_is = some_same (pages_at roomy from kind) lost.before source lost.at source_there
 
     target_after : pages_at left to (other kind) ≡ Some room.after
-    target_after = ap (λ rows. pages_at rows to (other kind)) lost.rows ∙ pages_apart roomy from kind lost.after to (other kind) (other-alike kind) ∙ ap (λ rows. pages_at rows to (other kind)) room.rows ∙ pages_same old to (other kind) room.after room.before room.at
+    target_after = ap (λ rows. pages_at rows to (other kind)) lost.rows ∙ pages_apart roomy from kind lost.after to (other kind) (other-alike kind) ∙ ap (λ rows. pages_at rows to (other kind))
+        room.rows ∙ pages_same old to (other kind) room.after room.before room.at
 
     pub can_gain : set.contains target.pages page ≡ false → CanGain page (pages_at left to (other kind))
     can_gain new = record {
@@ -169,11 +178,13 @@ module _ (old roomy : Rows PartitionState) (from to : ℕ) (kind : PageKind) (so
           there = there;
           come = gained.after;
           gained = gained.how ∙ ap {A = set.FinSet nat_cmp} (λ ps. set.insert ps page) (ap {A = PagesAndRoom} (λ p. p.pages) before ∙ room.how.0 ∙ ap {A = PagesAndRoom} (λ p. p.pages) target_is);
-          rows = gained.rows ∙ ap (λ rows. with_pages_at rows to (other kind) gained.after) (lost.rows ∙ ap (λ rows. with_pages_at rows from kind lost.after) room.rows) ∙ again old to from kind room.after lost.after gained.after;
+          rows = gained.rows ∙ ap (λ rows. with_pages_at rows to (other kind) gained.after) (lost.rows ∙ ap (λ rows. with_pages_at rows from kind lost.after) room.rows) ∙ again old to from kind
+              room.after lost.after gained.after;
         }
 
 -- a withdrawal, one write after another
-module _ (old roomy : Rows PartitionState) (from to : ℕ) (may : MayWithdraw old from to) (room : HasPages old roomy to Loose HasOneRoom) (page : ℕ) (left : Rows PartitionState) (lowest : HasPages roomy left from Pooled (HasLostLowest page)) where
+module _ (old roomy : Rows PartitionState) (from to : ℕ) (may : MayWithdraw old from to) (room : HasPages old roomy to Loose HasOneRoom) (page : ℕ) (left : Rows PartitionState)
+    (lowest : HasPages roomy left from Pooled (HasLostLowest page)) where
   is_lowest : IsLowest may.pooled.pages page
   is_lowest = lowest_there old roomy from to Pooled may.pooled may.loose may.pool may.had room page left lowest
 

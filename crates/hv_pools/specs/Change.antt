@@ -1,4 +1,4 @@
--- What the calls of this chapter make of the rows, and what they need of them.
+-- What the calls of this call group make of the rows, and what they need of them.
 use Rattle.std.specs.Prelude.{◌≡◌, ℕ, ◌<◌, ◌≤◌, ◌^◌, true, false, Option, Some}
 use Rattle.std.specs.Option.{option_map}
 use Rattle.std.specs.FinSet as set
@@ -22,7 +22,8 @@ abbrev pub with_pages_at : Rows PartitionState → ℕ → PageKind → PagesAnd
 with_pages_at rows id kind pages = change rows id (with_pages kind pages)
 
 -- a partition's pages of a kind were changed so
-pub record HasPages (old new : Rows PartitionState) (id : ℕ) (kind : PageKind) (How : PagesAndRoom → PagesAndRoom → Type 0) : Type 0 where
+pub record HasPages (old new : Rows PartitionState) (id : ℕ) (kind : PageKind)
+    (How : PagesAndRoom → PagesAndRoom → Type 0) : Type 0 where
   pub before : PagesAndRoom
   pub at : pages_at old id kind ≡ Some before
   pub after : PagesAndRoom

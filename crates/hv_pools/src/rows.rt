@@ -1,13 +1,13 @@
 // What a deposit and a withdrawal change in the tree: one page goes from one partition to another, or
 // within one.
 ghost use Rattle.std.specs.Prelude.{◌≡◌, IsSome, OnOk, OnErr};
-ghost use Rattle.hv_tie.specs.Room.{IsSameButRoom};
+ghost use Rattle.hv_refine.specs.Room.{IsSameButRoom};
 ghost use Rattle.hv_pools.specs.Change.{CanGain, CanLose, HasGained, HasLost, HasLostLowest, HasOneRoom};
 ghost use Rattle.hv_pools.specs.Change.{HasPages, IsDeposited, IsWithdrawn, MayDeposit, MayWithdraw};
 ghost use Rattle.hv_pools.specs.Change.{pages_at};
 
 use hv_partition::{PageKind, Partition};
-use hv_tie::Partitions;
+use hv_refine::Partitions;
 use std::alloc::{AllocError, Allocator};
 
 // Moves a loose page of `from` to the pool of `to`.

@@ -1,5 +1,6 @@
 -- Slots that rise: what a search finds among them, and one slot more or less.
-use Rattle.std.proofs.Common.{◌≡◌, ℕ, zero, suc, ◌+◌, ◌-◌, ◌<◌, ◌≤◌, ◌&&◌, Bool, T, true, false, cond, List, [], ◌∷◌, length, get_or, Result, Ok, Err, None, Some, arith, inl, inr, sym, refl, ap, subst, ◌∙◌}
+use Rattle.std.proofs.Common.{◌≡◌, ℕ, zero, suc, ◌+◌, ◌-◌, ◌<◌, ◌≤◌, ◌&&◌, Bool, T, true, false, cond, List, [], ◌∷◌, length, get_or, Result, Ok, Err, None, Some, arith, inl, inr, sym, refl, ap}
+use Rattle.std.proofs.Common.{subst, ◌∙◌}
 use Rattle.std.specs.Prelude.{All, IfOk, IfErr}
 use Rattle.std.specs.Cmp.{nat_cmp_total, unsigned_tied}
 use Rattle.std.specs.FinMap as map
@@ -104,7 +105,8 @@ module _ {R : Type 0} where
   find-insert_gap slots q p row x gap = find-insert slots q p row x (free_in_gap slots q p gap)
 
   -- what is found once a slot is removed
-  pub find-remove : (slots : List (ℕ × R)) (p : ℕ) (d : ℕ × R) (x : ℕ) → IsRising slots → p < length slots → find nat_cmp x (remove slots p) ≡ cond (eq_by_cmp nat_cmp x (get_or slots p d).0) None (find nat_cmp x slots)
+  pub find-remove : (slots : List (ℕ × R)) (p : ℕ) (d : ℕ × R) (x : ℕ) → IsRising slots → p < length slots → find nat_cmp x (remove slots p) ≡ cond (eq_by_cmp nat_cmp x (get_or slots p d).0) None
+      (find nat_cmp x slots)
   find-remove [] p d x rising within = absurd (omega (arith, within))
   find-remove (slot ∷ slots) zero d x rising within =
       elim (cases_eq slot.0 x) [
@@ -125,7 +127,8 @@ module _ {R : Type 0} where
       let long = length-insert slots p (q, row) within in
       let at_below : (k : ℕ) → k < p → (get_or new k d).0 ≡ (get_or slots k d).0 = λ k low. ap (λ (s : ℕ × R). s.0) (get_or-insert_below slots p (q, row) d k low within) in
       let at_here : (k : ℕ) → k ≡ p → (get_or new k d).0 ≡ q = λ k here. rw here (ap (λ (s : ℕ × R). s.0) (get_or-insert_at slots p (q, row) d within)) in
-      let at_above : (k : ℕ) → p < k → (get_or new k d).0 ≡ (get_or slots (k - 1) d).0 = λ k high. subst (λ n. (get_or new n d).0 ≡ (get_or slots (k - 1) d).0) {x = k - 1 + 1} (omega arith) (ap (λ (s : ℕ × R). s.0) (get_or-insert_above slots p (q, row) d (k - 1) (omega arith) within)) in
+      let at_above : (k : ℕ) → p < k → (get_or new k d).0 ≡ (get_or slots (k - 1) d).0 = λ k high. subst (λ n. (get_or new n d).0 ≡ (get_or slots (k - 1) d).0) {x = k - 1 + 1} (omega arith)
+      (ap (λ (s : ℕ × R). s.0) (get_or-insert_above slots p (q, row) d (k - 1) (omega arith) within)) in
       let before : (k : ℕ) → k < p → (get_or slots k d).0 < q = λ k low. gap.0 k d (omega arith) low in
       let after : (k : ℕ) → p ≤ k → k < length slots → q < (get_or slots k d).0 = λ k low high. gap.1 k d low high in
       let rises : (a b : ℕ) → a < b → b < length slots → (get_or slots a d).0 < (get_or slots b d).0 = λ a b low high. rising a b d low high in

@@ -24,7 +24,8 @@ module _ {R : Type 0} where
   unfolding rows_of
   entries-rows_of slots rising =
       let sorted = sorted_rising slots rising in
-      let alike = map.same_map nat_cmp_total nat_cmp-IsAntisymmetric (map.from_entries slots) (map.from_sorted slots) (λ x. map.get-from_entries nat_cmp_total slots x ∙ sym (map.get-from_sorted nat_cmp slots x sorted)) in
+      let alike = map.same_map nat_cmp_total nat_cmp-IsAntisymmetric (map.from_entries slots) (map.from_sorted slots)
+      (λ x. map.get-from_entries nat_cmp_total slots x ∙ sym (map.get-from_sorted nat_cmp slots x sorted)) in
       ap map.entries alike ∙ map.entries-from_sorted nat_cmp slots sorted
 
   module _ (slots : List (ℕ × R)) (q p : ℕ) where
@@ -67,7 +68,8 @@ module _ {R : Type 0} where
       ])
 
   -- a search for a free id does not find it
-  pub not_found : (slots : List (ℕ × R)) (q : ℕ) (r : Result ℕ ℕ) → IsRising slots → map.contains_key (rows_of slots) q ≡ false → IsSearchInRange r (length slots) → IfOk r (HoldsAt (λ slot. slot.0 ≡ q) slots) → IsErr r
+  pub not_found : (slots : List (ℕ × R)) (q : ℕ) (r : Result ℕ ℕ) → IsRising slots → map.contains_key (rows_of slots) q ≡ false → IsSearchInRange r (length slots) → IfOk r
+      (HoldsAt (λ slot. slot.0 ≡ q) slots) → IsErr r
   not_found slots q (Err p) rising free within found = refl
   not_found [] q (Ok p) rising free within found = absurd (omega (arith, within))
   not_found (slot ∷ slots) q (Ok p) rising free within found = absurd (false≢true (sym free ∙ ap is_some (some_of (slot ∷ slots) q p slot rising within (found slot))))

@@ -55,8 +55,8 @@ impl<R: Copy, A: Allocator> Table<R, A> {
         }
     }
 
-    /// The row at a place, with its id, where the rows stand by rising ids from place 0 on. `None` where there
-    /// are no more.
+    /// The row at a place, with its id, where the rows stand by rising ids from place 0 on. `None` where
+    /// there are no more.
     pub fn at(&self, place: u32) -> Option<(u32, R)>
         ensures { result ≡ slice_get (map.entries self.now.rows) place }
     {
@@ -130,8 +130,8 @@ impl<R: Copy, A: Allocator> Table<R, A> {
     }
 }
 
-// The place of the row with this id, or where it would go. It is looked for first at the last place at which it may
-// stand, since each id is higher than the one before.
+// The place of the row with this id, or where it would go. It is looked for first at the last place at which
+// it may stand, since each id is higher than the one before.
 fn place_of<R: Copy>(slots: &[(u32, R)], id: u32) -> Result<usize, usize>
     requires { IsRising slots.now }
     ensures within { IsSearchInRange result (length slots.now) }

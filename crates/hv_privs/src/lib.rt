@@ -1,7 +1,7 @@
 //! A partition's privileges: the mask of 64 bits that says what the partition may ask of the hypervisor.
 //!
 //! The bits and their names are those of HV_PARTITION_PRIVILEGE_MASK (TLFS 4.0, "Partition Privilege
-//! Flags", in the chapter on partition properties). Which hypercall or register needs which privilege
+//! Flags", in the call group on partition properties). Which hypercall or register needs which privilege
 //! is not said here.
 //!
 //! Every function takes every mask, and keeps the bits that have no name. A comparison or an intersection

@@ -3,12 +3,13 @@ use Rattle.std.proofs.Common.{◌≡◌, ℕ, Some, sym, ap, ◌∙◌}
 use Rattle.std.specs.FinMap.{FinMap, insert}
 use Rattle.std.specs.Ordering.{nat_cmp}
 use Rattle.hv_partition.specs.Partition.{PartitionState}
-use Rattle.hv_tie.proofs.Found.{content_row}
+use Rattle.hv_refine.proofs.Found.{content_row}
 use Rattle.hv_tree.specs.Rows.{Rows, change, changed_at, content}
 use Rattle.hv_vp.specs.Vp.{VpState}
 use Rattle.hv_processors.specs.Change.{HasVps}
 
-pub has_vps : (rows : Rows PartitionState) (id : ℕ) (p w : PartitionState) (g : FinMap nat_cmp VpState → FinMap nat_cmp VpState) → Some p ≡ content rows id → w.vps.vps ≡ g p.vps.vps → w ≡ record p { vps = w.vps } → HasVps rows (change rows id (λ _. w)) id g
+pub has_vps : (rows : Rows PartitionState) (id : ℕ) (p w : PartitionState) (g : FinMap nat_cmp VpState → FinMap nat_cmp VpState) → Some p ≡ content rows id → w.vps.vps ≡ g p.vps.vps → w ≡ record p
+    { vps = w.vps } → HasVps rows (change rows id (λ _. w)) id g
 has_vps rows id p w g there vps rest =
     let (r, is, same) = content_row rows id p there in
     let as_it_was : w ≡ record r.1 { vps = w.vps } = rest ∙ ap {A = PartitionState} (λ q. record q { vps = w.vps }) (sym same) in

@@ -1,4 +1,4 @@
--- What the calls and accesses of this chapter make of the rows is what the model makes of its state.
+-- What the calls and accesses of this call group make of the rows is what the model makes of its state.
 use Rattle.std.proofs.Common.{◌≡◌, ℕ, not, Bool, true, false, nat_lt, is_some, Option, None, Some, refl, sym, ap, subst, ◌∙◌}
 use Rattle.std.proofs.lemmas.Bool.{and_parts}
 use Rattle.std.specs.FinMap.{contains_key, get, insert, remove}
@@ -10,11 +10,11 @@ use Rattle.hv_policy.specs.Effect.{call_effect, write_msr, write_register}
 use Rattle.hv_policy.specs.Flat.{Flat}
 use Rattle.hv_policy.specs.Rules.{first_unmet}
 use Rattle.hv_policy.specs.declared.event.Caller.{Caller}
-use Rattle.hv_tie.proofs.Allowed.{admitted_allowed, target_row}
-use Rattle.hv_tie.proofs.Mailed.{written_tied}
-use Rattle.hv_tie.specs.Served.{IsAdmitted, unmet_further}
-use Rattle.hv_tie.specs.Tie.{IsTied, vp_row, vp_row_of}
-use Rattle.hv_tie.specs.Vp.{with_state_of}
+use Rattle.hv_refine.proofs.Allowed.{admitted_allowed, target_row}
+use Rattle.hv_refine.proofs.Mailed.{written_tied}
+use Rattle.hv_refine.specs.Served.{IsAdmitted, unmet_further}
+use Rattle.hv_refine.specs.Tie.{Refines, vp_row, vp_row_of}
+use Rattle.hv_refine.specs.Vp.{with_state_of}
 use Rattle.hv_tree.specs.Rows.{Rows, change}
 use Rattle.hv_vp.specs.Vp.{VpState, new_vp, written, written_msr}
 use Rattle.hv_processors.specs.Asked.{write_asks}
@@ -47,20 +47,24 @@ module _ (rows : Rows PartitionState) (caller partition vp : ℕ) (a : IsAdmitte
             free = sym (mapped (get row.1.vps.vps vp)) ∙ sym (ap is_some ((a.rows.tied.rows target).vp vp ∙ ap (vp_row vp) is)) ∙ unless (contains_key f.vp (target, vp)) free;
           }
 
-module _ (rows new : Rows PartitionState) (f : Flat) (flat : IsTied rows f) (caller partition vp target : ℕ) where
-  pub created : target ≡ target_of (CreateVp partition vp) caller → MayAdd rows target vp → HasVps rows new target (λ vps. insert vps vp (new_vp vp)) → IsTied new (call_effect (CreateVp partition vp) f caller (target_of (CreateVp partition vp) caller))
-  created at may h = subst (λ t. IsTied new (call_effect (CreateVp partition vp) f caller t)) at (added_tied rows new f flat target vp may h)
+module _ (rows new : Rows PartitionState) (f : Flat) (flat : Refines rows f) (caller partition vp target : ℕ) where
+  pub created : target ≡ target_of (CreateVp partition vp) caller → MayAdd rows target vp → HasVps rows new target (λ vps. insert vps vp (new_vp vp)) → Refines new
+      (call_effect (CreateVp partition vp) f caller (target_of (CreateVp partition vp) caller))
+  created at may h = subst (λ t. Refines new (call_effect (CreateVp partition vp) f caller t)) at (added_tied rows new f flat target vp may h)
 
-  pub deleted : target ≡ target_of (DeleteVp partition vp) caller → HasVps rows new target (λ vps. remove vps vp) → IsTied new (call_effect (DeleteVp partition vp) f caller (target_of (DeleteVp partition vp) caller))
-  deleted at h = subst (λ t. IsTied new (call_effect (DeleteVp partition vp) f caller t)) at (removed_tied rows new f flat target vp h)
+  pub deleted : target ≡ target_of (DeleteVp partition vp) caller → HasVps rows new target (λ vps. remove vps vp) → Refines new
+      (call_effect (DeleteVp partition vp) f caller (target_of (DeleteVp partition vp) caller))
+  deleted at h = subst (λ t. Refines new (call_effect (DeleteVp partition vp) f caller t)) at (removed_tied rows new f flat target vp h)
 
-  pub set : (name value : ℕ) → target ≡ target_of (SetVpRegisters partition vp name value) caller → new ≡ change rows target (with_state_of vp (written name value)) → IsTied new (call_effect (SetVpRegisters partition vp name value) f caller (target_of (SetVpRegisters partition vp name value) caller))
+  pub set : (name value : ℕ) → target ≡ target_of (SetVpRegisters partition vp name value) caller → new ≡ change rows target (with_state_of vp (written name value)) → Refines new
+      (call_effect (SetVpRegisters partition vp name value) f caller (target_of (SetVpRegisters partition vp name value) caller))
   set name value at is =
-      subst (λ t. IsTied new (call_effect (SetVpRegisters partition vp name value) f caller t)) at
-      (subst (λ rows. IsTied rows (call_effect (SetVpRegisters partition vp name value) f caller target)) (sym is) (written_tied rows f flat target vp name value))
+      subst (λ t. Refines new (call_effect (SetVpRegisters partition vp name value) f caller t)) at
+      (subst (λ rows. Refines rows (call_effect (SetVpRegisters partition vp name value) f caller target)) (sym is) (written_tied rows f flat target vp name value))
 
-module _ (rows new : Rows PartitionState) (f : Flat) (flat : IsTied rows f) (by : Caller) (value : ℕ) where
-  pub msr_set : (name : Option ℕ) → first_unmet (write_asks f by.part name value) ≡ None → new ≡ change rows by.part (with_state_of by.vp (written_msr name value)) → IsTied new (write_msr by.part by.vp name value f)
+module _ (rows new : Rows PartitionState) (f : Flat) (flat : Refines rows f) (by : Caller) (value : ℕ) where
+  pub msr_set : (name : Option ℕ) → first_unmet (write_asks f by.part name value) ≡ None → new ≡ change rows by.part (with_state_of by.vp (written_msr name value)) → Refines new
+      (write_msr by.part by.vp name value f)
   msr_set None met is = cc
   msr_set (Some register) met is =
-      subst (λ rows. IsTied rows (write_register by.part by.vp register value f)) (sym is) (written_tied rows f flat by.part by.vp register value)
+      subst (λ rows. Refines rows (write_register by.part by.vp register value f)) (sym is) (written_tied rows f flat by.part by.vp register value)

@@ -5,11 +5,13 @@ use Rattle.hv_defs.specs.Registers.{row_of}
 use Rattle.hv_policy.specs.Flat.{Flat}
 use Rattle.hv_policy.specs.Met.{may_access, may_access_msr, takes_msr}
 use Rattle.hv_policy.specs.Rules.{Ask}
-use Rattle.hv_policy.specs.declared.rule.Rule.TheVariants.{Right, VpExists, MsrKnown, MsrPrivilege, MsrWrite}
+use Rattle.hv_policy.specs.declared.rule.Rule.TheVariants.{Entitlement, VpExists, MsrKnown, MsrPrivilege}
+use Rattle.hv_policy.specs.declared.rule.Rule.TheVariants.{MsrWrite}
 
 -- P18 and P19: of a processor of the target and a register by its name
 abbrev pub register_asks : Flat → ℕ → ℕ → ℕ → ℕ → List Ask
-register_asks f caller target vp name = (Right, may_access f caller (row_of name)) ∷ (VpExists, contains_key f.vp (target, vp)) ∷ []
+register_asks f caller target vp name = (Entitlement, may_access f caller (row_of name)) ∷
+    (VpExists, contains_key f.vp (target, vp)) ∷ []
 
 -- P25 and P26: of the model-specific register that has this name in a call, if it is one
 abbrev pub msr_asks : Flat → ℕ → Option ℕ → List Ask
@@ -17,4 +19,5 @@ msr_asks f caller name = (MsrKnown, is_some name) ∷ (MsrPrivilege, may_access_
 
 -- P25 to P27: of a write to it
 abbrev pub write_asks : Flat → ℕ → Option ℕ → ℕ → List Ask
-write_asks f caller name value = (MsrKnown, is_some name) ∷ (MsrPrivilege, may_access_msr f caller name) ∷ (MsrWrite, takes_msr name value) ∷ []
+write_asks f caller name value = (MsrKnown, is_some name) ∷ (MsrPrivilege, may_access_msr f caller name) ∷
+    (MsrWrite, takes_msr name value) ∷ []

@@ -7,7 +7,8 @@ use Rattle.hv_tree.specs.Rows.{Row, Rows}
 use Rattle.hv_vp.specs.Vp.{VpState}
 
 -- the row of a partition that has other processors, and some room for more
-pub record HasVps (old new : Rows PartitionState) (id : ℕ) (g : FinMap nat_cmp VpState → FinMap nat_cmp VpState) : Type 0 where
+pub record HasVps (old new : Rows PartitionState) (id : ℕ)
+    (g : FinMap nat_cmp VpState → FinMap nat_cmp VpState) : Type 0 where
   pub row : Row PartitionState
   pub there : get old id ≡ Some row
   pub room : ℕ

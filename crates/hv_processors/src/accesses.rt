@@ -1,14 +1,14 @@
-// The accesses of this chapter, each with P1 to P3.
+// The accesses of this call group, each with P1 to P3.
 ghost use Rattle.std.specs.Prelude.{◌≡◌, []};
 ghost use Rattle.std.specs.Result.{result_map_both};
 ghost use Rattle.hv_policy.specs.Flat.{Flat};
 ghost use Rattle.hv_policy.specs.declared.event.Action.TheVariants as action;
-ghost use Rattle.hv_tie.specs.Access.{IsAnswered};
-ghost use Rattle.hv_tie.specs.Tie.{IsTied};
+ghost use Rattle.hv_refine.specs.Access.{IsAnswered};
+ghost use Rattle.hv_refine.specs.Tie.{Refines};
 
 use crate::own::{read_own, write_own};
 use hv_policy::{Caller, Output, Rule};
-use hv_tie::Partitions;
+use hv_refine::Partitions;
 use std::alloc::Allocator;
 
 /// A read of one of the caller's model-specific registers: its value, in 8 bytes.
@@ -19,7 +19,7 @@ pub fn read_msr<A: Allocator>(
     output: &mut Output,
 ) -> Result<(), Rule>
     requires { output.old ≡ [] }
-    ensures { (f : Flat) → IsTied tree.old f → IsAnswered {A = A} f by (action.ReadMsr msr) tree.old
+    ensures { (f : Flat) → Refines tree.old f → IsAnswered {A = A} f by (action.ReadMsr msr) tree.old
         (result_map_both (λ _. output.new) (λ rule. rule) result) tree.new }
 {
     match read_own(tree, by, msr) {
@@ -38,7 +38,7 @@ pub fn write_msr<A: Allocator>(
     msr: u32,
     value: u64,
 ) -> Result<(), Rule>
-    ensures { (f : Flat) → IsTied tree.old f → IsAnswered {A = A} f by (action.WriteMsr msr value) tree.old
+    ensures { (f : Flat) → Refines tree.old f → IsAnswered {A = A} f by (action.WriteMsr msr value) tree.old
         (result_map_both (λ _. []) (λ rule. rule) result) tree.new }
 {
     match write_own(tree, by, msr, value) {

@@ -8,8 +8,8 @@ ghost use Rattle.hv_partition.specs.contracts.partition.Partition.{the_row as pa
 ghost use Rattle.hv_policy.specs.Answer.{msr_of};
 ghost use Rattle.hv_policy.specs.Flat.{Flat};
 ghost use Rattle.hv_policy.specs.Rules.{caller_asks, first_unmet};
-ghost use Rattle.hv_tie.specs.Tie.{IsTied};
-ghost use Rattle.hv_tie.specs.Vp.{with_state_of};
+ghost use Rattle.hv_refine.specs.Tie.{Refines};
+ghost use Rattle.hv_refine.specs.Vp.{with_state_of};
 ghost use Rattle.hv_tree.specs.Rows.{Rows, change, content};
 ghost use Rattle.hv_tree.specs.contracts.tree.IdTree.{the_row as tree_row};
 ghost use Rattle.hv_vp.specs.Vp.{written_msr};
@@ -19,19 +19,19 @@ ghost use Rattle.hv_processors.specs.Asked.{msr_asks, write_asks};
 use hv_defs::Life;
 use hv_policy::{Caller, Rule};
 use hv_privs::Privileges;
-use hv_tie::Partitions;
+use hv_refine::Partitions;
 use hv_vp::{Vp, name_of_msr, privilege_of};
 use std::alloc::Allocator;
 
 // P1 to P3, P25 and P26, and then the register's value.
 #[tactic(auto, using(hv_tree::proofs::Laws::unchanged))]
 pub fn read_own<A: Allocator>(tree: &mut Partitions<A>, by: Caller, msr: u32) -> Result<u64, Rule>
-    ensures value { IfOk result (λ value. (f : Flat) → IsTied tree.old f
+    ensures value { IfOk result (λ value. (f : Flat) → Refines tree.old f
         → value ≡ msr_of (get f.vp (by.part, by.vp)) (name_of_msr msr)) }
     ensures kept { tree.new ≡ tree.old }
-    ensures met { IfOk result (λ _. (f : Flat) → IsTied tree.old f → (first_unmet (caller_asks f by) ≡ None)
+    ensures met { IfOk result (λ _. (f : Flat) → Refines tree.old f → (first_unmet (caller_asks f by) ≡ None)
         × (first_unmet (msr_asks f by.part (name_of_msr msr)) ≡ None)) }
-    ensures unmet { IfErr result (λ rule. (f : Flat) → IsTied tree.old f
+    ensures unmet { IfErr result (λ rule. (f : Flat) → Refines tree.old f
         → first_unmet (caller_asks f by ++ msr_asks f by.part (name_of_msr msr)) ≡ Some rule) }
 {
     let vp = match own_vp(tree, by, msr) {
@@ -44,7 +44,8 @@ pub fn read_own<A: Allocator>(tree: &mut Partitions<A>, by: Caller, msr: u32) ->
     }
 }
 
-// P1 to P3, P25 and P26, and then a write, by which the processor tells P27: what it doesn't take changes nothing.
+// P1 to P3, P25 and P26, and then a write, by which the processor tells P27: what it doesn't take changes
+// nothing.
 #[tactic(auto, using(hv_tree::proofs::Laws::unchanged))]
 pub fn write_own<A: Allocator>(
     tree: &mut Partitions<A>,
@@ -55,9 +56,9 @@ pub fn write_own<A: Allocator>(
     ensures written { OnOk result (tree.new
         ≡ change tree.old by.part (with_state_of by.vp (written_msr (name_of_msr msr) value))) }
     ensures kept { OnErr result (tree.new ≡ tree.old) }
-    ensures met { IfOk result (λ _. (f : Flat) → IsTied tree.old f → (first_unmet (caller_asks f by) ≡ None)
+    ensures met { IfOk result (λ _. (f : Flat) → Refines tree.old f → (first_unmet (caller_asks f by) ≡ None)
         × (first_unmet (write_asks f by.part (name_of_msr msr) value) ≡ None)) }
-    ensures unmet { IfErr result (λ rule. (f : Flat) → IsTied tree.old f
+    ensures unmet { IfErr result (λ rule. (f : Flat) → Refines tree.old f
         → first_unmet (caller_asks f by ++ write_asks f by.part (name_of_msr msr) value) ≡ Some rule) }
 {
     let vp = match own_vp(tree, by, msr) {
@@ -70,16 +71,18 @@ pub fn write_own<A: Allocator>(
     }
 }
 
-// P1 to P3, P25 and P26, and the processor that makes the access, to be read or changed; else the first of them that
-// isn't met, with the partitions as they were.
+// P1 to P3, P25 and P26, and the processor that makes the access, to be read or changed; else the first of
+// them that isn't met, with the partitions as they were.
 #[tactic(auto, using(hv_tree::proofs::Laws::unchanged))]
 fn own_vp<A: Allocator>(tree: &mut Partitions<A>, by: Caller, msr: u32) -> Result<&mut Vp<A>, Rule>
     ensures* writes_back { sem 𝓛 (LendsIfOk (tree_row (partition_row A.row A.Allocator) A.row A.Allocator)
         (vp_row A.row A.Allocator) tree.entry result (λ w. change tree.old by.part (λ p. with_vp_of p by.vp w)) tree.old) }
-    ensures there { IfOk result (λ vp. IfSome (content tree.old by.part) (λ p. get p.vps.vps by.vp ≡ Some vp.now)) }
-    ensures met { IfOk result (λ _. (f : Flat) → IsTied tree.old f
-        → (first_unmet (caller_asks f by) ≡ None) × (first_unmet (msr_asks f by.part (name_of_msr msr)) ≡ None)) }
-    ensures unmet { IfErr result (λ rule. (f : Flat) → IsTied tree.old f
+    ensures there { IfOk result (λ vp. IfSome (content tree.old by.part)
+        (λ p. get p.vps.vps by.vp ≡ Some vp.now)) }
+    ensures met { IfOk result (λ _. (f : Flat) → Refines tree.old f
+        → (first_unmet (caller_asks f by) ≡ None) ×
+        (first_unmet (msr_asks f by.part (name_of_msr msr)) ≡ None)) }
+    ensures unmet { IfErr result (λ rule. (f : Flat) → Refines tree.old f
         → first_unmet (caller_asks f by ++ msr_asks f by.part (name_of_msr msr)) ≡ Some rule) }
 {
     let Some(caller) = tree.get_mut(by.part) else {
@@ -101,7 +104,7 @@ fn own_vp<A: Allocator>(tree: &mut Partitions<A>, by: Caller, msr: u32) -> Resul
 // P25 and P26 of a partition with this mask: the first of them that isn't met.
 fn unmet_by_mask(mask: Privileges, msr: u32) -> Option<Rule>
     ensures { (f : Flat) (rows : Rows PartitionState) (id : ℕ) (p : PartitionState) → content rows id ≡ Some p
-        → p.mask ≡ mask → IsTied rows f → result ≡ first_unmet (msr_asks f id (name_of_msr msr)) }
+        → p.mask ≡ mask → Refines rows f → result ≡ first_unmet (msr_asks f id (name_of_msr msr)) }
 {
     let Some(name) = name_of_msr(msr) else {
         return Some(Rule::MsrKnown);

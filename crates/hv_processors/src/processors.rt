@@ -1,19 +1,21 @@
-// The calls of this chapter.
+// The calls of this call group.
 ghost use Rattle.std.specs.Prelude.{◌≡◌, ◌++◌};
 ghost use Rattle.std.specs.Int.{w64, to_le_bytes};
 ghost use Rattle.hv_calls.specs.declared.call.Call.TheVariants as call;
 ghost use Rattle.hv_policy.specs.Flat.{Flat};
 ghost use Rattle.hv_policy.specs.Rules.{first_unmet};
 ghost use Rattle.hv_processors.specs.Asked.{register_asks};
-ghost use Rattle.hv_tie.specs.Served.{AreLawful, IsAdmitted, IsOutcome, unmet_further};
-ghost use Rattle.hv_tie.specs.Tie.{IsTied};
+ghost use Rattle.hv_refine.specs.Served.{TreeInvariant, IsAdmitted, IsOutcome, unmet_further};
+ghost use Rattle.hv_refine.specs.Tie.{Refines};
 
 use crate::rows::{add, remove, write};
 use crate::rules::{is_known, is_vp_free, may_access, register, takes};
 use hv_calls::Call;
 use hv_defs::VP_CHARGE;
 use hv_policy::{CallOutput, Rule, needs};
-use hv_tie::{Partitions, Refused, has_available, has_vp, is_state_allowed, meant};
+use hv_refine::{
+    CallError, Partitions, has_available, has_vp, is_state_allowed, resolve_partition_id,
+};
 use std::alloc::{AllocError, Allocator};
 
 /// HvCreateVp: the target gets a processor with this index, whose registers are at their start. It uses 4
@@ -24,17 +26,17 @@ pub fn create_vp<A: Allocator + Clone>(
     caller: u64,
     partition: u64,
     vp: u32,
-) -> Result<CallOutput, Refused>
+) -> Result<CallOutput, CallError>
     requires { IsAdmitted tree.old caller (call.CreateVp partition vp) }
-    ensures { (f : Flat) → IsTied tree.old f
+    ensures { (f : Flat) → Refines tree.old f
         → IsOutcome f caller (call.CreateVp partition vp) tree.old result tree.new }
 {
     if let Some(rule) = unmet_create(tree, caller, partition, vp) {
-        return Err(Refused::Unmet(rule));
+        return Err(CallError::Unmet(rule));
     }
-    match add(tree, alloc, meant(caller, partition), vp) {
+    match add(tree, alloc, resolve_partition_id(caller, partition), vp) {
         Ok(()) => Ok(CallOutput::new()),
-        Err(AllocError) => Err(Refused::Memory),
+        Err(AllocError) => Err(CallError::Memory),
     }
 }
 
@@ -45,10 +47,10 @@ fn unmet_create<A: Allocator>(
     partition: u64,
     vp: u32,
 ) -> Option<Rule>
-    requires { AreLawful tree.now }
-    ensures { (f : Flat) → IsTied tree.now f → result ≡ unmet_further f caller (call.CreateVp partition vp) }
+    requires { TreeInvariant tree.now }
+    ensures { (f : Flat) → Refines tree.now f → result ≡ unmet_further f caller (call.CreateVp partition vp) }
 {
-    let target = meant(caller, partition);
+    let target = resolve_partition_id(caller, partition);
     if !is_state_allowed(
         tree,
         target,
@@ -71,21 +73,21 @@ pub fn delete_vp<A: Allocator>(
     caller: u64,
     partition: u64,
     vp: u32,
-) -> Result<CallOutput, Refused>
+) -> Result<CallOutput, CallError>
     requires { IsAdmitted tree.old caller (call.DeleteVp partition vp) }
-    ensures { (f : Flat) → IsTied tree.old f
+    ensures { (f : Flat) → Refines tree.old f
         → IsOutcome f caller (call.DeleteVp partition vp) tree.old result tree.new }
 {
-    let target = meant(caller, partition);
+    let target = resolve_partition_id(caller, partition);
     if !is_state_allowed(
         tree,
         target,
         needs(&Call::DeleteVp { partition, vp }).states,
     ) {
-        return Err(Refused::Unmet(Rule::TargetState));
+        return Err(CallError::Unmet(Rule::TargetState));
     }
     if !has_vp(tree, target, vp) {
-        return Err(Refused::Unmet(Rule::VpExists));
+        return Err(CallError::Unmet(Rule::VpExists));
     }
     remove(tree, target, vp);
     Ok(CallOutput::new())
@@ -99,14 +101,14 @@ pub fn get_vp_registers<A: Allocator>(
     partition: u64,
     vp: u32,
     name: u32,
-) -> Result<CallOutput, Refused>
-    ensures { (f : Flat) → IsTied tree.now f
+) -> Result<CallOutput, CallError>
+    ensures { (f : Flat) → Refines tree.now f
         → IsOutcome f caller (call.GetVpRegisters partition vp name) tree.now result tree.now }
 {
     if let Some(rule) = unmet_get(tree, caller, partition, vp, name) {
-        return Err(Refused::Unmet(rule));
+        return Err(CallError::Unmet(rule));
     }
-    Ok(register_output(register(tree, meant(caller, partition), vp, name)))
+    Ok(register_output(register(tree, resolve_partition_id(caller, partition), vp, name)))
 }
 
 // P12, P18, P19 and P21.
@@ -117,10 +119,10 @@ fn unmet_get<A: Allocator>(
     vp: u32,
     name: u32,
 ) -> Option<Rule>
-    ensures { (f : Flat) → IsTied tree.now f → result
+    ensures { (f : Flat) → Refines tree.now f → result
         ≡ unmet_further f caller (call.GetVpRegisters partition vp name) }
 {
-    let target = meant(caller, partition);
+    let target = resolve_partition_id(caller, partition);
     let states = needs(&Call::GetVpRegisters {
         partition,
         vp,
@@ -134,7 +136,7 @@ fn unmet_get<A: Allocator>(
         return Some(rule);
     }
     if !is_known(name) {
-        return Some(Rule::Subject);
+        return Some(Rule::Operand);
     }
     None
 }
@@ -147,10 +149,10 @@ fn unmet_register<A: Allocator>(
     vp: u32,
     name: u32,
 ) -> Option<Rule>
-    ensures { (f : Flat) → IsTied tree.now f → result ≡ first_unmet (register_asks f caller target vp name) }
+    ensures { (f : Flat) → Refines tree.now f → result ≡ first_unmet (register_asks f caller target vp name) }
 {
     if !may_access(tree, caller, name) {
-        return Some(Rule::Right);
+        return Some(Rule::Entitlement);
     }
     if !has_vp(tree, target, vp) {
         return Some(Rule::VpExists);
@@ -176,14 +178,20 @@ pub fn set_vp_registers<A: Allocator>(
     vp: u32,
     name: u32,
     value: u64,
-) -> Result<CallOutput, Refused>
-    ensures { (f : Flat) → IsTied tree.old f
+) -> Result<CallOutput, CallError>
+    ensures { (f : Flat) → Refines tree.old f
         → IsOutcome f caller (call.SetVpRegisters partition vp name value) tree.old result tree.new }
 {
     if let Some(rule) = unmet_set(tree, caller, partition, vp, name, value) {
-        return Err(Refused::Unmet(rule));
+        return Err(CallError::Unmet(rule));
     }
-    write(tree, meant(caller, partition), vp, name, value);
+    write(
+        tree,
+        resolve_partition_id(caller, partition),
+        vp,
+        name,
+        value,
+    );
     Ok(CallOutput::new())
 }
 
@@ -196,10 +204,10 @@ fn unmet_set<A: Allocator>(
     name: u32,
     value: u64,
 ) -> Option<Rule>
-    ensures { (f : Flat) → IsTied tree.now f → result
+    ensures { (f : Flat) → Refines tree.now f → result
         ≡ unmet_further f caller (call.SetVpRegisters partition vp name value) }
 {
-    let target = meant(caller, partition);
+    let target = resolve_partition_id(caller, partition);
     let states = needs(&Call::SetVpRegisters {
         partition,
         vp,
@@ -214,7 +222,7 @@ fn unmet_set<A: Allocator>(
         return Some(rule);
     }
     if !takes(name, value) {
-        return Some(Rule::Subject);
+        return Some(Rule::Operand);
     }
     None
 }

@@ -1,13 +1,13 @@
-// What the calls and accesses of this chapter change in the tree.
+// What the calls and accesses of this call group change in the tree.
 ghost use Rattle.std.specs.Prelude.{◌≡◌, true, OnOk, OnErr};
 ghost use Rattle.std.specs.FinMap.{contains_key, insert};
 ghost use Rattle.std.specs.FinMap as map;
 ghost use Rattle.hv_tree.specs.Rows.{change as changed};
 ghost use Rattle.hv_vp.specs.Vp.{new_vp, written};
-ghost use Rattle.hv_tie.specs.Vp.{with_state_of};
+ghost use Rattle.hv_refine.specs.Vp.{with_state_of};
 ghost use Rattle.hv_processors.specs.Change.{HasVps, MayAdd};
 
-use hv_tie::Partitions;
+use hv_refine::Partitions;
 use hv_vp::Vp;
 use std::alloc::{AllocError, Allocator};
 

@@ -11,16 +11,16 @@ use Rattle.hv_policy.specs.Flat.{Flat, PartRow}
 use Rattle.hv_policy.specs.Subtree.{LeadsUp, is_in_subtree}
 use Rattle.hv_privs.specs.declared.Privileges.{Privileges}
 use Rattle.hv_properties.specs.Given.{narrowed}
-use Rattle.hv_tie.proofs.Changed.{holds_alike}
-use Rattle.hv_tie.proofs.Lawful.{parents_below}
-use Rattle.hv_tie.specs.Served.{AreLawful}
-use Rattle.hv_tie.specs.Tie.{IsTied, Shows, part_row}
+use Rattle.hv_refine.proofs.Changed.{holds_alike}
+use Rattle.hv_refine.proofs.StateInvariant.{parents_below}
+use Rattle.hv_refine.specs.Served.{TreeInvariant}
+use Rattle.hv_refine.specs.Tie.{Refines, PartitionRelation, part_row}
 use Rattle.hv_tree.proofs.SubtreeLaws.{get-subtree}
 use Rattle.hv_tree.specs.Rows.{Row, Rows, parent}
 use Rattle.hv_tree.specs.Subtree as tree
 use Rattle.hv_tree.specs.Subtree.{IsInSubtree}
 
-module _ (rows : Rows PartitionState) (f : Flat) (flat : IsTied rows f) where
+module _ (rows : Rows PartitionState) (f : Flat) (flat : Refines rows f) where
   parents_tied : (id : ℕ) → parent_of f id ≡ parent rows id
   parents_tied id = ap (option_and_then (λ row. row.parent)) (flat.rows id).part ∙ by (get rows id)
     where
@@ -37,7 +37,7 @@ module _ (rows : Rows PartitionState) (f : Flat) (flat : IsTied rows f) where
   leads_in_flat zero id top leads = leads
   leads_in_flat (suc n) id top (p, is, leads) = (p, parents_tied id ∙ is, leads_in_flat n p top leads)
 
-  module _ (lawful : AreLawful rows) (top : ℕ) where
+  module _ (lawful : TreeInvariant rows) (top : ℕ) where
     rising : (id p : ℕ) → parent_of f id ≡ Some p → p < id
     rising id p is = parents_below rows lawful.flat lawful.tied lawful.pages lawful.lawful id p (sym (parents_tied id) ∙ is)
 
@@ -51,10 +51,13 @@ module _ (rows : Rows PartitionState) (f : Flat) (flat : IsTied rows f) where
       abbrev after : Flat
       after = record f { part = narrowed_parts f top value }
 
-      part_at : (id : ℕ) (b : Bool) → is_in_subtree f top id ≡ b → (r : Option (Row PartitionState)) → get f.part id ≡ option_map part_row r → get after.part id ≡ option_map (λ row. if b then narrowed_row value row else row) (option_map part_row r)
-      part_at id b is r old = get-narrowed f top value id ∙ ap (λ b. option_map (λ row. if b then narrowed_row value row else row) (get f.part id)) is ∙ ap (option_map (λ row. if b then narrowed_row value row else row)) old
+      part_at : (id : ℕ) (b : Bool) → is_in_subtree f top id ≡ b → (r : Option (Row PartitionState)) → get f.part id ≡ option_map part_row r → get after.part id ≡ option_map
+          (λ row. if b then narrowed_row value row else row) (option_map part_row r)
+      part_at id b is r old = get-narrowed f top value id ∙ ap (λ b. option_map (λ row. if b then narrowed_row value row else row) (get f.part id)) is ∙ ap
+          (option_map (λ row. if b then narrowed_row value row else row)) old
 
-      shown : (id : ℕ) (b : Bool) → is_in_subtree f top id ≡ b → (r : Option (Row PartitionState)) → Shows f id r → Shows after id (option_map (λ r. (r.0, cond b (narrowed value r.1) r.1)) r)
+      shown : (id : ℕ) (b : Bool) → is_in_subtree f top id ≡ b → (r : Option (Row PartitionState)) → PartitionRelation f id r → PartitionRelation after id
+          (option_map (λ r. (r.0, cond b (narrowed value r.1) r.1)) r)
       shown id b is None old = record {
         part = part_at id b is None old.part;
         page = old.page;
@@ -80,7 +83,9 @@ module _ (rows : Rows PartitionState) (f : Flat) (flat : IsTied rows f) where
         mail = old.mail;
       }
 
-      pub narrowed_tied : (new : Rows PartitionState) → ((id : ℕ) → IsInSubtree rows top id → get new id ≡ option_map (λ r. (r.0, narrowed value r.1)) (get rows id)) → ((id : ℕ) → (IsInSubtree rows top id → ⊥) → get new id ≡ get rows id) → IsTied new after
+      pub narrowed_tied : (new : Rows PartitionState) → ((id : ℕ) → IsInSubtree rows top id → get new id ≡ option_map (λ r. (r.0, narrowed value r.1)) (get rows id)) →
+          ((id : ℕ) → (IsInSubtree rows top id → ⊥) → get new id ≡ get rows id) → Refines new after
       narrowed_tied new edited others = record {
-        rows = λ id. subst (Shows after id) (sym (get-subtree rows new top (narrowed value) (is_in_subtree f top) in_rows not_in_rows edited others id)) (shown id (is_in_subtree f top id) refl (get rows id) (flat.rows id));
+        rows = λ id. subst (PartitionRelation after id) (sym (get-subtree rows new top (narrowed value) (is_in_subtree f top) in_rows not_in_rows edited others id))
+            (shown id (is_in_subtree f top id) refl (get rows id) (flat.rows id));
       }

@@ -6,22 +6,26 @@ use Rattle.hv_policy.specs.Flat.{Flat}
 use Rattle.hv_policy.specs.declared.property.Property.{Property}
 use Rattle.hv_policy.specs.declared.property.Property.TheVariants.{PrivilegeFlags, CpuReserve, CpuCap, CpuWeight}
 use Rattle.hv_privs.specs.Privileges.{of}
-use Rattle.hv_tie.proofs.Changed.{changed_tied}
-use Rattle.hv_tie.specs.Tie.{IsTied}
+use Rattle.hv_refine.proofs.Changed.{changed_tied}
+use Rattle.hv_refine.specs.Tie.{Refines}
 use Rattle.hv_tree.specs.Rows.{Rows, change}
 use Rattle.hv_properties.specs.Given.{given}
 
-module _ (rows : Rows PartitionState) (f : Flat) (flat : IsTied rows f) (target : ℕ) where
+module _ (rows : Rows PartitionState) (f : Flat) (flat : Refines rows f) (target : ℕ) where
   -- a property that gets its new value
-  given_tied : (property : Option Property) (value : ℕ) → IsTied (change rows target (given property value)) (record f { part = with_row f.part target (given_row property value) })
+  given_tied : (property : Option Property) (value : ℕ) → Refines (change rows target (given property value)) (record f { part = with_row f.part target (given_row property value) })
   given_tied None value = changed_tied rows f flat target (given None value) (given_row None value) (λ _. refl) (λ _. refl) (λ _. refl) (λ _. refl) (λ _. refl) (λ _. refl)
-  given_tied (Some PrivilegeFlags) value = changed_tied rows f flat target (given (Some PrivilegeFlags) value) (given_row (Some PrivilegeFlags) value) (λ _. refl) (λ _. refl) (λ _. refl) (λ _. refl) (λ _. refl) (λ _. refl)
-  given_tied (Some CpuReserve) value = changed_tied rows f flat target (given (Some CpuReserve) value) (given_row (Some CpuReserve) value) (λ _. refl) (λ _. refl) (λ _. refl) (λ _. refl) (λ _. refl) (λ _. refl)
+  given_tied (Some PrivilegeFlags) value = changed_tied rows f flat target (given (Some PrivilegeFlags) value) (given_row (Some PrivilegeFlags) value) (λ _. refl) (λ _. refl) (λ _. refl) (λ _. refl)
+      (λ _. refl) (λ _. refl)
+  given_tied (Some CpuReserve) value = changed_tied rows f flat target (given (Some CpuReserve) value) (given_row (Some CpuReserve) value) (λ _. refl) (λ _. refl) (λ _. refl) (λ _. refl) (λ _. refl)
+      (λ _. refl)
   given_tied (Some CpuCap) value = changed_tied rows f flat target (given (Some CpuCap) value) (given_row (Some CpuCap) value) (λ _. refl) (λ _. refl) (λ _. refl) (λ _. refl) (λ _. refl) (λ _. refl)
-  given_tied (Some CpuWeight) value = changed_tied rows f flat target (given (Some CpuWeight) value) (given_row (Some CpuWeight) value) (λ _. refl) (λ _. refl) (λ _. refl) (λ _. refl) (λ _. refl) (λ _. refl)
+  given_tied (Some CpuWeight) value = changed_tied rows f flat target (given (Some CpuWeight) value) (given_row (Some CpuWeight) value) (λ _. refl) (λ _. refl) (λ _. refl) (λ _. refl) (λ _. refl)
+      (λ _. refl)
 
   -- and so it is what setting it makes, where that narrows nothing
-  pub set_tied : (new : Rows PartitionState) (property : Option Property) (value : ℕ) → narrows property f target ≡ false → new ≡ change rows target (given property value) → IsTied new (record f { part = property_set f target property value })
+  pub set_tied : (new : Rows PartitionState) (property : Option Property) (value : ℕ) → narrows property f target ≡ false → new ≡ change rows target (given property value) → Refines new
+      (record f { part = property_set f target property value })
   set_tied new property value off is =
-      subst (λ b. IsTied new (record f { part = if b then narrowed f target (of value) else with_row f.part target (given_row property value) })) (sym off)
-      (subst (λ rows. IsTied rows (record f { part = with_row f.part target (given_row property value) })) (sym is) (given_tied property value))
+      subst (λ b. Refines new (record f { part = if b then narrowed f target (of value) else with_row f.part target (given_row property value) })) (sym off)
+      (subst (λ rows. Refines rows (record f { part = with_row f.part target (given_row property value) })) (sym is) (given_tied property value))

@@ -2,7 +2,8 @@
 use Rattle.std.specs.Prelude.{ℕ, Option, None, Some}
 use Rattle.hv_partition.specs.Partition.{PartitionState}
 use Rattle.hv_policy.specs.declared.property.Property.{Property}
-use Rattle.hv_policy.specs.declared.property.Property.TheVariants.{PrivilegeFlags, CpuReserve, CpuCap, CpuWeight}
+use Rattle.hv_policy.specs.declared.property.Property.TheVariants.{PrivilegeFlags, CpuReserve, CpuCap}
+use Rattle.hv_policy.specs.declared.property.Property.TheVariants.{CpuWeight}
 use Rattle.hv_privs.specs.Privileges.{of, restrict}
 use Rattle.hv_privs.specs.declared.Privileges.{Privileges}
 

@@ -1,15 +1,15 @@
-// The calls of this chapter.
+// The calls of this call group.
 ghost use Rattle.std.specs.Prelude.{◌≡◌};
 ghost use Rattle.hv_calls.specs.declared.call.Call.TheVariants as call;
 ghost use Rattle.hv_policy.specs.Flat.{Flat};
-ghost use Rattle.hv_tie.specs.Served.{IsAdmitted, IsOutcome, unmet_further};
-ghost use Rattle.hv_tie.specs.Tie.{IsTied};
+ghost use Rattle.hv_refine.specs.Served.{IsAdmitted, IsOutcome, unmet_further};
+ghost use Rattle.hv_refine.specs.Tie.{Refines};
 
 use crate::rows::set_property;
 use crate::rules::{is_in_range, is_known, may_give, property_value};
 use hv_calls::Call;
 use hv_policy::{CallOutput, Rule, needs};
-use hv_tie::{Partitions, Refused, is_state_allowed, meant, number_output};
+use hv_refine::{CallError, Partitions, is_state_allowed, number_output, resolve_partition_id};
 use std::alloc::Allocator;
 
 /// HvGetPartitionProperty: the value of a property of the target.
@@ -18,14 +18,14 @@ pub fn get_partition_property<A: Allocator>(
     caller: u64,
     partition: u64,
     code: u32,
-) -> Result<CallOutput, Refused>
-    ensures { (f : Flat) → IsTied tree.now f
+) -> Result<CallOutput, CallError>
+    ensures { (f : Flat) → Refines tree.now f
         → IsOutcome f caller (call.GetPartitionProperty partition code) tree.now result tree.now }
 {
     if !is_known(code) {
-        return Err(Refused::Unmet(Rule::PropertyKnown));
+        return Err(CallError::Unmet(Rule::PropertyKnown));
     }
-    Ok(number_output(property_value(tree, meant(caller, partition), code)))
+    Ok(number_output(property_value(tree, resolve_partition_id(caller, partition), code)))
 }
 
 /// HvSetPartitionProperty: a property of the target gets its new value. A mask that an Active target is
@@ -36,15 +36,15 @@ pub fn set_partition_property<A: Allocator>(
     partition: u64,
     code: u32,
     value: u64,
-) -> Result<CallOutput, Refused>
+) -> Result<CallOutput, CallError>
     requires { IsAdmitted tree.old caller (call.SetPartitionProperty partition code value) }
-    ensures { (f : Flat) → IsTied tree.old f
+    ensures { (f : Flat) → Refines tree.old f
         → IsOutcome f caller (call.SetPartitionProperty partition code value) tree.old result tree.new }
 {
     if let Some(rule) = unmet_set(tree, caller, partition, code, value) {
-        return Err(Refused::Unmet(rule));
+        return Err(CallError::Unmet(rule));
     }
-    set_property(tree, meant(caller, partition), code, value);
+    set_property(tree, resolve_partition_id(caller, partition), code, value);
     Ok(CallOutput::new())
 }
 
@@ -56,7 +56,7 @@ fn unmet_set<A: Allocator>(
     code: u32,
     value: u64,
 ) -> Option<Rule>
-    ensures { (f : Flat) → IsTied tree.now f → result
+    ensures { (f : Flat) → Refines tree.now f → result
         ≡ unmet_further f caller (call.SetPartitionProperty partition code value) }
 {
     if !is_known(code) {
@@ -68,11 +68,11 @@ fn unmet_set<A: Allocator>(
         value,
     })
     .states;
-    if !is_state_allowed(tree, meant(caller, partition), states) {
+    if !is_state_allowed(tree, resolve_partition_id(caller, partition), states) {
         return Some(Rule::TargetState);
     }
     if !may_give(tree, caller, code, value) {
-        return Some(Rule::Right);
+        return Some(Rule::Entitlement);
     }
     if !is_in_range(code, value) {
         return Some(Rule::PropertyRange);

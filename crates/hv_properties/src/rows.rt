@@ -3,8 +3,8 @@ ghost use Rattle.std.specs.Prelude.{◌≡◌};
 ghost use Rattle.hv_policy.specs.Effect.{narrowed as narrowed_parts, narrows as narrows_of, property_set};
 ghost use Rattle.hv_policy.specs.Flat.{Flat};
 ghost use Rattle.hv_policy.specs.Property.{property_of};
-ghost use Rattle.hv_tie.specs.Served.{AreLawful};
-ghost use Rattle.hv_tie.specs.Tie.{IsTied};
+ghost use Rattle.hv_refine.specs.Served.{TreeInvariant};
+ghost use Rattle.hv_refine.specs.Tie.{Refines};
 ghost use Rattle.hv_tree.specs.Rows.{change as changed};
 ghost use Rattle.hv_properties.specs.Given.{given};
 
@@ -12,15 +12,15 @@ use hv_defs::Life;
 use hv_partition::Partition;
 use hv_policy::Property;
 use hv_privs::Privileges;
-use hv_tie::Partitions;
+use hv_refine::Partitions;
 use hv_tree::Edit;
 use std::alloc::Allocator;
 
 // Sets a property of a partition: it gets its new value, or the value narrows its subtree.
 pub fn set_property<A: Allocator>(tree: &mut Partitions<A>, id: u64, code: u32, value: u64)
-    requires { AreLawful tree.old }
-    ensures { (f : Flat) → IsTied tree.old f
-        → IsTied tree.new (record f { part = property_set f id (property_of code) value }) }
+    requires { TreeInvariant tree.old }
+    ensures { (f : Flat) → Refines tree.old f
+        → Refines tree.new (record f { part = property_set f id (property_of code) value }) }
 {
     if narrows(tree, id, code) {
         narrow(tree, id, Privileges::of(value));
@@ -31,7 +31,7 @@ pub fn set_property<A: Allocator>(tree: &mut Partitions<A>, id: u64, code: u32, 
 
 // Whether a new value of the property with this code narrows the subtree of a partition.
 fn narrows<A: Allocator>(tree: &Partitions<A>, id: u64, code: u32) -> bool
-    ensures { (f : Flat) → IsTied tree.now f → result ≡ narrows_of (property_of code) f id }
+    ensures { (f : Flat) → Refines tree.now f → result ≡ narrows_of (property_of code) f id }
 {
     match Property::of(code) {
         None => false,
@@ -45,8 +45,9 @@ fn narrows<A: Allocator>(tree: &Partitions<A>, id: u64, code: u32) -> bool
 
 // Restricts each mask in the subtree of a partition to a value.
 fn narrow<A: Allocator>(tree: &mut Partitions<A>, id: u64, value: Privileges)
-    requires { AreLawful tree.old }
-    ensures { (f : Flat) → IsTied tree.old f → IsTied tree.new (record f { part = narrowed_parts f id value }) }
+    requires { TreeInvariant tree.old }
+    ensures { (f : Flat) → Refines tree.old f → Refines tree.new
+        (record f { part = narrowed_parts f id value }) }
 {
     tree.update_subtree(id, &Narrowing { to: value });
 }

@@ -1,15 +1,15 @@
-// The rules that this chapter asks alone, and what it reads of the tree.
+// The rules that this call group asks alone, and what it reads of the tree.
 ghost use Rattle.std.specs.Prelude.{◌≡◌, Some, is_some};
 ghost use Rattle.std.specs.FinMap.{get};
 ghost use Rattle.hv_policy.specs.Answer.{value_of};
 ghost use Rattle.hv_policy.specs.Flat.{Flat};
 ghost use Rattle.hv_policy.specs.Met.{is_in_range as is_in_range_of, may_give as may_give_of};
 ghost use Rattle.hv_policy.specs.Property.{property_of};
-ghost use Rattle.hv_tie.specs.Tie.{IsTied};
+ghost use Rattle.hv_refine.specs.Tie.{Refines};
 
 use hv_policy::Property;
 use hv_privs::Privileges;
-use hv_tie::Partitions;
+use hv_refine::Partitions;
 use std::alloc::Allocator;
 
 // P11: whether the profile has a property with this code.
@@ -21,7 +21,7 @@ pub fn is_known(code: u32) -> bool
 
 // P18: whether a partition may give this value to the property with this code: a mask lies within its own.
 pub fn may_give<A: Allocator>(tree: &Partitions<A>, caller: u64, code: u32, value: u64) -> bool
-    ensures { (f : Flat) → IsTied tree.now f → result ≡ may_give_of (property_of code) value f caller }
+    ensures { (f : Flat) → Refines tree.now f → result ≡ may_give_of (property_of code) value f caller }
 {
     match Property::of(code) {
         None => false,
@@ -45,7 +45,7 @@ pub fn is_in_range(code: u32, value: u64) -> bool
 
 // The value of a property, or 0 where there is none.
 pub fn property_value<A: Allocator>(tree: &Partitions<A>, id: u64, code: u32) -> u64
-    ensures { (f : Flat) → IsTied tree.now f → result ≡ value_of (property_of code) (get f.part id) }
+    ensures { (f : Flat) → Refines tree.now f → result ≡ value_of (property_of code) (get f.part id) }
 {
     let Some(property) = Property::of(code) else {
         return 0;

@@ -10,11 +10,11 @@ use Rattle.hv_defs.specs.declared.registers.TheConstants.{EOM}
 use Rattle.hv_defs.specs.declared.sizes.TheConstants.{SINTS}
 use Rattle.hv_policy.proofs.Pairs.{pair_cmp_exact}
 use Rattle.hv_policy.proofs.Rows.{get-with_vp}
-use Rattle.hv_policy.specs.Aim.{Aimed, flag_taker, is_ready_for_messages, message_taker, on_vp}
+use Rattle.hv_policy.specs.Aim.{ResolvedPort, flag_taker, is_ready_for_messages, message_taker, on_vp}
 use Rattle.hv_policy.specs.Effect.{end_if, post_at, post_to, row_raised, show_each, signal_at, signal_to, with_vp, write_msr, write_register, written}
 use Rattle.hv_policy.specs.Flat.{Flat, VpRow}
 use Rattle.hv_policy.specs.Mail.{has_next}
-use Rattle.hv_provenance.specs.Deed.{Deed}
+use Rattle.hv_provenance.specs.Operation.{Operation}
 use Rattle.hv_provenance.specs.Justified.{WerePosted}
 use Rattle.hv_provenance.proofs.Standing.{mail_shown}
 
@@ -31,7 +31,8 @@ pub tied : (a b : ℕ × ℕ) → eq_by_cmp pair_cmp a b ≡ true → a ≡ b
 tied a b h = pair_cmp_exact a b ((Equal-is (pair_cmp a b)).0 h)
 
 -- a change of a processor that keeps its flags
-pub set_kept : (vps : FinMap pair_cmp VpRow) (key : ℕ × ℕ) (g : VpRow → VpRow) → ((row : VpRow) → (g row).flags ≡ row.flags) → (id vp sint flag : ℕ) → set_in (with_vp vps key g) id vp sint flag ≡ set_in vps id vp sint flag
+pub set_kept : (vps : FinMap pair_cmp VpRow) (key : ℕ × ℕ) (g : VpRow → VpRow) → ((row : VpRow) → (g row).flags ≡ row.flags) → (id vp sint flag : ℕ) → set_in (with_vp vps key g) id vp sint flag ≡
+    set_in vps id vp sint flag
 set_kept vps key g keeps id vp sint flag = ap (test_vp (λ row. set.contains row.flags (sint, flag))) (get-with_vp vps key g (id, vp)) ∙ by (eq_by_cmp pair_cmp (id, vp) key) refl
   where
     same : (row : Option VpRow) → test_vp (λ row. set.contains row.flags (sint, flag)) (option_map g row) ≡ test_vp (λ row. set.contains row.flags (sint, flag)) row
@@ -48,10 +49,10 @@ pub record Keeps (f g : Flat) : Type 0 where
   pub port : g.port ≡ f.port
   pub conn : g.conn ≡ f.conn
   pub flags : (id vp sint flag : ℕ) → set_in g.vp id vp sint flag ≡ set_in f.vp id vp sint flag
-  pub mail : (states : ℕ → Flat) (deeds : List Deed) (n : ℕ) → WerePosted states deeds n f.mail → WerePosted states deeds n g.mail
+  pub mail : (states : ℕ → Flat) (operations : List Operation) (n : ℕ) → WerePosted states operations n f.mail → WerePosted states operations n g.mail
 
 keeps_all : (f : Flat) → Keeps f f
-keeps_all f = record { port = refl; conn = refl; flags = λ id vp sint flag. refl; mail = λ states deeds n were. were }
+keeps_all f = record { port = refl; conn = refl; flags = λ id vp sint flag. refl; mail = λ states operations n were. were }
 
 shown_keeps : (part vp n : ℕ) (f : Flat) → Keeps f (show_each part vp n f)
 unfolding show_each
@@ -62,8 +63,9 @@ shown_keeps part vp (suc n) f =
     record {
       port = rest.port;
       conn = rest.conn;
-      flags = λ id index sint flag. (set_kept g.vp (part, vp) (row_raised (has_next (record { part = part; vp = vp; sint = n }) g.mail) n) (λ row. refl) id index sint flag ∙ rest.flags id index sint flag);
-      mail = λ states deeds from were. mail_shown states deeds (record { part = part; vp = vp; sint = n }) g.mail from (rest.mail states deeds from were);
+      flags = λ id index sint flag. (set_kept g.vp (part, vp) (row_raised (has_next (record { part = part; vp = vp; sint = n }) g.mail) n) (λ row. refl) id index sint flag ∙ rest.flags id index sint
+          flag);
+      mail = λ states operations from were. mail_shown states operations (record { part = part; vp = vp; sint = n }) g.mail from (rest.mail states operations from were);
     }
 
 ended_keeps : (is : Bool) (part vp : ℕ) (f : Flat) → Keeps f (end_if is part vp f)
@@ -89,7 +91,7 @@ msr_keeps part vp None value f = keeps_all f
 msr_keeps part vp (Some name) value f = register_keeps part vp name value f
 
 -- a post and a signal leave the ports and connections
-pub post_port : (aim : Option Aimed) (type : ℕ) (payload : List ℕ) (f : Flat) → (post_to aim type payload f).port ≡ f.port
+pub post_port : (aim : Option ResolvedPort) (type : ℕ) (payload : List ℕ) (f : Flat) → (post_to aim type payload f).port ≡ f.port
 post_port None type payload f = refl
 post_port (Some aim) type payload f = by (message_taker f aim)
   where
@@ -97,7 +99,7 @@ post_port (Some aim) type payload f = by (message_taker f aim)
     by None = refl
     by (Some vp) = refl
 
-pub post_conn : (aim : Option Aimed) (type : ℕ) (payload : List ℕ) (f : Flat) → (post_to aim type payload f).conn ≡ f.conn
+pub post_conn : (aim : Option ResolvedPort) (type : ℕ) (payload : List ℕ) (f : Flat) → (post_to aim type payload f).conn ≡ f.conn
 post_conn None type payload f = refl
 post_conn (Some aim) type payload f = by (message_taker f aim)
   where
@@ -105,7 +107,7 @@ post_conn (Some aim) type payload f = by (message_taker f aim)
     by None = refl
     by (Some vp) = refl
 
-pub post_flags : (aim : Option Aimed) (type : ℕ) (payload : List ℕ) (f : Flat) (id vp sint flag : ℕ) → set_in (post_to aim type payload f).vp id vp sint flag ≡ set_in f.vp id vp sint flag
+pub post_flags : (aim : Option ResolvedPort) (type : ℕ) (payload : List ℕ) (f : Flat) (id vp sint flag : ℕ) → set_in (post_to aim type payload f).vp id vp sint flag ≡ set_in f.vp id vp sint flag
 post_flags None type payload f id vp sint flag = refl
 post_flags (Some aim) type payload f id vp sint flag = by (message_taker f aim)
   where
@@ -113,7 +115,7 @@ post_flags (Some aim) type payload f id vp sint flag = by (message_taker f aim)
     by None = refl
     by (Some at) = set_kept f.vp _ (row_raised _ _) (λ row. refl) id vp sint flag
 
-pub signal_port : (aim : Option Aimed) (flag : ℕ) (f : Flat) → (signal_to aim flag f).port ≡ f.port
+pub signal_port : (aim : Option ResolvedPort) (flag : ℕ) (f : Flat) → (signal_to aim flag f).port ≡ f.port
 signal_port None flag f = refl
 signal_port (Some aim) flag f = by (flag_taker f aim)
   where
@@ -121,7 +123,7 @@ signal_port (Some aim) flag f = by (flag_taker f aim)
     by None = refl
     by (Some vp) = refl
 
-pub signal_conn : (aim : Option Aimed) (flag : ℕ) (f : Flat) → (signal_to aim flag f).conn ≡ f.conn
+pub signal_conn : (aim : Option ResolvedPort) (flag : ℕ) (f : Flat) → (signal_to aim flag f).conn ≡ f.conn
 signal_conn None flag f = refl
 signal_conn (Some aim) flag f = by (flag_taker f aim)
   where
@@ -129,7 +131,7 @@ signal_conn (Some aim) flag f = by (flag_taker f aim)
     by None = refl
     by (Some vp) = refl
 
-pub signal_mail : (aim : Option Aimed) (flag : ℕ) (f : Flat) → (signal_to aim flag f).mail ≡ f.mail
+pub signal_mail : (aim : Option ResolvedPort) (flag : ℕ) (f : Flat) → (signal_to aim flag f).mail ≡ f.mail
 signal_mail None flag f = refl
 signal_mail (Some aim) flag f = by (flag_taker f aim)
   where

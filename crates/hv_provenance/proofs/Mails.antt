@@ -7,22 +7,22 @@ use Rattle.hv_calls.specs.declared.call.Call.{Call}
 use Rattle.hv_calls.specs.declared.call.Call.TheVariants.{FinalizePartition, DeleteVp, SetVpRegisters, PostMessage, SignalEvent}
 use Rattle.hv_defs.specs.declared.port_kind.PortKind.{PortKind}
 use Rattle.hv_defs.specs.declared.port_kind.PortKind.TheVariants as port_type
-use Rattle.hv_policy.specs.Aim.{Aimed, aim_by, aim_of, aim_with, is_same_birth, message_taker, on_aim}
+use Rattle.hv_policy.specs.Aim.{ResolvedPort, aim_by, aim_of, aim_with, is_same_birth, message_taker, on_aim}
 use Rattle.hv_policy.specs.Effect.{post_at, post_to}
 use Rattle.hv_policy.specs.Flat.{ConnRow, Flat, MailRow, PortRow}
 use Rattle.hv_policy.specs.Mail.{Place}
 use Rattle.hv_policy.specs.Met.{has_message_taker, is_for_messages, is_kind}
-use Rattle.hv_policy.specs.Needs.{meant_id}
+use Rattle.hv_policy.specs.Needs.{resolved_id}
 use Rattle.hv_policy.specs.Rules.{IsAllowed}
-use Rattle.hv_provenance.specs.Deed.{Deed, DeletesVp, Finalizes, Posts}
+use Rattle.hv_provenance.specs.Operation.{Operation, DeletesVp, Finalizes, Posts}
 use Rattle.hv_provenance.specs.Justified.{AreOfPeers, WasMade, WasPosted, WerePosted}
-use Rattle.hv_provenance.proofs.Deeds.{did_last, last, more, not_after}
+use Rattle.hv_provenance.proofs.Operations.{did_last, last, more, not_after}
 use Rattle.hv_provenance.proofs.Keeping.{register_keeps, signal_mail}
 use Rattle.hv_provenance.proofs.Ports.{AreConnected, AreMade, after_call, left_by, other}
 use Rattle.hv_provenance.proofs.Standing.{mail_left, mail_more, mail_shown, mail_still, way_of}
 
 -- a test of where a connection leads, which fails where it leads nowhere
-abbrev pub test_aim : (Aimed → Bool) → Option Aimed → Bool
+abbrev pub test_aim : (ResolvedPort → Bool) → Option ResolvedPort → Bool
 test_aim test aim = option_map_or test aim false
 
 -- a connection and the port of its birth, both there
@@ -53,7 +53,7 @@ reached f key born = by_conn (get f.conn key) refl born
     by_conn (Some conn) is born = by_port conn is (get f.port (conn.part, conn.port)) refl born
 
 -- a test of where it leads
-pub tested : (f : Flat) (key : ℕ × ℕ) (test : Aimed → Bool) (r : Reaches f key) → on_aim f key test ≡ true → test (record { conn = r.conn; port = r.port }) ≡ true
+pub tested : (f : Flat) (key : ℕ × ℕ) (test : ResolvedPort → Bool) (r : Reaches f key) → on_aim f key test ≡ true → test (record { conn = r.conn; port = r.port }) ≡ true
 tested f key test r h = sym (ap (test_aim test) r.aim_is) ∙ h
 
 pub kind_is : (kind : PortKind) (asked : PortKind) → is_kind kind asked ≡ true → kind ≡ asked
@@ -62,24 +62,26 @@ kind_is port_type.Message port_type.Event h = cc
 kind_is port_type.Event port_type.Message h = cc
 kind_is port_type.Event port_type.Event h = refl
 
-module _ (states : ℕ → Flat) (deeds : List Deed) (f : Flat) (now : states (length deeds + 1) ≡ f) (made : AreMade deeds f.port) (connected : AreConnected deeds f.conn) (peers : AreOfPeers f) (were : WerePosted states deeds 0 f.mail) (caller : ℕ) where
-  post_mail : (connection type : ℕ) (payload : List ℕ) → on_aim f (caller, connection) is_same_birth ≡ true → on_aim f (caller, connection) is_for_messages ≡ true → on_aim f (caller, connection) (has_message_taker f) ≡ true
-      → WerePosted states (more deeds (Posts caller connection type payload)) 0 (post_to (aim_of f (caller, connection)) type payload f).mail
+module _ (states : ℕ → Flat) (operations : List Operation) (f : Flat) (now : states (length operations + 1) ≡ f) (made : AreMade operations f.port) (connected : AreConnected operations f.conn)
+    (peers : AreOfPeers f) (were : WerePosted states operations 0 f.mail) (caller : ℕ) where
+  post_mail : (connection type : ℕ) (payload : List ℕ) → on_aim f (caller, connection) is_same_birth ≡ true → on_aim f (caller, connection) is_for_messages ≡ true → on_aim f (caller, connection)
+      (has_message_taker f) ≡ true
+      → WerePosted states (more operations (Posts caller connection type payload)) 0 (post_to (aim_of f (caller, connection)) type payload f).mail
   post_mail connection type payload born takes taken = by (message_taker f aim) refl (tested f key (has_message_taker f) r taken)
     where
       key : ℕ × ℕ
       key = (caller, connection)
 
-      e : Deed
+      e : Operation
       e = Posts caller connection type payload
 
       r : Reaches f key
       r = reached f key born
 
-      aim : Aimed
+      aim : ResolvedPort
       aim = record { conn = r.conn; port = r.port }
 
-      was : WasMade deeds (r.conn.part, r.conn.port) r.port
+      was : WasMade operations (r.conn.part, r.conn.port) r.port
       was = made (r.conn.part, r.conn.port) r.port r.port_is
 
       new : ℕ → MailRow
@@ -94,45 +96,46 @@ module _ (states : ℕ → Flat) (deeds : List Deed) (f : Flat) (now : states (l
         shown = false;
       }
 
-      posted : (vp : ℕ) → message_taker f aim ≡ Some vp → WasPosted states (more deeds e) (new vp) (last deeds e)
+      posted : (vp : ℕ) → message_taker f aim ≡ Some vp → WasPosted states (more operations e) (new vp) (last operations e)
       posted vp is = record {
         aim = r.port.vp;
         base = was.base;
         sender = caller;
         connection = connection;
-        way = way_of deeds e key r.conn r.port was (connected key r.conn r.conn_is) r.conn.born r.same refl (peers key r.conn r.port r.conn_is r.port_is r.same) port_type.Message (kind_is r.port.kind port_type.Message (tested f key is_for_messages r takes));
+        way = way_of operations e key r.conn r.port was (connected key r.conn r.conn_is) r.conn.born r.same refl (peers key r.conn r.port r.conn_is r.port_is r.same) port_type.Message
+            (kind_is r.port.kind port_type.Message (tested f key is_for_messages r takes));
         taken = ap (λ g. message_taker g aim) now ∙ is;
-        posted = did_last deeds e (last deeds e) refl;
-        kept = not_after deeds e (last deeds e) (DeletesVp r.conn.part vp) refl;
-        alive = not_after deeds e (last deeds e) (Finalizes r.conn.part) refl;
+        posted = did_last operations e (last operations e) refl;
+        kept = not_after operations e (last operations e) (DeletesVp r.conn.part vp) refl;
+        alive = not_after operations e (last operations e) (Finalizes r.conn.part) refl;
       }
 
       place : ℕ → Place
       place vp = record { part = r.conn.part; vp = vp; sint = r.port.sint }
 
-      by : (vp : Option ℕ) → message_taker f aim ≡ vp → is_some vp ≡ true → WerePosted states (more deeds e) 0 (post_to (aim_of f key) type payload f).mail
+      by : (vp : Option ℕ) → message_taker f aim ≡ vp → is_some vp ≡ true → WerePosted states (more operations e) 0 (post_to (aim_of f key) type payload f).mail
       by None is some = cc
       by (Some vp) is some =
-          subst (λ aim. WerePosted states (more deeds e) 0 (post_to aim type payload f).mail) (sym r.aim_is)
-          (subst (λ vp. WerePosted states (more deeds e) 0 (post_at aim vp type payload f).mail) (sym is)
-          (mail_shown states (more deeds e) (place vp) (f.mail ++ new vp ∷ []) 0 (mail_more deeds e states (λ row h. cc) (λ row h. cc) (new vp) (posted vp is) f.mail 0 (omega arith) were)))
+          subst (λ aim. WerePosted states (more operations e) 0 (post_to aim type payload f).mail) (sym r.aim_is)
+          (subst (λ vp. WerePosted states (more operations e) 0 (post_at aim vp type payload f).mail) (sym is)
+          (mail_shown states (more operations e) (place vp) (f.mail ++ new vp ∷ []) 0 (mail_more operations e states (λ row h. cc) (λ row h. cc) (new vp) (posted vp is) f.mail 0 (omega arith) were)))
 
-  pub mail_call : (call : Call) → IsAllowed f caller call → WerePosted states (after_call deeds caller call) 0 (left_by f caller call).mail
+  pub mail_call : (call : Call) → IsAllowed f caller call → WerePosted states (after_call operations caller call) 0 (left_by f caller call).mail
   mail_call (PostMessage connection message_type payload) a = post_mail connection message_type payload a.further.1.0 a.further.1.1.1.0 a.further.1.1.1.1.0
   mail_call (SignalEvent connection flag) a =
-      subst (WerePosted states _ 0) (sym (signal_mail (aim_of f (caller, connection)) flag f)) (mail_still deeds _ states (λ row h. cc) (λ row h. cc) f.mail 0 were)
+      subst (WerePosted states _ 0) (sym (signal_mail (aim_of f (caller, connection)) flag f)) (mail_still operations _ states (λ row h. cc) (λ row h. cc) f.mail 0 were)
   mail_call (SetVpRegisters partition vp name value) a =
-      (register_keeps (meant_id caller partition) vp name value f).mail states _ 0 (mail_still deeds _ states (λ row h. cc) (λ row h. cc) f.mail 0 were)
+      (register_keeps (resolved_id caller partition) vp name value f).mail states _ 0 (mail_still operations _ states (λ row h. cc) (λ row h. cc) f.mail 0 were)
   mail_call (FinalizePartition partition) a =
-      let id : ℕ = meant_id caller partition in
-      mail_left deeds _ states (λ row. not (row.part == id)) (λ row is h. cc) (λ row is h. (let same : row.part ≡ id = cc in other row.part id is same)) f.mail 0 0 (omega arith) were
+      let id : ℕ = resolved_id caller partition in
+      mail_left operations _ states (λ row. not (row.part == id)) (λ row is h. cc) (λ row is h. (let same : row.part ≡ id = cc in other row.part id is same)) f.mail 0 0 (omega arith) were
   mail_call (DeleteVp partition vp) a =
-      let id : ℕ = meant_id caller partition in
-      mail_left deeds _ states (λ row. not (row.part == id && row.vp == vp)) (λ row is h. (
+      let id : ℕ = resolved_id caller partition in
+      mail_left operations _ states (λ row. not (row.part == id && row.vp == vp)) (λ row is h. (
       let first : row.part ≡ id = cc in
       let second : row.vp ≡ vp = cc in
       let yes = and_from _ _ (eq-eqb row.part id first) (eq-eqb row.vp vp second) in
       let never = not-true (row.part == id && row.vp == vp) is in
       cc
       )) (λ row is h. cc) f.mail 0 0 (omega arith) were
-  mail_call call a = mail_still deeds _ states (λ row h. cc) (λ row h. cc) f.mail 0 were
+  mail_call call a = mail_still operations _ states (λ row h. cc) (λ row h. cc) f.mail 0 were

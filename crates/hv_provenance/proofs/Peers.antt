@@ -13,7 +13,7 @@ use Rattle.hv_policy.specs.Aim.{aim_of}
 use Rattle.hv_policy.specs.Effect.{rows_but}
 use Rattle.hv_policy.specs.Flat.{ConnRow, Flat, PortRow}
 use Rattle.hv_policy.specs.Met.{on_port}
-use Rattle.hv_policy.specs.Needs.{meant_id, target_of}
+use Rattle.hv_policy.specs.Needs.{resolved_id, target_of}
 use Rattle.hv_policy.specs.Rules.{IsAllowed}
 use Rattle.hv_provenance.specs.Justified.{AreOfPeers}
 use Rattle.hv_provenance.proofs.Keeping.{post_conn, post_port, register_keeps, signal_conn, signal_port, tied}
@@ -80,13 +80,18 @@ module _ (f : Flat) (peers : AreOfPeers f) (past : (key : ℕ × ℕ) (conn : Co
       by false is_at is = peers key conn port is there same
 
   pub call_peers : (caller : ℕ) (call : Call) → IsAllowed f caller call → AreOfPeers (left_by f caller call)
-  call_peers caller (FinalizePartition partition) a = kept _ _ (λ key port born is same less. left f.port (target_of (FinalizePartition partition) caller) key port is) (λ key conn is. left f.conn (target_of (FinalizePartition partition) caller) key conn is)
-  call_peers caller (SetVpRegisters partition vp name value) a = peers_still _ _ (register_keeps (target_of (SetVpRegisters partition vp name value) caller) vp name value f).port (register_keeps (target_of (SetVpRegisters partition vp name value) caller) vp name value f).conn
+  call_peers caller (FinalizePartition partition) a = kept _ _ (λ key port born is same less. left f.port (target_of (FinalizePartition partition) caller) key port is)
+      (λ key conn is. left f.conn (target_of (FinalizePartition partition) caller) key conn is)
+  call_peers caller (SetVpRegisters partition vp name value) a = peers_still _ _ (register_keeps (target_of (SetVpRegisters partition vp name value) caller) vp name value f).port
+      (register_keeps (target_of (SetVpRegisters partition vp name value) caller) vp name value f).conn
   call_peers caller (DeletePort partition port) a = kept _ _ (λ key row born is same less. removed f.port (target_of (DeletePort partition port) caller, port) key row is) (λ key conn is. is)
-  call_peers caller (DisconnectPort partition connection) a = kept _ _ (λ key row born is same less. is) (λ key conn is. removed f.conn (target_of (DisconnectPort partition connection) caller, connection) key conn is)
-  call_peers caller (PostMessage connection message_type payload) a = peers_still _ _ (post_port (aim_of f (caller, connection)) message_type payload f) (post_conn (aim_of f (caller, connection)) message_type payload f)
+  call_peers caller (DisconnectPort partition connection) a = kept _ _ (λ key row born is same less. is)
+      (λ key conn is. removed f.conn (target_of (DisconnectPort partition connection) caller, connection) key conn is)
+  call_peers caller (PostMessage connection message_type payload) a = peers_still _ _ (post_port (aim_of f (caller, connection)) message_type payload f)
+      (post_conn (aim_of f (caller, connection)) message_type payload f)
   call_peers caller (SignalEvent connection flag) a = peers_still _ _ (signal_port (aim_of f (caller, connection)) flag f) (signal_conn (aim_of f (caller, connection)) flag f)
-  call_peers caller (CreatePort partition port peer port_kind sint vp base count) a = kept _ _ (made (target_of (CreatePort partition port peer port_kind sint vp base count) caller, port) _ refl) (λ key conn is. is)
+  call_peers caller (CreatePort partition port peer port_kind sint vp base count) a = kept _ _ (made (target_of (CreatePort partition port peer port_kind sint vp base count) caller, port) _ refl)
+      (λ key conn is. is)
   call_peers caller (ConnectPort partition connection port_partition port port_kind) a =
-      connected (target_of (ConnectPort partition connection port_partition port port_kind) caller, connection) (meant_id caller port_partition, port) _ refl a.further.1.1.1.1.0
+      connected (target_of (ConnectPort partition connection port_partition port port_kind) caller, connection) (resolved_id caller port_partition, port) _ refl a.further.1.1.1.1.0
   call_peers caller call a = peers

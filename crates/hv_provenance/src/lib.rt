@@ -13,7 +13,7 @@ ghost use Rattle.hv_policy.specs.Mail.{Place, mail_at};
 ghost use Rattle.hv_policy.specs.Step.{run};
 ghost use Rattle.hv_policy.specs.declared.config.Config.{Config};
 ghost use Rattle.hv_policy.specs.declared.event.Event.{Event};
-ghost use Rattle.hv_provenance.specs.Deed.{deeds_of, served_to};
+ghost use Rattle.hv_provenance.specs.Operation.{operations_of, served_to};
 ghost use Rattle.hv_provenance.specs.Justified.{AreOfPeers, WasConnected, WasMade, WasSignalled, WerePosted};
 ghost use Rattle.hv_provenance.specs.Justified.{is_flag_set, state_before};
 
@@ -22,42 +22,44 @@ ghost use Rattle.hv_provenance.specs.Justified.{is_flag_set, state_before};
 /// either since.
 pub fn every_port_and_connection_has_its_making<A>()
     ensures entries { (config : Config) (events : List (Event A))
-        → length (deeds_of events (run config events).1) ≡ length events }
+        → length (operations_of events (run config events).1) ≡ length events }
     ensures served { (config : Config) (events : List (Event A))
-        → (run config events).0.served ≡ served_to (deeds_of events (run config events).1) (length events) }
+        → (run config events).0.served ≡ served_to (operations_of events (run config events).1)
+        (length events) }
     ensures ports { (config : Config) (events : List (Event A)) (key : ℕ × ℕ) (port : PortRow)
         → get (run config events).0.port key ≡ Some port
-        → WasMade (deeds_of events (run config events).1) key port }
+        → WasMade (operations_of events (run config events).1) key port }
     ensures conns { (config : Config) (events : List (Event A)) (key : ℕ × ℕ) (conn : ConnRow)
         → get (run config events).0.conn key ≡ Some conn
-        → WasConnected (deeds_of events (run config events).1) key conn }
+        → WasConnected (operations_of events (run config events).1) key conn }
 {}
 
-/// In every state of a run a connection that keeps the birth of the port to which it leads is of that port's peer:
-/// so what comes to a port comes from the partition for which the port was made.
+/// In every state of a run a connection that keeps the birth of the port to which it leads is of that port's
+/// peer: so what comes to a port comes from the partition for which the port was made.
 pub fn each_connection_is_of_its_ports_peer<A>()
     ensures { (config : Config) (events : List (Event A)) → AreOfPeers (run config events).0 }
 {}
 
-/// In every state of a run each message was posted, by the partition for which the port of its birth was made and
-/// through a connection to that port while both stood, to the processor that took it then: the one at which the
-/// port aims, or the lowest that was ready for messages where it aims at any. That processor has stood since. The
-/// messages of a place stand in the order in which they were posted, each of a post of its own; and so do all
-/// messages.
+/// In every state of a run each message was posted, by the partition for which the port of its birth was made
+/// and through a connection to that port while both stood, to the processor that took it then: the one at
+/// which the port aims, or the lowest that was ready for messages where it aims at any. That processor has
+/// stood since. The messages of a place stand in the order in which they were posted, each of a post of its
+/// own; and so do all messages.
 pub fn every_message_was_posted<A>()
     ensures all { (config : Config) (events : List (Event A))
-        → WerePosted (state_before config events) (deeds_of events (run config events).1) 0
+        → WerePosted (state_before config events) (operations_of events (run config events).1) 0
         (run config events).0.mail }
     ensures places { (config : Config) (events : List (Event A)) (place : Place)
-        → WerePosted (state_before config events) (deeds_of events (run config events).1) 0
+        → WerePosted (state_before config events) (operations_of events (run config events).1) 0
         (mail_at place (run config events).0.mail) }
 {}
 
-/// In every state of a run each event flag that is set was signalled, by the partition for which an event port was
-/// made and through a connection to that port while both stood, to the processor that took it then; and since then
-/// that one has stood and hasn't cleared it.
+/// In every state of a run each event flag that is set was signalled, by the partition for which an event
+/// port was made and through a connection to that port while both stood, to the processor that took it then;
+/// and since then that one has stood and hasn't cleared it.
 pub fn every_flag_was_signalled<A>()
     ensures flags { (config : Config) (events : List (Event A)) (id vp sint flag : ℕ)
         → is_flag_set (run config events).0 id vp sint flag ≡ true
-        → WasSignalled (state_before config events) (deeds_of events (run config events).1) id vp sint flag }
+        → WasSignalled (state_before config events) (operations_of events (run config events).1) id vp sint
+        flag }
 {}

@@ -16,8 +16,8 @@ pub fn call_of(frame: &Frame<Global>) -> Option<Call<'_>> {
     }
 }
 
-// Adds a call with its fields. Where they can't be read, it adds its name and the registers, and where no call
-// has the code, the code in place of the name.
+// Adds a call with its fields. Where they can't be read, it adds its name and the registers, and where no
+// call has the code, the code in place of the name.
 pub fn push_frame(words: &mut Words, frame: &Frame<Global>) {
     match call_of(frame) {
         Some(call) => {

@@ -1,5 +1,5 @@
-//! An event with its answer in words: the call or the access, what it put out, and for a refusal the rule that
-//! failed with the values that decided.
+//! An event with its answer in words: the call or the access, what it put out, and for a refusal the rule
+//! that failed with the values that decided.
 //!
 //! [`push_event`] adds the text of one event. It reads the values from the partitions as they are after the
 //! event: a refusal changes nothing, so these are the ones that decided. The text is this project's own, and

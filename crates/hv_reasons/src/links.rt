@@ -5,7 +5,7 @@ use crate::tree::{Tree, conn_at, mask_of, port_at, way_of};
 use hv_calls::Call;
 use hv_defs::{Aim, MAX_VPS, PortKind, SCONTROL, SIEFP, SIMP};
 use hv_ports::{Conn, Port};
-use hv_tie::meant;
+use hv_refine::resolve_partition_id;
 use hv_words::{Words, kind_name};
 
 // P15: the other partition.
@@ -15,9 +15,15 @@ pub fn push_other(words: &mut Words, caller: u64, target: u64, call: &Call<'_>) 
             words.decimal("partition ", *previous);
             words.decimal(" isn't a child of ", target);
         }
-        Call::CreatePort { peer, .. } => words.decimal("no partition ", meant(caller, *peer)),
+        Call::CreatePort { peer, .. } => words.decimal(
+            "no partition ",
+            resolve_partition_id(caller, *peer),
+        ),
         Call::ConnectPort { port_partition, .. } => {
-            words.decimal("no partition ", meant(caller, *port_partition));
+            words.decimal(
+                "no partition ",
+                resolve_partition_id(caller, *port_partition),
+            );
         }
         _ => {}
     }
@@ -62,7 +68,7 @@ pub fn push_port(words: &mut Words, tree: &Tree, caller: u64, target: u64, call:
         } => {
             push_none(
                 words,
-                meant(caller, *port_partition),
+                resolve_partition_id(caller, *port_partition),
                 " has no port ",
                 *port,
             );
@@ -103,7 +109,7 @@ pub fn push_right(words: &mut Words, tree: &Tree, caller: u64, target: u64, call
             port,
             ..
         } => {
-            let part = meant(caller, *port_partition);
+            let part = resolve_partition_id(caller, *port_partition);
             match port_at(tree, part, *port) {
                 Some(row) => push_peer(words, part, *port, row, target),
                 None => {}

@@ -47,17 +47,17 @@ fn has_values(rule: Rule) -> bool {
         | Rule::Alignment
         | Rule::Parameters
         | Rule::Privilege
-        | Rule::Kinship
+        | Rule::TargetScope
         | Rule::TargetState
         | Rule::NoChildren
         | Rule::Depth
-        | Rule::OtherExists
+        | Rule::PeerExists
         | Rule::Connection
         | Rule::Port
-        | Rule::Right
+        | Rule::Entitlement
         | Rule::VpExists
         | Rule::PropertyRange
-        | Rule::Subject
+        | Rule::Operand
         | Rule::VpReady
         | Rule::PortRoom
         | Rule::Pages
@@ -70,7 +70,7 @@ fn has_values(rule: Rule) -> bool {
 fn push_access_values(words: &mut Words, tree: &Tree, by: Caller, rule: Rule, access: Access) {
     match rule {
         Rule::CallerActive => push_life(words, tree, by.part),
-        Rule::Subject => push_access_subject(words, access),
+        Rule::Operand => push_access_subject(words, access),
         Rule::MsrPrivilege => push_msr_privilege(words, tree, by.part, access),
         Rule::MsrWrite => push_msr_value(words, access),
         _ => {}
@@ -102,17 +102,17 @@ fn push_call_values(words: &mut Words, tree: &Tree, caller: u64, rule: Rule, cal
     let target = target_of(caller, call);
     match rule {
         Rule::Privilege => push_privilege(words, tree, caller, call),
-        Rule::Kinship => push_kinship(words, tree, caller, target),
+        Rule::TargetScope => push_kinship(words, tree, caller, target),
         Rule::TargetState => push_state(words, tree, target, call),
         Rule::NoChildren => push_children(words, tree, target),
         Rule::Depth => push_depth(words, tree, caller),
-        Rule::OtherExists => push_other(words, caller, target, call),
+        Rule::PeerExists => push_other(words, caller, target, call),
         Rule::Connection => push_connection(words, target, call),
         Rule::Port => push_port(words, tree, caller, target, call),
-        Rule::Right => push_right(words, tree, caller, target, call),
+        Rule::Entitlement => push_right(words, tree, caller, target, call),
         Rule::VpExists => push_vp(words, tree, target, call),
         Rule::PropertyRange => push_range(words, call),
-        Rule::Subject => push_subject(words, tree, caller, call),
+        Rule::Operand => push_subject(words, tree, caller, call),
         Rule::VpReady => push_taker(words, tree, caller, call),
         Rule::PortRoom => push_kept(words, tree, caller, call),
         Rule::Pages => push_pages(words, tree, target, call),

@@ -6,7 +6,7 @@ use hv_calls::Call;
 use hv_defs::{EVENT_FLAGS, PortKind, SINTS};
 use hv_policy::Access;
 use hv_ports::Port;
-use hv_tie::meant;
+use hv_refine::resolve_partition_id;
 use hv_words::{Words, kind_name};
 
 // P21 of a call.
@@ -23,7 +23,7 @@ pub fn push_subject(words: &mut Words, tree: &Tree, caller: u64, call: &Call<'_>
             port,
             ..
         } => {
-            let part = meant(caller, *port_partition);
+            let part = resolve_partition_id(caller, *port_partition);
             match port_at(tree, part, *port) {
                 Some(row) => push_kind(words, part, *port, row),
                 None => {}

@@ -3,7 +3,7 @@
 use hv_calls::Call;
 use hv_partition::Partition;
 use hv_ports::{Conn, Port};
-use hv_tie::{Partitions, meant};
+use hv_refine::{Partitions, resolve_partition_id};
 use std::alloc::Global;
 
 // The partitions of a machine.
@@ -32,7 +32,7 @@ pub fn target_of(caller: u64, call: &Call<'_>) -> u64 {
         | Call::DeletePort { partition, .. }
         | Call::DisconnectPort { partition, .. }
         | Call::CreatePort { partition, .. }
-        | Call::ConnectPort { partition, .. } => meant(caller, *partition),
+        | Call::ConnectPort { partition, .. } => resolve_partition_id(caller, *partition),
     }
 }
 

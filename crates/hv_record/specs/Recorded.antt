@@ -3,7 +3,8 @@ use Rattle.std.specs.Prelude.{ℕ, false, ◌<◌, ◌≤◌, ◌^◌, List, [],
 use Rattle.std.specs.Fmt.{digits}
 use Rattle.hex.specs.Hex.{IsBytes, encode_lower}
 use Rattle.hv_policy.specs.declared.event.Action.{Action}
-use Rattle.hv_policy.specs.declared.event.Action.TheVariants.{Hypercall, ReadMsr, WriteMsr, ReadSlot, ClearSlot, ReadFlags, ClearFlag, TakeInterrupt}
+use Rattle.hv_policy.specs.declared.event.Action.TheVariants.{Hypercall, ReadMsr, WriteMsr, ReadSlot}
+use Rattle.hv_policy.specs.declared.event.Action.TheVariants.{ClearSlot, ReadFlags, ClearFlag, TakeInterrupt}
 use Rattle.hv_policy.specs.declared.event.Caller.{Caller}
 
 -- a number in hexadecimal digits, without leading zeros
@@ -17,7 +18,8 @@ input_text (byte ∷ bytes) = encode_lower (byte ∷ bytes)
 
 -- the words after the processor's
 abbrev pub words_by : {A : Type 0} → Action A → List (List ℕ)
-words_by (Hypercall frame) = codes "call" ∷ hex_text frame.rcx ∷ hex_text frame.rdx ∷ hex_text frame.r8 ∷ input_text frame.input ∷ []
+words_by (Hypercall frame) = codes "call" ∷ hex_text frame.rcx ∷ hex_text frame.rdx ∷ hex_text frame.r8 ∷
+    input_text frame.input ∷ []
 words_by (ReadMsr msr) = codes "rdmsr" ∷ hex_text msr ∷ []
 words_by (WriteMsr msr value) = codes "wrmsr" ∷ hex_text msr ∷ hex_text value ∷ []
 words_by (ReadSlot sint) = codes "slot" ∷ decimal sint ∷ []
@@ -38,7 +40,8 @@ line_text by what = decimal by.part ++ codes "." ++ decimal by.vp ++ spaced (wor
 -- each number fits its type, and a script's line has room for the input list
 abbrev pub IsInRange : {A : Type 0} → Action A → Type 0
 IsInRange (Hypercall frame) =
-    (frame.rcx < 2 ^ 64) × (frame.rdx < 2 ^ 64) × (frame.r8 < 2 ^ 64) × IsBytes frame.input × (length frame.input ≤ 4096)
+    (frame.rcx < 2 ^ 64) × (frame.rdx < 2 ^ 64) × (frame.r8 < 2 ^ 64) × IsBytes frame.input ×
+    (length frame.input ≤ 4096)
 IsInRange (ReadMsr msr) = msr < 2 ^ 32
 IsInRange (WriteMsr msr value) = (msr < 2 ^ 32) × (value < 2 ^ 64)
 IsInRange (ReadSlot sint) = sint < 2 ^ 8

@@ -9,8 +9,8 @@ use itoa::Buffer;
 use std::alloc::{AllocError, Allocator, Global};
 
 /// The line of a script by which this processor asks for this action, without its line feed. A hypercall is
-/// written with its registers as they are, so that a run drives it from its start index to its last element. `Err`
-/// where there is no memory.
+/// written with its registers as they are, so that a run drives it from its start index to its last element.
+/// `Err` where there is no memory.
 pub fn script_line<A: Allocator>(
     alloc: Global,
     by: Caller,

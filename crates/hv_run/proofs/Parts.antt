@@ -7,7 +7,7 @@ use Rattle.std.proofs.KnownBytes.{Appends-kept, Appends-nil, Appends-trans}
 use Rattle.hv_text.specs.Fault.{IsCut}
 use Rattle.hv_text.specs.declared.fault.PrintFault.{PrintFault}
 use Rattle.hv_text.specs.declared.fault.PrintFault.TheVariants.{Memory, Write}
-use Rattle.hv_run.specs.Told.{HasPart}
+use Rattle.hv_run.specs.Written.{HasPart}
 
 -- all of it went out
 pub all-part : (text : List ℕ) (a b : Option (List ℕ)) → Appends a b text → HasPart text a b

@@ -4,8 +4,8 @@ use Rattle.hv_script.specs.declared.fault.FaultKind.{FaultKind}
 use Rattle.hv_script.specs.declared.fault.FaultKind.TheVariants.{Memory}
 use Rattle.hv_script.specs.declared.fault.ScriptFault.{ScriptFault}
 use Rattle.hv_history.specs.declared.kept.HostRefused.TheVariants as refused
-use Rattle.hv_phases.specs.declared.run.Unfinished.{Unfinished}
-use Rattle.hv_phases.specs.declared.run.Unfinished.TheVariants as unfinished
+use Rattle.hv_phases.specs.declared.run.RunError.{RunError}
+use Rattle.hv_phases.specs.declared.run.RunError.TheVariants as unfinished
 use Rattle.hv_shared.specs.declared.fault.SettleFault.TheVariants as fault
 use Rattle.hv_run.specs.declared.failure.Exit.{Exit}
 use Rattle.hv_run.specs.declared.failure.Exit.TheVariants.{Script, Host}
@@ -26,7 +26,7 @@ exit_of failure.Missing = Host
 exit_of failure.Differs = Host
 exit_of failure.Write = Host
 
--- a line's fault is told with its line, and want of memory without
+-- a line's fault is told with its line, and out of memory without
 abbrev pub failure_at : ℕ → FaultKind → Failure
 failure_at line Memory = failure.Memory
 failure_at line kind = failure.Fault line kind
@@ -39,7 +39,7 @@ abbrev pub IsUnread : Failure → Type 0
 IsUnread why = (why ≡ failure.Unreadable) ⊎ (why ≡ failure.Memory)
 
 -- why the lines didn't all run, or what the settlement found
-abbrev pub failure_by : Unfinished → Failure
+abbrev pub failure_by : RunError → Failure
 failure_by (unfinished.Host refused.HistoryFull) = failure.HistoryFull
 failure_by (unfinished.Host refused.Memory) = failure.Memory
 failure_by (unfinished.Settlement fault.Missing) = failure.Missing

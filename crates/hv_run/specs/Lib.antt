@@ -1,3 +1,3 @@
 pub mod Failure
-pub mod Told
+pub mod Written
 pub mod Usage

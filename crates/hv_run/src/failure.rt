@@ -4,7 +4,7 @@ ghost use Rattle.hv_run.specs.Failure.{exit_of, failure_of};
 
 use hv_history::HostRefused;
 use hv_machine::BootRefused;
-use hv_phases::Unfinished;
+use hv_phases::RunError;
 use hv_script::{FaultKind, ScriptFault};
 use hv_text::PrintFault;
 use hv_threads::SettleFault;
@@ -104,17 +104,17 @@ impl From<ScriptFault> for Failure {
     }
 }
 
-impl From<Unfinished> for Failure {
+impl From<RunError> for Failure {
     ghost use Rattle.hv_run.specs.Failure.{failure_by};
 
     ghost from_gives = { λ why failure. failure ≡ failure_by why };
 
-    fn from(why: Unfinished) -> Failure {
+    fn from(why: RunError) -> Failure {
         match why {
-            Unfinished::Host(HostRefused::HistoryFull) => Failure::HistoryFull,
-            Unfinished::Host(HostRefused::Memory) => Failure::Memory,
-            Unfinished::Settlement(SettleFault::Missing) => Failure::Missing,
-            Unfinished::Settlement(SettleFault::Differs) => Failure::Differs,
+            RunError::Host(HostRefused::HistoryFull) => Failure::HistoryFull,
+            RunError::Host(HostRefused::Memory) => Failure::Memory,
+            RunError::Settlement(SettleFault::Missing) => Failure::Missing,
+            RunError::Settlement(SettleFault::Differs) => Failure::Differs,
         }
     }
 }

@@ -24,7 +24,7 @@ pub fn read_script<R: Read + Drop>(alloc: Global, reader: R) -> Result<Vec<u8>, 
     Ok(script)
 }
 
-/// Why a script can't be read: want of memory, or anything else.
+/// Why a script can't be read: out of memory, or anything else.
 pub fn unread(error: &io::Error) -> Failure
     ensures { IsUnread result }
 {

@@ -9,12 +9,12 @@ ghost use Rattle.hv_script.specs.declared.script.TheConstants.{MOST_BYTES as MOS
 ghost use Rattle.hv_text.specs.Fault.{IsCut};
 ghost use Rattle.hv_text.specs.Table.{table_text};
 ghost use Rattle.hv_run.specs.Failure.{exit_of};
-ghost use Rattle.hv_run.specs.Told.{HasPart, HasTold, HasToldOf, HasToldPart, told_by};
+ghost use Rattle.hv_run.specs.Written.{HasPart, HasWritten, HasWrittenOf, HasWrittenPart, told_by};
 
 use crate::failure::{Exit, Failure, tell};
 use hv_history::Kept;
 use hv_options::Options;
-use hv_phases::{Unfinished, run_lines};
+use hv_phases::{RunError, run_lines};
 use hv_script::{Script, parse};
 use hv_text::{PrintFault, audit, table};
 use hv_threads::{Gate, Open};
@@ -23,11 +23,12 @@ use std::io::Write;
 use std::sync::Wait;
 use std::thread::Threads;
 
-/// Runs a script and prints its audit on `out`, and with `--table` its table. Why it didn't all run goes
-/// to `err`, in one line.
+/// Runs a script and prints its audit on `out`, and with `--table` its table. Why it didn't all run goes to
+/// `err`, in one line.
 ///
 /// After a fault of the script or a refused boot nothing is written to `out`. A processor whose event is
-/// refused by the host stops, and the others of its phase go on. The audit of what is kept is written then, too.
+/// refused by the host stops, and the others of its phase go on. The audit of what is kept is written then,
+/// too.
 pub fn run_text<T: Threads + Wait + Sync, W: Write, E: Write>(
     rt: &T,
     alloc: Global,
@@ -36,9 +37,9 @@ pub fn run_text<T: Threads + Wait + Sync, W: Write, E: Write>(
     out: &mut W,
     err: &mut E,
 ) -> Exit
-    ensures told { result ≡ Exit.Done → HasToldOf script.now options.now.serial options.now.table
+    ensures told { result ≡ Exit.Done → HasWrittenOf script.now options.now.serial options.now.table
         (W.contents out.old) (W.contents out.new) }
-    ensures unfinished { result ≡ Exit.Host → HasToldPart options.now.table (W.contents out.old)
+    ensures unfinished { result ≡ Exit.Host → HasWrittenPart options.now.table (W.contents out.old)
         (W.contents out.new) }
     ensures long { MOST < length script.now → result ≡ Exit.Script }
     ensures silent { result ≡ Exit.Script → out.new ≡ out.old }
@@ -58,9 +59,9 @@ pub fn run_gated<T: Threads + Wait + Sync, G: Gate, W: Write, E: Write>(
     out: &mut W,
     err: &mut E,
 ) -> Exit
-    ensures told { result ≡ Exit.Done → HasToldOf script.now options.now.serial options.now.table
+    ensures told { result ≡ Exit.Done → HasWrittenOf script.now options.now.serial options.now.table
         (W.contents out.old) (W.contents out.new) }
-    ensures unfinished { result ≡ Exit.Host → HasToldPart options.now.table (W.contents out.old)
+    ensures unfinished { result ≡ Exit.Host → HasWrittenPart options.now.table (W.contents out.old)
         (W.contents out.new) }
     ensures long { MOST < length script.now → result ≡ Exit.Script }
     ensures silent { result ≡ Exit.Script → out.new ≡ out.old }
@@ -82,9 +83,9 @@ fn finish<T: Threads + Wait + Sync, G: Gate, W: Write, E: Write>(
     out: &mut W,
     err: &mut E,
 ) -> Exit
-    ensures told { result ≡ Exit.Done → HasTold (said script) options.now.serial options.now.table
+    ensures told { result ≡ Exit.Done → HasWritten (said script) options.now.serial options.now.table
         (W.contents out.old) (W.contents out.new) }
-    ensures unfinished { result ≡ Exit.Host → HasToldPart options.now.table (W.contents out.old)
+    ensures unfinished { result ≡ Exit.Host → HasWrittenPart options.now.table (W.contents out.old)
         (W.contents out.new) }
     ensures silent { result ≡ Exit.Script → out.new ≡ out.old }
     ensures no_usage { result ≢ Exit.Usage }
@@ -104,9 +105,10 @@ fn run_script<T: Threads + Wait + Sync, G: Gate, W: Write>(
     gate: &G,
     out: &mut W,
 ) -> Result<(), Failure>
-    ensures told { OnOk result (HasTold (said script) options.now.serial options.now.table
+    ensures told { OnOk result (HasWritten (said script) options.now.serial options.now.table
         (W.contents out.old) (W.contents out.new)) }
-    ensures unfinished { OnErr result (HasToldPart options.now.table (W.contents out.old) (W.contents out.new)) }
+    ensures unfinished { OnErr result (HasWrittenPart options.now.table (W.contents out.old)
+        (W.contents out.new)) }
     ensures silent { IfErr result (λ failure. exit_of failure ≡ Exit.Script → out.new ≡ out.old) }
 {
     let Script {
@@ -149,7 +151,7 @@ fn print_table<W: Write>(kept: &Kept<Global>, out: &mut W) -> Result<(), PrintFa
 }
 
 // How a run ended: why it isn't whole comes before output that couldn't be written.
-fn ended(unfinished: Option<Unfinished>, written: Result<(), Failure>) -> Result<(), Failure>
+fn ended(unfinished: Option<RunError>, written: Result<(), Failure>) -> Result<(), Failure>
     ensures stop { IsSome unfinished → IfErr result (λ failure. exit_of failure ≡ Exit.Host) }
     ensures stopped { IsSome unfinished → IsErr result }
     ensures written { IsNone unfinished → result ≡ written }

@@ -38,7 +38,8 @@ goes_on : {A : Type 0} (text : List ℕ) (number : ℕ) (before : Option (SoFar 
 goes_on text number before =
     let at = position_or_len (λ byte. byte == 10) text in
     choose at (length text) (λ there. ap (read_lines number before) (slice_split_first (λ byte. byte == 10) text 0 there)) (λ past.
-    let line : lines_of text ≡ line_of text ∷ [] = slice_split_none (λ byte. byte == 10) text (λ k d lt. fails_before_first (λ byte. byte == 10) text k d (omega (arith, lt, past))) ∙ ap (λ (l : List ℕ). l ∷ []) (sym (take_all at text past)) in
+    let line : lines_of text ≡ line_of text ∷ [] = slice_split_none (λ byte. byte == 10) text (λ k d lt. fails_before_first (λ byte. byte == 10) text k d (omega (arith, lt, past))) ∙ ap
+    (λ (l : List ℕ). l ∷ []) (sym (take_all at text past)) in
     let rest : rest_of text ≡ [] = drop_all (at + 1) text (omega (arith, past)) in
     ap (read_lines number before) line
     ∙ then_ends number (at_line number (read_line before (line_of text)))

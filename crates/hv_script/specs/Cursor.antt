@@ -1,5 +1,6 @@
 -- Where a reader stands in a text. Only contracts of private functions cite these words.
-use Rattle.std.specs.Prelude.{ℕ, ◌≡◌, ◌+◌, ◌<◌, ◌≤◌, ◌==◌, ◌&&◌, ◌∷◌, nat_le, List, [], length, Bool, true, false, if◌then◌else◌, Option, Some, get_or, Result, Ok, Err}
+use Rattle.std.specs.Prelude.{ℕ, ◌≡◌, ◌+◌, ◌<◌, ◌≤◌, ◌==◌, ◌&&◌, ◌∷◌, nat_le, List, [], length, Bool, true}
+use Rattle.std.specs.Prelude.{false, if◌then◌else◌, Option, Some, get_or, Result, Ok, Err}
 use Rattle.std.specs.List.{before_first}
 use Rattle.hv_script.specs.Script.{SoFar, read_lines, read_words}
 use Rattle.hv_script.specs.Line.{◌>>=◌}
@@ -13,7 +14,8 @@ line_of text = before_first (λ byte. byte == 10) text
 
 -- the words of a line that are read: none of a line that is skipped
 abbrev pub words_read : List ℕ → Result (List (List ℕ)) FaultKind
-words_read line = if is_skipped (words_of line) then Ok [] else (if has_good_bytes line then Ok (words_of line) else Err Byte)
+words_read line = if is_skipped (words_of line) then Ok [] else
+    (if has_good_bytes line then Ok (words_of line) else Err Byte)
 
 -- a line that was cut, by what was read before it
 abbrev pub read_cut : {A : Type 0} → Option (SoFar A) → List (List ℕ) → Result (Option (SoFar A)) FaultKind
@@ -41,8 +43,10 @@ pub record Runs (test : ℕ → Bool) (text : List ℕ) (from to : ℕ) : Type 0
 
 -- after this text and what was read before it, this is left, and this was read
 abbrev pub ReadsTo : {A : Type 0} → List ℕ → Option (SoFar A) → List ℕ → Option (SoFar A) → Type 0
-ReadsTo text before left after = (number : ℕ) → read_lines number before (lines_of text) ≡ read_lines (number + 1) after (lines_of left)
+ReadsTo text before left after = (number : ℕ) → read_lines number before (lines_of text) ≡ read_lines
+    (number + 1) after (lines_of left)
 
 -- the first line of this text has this fault
 abbrev pub FailsBy : {A : Type 0} → List ℕ → Option (SoFar A) → FaultKind → Type 0
-FailsBy text before kind = (number : ℕ) → read_lines number before (lines_of text) ≡ Err (record { line = number; kind = kind })
+FailsBy text before kind = (number : ℕ) → read_lines number before (lines_of text) ≡ Err
+    (record { line = number; kind = kind })

@@ -1,5 +1,6 @@
 -- The script that a text says.
-use Rattle.std.specs.Prelude.{ℕ, ◌≡◌, ◌+◌, ◌==◌, ◌++◌, ◌∷◌, [], List, length, nat_lt, codes, if◌then◌else◌, Option, Some, None, Result, Ok, Err}
+use Rattle.std.specs.Prelude.{ℕ, ◌≡◌, ◌+◌, ◌==◌, ◌++◌, ◌∷◌, [], List, length, nat_lt, codes, if◌then◌else◌}
+use Rattle.std.specs.Prelude.{Option, Some, None, Result, Ok, Err}
 use Rattle.hv_policy.specs.declared.config.Config.{Config}
 use Rattle.hv_policy.specs.declared.event.Action.{Action}
 use Rattle.hv_policy.specs.declared.event.Caller.{Caller}
@@ -8,7 +9,8 @@ use Rattle.hv_script.specs.Line.{◌>>=◌, action_of, boot_of, processor_of}
 use Rattle.hv_script.specs.Words.{begins_with, has_good_bytes, is_skipped, lines_of, word_at, words_of}
 use Rattle.hv_script.specs.declared.boot.Boot.{Boot}
 use Rattle.hv_script.specs.declared.fault.FaultKind.{FaultKind}
-use Rattle.hv_script.specs.declared.fault.FaultKind.TheVariants.{Long, Byte, NoBoot, BootTwice, Count, TooMany}
+use Rattle.hv_script.specs.declared.fault.FaultKind.TheVariants.{Long, Byte, NoBoot, BootTwice, Count}
+use Rattle.hv_script.specs.declared.fault.FaultKind.TheVariants.{TooMany}
 use Rattle.hv_script.specs.declared.fault.ScriptFault.{ScriptFault}
 use Rattle.hv_script.specs.declared.line.Line.{Line}
 use Rattle.hv_script.specs.declared.script.TheConstants.{MOST_BYTES}
@@ -34,7 +36,8 @@ first_line words = if begins_with words (codes "boot") then (do
 
 -- a `phase` line
 abbrev pub phase_line : {A : Type 0} → SoFar A → List (List ℕ) → Result (SoFar A) FaultKind
-phase_line so_far words = if length words == 1 then Ok (record so_far { phase = so_far.phase + 1 }) else Err Count
+phase_line so_far words = if length words == 1 then Ok (record so_far { phase = so_far.phase + 1 }) else Err
+    Count
 
 -- the same with a line of a processor more
 abbrev pub with_line : {A : Type 0} → SoFar A → Caller → Action A → SoFar A
@@ -44,7 +47,8 @@ with_line so_far by action =
 -- a line of a processor is taken where the phase has room for it
 abbrev pub taken : {A : Type 0} → SoFar A → Caller → Action A → Result (SoFar A) FaultKind
 taken so_far by action =
-    if have_room (callers_of so_far.phase so_far.lines) by then Ok (with_line so_far by action) else Err TooMany
+    if have_room (callers_of so_far.phase so_far.lines) by then Ok (with_line so_far by action) else Err
+    TooMany
 
 -- a line of a processor
 unfoldable pub processor_line : {A : Type 0} → SoFar A → List (List ℕ) → Result (SoFar A) FaultKind
@@ -79,7 +83,8 @@ at_line number (Ok value) = Ok value
 at_line number (Err kind) = Err (record { line = number; kind = kind })
 
 -- lines one after the other, of which the first has this number
-abbrev pub read_lines : {A : Type 0} → ℕ → Option (SoFar A) → List (List ℕ) → Result (Option (SoFar A)) ScriptFault
+abbrev pub read_lines : {A : Type 0} → ℕ → Option (SoFar A) → List (List ℕ) → Result (Option (SoFar A))
+    ScriptFault
 read_lines number before [] = Ok before
 read_lines number before (line ∷ lines) = do
   after ← at_line number (read_line before line)
@@ -88,7 +93,12 @@ read_lines number before (line ∷ lines) = do
 -- what the lines say together. Where none is read there is no boot, in line 0
 abbrev pub said_by : {A : Type 0} → Option (SoFar A) → Result (Said A) ScriptFault
 said_by None = Err (record { line = 0; kind = NoBoot })
-said_by (Some so_far) = Ok (record { config = so_far.boot.config; limit = so_far.boot.limit; lines = so_far.lines })
+said_by (Some so_far) = Ok (record {
+  config = so_far.boot.config;
+  limit = so_far.boot.limit;
+  lines =
+      so_far.lines;
+})
 
 -- the script of a text, or its first fault. A text of more than 1,048,576 bytes isn't looked into
 unfoldable pub script_of : {A : Type 0} → List ℕ → Result (Said A) ScriptFault

@@ -28,7 +28,7 @@ pub struct Script<A: Allocator> {
 }
 
 /// Reads a script, or finds its first fault: the first line with a fault decides, and in a line the
-/// order of the kinds of faults. Want of memory is told as one, whatever faults come after it.
+/// order of the kinds of faults. Out of memory is told as one, whatever faults come after it.
 #[tactic(auto, unfolding(crate::specs::Script::script_of))]
 pub fn parse<A: Allocator + Clone>(alloc: A, text: &[u8]) -> Result<Script<A>, ScriptFault>
     ensures script { IfOk result (λ script. script_of text.now ≡ Ok (said script)) }

@@ -120,14 +120,17 @@ later_at read words b p boot phase =
 pub boots_twice : (read : SoFar Global) (words : List (List ℕ)) → begins_with words (codes "boot") ≡ true → reads (later_line read words) ≡ Err kind.BootTwice
 boots_twice read words boot = ap reads (later_at read words true (begins_with words (codes "phase")) boot refl)
 
-pub is_phase : (read : SoFar Global) (words : List (List ℕ)) → begins_with words (codes "boot") ≡ false → begins_with words (codes "phase") ≡ true → reads (later_line read words) ≡ reads (phase_line read words)
+pub is_phase : (read : SoFar Global) (words : List (List ℕ)) → begins_with words (codes "boot") ≡ false → begins_with words (codes "phase") ≡ true → reads (later_line read words) ≡ reads
+    (phase_line read words)
 is_phase read words boot phase = ap reads (later_at read words false true boot phase)
 
-pub is_processor : (read : SoFar Global) (words : List (List ℕ)) → begins_with words (codes "boot") ≡ false → begins_with words (codes "phase") ≡ false → reads (later_line read words) ≡ reads (processor_line read words)
+pub is_processor : (read : SoFar Global) (words : List (List ℕ)) → begins_with words (codes "boot") ≡ false → begins_with words (codes "phase") ≡ false → reads (later_line read words) ≡ reads
+    (processor_line read words)
 is_processor read words boot phase = ap reads (later_at read words false false boot phase)
 
 -- a phase begins
-phase_says : (read : SoFar Global) (words : List (List ℕ)) (t : Bool) → (length words == 1) ≡ t → reads (phase_line read words) ≡ reads (cond t (Ok (record read { phase = read.phase + 1 })) (Err kind.Count))
+phase_says : (read : SoFar Global) (words : List (List ℕ)) (t : Bool) → (length words == 1) ≡ t → reads (phase_line read words) ≡ reads
+    (cond t (Ok (record read { phase = read.phase + 1 })) (Err kind.Count))
 phase_says read words t is = ap (λ (t : Bool). reads (cond t (Ok (record read { phase = read.phase + 1 })) (Err kind.Count))) is
 
 pub no_phase : (read : SoFar Global) (words : List (List ℕ)) → (length words == 1) ≡ false → reads (phase_line read words) ≡ Err kind.Count

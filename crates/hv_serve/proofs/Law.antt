@@ -1,5 +1,6 @@
 -- The lines of a session that were done, as a script.
-use Rattle.std.proofs.Common.{◌≡◌, ◌≢◌, ◌==◌, ◌≤◌, ℕ, ◌+◌, Bool, true, false, cond, List, [], ◌∷◌, ◌++◌, length, refl, sym, ap, ◌∙◌, subst, arith, append-nil, append_assoc, length-append, Option, Some, None, Result, Ok, Err, drop, nat_lt}
+use Rattle.std.proofs.Common.{◌≡◌, ◌≢◌, ◌==◌, ◌≤◌, ℕ, ◌+◌, Bool, true, false, cond, List, [], ◌∷◌, ◌++◌, length, refl, sym, ap, ◌∙◌, subst, arith, append-nil, append_assoc, length-append, Option}
+use Rattle.std.proofs.Common.{Some, None, Result, Ok, Err, drop, nat_lt}
 use Rattle.std.specs.Prelude.{All, if◌then◌else◌}
 use Rattle.std.specs.Io.KnownBytes.{Appends}
 use Rattle.std.specs.List.{join_with_byte}
@@ -11,7 +12,7 @@ use Rattle.hv_history.specs.Kept.{IsRun}
 use Rattle.hv_history.specs.declared.entry.Entry.{Entry}
 use Rattle.hv_phases.proofs.Phased.{in_order_phased}
 use Rattle.hv_phases.specs.Lines.{AreInOrder}
-use Rattle.hv_run.specs.Told.{HasToldOf}
+use Rattle.hv_run.specs.Written.{HasWrittenOf}
 use Rattle.hv_script.specs.Line.{◌>>=◌}
 use Rattle.hv_script.specs.Script.{SoFar, at_line, read_line, read_lines, said_by, script_of}
 use Rattle.hv_script.specs.Words.{lines_of, words_of}
@@ -26,7 +27,7 @@ use Rattle.hv_serve.proofs.Lines.{IsOne, split_joined}
 use Rattle.hv_serve.proofs.Order.{order-append, run_in_order}
 use Rattle.hv_serve.proofs.Texts.{audited, drop_front, entries-append}
 use Rattle.hv_serve.specs.Law.{IsServed, done_in, is_done, script_in, told_in}
-use Rattle.hv_serve.specs.Meant.{Asks, Meant, Reads, asks_table, meant, table_line}
+use Rattle.hv_serve.specs.Meant.{Asks, Meant, Reads, asks_table, resolve_partition_id, table_line}
 use Rattle.hv_serve.specs.Session.{AreTurns, Becomes, HasCome, HasDone, IsBooted, IsTurn, Served, Turn, answer_of, answers_in, end_text, history_of, kept_of, lines_in, new_text, read_of}
 use Rattle.hv_serve.specs.declared.outcome.Outcome.{Outcome}
 use Rattle.hv_serve.specs.declared.outcome.Outcome.TheVariants.{Done, Table, Fault, Boot, Host}
@@ -51,8 +52,8 @@ no_reading (Some so_far) after words = at (length words == 1)
     at true = λ same. cc
     at false = λ same. cc
 
-pub reads_line : (before after : Option (SoFar Global)) (line : List ℕ) → meant before line ≡ Ok (Reads after) → read_line before line ≡ Ok after
-unfolding meant
+pub reads_line : (before after : Option (SoFar Global)) (line : List ℕ) → resolve_partition_id before line ≡ Ok (Reads after) → read_line before line ≡ Ok after
+unfolding resolve_partition_id
 reads_line before after line same =
     by_tests (nat_lt MOST_BYTES (length line)) (asks_table line) (table_line before (words_of line)) (read_line before line) after (λ _. no_reading before after (words_of line)) same
 
@@ -176,7 +177,8 @@ shape : (t : Bool) (turn : Turn) (rest : List Turn) → is_done turn.outcome ≡
 shape t turn rest same = ap (λ (b : Bool). if b then turn ∷ rest else rest) same
 
 -- the answer of a line that is done is the audit's lines of what it adds
-answer_is : (number : ℕ) (before mid : Option Served) (turn : Turn) (own : List (Entry Global)) → turn.answer ≡ answer_of number (length (history_of (kept_of before))) turn.outcome (kept_of mid) → turn.outcome ≡ Done
+answer_is : (number : ℕ) (before mid : Option Served) (turn : Turn) (own : List (Entry Global)) → turn.answer ≡ answer_of number (length (history_of (kept_of before))) turn.outcome (kept_of mid) →
+    turn.outcome ≡ Done
     → history_of (kept_of mid) ≡ history_of (kept_of before) ++ own → turn.answer ≡ entries_text (length (history_of (kept_of before)) + 1) own
 answer_is number before mid turn own answer done grown =
     let k = length (history_of (kept_of before)) in
@@ -186,12 +188,15 @@ answer_is number before mid turn own answer done grown =
 comes-then : (number : ℕ) (before mid after : Option Served) (turn : Turn) (rest : List Turn) → IsTurn number before turn mid → turn.outcome ≡ Done → Comes mid rest after
     → Comes before (turn ∷ rest) after
 comes-then number before mid after turn rest is done more =
-    let becomes : Becomes before (meant (read_of before) turn.line) Done mid = subst (λ (o : Outcome). Becomes before (meant (read_of before) turn.line) o mid) done is.becomes in
+    let becomes : Becomes before (resolve_partition_id (read_of before) turn.line) Done mid = subst (λ (o : Outcome). Becomes before (resolve_partition_id (read_of before) turn.line) o mid) done
+    is.becomes in
     let grown = grown_by before mid becomes.1 in
     let first : turn.answer ≡ entries_text (length (history_of (kept_of before)) + 1) grown.0 = answer_is number before mid turn grown.0 is.answer done grown.1 in
-    let at : length (history_of (kept_of mid)) + 1 ≡ (length (history_of (kept_of before)) + 1) + length grown.0 = omega (arith, ap length grown.1, length-append (history_of (kept_of before)) grown.0) in
+    let at : length (history_of (kept_of mid)) + 1 ≡ (length (history_of (kept_of before)) + 1) + length grown.0 = omega (arith, ap length grown.1, length-append (history_of (kept_of before)) grown.0)
+    in
     record {
-      read = λ n. ap (λ (r : Result (Option (SoFar Global)) FaultKind). at_line n r >>= (λ after. read_lines (n + 1) after (lines_in rest))) (reads_line (read_of before) (read_of mid) turn.line becomes.0)
+      read = λ n. ap (λ (r : Result (Option (SoFar Global)) FaultKind). at_line n r >>= (λ after. read_lines (n + 1) after (lines_in rest)))
+          (reads_line (read_of before) (read_of mid) turn.line becomes.0)
           ∙ more.read (n + 1);
       reached = come-then before mid after becomes.1 more.reached;
       own = grown.0 ++ more.own;
@@ -204,7 +209,8 @@ comes-then number before mid after turn rest is done more =
 abbrev WasServed : Turn → Type 0
 WasServed turn = IsServed turn.outcome
 
-comes : (number : ℕ) (before : Option Served) (turns : List Turn) (after : Option Served) → IsRunOf before → AreTurns number before turns after → All WasServed turns → Comes before (done_in turns) after
+comes : (number : ℕ) (before : Option Served) (turns : List Turn) (after : Option Served) → IsRunOf before → AreTurns number before turns after → All WasServed turns → Comes before (done_in turns)
+    after
 comes number before [] after run none all = subst (Comes before []) (sym none) (comes-nothing before run)
 comes number before (turn ∷ turns) after run some all =
     choose (is_done turn.outcome) refl (λ ran. comes (number + 1) some.0 turns after ran some.2 (All-tail WasServed turn turns all))
@@ -212,11 +218,12 @@ comes number before (turn ∷ turns) after run some all =
     choose : (t : Bool) → is_done turn.outcome ≡ t → (IsRunOf some.0 → Comes some.0 (done_in turns) after) → Comes before (done_in (turn ∷ turns)) after
     choose true same later =
         let done = is_that turn.outcome same in
-        let becomes : Becomes before (meant (read_of before) turn.line) Done some.0 = subst (λ (o : Outcome). Becomes before (meant (read_of before) turn.line) o some.0) done some.1.becomes in
+        let becomes : Becomes before (resolve_partition_id (read_of before) turn.line) Done some.0 = subst (λ (o : Outcome). Becomes before (resolve_partition_id (read_of before) turn.line) o some.0)
+        done some.1.becomes in
         subst (λ (d : List Turn). Comes before d after) (sym (shape true turn (done_in turns) same))
         (comes-then number before some.0 after turn (done_in turns) some.1 done (later (run_of_come before some.0 becomes.1)))
     choose false same later =
-        let still : some.0 ≡ before = unchanged before some.0 (meant (read_of before) turn.line) turn.outcome some.1.becomes (All-head WasServed turn turns all) same in
+        let still : some.0 ≡ before = unchanged before some.0 (resolve_partition_id (read_of before) turn.line) turn.outcome some.1.becomes (All-head WasServed turn turns all) same in
         subst (λ (d : List Turn). Comes before d after) (sym (shape false turn (done_in turns) same))
         (subst (λ (b : Option Served). Comes b (done_in turns) after) still (later (subst IsRunOf (sym still) run)))
 
@@ -247,7 +254,7 @@ scripted text lines read most cut same =
 
 -- the lines that were done are a script, and what they were answered is its audit
 pub serial : (turns : List Turn) (now : Served) → AreTurns 1 None turns (Some now) → All WasServed turns → length (script_in turns) ≤ MOST_BYTES
-    → (old new : Option (List ℕ)) → Appends old new (told_in turns ++ end_text (length now.kept.history)) → HasToldOf (script_in turns) true false old new
+    → (old new : Option (List ℕ)) → Appends old new (told_in turns ++ end_text (length now.kept.history)) → HasWrittenOf (script_in turns) true false old new
 serial turns now are served most old new told =
     let all = comes 1 None turns (Some now) tt are served in
     let lines = lines_in (done_in turns) in
@@ -293,11 +300,11 @@ all_served (turn ∷ turns) all =
 
 -- all that was written is, where all lines were done
 pub whole : (text : List ℕ) (turns : List Turn) (now : Served) → AreTurns 1 None turns (Some now) → All WasDone turns → length text ≤ MOST_BYTES → text ≡ join_with_byte 10 (lines_in turns)
-    → (old new : Option (List ℕ)) → Appends old new (answers_in turns ++ end_text (length now.kept.history)) → HasToldOf text true false old new
+    → (old new : Option (List ℕ)) → Appends old new (answers_in turns ++ end_text (length now.kept.history)) → HasWrittenOf text true false old new
 whole text turns now are all most is old new told =
     let same = all_done turns all in
     let script : script_in turns ≡ text = ap (λ (d : List Turn). join_with_byte 10 (lines_in d)) same ∙ sym is in
     let answers : answers_in turns ++ end_text (length now.kept.history) ≡ told_in turns ++ end_text (length now.kept.history) =
     ap (λ (d : List Turn). answers_in d ++ end_text (length now.kept.history)) (sym same) in
-    subst (λ (t : List ℕ). HasToldOf t true false old new) script
+    subst (λ (t : List ℕ). HasWrittenOf t true false old new) script
     (serial turns now are (all_served turns all) (subst (λ (t : List ℕ). length t ≤ MOST_BYTES) (sym script) most) old new (subst (Appends old new) answers told))

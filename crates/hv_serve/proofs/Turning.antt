@@ -9,7 +9,8 @@ use Rattle.hv_serve.specs.Turned.{HasTurned, IsServing, closed}
 use Rattle.hv_serve.specs.declared.bench.Bench.{Bench}
 use Rattle.hv_serve.proofs.Becoming.{same_kept}
 
-turns-push : (number : ℕ) (before : Option Served) (turns : List Turn) (mid : Option Served) (turn : Turn) (after : Option Served) → AreTurns number before turns mid → IsTurn (number + length turns) mid turn after
+turns-push : (number : ℕ) (before : Option Served) (turns : List Turn) (mid : Option Served) (turn : Turn) (after : Option Served) → AreTurns number before turns mid → IsTurn (number + length turns)
+    mid turn after
     → AreTurns number before (turns ++ turn ∷ []) after
 turns-push number before [] mid turn after none is =
     let at : number + 0 ≡ number = omega arith in

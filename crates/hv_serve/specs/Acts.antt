@@ -21,7 +21,8 @@ pub record HasActed (by : Caller) (what : Action Global) (old new : Kept Global)
   pub run : IsRun new
 
 -- the history has the entries more of a part of it, or none, since the host stopped it
-pub record WasStopped (by : Caller) (what : Action Global) (why : HostRefused) (old new : Kept Global) : Type 0 where
+pub record WasStopped (by : Caller) (what : Action Global) (why : HostRefused) (old new : Kept Global) : Type
+    0 where
   pub own : List (Entry Global)
   pub history : new.history ≡ old.history ++ own
   pub by_it : All (λ e. e.event.by ≡ by) own
@@ -32,6 +33,7 @@ pub record WasStopped (by : Caller) (what : Action Global) (why : HostRefused) (
   pub run : IsRun new
 
 -- one of both
-abbrev pub HasTried : {T : Type 0} → Caller → Action Global → Kept Global → Kept Global → Result T HostRefused → Type 0
+abbrev pub HasTried : {T : Type 0} → Caller → Action Global → Kept Global → Kept Global → Result T HostRefused
+    → Type 0
 HasTried by what old new (Ok done) = HasActed by what old new
 HasTried by what old new (Err why) = WasStopped by what why old new

@@ -1,5 +1,6 @@
 -- What a booted machine and its phase stand for. Only contracts of private functions cite these words.
-use Rattle.std.specs.Prelude.{ℕ, ◌≡◌, ◌≢◌, ◌⊎◌, ◌≤◌, ◌==◌, List, length, codes, All, if◌then◌else◌, Option, None, Some, Result, Ok, Err}
+use Rattle.std.specs.Prelude.{ℕ, ◌≡◌, ◌≢◌, ◌⊎◌, ◌≤◌, ◌==◌, List, length, codes, All, if◌then◌else◌, Option}
+use Rattle.std.specs.Prelude.{None, Some, Result, Ok, Err}
 use Rattle.std.specs.declared.alloc.Global.{Global}
 use Rattle.hv_history.specs.Kept.{IsRun, Kept}
 use Rattle.hv_policy.specs.declared.event.Action.{Action}
@@ -44,16 +45,19 @@ reads read = read >>= (λ so_far. Ok (Reads (Some so_far)))
 abbrev pub words_say : Option (SoFar Global) → List (List ℕ) → Result Meant FaultKind
 words_say before words =
     if length words == 0 then Ok (Reads before)
-    else (if begins_with words (codes "table") then table_line before words else reads (read_words before words))
+    else (if begins_with words (codes "table") then table_line before words else reads
+    (read_words before words))
 
 -- after a line that says this, the bench stands for what was served
-pub record HasBecome (before : Option Served) (says : Result Meant FaultKind) (outcome : Outcome) (bench : Option Bench) : Type 0 where
+pub record HasBecome (before : Option Served) (says : Result Meant FaultKind) (outcome : Outcome)
+    (bench : Option Bench) : Type 0 where
   pub after : Option Served
   pub stands : StandsFor bench after
   pub becomes : Becomes before says outcome after
 
 -- the same, or the line has a fault, and nothing is different
-abbrev pub HasTaken : Option Served → Result Meant FaultKind → Option Bench → Result Outcome FaultKind → Type 0
+abbrev pub HasTaken : Option Served → Result Meant FaultKind → Option Bench → Result Outcome FaultKind → Type
+    0
 HasTaken before says bench (Ok outcome) = HasBecome before says outcome bench
 HasTaken before says bench (Err kind) = StandsFor bench before × (kind ≢ Memory → says ≡ Err kind)
 

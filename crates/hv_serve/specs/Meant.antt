@@ -1,5 +1,6 @@
 -- What a line of a session says.
-use Rattle.std.specs.Prelude.{ℕ, ◌==◌, ◌&&◌, not, nat_lt, List, length, codes, if◌then◌else◌, Bool, Option, Some, None, Result, Ok, Err}
+use Rattle.std.specs.Prelude.{ℕ, ◌==◌, ◌&&◌, not, nat_lt, List, length, codes, if◌then◌else◌, Bool, Option}
+use Rattle.std.specs.Prelude.{Some, None, Result, Ok, Err}
 use Rattle.std.specs.declared.alloc.Global.{Global}
 use Rattle.hv_script.specs.Line.{◌>>=◌}
 use Rattle.hv_script.specs.Script.{SoFar, read_line}
@@ -22,12 +23,13 @@ table_line (Some so_far) words = if length words == 1 then Ok Asks else Err Coun
 
 -- the line's first word is `table`. It isn't skipped, and has no bad byte
 abbrev pub asks_table : List ℕ → Bool
-asks_table line = not (is_skipped (words_of line)) && has_good_bytes line && begins_with (words_of line) (codes "table")
+asks_table line = not (is_skipped (words_of line)) && has_good_bytes line && begins_with (words_of line)
+    (codes "table")
 
--- a line, by what was read before it: what it says in a script, unless its first word is `table`, or it is longer than any
--- script
-unfoldable pub meant : Option (SoFar Global) → List ℕ → Result Meant FaultKind
-meant before line =
+-- a line, by what was read before it: what it says in a script, unless its first word is `table`, or it is
+-- longer than any script
+unfoldable pub resolve_partition_id : Option (SoFar Global) → List ℕ → Result Meant FaultKind
+resolve_partition_id before line =
     if nat_lt MOST_BYTES (length line) then Err Long
     else (if asks_table line then table_line before (words_of line)
     else (do

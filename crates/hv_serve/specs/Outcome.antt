@@ -36,9 +36,10 @@ why_text (Host host.Memory) = codes "memory"
 
 -- the line that tells why the line of a number wasn't done
 unfoldable pub fault_text : ℕ → Outcome → List ℕ
-fault_text number outcome = codes "fault: line " ++ decimal number ++ codes ": " ++ why_text outcome ++ codes "\n"
+fault_text number outcome = codes "fault: line " ++ decimal number ++ codes ": " ++ why_text outcome ++ codes
+    "\n"
 
--- a fault as what becomes of its line: want of memory is the host's
+-- a fault as what becomes of its line: out of memory is the host's
 abbrev pub outcome_by : FaultKind → Outcome
 outcome_by kind.Memory = Host host.Memory
 outcome_by kind = Fault kind

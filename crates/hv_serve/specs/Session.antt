@@ -1,5 +1,6 @@
 -- A session: its lines, what becomes of each, and what each is answered.
-use Rattle.std.specs.Prelude.{ℕ, ◌≡◌, ◌≢◌, ◌⊎◌, ◌↔◌, ◌+◌, ◌++◌, List, [], ◌∷◌, length, drop, map, codes, decimal, All, IfSome, Option, Some, None, Result, Ok, Err}
+use Rattle.std.specs.Prelude.{ℕ, ◌≡◌, ◌≢◌, ◌⊎◌, ◌↔◌, ◌+◌, ◌++◌, List, [], ◌∷◌, length, drop, map, codes}
+use Rattle.std.specs.Prelude.{decimal, All, IfSome, Option, Some, None, Result, Ok, Err}
 use Rattle.std.specs.Io.KnownBytes.{Appends}
 use Rattle.std.specs.List.{join_with_byte}
 use Rattle.std.specs.declared.alloc.Global.{Global}
@@ -19,7 +20,7 @@ use Rattle.hv_shared.specs.ByCaller.{receipts_by}
 use Rattle.hv_text.specs.Audit.{entries_text}
 use Rattle.hv_text.specs.Table.{table_text}
 use Rattle.hv_threads.specs.Perform.{IsStopped}
-use Rattle.hv_serve.specs.Meant.{Asks, Meant, Reads, meant}
+use Rattle.hv_serve.specs.Meant.{Asks, Meant, Reads, resolve_partition_id}
 use Rattle.hv_serve.specs.Outcome.{fault_text}
 use Rattle.hv_serve.specs.declared.outcome.Outcome.{Outcome}
 use Rattle.hv_serve.specs.declared.outcome.Outcome.TheVariants.{Done, Table, Fault, Boot, Host}
@@ -51,8 +52,8 @@ pub record IsBooted (now : Served) : Type 0 where
   pub history : now.kept.history ≡ []
   pub run : IsRun now.kept
 
--- these lines of processors were read, of which a line has one or none, and the history has the entries more of what they ask
--- for, to its end, in their order; the machine is still that of the boot line
+-- these lines of processors were read, of which a line has one or none, and the history has the entries more
+-- of what they ask for, to its end, in their order; the machine is still that of the boot line
 pub record HasDone (old new : Served) : Type 0 where
   pub lines : List (Line Global)
   pub own : List (Entry Global)
@@ -71,8 +72,8 @@ HasCome None (Some new) = IsBooted new
 HasCome (Some old) None = ⊥
 HasCome (Some old) (Some new) = HasDone old new
 
--- a line of a processor was read, and the host stopped it: the history has the entries more of a part of what it asks for, or none.
--- It is full where that is why
+-- a line of a processor was read, and the host stopped it: the history has the entries more of a part of what
+-- it asks for, or none. It is full where that is why
 pub record HasStopped (why : HostRefused) (old new : Served) : Type 0 where
   pub line : Line Global
   pub own : List (Entry Global)
@@ -93,21 +94,23 @@ IsStoppedLine (Some old) says why None = ⊥
 IsStoppedLine (Some old) says why (Some new) = (says ≡ Ok (Reads (Some new.read))) × HasStopped why old new
 
 -- no machine boots with what the line says
-pub record IsRefusedBoot (before : Option Served) (says : Result Meant FaultKind) (why : BootRefused) : Type 0 where
-  pub read : SoFar Global
-  pub none : before ≡ None
-  pub boots : says ≡ Ok (Reads (Some read))
-  pub refused : IsBootRefusal read.boot.config why
+pub record IsRefusedBoot (before : Option Served) (says : Result Meant FaultKind) (why : BootRefused) : Type 0
+  where
+    pub read : SoFar Global
+    pub none : before ≡ None
+    pub boots : says ≡ Ok (Reads (Some read))
+    pub refused : IsBootRefusal read.boot.config why
 
--- what becomes of a line that says this: it is done; the table is asked for; it has a fault, or its boot is refused; or the host
--- refuses it. Only a line that is done, and one of a processor that the host stops, changes anything. Want of memory may refuse
--- any line
+-- what becomes of a line that says this: it is done; the table is asked for; it has a fault, or its boot is
+-- refused; or the host refuses it. Only a line that is done, and one of a processor that the host stops,
+-- changes anything. Out of memory may refuse any line
 abbrev pub Becomes : Option Served → Result Meant FaultKind → Outcome → Option Served → Type 0
 Becomes before says Done after = (says ≡ Ok (Reads (read_of after))) × HasCome before after
 Becomes before says Table after = (says ≡ Ok Asks) × (after ≡ before)
 Becomes before says (Fault kind) after = (says ≡ Err kind) × (after ≡ before)
 Becomes before says (Boot why) after = IsRefusedBoot before says why × (after ≡ before)
-Becomes before says (Host why) after = ((why ≡ host.Memory) × (after ≡ before)) ⊎ IsStoppedLine before says why after
+Becomes before says (Host why) after = ((why ≡ host.Memory) × (after ≡ before)) ⊎ IsStoppedLine before says
+    why after
 
 -- the table of the state in which the run of what happened ends
 abbrev pub table_of : Option (Kept Global) → List ℕ
@@ -126,8 +129,8 @@ told_of number (Host why) now = fault_text number (Host why)
 abbrev pub new_text : ℕ → Option (Kept Global) → List ℕ
 new_text before now = entries_text (before + 1) (drop before (history_of now))
 
--- what the line of a number is answered, before which so many events had happened: the audit's lines of the entries that it
--- adds, then the table that it asks for, or why it wasn't done
+-- what the line of a number is answered, before which so many events had happened: the audit's lines of the
+-- entries that it adds, then the table that it asks for, or why it wasn't done
 abbrev pub answer_of : ℕ → ℕ → Outcome → Option (Kept Global) → List ℕ
 answer_of number before outcome now = new_text before now ++ told_of number outcome now
 
@@ -140,13 +143,15 @@ pub record Turn : Type 0 where
 -- the line of a number
 pub record IsTurn (number : ℕ) (before : Option Served) (turn : Turn) (after : Option Served) : Type 0 where
   pub one : All (λ byte. byte ≢ 10) turn.line
-  pub becomes : Becomes before (meant (read_of before) turn.line) turn.outcome after
-  pub answer : turn.answer ≡ answer_of number (length (history_of (kept_of before))) turn.outcome (kept_of after)
+  pub becomes : Becomes before (resolve_partition_id (read_of before) turn.line) turn.outcome after
+  pub answer : turn.answer ≡ answer_of number (length (history_of (kept_of before))) turn.outcome
+      (kept_of after)
 
 -- the lines one after the other, of which the first has this number
 abbrev pub AreTurns : ℕ → Option Served → List Turn → Option Served → Type 0
 AreTurns number before [] after = after ≡ before
-AreTurns number before (turn ∷ turns) after = (mid : Option Served) × IsTurn number before turn mid × AreTurns (number + 1) mid turns after
+AreTurns number before (turn ∷ turns) after = (mid : Option Served) × IsTurn number before turn mid × AreTurns
+    (number + 1) mid turns after
 
 -- the lines, and their answers in a row
 abbrev pub lines_in : List Turn → List (List ℕ)
@@ -160,8 +165,8 @@ answers_in (turn ∷ turns) = turn.answer ++ answers_in turns
 unfoldable pub end_text : ℕ → List ℕ
 end_text count = codes "events " ++ decimal count ++ codes "\n"
 
--- the input was these lines, with a line feed between each two, and the writer got their answers, and then how many events
--- happened
+-- the input was these lines, with a line feed between each two, and the writer got their answers, and then
+-- how many events happened
 pub record HasServed (input old new : Option (List ℕ)) : Type 0 where
   pub turns : List Turn
   pub now : Option Served

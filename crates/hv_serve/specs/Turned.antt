@@ -7,7 +7,8 @@ use Rattle.hv_serve.specs.Session.{AreTurns, IsTurn, Served, Turn, answers_in}
 use Rattle.hv_serve.specs.declared.bench.Bench.{Bench}
 
 -- the line of a number was read from the input and answered, the last one or not
-pub record HasTurned (number : ℕ) (before : Option Served) (last : Bool) (bench : Option Bench) (input rest old new : Option (List ℕ)) : Type 0 where
+pub record HasTurned (number : ℕ) (before : Option Served) (last : Bool) (bench : Option Bench)
+    (input rest old new : Option (List ℕ)) : Type 0 where
   pub turn : Turn
   pub after : Option Served
   pub stands : StandsFor bench after

@@ -1,14 +1,16 @@
 // A booted machine and what its lines do.
-ghost use Rattle.std.specs.Prelude.{◌≡◌, ◌≢◌, ◌≤◌, Option, Some, None, IfErr, MatchResult, OnErr, OnOk, is_some};
+ghost use Rattle.std.specs.Prelude.{◌≡◌, ◌≢◌, ◌≤◌, Option, Some, None, IfErr, MatchResult, OnErr, OnOk};
+ghost use Rattle.std.specs.Prelude.{is_some};
 ghost use Rattle.std.specs.Prelude.{All, Err, List, Ok, ℕ, length, true, false};
 ghost use Rattle.hv_script.specs.Callers.{have_room, is_among, with_caller};
 ghost use Rattle.hv_script.specs.Cursor.{line_of};
 ghost use Rattle.hv_script.specs.Script.{SoFar, first_line, later_line, phase_line, processor_line};
 ghost use Rattle.hv_script.specs.declared.script.TheConstants.{MOST_BYTES as MOST};
 ghost use Rattle.hv_serve.specs.Acts.{HasTried};
-ghost use Rattle.hv_serve.specs.Bench.{HasBecome, HasTaken, IsBench, IsOutcomeOf, StandsFor, reads, words_say};
+ghost use Rattle.hv_serve.specs.Bench.{HasBecome, HasTaken, IsBench, IsOutcomeOf, StandsFor, reads};
+ghost use Rattle.hv_serve.specs.Bench.{words_say};
 ghost use Rattle.hv_serve.specs.Input.{AreKept};
-ghost use Rattle.hv_serve.specs.Meant.{Asks, meant, table_line};
+ghost use Rattle.hv_serve.specs.Meant.{Asks, resolve_partition_id, table_line};
 ghost use Rattle.hv_serve.specs.Session.{Served, read_of};
 
 use crate::calls::act;
@@ -35,7 +37,7 @@ pub(crate) fn take_line(
 ) -> Outcome
     ensures { (before : Option Served) (bytes : List ℕ) → StandsFor bench.old before
         → All (λ byte. byte ≢ 10) bytes → AreKept bytes line.now lost
-        → HasBecome before (meant (read_of before) bytes) result bench.new }
+        → HasBecome before (resolve_partition_id (read_of before) bytes) result bench.new }
 {
     match lost {
         Some(kind) => outcome_of(Err(kind)),
@@ -46,7 +48,7 @@ pub(crate) fn take_line(
 // Does what a line asks for.
 fn do_line(alloc: Global, bench: &mut Option<Bench>, text: &[u8]) -> Result<Outcome, FaultKind>
     ensures { (before : Option Served) → StandsFor bench.old before → length text.now ≤ MOST
-        → HasTaken before (meant (read_of before) (line_of text.now)) bench.new result }
+        → HasTaken before (resolve_partition_id (read_of before) (line_of text.now)) bench.new result }
 {
     let mut line = CutLine::new();
     line.cut(text)?;

@@ -1,20 +1,20 @@
 // What a session is beside a run of a script.
 ghost use Rattle.std.specs.Prelude.{◌≡◌, ◌≤◌, ◌++◌, ℕ, List, Option, Some, None, All, length, true, false};
 ghost use Rattle.std.specs.Io.KnownBytes.{Appends};
-ghost use Rattle.hv_run.specs.Told.{HasToldOf};
+ghost use Rattle.hv_run.specs.Written.{HasWrittenOf};
 ghost use Rattle.hv_script.specs.declared.script.TheConstants.{MOST_BYTES as MOST};
 ghost use Rattle.hv_serve.specs.Law.{IsServed, is_done, script_in, told_in};
 ghost use Rattle.hv_serve.specs.Session.{AreTurns, HasServed, Served, Turn, end_text, history_of};
 
 /// The answers to the lines that were done, with the count behind them, are what a serial run writes of these
-/// lines as a script, wherever the host refused nothing: faulty lines and tables between them change nothing. So
-/// a session in which all lines were done wrote what a serial run of its whole input writes.
+/// lines as a script, wherever the host refused nothing: faulty lines and tables between them change nothing.
+/// So a session in which all lines were done wrote what a serial run of its whole input writes.
 pub fn a_session_is_a_serial_run()
     ensures done { (turns : List Turn) (now : Served) → AreTurns 1 None turns (Some now)
         → All (λ turn. IsServed turn.outcome) turns → length (script_in turns) ≤ MOST
         → (old new : Option (List ℕ)) → Appends old new (told_in turns ++ end_text (length now.kept.history))
-        → HasToldOf (script_in turns) true false old new }
+        → HasWrittenOf (script_in turns) true false old new }
     ensures whole { (text : List ℕ) (old new : Option (List ℕ)) (session : HasServed (Some text) old new)
         (now : Served) → session.now ≡ Some now → All (λ turn. is_done turn.outcome ≡ true) session.turns
-        → length text ≤ MOST → HasToldOf text true false old new }
+        → length text ≤ MOST → HasWrittenOf text true false old new }
 {}

@@ -58,7 +58,7 @@ fn fault_text(kind: FaultKind) -> &'static str
     }
 }
 
-// What becomes of a line that has this fault: want of memory is the host's.
+// What becomes of a line that has this fault: out of memory is the host's.
 pub(crate) fn outcome_of(came: Result<Outcome, FaultKind>) -> Outcome
     ensures { MatchResult came (λ outcome. result ≡ outcome) (λ kind. result ≡ outcome_by kind) }
 {

@@ -11,12 +11,13 @@ use hv_run::{Exit, Failure, tell};
 use std::alloc::Global;
 use std::io::{BufReader, Read, Write};
 
-/// Serves the lines of a reader to its end: reads a line, does what it asks for, writes its answer and flushes
-/// it, and only then reads the next one. At the end it writes how many events happened, as an audit ends. Why
-/// it ended before goes to `err`, in one line: the input can't be read, the output can't be written, or there is
-/// no memory to begin with.
+/// Serves the lines of a reader to its end: reads a line, does what it asks for, writes its answer and
+/// flushes it, and only then reads the next one. At the end it writes how many events happened, as an audit
+/// ends. Why it ended before goes to `err`, in one line: the input can't be read, the output can't be
+/// written, or there is no memory to begin with.
 ///
-/// A line that has a fault, or that the host refuses, is answered by `fault: line N: TEXT`, and serving goes on.
+/// A line that has a fault, or that the host refuses, is answered by `fault: line N: TEXT`, and serving goes
+/// on.
 pub fn serve<R: Read + Drop, W: Write, E: Write>(
     alloc: Global,
     reader: R,

@@ -1,5 +1,6 @@
 -- Copies of the events of a call are enough: a call goes on only below its count.
-use Rattle.std.proofs.Common.{◌≡◌, ℕ, zero, suc, ◌+◌, ◌-◌, ◌<◌, ◌≤◌, ◌&&◌, ◌||◌, min, Bool, true, false, cond, not, if◌then◌else◌, nat_le, nat_lt, Option, None, Some, List, [], ◌∷◌, ◌++◌, length, take, drop, refl, sym, ap, subst, ◌∙◌, arith}
+use Rattle.std.proofs.Common.{◌≡◌, ℕ, zero, suc, ◌+◌, ◌-◌, ◌<◌, ◌≤◌, ◌&&◌, ◌||◌, min, Bool, true, false, cond, not, if◌then◌else◌, nat_le, nat_lt, Option, None, Some, List, [], ◌∷◌, ◌++◌, length}
+use Rattle.std.proofs.Common.{take, drop, refl, sym, ap, subst, ◌∙◌, arith}
 use Rattle.std.proofs.lemmas.Bool.{and_from, and_parts, or_parts, leb-false, ltb-true}
 use Rattle.std.specs.FinMap.{contains_key}
 use Rattle.std.specs.declared.alloc.Global.{Global}
@@ -163,7 +164,8 @@ enough f by frame (e ∷ es) now most copies are is run fewer =
     omega arith
 
 -- and they are of these events
-pub told : (by : Caller) (frame : Frame Global) (es : List (Entry Global)) (now : Frame Global) (copies : List (Event Global)) (n : ℕ) → AreElements by frame es now → AreAsking by frame copies → n ≡ length es → n ≤ length copies
+pub told : (by : Caller) (frame : Frame Global) (es : List (Entry Global)) (now : Frame Global) (copies : List (Event Global)) (n : ℕ) → AreElements by frame es now → AreAsking by frame copies → n ≡
+    length es → n ≤ length copies
     → take n copies ≡ events_of es
 told by frame [] now copies zero is are count within = refl
 told by frame [] now copies (suc n) is are count within = absurd (omega arith)
@@ -174,7 +176,8 @@ told by frame (e ∷ es) now (c ∷ copies) (suc n) is are count within =
     let one : c ≡ e.event = are.0 ∙ sym is.0 in
     λ i. one i ∷ rest i
 
-pub told_last : (by : Caller) (frame : Frame Global) (es : List (Entry Global)) (now : Frame Global) (last : Entry Global) (copies : List (Event Global)) (n : ℕ) → AreElements by frame es now → last.event ≡ element by now
+pub told_last : (by : Caller) (frame : Frame Global) (es : List (Entry Global)) (now : Frame Global) (last : Entry Global) (copies : List (Event Global)) (n : ℕ) → AreElements by frame es now →
+    last.event ≡ element by now
     → AreAsking by frame copies → n ≡ length es + 1 → n ≤ length copies → take n copies ≡ events_of (es ++ last ∷ [])
 told_last by frame es now last copies zero is at are count within = absurd (omega arith)
 told_last by frame es now last [] (suc n) is at are count within = absurd (omega arith)
@@ -188,7 +191,8 @@ told_last by frame (e ∷ es) now last (c ∷ copies) (suc n) is at are count wi
     λ i. one i ∷ rest i
 
 -- one more
-pub asking_more : (by : Caller) (frame : Frame Global) (es : List (Event Global)) (n : ℕ) → AreAsking by frame es → n ≡ start_of frame + length es → n < 4096 → AreAsking by frame (es ++ element by (restart frame n) ∷ [])
+pub asking_more : (by : Caller) (frame : Frame Global) (es : List (Event Global)) (n : ℕ) → AreAsking by frame es → n ≡ start_of frame + length es → n < 4096 → AreAsking by frame
+    (es ++ element by (restart frame n) ∷ [])
 asking_more by frame [] n are is less = (ap (element by) (same frame n (is ∙ omega arith)), tt)
   where
     same : (frame : Frame Global) (n : ℕ) → n ≡ start_of frame → restart frame n ≡ frame

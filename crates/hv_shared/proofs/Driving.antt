@@ -92,7 +92,8 @@ cancel [] ys zs same = same
 cancel (x ∷ xs) ys zs same = cancel xs ys zs (cc)
 
 -- a hold that came to an answer
-pub asked_in : (frame : Frame Global) (reply : Reply) (events most : ℕ) (h k : HeldValue) (old new : PassValue) → HasHeld h k old new → HasRun old.caller frame reply events most h.kept k.kept → HasAsked frame reply events old new
+pub asked_in : (frame : Frame Global) (reply : Reply) (events most : ℕ) (h k : HeldValue) (old new : PassValue) → HasHeld h k old new → HasRun old.caller frame reply events most h.kept k.kept →
+    HasAsked frame reply events old new
 asked_in frame reply events most h k old new held run =
     let last : Entry Global = record { event = element old.caller run.last; reply = reply } in
     let parts = split held.more run.before last (cancel h.kept.history _ _ (sym held.history ∙ run.history)) in
@@ -108,7 +109,8 @@ asked_in frame reply events most h k old new held run =
     }
 
 -- a hold that the host ended
-pub stopped_in : (frame : Frame Global) (events most : ℕ) (h k : HeldValue) (old new : PassValue) → HasHeld h k old new → HasStoppedAt old.caller frame events most h.kept k.kept → HasStopped frame (start_of frame + events) old new
+pub stopped_in : (frame : Frame Global) (events most : ℕ) (h k : HeldValue) (old new : PassValue) → HasHeld h k old new → HasStoppedAt old.caller frame events most h.kept k.kept → HasStopped frame
+    (start_of frame + events) old new
 stopped_in frame events most h k old new held run =
     let same : map entry_in held.more ≡ run.before = cancel h.kept.history _ _ (sym held.history ∙ run.history) in
     record {
@@ -252,7 +254,8 @@ module _ (frame now : Frame Global) (old mid : PassValue) (is : IsDriving frame 
             so_far = (is.so_far ++ asked.before) ++ receipt asked.number (element old.caller asked.last) reply ∷ [];
             elements =
                 rw (map-append entry_in (is.so_far ++ asked.before) (receipt asked.number (element old.caller asked.last) reply ∷ []), later_is, same, goes.0)
-                (asked-append old.caller frame asked.last (restart asked.last (start_of asked.last + 1)) (map entry_in (is.so_far ++ asked.before)) (record { event = element old.caller asked.last; reply = reply } ∷ []) elements
+                (asked-append old.caller frame asked.last (restart asked.last (start_of asked.last + 1)) (map entry_in (is.so_far ++ asked.before))
+                (record { event = element old.caller asked.last; reply = reply } ∷ []) elements
                 (refl, goes_at, refl));
             gained = gained;
           }

@@ -66,7 +66,8 @@ module _ (by : Caller) (frame : Frame Global) (events most : ℕ) (old new : Kep
         own = λ n. owned by frame is.before is.now n is.elements;
       }
 
-  pub gained : {E : Type 0} (last : Result Reply E) → IfOk last (λ reply. HasRun by frame reply events most old new) → OnErr last (HasStopped by frame events most old new) → IsGained by events old new copies
+  pub gained : {E : Type 0} (last : Result Reply E) → IfOk last (λ reply. HasRun by frame reply events most old new) → OnErr last (HasStopped by frame events most old new) → IsGained by events old new
+      copies
   gained (Ok reply) is other = ran reply is
   gained (Err why) other is = stopped is
 
@@ -79,7 +80,8 @@ tail_is all old more from is at = (λ i. drop (at i) (is i)) ∙ past old more
 
 -- the receipts of what was gained
 pub held : (by : Caller) (events : ℕ) (copies : List (Event Global)) (h k : HeldValue) (p q : PassValue) → IsGained by events h.kept k.kept copies → k.count ≡ h.count + events
-    → (all : List (Entry Global)) (from : ℕ) → all ≡ k.kept.history → from ≡ length h.kept.history → q.receipts ≡ p.receipts ++ numbered (from + 1) (drop from all) → q.share ≡ p.share + events → q.caller ≡ p.caller → HasHeld h k p q
+    → (all : List (Entry Global)) (from : ℕ) → all ≡ k.kept.history → from ≡ length h.kept.history → q.receipts ≡ p.receipts ++ numbered (from + 1) (drop from all) → q.share ≡ p.share + events →
+    q.caller ≡ p.caller → HasHeld h k p q
 held by events copies h k p q is counted all from all_is at receipts share caller =
     let n = length h.kept.history + 1 in
     let tail = tail_is all h.kept.history is.more from (all_is ∙ is.history) at in

@@ -112,7 +112,8 @@ fails_no_merge n (e ∷ es) lists f (inr (i, only, rest)) (o ∷ os) one there e
     (rw (length-set lists o (drop 1 (get_or lists o []))) (All-tail (λ (x : ℕ). x < length lists) o os there))
     (λ j. rest_is_at n o e os es lists each here j (o == j) refl)
 
-pub made : (config : Config) (limit : ℕ) (kept : Kept Global) (lists : List (List Receipt)) → kept.config ≡ config → kept.limit ≡ limit → MergesFrom 1 kept.history lists → IsMadeOf config limit kept lists
+pub made : (config : Config) (limit : ℕ) (kept : Kept Global) (lists : List (List Receipt)) → kept.config ≡ config → kept.limit ≡ limit → MergesFrom 1 kept.history lists → IsMadeOf config limit kept
+    lists
 made config limit kept lists c l m = record { same_config = c; same_limit = l; merge = merged 1 kept.history lists m }
 
 pub fault_not_made : (config : Config) (limit : ℕ) (kept : Kept Global) (lists : List (List Receipt)) (f : SettleFault) → IsFault config limit kept lists f → IsMadeOf config limit kept lists → ⊥

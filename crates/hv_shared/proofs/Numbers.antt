@@ -32,7 +32,8 @@ count n [] = refl
 count n (e ∷ es) = ap suc (count (n + 1) es)
 
 -- a list of copies, the last one first, of the entries from a place on
-module _ (es : List (Entry Global)) (at : ℕ) (within : at ≤ length es) (left rest : List (Event Global)) (copy : Event Global) (last : left ≡ rest ++ copy ∷ []) (asked : reverse left ≡ events_of (drop at es)) where
+module _ (es : List (Entry Global)) (at : ℕ) (within : at ≤ length es) (left rest : List (Event Global)) (copy : Event Global) (last : left ≡ rest ++ copy ∷ [])
+    (asked : reverse left ≡ events_of (drop at es)) where
   turned : copy ∷ reverse rest ≡ events_of (drop at es)
   turned = sym (ap reverse last ∙ reverse-append rest (copy ∷ [])) ∙ asked
 
@@ -55,7 +56,8 @@ module _ (es : List (Entry Global)) (at : ℕ) (within : at ≤ length es) (left
     others = cc both
 
     -- a receipt of it is one more under its number
-    pub so_far : (old new all : List Receipt) (event : Event Global) (reply : Reply) → event ≡ e.event → reply ≡ e.reply → new ≡ old ++ receipt (at + 1) event reply ∷ [] → old ++ numbered (at + 1) (drop at es) ≡ all
+    pub so_far : (old new all : List Receipt) (event : Event Global) (reply : Reply) → event ≡ e.event → reply ≡ e.reply → new ≡ old ++ receipt (at + 1) event reply ∷ [] → old ++ numbered (at + 1)
+        (drop at es) ≡ all
         → new ++ numbered (at + 1 + 1) (drop (at + 1) es) ≡ all
     so_far old new all event reply event_is reply_is pushed is =
         let tail = numbered (at + 1 + 1) (drop (at + 1) es) in

@@ -85,7 +85,8 @@ there_is (e ∷ es) zero less = (e, refl)
 there_is (e ∷ es) (suc k) less = there_is es k (omega arith)
 
 -- receipts more, which are counted
-pub some_more : (by : Caller) (old new more : List Receipt) (parts amount new_parts new_amount : ℕ) → IsPass by old parts amount → new ≡ old ++ more → new_parts ≡ parts → new_amount ≡ amount + length more
+pub some_more : (by : Caller) (old new more : List Receipt) (parts amount new_parts new_amount : ℕ) → IsPass by old parts amount → new ≡ old ++ more → new_parts ≡ parts → new_amount ≡ amount + length
+    more
     → All (λ r. r.event.by ≡ by) more → IsPass by new new_parts new_amount
 some_more by old new more parts amount new_parts new_amount is all parts_is amount_is own =
     rw all

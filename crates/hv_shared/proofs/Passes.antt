@@ -29,4 +29,5 @@ begun ps i q h zero_settled so_far =
 pub rests_after : (ps : List PassValue) (i : ℕ) (p q : PassValue) → i < length ps → p ≡ get_or ps i p → q ≡ record (get_or ps i p) { settled = (get_or ps i p).settled + 1; due = q.due }
     → rests_of (set ps i q) ≡ without (rests_of ps) i
 rests_after ps i p q h at is =
-    map-set rest_of ps i q ∙ ap (set (rests_of ps) i) (ap rest_of is ∙ sym (drop-drop 1 (get_or ps i p).settled (get_or ps i p).receipts) ∙ ap (drop 1) (ap rest_of (sym at) ∙ sym (rest_at ps i p h at)))
+    map-set rest_of ps i q ∙ ap (set (rests_of ps) i) (ap rest_of is ∙ sym (drop-drop 1 (get_or ps i p).settled (get_or ps i p).receipts) ∙ ap (drop 1)
+    (ap rest_of (sym at) ∙ sym (rest_at ps i p h at)))

@@ -1,5 +1,6 @@
 -- What each caller did, by a history.
-use Rattle.std.specs.Prelude.{ℕ, ◌≡◌, ◌<◌, ◌+◌, ◌==◌, ◌&&◌, Bool, if◌then◌else◌, List, [], ◌∷◌, length, slice_index_or, All}
+use Rattle.std.specs.Prelude.{ℕ, ◌≡◌, ◌<◌, ◌+◌, ◌==◌, ◌&&◌, Bool, if◌then◌else◌, List, [], ◌∷◌, length}
+use Rattle.std.specs.Prelude.{slice_index_or, All}
 use Rattle.std.specs.declared.alloc.Global.{Global}
 use Rattle.hv_history.specs.declared.entry.Entry.{Entry}
 use Rattle.hv_policy.specs.declared.event.Caller.{Caller}
@@ -14,12 +15,15 @@ is_caller by other = (other.part == by.part) && (other.vp == by.vp)
 abbrev pub receipts_by : Caller → ℕ → List (Entry Global) → List Receipt
 receipts_by by n [] = []
 receipts_by by n (e ∷ entries) =
-    if is_caller by e.event.by then receipt n e.event e.reply ∷ receipts_by by (n + 1) entries else receipts_by by (n + 1) entries
+    if is_caller by e.event.by then receipt n e.event e.reply ∷ receipts_by by (n + 1) entries else
+    receipts_by by (n + 1) entries
 
 -- no caller stands there twice
 abbrev pub AreDifferent : List Caller → Type 0
-AreDifferent callers = (i j : ℕ) (c : Caller) → i < length callers → j < length callers → slice_index_or callers i c ≡ slice_index_or callers j c → i ≡ j
+AreDifferent callers = (i j : ℕ) (c : Caller) → i < length callers → j < length callers → slice_index_or
+    callers i c ≡ slice_index_or callers j c → i ≡ j
 
 -- each list has receipts of events by the caller at its place alone
 abbrev pub AreTheirs : List Caller → List (List Receipt) → Type 0
-AreTheirs callers lists = (i : ℕ) (c : Caller) → i < length callers → All (λ r. r.event.by ≡ slice_index_or callers i c) (slice_index_or lists i [])
+AreTheirs callers lists = (i : ℕ) (c : Caller) → i < length callers → All
+    (λ r. r.event.by ≡ slice_index_or callers i c) (slice_index_or lists i [])

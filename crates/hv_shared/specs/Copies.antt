@@ -1,5 +1,6 @@
 -- The copies with which several elements of a call are held.
-use Rattle.std.specs.Prelude.{ℕ, ◌≡◌, ◌+◌, ◌-◌, ◌&&◌, min, if◌then◌else◌, Option, None, Some, List, [], ◌∷◌, length}
+use Rattle.std.specs.Prelude.{ℕ, ◌≡◌, ◌+◌, ◌-◌, ◌&&◌, min, if◌then◌else◌, Option, None, Some, List, [], ◌∷◌}
+use Rattle.std.specs.Prelude.{length}
 use Rattle.std.specs.declared.alloc.Global.{Global}
 use Rattle.hv_defs.specs.Bits.{bits}
 use Rattle.hv_abi.specs.CallRow.{kind_of, row_of}
@@ -10,12 +11,13 @@ use Rattle.hv_history.specs.Run.{element, restart, start_of}
 use Rattle.hv_policy.specs.declared.event.Caller.{Caller}
 use Rattle.hv_policy.specs.declared.event.Event.{Event}
 
--- how many elements of this call there are from its start index to its last, at most so many; one where it is a simple call, where
--- it is no call, or where it doesn't take the input value
+-- how many elements of this call there are from its start index to its last, at most so many; one where it is
+-- a simple call, where it is no call, or where it doesn't take the input value
 abbrev pub elements_of : Option CallKind → ℕ → ℕ → ℕ
 elements_of None rcx most = 1
 elements_of (Some kind) rcx most =
-    if (row_of kind).rep && is_input_valid (row_of kind) rcx then min (bits rcx 32 12 - bits rcx 48 12) most else 1
+    if (row_of kind).rep && is_input_valid (row_of kind) rcx then min (bits rcx 32 12 - bits rcx 48 12) most
+    else 1
 
 -- the same of the call that an input value names
 abbrev pub elements_in : ℕ → ℕ → ℕ
@@ -27,6 +29,7 @@ AreAsking by frame [] = Unit {0}
 AreAsking by frame (e ∷ es) = (e ≡ element by frame) × AreAsking by (restart frame (start_of frame + 1)) es
 
 -- one of each element of a call from the frame's start index on, at most so many
-pub record AreCopies (by : Caller) (frame : Frame Global) (most : ℕ) (copies : List (Event Global)) : Type 0 where
-  pub count : length copies ≡ elements_in frame.rcx most
-  pub asking : AreAsking by frame copies
+pub record AreCopies (by : Caller) (frame : Frame Global) (most : ℕ) (copies : List (Event Global)) : Type 0
+  where
+    pub count : length copies ≡ elements_in frame.rcx most
+    pub asking : AreAsking by frame copies

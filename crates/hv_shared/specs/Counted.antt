@@ -9,12 +9,16 @@ use Rattle.hv_shared.specs.declared.receipts.Receipt.{Receipt}
 abbrev pub StandsAt : List (List Receipt) → ℕ → ℕ → Receipt → Type 0
 StandsAt lists i k r = slice_get (slice_index_or lists i []) k ≡ Some r
 
--- Every number from 1 to the history's length stands in some list (`there`), and at one place alone (`once`); no other
--- number stands anywhere (`within`); the numbers of each list rise (`rising`); and the event and the reply of a receipt are
--- the history's at its number (`same`).
+-- Every number from 1 to the history's length stands in some list (`there`), and at one place alone (`once`);
+-- no other number stands anywhere (`within`); the numbers of each list rise (`rising`); and the event and the
+-- reply of a receipt are the history's at its number (`same`).
 pub record IsCounted (history : List (Entry Global)) (lists : List (List Receipt)) : Type 0 where
-  pub there : (n : ℕ) → 1 ≤ n → n ≤ length history → (i : ℕ) × (k : ℕ) × (r : Receipt) × StandsAt lists i k r × (r.number ≡ n)
-  pub once : (i k j l : ℕ) (r s : Receipt) → StandsAt lists i k r → StandsAt lists j l s → r.number ≡ s.number → (i ≡ j) × (k ≡ l)
+  pub there : (n : ℕ) → 1 ≤ n → n ≤ length history → (i : ℕ) × (k : ℕ) × (r : Receipt) × StandsAt lists i k r
+      × (r.number ≡ n)
+  pub once : (i k j l : ℕ) (r s : Receipt) → StandsAt lists i k r → StandsAt lists j l s → r.number ≡ s.number
+      → (i ≡ j) × (k ≡ l)
   pub within : (i k : ℕ) (r : Receipt) → StandsAt lists i k r → (1 ≤ r.number) × (r.number ≤ length history)
-  pub rising : (i k l : ℕ) (r s : Receipt) → StandsAt lists i k r → StandsAt lists i l s → k < l → r.number < s.number
-  pub same : (i k : ℕ) (r : Receipt) → StandsAt lists i k r → (e : Entry Global) × (slice_get history (r.number - 1) ≡ Some e) × (r.event ≡ e.event) × (r.reply ≡ e.reply)
+  pub rising : (i k l : ℕ) (r s : Receipt) → StandsAt lists i k r → StandsAt lists i l s → k < l → r.number <
+      s.number
+  pub same : (i k : ℕ) (r : Receipt) → StandsAt lists i k r → (e : Entry Global) ×
+      (slice_get history (r.number - 1) ≡ Some e) × (r.event ≡ e.event) × (r.reply ≡ e.reply)

@@ -18,20 +18,23 @@ use Rattle.hv_shared.specs.declared.receipts.Receipt.{Receipt}
 abbrev pub entry_in : Receipt → Entry Global
 entry_in r = record { event = r.event; reply = r.reply }
 
--- one receipt for each element from this frame on, at its start index, the next one and so on; each reply says that the call
--- goes on with the element after it, and `now` is the frame that is to be asked after them
+-- one receipt for each element from this frame on, at its start index, the next one and so on; each reply
+-- says that the call goes on with the element after it, and `now` is the frame that is to be asked after them
 abbrev pub AreElements : Caller → Frame Global → List Receipt → Frame Global → Type 0
 AreElements by frame list now = AreAsked by frame (map entry_in list) now
 
--- one receipt for each element of a call from this frame on, to the last one, after whose reply the call doesn't go on
-pub record IsWholeCall (by : Caller) (frame : Frame Global) (list : List Receipt) (last : Frame Global) (reply : Reply) : Type 0 where
+-- one receipt for each element of a call from this frame on, to the last one, after whose reply the call
+-- doesn't go on
+pub record IsWholeCall (by : Caller) (frame : Frame Global) (list : List Receipt) (last : Frame Global)
+    (reply : Reply) : Type 0 where
   pub before : List Receipt
   pub number : ℕ
   pub elements : AreElements by frame before last
   pub all : list ≡ before ++ receipt number (element by last) reply ∷ []
   pub ends : IsMore reply → ⊥
 
--- the pass has the receipts of a whole call more, and the call has the result value of its last element and reply
+-- the pass has the receipts of a whole call more, and the call has the result value of its last element and
+-- reply
 pub record HasDriven (frame : Frame Global) (value : ℕ) (reply : Reply) (old new : PassValue) : Type 0 where
   pub more : List Receipt
   pub last : Frame Global
@@ -47,7 +50,8 @@ pub record HasStopped (frame : Frame Global) (next : ℕ) (old new : PassValue) 
   pub next_is : next ≡ (input_value now.rcx).start
   pub gained : HasReceipts more old new
 
--- the pass has so many receipts more of the elements of a call from this frame on, the last of which has this reply
+-- the pass has so many receipts more of the elements of a call from this frame on, the last of which has this
+-- reply
 pub record HasAsked (frame : Frame Global) (reply : Reply) (events : ℕ) (old new : PassValue) : Type 0 where
   pub before : List Receipt
   pub last : Frame Global

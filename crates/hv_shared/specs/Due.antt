@@ -4,7 +4,8 @@ use Rattle.hv_shared.specs.Merge.{next_is, rest_of}
 use Rattle.hv_shared.specs.PassValue.{PassValue}
 use Rattle.hv_shared.specs.declared.held.TheConstants.{NEVER}
 
--- behind the event with number n, the settlement finds the pass's next receipt at the number `due`, or not at all
+-- behind the event with number n, the settlement finds the pass's next receipt at the number `due`, or not at
+-- all
 pub record IsDueAfter (n : ℕ) (p : PassValue) : Type 0 where
   pub later : n < p.due
   pub found : (m : ℕ) → n < m → m < NEVER → next_is m (rest_of p) ≡ true → p.due ≡ m

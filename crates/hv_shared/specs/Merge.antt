@@ -1,5 +1,6 @@
 -- When a history is made of the passes' receipts.
-use Rattle.std.specs.Prelude.{ℕ, ◌≡◌, ◌≢◌, ◌+◌, ◌<◌, ◌==◌, Bool, true, false, ◌⊎◌, if◌then◌else◌, List, [], ◌∷◌, length, drop, map, All, slice_index_or, slice_set}
+use Rattle.std.specs.Prelude.{ℕ, ◌≡◌, ◌≢◌, ◌+◌, ◌<◌, ◌==◌, Bool, true, false, ◌⊎◌, if◌then◌else◌, List, []}
+use Rattle.std.specs.Prelude.{◌∷◌, length, drop, map, All, slice_index_or, slice_set}
 use Rattle.std.specs.declared.alloc.Global.{Global}
 use Rattle.hv_history.specs.declared.entry.Entry.{Entry}
 use Rattle.hv_shared.specs.Pass.{receipt}
@@ -13,9 +14,11 @@ abbrev pub owned : ℕ → ℕ → List ℕ → List (Entry Global) → List Rec
 owned i n [] entries = []
 owned i n (owner ∷ owners) [] = []
 owned i n (owner ∷ owners) (e ∷ entries) =
-    if owner == i then receipt n e.event e.reply ∷ owned i (n + 1) owners entries else owned i (n + 1) owners entries
+    if owner == i then receipt n e.event e.reply ∷ owned i (n + 1) owners entries else owned i (n + 1) owners
+    entries
 
--- each entry has one owner, and the list of each pass is just the entries that it owns, in order, with their numbers
+-- each entry has one owner, and the list of each pass is just the entries that it owns, in order, with their
+-- numbers
 pub record IsMergeFrom (n : ℕ) (history : List (Entry Global)) (lists : List (List Receipt)) : Type 0 where
   pub owners : List ℕ
   pub one_each : length owners ≡ length history
@@ -60,18 +63,21 @@ AreDone lists = (i : ℕ) → slice_index_or lists i [] ≡ []
 
 -- what is wrong at this number
 abbrev pub FailsAt : ℕ → Entry Global → List (List Receipt) → SettleFault → Type 0
-FailsAt n e lists fault = ((fault ≡ Missing) × ((i : ℕ) → IsNext n lists i → ⊥)) ⊎ ((fault ≡ Differs) × IsContested n e lists)
+FailsAt n e lists fault = ((fault ≡ Missing) × ((i : ℕ) → IsNext n lists i → ⊥)) ⊎
+    ((fault ≡ Differs) × IsContested n e lists)
 
--- The lists, gone through with the history from number n on, fail first in this way: at the least number that no list
--- goes on with, that two do, or one with another event or reply; or receipts are left over.
+-- The lists, gone through with the history from number n on, fail first in this way: at the least number that
+-- no list goes on with, that two do, or one with another event or reply; or receipts are left over.
 abbrev pub FailsFrom : ℕ → List (Entry Global) → List (List Receipt) → SettleFault → Type 0
 FailsFrom n [] lists fault = (fault ≡ Differs) × (AreDone lists → ⊥)
-FailsFrom n (e ∷ history) lists fault = FailsAt n e lists fault ⊎ ((i : ℕ) × IsOnlyNext n e lists i × FailsFrom (n + 1) history (without lists i) fault)
+FailsFrom n (e ∷ history) lists fault = FailsAt n e lists fault ⊎
+    ((i : ℕ) × IsOnlyNext n e lists i × FailsFrom (n + 1) history (without lists i) fault)
 
 -- the lists go through with the history from number n on
 abbrev pub MergesFrom : ℕ → List (Entry Global) → List (List Receipt) → Type 0
 MergesFrom n [] lists = AreDone lists
-MergesFrom n (e ∷ history) lists = (i : ℕ) × IsOnlyNext n e lists i × MergesFrom (n + 1) history (without lists i)
+MergesFrom n (e ∷ history) lists = (i : ℕ) × IsOnlyNext n e lists i × MergesFrom (n + 1) history
+    (without lists i)
 
 -- what the settlement has still to find of a pass
 abbrev pub rest_of : PassValue → List Receipt

@@ -32,4 +32,5 @@ pub record IsAsBefore (old new : PassValue) : Type 0 where
 
 -- one receipt more, of what the pass's caller did
 abbrev pub HasCalled : Action Global → Reply → PassValue → PassValue → Type 0
-HasCalled what reply old new = (number : ℕ) × HasReceipt number (record { by = old.caller; what = what }) reply old new
+HasCalled what reply old new = (number : ℕ) × HasReceipt number (record { by = old.caller; what = what })
+    reply old new

@@ -3,8 +3,8 @@ use Rattle.std.specs.Prelude.{ℕ, ◌≡◌, List, length, All}
 use Rattle.hv_policy.specs.declared.event.Caller.{Caller}
 use Rattle.hv_shared.specs.declared.receipts.Receipt.{Receipt}
 
--- a caller, the receipts of its events, its share of the count, how many receipts the settlement has come past, at which number
--- it finds the next one, and how many more there is room for
+-- a caller, the receipts of its events, its share of the count, how many receipts the settlement has come
+-- past, at which number it finds the next one, and how many more there is room for
 pub record PassValue : Type 0 where
   pub caller : Caller
   pub receipts : List Receipt
@@ -13,7 +13,8 @@ pub record PassValue : Type 0 where
   pub due : ℕ
   pub room : ℕ
 
--- a pass has one part of the count, in which its receipts are counted, and each of them is of an event by its caller
+-- a pass has one part of the count, in which its receipts are counted, and each of them is of an event by its
+-- caller
 pub record IsPass (caller : Caller) (receipts : List Receipt) (parts amount : ℕ) : Type 0 where
   pub one : parts ≡ 1
   pub counted : amount ≡ length receipts

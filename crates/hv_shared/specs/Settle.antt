@@ -10,10 +10,11 @@ use Rattle.hv_shared.specs.declared.fault.SettleFault.{SettleFault}
 use Rattle.hv_shared.specs.declared.fault.SettleFault.TheVariants.{Differs}
 
 -- the history was kept on these terms, and is a merge of the lists
-pub record IsMadeOf (config : Config) (limit : ℕ) (kept : Kept Global) (lists : List (List Receipt)) : Type 0 where
-  pub same_config : kept.config ≡ config
-  pub same_limit : kept.limit ≡ limit
-  pub merge : IsMerge kept.history lists
+pub record IsMadeOf (config : Config) (limit : ℕ) (kept : Kept Global) (lists : List (List Receipt)) : Type 0
+  where
+    pub same_config : kept.config ≡ config
+    pub same_limit : kept.limit ≡ limit
+    pub merge : IsMerge kept.history lists
 
 -- the history was kept on other terms, or fails on these
 abbrev pub IsFault : Config → ℕ → Kept Global → List (List Receipt) → SettleFault → Type 0

@@ -206,7 +206,7 @@ impl<L: Ledger> Pass<L> {
 
 impl<L: Ledger> Held<L> {
     // A machine to which nothing happened yet, and a pass for each caller, in order. The blank has as many
-    // parts as there are callers. For want of memory the machine comes back.
+    // parts as there are callers. For out of memory the machine comes back.
     pub(crate) fn open(
         kept: Kept<Global>,
         blank: Blank,
@@ -254,7 +254,7 @@ impl<L: Ledger> Held<L> {
             pass.new) }
         ensures run { IsRun self.new.kept }
 
-        // A full history takes no event, before any rule. Else the host wants memory.
+        // A full history takes no event, before any rule. Else the host needs memory.
         ensures full { IsErrOf result HostRefused.HistoryFull
             ↔ (length self.old.kept.history ≡ self.old.kept.limit) }
         ensures refused { OnErr result (self.new ≡ self.old) }

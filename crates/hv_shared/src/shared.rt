@@ -44,7 +44,7 @@ impl<L: Ledger> Model for Shared<L> {
 
 impl<L: Ledger> Shared<L> {
     /// A lock round a machine to which nothing happened yet, and a pass for each caller, in order. The blank
-    /// has as many parts as there are callers. For want of memory the machine comes back.
+    /// has as many parts as there are callers. For out of memory the machine comes back.
     pub fn new(
         kept: Kept<Global>,
         blank: Blank,
@@ -72,8 +72,8 @@ impl<L: Ledger> Shared<L> {
         Ok((shared, opened))
     }
 
-    /// Lets the pass's caller do one thing, and keeps its receipt. Room for the receipt and a copy of the event
-    /// are made before the gate is asked.
+    /// Lets the pass's caller do one thing, and keeps its receipt. Room for the receipt and a copy of the
+    /// event are made before the gate is asked.
     // Inlined: messages in bench/largest.sh.
     #[inline(always)]
     pub fn call<R: Wait, G: Gate>(

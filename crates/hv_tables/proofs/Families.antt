@@ -25,14 +25,17 @@ row_then look target mask id =
 row_is : (f : Flat) (target mask id : ℕ) → get (property_set f target (Some PrivilegeFlags) mask) id ≡ row_then (get f.part) target mask id
 row_is f target mask id = by (is_running f target)
   where
-    by : (b : Bool) → get (if b then narrowed f target (of mask) else with_row f.part target (given (Some PrivilegeFlags) mask)) id ≡ (if b then option_map (λ row. if leads_within id (λ id. option_and_then (λ row. row.parent) (get f.part id)) target id then narrowed_row (of mask) row else row) (get f.part id) else cond (id == target) (option_map (given (Some PrivilegeFlags) mask) (get f.part target)) (get f.part id))
+    by : (b : Bool) → get (if b then narrowed f target (of mask) else with_row f.part target (given (Some PrivilegeFlags) mask)) id ≡
+        (if b then option_map (λ row. if leads_within id (λ id. option_and_then (λ row. row.parent) (get f.part id)) target id then narrowed_row (of mask) row else row) (get f.part id) else cond
+        (id == target) (option_map (given (Some PrivilegeFlags) mask) (get f.part target)) (get f.part id))
     by true = get-narrowed f target (of mask) id
     by false = get-with_row f.part target (given (Some PrivilegeFlags) mask) id
 
 abbrev rows_of : List (ℕ × Option ℕ × Life × ℕ) → List (ℕ × PartRow)
 rows_of rows = map (λ (id, parent, life, mask). (id, record (root_row (of mask)) { parent = parent; life = life })) rows
 
-pub masks_found : (rows : List (ℕ × Option ℕ × Life × ℕ)) (target mask : ℕ) (masks : List ℕ) → map (λ row. bits_of (mask_of (row_then (λ id. find nat_cmp id (rows_of rows)) target mask row.0))) rows ≡ masks → masks_line rows target mask ≡ masks
+pub masks_found : (rows : List (ℕ × Option ℕ × Life × ℕ)) (target mask : ℕ) (masks : List ℕ) → map (λ row. bits_of (mask_of (row_then (λ id. find nat_cmp id (rows_of rows)) target mask row.0))) rows ≡
+    masks → masks_line rows target mask ≡ masks
 unfolding masks_line
 masks_found rows target mask masks h =
     (λ k. map (λ row. bits_of (mask_of (row_is (family rows) target mask row.0 k))) rows)

@@ -22,7 +22,7 @@ use Rattle.hv_defs.specs.declared.registers.Takes.{Takes}
 use Rattle.hv_defs.specs.declared.registers.TheConstants.{REGISTERS, SCONTROL, SIEFP, SIMP}
 use Rattle.hv_defs.specs.declared.sizes.TheConstants.{FIRST_CHILD_ID}
 use Rattle.hv_privs.specs.Privileges.{bits_of, of}
-use Rattle.hv_policy.specs.Aim.{has_target, is_ready_for_flags, is_ready_for_messages, taker}
+use Rattle.hv_policy.specs.Aim.{has_target, is_ready_for_flags, is_ready_for_messages, select_vp}
 use Rattle.hv_policy.specs.Boot.{root_row}
 use Rattle.hv_policy.specs.Effect.{mask_of, property_set}
 use Rattle.hv_policy.specs.Flat.{Flat, VpRow}
@@ -51,10 +51,14 @@ lives states = filter (λ life. is_among life states) (Created ∷ Active ∷ Fi
 abbrev pub need_line : Call → ℕ × Kin × List Life
 need_line call = (bits_of (needs_of call).privilege, (needs_of call).kin, lives (needs_of call).states)
 
--- the numbers of the further rules, in whatever state and of whatever caller, the charge in pages, and whether it may want memory
--- of the host
+-- the numbers of the further rules, in whatever state and of whatever caller, the charge in pages, and
+-- whether it may need memory of the host
 abbrev pub rules_line : Flat → ℕ → Call → List ℕ × ℕ × Bool
-rules_line f caller call = (map rule_number (rules_of (further_asks f caller call)), charge_of call, takes_memory (kind_of_call call))
+rules_line f caller call = (
+  map rule_number (rules_of (further_asks f caller call)),
+  charge_of call,
+  takes_memory (kind_of_call call),
+)
 
 -- the numbers of the rules that an access is asked beside its caller's
 abbrev pub asked_line : Flat → ℕ → Action (Unit {0}) → List ℕ
@@ -72,9 +76,11 @@ rule_line rule call = (rule_number rule, rule_name rule, option_map status_code 
 abbrev pub status_line : Status → ℕ × List ℕ
 status_line status = (status_code status, status_name status)
 
--- a register's number as an MSR, the bits of the privilege that its access needs, and which values it takes, by its name
+-- a register's number as an MSR, the bits of the privilege that its access needs, and which values it takes,
+-- by its name
 abbrev pub access_line : ℕ → Option (Option ℕ × ℕ × Takes)
-access_line name = option_map (λ row. (row.msr, row.privilege, row.takes)) (find (λ row. row.name == name) REGISTERS)
+access_line name = option_map (λ row. (row.msr, row.privilege, row.takes))
+    (find (λ row. row.name == name) REGISTERS)
 
 -- a frame with these registers and without bytes of input
 abbrev pub bare_frame : ℕ → ℕ → ℕ → Frame (Unit {0})
@@ -95,7 +101,8 @@ flags_line flags sint = flag_bytes (from_list flags) sint
 -- a state of these partitions alone, by id, parent, life state and mask
 abbrev pub family : List (ℕ × Option ℕ × Life × ℕ) → Flat
 family rows = record {
-  part = from_entries (map (λ (id, parent, life, mask). (id, record (root_row (of mask)) { parent = parent; life = life })) rows);
+  part = from_entries (map (λ (id, parent, life, mask).
+      (id, record (root_row (of mask)) { parent = parent; life = life })) rows);
   page = empty;
   vp = empty;
   port = empty;
@@ -108,18 +115,26 @@ family rows = record {
 -- the masks of these partitions, in their order, once one of them was given a mask
 unfoldable pub masks_line : List (ℕ × Option ℕ × Life × ℕ) → ℕ → ℕ → List ℕ
 masks_line rows target mask =
-    map (λ row. bits_of (mask_of (get (property_set (family rows) target (Some PrivilegeFlags) mask) row.0))) rows
+    map (λ row. bits_of (mask_of (get (property_set (family rows) target (Some PrivilegeFlags) mask) row.0)))
+    rows
 
--- processors by partition, index, SCONTROL, SIEFP and SIMP: of partition 2 the first takes neither messages nor event
--- flags, then one event flags, one messages, and two both; of partition 3 there is one, whose SCONTROL has bit 0 clear
+-- processors by partition, index, SCONTROL, SIEFP and SIMP: of partition 2 the first takes neither messages
+-- nor event flags, then one event flags, one messages, and two both; of partition 3 there is one, whose
+-- SCONTROL has bit 0 clear
 abbrev pub staff : List (ℕ × ℕ × ℕ × ℕ × ℕ)
 staff =
-    (1, 0, 1, 1, 1) ∷ (2, 0, 0, 1, 1) ∷ (2, 1, 1, 1, 0) ∷ (2, 4, 1, 0x3000, 0x3001) ∷ (2, 5, 1, 1, 1) ∷ (2, 6, 1, 1, 1)
+    (1, 0, 1, 1, 1) ∷ (2, 0, 0, 1, 1) ∷ (2, 1, 1, 1, 0) ∷ (2, 4, 1, 0x3000, 0x3001) ∷ (2, 5, 1, 1, 1) ∷
+    (2, 6, 1, 1, 1)
     ∷ (3, 0, 0xFE, 1, 1) ∷ []
 
 abbrev pub vp_with : ℕ → ℕ → ℕ → VpRow
 vp_with scontrol siefp simp =
-    record { registers = from_entries ((SCONTROL, scontrol) ∷ (SIEFP, siefp) ∷ (SIMP, simp) ∷ []); flags = set.empty; pending = set.empty }
+    record {
+      registers = from_entries ((SCONTROL, scontrol) ∷ (SIEFP, siefp) ∷ (SIMP, simp) ∷ []);
+      flags =
+          set.empty;
+      pending = set.empty;
+    }
 
 abbrev pub vps_of : List (ℕ × ℕ × ℕ × ℕ × ℕ) → List ((ℕ × ℕ) × VpRow)
 vps_of rows = map (λ (part, vp, scontrol, siefp, simp). ((part, vp), vp_with scontrol siefp simp)) rows
@@ -130,7 +145,11 @@ staffed rows = record (family []) { vp = from_entries (vps_of rows) }
 
 -- the processors that take a message and an event flag which come to a port of a partition with this aim
 unfoldable pub takers_line : List (ℕ × ℕ × ℕ × ℕ × ℕ) → ℕ → Aim → Option ℕ × Option ℕ
-takers_line rows id aim = (taker is_ready_for_messages (staffed rows) id aim, taker is_ready_for_flags (staffed rows) id aim)
+takers_line rows id aim = (
+  select_vp is_ready_for_messages (staffed rows) id aim,
+  select_vp is_ready_for_flags
+      (staffed rows) id aim,
+)
 
 -- and whether P19 is met for that aim
 unfoldable pub is_target_line : List (ℕ × ℕ × ℕ × ℕ × ℕ) → ℕ → Aim → Bool

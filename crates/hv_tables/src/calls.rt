@@ -8,7 +8,7 @@ ghost use Rattle.hv_calls.specs.declared.call.Call.TheVariants as call;
 ghost use Rattle.hv_defs.specs.declared.aim.Aim.{Aim};
 ghost use Rattle.hv_defs.specs.declared.life.Life.TheVariants.{Created, Active, Finalized};
 ghost use Rattle.hv_defs.specs.declared.port_kind.PortKind.{PortKind};
-ghost use Rattle.hv_policy.specs.Needs.{target_of, meant_id};
+ghost use Rattle.hv_policy.specs.Needs.{target_of, resolved_id};
 ghost use Rattle.hv_policy.specs.Flat.{Flat};
 ghost use Rattle.hv_policy.specs.Property.{property_of};
 ghost use Rattle.hv_policy.specs.Met.{is_kin, is_child};
@@ -148,7 +148,7 @@ pub fn each_kin_has_its_partitions()
 {}
 
 /// The further rules of each call by their numbers, whatever its parameters, its caller and the state;
-/// its charge in pages, and whether it may want memory of the host.
+/// its charge in pages, and whether it may need memory of the host.
 pub fn each_call_has_its_rules()
     ensures create_partition { (f : Flat) (caller flags : ℕ)
         → rules_line f caller (call.CreatePartition flags) ≡ (14 ∷ 24 ∷ [], 2, true) }
@@ -204,49 +204,49 @@ pub fn each_call_has_its_rules()
 /// The target of each call: the caller, or the partition that a parameter names, where all ones is the
 /// caller's own id.
 pub fn each_call_has_its_target()
-    ensures all_ones { (caller : ℕ) → meant_id caller 18446744073709551615 ≡ caller }
-    ensures another_id { (caller id : ℕ) → ¬ (id ≡ 18446744073709551615) → meant_id caller id ≡ id }
+    ensures all_ones { (caller : ℕ) → resolved_id caller 18446744073709551615 ≡ caller }
+    ensures another_id { (caller id : ℕ) → ¬ (id ≡ 18446744073709551615) → resolved_id caller id ≡ id }
     ensures create_partition { (caller flags : ℕ) → target_of (call.CreatePartition flags) caller ≡ caller }
     ensures initialize_partition { (caller partition : ℕ)
-        → target_of (call.InitializePartition partition) caller ≡ meant_id caller partition }
+        → target_of (call.InitializePartition partition) caller ≡ resolved_id caller partition }
     ensures finalize_partition { (caller partition : ℕ)
-        → target_of (call.FinalizePartition partition) caller ≡ meant_id caller partition }
+        → target_of (call.FinalizePartition partition) caller ≡ resolved_id caller partition }
     ensures delete_partition { (caller partition : ℕ) → target_of (call.DeletePartition partition) caller
-        ≡ meant_id caller partition }
+        ≡ resolved_id caller partition }
     ensures get_partition_property { (caller partition code : ℕ)
-        → target_of (call.GetPartitionProperty partition code) caller ≡ meant_id caller partition }
+        → target_of (call.GetPartitionProperty partition code) caller ≡ resolved_id caller partition }
     ensures set_partition_property { (caller partition code value : ℕ)
-        → target_of (call.SetPartitionProperty partition code value) caller ≡ meant_id caller partition }
+        → target_of (call.SetPartitionProperty partition code value) caller ≡ resolved_id caller partition }
     ensures get_partition_id { (caller : ℕ) → target_of call.GetPartitionId caller ≡ caller }
     ensures get_next_child_partition { (caller partition previous : ℕ)
-        → target_of (call.GetNextChildPartition partition previous) caller ≡ meant_id caller partition }
+        → target_of (call.GetNextChildPartition partition previous) caller ≡ resolved_id caller partition }
     ensures deposit_memory { (caller partition page : ℕ)
-        → target_of (call.DepositMemory partition page) caller ≡ meant_id caller partition }
+        → target_of (call.DepositMemory partition page) caller ≡ resolved_id caller partition }
     ensures withdraw_memory { (caller partition : ℕ) → target_of (call.WithdrawMemory partition) caller
-        ≡ meant_id caller partition }
+        ≡ resolved_id caller partition }
     ensures get_memory_balance { (caller partition : ℕ) → target_of (call.GetMemoryBalance partition) caller
-        ≡ meant_id caller partition }
+        ≡ resolved_id caller partition }
     ensures create_vp { (caller partition vp : ℕ) → target_of (call.CreateVp partition vp) caller
-        ≡ meant_id caller partition }
+        ≡ resolved_id caller partition }
     ensures delete_vp { (caller partition vp : ℕ) → target_of (call.DeleteVp partition vp) caller
-        ≡ meant_id caller partition }
+        ≡ resolved_id caller partition }
     ensures get_vp_registers { (caller partition vp name : ℕ)
-        → target_of (call.GetVpRegisters partition vp name) caller ≡ meant_id caller partition }
+        → target_of (call.GetVpRegisters partition vp name) caller ≡ resolved_id caller partition }
     ensures set_vp_registers { (caller partition vp name value : ℕ)
-        → target_of (call.SetVpRegisters partition vp name value) caller ≡ meant_id caller partition }
+        → target_of (call.SetVpRegisters partition vp name value) caller ≡ resolved_id caller partition }
     ensures delete_port { (caller partition port : ℕ) → target_of (call.DeletePort partition port) caller
-        ≡ meant_id caller partition }
+        ≡ resolved_id caller partition }
     ensures disconnect_port { (caller partition connection : ℕ)
-        → target_of (call.DisconnectPort partition connection) caller ≡ meant_id caller partition }
+        → target_of (call.DisconnectPort partition connection) caller ≡ resolved_id caller partition }
     ensures post_message { (caller connection message_type : ℕ) (payload : List ℕ)
         → target_of (call.PostMessage connection message_type payload) caller ≡ caller }
     ensures signal_event { (caller connection flag : ℕ)
         → target_of (call.SignalEvent connection flag) caller ≡ caller }
     ensures create_port { (caller partition port peer : ℕ) (port_kind : PortKind) (sint : ℕ) (vp : Aim)
         (base count : ℕ) → target_of (call.CreatePort partition port peer port_kind sint vp base count) caller
-        ≡ meant_id caller partition }
+        ≡ resolved_id caller partition }
     ensures connect_port { (caller partition connection port_partition port : ℕ)
         (port_kind : PortKind)
         → target_of (call.ConnectPort partition connection port_partition port port_kind) caller
-        ≡ meant_id caller partition }
+        ≡ resolved_id caller partition }
 {}

@@ -33,8 +33,8 @@ pub fn each_target_has_its_aim()
 {}
 
 /// The processor of a port's partition that takes a message, and the one that takes an event flag, by the
-/// partition, index, SCONTROL, SIEFP and SIMP of each processor that there is: of partition 2 processor 0 takes
-/// neither, 1 event flags, 4 messages, 5 and 6 both.
+/// partition, index, SCONTROL, SIEFP and SIMP of each processor that there is: of partition 2 processor 0
+/// takes neither, 1 event flags, 4 messages, 5 and 6 both.
 pub fn each_aim_has_its_takers()
     ensures any { takers_line staff 2 Any ≡ (Some 4, Some 1) }
     ensures any_without_processors { takers_line staff 4 Any ≡ (None, None) }

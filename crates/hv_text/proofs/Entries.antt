@@ -24,7 +24,8 @@ module _ {A : Type 0} where
   whole entries =
       ended (entries_text 1 entries) (codes "events ") (decimal (length entries)) (codes "\n") ∙ ap (λ t. t ++ end_of entries) (joined-lines 1 entries)
 
-  at : (number : ℕ) (entries : List (Entry A)) (i : ℕ) (entry : Entry A) → slice_get entries i ≡ Some entry → slice_get (lines_from number entries) i ≡ Some (entry_text (number + i) entry ++ codes "\n")
+  at : (number : ℕ) (entries : List (Entry A)) (i : ℕ) (entry : Entry A) → slice_get entries i ≡ Some entry → slice_get (lines_from number entries) i ≡ Some
+      (entry_text (number + i) entry ++ codes "\n")
   at number [] i entry is = absurd (cc)
   at number (first ∷ entries) zero entry is =
       let same : first ≡ entry = cc in

@@ -13,9 +13,9 @@ use Rattle.std.specs.Ordering.{eq_by_cmp, is_lt, nat_cmp}
 use Rattle.hv_defs.proofs.Counts.{both_parts, count_by-set, less_apart, passes}
 use Rattle.hv_partition.specs.Partition.{PartitionState}
 use Rattle.hv_policy.specs.Flat.{Flat, PageRow, PartRow}
-use Rattle.hv_tie.proofs.Counted.{conns_counted, pool_counted, ports_counted, use_counted, vps_counted}
-use Rattle.hv_tie.proofs.Held.{held_by_owner}
-use Rattle.hv_tie.specs.Tie.{IsTied, holds, is_held, part_row}
+use Rattle.hv_refine.proofs.Counted.{conns_counted, pool_counted, ports_counted, use_counted, vps_counted}
+use Rattle.hv_refine.proofs.Held.{held_by_owner}
+use Rattle.hv_refine.specs.Tie.{Refines, holds, is_held, part_row}
 use Rattle.hv_tree.specs.Rows.{Row, Rows, children}
 use Rattle.hv_text.specs.Rows.{kept_counts, pages_in, row_line, rows_text}
 use Rattle.hv_text.specs.Table.{Line, counts_of, loose_count, table_text, text_of}
@@ -135,7 +135,7 @@ below-lacks (e ∷ es) k h =
     let apart : k == e.0 ≡ false = sym (unsigned_tied k e.0) ∙ less_apart (nat_cmp k e.0) parts.0 in
     ap (λ b. b || has_key es k) apart ∙ below-lacks es k parts.1
 
-module _ (tree : Rows PartitionState) (f : Flat) (flat : IsTied tree f) where
+module _ (tree : Rows PartitionState) (f : Flat) (flat : Refines tree f) where
   -- the loose pages of a partition, counted over all pages
   loose_test : (id q : ℕ) (page : Option PageRow) → passes (λ e. (e.1.owner == id) && not e.1.pooled) q page ≡ is_held id false page
   loose_test id q None = refl

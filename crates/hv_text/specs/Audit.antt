@@ -5,7 +5,8 @@ use Rattle.hex.specs.Hex.{encode_lower}
 use Rattle.hv_policy.specs.Result.{result_of}
 use Rattle.hv_policy.specs.Rule.{rule_name}
 use Rattle.hv_policy.specs.declared.event.Action.{Action}
-use Rattle.hv_policy.specs.declared.event.Action.TheVariants.{Hypercall, ReadMsr, WriteMsr, ReadSlot, ClearSlot, ReadFlags, ClearFlag, TakeInterrupt}
+use Rattle.hv_policy.specs.declared.event.Action.TheVariants.{Hypercall, ReadMsr, WriteMsr, ReadSlot}
+use Rattle.hv_policy.specs.declared.event.Action.TheVariants.{ClearSlot, ReadFlags, ClearFlag, TakeInterrupt}
 use Rattle.hv_policy.specs.declared.event.Caller.{Caller}
 use Rattle.hv_policy.specs.declared.reply.Reply.{Reply}
 use Rattle.hv_policy.specs.declared.reply.Reply.TheVariants.{Served, More, Denied, Fault}
@@ -51,20 +52,25 @@ result_text TakeInterrupt reply = []
 
 -- how it was answered
 abbrev pub reply_text : {A : Type 0} → Action A → Reply → List ℕ
-reply_text what (Served output) = codes "ok" ++ result_text what (Served output) ++ codes " " ++ output_text output
-reply_text what (More next output) = codes "more" ++ result_text what (More next output) ++ codes " " ++ output_text output
-reply_text what (Denied rule status reps) = codes "denied" ++ result_text what (Denied rule status reps) ++ codes " " ++ rule_name rule
+reply_text what (Served output) = codes "ok" ++ result_text what (Served output) ++ codes " " ++ output_text
+    output
+reply_text what (More next output) = codes "more" ++ result_text what (More next output) ++ codes " " ++
+    output_text output
+reply_text what (Denied rule status reps) = codes "denied" ++ result_text what (Denied rule status reps) ++
+    codes " " ++ rule_name rule
 reply_text what (Fault rule) = codes "fault " ++ rule_name rule
 
 -- the line of an event with its number, without its line feed
 unfoldable pub entry_text : {A : Type 0} → ℕ → Entry A → List ℕ
 entry_text number entry =
-    decimal number ++ codes " " ++ caller_text entry.event.by ++ codes " " ++ what_text entry.event.what ++ codes " " ++ reply_text entry.event.what entry.reply
+    decimal number ++ codes " " ++ caller_text entry.event.by ++ codes " " ++ what_text entry.event.what ++
+    codes " " ++ reply_text entry.event.what entry.reply
 
 -- the lines of events, of which the first has this number, each with its line feed
 abbrev pub entries_text : {A : Type 0} → ℕ → List (Entry A) → List ℕ
 entries_text number [] = []
-entries_text number (entry ∷ entries) = entry_text number entry ++ codes "\n" ++ entries_text (number + 1) entries
+entries_text number (entry ∷ entries) = entry_text number entry ++ codes "\n" ++ entries_text (number + 1)
+    entries
 
 -- the audit: a line for each event, numbered from 1, and then how many there are
 unfoldable pub audit_text : {A : Type 0} → List (Entry A) → List ℕ

@@ -4,12 +4,13 @@ use Rattle.std.specs.Io.KnownBytes.{Appends, Keeps}
 use Rattle.hv_text.specs.declared.fault.PrintFault.{PrintFault}
 use Rattle.hv_text.specs.declared.fault.PrintFault.TheVariants.{Memory, Write}
 
--- as many of the first bytes as the fault tells went out, and not all; for want of memory none did
+-- as many of the first bytes as the fault tells went out, and not all; for lack of memory none did
 abbrev pub IsCut : Option (List ℕ) → Option (List ℕ) → List ℕ → PrintFault → Type 0
 IsCut old new text (Write written) = Appends old new (take written text) × (written < length text)
 IsCut old new text Memory = Keeps old new
 
 -- the same of a part of a text before which so many bytes went out, which are counted with it
 abbrev pub IsCutAfter : ℕ → Option (List ℕ) → Option (List ℕ) → List ℕ → PrintFault → Type 0
-IsCutAfter before old new part (Write written) = Appends old new (take (written - before) part) × (before ≤ written) × (written < before + length part)
+IsCutAfter before old new part (Write written) = Appends old new (take (written - before) part) ×
+    (before ≤ written) × (written < before + length part)
 IsCutAfter before old new part Memory = ⊥

@@ -1,5 +1,6 @@
 -- The bytes of a table.
-use Rattle.std.specs.Prelude.{ℕ, ◌==◌, ◌&&◌, not, List, [], ◌∷◌, ◌++◌, map, codes, decimal, count_by, Option, None, Some}
+use Rattle.std.specs.Prelude.{ℕ, ◌==◌, ◌&&◌, not, List, [], ◌∷◌, ◌++◌, map, codes, decimal, count_by, Option}
+use Rattle.std.specs.Prelude.{None, Some}
 use Rattle.std.specs.FinMap.{entries, len}
 use Rattle.hv_defs.specs.declared.life.Life.{Life}
 use Rattle.hv_defs.specs.declared.life.Life.TheVariants.{Created, Active, Finalized}
@@ -18,7 +19,8 @@ life_text Created = codes "Created"
 life_text Active = codes "Active"
 life_text Finalized = codes "Finalized"
 
--- how many loose and pooled pages a partition has, how many pages it uses, and how many processors, ports and connections it has
+-- how many loose and pooled pages a partition has, how many pages it uses, and how many processors, ports and
+-- connections it has
 pub record Counts : Type 0 where
   pub loose : ℕ
   pub pooled : ℕ
@@ -30,10 +32,13 @@ pub record Counts : Type 0 where
 -- the line of the partition with this id, without its line feed
 unfoldable pub partition_text : ℕ → PartRow → Counts → List ℕ
 partition_text id row counts =
-    codes "partition " ++ decimal id ++ codes " parent " ++ parent_text row.parent ++ codes " " ++ life_text row.life
+    codes "partition " ++ decimal id ++ codes " parent " ++ parent_text row.parent ++ codes " " ++ life_text
+    row.life
     ++ codes " mask " ++ hex_64 (bits_of row.mask)
-    ++ codes " loose " ++ decimal counts.loose ++ codes " pooled " ++ decimal counts.pooled ++ codes " inuse " ++ decimal counts.in_use
-    ++ codes " vps " ++ decimal counts.vps ++ codes " ports " ++ decimal counts.ports ++ codes " connections " ++ decimal counts.conns
+    ++ codes " loose " ++ decimal counts.loose ++ codes " pooled " ++ decimal counts.pooled ++ codes " inuse "
+    ++ decimal counts.in_use
+    ++ codes " vps " ++ decimal counts.vps ++ codes " ports " ++ decimal counts.ports ++ codes " connections "
+    ++ decimal counts.conns
 
 -- a partition as a line shows it: its id, its row and its counts
 abbrev pub Line : Type 0

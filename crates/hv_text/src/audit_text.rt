@@ -16,7 +16,7 @@ ghost use Rattle.hv_text.specs.declared.text.TheConstants.{LINE, MOST_DIGITS};
 use crate::fault::PrintFault;
 use crate::put::put;
 use crate::text::{MOST_DIGITS, Text};
-use hv_history::{Answer, Asked, EntryRef, History, Kept};
+use hv_history::{Answer, EntryRef, History, Kept, Request};
 use hv_policy::{Caller, Rule, result_value};
 use std::alloc::Allocator;
 use std::io::Write;
@@ -115,30 +115,30 @@ fn push_caller(line: &mut Text, by: Caller)
 }
 
 // What an event asked for. The bytes of its input aren't shown.
-fn push_asked<A: Allocator>(line: &mut Text, asked: Asked, input: &[u8])
+fn push_asked<A: Allocator>(line: &mut Text, asked: Request, input: &[u8])
     requires { length line.old + ASKED ≤ LINE }
     ensures text { line.new ≡ line.old ++ what_text (action_of {A = A} asked input.now) }
     ensures most { length (what_text (action_of {A = A} asked input.now)) ≤ ASKED }
 {
     match asked {
-        Asked::Hypercall { rcx, .. } => {
+        Request::Hypercall { rcx, .. } => {
             line.push_text(b"call ");
             line.push_hex_64(rcx);
         }
-        Asked::ReadMsr(msr) => push_named_32(line, b"rdmsr ", msr),
-        Asked::WriteMsr(msr, value) => {
+        Request::ReadMsr(msr) => push_named_32(line, b"rdmsr ", msr),
+        Request::WriteMsr(msr, value) => {
             push_named_32(line, b"wrmsr ", msr);
             line.push_text(b" ");
             line.push_hex_64(value);
         }
-        Asked::ReadSlot(sint) => push_named(line, b"slot ", u64::from(sint)),
-        Asked::ClearSlot(sint) => push_named(line, b"clearslot ", u64::from(sint)),
-        Asked::ReadFlags(sint) => push_named(line, b"flags ", u64::from(sint)),
-        Asked::ClearFlag(sint, flag) => {
+        Request::ReadSlot(sint) => push_named(line, b"slot ", u64::from(sint)),
+        Request::ClearSlot(sint) => push_named(line, b"clearslot ", u64::from(sint)),
+        Request::ReadFlags(sint) => push_named(line, b"flags ", u64::from(sint)),
+        Request::ClearFlag(sint, flag) => {
             push_named(line, b"clearflag ", u64::from(sint));
             push_named(line, b" ", u64::from(flag));
         }
-        Asked::TakeInterrupt => line.push_text(b"interrupt"),
+        Request::TakeInterrupt => line.push_text(b"interrupt"),
     }
 }
 
@@ -208,17 +208,17 @@ fn push_result<A: Allocator>(line: &mut Text, entry: &EntryRef<'_>)
         (reply_of entry.now.answer entry.now.output.now)) ≤ RESULT }
 {
     match entry.asked {
-        Asked::Hypercall { rcx, .. } => {
+        Request::Hypercall { rcx, .. } => {
             line.push_text(b" ");
             line.push_hex_64(result_value::<A>(rcx, entry.answer).bits());
         }
-        Asked::ReadMsr(_)
-        | Asked::WriteMsr(_, _)
-        | Asked::ReadSlot(_)
-        | Asked::ClearSlot(_)
-        | Asked::ReadFlags(_)
-        | Asked::ClearFlag(_, _)
-        | Asked::TakeInterrupt => {}
+        Request::ReadMsr(_)
+        | Request::WriteMsr(_, _)
+        | Request::ReadSlot(_)
+        | Request::ClearSlot(_)
+        | Request::ReadFlags(_)
+        | Request::ClearFlag(_, _)
+        | Request::TakeInterrupt => {}
     }
 }
 

@@ -25,8 +25,8 @@ impl Scratch {
 }
 
 /// Puts the audit's line of an event with its number and its reply, with its line feed, at the start of a
-/// buffer of [`LINE`] bytes or more, and answers how many bytes it has. It takes no memory, and what stands in
-/// the room doesn't matter.
+/// buffer of [`LINE`] bytes or more, and answers how many bytes it has. It takes no memory, and what stands
+/// in the room doesn't matter.
 pub fn audit_line<A: Allocator>(
     scratch: &mut Scratch,
     buffer: &mut [u8],

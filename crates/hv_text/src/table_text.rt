@@ -8,7 +8,7 @@ ghost use Rattle.hv_machine.specs.IsFlat.{IsFlat};
 ghost use Rattle.hv_partition.specs.Partition.{PartitionState, in_use};
 ghost use Rattle.hv_policy.specs.Flat.{Flat};
 ghost use Rattle.hv_privs.specs.Privileges.{bits_of};
-ghost use Rattle.hv_tie.specs.Tie.{part_row};
+ghost use Rattle.hv_refine.specs.Tie.{part_row};
 ghost use Rattle.hv_tree.specs.Rows.{Row, children};
 ghost use Rattle.hv_text.specs.Audit.{hex_64};
 ghost use Rattle.hv_text.specs.Fault.{IsCut};
@@ -24,7 +24,7 @@ use hv_defs::Life;
 use hv_history::Kept;
 use hv_machine::Machine;
 use hv_partition::{PageKind, Partition};
-use hv_tie::Partitions;
+use hv_refine::Partitions;
 use std::alloc::Allocator;
 use std::io::Write;
 

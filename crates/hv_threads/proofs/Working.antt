@@ -26,7 +26,8 @@ pub record IsWorking {L : Type 0} (work : Work L) (pass : PassValue) (done : ℕ
   pub gained : HasReceipts whole work.pass pass
 
 -- one action more that came to its end
-pub whole-push : (by : Caller) (did : List (Action Global)) (list : List Receipt) (what : Action Global) (own : List Receipt) → AreWhole by did list → IsWhole by what own → AreWhole by (did ++ what ∷ []) (list ++ own)
+pub whole-push : (by : Caller) (did : List (Action Global)) (list : List Receipt) (what : Action Global) (own : List Receipt) → AreWhole by did list → IsWhole by what own → AreWhole by
+    (did ++ what ∷ []) (list ++ own)
 whole-push by [] list what own is whole = (own, [], ap (λ (l : List Receipt). l ++ own) is ∙ sym (append-nil own), whole, refl)
 whole-push by (x ∷ did) list what own is whole =
     (is.0, is.1 ++ own, ap (λ (l : List Receipt). l ++ own) is.2 ∙ append_assoc is.0 is.1 own, is.3, whole-push by did is.1 what own is.4 whole)
@@ -39,42 +40,43 @@ pub fresh : {L : Type 0} (work : Work L) (left : List (Action Global)) → left 
 fresh work left is back =
     record { did = []; whole = []; in_order = back; count = refl; are_whole = refl; gained = gained-none work.pass }
 
-module _ {L : Type 0} (work : Work L) (mid new : PassValue) (done : ℕ) (all left : List (Action Global)) (what : Action Global) (working : IsWorking work mid done all) (last : all ≡ left ++ what ∷ []) where
-  in_order : working.did ++ what ∷ reverse left ≡ work.actions.items
-  in_order = ap (λ (l : List (Action Global)). working.did ++ l) (sym (ap reverse last ∙ reverse-append left (what ∷ []))) ∙ working.in_order
+module _ {L : Type 0} (work : Work L) (mid new : PassValue) (done : ℕ) (all left : List (Action Global)) (what : Action Global) (working : IsWorking work mid done all) (last : all ≡ left ++ what ∷ [])
+  where
+    in_order : working.did ++ what ∷ reverse left ≡ work.actions.items
+    in_order = ap (λ (l : List (Action Global)). working.did ++ l) (sym (ap reverse last ∙ reverse-append left (what ∷ []))) ∙ working.in_order
 
-  -- one action more
-  pub goes_on : HasPerformed what mid new → IsWorking work new (done + 1) left
-  goes_on performed =
-      let same = working.gained.caller in
-      record {
-        did = working.did ++ what ∷ [];
-        whole = working.whole ++ performed.more;
-        in_order = append_assoc working.did (what ∷ []) (reverse left) ∙ in_order;
-        count = let c = working.count in omega (arith, length-append working.did (what ∷ []));
-        are_whole = whole-push work.pass.caller working.did working.whole what performed.more working.are_whole (subst (λ (by : Caller). IsWhole by what performed.more) same performed.whole);
-        gained = gained-twice working.whole performed.more work.pass mid new working.gained performed.gained;
-      }
+    -- one action more
+    pub goes_on : HasPerformed what mid new → IsWorking work new (done + 1) left
+    goes_on performed =
+        let same = working.gained.caller in
+        record {
+          did = working.did ++ what ∷ [];
+          whole = working.whole ++ performed.more;
+          in_order = append_assoc working.did (what ∷ []) (reverse left) ∙ in_order;
+          count = let c = working.count in omega (arith, length-append working.did (what ∷ []));
+          are_whole = whole-push work.pass.caller working.did working.whole what performed.more working.are_whole (subst (λ (by : Caller). IsWhole by what performed.more) same performed.whole);
+          gained = gained-twice working.whole performed.more work.pass mid new working.gained performed.gained;
+        }
 
-  -- the host refused it
-  pub stops : (why : HostRefused) → HasBegun what mid new → IsDone work new done (Host why)
-  stops why begun =
-      let same = working.gained.caller in
-      record {
-        more = working.whole ++ begun.more;
-        account = record {
-          did = working.did;
-          left = what ∷ reverse left;
-          whole = working.whole;
-          part = begun.more;
-          in_order = in_order;
-          count = working.count;
-          are_whole = working.are_whole;
-          ended = subst (λ (by : Caller). IsStopped by what begun.more) same begun.stopped;
-          all = refl;
-        };
-        gained = gained-twice working.whole begun.more work.pass mid new working.gained begun.gained;
-      }
+    -- the host refused it
+    pub stops : (why : HostRefused) → HasBegun what mid new → IsDone work new done (Host why)
+    stops why begun =
+        let same = working.gained.caller in
+        record {
+          more = working.whole ++ begun.more;
+          account = record {
+            did = working.did;
+            left = what ∷ reverse left;
+            whole = working.whole;
+            part = begun.more;
+            in_order = in_order;
+            count = working.count;
+            are_whole = working.are_whole;
+            ended = subst (λ (by : Caller). IsStopped by what begun.more) same begun.stopped;
+            all = refl;
+          };
+          gained = gained-twice working.whole begun.more work.pass mid new working.gained begun.gained;
+        }
 
 -- every action came to its end
 pub ends : {L : Type 0} (work : Work L) (pass : PassValue) (done : ℕ) (left : List (Action Global)) → IsWorking work pass done left → left ≡ [] → IsDone work pass done Finished

@@ -3,7 +3,8 @@ use Rattle.std.specs.Prelude.{ℕ, ◌≡◌, List, [], ◌∷◌, ◌++◌}
 use Rattle.std.specs.declared.alloc.Global.{Global}
 use Rattle.hv_abi.specs.declared.frame.Frame.{Frame}
 use Rattle.hv_policy.specs.declared.event.Action.{Action}
-use Rattle.hv_policy.specs.declared.event.Action.TheVariants.{Hypercall, ReadMsr, WriteMsr, ReadSlot, ClearSlot, ReadFlags, ClearFlag, TakeInterrupt}
+use Rattle.hv_policy.specs.declared.event.Action.TheVariants.{Hypercall, ReadMsr, WriteMsr, ReadSlot}
+use Rattle.hv_policy.specs.declared.event.Action.TheVariants.{ClearSlot, ReadFlags, ClearFlag, TakeInterrupt}
 use Rattle.hv_policy.specs.declared.event.Caller.{Caller}
 use Rattle.hv_policy.specs.declared.reply.Reply.{Reply}
 use Rattle.hv_shared.specs.Drive.{AreElements, IsWholeCall}
@@ -53,7 +54,8 @@ IsStopped by TakeInterrupt list = list ≡ []
 -- the receipts of these actions, one after another, each to its end
 abbrev pub AreWhole : Caller → List (Action Global) → List Receipt → Type 0
 AreWhole by [] list = list ≡ []
-AreWhole by (what ∷ more) list = (own : List Receipt) × (rest : List Receipt) × (list ≡ own ++ rest) × IsWhole by what own × AreWhole by more rest
+AreWhole by (what ∷ more) list = (own : List Receipt) × (rest : List Receipt) × (list ≡ own ++ rest) × IsWhole
+    by what own × AreWhole by more rest
 
 -- the pass has the receipts more of an action that came to its end
 pub record HasPerformed (what : Action Global) (old new : PassValue) : Type 0 where

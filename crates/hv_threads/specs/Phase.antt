@@ -13,15 +13,17 @@ use Rattle.hv_threads.specs.declared.phase.End.TheVariants.{Finished, Host}
 use Rattle.hv_threads.specs.declared.phase.Task.{Task}
 use Rattle.hv_threads.specs.declared.phase.Work.{Work}
 
--- what is left of the actions, and the receipts of the first of them: nothing is left, or the host stopped the first that is
--- left
+-- what is left of the actions, and the receipts of the first of them: nothing is left, or the host stopped
+-- the first that is left
 abbrev pub HasEnded : Caller → End → List (Action Global) → List Receipt → Type 0
 HasEnded by Finished left part = (left ≡ []) × (part ≡ [])
 HasEnded by (Host why) [] part = ⊥
 HasEnded by (Host why) (what ∷ more) part = IsStopped by what part
 
--- the receipts of so many of these actions, in order, each by this caller; and of a part of the next, where the host stopped
-pub record IsAccount (by : Caller) (actions : List (Action Global)) (done : ℕ) (end : End) (list : List Receipt) : Type 0 where
+-- the receipts of so many of these actions, in order, each by this caller; and of a part of the next, where
+-- the host stopped
+pub record IsAccount (by : Caller) (actions : List (Action Global)) (done : ℕ) (end : End)
+    (list : List Receipt) : Type 0 where
   pub did : List (Action Global)
   pub left : List (Action Global)
   pub whole : List Receipt
@@ -48,4 +50,5 @@ done_of task = record { pass = task.work.pass; done = task.done; end = task.end 
 -- one for each work, in order
 pub record EachDone {L : Type 0} (works : List (Work L)) (dones : List (Done L)) : Type 0 where
   pub count : length dones ≡ length works
-  pub each : (i : ℕ) (w : Work L) (d : Done L) → i < length works → IsDone (slice_index_or works i w) (slice_index_or dones i d).pass (slice_index_or dones i d).done (slice_index_or dones i d).end
+  pub each : (i : ℕ) (w : Work L) (d : Done L) → i < length works → IsDone (slice_index_or works i w)
+      (slice_index_or dones i d).pass (slice_index_or dones i d).done (slice_index_or dones i d).end

@@ -38,7 +38,7 @@ pub struct Done<L: Ledger> {
     pub end: End,
 }
 
-/// The work that couldn't be begun, for want of memory.
+/// The work that couldn't be begun, for lack of memory.
 #[derive(Drop)]
 pub struct PhaseRefused<L: Ledger> {
     pub work: Vec<Work<L>>,
@@ -103,7 +103,7 @@ fn dones_of<L: Ledger>(tasks: Vec<Task<L>>, dones: &mut Vec<Done<L>>)
 
 /// Does each work in a thread of its own, or after another where the system has no thread to give, and tells
 /// what each did, in order. A thread stops at the first event that the host refuses; the others go on. For
-/// want of memory all work comes back, and no thread was started.
+/// out of memory all work comes back, and no thread was started.
 pub fn run_phase<L: Ledger + Send + Sync, R: Threads + Wait + Sync, G: Gate>(
     rt: &R,
     shared: &Shared<L>,

@@ -1,6 +1,7 @@
 -- What a change of the node where a way leads is to the rows of the tree.
 use Rattle.std.proofs.lemmas.Bool.{cases_Bool, eqb-true, eq-eqb}
-use Rattle.std.proofs.Common.{◌≡◌, ℕ, zero, suc, ◌<◌, ◌≤◌, Bool, true, false, cond, ◌==◌, inl, inr, Option, None, Some, List, [], ◌∷◌, ◌++◌, Box, Vec, length, map, set, get_or, refl, sym, ap, subst, ◌∙◌, arith}
+use Rattle.std.proofs.Common.{◌≡◌, ℕ, zero, suc, ◌<◌, ◌≤◌, Bool, true, false, cond, ◌==◌, inl, inr, Option, None, Some, List, [], ◌∷◌, ◌++◌, Box, Vec, length, map, set, get_or, refl, sym, ap, subst}
+use Rattle.std.proofs.Common.{◌∙◌, arith}
 use Rattle.std.specs.Box.{with_value}
 use Rattle.std.specs.List.{Contains, insert, remove}
 use Rattle.std.specs.List.Sorted.{IsNonDecreasing, IsNonDecreasingBy}
@@ -126,10 +127,12 @@ module _ {T A : Type 0} where
         let new : node_lines w ≡ row ∷ below own (insert ks i (boxed_lines k)) = node-lines w ∙ (rw (same, held, kids) (ap (λ l. row ∷ below own l) (map-insert boxed_lines (children_of n) i k))) in
         lifted (λ es new. IsGrownBy own (lines k.value) es new)
         (λ p c ks i m lt at dist ns new h. grown-child p ks i m lt at (p, (None, c)) own (lines k.value) new h)
-        is b n w e d (λ _. subst (λ es. IsGrownBy own (lines k.value) es (node_lines w)) (sym (node-lines n)) (subst (λ es. IsGrownBy own (lines k.value) (row ∷ below own ks) es) (sym new) (grown-here own row ks i (boxed_lines k))))
+        is b n w e d (λ _. subst (λ es. IsGrownBy own (lines k.value) es (node_lines w)) (sym (node-lines n))
+        (subst (λ es. IsGrownBy own (lines k.value) (row ∷ below own ks) es) (sym new) (grown-here own row ks i (boxed_lines k))))
 
     -- the children of the node, once it is changed
-    pub kids-changed : (w : Node T A) → IsNonDecreasingBy (λ k. id_of k.value) (children_of w) → AreDistinct (lines (put_far is b w)) → IsNonDecreasing (children_in (out-Node T A w).id (lines (put_far is b w)))
+    pub kids-changed : (w : Node T A) → IsNonDecreasingBy (λ k. id_of k.value) (children_of w) → AreDistinct (lines (put_far is b w)) → IsNonDecreasing
+        (children_in (out-Node T A w).id (lines (put_far is b w)))
     kids-changed w up =
         let p = (out-Node T A w).id in
         let N = node_lines w in
@@ -167,7 +170,11 @@ module _ {T A : Type 0} where
         let q = (out-Node T A n).id in
         (lifted (λ es new. (has_row q es ≡ true) × IsEditedFrom f q es new)
         (λ own c ks i k lt at dist ns new h. (there-child own ks i k lt at c dist q h.0, edited_child f q own c ks i k lt at dist ns h.0 new h.1))
-        is b n w e d (λ _. (subst (λ x. has_row x (node_lines n) ≡ true) (top-node n) (has-nest (node_lines n) (nest-node n)), edited_whole f q (node_lines n) (node_lines w) (sym (top-node n)) all))).1
+        is b n w e d (λ _. (
+          subst (λ x. has_row x (node_lines n) ≡ true) (top-node n) (has-nest (node_lines n) (nest-node n)),
+          edited_whole f q (node_lines n) (node_lines w) (sym (top-node n))
+              all,
+        ))).1
 
     -- a child with children is no leaf
     pub kids-refused : (q : ℕ) → HasParent q n → 1 ≤ length (children_in q (lines b))
@@ -178,9 +185,11 @@ module _ {T A : Type 0} where
         let found : IsFound (top (node_lines m)) (lines b) (node_lines m) = reach-found (is ++ h.at ∷ []) b m led d in
         let name : top (node_lines m) ≡ q = top-node m ∙ h.here in
         let kids : children_in q (lines b) ≡ children_in q (node_lines m) = subst (λ x. children_in x (lines b) ≡ children_in x (node_lines m)) name found.part.same in
-        let dm : AreDistinct (((out-Node T A m).id, (None, Some (content_of m))) ∷ below (out-Node T A m).id (map boxed_lines (children_of m))) = subst (λ es. AreDistinct es) (node-lines m) found.part.distinct in
+        let dm : AreDistinct (((out-Node T A m).id, (None, Some (content_of m))) ∷ below (out-Node T A m).id (map boxed_lines (children_of m))) = subst (λ es. AreDistinct es) (node-lines m)
+        found.part.distinct in
         let long : length (children_in q (node_lines m)) ≡ length (map boxed_lines (children_of m)) =
-        ap (λ x. length (children_in x (node_lines m))) (sym h.here) ∙ ap (λ es. length (children_in (out-Node T A m).id es)) (node-lines m) ∙ length-kids (out-Node T A m).id (Some (content_of m)) (map boxed_lines (children_of m)) dm (nests (children_of m)) in
+        ap (λ x. length (children_in x (node_lines m))) (sym h.here) ∙ ap (λ es. length (children_in (out-Node T A m).id es)) (node-lines m) ∙ length-kids (out-Node T A m).id (Some (content_of m))
+        (map boxed_lines (children_of m)) dm (nests (children_of m)) in
         omega (arith, h.many, ap length kids, long, length-map (children_of m) boxed_lines)
 
   -- the parent has the child

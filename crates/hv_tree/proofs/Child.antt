@@ -1,6 +1,7 @@
 -- The rows of a node, around those of one child.
 use Rattle.std.proofs.lemmas.Bool.{cases_Bool}
-use Rattle.std.proofs.Common.{◌≡◌, ℕ, ◌+◌, ◌<◌, ◌≤◌, suc, true, false, ◌==◌, inl, inr, Option, None, Some, is_some, List, ◌∷◌, ◌++◌, Box, refl, sym, ap, ◌∙◌, arith, length, take, drop, set, get_or, append_assoc, append-nil, length-append}
+use Rattle.std.proofs.Common.{◌≡◌, ℕ, ◌+◌, ◌<◌, ◌≤◌, suc, true, false, ◌==◌, inl, inr, Option, None, Some, is_some, List, ◌∷◌, ◌++◌, Box, refl, sym, ap, ◌∙◌, arith, length, take, drop, set, get_or}
+use Rattle.std.proofs.Common.{append_assoc, append-nil, length-append}
 use Rattle.std.specs.Option.{option_or, option_map}
 use Rattle.std.specs.Box.{with_value}
 use Rattle.std.specs.List.{insert}
@@ -9,11 +10,13 @@ use Rattle.hv_tree.specs.Rows.{children_in}
 use Rattle.hv_tree.specs.Nest.{Line, has_row, look, uses, AreDistinct, hang, put_at, IsPart, IsGrownBy}
 use Rattle.hv_tree.specs.Below.{below, AreNests, length-hang}
 use Rattle.hv_tree.proofs.Lists.{parted, set-parted}
-use Rattle.hv_tree.proofs.Lines.{has-hang, has-look, look-none, look-append, look-hang, hung, uses-append, uses-hang, used, has-unused, one_if, below-append, hang-append, hang-hang, put-append, put-hang}
+use Rattle.hv_tree.proofs.Lines.{has-hang, has-look, look-none, look-append, look-hang, hung, uses-append, uses-hang, used, has-unused, one_if, below-append, hang-append, hang-hang, put-append}
+use Rattle.hv_tree.proofs.Lines.{put-hang}
 use Rattle.hv_tree.proofs.Kids.{kids-append, kids-hang, closed-below, AreNests-take, AreNests-drop}
 
 -- a child is put in
-pub grown-here : {T A : Type 0} (p : ℕ) (row : Line T) (ks : List (Box (List (Line T)) A)) (i : ℕ) (node : Box (List (Line T)) A) → IsGrownBy p node.value (row ∷ below p ks) (row ∷ below p (insert ks i node))
+pub grown-here : {T A : Type 0} (p : ℕ) (row : Line T) (ks : List (Box (List (Line T)) A)) (i : ℕ) (node : Box (List (Line T)) A) → IsGrownBy p node.value (row ∷ below p ks)
+    (row ∷ below p (insert ks i node))
 grown-here p row ks i node = (
   row ∷ below p (take i ks),
   (
@@ -42,7 +45,13 @@ module _ {T A : Type 0} (p : ℕ) (ks : List (Box (List (Line T)) A)) (i : ℕ) 
   around-set new = ap (below p) (set-parted ks i (with_value k new) lt) ∙ below-append p (take i ks) (with_value k new ∷ drop (suc i) ks)
 
   pub length-child : length k.value ≤ length (below p ks)
-  length-child = omega (arith, ap length around, length-append (below p (take i ks)) (hang p k.value ++ below p (drop (suc i) ks)), length-append (hang p k.value) (below p (drop (suc i) ks)), length-hang p k.value)
+  length-child = omega (
+    arith,
+    ap length around,
+    length-append (below p (take i ks)) (hang p k.value ++ below p (drop (suc i) ks)),
+    length-append (hang p k.value) (below p (drop (suc i) ks)),
+    length-hang p k.value,
+  )
 
   -- where no earlier child has the id
   module _ (q : ℕ) (none : has_row q (below p (take i ks)) ≡ false) where
@@ -73,7 +82,8 @@ module _ {T A : Type 0} (p : ℕ) (ks : List (Box (List (Line T)) A)) (i : ℕ) 
     pub held-row : (c : Option T) → (q == p) ≡ false → has_row q k.value ≡ true → option_map (λ r. r.1) (look q ((p, (None, c)) ∷ below p ks)) ≡ option_map (λ r. r.1) (look q k.value)
     held-row c off has = rw off (ap (option_map (λ r. r.1)) (look-child has) ∙ held-mapped (look q k.value))
 
-    pub parent-row : (c : Option T) → (q == p) ≡ false → has_row q k.value ≡ true → option_map (λ r. r.0) (look q ((p, (None, c)) ∷ below p ks)) ≡ option_map (λ a. option_or a (Some p)) (option_map (λ r. r.0) (look q k.value))
+    pub parent-row : (c : Option T) → (q == p) ≡ false → has_row q k.value ≡ true → option_map (λ r. r.0) (look q ((p, (None, c)) ∷ below p ks)) ≡ option_map (λ a. option_or a (Some p))
+        (option_map (λ r. r.0) (look q k.value))
     parent-row c off has = rw off (ap (option_map (λ r. r.0)) (look-child has) ∙ above-mapped (look q k.value))
 
     pub put-child : (h : Option T) → has_row q k.value ≡ true → put_at q h (below p ks) ≡ below p (set ks i (with_value k (put_at q h k.value)))
@@ -98,7 +108,12 @@ module _ {T A : Type 0} (p : ℕ) (ks : List (Box (List (Line T)) A)) (i : ℕ) 
   -- where no two rows of the node have one id
   module _ (c : Option T) (d : AreDistinct ((p, (None, c)) ∷ below p ks)) where
     uses-around : (q : ℕ) → uses q (below p ks) ≡ uses q (below p (take i ks)) + (uses q k.value + uses q (below p (drop (suc i) ks)))
-    uses-around q = ap (uses q) around ∙ (omega (arith, uses-append q (below p (take i ks)) (hang p k.value ++ below p (drop (suc i) ks)), uses-append q (hang p k.value) (below p (drop (suc i) ks)), uses-hang q p k.value))
+    uses-around q = ap (uses q) around ∙ (omega (
+      arith,
+      uses-append q (below p (take i ks)) (hang p k.value ++ below p (drop (suc i) ks)),
+      uses-append q (hang p k.value) (below p (drop (suc i) ks)),
+      uses-hang q p k.value,
+    ))
 
     pub AreDistinct-child : AreDistinct k.value
     AreDistinct-child = λ q. omega (arith, d q, uses-around q)
@@ -121,10 +136,17 @@ module _ {T A : Type 0} (p : ℕ) (ks : List (Box (List (Line T)) A)) (i : ℕ) 
       kids-child ns =
           ap (children_in q) around
           ∙ kids-append q (below p (take i ks)) (hang p k.value ++ below p (drop (suc i) ks))
-          ∙ (rw (closed-below q p (take i ks) (AreNests-take ks i ns) off_own off_before, kids-append q (hang p k.value) (below p (drop (suc i) ks)), kids-hang q p k.value off_own, closed-below q p (drop (suc i) ks) (AreNests-drop ks (suc i) ns) off_own off_after) (append-nil (children_in q k.value)))
+          ∙ (rw (
+            closed-below q p (take i ks) (AreNests-take ks i ns) off_own off_before,
+            kids-append q (hang p k.value) (below p (drop (suc i) ks)),
+            kids-hang q p k.value off_own,
+            closed-below q p
+                (drop (suc i) ks) (AreNests-drop ks (suc i) ns) off_own off_after,
+          ) (append-nil (children_in q k.value)))
 
       pub IsPart-child : AreNests ks → (sub : List (Line T)) → IsPart q k.value sub → IsPart q ((p, (None, c)) ∷ below p ks) sub
       IsPart-child ns sub part = record { distinct = part.distinct; same = kids-child ns ∙ part.same }
 
-    pub above-row : (q : ℕ) (r : Option ℕ) → option_map (λ (r : Option ℕ × Option T). r.0) (look q k.value) ≡ Some r → option_map (λ r. r.0) (look q ((p, (None, c)) ∷ below p ks)) ≡ Some (option_or r (Some p))
+    pub above-row : (q : ℕ) (r : Option ℕ) → option_map (λ (r : Option ℕ × Option T). r.0) (look q k.value) ≡ Some r → option_map (λ r. r.0) (look q ((p, (None, c)) ∷ below p ks)) ≡ Some
+        (option_or r (Some p))
     above-row q r e = let has = found_has q k.value (λ r. r.0) r (sym e) in parent-row q (off_before q has) c (off_own q has) has ∙ ap (option_map (λ a. option_or a (Some p))) e

@@ -1,5 +1,6 @@
 -- The rows of a node, once contents among them are edited.
-use Rattle.std.proofs.Common.{◌≡◌, ℕ, ◌<◌, ◌≤◌, suc, zero, Bool, true, false, ◌==◌, ◌&&◌, ◌⊎◌, inl, inr, Option, None, Some, List, [], ◌∷◌, ◌++◌, Box, refl, sym, ap, ◌∙◌, arith, length, take, drop, set, get_or, eq-eqb}
+use Rattle.std.proofs.Common.{◌≡◌, ℕ, ◌<◌, ◌≤◌, suc, zero, Bool, true, false, ◌==◌, ◌&&◌, ◌⊎◌, inl, inr, Option, None, Some, List, [], ◌∷◌, ◌++◌, Box, refl, sym, ap, ◌∙◌, arith, length, take, drop}
+use Rattle.std.proofs.Common.{set, get_or, eq-eqb}
 use Rattle.std.specs.Option.{option_or, option_map}
 use Rattle.std.specs.Box.{with_value}
 use Rattle.std.proofs.lemmas.Bool.{cases_Bool}
@@ -43,7 +44,8 @@ edited_kids f (k ∷ ks) = with_value k (edited_in f (λ _. true) k.value) ∷ e
 
 pub edited-below : {T A : Type 0} (f : T → T) (p : ℕ) (ks : List (Box (List (Line T)) A)) → below p (edited_kids f ks) ≡ edited_in f (λ _. true) (below p ks)
 edited-below f p [] = refl
-edited-below f p (k ∷ ks) = ap (λ l. hang p (edited_in f (λ _. true) k.value) ++ l) (edited-below f p ks) ∙ ap (λ l. l ++ edited_in f (λ _. true) (below p ks)) (sym (edited-hang f (λ _. true) p k.value)) ∙ sym (edited-append f (λ _. true) (hang p k.value) (below p ks))
+edited-below f p (k ∷ ks) = ap (λ l. hang p (edited_in f (λ _. true) k.value) ++ l) (edited-below f p ks) ∙ ap (λ l. l ++ edited_in f (λ _. true) (below p ks))
+    (sym (edited-hang f (λ _. true) p k.value)) ∙ sym (edited-append f (λ _. true) (hang p k.value) (below p ks))
 
 -- those before i are edited, and now that at i
 pub edited_more : {T A : Type 0} (f : T → T) (ks : List (Box (List (Line T)) A)) (i : ℕ) (k : Box (List (Line T)) A) → i < length ks → k ≡ get_or ks i k
@@ -73,14 +75,16 @@ either g y None b e = inr e
 either g y (Some x) b e = inl e
 
 -- among the rows of children, a parent that is not the node is there
-named_in : {T A : Type 0} (q p own : ℕ) (ks : List (Box (List (Line T)) A)) → AreNests ks → (p == own) ≡ false → option_map (λ r. r.0) (look q (below own ks)) ≡ Some (Some p) → has_row p (below own ks) ≡ true
+named_in : {T A : Type 0} (q p own : ℕ) (ks : List (Box (List (Line T)) A)) → AreNests ks → (p == own) ≡ false → option_map (λ r. r.0) (look q (below own ks)) ≡ Some (Some p) → has_row p
+    (below own ks) ≡ true
 named_in q p own ks ns off e = elim (cases_Bool (has_row p (below own ks))) [
   | inl s ↦ s
   | inr s ↦ absurd (kid_there q p (below own ks) e (closed-below p own ks ns off s))
 ]
 
 -- the subtree of a row of the child k at i is edited
-module _ {T A : Type 0} (f : T → T) (id own : ℕ) (c : Option T) (ks : List (Box (List (Line T)) A)) (i : ℕ) (k : Box (List (Line T)) A) (lt : i < length ks) (is : k ≡ get_or ks i k) (d : AreDistinct ((own, (None, c)) ∷ below own ks)) (ns : AreNests ks) (has : has_row id k.value ≡ true) (new : List (Line T)) (w : IsEditedFrom f id k.value new) where
+module _ {T A : Type 0} (f : T → T) (id own : ℕ) (c : Option T) (ks : List (Box (List (Line T)) A)) (i : ℕ) (k : Box (List (Line T)) A) (lt : i < length ks) (is : k ≡ get_or ks i k)
+    (d : AreDistinct ((own, (None, c)) ∷ below own ks)) (ns : AreNests ks) (has : has_row id k.value ≡ true) (new : List (Line T)) (w : IsEditedFrom f id k.value new) where
   abbrev within : ℕ → Bool
   within q = has_row q k.value && w.part q
 
@@ -127,7 +131,8 @@ module _ {T A : Type 0} (f : T → T) (id own : ℕ) (c : Option T) (ks : List (
           let after = below own (drop (suc i) ks) in
           let off = off_own own ks i k lt is c d p s in
           let g : option_map (λ r. r.0) (look q (below own ks)) ≡ Some (Some p) = rw t at e in
-          let h : option_map (λ r. r.0) (option_or (look q before) (look q after)) ≡ Some (Some p) = rw (around own ks i k lt is, look-append q before (hang own k.value ++ after), look-append q (hang own k.value) after, look-hang q own k.value, look-none q k.value out) at g in
+          let h : option_map (λ r. r.0) (option_or (look q before) (look q after)) ≡ Some (Some p) = rw
+          (around own ks i k lt is, look-append q before (hang own k.value ++ after), look-append q (hang own k.value) after, look-hang q own k.value, look-none q k.value out) at g in
           elim (either (λ r. r.0) (Some p) (look q before) (look q after) h) [
             | inl a ↦ (let yes = named_in q p own (take i ks) (AreNests-take ks i ns) off a in let no = off_before own ks i k lt is c d p s in cc)
             | inr b ↦ (let yes = named_in q p own (drop (suc i) ks) (AreNests-drop ks (suc i) ns) off b in let no = off_after own ks i k lt is c d p s in cc)

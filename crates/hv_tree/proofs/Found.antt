@@ -23,7 +23,8 @@ IsFound-self es nest d = record {
   part = record { distinct = d; same = refl };
 }
 
-module _ {T A : Type 0} (own : ℕ) (ks : List (Box (List (Line T)) A)) (i : ℕ) (k : Box (List (Line T)) A) (lt : i < length ks) (is : k ≡ get_or ks i k) (content : Option T) (distinct : AreDistinct ((own, (None, content)) ∷ below own ks)) (q : ℕ) where
+module _ {T A : Type 0} (own : ℕ) (ks : List (Box (List (Line T)) A)) (i : ℕ) (k : Box (List (Line T)) A) (lt : i < length ks) (is : k ≡ get_or ks i k) (content : Option T)
+    (distinct : AreDistinct ((own, (None, content)) ∷ below own ks)) (q : ℕ) where
   before : has_row q k.value ≡ true → has_row q (below own (take i ks)) ≡ false
   before = off_before own ks i k lt is content distinct q
 
@@ -40,7 +41,8 @@ module _ {T A : Type 0} (own : ℕ) (ks : List (Box (List (Line T)) A)) (i : ℕ
 
   pub put-found : (did : Bool) (h : Option T) (new : List (Line T)) → (did ≡ true → has_row q k.value ≡ true) → new ≡ cond did (put_at q h k.value) k.value
       → (own, (None, content)) ∷ below own (set ks i (with_value k new)) ≡ cond did (put_at q h ((own, (None, content)) ∷ below own ks)) ((own, (None, content)) ∷ below own ks)
-  put-found true h new has e = rw (off_own own ks i k lt is content distinct q (has refl), e) (ap (λ l. (own, (None, content)) ∷ l) (sym (put-child own ks i k lt is q (before (has refl)) h (has refl))))
+  put-found true h new has e = rw (off_own own ks i k lt is content distinct q (has refl), e)
+      (ap (λ l. (own, (None, content)) ∷ l) (sym (put-child own ks i k lt is q (before (has refl)) h (has refl))))
   put-found false h new has e = ap (λ s. (own, (None, content)) ∷ below own s) (ap (λ v. set ks i (with_value k v)) e ∙ set-same ks i k lt is)
 
 -- what holds of a result's copy

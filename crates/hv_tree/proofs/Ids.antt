@@ -24,5 +24,7 @@ ids-shift p r [] = refl
 ids-shift p r (k ∷ ks) = ids-below p k ks ∙ ap (λ l. ids_of k.value ++ l) (ids-shift p r ks) ∙ sym (ids-below r k ks)
 
 -- the ids of one child more
-pub ids-more : {T A : Type 0} (p : ℕ) (ks : List (Box (List (Line T)) A)) (i : ℕ) (k : Box (List (Line T)) A) → i < length ks → k ≡ get_or ks i k → ids_of (below p (take (i + 1) ks)) ≡ ids_of (below p (take i ks)) ++ ids_of k.value
-ids-more p ks i k lt is = rw add-one (ap (λ l. ids_of (below p l)) (take_more ks i k lt is) ∙ ap ids_of (below-append p (take i ks) (k ∷ [])) ∙ ids-append (below p (take i ks)) (below p (k ∷ [])) ∙ ap (λ l. ids_of (below p (take i ks)) ++ l) (ids-below p k [] ∙ append-nil (ids_of k.value)))
+pub ids-more : {T A : Type 0} (p : ℕ) (ks : List (Box (List (Line T)) A)) (i : ℕ) (k : Box (List (Line T)) A) → i < length ks → k ≡ get_or ks i k → ids_of (below p (take (i + 1) ks)) ≡ ids_of
+    (below p (take i ks)) ++ ids_of k.value
+ids-more p ks i k lt is = rw add-one (ap (λ l. ids_of (below p l)) (take_more ks i k lt is) ∙ ap ids_of (below-append p (take i ks) (k ∷ [])) ∙ ids-append (below p (take i ks)) (below p (k ∷ [])) ∙ ap
+    (λ l. ids_of (below p (take i ks)) ++ l) (ids-below p k [] ∙ append-nil (ids_of k.value)))

@@ -38,19 +38,22 @@ shown m k e = record { sound = k.sound; seen = e }
 other_kids : {T : Type 0} (p q x : ℕ) (c : Option T) (xs ys : List (Line T)) → (x == p) ≡ false → children_in x (xs ++ ((q, (Some p, c)) ∷ ys)) ≡ children_in x (xs ++ ys)
 other_kids p q x c xs ys off = kids-append x xs ((q, (Some p, c)) ∷ ys) ∙ (rw off (sym (kids-append x xs ys)))
 
-pub rising-grown : {T : Type 0} (es new : List (Line T)) (p q : ℕ) (c : Option T) → IsGrownBy p ((q, (None, c)) ∷ []) es new → ((x : ℕ) → IsNonDecreasing (children_in x es)) → IsNonDecreasing (children_in p new) → (x : ℕ) → IsNonDecreasing (children_in x new)
+pub rising-grown : {T : Type 0} (es new : List (Line T)) (p q : ℕ) (c : Option T) → IsGrownBy p ((q, (None, c)) ∷ []) es new → ((x : ℕ) → IsNonDecreasing (children_in x es)) → IsNonDecreasing
+    (children_in p new) → (x : ℕ) → IsNonDecreasing (children_in x new)
 rising-grown es new p q c (xs, (ys, (was, is))) r here x = elim (cases_Bool (x == p)) [
   | inl t ↦ subst (λ y. IsNonDecreasing (children_in y new)) (sym (eqb-true x p t)) here
   | inr t ↦ subst (λ l. IsNonDecreasing l) (ap (children_in x) was ∙ sym (ap (children_in x) is ∙ other_kids p q x c xs ys t)) (r x)
 ]
 
-pub rising-gone : {T : Type 0} (es new : List (Line T)) (p q : ℕ) (c : Option T) (w : IsWithout q c es new) → w.parent ≡ p → ((x : ℕ) → IsNonDecreasing (children_in x es)) → IsNonDecreasing (children_in p new) → (x : ℕ) → IsNonDecreasing (children_in x new)
+pub rising-gone : {T : Type 0} (es new : List (Line T)) (p q : ℕ) (c : Option T) (w : IsWithout q c es new) → w.parent ≡ p → ((x : ℕ) → IsNonDecreasing (children_in x es)) → IsNonDecreasing
+    (children_in p new) → (x : ℕ) → IsNonDecreasing (children_in x new)
 rising-gone es new p q c w e r here x = elim (cases_Bool (x == w.parent)) [
   | inl t ↦ subst (λ y. IsNonDecreasing (children_in y new)) (sym (eqb-true x w.parent t ∙ e)) here
   | inr t ↦ subst (λ l. IsNonDecreasing l) (ap (children_in x) w.was ∙ other_kids w.parent q x c w.before w.after t ∙ sym (ap (children_in x) w.is)) (r x)
 ]
 
-pub rising-edited : {T : Type 0} {f : T → T} {id : ℕ} {es new : List (Line T)} → IsEditedFrom f id es new → ((x : ℕ) → IsNonDecreasing (children_in x es)) → (x : ℕ) → IsNonDecreasing (children_in x new)
+pub rising-edited : {T : Type 0} {f : T → T} {id : ℕ} {es new : List (Line T)} → IsEditedFrom f id es new → ((x : ℕ) → IsNonDecreasing (children_in x es)) → (x : ℕ) → IsNonDecreasing
+    (children_in x new)
 rising-edited {f = f} {es = es} w r x = subst (λ l. IsNonDecreasing l) (sym (ap (children_in x) w.is ∙ kids-edited f w.part x es)) (r x)
 
 write_here : {T : Type 0} (v : T) (o : Option (Option ℕ × Option T)) → IsFilled o
@@ -153,7 +156,8 @@ got_here (Some (p, Some d)) c e = cc
 
 module _ {T A : Type 0} where
   -- the content of the node that is reached
-  pub got : {n : ℕ} {m : Rows T} {es : List (Line T)} → IsShown es n m → (up : ℕ → Option ℕ) (q : ℕ) (b : Branch T A) (node : Node T A) → es ≡ lines b → IsReached up q b node → Some (content_of node) ≡ content m q
+  pub got : {n : ℕ} {m : Rows T} {es : List (Line T)} → IsShown es n m → (up : ℕ → Option ℕ) (q : ℕ) (b : Branch T A) (node : Node T A) → es ≡ lines b → IsReached up q b node → Some (content_of node)
+      ≡ content m q
   got {m = m} {es = es} s up q b node same r =
       let held : Some (Some (content_of node)) ≡ option_map (λ r. r.1) (look q (lines b)) = ap (λ l. Some (first_content l)) (sym (node-lines node)) ∙ r.found.content in
       rw (get-seen s q) (got_here (look q es) (content_of node) (held ∙ ap (λ l. option_map (λ r. r.1) (look q l)) (sym same)))
@@ -163,7 +167,8 @@ pub kept-same : {T : Type 0} {es new : List (Line T)} {n : ℕ} {up later : ℕ 
 kept-same {n = n} {later = later} e same k = subst (λ l. IsKept l n later) (sym e) (record { sound = k.sound; indexed = λ q. same q ∙ k.indexed q; rising = k.rising })
 
 -- an edit, which may have found no node
-pub edited-kept : {T : Type 0} {f : T → T} {id : ℕ} {es new : List (Line T)} {n : ℕ} {up : ℕ → Option ℕ} (r : Bool) → (r ≡ true → IsEditedFrom f id es new) → (r ≡ false → new ≡ es) → IsNest new → (m : Rows T) → from_entries (full es) ≡ m → IsKept es n up → IsKept new n up
+pub edited-kept : {T : Type 0} {f : T → T} {id : ℕ} {es new : List (Line T)} {n : ℕ} {up : ℕ → Option ℕ} (r : Bool) → (r ≡ true → IsEditedFrom f id es new) → (r ≡ false → new ≡ es) → IsNest new →
+    (m : Rows T) → from_entries (full es) ≡ m → IsKept es n up → IsKept new n up
 edited-kept {up = up} true edited stays nest m e k =
     let w = edited refl in
     record { sound = (edited-shown (shown m k e) w nest).sound; indexed = index-edited up w k.indexed; rising = rising-edited w k.rising }

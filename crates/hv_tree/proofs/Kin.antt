@@ -24,7 +24,8 @@ put_permutes {X = X} k v (e ∷ es) none =
     elim (nat_cmp k e.0) as (λ r. cond (is_eq r) (Some e.1) (find nat_cmp k es) ≡ None → IsPermutation ((k, v) ∷ e ∷ es) (by_order r ((k, v) ∷ e ∷ es) ((e.0, v) ∷ es) (e ∷ put nat_cmp k v es))) [
       | Less ↦ λ h. IsPermutation-refl _
       | Equal ↦ λ h. cc
-      | Greater ↦ λ h. IsPermutation-trans ((k, v) ∷ e ∷ es) (e ∷ (k, v) ∷ es) (e ∷ put nat_cmp k v es) (swap_heads (k, v) e es) (IsPermutation-cons e ((k, v) ∷ es) (put nat_cmp k v es) (put_permutes k v es h))
+      | Greater ↦ λ h. IsPermutation-trans ((k, v) ∷ e ∷ es) (e ∷ (k, v) ∷ es) (e ∷ put nat_cmp k v es) (swap_heads (k, v) e es)
+          (IsPermutation-cons e ((k, v) ∷ es) (put nat_cmp k v es) (put_permutes k v es h))
     ] none
 
 no_entries : {X : Type 0} → entries (empty {X = X} {R = nat_cmp}) ≡ []
@@ -32,7 +33,8 @@ no_entries {X = X} = no_items (entries (empty {R = nat_cmp})) (sym (len-entries 
 
 -- the first entry's key is new to the rest
 fresh : {X : Type 0} (e : ℕ × X) (es : List (ℕ × X)) → AreDistinct (e ∷ es) → find nat_cmp e.0 (entries (from_entries {R = nat_cmp} es)) ≡ None
-fresh e es d = sym (get-entries (from_entries {R = nat_cmp} es) e.0) ∙ get-from_entries nat_cmp_total es e.0 ∙ find-look e.0 es ∙ look-none e.0 es (has-unused e.0 es (omega (arith, d e.0, one_if (e.0 == e.0) (eq-eqb e.0 e.0 refl))))
+fresh e es d = sym (get-entries (from_entries {R = nat_cmp} es) e.0) ∙ get-from_entries nat_cmp_total es e.0 ∙ find-look e.0 es ∙ look-none e.0 es
+    (has-unused e.0 es (omega (arith, d e.0, one_if (e.0 == e.0) (eq-eqb e.0 e.0 refl))))
 
 -- a map has the entries that it was made of
 pub entries_permute : {X : Type 0} (es : List (ℕ × X)) → AreDistinct es → IsPermutation es (entries (from_entries {R = nat_cmp} es))
@@ -55,7 +57,8 @@ kids_permute q (e ∷ es) d =
     (cond_cons (is_parent q e.1.0) e.0 (children_in q es) (children_in q (entries (from_entries {R = nat_cmp} es))) (kids_permute q es (λ x. omega (arith, d x))))
     (kids_put q e.0 e.1 (entries (from_entries {R = nat_cmp} es)) (fresh e es d)))
 
-kids_added : {T : Type 0} (q x : ℕ) (p : Option ℕ) (o : Option T) (es : List (ℕ × Row T)) → is_some o ≡ true → children_in q (add x p o es) ≡ cond (is_parent q p) (x ∷ children_in q es) (children_in q es)
+kids_added : {T : Type 0} (q x : ℕ) (p : Option ℕ) (o : Option T) (es : List (ℕ × Row T)) → is_some o ≡ true → children_in q (add x p o es) ≡ cond (is_parent q p) (x ∷ children_in q es)
+    (children_in q es)
 kids_added q x p None es h = cc
 kids_added q x p (Some c) es h = refl
 
@@ -89,7 +92,8 @@ module _ {T : Type 0} {es : List (Line T)} {n : ℕ} {m : Rows T} (s : IsShown e
 
   -- the ids of the rows, in another order
   pub ids-seen : IsPermutation (ids_of es) (keys m)
-  ids-seen = rw (← s.seen, ← ids_full es s.sound.distinct s.sound.whole) (IsPermutation-map (λ e. e.0) (full es) (entries (from_entries {R = nat_cmp} (full es))) (entries_permute (full es) (AreDistinct-full es s.sound.distinct s.sound.whole)))
+  ids-seen = rw (← s.seen, ← ids_full es s.sound.distinct s.sound.whole) (IsPermutation-map (λ e. e.0) (full es) (entries (from_entries {R = nat_cmp} (full es)))
+      (entries_permute (full es) (AreDistinct-full es s.sound.distinct s.sound.whole)))
 
   pub count-seen : (q : ℕ) → length (children m q) ≡ length (children_in q es)
   count-seen q = length_permutation (children_in q es) (children m q) (kids-seen q)

@@ -22,17 +22,20 @@ module _ {T A : Type 0} where
   -- a child is written
   pub lines-put_child : (b : Branch T A) (i : ℕ) (x : Box (Branch T A) A) (k : Branch T A) → slice_get (out-Node T A (node_of b)).children.items i ≡ Some x
       → lines (put_node b (put_child (node_of b) i k))
-      ≡ ((out-Node T A (node_of b)).id, (None, Some (content_of (node_of b)))) ∷ below (out-Node T A (node_of b)).id (map boxed_lines (slice_set (out-Node T A (node_of b)).children.items i (with_value x k)))
+      ≡ ((out-Node T A (node_of b)).id, (None, Some (content_of (node_of b)))) ∷ below (out-Node T A (node_of b)).id
+      (map boxed_lines (slice_set (out-Node T A (node_of b)).children.items i (with_value x k)))
   lines-put_child b i x k at =
       let n = node_of b in
       ap (λ m. lines (put_node b m)) (ap (put_in n i k) at)
       ∙ lines-node (put_node b (put_in n i k (Some x))) ∙ ap (λ m. node_lines m) (node_of-put b (put_in n i k (Some x))) ∙ node-lines (put_in n i k (Some x))
-      ∙ ap (λ s. (s.id, (None, Some s.content)) ∷ below s.id (map boxed_lines s.children.items)) (out-roll-Node T A (record (out-Node T A n) { children = with_item (out-Node T A n).children i (with_value x k) }))
+      ∙ ap (λ s. (s.id, (None, Some s.content)) ∷ below s.id (map boxed_lines s.children.items))
+      (out-roll-Node T A (record (out-Node T A n) { children = with_item (out-Node T A n).children i (with_value x k) }))
 
   pub lines-put : (b : Branch T A) (n : Node T A) → lines (put_node b n) ≡ node_lines n
   lines-put b n = lines-node (put_node b n) ∙ ap (λ m. node_lines m) (node_of-put b n)
 
-  pub whole : (b : Branch T A) → lines b ≡ ((out-Node T A (node_of b)).id, (None, Some (content_of (node_of b)))) ∷ below (out-Node T A (node_of b)).id (map boxed_lines (out-Node T A (node_of b)).children.items)
+  pub whole : (b : Branch T A) → lines b ≡ ((out-Node T A (node_of b)).id, (None, Some (content_of (node_of b)))) ∷ below (out-Node T A (node_of b)).id
+      (map boxed_lines (out-Node T A (node_of b)).children.items)
   whole b = lines-node b ∙ node-lines (node_of b)
 
   pub top-lines : (b : Branch T A) → top (lines b) ≡ (out-Node T A (node_of b)).id

@@ -27,11 +27,13 @@ at-mapped f (y ∷ xs) (suc i) x e = let rest = at-mapped f xs i x e in (omega (
 
 -- what holds of a child's rows holds of its parent's
 abbrev pub Rises : {T : Type 0} → (A : Type 0) → (List (Line T) → List (Line T) → Type 0) → Type 0
-Rises {T} A R = (own : ℕ) (c : Option T) (ks : List (Box (List (Line T)) A)) (i : ℕ) (k : Box (List (Line T)) A) → i < length ks → k ≡ get_or ks i k → AreDistinct ((own, (None, c)) ∷ below own ks) → AreNests ks
+Rises {T} A R = (own : ℕ) (c : Option T) (ks : List (Box (List (Line T)) A)) (i : ℕ) (k : Box (List (Line T)) A) → i < length ks → k ≡ get_or ks i k → AreDistinct ((own, (None, c)) ∷ below own ks) →
+    AreNests ks
     → (new : List (Line T)) → R k.value new → R ((own, (None, c)) ∷ below own ks) ((own, (None, c)) ∷ below own (set ks i (with_value k new)))
 
 module _ {T A : Type 0} (R : List (Line T) → List (Line T) → Type 0) where
-  pub lifted : Rises A R → (is : List ℕ) (b : Branch T A) (n w : Node T A) → reach is b ≡ Some n → AreDistinct (lines b) → (AreDistinct (node_lines n) → R (node_lines n) (node_lines w)) → R (lines b) (lines (put_far is b w))
+  pub lifted : Rises A R → (is : List ℕ) (b : Branch T A) (n w : Node T A) → reach is b ≡ Some n → AreDistinct (lines b) → (AreDistinct (node_lines n) → R (node_lines n) (node_lines w)) → R (lines b)
+      (lines (put_far is b w))
   lifted rise [] b n w e d h =
       let same : node_of b ≡ n = cc in
       let was : lines b ≡ node_lines n = lines-node b ∙ ap (λ m. node_lines m) same in

@@ -24,4 +24,5 @@ module _ {T A : Type 0} where
   nests (k ∷ ks) = (nest k.value, nests ks)
 
   pub nest-node : (n : Node T A) → IsNest (node_lines n)
-  nest-node n = subst (λ es. IsNest es) (fold-roll-Branch T A (List (Line T)) (List (Line T)) (λ s. s.node) (λ s. (s.id, (None, Some s.content)) ∷ below s.id s.children.items) (record { node = n })) (nest (roll-Branch T A (record { node = n })))
+  nest-node n = subst (λ es. IsNest es) (fold-roll-Branch T A (List (Line T)) (List (Line T)) (λ s. s.node) (λ s. (s.id, (None, Some s.content)) ∷ below s.id s.children.items) (record { node = n }))
+      (nest (roll-Branch T A (record { node = n })))

@@ -39,13 +39,15 @@ place-hang q p [] = refl
 place-hang q p (e ∷ es) = ap (λ n. cond (q == e.0) 0 (n + 1)) (place-hang q p es)
 
 -- a hung row's parent is the node, or the one that it had
-named : {T : Type 0} (p x : ℕ) (o rest : Option (Option ℕ × Option T)) → is_some o ≡ true → option_map (λ r. r.0) (option_or (option_map (hung p) o) rest) ≡ Some (Some x) → (x ≡ p) ⊎ (option_map (λ r. r.0) o ≡ Some (Some x))
+named : {T : Type 0} (p x : ℕ) (o rest : Option (Option ℕ × Option T)) → is_some o ≡ true → option_map (λ r. r.0) (option_or (option_map (hung p) o) rest) ≡ Some (Some x) → (x ≡ p) ⊎
+    (option_map (λ r. r.0) o ≡ Some (Some x))
 named p x None rest h e = cc
 named p x (Some (None, c)) rest h e = inl cc
 named p x (Some (Some y, c)) rest h e = inr e
 
 -- among the rows of the children, a parent stands first
-pub falls-below : {T A : Type 0} (p : ℕ) (ks : List (Box (List (Line T)) A)) → AreNests ks → (q x : ℕ) → option_map (λ r. r.0) (look q (below p ks)) ≡ Some (Some x) → (x ≡ p) ⊎ (place x (below p ks) < place q (below p ks))
+pub falls-below : {T A : Type 0} (p : ℕ) (ks : List (Box (List (Line T)) A)) → AreNests ks → (q x : ℕ) → option_map (λ r. r.0) (look q (below p ks)) ≡ Some (Some x) → (x ≡ p) ⊎
+    (place x (below p ks) < place q (below p ks))
 falls-below p [] ns q x e = cc
 falls-below p (k ∷ ks) ns q x e = elim (cases_Bool (has_row q k.value)) [
   | inl has ↦ first has (named p x (look q k.value) (look q (below p ks)) (sym (has-look q k.value) ∙ has) (rw (look-append q (hang p k.value) (below p ks), look-hang q p k.value) at e))
@@ -73,7 +75,8 @@ falls-below p (k ∷ ks) ns q x e = elim (cases_Bool (has_row q k.value)) [
     ])
 
 -- a node's own row stands first of all
-pub ordered-view : {T A : Type 0} (p : ℕ) (c : Option T) (ks : List (Box (List (Line T)) A)) → AreNests ks → (q x : ℕ) → option_map (λ r. r.0) (look q ((p, (None, c)) ∷ below p ks)) ≡ Some (Some x) → place x ((p, (None, c)) ∷ below p ks) < place q ((p, (None, c)) ∷ below p ks)
+pub ordered-view : {T A : Type 0} (p : ℕ) (c : Option T) (ks : List (Box (List (Line T)) A)) → AreNests ks → (q x : ℕ) → option_map (λ r. r.0) (look q ((p, (None, c)) ∷ below p ks)) ≡ Some (Some x) →
+    place x ((p, (None, c)) ∷ below p ks) < place q ((p, (None, c)) ∷ below p ks)
 ordered-view p c ks ns q x e = elim (cases_Bool (q == p)) [
   | inl s ↦ absurd (let f : Some None ≡ Some (Some x) = rw s at e in cc)
   | inr s ↦ rw s (elim (falls-below p ks ns q x (rw s at e)) [

@@ -1,7 +1,8 @@
 -- The way that an index tells leads to the node.
 use Rattle.std.proofs.lemmas.Bool.{cases_Bool, eqb-true, eqb-false, ltb-true, ltb-false}
 use Rattle.std.proofs.Math.Dec.{ltb}
-use Rattle.std.proofs.Common.{◌≡◌, ◌≢◌, ℕ, zero, suc, ◌+◌, ◌<◌, ◌≤◌, true, false, ◌==◌, inl, inr, Option, None, Some, List, [], ◌∷◌, Box, refl, sym, ap, subst, ◌∙◌, is_some, arith, length, map, get_or, slice_get, IfSome}
+use Rattle.std.proofs.Common.{◌≡◌, ◌≢◌, ℕ, zero, suc, ◌+◌, ◌<◌, ◌≤◌, true, false, ◌==◌, inl, inr, Option, None, Some, List, [], ◌∷◌, Box, refl, sym, ap, subst, ◌∙◌, is_some, arith, length, map}
+use Rattle.std.proofs.Common.{get_or, slice_get, IfSome}
 use Rattle.std.specs.Option.{option_map, option_and_then}
 use Rattle.std.specs.List.Sorted.{IsNonDecreasing}
 use Rattle.std.proofs.lemmas.List.{length-map}
@@ -56,7 +57,8 @@ module _ {T A : Type 0} (up : ℕ → Option ℕ) (own : ℕ) (ks : List (Box (L
   climb-in zero at s low = absurd (omega (arith, low))
   climb-in (suc n) at s low = climb-more up own n at ∙ by (λ r s lo. climb-in n r s lo) (up at) refl
     where
-      by : ((r : ℕ) (s : IsIn q r ks) → place r (below own ks) < n → climb up own n r ≡ Some (top s.child.value)) → (o : Option ℕ) → up at ≡ o → climb_from own at (climb up own n) o ≡ Some (top s.child.value)
+      by : ((r : ℕ) (s : IsIn q r ks) → place r (below own ks) < n → climb up own n r ≡ Some (top s.child.value)) → (o : Option ℕ) → up at ≡ o → climb_from own at (climb up own n) o ≡ Some
+          (top s.child.value)
       by rest None e = absurd (not_lost up own ks q at w s e)
       by rest (Some r) e = elim (cases_Bool (r == own)) [
         | inl t ↦ rw t (ap Some (arrived up own ks q at w s (e ∙ ap Some (eqb-true r own t))))
@@ -70,7 +72,8 @@ module _ {T A : Type 0} (up : ℕ → Option ℕ) (own : ℕ) (ks : List (Box (L
   climb-down n low = climb-in n q (start q own ks w.has) low
 
 -- a row of a child is less deep there
-module _ {T A : Type 0} (own : ℕ) (c : Option T) (ks : List (Box (List (Line T)) A)) (i : ℕ) (k : Box (List (Line T)) A) (lt : i < length ks) (is : k ≡ get_or ks i k) (d : AreDistinct ((own, (None, c)) ∷ below own ks)) (ns : AreNests ks) (n : IsNest ((own, (None, c)) ∷ below own ks)) where
+module _ {T A : Type 0} (own : ℕ) (c : Option T) (ks : List (Box (List (Line T)) A)) (i : ℕ) (k : Box (List (Line T)) A) (lt : i < length ks) (is : k ≡ get_or ks i k)
+    (d : AreDistinct ((own, (None, c)) ∷ below own ks)) (ns : AreNests ks) (n : IsNest ((own, (None, c)) ∷ below own ks)) where
   pub depth-child : (s q : ℕ) → has_row q k.value ≡ true → HasDepthIn ((own, (None, c)) ∷ below own ks) q (suc s) → HasDepthIn k.value q s
   depth-child zero q has (p, e, h) = elim (climbed q k.value (AreNests-get ks i k ns lt is) has (look q k.value) refl) [
     | inl t ↦ t.1
@@ -129,7 +132,8 @@ module _ {T A : Type 0} (own : ℕ) (c : Option T) (cs : List (Box (Branch T A) 
             let same : top (lines b) ≡ q = top-lines b ∙ sym e ∙ sym (top-lines a) in
             let in_b : has_row q (lines b) ≡ true = subst (λ y. has_row y (lines b) ≡ true) same (has-nest (lines b) (nest b)) in
             let one : uses q (below own ks) ≤ 1 = omega (arith, d q) in
-            let eq = same_child q own ks one i j (boxed_lines (get_or cs i x)) (boxed_lines (get_or cs j x)) (omega (arith, lt, lj, lk)) (omega (arith, lj, lk)) (here i x (omega (arith, lt, lj, lk))) (here j x (omega (arith, lj, lk))) in_a in_b in
+            let eq = same_child q own ks one i j (boxed_lines (get_or cs i x)) (boxed_lines (get_or cs j x)) (omega (arith, lt, lj, lk)) (omega (arith, lj, lk)) (here i x (omega (arith, lt, lj, lk)))
+            (here j x (omega (arith, lj, lk))) in_a in_b in
             absurd (omega (arith, eq, lt))
             )
       ]
@@ -140,7 +144,8 @@ module _ {T A : Type 0} (own : ℕ) (c : Option T) (cs : List (Box (Branch T A) 
         | inr s ↦ absurd (off (omega (arith, le, ltb-false x y s)))
       ]
 
-unboxed : {T A : Type 0} (ks : List (Box (Branch T A) A)) (i : ℕ) (k : Box (List (Line T)) A) → i < length (map boxed_lines ks) → k ≡ get_or (map boxed_lines ks) i k → (x : Box (Branch T A) A) × (i < length ks) × (slice_get ks i ≡ Some x) × (k ≡ boxed_lines x)
+unboxed : {T A : Type 0} (ks : List (Box (Branch T A) A)) (i : ℕ) (k : Box (List (Line T)) A) → i < length (map boxed_lines ks) → k ≡ get_or (map boxed_lines ks) i k → (x : Box (Branch T A) A) ×
+    (i < length ks) × (slice_get ks i ≡ Some x) × (k ≡ boxed_lines x)
 unboxed [] i k lt is = absurd (omega (arith, lt))
 unboxed (x ∷ ks) zero k lt is = (x, omega arith, refl, is)
 unboxed (x ∷ ks) (suc i) k lt is = let r = unboxed ks i k (omega (arith, lt)) is in (r.0, omega (arith, r.1), r.2, r.3)
@@ -165,7 +170,8 @@ module _ {T A : Type 0} where
       ranked own (Some (content_of n)) (children_of n) dn up i j x lt lj
 
   -- the node that is so deep is so many steps down
-  pub way-found : (up : ℕ → Option ℕ) (most q s : ℕ) (b : Branch T A) → AreDistinct (lines b) → Agrees (lines b) up → length (lines b) ≤ most → AreRising b → has_row q (lines b) ≡ true → HasDepthIn (lines b) q s
+  pub way-found : (up : ℕ → Option ℕ) (most q s : ℕ) (b : Branch T A) → AreDistinct (lines b) → Agrees (lines b) up → length (lines b) ≤ most → AreRising b → has_row q (lines b) ≡ true → HasDepthIn
+      (lines b) q s
       → (n : Node T A) × (reach (way up most q s b) b ≡ Some n) × ((out-Node T A n).id ≡ q)
   way-found up most q zero b d ag len r has h = (node_of b, refl, sym (root_only q (lines b) (nest b).topped h ∙ top-lines b))
   way-found up most q (suc s) b d ag len r has h =
@@ -184,13 +190,15 @@ module _ {T A : Type 0} where
       let u = unboxed cs st.index st.child st.within st.is in
       let x = u.0 in
       let placed = at-mapped boxed_lines cs st.index x u.2 in
-      let down : climb up own most q ≡ Some (id_of x.value) = climb-down up own ks q p most (omega (arith, place-has q (below own ks) p.has, size, len)) ∙ ap Some (ap (λ k. top k.value) u.3 ∙ top-lines x.value) in
+      let down : climb up own most q ≡ Some (id_of x.value) = climb-down up own ks q p most (omega (arith, place-has q (below own ks) p.has, size, len)) ∙ ap Some
+      (ap (λ k. top k.value) u.3 ∙ top-lines x.value) in
       let at : step up most q (node_of b) ≡ st.index = ap (λ o. place_to o cs) down ∙ place-found (id_of x.value) cs st.index (r [] (node_of b) refl) u.1 (λ y. same_id cs st.index x y u.1 u.2) in
       let child : child_of (node_of b) (step up most q (node_of b)) ≡ Some x.value = ap (λ i. child_of (node_of b) i) at ∙ ap (option_map (λ y. y.value)) u.2 in
       let mine : has_row q (lines x.value) ≡ true = subst (λ k. has_row q k.value ≡ true) u.3 st.mine in
       let deep = depth-child own c ks st.index (boxed_lines x) placed.0 placed.1 dw ns (subst (λ es. IsNest es) (whole b) (nest b)) s q mine hd in
       let below_it = way-child up q own c ks w st.index (boxed_lines x) placed.0 placed.1 mine in
-      let rest = way-found up most q s x.value (AreDistinct-child own ks st.index (boxed_lines x) placed.0 placed.1 c dw) below_it.agrees (omega (arith, len, size, length-child own ks st.index (boxed_lines x) placed.0 placed.1))
+      let rest = way-found up most q s x.value (AreDistinct-child own ks st.index (boxed_lines x) placed.0 placed.1 c dw) below_it.agrees
+      (omega (arith, len, size, length-child own ks st.index (boxed_lines x) placed.0 placed.1))
       (rising-child b r [] (node_of b) (step up most q (node_of b)) x.value refl child) mine deep in
       (rest.0, ap (λ o. option_and_then (reach (further (way up most q s) o)) o) child ∙ rest.1, rest.2)
     where
@@ -228,5 +236,13 @@ module _ {T A : Type 0} where
         by (Some n) e =
             let same : n ≡ reached_one.0 = cc in
             let led : reach (way_to up q b) b ≡ Some n = reached_one.1 ∙ sym e in
-            let id : (out-Node T A n).id ≡ q = ap (λ m. (out-Node T A m).id) same ∙ reached_one.2 in
-            (record { led = led; here = id; found = subst (λ x. IsFound x (lines b) (node_lines n)) (top-node n ∙ id) (reach-found (way_to up q b) b n led l.distinct); rising = laid-rising (way_to up q b) n led }, refl)
+            let id : (out-Node T A n).id ≡ q = ap (λ m. (out-Node T A m).id) same ∙ reached_one.2 in (
+              record {
+                led = led;
+                here = id;
+                found = subst (λ x. IsFound x (lines b) (node_lines n)) (top-node n ∙ id) (reach-found (way_to up q b) b n led l.distinct);
+                rising = laid-rising
+                    (way_to up q b) n led;
+              },
+              refl,
+            )

@@ -11,7 +11,8 @@ use Rattle.std.proofs.lemmas.Bool.{cases_Bool, ltb-false, ltb-true}
 use Rattle.std.proofs.Math.Dec.{ltb}
 use Rattle.hv_tree.proofs.Lists.{get_or_any}
 
-pub found_at : {X : Type 0} (n : X → ℕ) (xs : List X) (id : ℕ) (r : Result ℕ ℕ) → IsSearchInRange r (length xs) → IsBinarySearchResult (λ x. nat_cmp (n x) id) xs r → IfOk r (λ i. (i < length xs) × HoldsAt (λ x. n x ≡ id) xs i)
+pub found_at : {X : Type 0} (n : X → ℕ) (xs : List X) (id : ℕ) (r : Result ℕ ℕ) → IsSearchInRange r (length xs) → IsBinarySearchResult (λ x. nat_cmp (n x) id) xs r → IfOk r
+    (λ i. (i < length xs) × HoldsAt (λ x. n x ≡ id) xs i)
 found_at n xs id (Ok i) lt at = (lt, λ d. ranked _ _ Equal (sym (at d)))
 found_at n xs id (Err i) lt at = tt
 
@@ -49,7 +50,8 @@ least_none n xs low i point past x (j, lt, at) =
     omega (arith, ap n b, a, at, h)
 
 -- the first that is higher is the least of those
-pub least_some : {X : Type 0} (n : X → ℕ) (xs : List X) (low i : ℕ) (y : X) → IsNonDecreasingBy n xs → IsPartitionPoint (λ x. n x ≤ low) (λ x. low < n x) xs i → i < length xs → y ≡ get_or xs i y → Contains (map n xs) (n y) × (low < n y) × ((x : ℕ) → Contains (map n xs) x → low < x → n y ≤ x)
+pub least_some : {X : Type 0} (n : X → ℕ) (xs : List X) (low i : ℕ) (y : X) → IsNonDecreasingBy n xs → IsPartitionPoint (λ x. n x ≤ low) (λ x. low < n x) xs i → i < length xs → y ≡ get_or xs i y →
+    Contains (map n xs) (n y) × (low < n y) × ((x : ℕ) → Contains (map n xs) x → low < x → n y ≤ x)
 least_some n xs low i y up point lt is = (
   (i, rw (length-map xs n) lt, get_or-map n xs i (n y) y lt is),
   (let h = point.1 i y (omega arith) lt in omega (arith, ap n is, h)),

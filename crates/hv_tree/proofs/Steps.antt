@@ -40,11 +40,13 @@ module _ {T A : Type 0} where
       rw off (ap (λ n. n + 1) (place-absent q ks (λ i d lt. all (suc i) d (omega arith))) ∙ (omega arith))
 
   -- the place of the next child, where the index names it
-  pub step-some : (n : Node T A) (q i : ℕ) (o : Option ℕ) → o ≡ Some q → IsRising n → i < length (children_of n) → ((d : Box (Branch T A) A) → id_of (get_or (children_of n) i d).value ≡ q) → i ≡ place_to o (children_of n)
+  pub step-some : (n : Node T A) (q i : ℕ) (o : Option ℕ) → o ≡ Some q → IsRising n → i < length (children_of n) → ((d : Box (Branch T A) A) → id_of (get_or (children_of n) i d).value ≡ q) → i ≡
+      place_to o (children_of n)
   step-some n q i o e r lt at = sym (ap (λ o. place_to o (children_of n)) e ∙ place-found q (children_of n) i r lt at)
 
   pub step-none : (n : Node T A) (q : ℕ) (o : Option ℕ) → o ≡ Some q → All (λ k. id_of k.value ≢ q) (children_of n) → child_of n (place_to o (children_of n)) ≡ None
-  step-none n q o e all = ap (λ i. child_of n i) (ap (λ o. place_to o (children_of n)) e ∙ place-absent q (children_of n) all) ∙ ap (option_map (λ b. b.value)) (none-past (children_of n) (length (children_of n)) (omega arith))
+  step-none n q o e all = ap (λ i. child_of n i) (ap (λ o. place_to o (children_of n)) e ∙ place-absent q (children_of n) all) ∙ ap (option_map (λ b. b.value))
+      (none-past (children_of n) (length (children_of n)) (omega arith))
 
   pub step-lost : (n : Node T A) (o : Option ℕ) → o ≡ None → child_of n (place_to o (children_of n)) ≡ None
   step-lost n o e = ap (λ i. child_of n i) (ap (λ o. place_to o (children_of n)) e) ∙ ap (option_map (λ b. b.value)) (none-past (children_of n) (length (children_of n)) (omega arith))
@@ -99,7 +101,8 @@ module _ {T A : Type 0} where
         by rest (Some m) h = rest m h
 
     -- what lies in two parts is found in the second
-    pub split_some : (s t len : ℕ) (b : Branch T A) (n : Node T A) (k : Branch T A) → len ≡ s + suc t → Some n ≡ reach (way up most q s b) b → Some k ≡ child_of n (next n) → reach (way up most q len b) b ≡ reach (way up most q t k) k
+    pub split_some : (s t len : ℕ) (b : Branch T A) (n : Node T A) (k : Branch T A) → len ≡ s + suc t → Some n ≡ reach (way up most q s b) b → Some k ≡ child_of n (next n) → reach
+        (way up most q len b) b ≡ reach (way up most q t k) k
     split_some s t len b n k e f g = ap (λ l. reach (way up most q l b) b) e ∙ reach_split s t b ∙ ap (on t) (sym f) ∙ ap (option_and_then (λ k. reach (way up most q t k) k)) (sym g)
 
     pub split_lost : (s t len : ℕ) (b : Branch T A) → len ≡ s + suc t → None ≡ reach (way up most q s b) b → reach (way up most q len b) b ≡ None

@@ -53,11 +53,13 @@ filled-edited f false (Some (p, None)) = refl
 filled-edited f true (Some (p, Some c)) = refl
 filled-edited f false (Some (p, Some c)) = refl
 
-above_edited : {C : Type 0} (g : C → C) (o : Option (Option ℕ × C)) → option_map (λ (r : Option ℕ × C). r.0) (option_map {T = Option ℕ × C} {U = Option ℕ × C} (λ r. (r.0, g r.1)) o) ≡ option_map (λ r. r.0) o
+above_edited : {C : Type 0} (g : C → C) (o : Option (Option ℕ × C)) → option_map (λ (r : Option ℕ × C). r.0) (option_map {T = Option ℕ × C} {U = Option ℕ × C} (λ r. (r.0, g r.1)) o) ≡ option_map
+    (λ r. r.0) o
 above_edited g None = refl
 above_edited g (Some r) = refl
 
-parent_edited : {C : Type 0} (g : C → C) (o : Option (Option ℕ × C)) → option_and_then (λ (r : Option ℕ × C). r.0) (option_map {T = Option ℕ × C} {U = Option ℕ × C} (λ r. (r.0, g r.1)) o) ≡ option_and_then (λ r. r.0) o
+parent_edited : {C : Type 0} (g : C → C) (o : Option (Option ℕ × C)) → option_and_then (λ (r : Option ℕ × C). r.0) (option_map {T = Option ℕ × C} {U = Option ℕ × C} (λ r. (r.0, g r.1)) o) ≡
+    option_and_then (λ r. r.0) o
 parent_edited g None = refl
 parent_edited g (Some r) = refl
 

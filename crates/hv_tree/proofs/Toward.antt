@@ -1,6 +1,7 @@
 -- The way from an id up to the child that it is below.
 use Rattle.std.proofs.lemmas.Bool.{cases_Bool, eqb-true, eqb-false, eq-eqb}
-use Rattle.std.proofs.Common.{◌≡◌, ◌≢◌, ℕ, zero, suc, ◌<◌, ◌≤◌, true, false, ◌==◌, ◌||◌, ◌⊎◌, inl, inr, Option, None, Some, IfSome, IfNone, List, [], ◌∷◌, Box, refl, sym, ap, ◌∙◌, is_some, arith, length, get_or}
+use Rattle.std.proofs.Common.{◌≡◌, ◌≢◌, ℕ, zero, suc, ◌<◌, ◌≤◌, true, false, ◌==◌, ◌||◌, ◌⊎◌, inl, inr, Option, None, Some, IfSome, IfNone, List, [], ◌∷◌, Box, refl, sym, ap, ◌∙◌, is_some, arith}
+use Rattle.std.proofs.Common.{length, get_or}
 use Rattle.std.specs.Option.{option_map, option_and_then}
 use Rattle.hv_tree.specs.Nest.{Line, has_row, look, uses, top, place, hang, IsNest}
 use Rattle.hv_tree.specs.Below.{below, AreNests}
@@ -19,7 +20,8 @@ or_right true e = refl
 or_right false e = e
 
 -- a row of a child is there
-pub has-in : {T A : Type 0} (q p : ℕ) (ks : List (Box (List (Line T)) A)) (i : ℕ) (k : Box (List (Line T)) A) → i < length ks → k ≡ get_or ks i k → has_row q k.value ≡ true → has_row q (below p ks) ≡ true
+pub has-in : {T A : Type 0} (q p : ℕ) (ks : List (Box (List (Line T)) A)) (i : ℕ) (k : Box (List (Line T)) A) → i < length ks → k ≡ get_or ks i k → has_row q k.value ≡ true → has_row q (below p ks) ≡
+    true
 has-in q p [] i k lt is h = absurd (omega arith)
 has-in q p (x ∷ ks) zero k lt is h = has-below q p x ks ∙ (let e : has_row q x.value ≡ true = ap (λ b. has_row q b.value) (sym is) ∙ h in rw e refl)
 has-in q p (x ∷ ks) (suc i) k lt is h = has-below q p x ks ∙ or_right (has_row q x.value) (has-in q p ks i k (omega arith) is h)
@@ -37,19 +39,44 @@ pub start : {T A : Type 0} (q p : ℕ) (ks : List (Box (List (Line T)) A)) → h
 start q p [] h = cc
 start q p (k ∷ ks) h = elim (cases_Bool (has_row q k.value)) [
   | inl s ↦ record { index = 0; child = k; within = omega arith; is = refl; mine = s; also = s }
-  | inr s ↦ (let r = start q p ks (rw s at (sym (has-below q p k ks) ∙ h)) in record { index = suc r.index; child = r.child; within = omega (arith, r.within); is = r.is; mine = r.mine; also = r.also })
+  | inr s ↦ (let r = start q p ks (rw s at (sym (has-below q p k ks) ∙ h)) in record {
+    index = suc r.index;
+    child = r.child;
+    within = omega (arith, r.within);
+    is = r.is;
+    mine = r.mine;
+    also = r.also;
+  })
 ]
 
 -- where no two rows have one id, two children have no row in common
-pub same_child : {T A : Type 0} (q p : ℕ) (ks : List (Box (List (Line T)) A)) → uses q (below p ks) ≤ 1 → (i j : ℕ) (k m : Box (List (Line T)) A) → i < length ks → j < length ks → k ≡ get_or ks i k → m ≡ get_or ks j m → has_row q k.value ≡ true → has_row q m.value ≡ true → i ≡ j
+pub same_child : {T A : Type 0} (q p : ℕ) (ks : List (Box (List (Line T)) A)) → uses q (below p ks) ≤ 1 → (i j : ℕ) (k m : Box (List (Line T)) A) → i < length ks → j < length ks → k ≡ get_or ks i k →
+    m ≡ get_or ks j m → has_row q k.value ≡ true → has_row q m.value ≡ true → i ≡ j
 same_child q p [] d i j k m li lj ki mj h g = absurd (omega arith)
 same_child q p (x ∷ ks) d zero zero k m li lj ki mj h g = refl
-same_child q p (x ∷ ks) d zero (suc j) k m li lj ki mj h g = absurd (omega (arith, d, uses-append q (hang p x.value) (below p ks), uses-hang q p x.value, used q x.value (ap (λ b. has_row q b.value) (sym ki) ∙ h), used q (below p ks) (has-in q p ks j m (omega arith) mj g)))
-same_child q p (x ∷ ks) d (suc i) zero k m li lj ki mj h g = absurd (omega (arith, d, uses-append q (hang p x.value) (below p ks), uses-hang q p x.value, used q x.value (ap (λ b. has_row q b.value) (sym mj) ∙ g), used q (below p ks) (has-in q p ks i k (omega arith) ki h)))
+same_child q p (x ∷ ks) d zero (suc j) k m li lj ki mj h g = absurd (omega (
+  arith,
+  d,
+  uses-append q (hang p x.value) (below p ks),
+  uses-hang q p x.value,
+  used q x.value
+      (ap (λ b. has_row q b.value) (sym ki) ∙ h),
+  used q (below p ks) (has-in q p ks j m (omega arith) mj g),
+))
+same_child q p (x ∷ ks) d (suc i) zero k m li lj ki mj h g = absurd (omega (
+  arith,
+  d,
+  uses-append q (hang p x.value) (below p ks),
+  uses-hang q p x.value,
+  used q x.value
+      (ap (λ b. has_row q b.value) (sym mj) ∙ g),
+  used q (below p ks) (has-in q p ks i k (omega arith) ki h),
+))
 same_child q p (x ∷ ks) d (suc i) (suc j) k m li lj ki mj h g = ap suc (same_child q p ks (omega (arith, d, uses-append q (hang p x.value) (below p ks))) i j k m (omega arith) (omega arith) ki mj h g)
 
 -- a row is the first, or its parent is there too
-pub climbed : {T : Type 0} (q : ℕ) (es : List (Line T)) → IsNest es → has_row q es ≡ true → (o : Option (Option ℕ × Option T)) → look q es ≡ o → ((q ≡ top es) × (option_map (λ r. r.0) o ≡ Some None)) ⊎ ((r : ℕ) × (has_row r es ≡ true) × (option_map (λ r. r.0) o ≡ Some (Some r)))
+pub climbed : {T : Type 0} (q : ℕ) (es : List (Line T)) → IsNest es → has_row q es ≡ true → (o : Option (Option ℕ × Option T)) → look q es ≡ o → ((q ≡ top es) × (option_map (λ r. r.0) o ≡ Some None))
+    ⊎ ((r : ℕ) × (has_row r es ≡ true) × (option_map (λ r. r.0) o ≡ Some (Some r)))
 climbed q es n h None e = absurd (let f : true ≡ false = sym h ∙ has-look q es ∙ ap is_some e in cc)
 climbed q es n h (Some (None, c)) e = inl (root_only q es n.topped (ap (option_map (λ r. r.0)) e), refl)
 climbed q es n h (Some (Some r, c)) e = inr (
@@ -127,7 +154,8 @@ module _ {T A : Type 0} (up : ℕ → Option ℕ) (q own : ℕ) (c : Option T) (
     distinct = w.distinct;
     nests = ns;
     agrees = λ x y e. elim (cases_Bool (x == own)) [
-      | inl s ↦ absurd (let has = found_has x (below own ks) (λ r. r.0) (Some y) (sym e) in let free = own_free own c ks w.distinct in let same : x ≡ own = eqb-true x own s in (let f : has_row own (below own ks) ≡ true = ap (λ z. has_row z (below own ks)) (sym same) ∙ has in cc))
+      | inl s ↦ absurd (let has = found_has x (below own ks) (λ r. r.0) (Some y) (sym e) in let free = own_free own c ks w.distinct in let same : x ≡ own = eqb-true x own s in
+          (let f : has_row own (below own ks) ≡ true = ap (λ z. has_row z (below own ks)) (sym same) ∙ has in cc))
       | inr s ↦ w.agrees x y (rw s e)
     ];
     has = rw off at w.has;

@@ -56,7 +56,8 @@ module _ {T A : Type 0} where
   same_far [] b n e = let same : node_of b ≡ n = cc in ap (put_node b) (sym same) ∙ same_node b
   same_far (i ∷ is) b n e = by (λ k h. same_far is k n h) (child_of (node_of b) i) refl e
     where
-      by : ((k : Branch T A) → reach is k ≡ Some n → put_far is k n ≡ k) → (o : Option (Branch T A)) → child_of (node_of b) i ≡ o → option_and_then (reach is) o ≡ Some n → put_node b (put_child (node_of b) i (below b (λ k. put_far is k n) o)) ≡ b
+      by : ((k : Branch T A) → reach is k ≡ Some n → put_far is k n ≡ k) → (o : Option (Branch T A)) → child_of (node_of b) i ≡ o → option_and_then (reach is) o ≡ Some n → put_node b
+          (put_child (node_of b) i (below b (λ k. put_far is k n) o)) ≡ b
       by below-is None at h = cc
       by below-is (Some k) at h = ap (λ m. put_node b (put_child (node_of b) i m)) (below-is k h) ∙ ap (put_node b) (same_child (node_of b) i k at) ∙ same_node b
 
@@ -78,6 +79,7 @@ module _ {T A : Type 0} where
   reach_two [] js i b n k e f = let same : node_of b ≡ n = cc in rw same (rw f refl)
   reach_two (j ∷ is) js i b n k e f = by (λ m h. reach_two is js i m n k h f) (child_of (node_of b) j) e
     where
-      by : ((m : Branch T A) → reach is m ≡ Some n → reach (is ++ i ∷ js) m ≡ reach js k) → (o : Option (Branch T A)) → option_and_then (reach is) o ≡ Some n → option_and_then (reach (is ++ i ∷ js)) o ≡ reach js k
+      by : ((m : Branch T A) → reach is m ≡ Some n → reach (is ++ i ∷ js) m ≡ reach js k) → (o : Option (Branch T A)) → option_and_then (reach is) o ≡ Some n → option_and_then (reach (is ++ i ∷ js)) o
+          ≡ reach js k
       by below-is None h = cc
       by below-is (Some m) h = below-is m h

@@ -27,7 +27,8 @@ pub record IsWay {T : Type 0} (up : ℕ → Option ℕ) (q : ℕ) (es : List (Li
   pub has : has_row q es ≡ true
 
 -- the index leads from q to one of the children of own
-pub record IsPath {T A : Type 0} (up : ℕ → Option ℕ) (own : ℕ) (ks : List (Box (List (Line T)) A)) (q : ℕ) : Type 0 where
+pub record IsPath {T A : Type 0} (up : ℕ → Option ℕ) (own : ℕ) (ks : List (Box (List (Line T)) A)) (q : ℕ) :
+    Type 0 where
   pub distinct : AreDistinct {X = Option ℕ × Option T} ((own, (None, None)) ∷ below own ks)
   pub nests : AreNests ks
   pub agrees : Agrees (below own ks) up

@@ -7,10 +7,12 @@ use Rattle.hv_tree.specs.Below.{below}
 
 module _ {T A : Type 0} where
   abbrev pub lines : Branch T A → List (Line T)
-  lines b = fold-Branch T A (List (Line T)) (List (Line T)) (λ s. s.node) (λ s. (s.id, (None, Some s.content)) ∷ below s.id s.children.items) b
+  lines b = fold-Branch T A (List (Line T)) (List (Line T)) (λ s. s.node)
+      (λ s. (s.id, (None, Some s.content)) ∷ below s.id s.children.items) b
 
   abbrev pub node_lines : Node T A → List (Line T)
-  node_lines n = fold-Node T A (List (Line T)) (List (Line T)) (λ s. s.node) (λ s. (s.id, (None, Some s.content)) ∷ below s.id s.children.items) n
+  node_lines n = fold-Node T A (List (Line T)) (List (Line T)) (λ s. s.node)
+      (λ s. (s.id, (None, Some s.content)) ∷ below s.id s.children.items) n
 
   -- a box, seen as the rows of what is in it
   abbrev pub boxed_lines : Box (Branch T A) A → Box (List (Line T)) A

@@ -1,5 +1,6 @@
 -- The rows of a node and of all that is below it, as a list in which a parent comes before its children.
-use Rattle.std.specs.Prelude.{◌≡◌, ℕ, zero, suc, ◌+◌, ◌≤◌, ◌<◌, Bool, true, false, cond, ◌||◌, ◌==◌, Option, None, Some, is_some, List, [], ◌∷◌, ◌++◌}
+use Rattle.std.specs.Prelude.{◌≡◌, ℕ, zero, suc, ◌+◌, ◌≤◌, ◌<◌, Bool, true, false, cond, ◌||◌, ◌==◌, Option}
+use Rattle.std.specs.Prelude.{None, Some, is_some, List, [], ◌∷◌, ◌++◌}
 use Rattle.std.specs.Option.{option_or, option_map}
 use Rattle.hv_tree.specs.Rows.{children_in}
 
@@ -94,7 +95,8 @@ put_at q h (e ∷ es) = cond (q == e.0) ((e.0, (e.1.0, h)) ∷ es) (e ∷ put_at
 
 -- new is old with the rows es below p, somewhere
 abbrev pub IsGrownBy : {T : Type 0} → ℕ → List (Line T) → List (Line T) → List (Line T) → Type 0
-IsGrownBy {T} p es old new = (xs : List (Line T)) × ((ys : List (Line T)) × ((old ≡ xs ++ ys) × (new ≡ xs ++ (hang p es ++ ys))))
+IsGrownBy {T} p es old new = (xs : List (Line T)) ×
+    ((ys : List (Line T)) × ((old ≡ xs ++ ys) × (new ≡ xs ++ (hang p es ++ ys))))
 
 -- new is old without the row q, which had a parent, the content c and no children
 pub record IsWithout {T : Type 0} (q : ℕ) (c : Option T) (old new : List (Line T)) : Type 0 where

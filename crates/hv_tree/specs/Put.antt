@@ -26,7 +26,8 @@ module _ {T A : Type 0} where
   -- n with k in the box at i, if there is one
   abbrev pub put_in : Node T A → ℕ → Branch T A → Option (Box (Branch T A) A) → Node T A
   put_in n i k None = n
-  put_in n i k (Some b) = roll-Node T A (record (out-Node T A n) { children = with_item (out-Node T A n).children i (with_value b k) })
+  put_in n i k (Some b) = roll-Node T A (record (out-Node T A n)
+      { children = with_item (out-Node T A n).children i (with_value b k) })
 
   -- n with k as the child at i, where there is one
   abbrev pub put_child : Node T A → ℕ → Branch T A → Node T A
@@ -44,7 +45,8 @@ module _ {T A : Type 0} where
   -- b with n put in where the way leads
   abbrev pub put_far : List ℕ → Branch T A → Node T A → Branch T A
   put_far [] b n = put_node b n
-  put_far (i ∷ is) b n = put_node b (put_child (node_of b) i (below b (λ k. put_far is k n) (child_of (node_of b) i)))
+  put_far (i ∷ is) b n = put_node b (put_child (node_of b) i
+      (below b (λ k. put_far is k n) (child_of (node_of b) i)))
 
   -- n with the content c, if there is a node
   abbrev pub put_content_in : List ℕ → Branch T A → T → Option (Node T A) → Branch T A
@@ -57,4 +59,5 @@ module _ {T A : Type 0} where
 
   -- the way leads to a node with the id and the content
   abbrev pub IsContentAt : List ℕ → ℕ → Branch T A → T → Type 0
-  IsContentAt is q b c = (n : Node T A) × (reach is b ≡ Some n) × ((out-Node T A n).id ≡ q) × (content_of n ≡ c)
+  IsContentAt is q b c = (n : Node T A) × (reach is b ≡ Some n) × ((out-Node T A n).id ≡ q) ×
+      (content_of n ≡ c)

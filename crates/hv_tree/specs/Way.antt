@@ -1,6 +1,7 @@
 -- The way down to a node, as an index of parents tells it.
 use Rattle.std.specs.List.{remove}
-use Rattle.std.specs.Prelude.{◌≡◌, ℕ, zero, suc, ◌+◌, ◌<◌, ◌≤◌, ◌==◌, cond, length, List, [], ◌∷◌, Option, None, Some, Box, get_or}
+use Rattle.std.specs.Prelude.{◌≡◌, ℕ, zero, suc, ◌+◌, ◌<◌, ◌≤◌, ◌==◌, cond, length, List, [], ◌∷◌, Option}
+use Rattle.std.specs.Prelude.{None, Some, Box, get_or}
 use Rattle.hv_tree.specs.declared.node.Branch.{Branch}
 use Rattle.hv_tree.specs.declared.node.Node.{Node, out-Node}
 use Rattle.hv_tree.specs.declared.index.TheConstants.{MOST, NOTED}
@@ -68,11 +69,13 @@ module _ {T A : Type 0} where
   -- the places of the children on the way to the id, so many steps down
   abbrev pub way : (ℕ → Option ℕ) → ℕ → ℕ → ℕ → Branch T A → List ℕ
   way up limit q zero b = []
-  way up limit q (suc s) b = step up limit q (node_of b) ∷ further (way up limit q s) (child_of (node_of b) (step up limit q (node_of b)))
+  way up limit q (suc s) b = step up limit q (node_of b) ∷ further (way up limit q s)
+      (child_of (node_of b) (step up limit q (node_of b)))
 
   -- the ids of a node's children rise
   abbrev pub IsRising : Node T A → Type 0
-  IsRising n = (i j : ℕ) (d : Box (Branch T A) A) → i < j → j < length (children_of n) → id_of (get_or (children_of n) i d).value < id_of (get_or (children_of n) j d).value
+  IsRising n = (i j : ℕ) (d : Box (Branch T A) A) → i < j → j < length (children_of n) → id_of
+      (get_or (children_of n) i d).value < id_of (get_or (children_of n) j d).value
 
   -- the children of each node below rise
   abbrev pub AreRising : Branch T A → Type 0

@@ -73,7 +73,8 @@ pub(crate) fn graft<T, A: Allocator>(
     }
 }
 
-/// Takes the node with the id out, which is a child of `parent`, if it has no children, and gives its content.
+/// Takes the node with the id out, which is a child of `parent`, if it has no children, and gives its
+/// content.
 pub(crate) fn prune<T: Drop, A: Allocator>(
     root: &mut Branch<T, A>,
     index: &Index<A>,

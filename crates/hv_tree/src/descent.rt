@@ -103,7 +103,8 @@ pub(crate) fn place_toward<T, A: Allocator>(
     requires rising { IsRising node.now }
     requires climb { IsClimb (parents index.now) climb.now }
     ensures some { IfSome result (λ i. i ≡ step (parents index.now) MOST climb.now.id node.now) }
-    ensures none { IfNone result (child_of node.now (step (parents index.now) MOST climb.now.id node.now) ≡ None) }
+    ensures none { IfNone result (child_of node.now (step (parents index.now) MOST climb.now.id node.now) ≡
+        None) }
 {
     let next = climb.child_toward(index, node.id)?;
     match search_child(&node.children, next) {

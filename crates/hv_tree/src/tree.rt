@@ -23,8 +23,8 @@ use std::marker::Model;
 
 /// A tree whose nodes have ids of their own, each with a content. One node, the root, has no parent.
 ///
-/// Each node owns its children in boxes, by rising id. Beside them an index names each node's parent, and tells
-/// the way down to a node.
+/// Each node owns its children in boxes, by rising id. Beside them an index names each node's parent, and
+/// tells the way down to a node.
 #[derive(Drop)]
 pub struct IdTree<T, A: Allocator> {
     root: Branch<T, A>,

@@ -7,7 +7,7 @@ use Rattle.std.specs.Ordering.{nat_cmp}
 use Rattle.hv_defs.specs.Registers.{after_write, kept, row_of}
 use Rattle.hv_defs.specs.declared.registers.RegFault.{RegFault}
 use Rattle.hv_defs.specs.declared.registers.TheConstants.{EOM}
-use Rattle.hv_mail.proofs.Shows.{at-all_next}
+use Rattle.hv_mail.proofs.PartitionRelation.{at-all_next}
 use Rattle.hv_mail.specs.Mail.{Mail, all_next, at, has_next, with_at, with_next}
 use Rattle.hv_vp.specs.Registers.{answer}
 use Rattle.hv_vp.specs.Vp.{VpState, raised_if, shown_each, written}
@@ -23,7 +23,8 @@ none_raised : (v : VpState) (mail : Mail) → record v { mail = mail } ≡ recor
 unfolding shown_each
 none_raised v mail = refl
 
-pub first_raised : (n : ℕ) (first before : VpState) (mail : Mail) → before ≡ first → mail ≡ all_next n before.mail → record before { mail = mail } ≡ record (shown_each 0 first) { mail = all_next n first.mail }
+pub first_raised : (n : ℕ) (first before : VpState) (mail : Mail) → before ≡ first → mail ≡ all_next n before.mail → record before { mail = mail } ≡ record (shown_each 0 first)
+    { mail = all_next n first.mail }
 first_raised n first before mail is moved = rw (moved, is) (none_raised first (all_next n first.mail))
 
 -- then the next one does, if a message became shown there

@@ -66,7 +66,8 @@ module _ (name : ℕ) where
         | inr apart ↦
             let later = no_row rows (i + 1) (rw (ne_eqb row.name name apart) at e) in
             record {
-              apart = λ j below. elim j as (λ j. j < length (names (row ∷ rows)) → get_or (names (row ∷ rows)) j 0 ≡ name → ⊥) [ zero ↦ λ _. apart | suc j ↦ λ below. later.apart j (omega arith) ] below;
+              apart = λ j below. elim j as (λ j. j < length (names (row ∷ rows)) → get_or (names (row ∷ rows)) j 0 ≡ name → ⊥) [ zero ↦ λ _. apart | suc j ↦ λ below. later.apart j (omega arith) ]
+                  below;
               found = rw (ne_eqb row.name name apart) later.found;
             }
       ]

@@ -81,8 +81,11 @@ module _ (test : VpState → Bool) where
       by : (o : Option (ℕ × VpState)) → find (λ e. test e.1) (entries vps) ≡ o → IsLowest vps (option_map (λ e. e.0) o)
       by None is = λ q w there. fails (test w) q w is there refl
       by (Some c) is =
-          let (there, passes) = found_row (λ e. test e.1) vps c is in
-          ((c.1, there, passes), λ q w at own. (let (d, found, le) = found_least (λ e. test e.1) vps q w at own in let same : d.0 ≡ c.0 = (let one : d ≡ c = cc in ap (λ e. e.0) one) in omega (arith, same, le)))
+          let (there, passes) = found_row (λ e. test e.1) vps c is in (
+            (c.1, there, passes),
+            λ q w at own. (let (d, found, le) = found_least (λ e. test e.1) vps q w at own in let same : d.0 ≡ c.0 = (let one : d ≡ c = cc in ap (λ e. e.0) one) in omega
+                (arith, same, le)),
+          )
 
   only : (vps : FinMap nat_cmp VpState) (o p : Option ℕ) → IsLowest vps o → IsLowest vps p → o ≡ p
   only vps None None a b = refl
@@ -138,8 +141,11 @@ module _ (test : VpState → Bool) where
   -- the lowest index of the slots whose processors meet the test
   pub lowest_in_all : {A : Type 0} (slots : List (Slot A)) → AreDistinct slots → reduce min (list_map (λ slot. slot.index) (filter (λ slot. test slot.vp) slots)) ≡ lowest test (vps_of slots)
   lowest_in_all {A} [] distinct = sym (ap (λ (es : List (ℕ × VpState)). option_map (λ e. e.0) (find (λ e. test e.1) es)) (no_entries A (entries (vps_of {A = A} [])) refl))
-  lowest_in_all (slot ∷ slots) distinct = by (test slot.vp) refl (lowest_in_all slots (others slot slots distinct)) ∙ sym (ap (lowest test) (joined slot slots) ∙ joining (vps_of slots) slot.index slot.vp (fresh slot slots distinct))
+  lowest_in_all (slot ∷ slots) distinct = by (test slot.vp) refl (lowest_in_all slots (others slot slots distinct)) ∙ sym
+      (ap (lowest test) (joined slot slots) ∙ joining (vps_of slots) slot.index slot.vp (fresh slot slots distinct))
     where
-      by : (b : Bool) → test slot.vp ≡ b → reduce min (list_map (λ slot. slot.index) (filter (λ slot. test slot.vp) slots)) ≡ lowest test (vps_of slots) → reduce min (list_map (λ slot. slot.index) (cond (test slot.vp) (slot ∷ filter (λ slot. test slot.vp) slots) (filter (λ slot. test slot.vp) slots))) ≡ cond (test slot.vp) (Some (lower slot.index (lowest test (vps_of slots)))) (lowest test (vps_of slots))
+      by : (b : Bool) → test slot.vp ≡ b → reduce min (list_map (λ slot. slot.index) (filter (λ slot. test slot.vp) slots)) ≡ lowest test (vps_of slots) → reduce min
+          (list_map (λ slot. slot.index) (cond (test slot.vp) (slot ∷ filter (λ slot. test slot.vp) slots) (filter (λ slot. test slot.vp) slots))) ≡ cond (test slot.vp)
+          (Some (lower slot.index (lowest test (vps_of slots)))) (lowest test (vps_of slots))
       by true is rest = rw is (reduced slot.index _ ∙ ap (λ o. Some (lower slot.index o)) rest)
       by false is rest = rw is rest

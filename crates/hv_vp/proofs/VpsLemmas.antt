@@ -111,7 +111,8 @@ module _ {A : Type 0} (slots : List (Slot A)) (place : ℕ) (slot : Slot A) (are
       map.same_map nat_cmp_total nat_cmp-IsAntisymmetric _ _ (λ p.
       map.get-from_entries nat_cmp_total (entries_of (list_set slots place (record { index = slot.index; vp = vp }))) p
       ∙ changed (λ slot. slot.index) (λ slot. slot.vp) p slots place (record { index = slot.index; vp = vp }) slot are.distinct below (ap (λ (s : Slot A). s.index) at)
-      ∙ sym (map.get-insert nat_cmp_total (map.from_entries (entries_of slots)) slot.index vp p ∙ ap (cond (eq_by_cmp nat_cmp p slot.index) (Some vp)) (map.get-from_entries nat_cmp_total (entries_of slots) p)))
+      ∙ sym (map.get-insert nat_cmp_total (map.from_entries (entries_of slots)) slot.index vp p ∙ ap (cond (eq_by_cmp nat_cmp p slot.index) (Some vp))
+      (map.get-from_entries nat_cmp_total (entries_of slots) p)))
 
 -- a slot's state is that of its index
 pub seen_in : {A : Type 0} (slots : List (Slot A)) (q place : ℕ) (slot : Slot A) → slot ≡ get_or slots place slot
@@ -119,7 +120,8 @@ pub seen_in : {A : Type 0} (slots : List (Slot A)) (q place : ℕ) (slot : Slot 
 seen_in slots q place slot at scan = ap (λ (s : Slot _). Some s.vp) at ∙ sym (some_of slots q place slot scan)
 
 -- what is seen once another state is written through a loan of a slot's
-module _ {A : Type 0} (slots : List (Slot A)) (cap q place : ℕ) (slot : Slot A) (now : VpsState) (are : AreSlots slots) (at : slot ≡ get_or slots place slot) (scan : position_from (λ s. s.index == q) 0 slots ≡ Some place) where
+module _ {A : Type 0} (slots : List (Slot A)) (cap q place : ℕ) (slot : Slot A) (now : VpsState) (are : AreSlots slots) (at : slot ≡ get_or slots place slot)
+    (scan : position_from (λ s. s.index == q) 0 slots ≡ Some place) where
   found : (place < length slots) × (slot.index ≡ q)
   found =
       let first = slot_at (λ s. s.index) (λ s. s.vp) q slots 0 place slot scan in

@@ -45,7 +45,14 @@ msr_place msr = position_from (has_msr msr) 0 REGISTERS
 
 -- which values the register at a place takes, and none past the end
 unfoldable pub takes_at : ℕ → Takes
-takes_at place = (get_or REGISTERS place (record { name = 0; msr = None; privilege = 0; takes = Nothing; start = 0 })).takes
+takes_at place = (get_or REGISTERS place (record {
+  name = 0;
+  msr = None;
+  privilege = 0;
+  takes = Nothing;
+  start
+      = 0;
+})).takes
 
 -- the names of rows
 abbrev pub names : List RegisterRow → List ℕ

@@ -13,8 +13,8 @@ use Rattle.hv_mail.specs.Mail as mail
 use Rattle.hv_mail.specs.Mail.{Mail, at, has_next, mail_code, with_at, with_last, with_next}
 use Rattle.hv_mail.specs.declared.message.Message.{Message}
 
--- the value of each register, by its name; the messages at its SINTs; the event flags that are set, as (SINT, flag); the
--- vectors that are pending; and whether room for a message is reserved
+-- the value of each register, by its name; the messages at its SINTs; the event flags that are set, as (SINT,
+-- flag); the vectors that are pending; and whether room for a message is reserved
 pub record VpState : Type 0 where
   pub registers : map.FinMap nat_cmp ℕ
   pub mail : Mail
@@ -26,13 +26,22 @@ pub record VpState : Type 0 where
 abbrev pub vp_code : Coded VpState
 vp_code =
     code_by (map.FinMap nat_cmp ℕ × (Mail × (FlagSet × (VectorSet × Bool))))
-    (coded× (map.code coded_ℕ coded_ℕ) (coded× mail_code (coded× flags_code (coded× vectors_code coded_bool))))
+    (coded× (map.code coded_ℕ coded_ℕ) (coded× mail_code
+    (coded× flags_code (coded× vectors_code coded_bool))))
     (λ v. (v.registers, (v.mail, (v.flags, (v.pending, v.room)))))
-    (λ t. record { registers = t.0; mail = t.1.0; flags = t.1.1.0; pending = t.1.1.1.0; room = t.1.1.1.1 }) (λ _. refl)
+    (λ t. record { registers = t.0; mail = t.1.0; flags = t.1.1.0; pending = t.1.1.1.0; room = t.1.1.1.1 })
+    (λ _. refl)
 
 -- a processor that was just made
 abbrev pub new_vp : ℕ → VpState
-new_vp index = record { registers = start_registers index; mail = map.empty; flags = set.empty; pending = set.empty; room = false }
+new_vp index = record {
+  registers = start_registers index;
+  mail = map.empty;
+  flags = set.empty;
+  pending =
+      set.empty;
+  room = false;
+}
 
 -- once a SINT raised its vector, where it did
 abbrev pub raised_if : Bool → ℕ → VpState → VpState
@@ -40,7 +49,8 @@ raised_if did sint v = record v { pending = cond did (raised v.registers sint v.
 
 -- Show at a SINT: where none is shown and one waits, the oldest is shown and the SINT raises its vector
 abbrev pub shown : ℕ → VpState → VpState
-shown sint v = raised_if (has_next (at v.mail sint)) sint (record v { mail = with_at v.mail sint (with_next (at v.mail sint)) })
+shown sint v = raised_if (has_next (at v.mail sint)) sint
+    (record v { mail = with_at v.mail sint (with_next (at v.mail sint)) })
 
 -- Show at each of the first so many SINTs
 unfoldable pub shown_each : ℕ → VpState → VpState
@@ -56,7 +66,8 @@ ended_if is v = cond is (ended v) v
 
 -- once a value was written to the register with this name, if it took it; the write of EOM ends a message
 abbrev pub written : ℕ → ℕ → VpState → VpState
-written name value v = ended_if (name == EOM) (record v { registers = after_write v.registers name (kept (row_of name) value) })
+written name value v = ended_if (name == EOM) (record v
+    { registers = after_write v.registers name (kept (row_of name) value) })
 
 -- once a value was written to a model-specific register, by the name that it has in a call
 abbrev pub written_msr : Option ℕ → ℕ → VpState → VpState
@@ -76,7 +87,8 @@ slot_cleared sint v = record v { mail = with_at v.mail sint (mail.cleared (at v.
 -- once a flag of a SINT was set; where it was clear, the SINT raises its vector
 abbrev pub signalled : ℕ → ℕ → VpState → VpState
 signalled sint flag v =
-    raised_if (not (set.contains v.flags (sint, flag))) sint (record v { flags = set.insert v.flags (sint, flag) })
+    raised_if (not (set.contains v.flags (sint, flag))) sint
+    (record v { flags = set.insert v.flags (sint, flag) })
 
 -- once a flag of a SINT was cleared
 abbrev pub flag_cleared : ℕ → ℕ → VpState → VpState

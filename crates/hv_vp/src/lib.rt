@@ -1,6 +1,6 @@
 //! A virtual processor: its registers, by name and by model-specific register, the messages and event
 //! flags at its SINTs, and the interrupt vectors that wait for it; and the processors of a partition,
-//! by their indexes. The chapters of the TLFS 4.0 are "Virtual Processor Management" and
+//! by their indexes. The call groups of the TLFS 4.0 are "Virtual Processor Management" and
 //! "Inter-Partition Communication".
 //!
 //! Contracts see a processor as the record of these parts (`VpState` in `specs/`), its registers as a

@@ -49,7 +49,7 @@ impl<A: Allocator> Model for Vp<A> {
 }
 
 impl<A: Allocator> Vp<A> {
-    /// A processor with this index that was just made, or want of memory for its event flags.
+    /// A processor with this index that was just made, or out of memory for its event flags.
     pub fn new(alloc: A, index: u32) -> Result<Vp<A>, AllocError>
     where
         A: Clone,

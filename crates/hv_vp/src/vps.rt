@@ -1,5 +1,6 @@
 // The processors of a partition.
-ghost use Rattle.std.specs.Prelude.{◌≡◌, ◌+◌, ◌≤◌, ◌<◌, ◌==◌, IsOk, OnOk, OnErr, IfSome, false, length, map as list_map};
+ghost use Rattle.std.specs.Prelude.{◌≡◌, ◌+◌, ◌≤◌, ◌<◌, ◌==◌, IsOk, OnOk, OnErr, IfSome, false, length};
+ghost use Rattle.std.specs.Prelude.{map as list_map};
 ghost use Rattle.std.specs.Prelude.{min, nat_lt};
 ghost use Rattle.std.specs.Prelude.{option_copied};
 ghost use Rattle.std.specs.Borrow.{LendsIf, sem};
@@ -86,7 +87,7 @@ impl<A: Allocator> Vps<A> {
     }
 
     /// The lowest index of a processor that is ready for what a port of this kind takes, if one is.
-    pub fn lowest_ready(&self, kind: PortKind) -> Option<u32>
+    pub fn lowest_ready_vp(&self, kind: PortKind) -> Option<u32>
         ensures { result ≡ lowest (is_ready kind) self.now.vps }
     {
         lowest_of(self.slots.as_slice(), kind)
@@ -164,7 +165,8 @@ fn place_of<A: Allocator>(slots: &[Slot<A>], index: u32) -> Option<usize>
 
 // The lowest index of the processors that are ready.
 fn lowest_of<A: Allocator>(slots: &[Slot<A>], kind: PortKind) -> Option<u32>
-    ensures { result ≡ reduce min (list_map (λ slot. slot.index) (filter (λ slot. is_ready kind slot.vp) slots.now)) }
+    ensures { result ≡ reduce min (list_map (λ slot. slot.index)
+        (filter (λ slot. is_ready kind slot.vp) slots.now)) }
 {
     slots
         .iter()

@@ -2,10 +2,10 @@
 //! happened.
 //!
 //! [`hv_options::command`] reads the words of the command line. Each command has its crate, whose entry takes
-//! the bytes of its files and two writers: `hv_run` runs a script and prints its audit, `hv_check` compares an
-//! audit with a script, `hv_explain` and `hv_follow` tell the events in words, `hv_serve` answers line by line,
-//! and `hv_draw` draws the state at the end. What stands here only fetches words and files, and gives back the
-//! exit status.
+//! the bytes of its files and two writers: `hv_run` runs a script and prints its audit, `hv_check` compares
+//! an audit with a script, `hv_explain` and `hv_follow` tell the events in words, `hv_serve` answers line by
+//! line, and `hv_draw` draws the state at the end. What stands here only fetches words and files, and gives
+//! back the exit status.
 #![tactic(auto)]
 
 mod files;

@@ -7,10 +7,10 @@ use std::io;
 use std::io::{ErrorKind, Write};
 use std::process::Abort;
 
-// Partition 2 below the root, with a processor and 8 pages. Port 5 of the root takes messages for SINT 2 of processor
-// 0, and keeps two. Port 6 takes event flags 8 to 15 for SINT 3 of any processor, of which its second and its fifth
-// are set. Port 9 takes messages for SINT 4: one was cleared, another waits, and the port is deleted. Vectors 0x30
-// and 0x33 are pending.
+// Partition 2 below the root, with a processor and 8 pages. Port 5 of the root takes messages for SINT 2 of
+// processor 0, and keeps two. Port 6 takes event flags 8 to 15 for SINT 3 of any processor, of which its
+// second and its fifth are set. Port 9 takes messages for SINT 4: one was cleared, another waits, and the
+// port is deleted. Vectors 0x30 and 0x33 are pending.
 const LIFE: &[u8] = b"\
 boot 64 32 1 0x000000f700000044 100\n\
 1.0 call 0x40 0 0 -\n\

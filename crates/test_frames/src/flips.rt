@@ -30,7 +30,7 @@ fn told_by(letter: u8, rcx: u64) -> Told {
         b'l' => Told::Denied(Rule::TargetState, start),
         b'o' => Told::Denied(Rule::Port, start),
         b'v' => Told::Denied(Rule::VpExists, start),
-        b'y' => Told::Denied(Rule::Subject, start),
+        b'y' => Told::Denied(Rule::Operand, start),
         b'g' => Told::Denied(Rule::Pages, start),
         _ => Told::Fault,
     }
@@ -78,7 +78,7 @@ const FIRST: &[Turn] = &[
             ],
             ..BY_0
         },
-        Told::Denied(Rule::Subject, 2),
+        Told::Denied(Rule::Operand, 2),
         "giuiiuuuuuuuuuuuiiiiiiiiiiiiiiiimsmmmmmmmaaaiiiimsiiiiiiiiiiiiii",
     ),
     // Partition 2 is Created: it may be finalized, and gets no processor.

@@ -1,5 +1,5 @@
 // Steps of a machine with no memory to be had: a rule refuses as ever, and nothing but what is served then
-// wants memory. Beside it stands a machine that has memory, with the history of its events.
+// needs memory. Beside it stands a machine that has memory, with the history of its events.
 
 use crate::partitions::look;
 use crate::rationed::Heap;
@@ -33,7 +33,7 @@ fn are_alike(machine: &Machine<&Heap>, due: &Machine<&Heap>) -> Result<bool, All
     Ok(are_alike && counts == (due.served(), due.next_id()))
 }
 
-// Makes a step with no block, and where the host refuses it, as it must where it wants memory, again with
+// Makes a step with no block, and where the host refuses it, as it must where it needs memory, again with
 // all. In between the machine is as it is due. Answers the reply, if all is so.
 fn step<'h>(
     heap: &Heap,

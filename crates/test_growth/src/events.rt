@@ -3,7 +3,7 @@
 use crate::rationed::Heap;
 use crate::trial::{Answer, Told, Trial, answer_of, attempt};
 use hv_abi::{Bytes, Frame};
-use hv_history::{Asked, History};
+use hv_history::{History, Request};
 use hv_policy::{Action, Answer as Reply, Caller, Event};
 use std::alloc::AllocError;
 
@@ -140,7 +140,7 @@ impl<'h> Trial for Entries<'h> {
             return false;
         }
         let entry = self.history.entry(0);
-        let asked = Asked::Hypercall {
+        let asked = Request::Hypercall {
             rcx: 0x46,
             rdx: 0x10,
             r8: 0x20,

@@ -125,7 +125,7 @@ struct Reading<'h> {
 }
 
 impl<'h> Trial for Reading<'h> {
-    // The lines that want memory are the second and the fourth.
+    // The lines that need memory are the second and the fourth.
     fn call(&mut self) -> Answer {
         match parse(self.heap, TEXT) {
             Ok(script) => {

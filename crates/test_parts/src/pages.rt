@@ -74,7 +74,8 @@ const RUNS: [(u32, u64); 4] = [
     (0, 0x1_0000_0000),
 ];
 
-// Puts a run into an empty set, with room for one change. Another set takes it over and gives its lowest page.
+// Puts a run into an empty set, with room for one change. Another set takes it over and gives its lowest
+// page.
 fn put_run(alloc: Global, start: u32, length: u64) -> Result<bool, AllocError> {
     if length < 1 || length > 0x1_0000_0000 - u64::from(start) {
         return Ok(false);
@@ -114,9 +115,9 @@ enum Change {
     Take,
 }
 
-// 601 pages that lie apart come, in several blocks. Then most go, and others come and join what is left. Each row:
-// the change, `from` and `every` of the pages that are `from` more than a multiple of `every`, and `step`: pages
-// take turns in the order of its multiples.
+// 601 pages that lie apart come, in several blocks. Then most go, and others come and join what is left. Each
+// row: the change, `from` and `every` of the pages that are `from` more than a multiple of `every`, and
+// `step`: pages take turns in the order of its multiples.
 const PASSES: [(Change, u32, u32, u32); 6] = [
     (Change::Put, 0, 2, 7),
     (Change::Take, 0, 4, 5),

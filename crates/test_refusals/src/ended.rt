@@ -77,7 +77,7 @@ pub(crate) enum Fault {
 }
 
 impl Fault {
-    // The exit status: 3 for a want of memory where there is no trial, and else 1.
+    // The exit status: 3 for a out of memory where there is no trial, and else 1.
     pub(crate) fn status(self) -> u8 {
         if self == Fault::Memory { 3 } else { 1 }
     }

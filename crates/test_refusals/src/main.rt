@@ -1,4 +1,4 @@
-//! Want of memory where it is the process's own, so that no allocator that refuses can be handed in: at a new
+//! Out of memory where it is the process's own, so that no allocator that refuses can be handed in: at a new
 //! lock, at a phase of two threads, at calls, at room for receipts, and at the words of a command line. A
 //! program of tests, which takes a few milliseconds.
 //!

@@ -37,7 +37,7 @@ fn make<L: Ledger, R: Wait>(
     }
 }
 
-// On which side of the gate the call was refused, for want of memory. Before it room for a receipt is made.
+// On which side of the gate the call was refused, for lack of memory. Before it room for a receipt is made.
 fn refused_at<L: Ledger>(gate: &Count, pass: &Pass<L>, why: HostRefused) -> Result<Side, Fault> {
     must(why == HostRefused::Memory, Fault::Reason)?;
     let side = gate.side_after(0)?;

@@ -85,7 +85,8 @@ impl Read for Pieces<'_> {
     }
 }
 
-// An interrupted read is tried again. What was read when another error came is answered but for the last line.
+// An interrupted read is tried again. What was read when another error came is answered but for the last
+// line.
 #[test]
 fn failed_input(rt: HostRuntime) {
     let alloc = rt.alloc();

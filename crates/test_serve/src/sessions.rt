@@ -67,8 +67,8 @@ fn text_between(bytes: &[u8], from: usize, to: usize) -> &str {
     }
 }
 
-// Serves these lines, each with its answer. Behind the last line feed stands an empty line, which has none, and
-// then comes the count.
+// Serves these lines, each with its answer. Behind the last line feed stands an empty line, which has none,
+// and then comes the count.
 fn assert_served(rt: &impl Abort, alloc: Global, lines: &[(&str, &str)], end: &str) {
     let mut text: Vec<u8> = Vec::new(alloc);
     for (line, _) in lines {
@@ -133,7 +133,8 @@ fn lines_and_faults(rt: HostRuntime) {
     assert_served(&rt, rt.alloc(), &lines, "events 3\n");
 }
 
-// A rep call is driven to its end, and a line of the audit tells of each element. The table shows what it did.
+// A rep call is driven to its end, and a line of the audit tells of each element. The table shows what it
+// did.
 #[test]
 fn rep_calls(rt: HostRuntime) {
     let lines = [

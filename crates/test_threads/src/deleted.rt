@@ -6,7 +6,7 @@ use crate::calls::{
 };
 use crate::gates::Halt;
 use hv_abi::Status;
-use hv_history::{Answer, Asked};
+use hv_history::{Answer, Request};
 use hv_policy::{Reply, Rule, result_of};
 use hv_threads::{Pass, Receipts};
 use std::alloc::Global;
@@ -39,7 +39,7 @@ fn assert_stopped(rt: &impl Abort, receipts: &Receipts) {
         reps: 16,
     };
     assert_eq!(rt; last.entry.answer, denied);
-    let element = Asked::Hypercall {
+    let element = Request::Hypercall {
         rcx: SEVENTEENTH,
         rdx: 0,
         r8: 0,

@@ -6,7 +6,7 @@ use crate::calls::{
     assert_pooled, both, call, last_of, numbers, open, phase, root, settled, small,
 };
 use hv_abi::Frame;
-use hv_history::{Answer, Asked, EntryRef, Kept};
+use hv_history::{Answer, EntryRef, Kept, Request};
 use hv_policy::{Action, Config, Reply};
 use hv_threads::{Open, Pass, SettleFault, SettleRefused, Shared, Work, settle};
 use std::alloc::Global;
@@ -77,7 +77,7 @@ fn fill<L: Ledger + Send + Sync, R: Abort + Threads + Wait + Sync>(
 
 // An event is a call with this code, and was served.
 fn assert_served(rt: &impl Abort, entry: EntryRef<'_>, code: u64) {
-    assert!(rt; matches!(entry.asked, Asked::Hypercall { rcx, .. } if rcx & 0xffff == code));
+    assert!(rt; matches!(entry.asked, Request::Hypercall { rcx, .. } if rcx & 0xffff == code));
     assert!(rt; matches!(entry.answer, Answer::Served | Answer::More { .. }));
 }
 

@@ -12,9 +12,9 @@ struct guest guests[MAX_GUESTS];
 static pthread_mutex_t lock = PTHREAD_MUTEX_INITIALIZER;
 static hvpm_machine machine = HVPM_EMPTY;
 
-/* Of the statuses only HVPM_MEMORY may come here. A VMM that lives on would stop the guest and try again; this one ends. */
+/* Of the statuses only HVPM_STATUS_MEMORY may come here. A VMM that lives on would stop the guest and try again; this one ends. */
 static void must(uint32_t status) {
-    if (status != HVPM_DONE) die("the library answers %" PRIu32, status);
+    if (status != HVPM_STATUS_OK) die("the library answers %" PRIu32, status);
 }
 
 /* ---- effects ---- */
@@ -64,12 +64,12 @@ void core_leave(uint32_t status, const hvpm_reply *reply) {
 
 /* ---- exits ---- */
 
-static bool is_served(const hvpm_reply *reply) { return reply->kind == HVPM_SERVED; }
+static bool is_served(const hvpm_reply *reply) { return reply->kind == HVPM_REPLY_SERVED; }
 
 /* Where SIMP or SIEFP is on and names memory of the guest, its page. */
 static void *page_of(struct vcpu *vcpu, uint32_t msr) {
     uint64_t value = 0;
-    if (hvpm_peek_msr(&machine, vcpu->pages.of, msr, &value) != HVPM_DONE || !(value & 1)) return NULL;
+    if (hvpm_peek_msr(&machine, vcpu->pages.of, msr, &value) != HVPM_STATUS_OK || !(value & 1)) return NULL;
     value &= ~(uint64_t)(PAGE - 1);
     return value < vcpu->guest->ram_size ? vcpu->guest->ram + value : NULL;
 }
@@ -93,13 +93,13 @@ uint64_t core_call(struct vcpu *vcpu, const hvpm_registers *registers, const voi
         must(hvpm_hypercall(&machine, vcpu->pages.of, &at, input, len, &reply, NULL, 0));
         const size_t place = (at.rcx >> 48 & 0xFFF) * reply.output_len;
         if (place + reply.output_len <= room) memcpy(output + place, reply.output, reply.output_len);
-        if (reply.kind != HVPM_MORE) break;
+        if (reply.kind != HVPM_REPLY_MORE) break;
         deliver(&reply.effect);
         at.rcx = hvpm_next(at.rcx, &reply);
     }
     for (struct guest *guest = guests; code == HV_CALL_SET_VP_REGISTERS && guest < guests + MAX_GUESTS; guest++)
         for (unsigned vp = 0; vp < guest->vps; vp++) place_pages(&guest->vcpu[vp]);
-    core_leave(HVPM_DONE, &reply);
+    core_leave(HVPM_STATUS_OK, &reply);
     return reply.result;
 }
 

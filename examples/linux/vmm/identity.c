@@ -102,9 +102,9 @@ void identity_reset(struct guest *guest) {
     guest->os_id = guest->hypercall_page = 0;
     for (uint32_t vp = 0; vp < guest->vps; vp++) {
         core_leave(hvpm_delete_vp(core_enter(), ROOT, guest->id, vp, &reply, NULL, 0), &reply);
-        if (reply.kind != HVPM_SERVED) die("a processor can't be reset: rule P%" PRIu32, reply.rule);
+        if (reply.kind != HVPM_REPLY_SERVED) die("a processor can't be reset: rule P%" PRIu32, reply.rule);
         core_leave(hvpm_create_vp(core_enter(), ROOT, guest->id, vp, &reply, NULL, 0), &reply);
-        if (reply.kind != HVPM_SERVED) die("a processor can't be reset: rule P%" PRIu32, reply.rule);
+        if (reply.kind != HVPM_REPLY_SERVED) die("a processor can't be reset: rule P%" PRIu32, reply.rule);
     }
     vmbus_reset(guest);
 }

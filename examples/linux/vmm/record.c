@@ -76,8 +76,8 @@ static uint32_t keep(uint32_t status, hvpm_caller by, enum hvpm_access access, u
                      const hvpm_reply *reply, const uint8_t *line) {
     char text[HVPM_EVENT_LINE];
     size_t len;
-    if (status != HVPM_DONE) return status;
-    if (hvpm_access_line(by, access, number, value, text, sizeof text, &len) != HVPM_DONE) die("no memory for the record");
+    if (status != HVPM_STATUS_OK) return status;
+    if (hvpm_access_line(by, access, number, value, text, sizeof text, &len) != HVPM_STATUS_OK) die("no memory for the record");
     fwrite(text, 1, len, script);
     keep_audit(reply, line);
     return status;
@@ -102,12 +102,12 @@ uint32_t __wrap_hv_embed_hypercall(hvpm_machine *machine, hvpm_caller by, const 
     size_t text_len;
     NEEDS_LINE;
     const uint32_t status = __real_hv_embed_hypercall(machine, by, registers, input, len, reply, line, size);
-    if (status != HVPM_DONE) return status;
+    if (status != HVPM_STATUS_OK) return status;
     while (len > 0 && input[len - 1] == 0) len--; /* bytes that are missing read as zero */
-    if (!goes_on && hvpm_hypercall_line(by, registers, input, len, text, sizeof text, &text_len) != HVPM_DONE)
+    if (!goes_on && hvpm_hypercall_line(by, registers, input, len, text, sizeof text, &text_len) != HVPM_STATUS_OK)
         die("no memory for the record");
     if (!goes_on) fwrite(text, 1, text_len, script);
-    goes_on = reply->kind == HVPM_MORE;
+    goes_on = reply->kind == HVPM_REPLY_MORE;
     keep_audit(reply, line);
     return status;
 }

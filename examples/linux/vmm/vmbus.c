@@ -84,7 +84,7 @@ static hvpm_reply reply; /* of the root's thread, and of main before that */
 
 static void must_serve(const char *what, uint32_t status) {
     core_leave(status, &reply);
-    if (reply.kind == HVPM_DENIED)
+    if (reply.kind == HVPM_REPLY_DENIED)
         die("%s is denied by rule P%" PRIu32 ", with status 0x%" PRIx64, what, reply.rule, reply.result);
 }
 
@@ -130,7 +130,7 @@ static void post_waiting(struct bus *bus) {
         const uint8_t *message = bus->outbox[bus->posted % OUTBOX];
         core_leave(hvpm_post_message(core_enter(), ROOT, connection, 1, message + 1, message[0], &reply, NULL, 0), &reply);
         if (reply.result == HV_STATUS_INSUFFICIENT_BUFFERS) return;
-        if (reply.kind != HVPM_SERVED) die("HvPostMessage is denied by rule P%" PRIu32, reply.rule);
+        if (reply.kind != HVPM_REPLY_SERVED) die("HvPostMessage is denied by rule P%" PRIu32, reply.rule);
     }
 }
 
@@ -222,7 +222,7 @@ static void beat(struct bus *bus) {
 
 static uint64_t count_events(void) {
     const uint64_t events = core_enter()->events;
-    core_leave(HVPM_DONE, NULL);
+    core_leave(HVPM_STATUS_OK, NULL);
     return events;
 }
 

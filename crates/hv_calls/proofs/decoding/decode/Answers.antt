@@ -6,7 +6,8 @@ pub returns : goal.returns
 returns g c =
     let frame = c.args.frame.now in
     let kind = c.args.shape.now.kind in
-    let same : c.decode_named.result ≡ decoded_of kind frame = decoded-same frame kind c.decode_named.result c.args.shape.now.fast c.args.shape.now.start c.decode_named.ensures c.requires.fast c.requires.start in
+    let same : c.decode_named.result ≡ decoded_of kind frame = decoded-same frame kind c.decode_named.result c.args.shape.now.fast c.args.shape.now.start c.decode_named.ensures c.requires.fast
+    c.requires.start in
     record {
       ok = decoded-ok frame kind c.decode_named.result same;
       only = decoded-only frame kind c.decode_named.result same;

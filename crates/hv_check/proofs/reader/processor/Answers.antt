@@ -17,8 +17,10 @@ returns-in_err-decimal c = λ by named.
 
 pub returns-in_err-decimal-2 : goal.returns-in_err-decimal-2
 returns-in_err-decimal-2 c = λ by named.
-    absurd (let same : None ≡ Some by.vp = vp_read c.args.text.now by named _ _ c.in_ok-behind.ensures.some _ _ c.in_ok-part.ensures.some _ _ c.in_ok-vp.ensures.some None c.in_err-decimal-2.ensures in cc)
+    absurd (let same : None ≡ Some by.vp = vp_read c.args.text.now by named _ _ c.in_ok-behind.ensures.some _ _ c.in_ok-part.ensures.some _ _ c.in_ok-vp.ensures.some None c.in_err-decimal-2.ensures in
+    cc)
 
 pub returns : goal.returns
 returns c = λ by named.
-    by_read c.args.text.now by named _ _ c.in_ok-behind.ensures.some _ _ c.in_ok-part.ensures.some _ _ c.in_ok-vp.ensures.some _ _ c.caller_of.result c.in_ok-decimal.ensures c.in_ok-decimal-2.ensures c.caller_of.ensures
+    by_read c.args.text.now by named _ _ c.in_ok-behind.ensures.some _ _ c.in_ok-part.ensures.some _ _ c.in_ok-vp.ensures.some _ _ c.caller_of.result c.in_ok-decimal.ensures c.in_ok-decimal-2.ensures
+    c.caller_of.ensures

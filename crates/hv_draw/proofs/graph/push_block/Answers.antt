@@ -14,7 +14,8 @@ returns c = λ row has.
     let id = c.args.id in
     let held : c.in-Some.partition.now ≡ row.1 = same_Some _ _ (c.in-Some.ensures ∙ ap (option_map (λ (r : Row PartitionState). r.1)) has) in
     let parent = c.parent_of.ensures.value ∙ ap (option_and_then (λ (r : Row PartitionState). r.0)) has in
-    let count : c.in-Some-children_of.count ≡ length (children tree id) = same_Some _ _ (c.in-Some-children_of.ensures.value ∙ ap (option_map (λ (r : Row PartitionState). length (children tree id))) has) in
+    let count : c.in-Some-children_of.count ≡ length (children tree id) = same_Some _ _ (c.in-Some-children_of.ensures.value ∙ ap (option_map (λ (r : Row PartitionState). length (children tree id)))
+    has) in
     on_ok_weaker c.push-2.result (λ end. block_of tree id c.in-Some-depth_of.depth row c.args.inside.now _ _ _ _ _ _ _ _ _ _
     c.in-Some-depth_of.ensures.depth
     (c.in_ok-push_edge.ensures ∙ ap (λ (p : Option ℕ). c.args.text.now.items ++ edge_text p id) parent)

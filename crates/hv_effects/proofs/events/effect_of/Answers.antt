@@ -21,7 +21,8 @@ returns-in-None g c f h reply flat typed told =
 pub returns-in-Some : goal.returns-in-Some
 returns-in-Some g c f h reply flat typed told =
     let t = subst (λ look. IsAsTold look c.args.taken f h reply) c.in-Ends.is (subst (λ b. IsToldBy c.args.look b c.args.taken f h reply) c.if-not-served.false told) in
-    ends_after c.args.tree.now c.in-Ends.part c.in-Ends.vp c.in-Ends.shown c.args.taken f h reply flat typed t c.ended.result c.in-Some.now.now (sym c.in-Some.ensures) (c.ended.ensures f t.foretold.value)
+    ends_after c.args.tree.now c.in-Ends.part c.in-Ends.vp c.in-Ends.shown c.args.taken f h reply flat typed t c.ended.result c.in-Some.now.now (sym c.in-Some.ensures)
+    (c.ended.ensures f t.foretold.value)
 
 pub returns-in-Takes : goal.returns-in-Takes
 returns-in-Takes g c f h reply flat typed told =

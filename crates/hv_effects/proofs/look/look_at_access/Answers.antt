@@ -11,4 +11,10 @@ use Rattle.hv_effects.proofs.look.look_at_access.Goals as goal
 pub returns-in-TakeInterrupt : goal.returns-in-TakeInterrupt
 returns-in-TakeInterrupt g c f flat typed met =
     let there = some_row (get f.vp (c.args.by.part, c.args.by.vp)) (caller_vp f c.args.by (action_of c.args.access) met) in
-    record { row = there.0; there = there.1; taken = ap (λ (access : Access). action_effect {A = A-type g.row.A} f c.args.by (action_of access)) c.in-TakeInterrupt.is; answered = ap (λ (access : Access). action_answer {A = A-type g.row.A} f c.args.by (action_of access)) c.in-TakeInterrupt.is }
+    record {
+      row = there.0;
+      there = there.1;
+      taken = ap (λ (access : Access). action_effect {A = A-type g.row.A} f c.args.by (action_of access)) c.in-TakeInterrupt.is;
+      answered = ap
+          (λ (access : Access). action_answer {A = A-type g.row.A} f c.args.by (action_of access)) c.in-TakeInterrupt.is;
+    }

@@ -4,9 +4,9 @@ use Rattle.std.specs.FinSet as set
 use Rattle.std.specs.Ordering.{nat_cmp}
 use Rattle.hv_pages.specs.PageSet.{PagesAndRoom, IsLowest}
 use Rattle.hv_partition.specs.Partition.{PartitionState}
-use Rattle.hv_tie.proofs.Found.{content_row}
+use Rattle.hv_refine.proofs.Found.{content_row}
 use Rattle.hv_pools.proofs.Lowest.{lowest_is, no_lowest}
-use Rattle.hv_tie.specs.Tie.{holds}
+use Rattle.hv_refine.specs.Tie.{holds}
 use Rattle.hv_effects.proofs.reading.lowest_pooled.Goals as goal
 
 pub returns-in_default : goal.returns-in_default
@@ -23,5 +23,6 @@ returns-in-None g c f flat =
 pub returns-in-Some-lowest : goal.returns-in-Some-lowest
 returns-in-Some-lowest g c f flat =
     let (r, is, same) = content_row c.args.tree.now c.args.id c.in-Some.partition.now c.in-Some.ensures in
-    let low : IsLowest r.1.pooled.pages c.in-Some-lowest.page = subst (λ s. IsLowest s c.in-Some-lowest.page) (ap {A = PagesAndRoom} (λ p. p.pages) (c.pages.ensures ∙ ap {A = PartitionState} (λ p. p.pooled) (sym same))) c.in-Some-lowest.ensures.lowest in
+    let low : IsLowest r.1.pooled.pages c.in-Some-lowest.page = subst (λ s. IsLowest s c.in-Some-lowest.page)
+    (ap {A = PagesAndRoom} (λ p. p.pages) (c.pages.ensures ∙ ap {A = PartitionState} (λ p. p.pooled) (sym same))) c.in-Some-lowest.ensures.lowest in
     ap Some c.from.ensures ∙ sym (lowest_is c.args.tree.now f flat c.args.id r is c.in-Some-lowest.page low)

@@ -1,6 +1,6 @@
 use Rattle.std.proofs.Common.{◌≡◌, ℕ, ◌<◌, ◌==◌, ◌&&◌, Bool, nat_lt, sym, ap, ◌∙◌, arith}
 use Rattle.std.specs.Int.{bit_at}
-use Rattle.hv_mail.proofs.Shows.{keep_more, none_set, set_more}
+use Rattle.hv_mail.proofs.PartitionRelation.{keep_more, none_set, set_more}
 use Rattle.hv_effects.proofs.Made.{made_ended, test_of, vectors_more, vectors_still, vectors_zero}
 use Rattle.hv_effects.specs.Ended.{vectors_of}
 use Rattle.hv_effects.proofs.synic.ended.Goals as goal

@@ -16,5 +16,6 @@ returns g c f port born type payload seen =
           (made_waits c.args.part c.args.index c.args.sint f c.args.vp.now seen c.quiet-synic.result c.quiet-synic.ensures port born type payload (sym told ∙ w.if-shows.true))
       | else-shows w ↦
           subst (λ s. Tells (variant.Synic s) f (post (message c.args.part c.args.index c.args.sint port born type payload) f)) (sym w.synic-is)
-          (made_shows c.args.part c.args.index c.args.sint f c.args.vp.now seen c.quiet-synic.result c.quiet-synic.ensures port born type payload w.raise.new.raised w.raise.ensures c.requires (sym told ∙ w.if-shows.false))
+          (made_shows c.args.part c.args.index c.args.sint f c.args.vp.now seen c.quiet-synic.result c.quiet-synic.ensures port born type payload w.raise.new.raised w.raise.ensures c.requires
+          (sym told ∙ w.if-shows.false))
     ]

@@ -7,4 +7,5 @@ returns-then-is_flag_set g c f seen = same_signal c.args.part c.args.index c.arg
 
 pub returns : goal.returns
 returns g c f seen =
-    made_signal c.args.part c.args.index c.args.sint f c.args.vp.now seen c.quiet-synic.result c.quiet-synic.ensures c.args.flag c.raise.new.raised c.raise.ensures (sym c.is_flag_set.ensures ∙ c.if-is_flag_set.false)
+    made_signal c.args.part c.args.index c.args.sint f c.args.vp.now seen c.quiet-synic.result c.quiet-synic.ensures c.args.flag c.raise.new.raised c.raise.ensures
+    (sym c.is_flag_set.ensures ∙ c.if-is_flag_set.false)

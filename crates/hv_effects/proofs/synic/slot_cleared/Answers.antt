@@ -7,4 +7,5 @@ returns-in_default g c f seen = same_slot c.args.part c.args.index c.args.sint f
 
 pub returns : goal.returns
 returns g c f seen =
-    made_slot c.args.part c.args.index c.args.sint f c.args.vp.now seen c.quiet-synic.result c.quiet-synic.ensures c.in-Some.port c.requires (sym (c.in-Some.ensures (seen.typed c.args.sint c.requires)))
+    made_slot c.args.part c.args.index c.args.sint f c.args.vp.now seen c.quiet-synic.result c.quiet-synic.ensures c.in-Some.port c.requires
+    (sym (c.in-Some.ensures (seen.typed c.args.sint c.requires)))

@@ -17,10 +17,12 @@ loop-more-preserved c =
     let more : l.last ≡ More c.in-Some.next output = sym c.parts.ensures.reply ∙ c.in-Some.ensures.some output in
     let next : c.restart.new.frame ≡ restart l.frame (next_in l.last) = c.restart.ensures ∙ ap (λ (r : Reply). restart l.frame (next_in r)) (sym more) in
     record {
-      ran = λ ran at. one_more c.args.by l.machine c.hypercall.new.machine l.frame c.restart.new.frame l.last c.in-Ok.reply taken.reply taken.state l.more ran (take l.at l.outputs) (take c.put_out.result c.put_out.new.outputs)
-          next (subst IsMore (sym more) tt) c.put_out.ensures.bytes (was.ran ran at);
+      ran = λ ran at. one_more c.args.by l.machine c.hypercall.new.machine l.frame c.restart.new.frame l.last c.in-Ok.reply taken.reply taken.state l.more ran (take l.at l.outputs)
+          (take c.append_output.result c.append_output.new.outputs)
+          next (subst IsMore (sym more) tt) c.append_output.ensures.bytes (was.ran ran at);
       effect = λ ran f at typed first. one_more_effect l.more f c.args.by ran l.effect c.shown.result (was.effect ran f at typed first) (sym c.is_quiet.ensures ∙ c.if-not-is_quiet.false)
-          (effect_on c.args.by l.machine l.frame c.restart.new.frame l.last (take l.at l.outputs) (run l.more c.args.by ran) c.in-Ok.told c.shown.result (was.ran ran at).stands next (typed_more l.more c.args.by ran typed) c.shown.ensures c.in-Ok.ensures.effect);
+          (effect_on c.args.by l.machine l.frame c.restart.new.frame l.last (take l.at l.outputs) (run l.more c.args.by ran) c.in-Ok.told c.shown.result (was.ran ran at).stands next
+          (typed_more l.more c.args.by ran typed) c.shown.ensures c.in-Ok.ensures.effect);
       count = omega arith;
       place = omega arith;
       few = omega arith;

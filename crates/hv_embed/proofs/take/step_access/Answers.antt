@@ -22,18 +22,20 @@ returns-clause-taken c = λ _.
     let event : Event Global = access_event c.args.by c.args.access in
     let s = c.access-became.ensures.step in
     let out : List ℕ = c.access-became.new.output in
-    let here : (f : Flat) → IsFlat c.args.housed.now f → IsFlat c.housed.inside.machine f = λ f flat. search rules in
-    let told : (f : Flat) → IsFlat c.args.housed.now f → reply_of c.answer_of.result c.as_slice.result.now ≡ (step f event).1 =
+    let here : (f : Flat) → IsFlat c.args.machine_state.now f → IsFlat c.machine_state.inside.machine f = λ f flat. search rules in
+    let told : (f : Flat) → IsFlat c.args.machine_state.now f → reply_of c.answer_of.result c.as_slice.result.now ≡ (step f event).1 =
     λ f flat. ap (λ bytes. reply_of c.answer_of.result bytes) c.as_slice.ensures.bytes ∙ c.answer_of.ensures.reply out ∙ c.parted-became.ensures.reply out ∙ s.reply f (here f flat) in
     let asked : action_of {A = Global} c.asked_of.result [] ≡ action_by c.args.access = c.asked_of.ensures [] in
     record {
       reply = λ f flat. subst (λ (r : Reply). IsAnswer c.answer.new.reply event.what r) (told f flat)
           (subst (λ (what : Action Global). IsAnswer c.answer.new.reply what (reply_of c.answer_of.result c.as_slice.result.now)) asked c.answer.ensures.answer);
       line = λ f flat. subst (λ (r : Reply). HasLine c.answer.new.line c.answer.new.reply.line_len (line_text (c.args.events.now + 1) event r)) (told f flat)
-          (subst (λ (what : Action Global). HasLine c.answer.new.line c.answer.new.reply.line_len (line_text (c.args.events.now + 1) (record { by = c.args.by; what = what }) (reply_of c.answer_of.result c.as_slice.result.now))) asked c.answer.ensures.line);
+          (subst (λ (what : Action Global). HasLine c.answer.new.line c.answer.new.reply.line_len
+          (line_text (c.args.events.now + 1) (record { by = c.args.by; what = what }) (reply_of c.answer_of.result c.as_slice.result.now))) asked c.answer.ensures.line);
       state = λ f flat. s.state f (here f flat);
       effect = λ f flat typed. subst (λ (e : HvEffect). IsEffect e f (step f event).0) (sym c.answer.ensures.effect)
-          (access_effect f event c.access-became.result out c.parted-became.result.1 (s.reply f (here f flat)) c.parted-became.ensures.shown c.parted-became.ensures.refused (c.access-became.ensures.effect f (here f flat) typed));
+          (access_effect f event c.access-became.result out c.parted-became.result.1 (s.reply f (here f flat)) c.parted-became.ensures.shown c.parted-became.ensures.refused
+          (c.access-became.ensures.effect f (here f flat) typed));
       pages = search rules;
       lasting = s.lasting;
       sound = s.sound;

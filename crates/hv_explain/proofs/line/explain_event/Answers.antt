@@ -1,4 +1,4 @@
-use Rattle.hv_explain.proofs.Told.{told_one}
+use Rattle.hv_explain.proofs.Written.{told_one}
 use Rattle.hv_explain.proofs.line.explain_event.Goals as goal
 
 pub returns-in-Ok-clause-told : goal.returns-in-Ok-clause-told

@@ -1,6 +1,6 @@
 use Rattle.std.proofs.Common.{◌≡◌, subst}
 use Rattle.hv_calls.specs.declared.call.Call.{Call}
-use Rattle.hv_tie.specs.Served.{IsAdmitted}
+use Rattle.hv_refine.specs.Served.{IsAdmitted}
 use Rattle.hv_machine.proofs.dispatch.dispatch.Goals as goal
 
 pub create_partition-requires : goal.create_partition-requires

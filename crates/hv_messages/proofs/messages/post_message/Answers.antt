@@ -1,7 +1,7 @@
 use Rattle.std.proofs.Common.{rules, refl, ap}
 use Rattle.std.specs.FinMap.{get}
 use Rattle.std.specs.Option.{option_map}
-use Rattle.hv_tie.specs.Room.{bare}
+use Rattle.hv_refine.specs.Room.{bare}
 use Rattle.hv_messages.proofs.Outcomes.{message_posted, sint_bound}
 use Rattle.hv_messages.proofs.messages.post_message.Goals as goal
 
@@ -15,7 +15,8 @@ returns-in-Ok-post g c f flat =
     record {
       met = c.in-Ok.ensures.met f c.args.message_type c.args.payload.now flat;
       output = search rules;
-      rows = message_posted c.args.tree.now c.post.new.tree f flat c.args.caller c.args.connection c.in-Ok.target (reached f flat) _ c.args.message_type c.args.payload.now _ (c.in-Ok.ensures.taker f flat) (search rules) (search rules) (search rules) (search rules) (search rules) c.in-Ok-post.ensures.posted;
+      rows = message_posted c.args.tree.now c.post.new.tree f flat c.args.caller c.args.connection c.in-Ok.target (reached f flat) _ c.args.message_type c.args.payload.now _
+          (c.in-Ok.ensures.select_vp f flat) (search rules) (search rules) (search rules) (search rules) (search rules) c.in-Ok-post.ensures.posted;
     }
 
 pub returns-in-Err-post : goal.returns-in-Err-post

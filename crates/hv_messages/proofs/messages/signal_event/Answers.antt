@@ -9,5 +9,6 @@ returns g c f flat =
     record {
       met = c.in-Ok.ensures.met f flat;
       output = search rules;
-      rows = flag_set c.args.tree.now c.signal.new.tree f flat c.args.caller c.args.connection c.in-Ok.target (reached f flat) _ c.args.flag _ (c.in-Ok.ensures.taker f flat) (search rules) (search rules) c.signal.ensures;
+      rows = flag_set c.args.tree.now c.signal.new.tree f flat c.args.caller c.args.connection c.in-Ok.target (reached f flat) _ c.args.flag _ (c.in-Ok.ensures.select_vp f flat) (search rules)
+          (search rules) c.signal.ensures;
     }

@@ -1,4 +1,4 @@
-use Rattle.hv_tie.proofs.Written.{vp_kept}
+use Rattle.hv_refine.proofs.Written.{vp_kept}
 use Rattle.hv_messages.proofs.rows.flags.Goals as goal
 
 pub returns-clause-kept : goal.returns-clause-kept

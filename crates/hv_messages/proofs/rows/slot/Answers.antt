@@ -1,7 +1,7 @@
 use Rattle.std.proofs.Common.{◌++◌, List, ℕ, ap, sym, ◌∙◌}
 use Rattle.hv_messages.proofs.Outcomes.{caller_there}
-use Rattle.hv_tie.proofs.Mailed.{slot_told}
-use Rattle.hv_tie.proofs.Written.{vp_kept}
+use Rattle.hv_refine.proofs.Mailed.{slot_told}
+use Rattle.hv_refine.proofs.Written.{vp_kept}
 use Rattle.hv_messages.proofs.rows.slot.Goals as goal
 
 pub returns-clause-read : goal.returns-clause-read

@@ -1,6 +1,6 @@
 use Rattle.std.proofs.Common.{◌≡◌, ◌+◌, ◌∙◌, ap, drop, max, ℕ, Some, rules, sym}
 use Rattle.std.specs.Prelude.{option_map, slice_get}
-use Rattle.hv_phases.specs.Crew.{highest_above}
+use Rattle.hv_phases.specs.PassMap.{highest_above}
 use Rattle.hv_shared.specs.Receipts.{list_of}
 use Rattle.hv_shared.specs.declared.receipts.Receipt.{Receipt}
 use Rattle.hv_phases.proofs.Numbers.{above_ends, above_goes_on}

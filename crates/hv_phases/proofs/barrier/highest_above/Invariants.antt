@@ -1,5 +1,5 @@
 use Rattle.std.proofs.Common.{◌≡◌, drop}
-use Rattle.hv_phases.specs.Crew.{highest_above}
+use Rattle.hv_phases.specs.PassMap.{highest_above}
 use Rattle.hv_shared.specs.Receipts.{list_of}
 use Rattle.hv_phases.proofs.barrier.highest_above.Given as goal
 

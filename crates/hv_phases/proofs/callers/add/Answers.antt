@@ -1,5 +1,5 @@
 use Rattle.std.proofs.Common.{List, sym, subst}
-use Rattle.hv_phases.specs.Crew.{HasCaller, IsSetOf}
+use Rattle.hv_phases.specs.PassMap.{HasCaller, IsSetOf}
 use Rattle.hv_policy.specs.declared.event.Caller.{Caller}
 use Rattle.hv_phases.proofs.Named.{found, pushed, put_key, was_absent, was_there}
 use Rattle.hv_phases.proofs.callers.add.Goals as goal

@@ -1,5 +1,5 @@
 use Rattle.std.proofs.Common.{take}
-use Rattle.hv_phases.specs.Crew.{AreCallersOf, IsSetOf}
+use Rattle.hv_phases.specs.PassMap.{AreCallersOf, IsSetOf}
 use Rattle.hv_phases.proofs.callers.callers_of.Given as goal
 
 abbrev pub invariant-loop-at : goal.invariant-loop-at

@@ -1,6 +1,6 @@
 use Rattle.std.proofs.Common.{◌≡◌, drop}
 use Rattle.std.specs.Prelude.{option_and_then}
-use Rattle.hv_phases.specs.Crew.{last_in_turn}
+use Rattle.hv_phases.specs.PassMap.{last_in_turn}
 use Rattle.hv_shared.specs.Receipts.{list_of}
 use Rattle.hv_phases.proofs.in_order.last_in_turn.Given as goal
 

@@ -3,8 +3,8 @@ use Rattle.std.specs.Prelude.{is_some}
 use Rattle.std.specs.List.{Contains}
 use Rattle.std.proofs.lemmas.List.Elements.{Contains-append_left, Contains-push}
 use Rattle.hv_policy.specs.declared.event.Caller.{Caller}
-use Rattle.hv_phases.specs.Crew.{member_of}
-use Rattle.hv_phases.specs.declared.crew.Member.{Member}
+use Rattle.hv_phases.specs.PassMap.{member_of}
+use Rattle.hv_phases.specs.declared.pass_map.PassEntry.{PassEntry}
 use Rattle.hv_phases.proofs.Members.{given_more, none_there}
 use Rattle.hv_phases.proofs.Written.{found_at, here, not_empty, others}
 use Rattle.hv_phases.proofs.in_threads.give.Goals as goal
@@ -12,15 +12,15 @@ use Rattle.hv_phases.proofs.in_threads.give.Goals.{then-is_empty+in_ok-push, els
 
 pub returns-in_default : goal.returns-in_default
 returns-in_default g c =
-    absurd (none_there (member_of c.args.line.by c.args.crew.now) (found_at c.args.line.by c.key_of.result c.key_of.ensures c.args.crew.now None c.in_default.ensures.value) c.requires)
+    absurd (none_there (member_of c.args.line.by c.args.pass_map.now) (found_at c.args.line.by c.key_of.result c.key_of.ensures c.args.pass_map.now None c.in_default.ensures.value) c.requires)
 
 pub returns : goal.returns
 returns g c =
     let m = c.in-Some.member.now in
-    let n : Member g.row.L.Denot = record { pass = m.pass; asked = c.push-2.new.self; stopped = m.stopped } in
+    let n : PassEntry g.row.L.Denot = record { pass = m.pass; asked = c.push-2.new.self; stopped = m.stopped } in
     let by = c.args.line.by in
     let key = c.key_of.result in
-    let old = c.args.crew.now in
+    let old = c.args.pass_map.now in
     let new = c.get_mut.follows.lender n in
     let did = (c.get_mut.follows.holds n).3 (ap is_some (sym c.in-Some.ensures.value)) in
     let xs = c.args.members.now.items in

@@ -1,6 +1,6 @@
 use Rattle.std.proofs.Common.{◌≡◌, ◌∙◌, ℕ, List, length, ap, subst, Option, Some, None, Result, Ok, Err, IfOk, IfNone, IfSome}
 use Rattle.std.specs.Prelude.{IsNone, map}
-use Rattle.hv_phases.specs.Crew.{HasTaken, HaveGained}
+use Rattle.hv_phases.specs.PassMap.{HasTaken, HaveGained}
 use Rattle.hv_phases.proofs.Lending.{phase_run}
 use Rattle.hv_phases.proofs.in_threads.run_members.Goals as goal
 use Rattle.hv_threads.specs.declared.phase.Done.{Done}
@@ -19,7 +19,7 @@ returns-in-Ok-run_phase g c =
     let counts = c.in-Ok-counts_of.counts.items in
     let dones = c.in-Ok-run_phase.dones.items in
     let counted = c.in-Ok-counts_of.ensures ∙ ap (map (λ (work : Work g.row.L.Denot). length work.pass.receipts)) c.deref.ensures.value in
-    ran_well c.told.result c.take_back.result c.end_of_phase-now.result (HasTaken dones c.works_of.new.crew c.take_back.new.crew) _ _
+    ran_well c.told.result c.take_back.result c.end_of_phase-now.result (HasTaken dones c.works_of.new.pass_map c.take_back.new.pass_map) _ _
     (λ took number gained.
     phase_run c.args.members.now works counts dones c.args.last number _ _ _ c.in-Ok.ensures c.in-Ok-run_phase.ensures.done counted
     (subst (λ (list : List (Done g.row.L.Denot)). HaveGained counts c.args.last number list) c.deref-in-Ok-run_phase.ensures.value

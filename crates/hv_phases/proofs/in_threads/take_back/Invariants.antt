@@ -1,11 +1,11 @@
 use Rattle.std.proofs.Common.{◌≡◌, ◌++◌, List, None, length}
-use Rattle.hv_phases.specs.Crew.{HasTaken}
+use Rattle.hv_phases.specs.PassMap.{HasTaken}
 use Rattle.hv_phases.proofs.in_threads.take_back.Given as goal
 use Rattle.hv_threads.specs.declared.phase.Done.{Done}
 
 abbrev pub invariant-loop-done : goal.invariant-loop-done
 invariant-loop-done g l = record {
-  back : (back : List (Done g.row.L.Denot)) × (l.fn.dones.items ≡ l.left.items ++ back) × (l.stop ≡ None → HasTaken back l.fn.crew l.crew);
+  back : (back : List (Done g.row.L.Denot)) × (l.fn.dones.items ≡ l.left.items ++ back) × (l.stop ≡ None → HasTaken back l.fn.pass_map l.pass_map);
 }
 
 abbrev pub decreases-loop-done : goal.decreases-loop-done

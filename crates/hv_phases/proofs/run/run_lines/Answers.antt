@@ -1,5 +1,5 @@
 use Rattle.std.proofs.Common.{◌≡◌, [], rules}
-use Rattle.hv_phases.specs.Crew.{AreCallersOf}
+use Rattle.hv_phases.specs.PassMap.{AreCallersOf}
 use Rattle.hv_phases.proofs.InOrder.{nothing_in_order}
 use Rattle.hv_phases.proofs.Phased.{nothing_phased}
 use Rattle.hv_phases.proofs.Settled.{nobody}

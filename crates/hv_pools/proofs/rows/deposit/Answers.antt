@@ -1,7 +1,7 @@
 use Rattle.std.proofs.Common.{refl, sym, subst}
 use Rattle.hv_partition.specs.declared.kind.PageKind.TheVariants.{Loose, Pooled}
 use Rattle.hv_pools.proofs.Moves.{can_gain, has_moved, room_alone, source_there}
-use Rattle.hv_tie.specs.Room.{IsSameButRoom}
+use Rattle.hv_refine.specs.Room.{IsSameButRoom}
 use Rattle.hv_pools.proofs.rows.deposit.Goals as goal
 
 pub take-requires : goal.take-requires
@@ -21,4 +21,5 @@ put-requires g c =
 pub returns-clause-deposited : goal.returns-clause-deposited
 returns-clause-deposited g c =
     let may = c.requires in
-    has_moved c.args.tree.now c.reserve.new.tree c.args.from c.args.to Loose may.loose may.pooled may.had may.pool c.in-Ok.ensures.room c.args.page c.take.new.tree c.in-Ok-take.ensures.taken c.put.new.tree c.put.ensures
+    has_moved c.args.tree.now c.reserve.new.tree c.args.from c.args.to Loose may.loose may.pooled may.had may.pool c.in-Ok.ensures.room c.args.page c.take.new.tree c.in-Ok-take.ensures.taken
+    c.put.new.tree c.put.ensures

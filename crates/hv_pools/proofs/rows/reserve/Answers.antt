@@ -1,4 +1,4 @@
-use Rattle.hv_tie.proofs.Found.{on_ok}
+use Rattle.hv_refine.proofs.Found.{on_ok}
 use Rattle.hv_pools.proofs.Moves.{written}
 use Rattle.hv_pools.specs.Change.{HasOneRoom}
 use Rattle.hv_pools.proofs.rows.reserve.Goals as goal

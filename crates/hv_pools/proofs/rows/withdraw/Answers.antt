@@ -13,4 +13,5 @@ put-requires g c =
 
 pub returns-clause-withdrawn : goal.returns-clause-withdrawn
 returns-clause-withdrawn g c =
-    has_withdrawn c.args.tree.now c.reserve.new.tree c.args.from c.args.to c.requires c.in-Ok.ensures.room c.take_lowest-page.result c.take_lowest-page.new.tree c.take_lowest-page.ensures c.put.new.tree c.put.ensures
+    has_withdrawn c.args.tree.now c.reserve.new.tree c.args.from c.args.to c.requires c.in-Ok.ensures.room c.take_lowest-page.result c.take_lowest-page.new.tree c.take_lowest-page.ensures
+    c.put.new.tree c.put.ensures

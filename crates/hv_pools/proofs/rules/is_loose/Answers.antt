@@ -3,10 +3,10 @@ use Rattle.std.proofs.lemmas.Bool.{cases_lt}
 use Rattle.std.specs.FinMap.{get}
 use Rattle.hv_pages.specs.PageSet.{PagesAndRoom}
 use Rattle.hv_partition.specs.Partition.{PartitionState}
-use Rattle.hv_tie.proofs.Found.{content_row}
-use Rattle.hv_tie.proofs.Lawful.{beyond}
+use Rattle.hv_refine.proofs.Found.{content_row}
+use Rattle.hv_refine.proofs.StateInvariant.{beyond}
 use Rattle.hv_pools.proofs.Lowest.{loose_held}
-use Rattle.hv_tie.specs.Tie.{holds}
+use Rattle.hv_refine.specs.Tie.{holds}
 use Rattle.hv_pools.proofs.rules.is_loose.Goals as goal
 
 pub returns-in_default : goal.returns-in_default

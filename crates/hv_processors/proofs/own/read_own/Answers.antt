@@ -1,4 +1,4 @@
-use Rattle.hv_tie.proofs.Written.{vp_kept}
+use Rattle.hv_refine.proofs.Written.{vp_kept}
 use Rattle.hv_processors.proofs.own.read_own.Goals as goal
 
 pub returns-in-Ok-read_msr-clause-kept : goal.returns-in-Ok-read_msr-clause-kept

@@ -1,6 +1,6 @@
 use Rattle.std.proofs.Common.{ap, ◌∙◌}
 use Rattle.hv_partition.specs.Partition.{with_vp_of}
-use Rattle.hv_tie.proofs.Written.{vp_kept}
+use Rattle.hv_refine.proofs.Written.{vp_kept}
 use Rattle.hv_tree.specs.Rows.{change}
 use Rattle.hv_vp.specs.Vp.{VpState}
 use Rattle.hv_processors.proofs.own.write_own.Goals as goal

@@ -4,7 +4,7 @@ use Rattle.hv_policy.specs.Step.{run}
 use Rattle.hv_history.specs.Row.{events_of}
 use Rattle.hv_text.specs.Audit.{audit_text}
 use Rattle.hv_text.specs.Table.{table_text}
-use Rattle.hv_run.specs.Told.{HasPart, told_by}
+use Rattle.hv_run.specs.Written.{HasPart, told_by}
 use Rattle.hv_run.proofs.Parts.{all-part, cut-part, part-first, part-kept, part-then}
 use Rattle.hv_run.proofs.run.print.Goals.{then-with_table+in_ok-print_table, else-with_table}
 use Rattle.hv_run.proofs.run.print.Goals as goal
@@ -28,7 +28,8 @@ returns-clause-part g c =
     elim c.if-with_table.branch [
       | then-with_table+in_ok-print_table w ↦
           rw (w.if-with_table.true, w.out-is)
-          (part-then (audit_text c.args.kept.now.history) table (g.W.Write.contents c.args.out.now) (g.W.Write.contents c.audit.new.out) (g.W.Write.contents w.print_table.new.out) c.in_ok-audit.ensures.ok
+          (part-then (audit_text c.args.kept.now.history) table (g.W.Write.contents c.args.out.now) (g.W.Write.contents c.audit.new.out) (g.W.Write.contents w.print_table.new.out)
+          c.in_ok-audit.ensures.ok
           (all-part table (g.W.Write.contents c.audit.new.out) (g.W.Write.contents w.print_table.new.out) w.in_ok-print_table.ensures.ok))
       | else-with_table w ↦
           rw (w.if-with_table.false, w.out-is)
@@ -36,4 +37,5 @@ returns-clause-part g c =
           (all-part [] (g.W.Write.contents c.audit.new.out) (g.W.Write.contents c.audit.new.out) (Appends-nil (g.W.Write.contents c.audit.new.out))))
     ]
     in
-    part-kept (told_by c.args.with_table c.args.kept.now) (g.W.Write.contents c.args.out.now) (g.W.Write.contents c.if-with_table.out) (g.W.Write.contents c.flush.new.self) joined c.flush.ensures.bytes
+    part-kept (told_by c.args.with_table c.args.kept.now) (g.W.Write.contents c.args.out.now) (g.W.Write.contents c.if-with_table.out) (g.W.Write.contents c.flush.new.self) joined
+    c.flush.ensures.bytes

@@ -10,7 +10,8 @@ pub returns-in_err-rest-clause-fault : goal.returns-in_err-rest-clause-fault
 returns-in_err-rest-clause-fault g c =
     let before = read_by c.args.reading.now in
     let p = err_from_is_err_and c.from_residual.result c.from_residual.ensures.1 in
-    rw (p.1, p.2) (λ named. fails_by c.args.text.now before _ (cut_and_read before (line_of c.args.text.now) ∙ ap (λ read. read >>= (λ words. read_cut before words)) (c.in_err-rest.ensures.words named)))
+    rw (p.1, p.2) (λ named. fails_by c.args.text.now before _ (cut_and_read before (line_of c.args.text.now) ∙ ap (λ read. read >>= (λ words. read_cut before words))
+    (c.in_err-rest.ensures.words named)))
 
 pub returns-in_err-read_line-clause-fault : goal.returns-in_err-read_line-clause-fault
 returns-in_err-read_line-clause-fault g c =

@@ -15,5 +15,6 @@ returns-then-begins_with c =
     let none = c.if-words-eq0.false in
     let some : (length words == 0) ≡ false = grind (arith, nat_tests) in
     let begins : begins_with words (codes "table") ≡ true = search (rules, tests) in
-    λ before stands. took_table c.args.bench.now before (words_say (read_of before) words) (table_line (read_of before) words) c.table_line.result stands (by_first (read_of before) words true some begins)
+    λ before stands. took_table c.args.bench.now before (words_say (read_of before) words) (table_line (read_of before) words) c.table_line.result stands
+    (by_first (read_of before) words true some begins)
     (c.table_line.ensures (read_of before) (c.is_some.ensures ∙ is_booted c.args.bench.now before stands))

@@ -16,7 +16,8 @@ returns-in_err-written-clause-cut g c =
     let at = c.loop-id.id-index in
     let row = row-of tree c.args.ids.now at c.requires c.loop-id-test.true in
     let line = c.as_slice.ensures.bytes ∙ c.set_row-pages.ensures.text row.0 row.2 in
-    rw (p.1, p.2) (sent-cut (lines_of tree) _ _ (whole tree) _ _ _ at c.loop-id.written _ _ c.in_err-written.field-0.0 c.loop-id.invariant.sent (line-at tree at (get_or c.args.ids.now at 0, row.0) row.1) line c.in_err-written.ensures.cut)
+    rw (p.1, p.2) (sent-cut (lines_of tree) _ _ (whole tree) _ _ _ at c.loop-id.written _ _ c.in_err-written.field-0.0 c.loop-id.invariant.sent
+    (line-at tree at (get_or c.args.ids.now at 0, row.0) row.1) line c.in_err-written.ensures.cut)
 
 pub loop-id-preserved : goal.loop-id-preserved
 loop-id-preserved g c =
@@ -39,7 +40,8 @@ returns-in_err-put-clause-cut g c =
     let ids = c.args.ids.now in
     let past : length ids ≤ c.loop-id.id-index = omega arith in
     let end = c.as_slice-2.ensures.bytes ∙ c.set_end.ensures.text ∙ ap end_of (pages-all tree ids c.loop-id.id-index c.loop-id.pages c.requires past c.loop-id.invariant.sum) in
-    rw (p.1, p.2) (end-cut (lines_of tree) _ _ (whole tree) _ _ _ c.loop-id.id-index c.loop-id.written _ c.in_err-put.field-0.0 c.loop-id.invariant.sent (past-ids tree ids c.loop-id.id-index c.requires past) end c.in_err-put.ensures.cut)
+    rw (p.1, p.2) (end-cut (lines_of tree) _ _ (whole tree) _ _ _ c.loop-id.id-index c.loop-id.written _ c.in_err-put.field-0.0 c.loop-id.invariant.sent
+    (past-ids tree ids c.loop-id.id-index c.requires past) end c.in_err-put.ensures.cut)
 
 pub returns-clause-ok : goal.returns-clause-ok
 returns-clause-ok g c =

@@ -18,14 +18,16 @@ returns-then-is_err-clause-err g c =
     let up = parents c.args.index.now in
     let n = c.in-Some.node.now in
     let r : IsReached up c.args.parent c.args.root.now n = c.in-Some.ensures.found in
-    lines-kept (way_to up c.args.parent c.args.root.now) c.args.root.now n r.led c.requires.laid.distinct (roll-Node _ _ (record (out-Node _ _ n) { children = c.reserve.new.self })) (same-items n c.reserve.new.self c.reserve.ensures.items)
+    lines-kept (way_to up c.args.parent c.args.root.now) c.args.root.now n r.led c.requires.laid.distinct (roll-Node _ _ (record (out-Node _ _ n) { children = c.reserve.new.self }))
+    (same-items n c.reserve.new.self c.reserve.ensures.items)
 
 pub returns-then-is_err-2-clause-err : goal.returns-then-is_err-2-clause-err
 returns-then-is_err-2-clause-err g c =
     let up = parents c.args.index.now in
     let n = c.in-Some.node.now in
     let r : IsReached up c.args.parent c.args.root.now n = c.in-Some.ensures.found in
-    lines-kept (way_to up c.args.parent c.args.root.now) c.args.root.now n r.led c.requires.laid.distinct (roll-Node _ _ (record (out-Node _ _ n) { children = c.reserve.new.self })) (same-items n c.reserve.new.self c.reserve.ensures.items)
+    lines-kept (way_to up c.args.parent c.args.root.now) c.args.root.now n r.led c.requires.laid.distinct (roll-Node _ _ (record (out-Node _ _ n) { children = c.reserve.new.self }))
+    (same-items n c.reserve.new.self c.reserve.ensures.items)
 
 pub returns-clause-ok : goal.returns-clause-ok
 returns-clause-ok g c =
@@ -42,7 +44,8 @@ returns-clause-ok g c =
     let id : (out-Node _ _ w).id ≡ (out-Node _ _ n).id = ap (λ s. s.id) back ∙ ap (λ s. s.id) back1 in
     let held : content_of w ≡ content_of n = ap (λ s. s.content) back ∙ ap (λ s. s.content) back1 in
     let kids : children_of w ≡ insert (children_of n) i c.args.child = ap (λ s. s.children.items) back ∙ c.in-Ok.ensures.items ∙ ap (λ l. insert l i c.args.child) room in
-    subst (λ p. IsGrownBy p (lines c.args.child.value) (lines b) (lines (put_far (way_to up c.args.parent b) b w))) r.here (lines-grown (way_to up c.args.parent b) b n r.led c.requires.laid.distinct w i c.args.child id held kids)
+    subst (λ p. IsGrownBy p (lines c.args.child.value) (lines b) (lines (put_far (way_to up c.args.parent b) b w))) r.here
+    (lines-grown (way_to up c.args.parent b) b n r.led c.requires.laid.distinct w i c.args.child id held kids)
 
 pub returns-clause-rising : goal.returns-clause-rising
 returns-clause-rising g c =

@@ -33,7 +33,8 @@ returns-clause-gone g c =
     let r : IsReached up c.args.parent b n = c.in-Some.ensures.found in
     let w = c.take_leaf.new.self in
     let far = put_far (way_to up c.args.parent b) b w in
-    if_some {P = λ v. IsShorn c.args.id v n w} {Q = λ v. IsWithout c.args.id (Some v) (lines b) (lines far)} c.take_leaf.result (λ v s. lines-shorn (way_to up c.args.parent b) b n r.led c.requires.laid.distinct w c.args.id v s) c.take_leaf.ensures.gone
+    if_some {P = λ v. IsShorn c.args.id v n w} {Q = λ v. IsWithout c.args.id (Some v) (lines b) (lines far)} c.take_leaf.result
+    (λ v s. lines-shorn (way_to up c.args.parent b) b n r.led c.requires.laid.distinct w c.args.id v s) c.take_leaf.ensures.gone
 
 pub returns-clause-rising : goal.returns-clause-rising
 returns-clause-rising g c =
@@ -45,7 +46,8 @@ returns-clause-rising g c =
     let far = put_far (way_to up c.args.parent b) b w in
     if_some {P = λ v. IsShorn c.args.id v n w} {Q = λ _. AreDistinct (lines far) → IsNonDecreasing (children_in c.args.parent (lines far))} c.take_leaf.result
     (λ v s. subst (λ p. AreDistinct (lines far) → IsNonDecreasing (children_in p (lines far))) (s.id ∙ r.here)
-    (kids-changed (way_to up c.args.parent b) b n r.led c.requires.laid.distinct w (subst (λ l. IsNonDecreasingBy (λ k. id_of k.value) l) (sym s.children) (rising-remove (λ k. id_of k.value) (children_of n) s.at s.within (rising-non_decreasing n r.rising)))))
+    (kids-changed (way_to up c.args.parent b) b n r.led c.requires.laid.distinct w (subst (λ l. IsNonDecreasingBy (λ k. id_of k.value) l) (sym s.children)
+    (rising-remove (λ k. id_of k.value) (children_of n) s.at s.within (rising-non_decreasing n r.rising)))))
     c.take_leaf.ensures.gone
 
 pub returns-clause-stays : goal.returns-clause-stays

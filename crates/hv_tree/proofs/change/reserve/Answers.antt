@@ -9,11 +9,13 @@ returns-then-is_err-clause-rows g c =
     let up = parents c.args.index.now in
     let n = c.in-Some.node.now in
     let r : IsReached up c.args.parent c.args.root.now n = c.in-Some.ensures.found in
-    lines-kept (way_to up c.args.parent c.args.root.now) c.args.root.now n r.led c.requires.distinct (roll-Node _ _ (record (out-Node _ _ n) { children = c.reserve.new.self })) (same-items n c.reserve.new.self c.reserve.ensures.items)
+    lines-kept (way_to up c.args.parent c.args.root.now) c.args.root.now n r.led c.requires.distinct (roll-Node _ _ (record (out-Node _ _ n) { children = c.reserve.new.self }))
+    (same-items n c.reserve.new.self c.reserve.ensures.items)
 
 pub returns-clause-rows : goal.returns-clause-rows
 returns-clause-rows g c =
     let up = parents c.args.index.now in
     let n = c.in-Some.node.now in
     let r : IsReached up c.args.parent c.args.root.now n = c.in-Some.ensures.found in
-    lines-kept (way_to up c.args.parent c.args.root.now) c.args.root.now n r.led c.requires.distinct (roll-Node _ _ (record (out-Node _ _ n) { children = c.reserve.new.self })) (same-items n c.reserve.new.self c.reserve.ensures.items)
+    lines-kept (way_to up c.args.parent c.args.root.now) c.args.root.now n r.led c.requires.distinct (roll-Node _ _ (record (out-Node _ _ n) { children = c.reserve.new.self }))
+    (same-items n c.reserve.new.self c.reserve.ensures.items)

@@ -9,7 +9,8 @@ pub search_child-requires : goal.search_child-requires
 search_child-requires g c = rw c.deref.ensures.value (rising-non_decreasing c.args.node.now c.requires.rising)
 
 pub returns-in-Ok-clause-some : goal.returns-in-Ok-clause-some
-returns-in-Ok-clause-some g c = step-some c.args.node.now c.in_ok-next.next c.in-Ok.at _ (sym c.in_ok-next.ensures) c.requires.rising (rw (← c.deref.ensures.value) c.in-Ok.ensures.found.0) (rw (← c.deref.ensures.value) c.in-Ok.ensures.found.1)
+returns-in-Ok-clause-some g c = step-some c.args.node.now c.in_ok-next.next c.in-Ok.at _ (sym c.in_ok-next.ensures) c.requires.rising (rw (← c.deref.ensures.value) c.in-Ok.ensures.found.0)
+    (rw (← c.deref.ensures.value) c.in-Ok.ensures.found.1)
 
 pub returns-in-Err-clause-none : goal.returns-in-Err-clause-none
 returns-in-Err-clause-none g c = step-none c.args.node.now c.in_ok-next.next _ (sym c.in_ok-next.ensures) (rw (← c.deref.ensures.value) c.in-Err.ensures.none)

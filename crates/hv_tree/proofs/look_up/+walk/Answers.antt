@@ -24,7 +24,8 @@ walk-requires g t c κs within =
     let n = node_of c.args.branch.now in
     let is : c.in_ok-child.child.now ≡ get_or (children_of n) c.in_ok-at.at c.in_ok-child.child.now = rw (← c.deref.ensures.value) c.in_ok-child.ensures.lookup.1 in
     let at : child_of n c.in_ok-at.at ≡ Some c.deref-2.result.now =
-    ap (option_map (λ k. k.value)) (slice-some (children_of n) c.in_ok-at.at c.in_ok-child.child.now (rw (← c.deref.ensures.value) c.in_ok-child.ensures.lookup.3.0) ∙ ap Some (sym is)) ∙ ap Some (sym c.deref-2.ensures) in
+    ap (option_map (λ k. k.value)) (slice-some (children_of n) c.in_ok-at.at c.in_ok-child.child.now (rw (← c.deref.ensures.value) c.in_ok-child.ensures.lookup.3.0) ∙ ap Some (sym is)) ∙ ap Some
+    (sym c.deref-2.ensures) in
     (omega (arith, c.decreases, c.if-steps-eq0.false), (within.0, (within.1, (rising-child c.args.branch.now c.requires.rising [] n c.in_ok-at.at c.deref-2.result.now refl at, c.requires.climb))))
 
 pub returns : goal.returns
@@ -35,6 +36,7 @@ returns g t c =
     let len : c.args.steps ≡ 0 + suc (c.args.steps - 1) = omega (arith, c.if-steps-eq0.false) in
     let is : c.in_ok-child.child.now ≡ get_or (children_of n) c.in_ok-at.at c.in_ok-child.child.now = rw (← c.deref.ensures.value) c.in_ok-child.ensures.lookup.1 in
     let at : child_of n c.in_ok-at.at ≡ Some c.deref-2.result.now =
-    ap (option_map (λ k. k.value)) (slice-some (children_of n) c.in_ok-at.at c.in_ok-child.child.now (rw (← c.deref.ensures.value) c.in_ok-child.ensures.lookup.3.0) ∙ ap Some (sym is)) ∙ ap Some (sym c.deref-2.ensures) in
+    ap (option_map (λ k. k.value)) (slice-some (children_of n) c.in_ok-at.at c.in_ok-child.child.now (rw (← c.deref.ensures.value) c.in_ok-child.ensures.lookup.3.0) ∙ ap Some (sym is)) ∙ ap Some
+    (sym c.deref-2.ensures) in
     let next : Some c.deref-2.result.now ≡ child_of n (step up MOST c.args.climb.now.id n) = sym (ap (λ i. child_of n i) (sym c.in_ok-at.ensures.some) ∙ at) in
     c.walk.ensures ∙ sym (split_some up MOST c.args.climb.now.id 0 (c.args.steps - 1) c.args.steps b n c.deref-2.result.now len refl next)

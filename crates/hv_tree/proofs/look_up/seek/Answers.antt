@@ -23,12 +23,14 @@ pub returns-clause-found : goal.returns-clause-found
 returns-clause-found g c =
     let up = parents c.args.index.now in
     let b = c.args.root.now in
-    let led : option_copied c.walk.result ≡ reach (way_to up c.args.id b) b = c.walk.ensures ∙ ap (λ s. reach (way up MOST c.new-climb.result.id s b) b) c.depth.ensures ∙ ap (λ q. reach (way_to up q b) b) c.new-climb.ensures.id in
+    let led : option_copied c.walk.result ≡ reach (way_to up c.args.id b) b = c.walk.ensures ∙ ap (λ s. reach (way up MOST c.new-climb.result.id s b) b) c.depth.ensures ∙ ap
+    (λ q. reach (way_to up q b) b) c.new-climb.ensures.id in
     some_copied (λ n. IsReached up c.args.id b n) c.walk.result ((reached up b c.requires c.args.id (sym c.is_there.ensures ∙ c.if-not-is_there.false) (option_copied c.walk.result) led).0)
 
 pub returns-clause-none : goal.returns-clause-none
 returns-clause-none g c =
     let up = parents c.args.index.now in
     let b = c.args.root.now in
-    let led : option_copied c.walk.result ≡ reach (way_to up c.args.id b) b = c.walk.ensures ∙ ap (λ s. reach (way up MOST c.new-climb.result.id s b) b) c.depth.ensures ∙ ap (λ q. reach (way_to up q b) b) c.new-climb.ensures.id in
+    let led : option_copied c.walk.result ≡ reach (way_to up c.args.id b) b = c.walk.ensures ∙ ap (λ s. reach (way up MOST c.new-climb.result.id s b) b) c.depth.ensures ∙ ap
+    (λ q. reach (way_to up q b) b) c.new-climb.ensures.id in
     none_copied (has_row c.args.id (lines b) ≡ false) c.walk.result ((reached up b c.requires c.args.id (sym c.is_there.ensures ∙ c.if-not-is_there.false) (option_copied c.walk.result) led).1)

@@ -21,13 +21,20 @@ pub toward-requires-clause-rising : goal.toward-requires-clause-rising
 toward-requires-clause-rising g c = laid-rising (parents c.args.index.now) c.args.root.now c.requires c.args.id (sym c.is_there.ensures ∙ c.if-not-is_there.false)
 
 pub toward-requires-clause-few : goal.toward-requires-clause-few
-toward-requires-clause-few g c = omega (arith, c.depth.ensures, ap (depth (parents c.args.index.now) MOST) c.new-climb.ensures.id, few-steps (parents c.args.index.now) c.args.root.now c.requires c.args.id (sym c.is_there.ensures ∙ c.if-not-is_there.false))
+toward-requires-clause-few g c = omega (
+  arith,
+  c.depth.ensures,
+  ap (depth (parents c.args.index.now) MOST) c.new-climb.ensures.id,
+  few-steps (parents c.args.index.now) c.args.root.now c.requires
+      c.args.id (sym c.is_there.ensures ∙ c.if-not-is_there.false),
+)
 
 pub returns : goal.returns
 returns g c =
     let up = parents c.args.index.now in
     let b = c.args.root.now in
-    let led : option_copied_mut c.toward.result ≡ reach (way_to up c.args.id b) b = c.toward.ensures.value ∙ ap (λ s. reach (way up MOST c.new-climb.result.id s b) b) c.depth.ensures ∙ ap (λ q. reach (way_to up q b) b) c.new-climb.ensures.id in
+    let led : option_copied_mut c.toward.result ≡ reach (way_to up c.args.id b) b = c.toward.ensures.value ∙ ap (λ s. reach (way up MOST c.new-climb.result.id s b) b) c.depth.ensures ∙ ap
+    (λ q. reach (way_to up q b) b) c.new-climb.ensures.id in
     let all = reached up b c.requires c.args.id (sym c.is_there.ensures ∙ c.if-not-is_there.false) (option_copied_mut c.toward.result) led in (
       ap (λ s. read_of (ghost_name_of c.toward.result) (put_far (way up MOST c.new-climb.result.id s b) b) b) c.depth.ensures
           ∙ ap (λ q. read_of (ghost_name_of c.toward.result) (put_far (way_to up q b) b) b) c.new-climb.ensures.id,

@@ -7,5 +7,6 @@ returns-then-self-rest c = copied c.self.inside.rest.now c.new-bytes.result.item
 
 pub returns : goal.returns
 returns c =
-    copied-ended c.self.inside.rest.now c.new-bytes.result.items c.try_extend_from_slice-2.new.self.items _ c.self.inside.len c.new-bytes.ensures c.in-Ok-try_extend_from_slice.ensures.ok c.in-Ok-try_extend_from_slice-2.ensures.ok (omega (arith, c.if-self-rest.false)) c.self.invariant
+    copied-ended c.self.inside.rest.now c.new-bytes.result.items c.try_extend_from_slice-2.new.self.items _ c.self.inside.len c.new-bytes.ensures c.in-Ok-try_extend_from_slice.ensures.ok
+    c.in-Ok-try_extend_from_slice-2.ensures.ok (omega (arith, c.if-self-rest.false)) c.self.invariant
     ∙ c.self.view_is

@@ -5,4 +5,5 @@ use Rattle.hv_check.proofs.Begins.{stands_new}
 use Rattle.hv_check.proofs.replay.Replay.new.Goals as goal
 
 pub returns : goal.returns
-returns c read = stands_new (record { turns = c.new.result; later = c.reverse.new.self }) c.args.lines.items c.new.ensures.items (ap reverse c.reverse.ensures.items ∙ reverse-reverse c.args.lines.items) read
+returns c read = stands_new (record { turns = c.new.result; later = c.reverse.new.self }) c.args.lines.items c.new.ensures.items
+    (ap reverse c.reverse.ensures.items ∙ reverse-reverse c.args.lines.items) read

@@ -9,7 +9,8 @@ returns-in-Err-apply_next-clause-stopped g c =
     let l = c.loop-next in
     let more : l.last ≡ More c.in-Some.next c.parts.result.1.now = sym c.parts.ensures.reply ∙ c.in-Some.ensures.some c.parts.result.1.now in
     let fewer : l.events ≢ c.args.most = search rules in
-    stopped c.args.by c.args.frame l.last l.events c.args.most c.args.self.now l.self l.invariant.so_far c.in-Some.next c.parts.result.1.now more c.apply_next.new.self c.in-Err-apply_next.ensures.refused fewer
+    stopped c.args.by c.args.frame l.last l.events c.args.most c.args.self.now l.self l.invariant.so_far c.in-Some.next c.parts.result.1.now more c.apply_next.new.self
+    c.in-Err-apply_next.ensures.refused fewer
 
 pub loop-next-preserved : goal.loop-next-preserved
 loop-next-preserved g c =
@@ -20,6 +21,7 @@ loop-next-preserved g c =
     let ends = ends_in c.args.by c.args.frame l.last l.events c.args.most c.args.self.now l.self is in
     let taken = c.in-Ok-apply_next.ensures.applied (c.args.self.now.history ++ is.before) (record { event = element c.args.by is.last; reply = l.last }) is.last ends refl in
     record {
-      so_far = goes_on c.args.by c.args.frame l.last l.events c.args.most c.args.self.now l.self is c.in-Some.next c.parts.result.1.now more c.in-Ok-apply_next.reply c.apply_next.new.self (l.events + 1) refl fewer taken;
+      so_far = goes_on c.args.by c.args.frame l.last l.events c.args.most c.args.self.now l.self is c.in-Some.next c.parts.result.1.now more c.in-Ok-apply_next.reply c.apply_next.new.self
+          (l.events + 1) refl fewer taken;
       run = c.in-Ok-apply_next.ensures.run;
     }

@@ -10,4 +10,5 @@ returns-clause-pushed g c =
     let output = rw c.unwrap.ensures at c.extend_from_slice.ensures.items in
     let most = c.requires.most in
     rw (c.push_reserved.ensures.items, output)
-    (pushed h.heads.items h.outputs.items c.args.output.now (vec_len h.heads) h.rows.items _ (subst (λ n. ArePlaced (vec_len h.heads) n h.rows.items) h.outputs.ok.0 h.placed) (c.len-start.ensures ∙ h.outputs.ok.0) (omega arith))
+    (pushed h.heads.items h.outputs.items c.args.output.now (vec_len h.heads) h.rows.items _ (subst (λ n. ArePlaced (vec_len h.heads) n h.rows.items) h.outputs.ok.0 h.placed)
+    (c.len-start.ensures ∙ h.outputs.ok.0) (omega arith))

@@ -21,7 +21,8 @@ pub returns-in-Ok-hypercall-clause-state : goal.returns-in-Ok-hypercall-clause-s
 returns-in-Ok-hypercall-clause-state g c = (same_event (call_event_is c.args.event.now c.in-Err.frame.now (sym c.in-Err.ensures.call)) c.in-Ok-hypercall.ensures).state
 
 pub returns-in-Ok-hypercall-clause-asked : goal.returns-in-Ok-hypercall-clause-asked
-returns-in-Ok-hypercall-clause-asked g c = subst (NamesAsked c.args.event.now) (sym c.to_reply.ensures) (same_event (call_event_is c.args.event.now c.in-Err.frame.now (sym c.in-Err.ensures.call)) c.in-Ok-hypercall.ensures).asked
+returns-in-Ok-hypercall-clause-asked g c = subst (NamesAsked c.args.event.now) (sym c.to_reply.ensures)
+    (same_event (call_event_is c.args.event.now c.in-Err.frame.now (sym c.in-Err.ensures.call)) c.in-Ok-hypercall.ensures).asked
 
 pub returns-in-Ok-access-clause-others : goal.returns-in-Ok-access-clause-others
 returns-in-Ok-access-clause-others g c = (same_event (access_event_is c.args.event.now c.in-Ok.access c.in-Ok.ensures.access) c.in-Ok-access.ensures).others

@@ -11,7 +11,8 @@ use Rattle.hv_mail.proofs.mailbox.Mailbox.clear.Goals as goal
 
 -- the mail once the queue was cleared
 written : (g : Over) (c : After-clear g)
-    → mail_from 0 (set c.self.inside.queues.items c.from-at.result c.clear.new.self) ≡ with_at (mail_from 0 c.self.inside.queues.items) c.from-at.result (cleared (at (mail_from 0 c.self.inside.queues.items) c.from-at.result))
+    → mail_from 0 (set c.self.inside.queues.items c.from-at.result c.clear.new.self) ≡ with_at (mail_from 0 c.self.inside.queues.items) c.from-at.result
+    (cleared (at (mail_from 0 c.self.inside.queues.items) c.from-at.result))
 written g c = write_queue c.self.inside.queues.items c.from-at.result c.index_mut-queue.result.now c.clear.new.self cleared (omega arith) c.index_mut-queue.ensures.value c.clear.ensures.mail
 
 -- and that there is room still

@@ -9,12 +9,14 @@ use Rattle.hv_mail.proofs.mailbox.Mailbox.post.Goals as goal
 pub returns-clause-mail : goal.returns-clause-mail
 returns-clause-mail g c =
     let sixteen = whole c.self.inside.queues.items c.self.invariant.whole (ap {A = MailboxState} (λ m. m.room) c.self.view_is ∙ c.requires.room) in
-    rw (← c.self.view_is, ← c.from.ensures) (write_queue c.self.inside.queues.items c.from.result c.index_mut-queue.result.now c.post-shown.new.self (λ m. posted m c.args.message) (omega arith) c.index_mut-queue.ensures.value c.post-shown.ensures.mail)
+    rw (← c.self.view_is, ← c.from.ensures) (write_queue c.self.inside.queues.items c.from.result c.index_mut-queue.result.now c.post-shown.new.self (λ m. posted m c.args.message) (omega arith)
+    c.index_mut-queue.ensures.value c.post-shown.ensures.mail)
 
 pub returns-clause-shown : goal.returns-clause-shown
 returns-clause-shown g c =
     let sixteen = whole c.self.inside.queues.items c.self.invariant.whole (ap {A = MailboxState} (λ m. m.room) c.self.view_is ∙ c.requires.room) in
-    rw (← c.self.view_is, ← c.from.ensures) (c.post-shown.ensures.shown ∙ ap (λ m. has_next (with_last m c.args.message)) (sym (read_queue c.self.inside.queues.items c.from.result c.index_mut-queue.result.now (omega arith) c.index_mut-queue.ensures.value)))
+    rw (← c.self.view_is, ← c.from.ensures) (c.post-shown.ensures.shown ∙ ap (λ m. has_next (with_last m c.args.message))
+    (sym (read_queue c.self.inside.queues.items c.from.result c.index_mut-queue.result.now (omega arith) c.index_mut-queue.ensures.value)))
 
 pub invariant_of-self : goal.invariant_of-self
 invariant_of-self g c =
@@ -22,8 +24,13 @@ invariant_of-self g c =
     let sixteen = whole c.self.inside.queues.items c.self.invariant.whole roomy in
     record {
       whole = still_whole c.self.inside.queues.items c.from.result c.post-shown.new.self c.self.invariant.whole;
-      room = λ noted. still_roomy c.self.inside.queues.items c.from.result c.index_mut-queue.result.now c.post-shown.new.self (omega arith) c.index_mut-queue.ensures.value (λ _. sym c.has_room-self-inside.ensures ∙ noted) roomy;
+      room = λ noted. still_roomy c.self.inside.queues.items c.from.result c.index_mut-queue.result.now c.post-shown.new.self (omega arith) c.index_mut-queue.ensures.value
+          (λ _. sym c.has_room-self-inside.ensures ∙ noted) roomy;
       quiet =
-          rw (write_queue c.self.inside.queues.items c.from.result c.index_mut-queue.result.now c.post-shown.new.self (λ m. posted m c.args.message) (omega arith) c.index_mut-queue.ensures.value c.post-shown.ensures.mail, c.from.ensures)
+          rw (
+            write_queue c.self.inside.queues.items c.from.result c.index_mut-queue.result.now c.post-shown.new.self (λ m. posted m c.args.message) (omega arith) c.index_mut-queue.ensures.value
+                c.post-shown.ensures.mail,
+            c.from.ensures,
+          )
           (quiet_set c.self.inside.busy (mail_from 0 c.self.inside.queues.items) c.args.sint c.self.invariant.quiet _ c.requires.sint);
     }

@@ -60,7 +60,8 @@ returns-else-block-gt0-clause-blocks g c =
     λ some.
     elim c.else-block-gt0.branch [
       | else-block-gt0-via-then-block-gt0+else-len-le-HALF-2 w ↦
-          let upper = ap (λ (x : Block). length x.items) (get_or_read c.args.self.now.blocks.items (c.args.block - 1) w.index-then-block-gt0.result.now (omega (arith, within)) w.index-then-block-gt0.ensures d) in
+          let upper = ap (λ (x : Block). length x.items) (get_or_read c.args.self.now.blocks.items (c.args.block - 1) w.index-then-block-gt0.result.now (omega (arith, within))
+          w.index-then-block-gt0.ensures d) in
           omega (arith, here, upper, w.if-len-le-HALF-2.false, c.len-len.ensures.value, w.len-then-block-gt0.ensures.value)
       | else-block-gt0-via-else-block-gt0 w ↦ absurd (omega (arith, some, w.if-block-gt0.false))
     ]

@@ -20,7 +20,8 @@ invariant_of-self c = rw (c.loop-run.invariant.none, c.loop-run.invariant.empty)
 
 pub returns-then-begins_comment-clause-words : goal.returns-then-begins_comment-clause-words
 unfolding words_of
-returns-then-begins_comment-clause-words c = rw c.loop-run.invariant.empty (comment c.args.text.now c.loop-run.self-inside.first c.loop-run.count c.loop-run.at c.word_end-end.result c.loop-run.invariant.cut c.word_end-end.ensures (search rules))
+returns-then-begins_comment-clause-words c = rw c.loop-run.invariant.empty (comment c.args.text.now c.loop-run.self-inside.first c.loop-run.count c.loop-run.at c.word_end-end.result
+    c.loop-run.invariant.cut c.word_end-end.ensures (search rules))
 
 pub keep-count-requires : goal.keep-count-requires
 keep-count-requires c = omega (arith, c.loop-run.invariant.few, c.loop-run.invariant.inside)
@@ -75,7 +76,8 @@ returns-then-text-end-ne32-clause-words c = λ _.
     let so_far = c.loop-run.invariant in
     let run = c.word_end-end.ensures in
     let there : c.word_end-end.result < length c.args.text.now = omega (arith, run.inside, c.if-end-text.false) in
-    bad_line c.args.text.now c.loop-run.self-inside.first c.loop-run.count c.loop-run.at c.word_end-end.result so_far.cut so_far.good run (search rules) there (search (rules, tests)) (search (rules, tests))
+    bad_line c.args.text.now c.loop-run.self-inside.first c.loop-run.count c.loop-run.at c.word_end-end.result so_far.cut so_far.good run (search rules) there (search (rules, tests))
+    (search (rules, tests))
 
 pub loop-run-preserved : goal.loop-run-preserved
 loop-run-preserved c =

@@ -20,4 +20,5 @@ pub returns : goal.returns
 returns c =
     let boot : begins_with c.args.line.now (codes "boot") ≡ false = search (rules, tests) in
     let phase : begins_with c.args.line.now (codes "phase") ≡ false = search (rules, tests) in
-    λ served is. subst (λ says. HasTaken (Some served) says (Some c.processor_line.new.self) c.processor_line.result) (sym (is_processor served.read c.args.line.now boot phase)) (c.processor_line.ensures served is)
+    λ served is. subst (λ says. HasTaken (Some served) says (Some c.processor_line.new.self) c.processor_line.result) (sym (is_processor served.read c.args.line.now boot phase))
+    (c.processor_line.ensures served is)

@@ -19,15 +19,18 @@ pub push_all-requires-clause-copies : goal.push_all-requires-clause-copies
 push_all-requires-clause-copies g c =
     let run = c.apply_run-done in
     let are = subst (λ (p : PassValue). AreCopies p.caller c.args.frame c.args.most c.args.copies.items) (sym c.pass.view_is) c.requires.copies in
-    let is = gained c.pass.inside.caller c.args.frame run.result.events c.args.most c.self.inside.kept run.new.self c.args.copies.items run.ensures.run are run.result.last run.ensures.ran run.ensures.stopped in
-    let tail = tail_is (entries c.history-2.result.now) c.self.inside.kept.history is.more c.len-from.result (c.history-2.ensures.list ∙ is.history) (c.len-from.ensures ∙ ap length c.history.ensures.list) in
+    let is = gained c.pass.inside.caller c.args.frame run.result.events c.args.most c.self.inside.kept run.new.self c.args.copies.items run.ensures.run are run.result.last run.ensures.ran
+    run.ensures.stopped in
+    let tail = tail_is (entries c.history-2.result.now) c.self.inside.kept.history is.more c.len-from.result (c.history-2.ensures.list ∙ is.history)
+    (c.len-from.ensures ∙ ap length c.history.ensures.list) in
     c.truncate.ensures.items ∙ is.copied ∙ ap events_of (sym tail)
 
 pub push_all-requires-clause-within : goal.push_all-requires-clause-within
 push_all-requires-clause-within g c =
     let run = c.apply_run-done in
     let are = subst (λ (p : PassValue). AreCopies p.caller c.args.frame c.args.most c.args.copies.items) (sym c.pass.view_is) c.requires.copies in
-    let is = gained c.pass.inside.caller c.args.frame run.result.events c.args.most c.self.inside.kept run.new.self c.args.copies.items run.ensures.run are run.result.last run.ensures.ran run.ensures.stopped in
+    let is = gained c.pass.inside.caller c.args.frame run.result.events c.args.most c.self.inside.kept run.new.self c.args.copies.items run.ensures.run are run.result.last run.ensures.ran
+    run.ensures.stopped in
     let all = ap length (c.history-2.ensures.list ∙ is.history) in
     let from : c.len-from.result ≡ length c.self.inside.kept.history = c.len-from.ensures ∙ ap length c.history.ensures.list in
     omega (arith, all, from, length-append c.self.inside.kept.history is.more)
@@ -36,7 +39,8 @@ pub invariant_of-self : goal.invariant_of-self
 invariant_of-self g c =
     let run = c.apply_run-done in
     let are = subst (λ (p : PassValue). AreCopies p.caller c.args.frame c.args.most c.args.copies.items) (sym c.pass.view_is) c.requires.copies in
-    let is = gained c.pass.inside.caller c.args.frame run.result.events c.args.most c.self.inside.kept run.new.self c.args.copies.items run.ensures.run are run.result.last run.ensures.ran run.ensures.stopped in
+    let is = gained c.pass.inside.caller c.args.frame run.result.events c.args.most c.self.inside.kept run.new.self c.args.copies.items run.ensures.run are run.result.last run.ensures.ran
+    run.ensures.stopped in
     let all = ap length is.history in
     let many = is.many in
     let counted = c.self.invariant in
@@ -54,7 +58,8 @@ invariant_of-pass g c =
     let tail = tail_is all c.self.inside.kept.history is.more c.len-from.result (c.history-2.ensures.list ∙ is.history) (c.len-from.ensures ∙ ap length c.history.ensures.list) in
     let many : run.result.events ≡ length (numbered n is.more) = sym (count n is.more ∙ is.many) in
     some_more by (list_of c.pass.inside.receipts.value) (list_of c.push_all.new.self) (numbered n is.more) _ _ _ _ c.pass.invariant
-    (c.push_all.ensures ∙ ap (λ (r : Receipts). list_of r ++ numbered n (drop c.len-from.result all)) c.deref_mut.ensures.value ∙ ap (λ (es : List (Entry Global)). list_of c.pass.inside.receipts.value ++ numbered n es) tail)
+    (c.push_all.ensures ∙ ap (λ (r : Receipts). list_of r ++ numbered n (drop c.len-from.result all)) c.deref_mut.ensures.value ∙ ap
+    (λ (es : List (Entry Global)). list_of c.pass.inside.receipts.value ++ numbered n es) tail)
     c.add.ensures.parts (c.add.ensures.amount ∙ ap (λ (m : ℕ). c.pass.inside.share.amount + m) (c.from.ensures ∙ many)) (is.own n)
 
 pub returns-clause-held : goal.returns-clause-held
@@ -66,9 +71,26 @@ returns-clause-held g c =
     let all = entries c.history-2.result.now in
     let h : HeldValue = record { kept = c.self.inside.kept; count = c.self.inside.count.total } in
     let k : HeldValue = record { kept = run.new.self; count = c.add.new.self.total } in
-    let p : PassValue = record { caller = by; receipts = list_of c.pass.inside.receipts.value; share = c.pass.inside.share.amount; settled = c.pass.inside.settled; due = c.pass.inside.due; room = room_in c.pass.inside.receipts.value } in
-    let q : PassValue = record { caller = by; receipts = list_of c.push_all.new.self; share = c.add.new.share.amount; settled = c.pass.inside.settled; due = c.pass.inside.due; room = room_in c.push_all.new.self } in
+    let p : PassValue = record {
+      caller = by;
+      receipts = list_of c.pass.inside.receipts.value;
+      share = c.pass.inside.share.amount;
+      settled = c.pass.inside.settled;
+      due = c.pass.inside.due;
+      room =
+          room_in c.pass.inside.receipts.value;
+    } in
+    let q : PassValue = record {
+      caller = by;
+      receipts = list_of c.push_all.new.self;
+      share = c.add.new.share.amount;
+      settled = c.pass.inside.settled;
+      due = c.pass.inside.due;
+      room = room_in
+          c.push_all.new.self;
+    } in
     let told = c.push_all.ensures ∙ ap (λ (r : Receipts). list_of r ++ numbered (c.len-from.result + 1) (drop c.len-from.result all)) c.deref_mut.ensures.value in
     subst (λ (x : PassValue). HasHeld c.args.self.now k x q) c.pass.view_is
     (subst (λ (x : HeldValue). HasHeld x k p q) c.self.view_is
-    (held by run.result.events c.args.copies.items h k p q is (c.add.ensures.total ∙ ap (λ (m : ℕ). c.self.inside.count.total + m) c.from.ensures) all c.len-from.result c.history-2.ensures.list (c.len-from.ensures ∙ ap length c.history.ensures.list) told (c.add.ensures.amount ∙ ap (λ (m : ℕ). c.pass.inside.share.amount + m) c.from.ensures) refl))
+    (held by run.result.events c.args.copies.items h k p q is (c.add.ensures.total ∙ ap (λ (m : ℕ). c.self.inside.count.total + m) c.from.ensures) all c.len-from.result c.history-2.ensures.list
+    (c.len-from.ensures ∙ ap length c.history.ensures.list) told (c.add.ensures.amount ∙ ap (λ (m : ℕ). c.pass.inside.share.amount + m) c.from.ensures) refl))

@@ -44,7 +44,8 @@ loop-frame-smaller g c =
     let at = ap (λ (s : ℕ). s + c.in_ok-events.events - 1) start in
     let same = c.with_start-last.ensures.frame ∙ last_is c.args.frame l.frame c.args.pass.now l.pass l.invariant c.in_ok-events.reply c.in_ok-events.events c.ask.new.pass asked _ at in
     let more : c.in_ok-events.reply ≡ More c.in-Some.next c.parts.result.1.now = sym c.parts.ensures.reply ∙ c.in-Some.ensures.some c.parts.result.1.now in
-    let further = further c.args.frame l.frame c.args.pass.now l.pass l.invariant c.in_ok-events.reply c.in_ok-events.events c.ask.new.pass asked c.in-Some.next c.parts.result.1.now more c.with_start-last.result
+    let further = further c.args.frame l.frame c.args.pass.now l.pass l.invariant c.in_ok-events.reply c.in_ok-events.events c.ask.new.pass asked c.in-Some.next c.parts.result.1.now more
+    c.with_start-last.result
     c.with_start-frame.result same c.with_start-frame.ensures.frame in
     omega (arith, further)
 

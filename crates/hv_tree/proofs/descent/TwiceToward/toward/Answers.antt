@@ -20,7 +20,8 @@ returns-in_err-above g c =
     rw c.from_residual.ensures (refl, record { writes_back = tt; value = sym lost })
 
 pub step_toward-requires-clause-rising : goal.step_toward-requires-clause-rising
-step_toward-requires-clause-rising g c = c.requires.rising (way (parents c.args.index.now) MOST c.args.climb.now.id (c.args.steps / 2) c.args.branch.now) c.in_ok-above.above.now (sym c.in_ok-above.ensures.value)
+step_toward-requires-clause-rising g c = c.requires.rising (way (parents c.args.index.now) MOST c.args.climb.now.id (c.args.steps / 2) c.args.branch.now) c.in_ok-above.above.now
+    (sym c.in_ok-above.ensures.value)
 
 pub returns-in_err-child : goal.returns-in_err-child
 returns-in_err-child g c =
@@ -35,7 +36,9 @@ returns-in_err-child g c =
     rw c.from_residual-in_err-child.ensures (ap inr same, record { writes_back = tt; value = sym stuck })
 
 pub toward-requires-2-clause-rising : goal.toward-requires-2-clause-rising
-toward-requires-2-clause-rising g c = rising-child c.args.branch.now c.requires.rising (way (parents c.args.index.now) MOST c.args.climb.now.id (c.args.steps / 2) c.args.branch.now) c.in_ok-above.above.now (step (parents c.args.index.now) MOST c.args.climb.now.id c.in_ok-above.above.now) c.in_ok-child.child.now (sym c.in_ok-above.ensures.value) (sym c.in_ok-child.ensures.value)
+toward-requires-2-clause-rising g c = rising-child c.args.branch.now c.requires.rising (way (parents c.args.index.now) MOST c.args.climb.now.id (c.args.steps / 2) c.args.branch.now)
+    c.in_ok-above.above.now (step (parents c.args.index.now) MOST c.args.climb.now.id c.in_ok-above.above.now) c.in_ok-child.child.now (sym c.in_ok-above.ensures.value)
+    (sym c.in_ok-child.ensures.value)
 
 pub returns : goal.returns
 returns g c =
@@ -51,7 +54,8 @@ returns g c =
     let after : List ℕ = way up MOST c.args.climb.now.id rest k in
     let above : reach before b ≡ Some n = sym c.in_ok-above.ensures.value in
     let child : child_of n i ≡ Some k = sym c.in_ok-child.ensures.value in
-    let whole : way up MOST c.args.climb.now.id c.args.steps b ≡ before ++ i ∷ after = ap (λ l. way up MOST c.args.climb.now.id l b) len ∙ way_split up MOST c.args.climb.now.id first rest b n k above child in
+    let whole : way up MOST c.args.climb.now.id c.args.steps b ≡ before ++ i ∷ after = ap (λ l. way up MOST c.args.climb.now.id l b) len ∙ way_split up MOST c.args.climb.now.id first rest b n k above
+    child in
     let none : put_far before b (put_child n i k) ≡ b = ap (put_far before b) (same_child n i k child) ∙ same_far before b n above in
     let some = λ (w : Node g.row.T.Denot g.row.A.Denot). sym (ap (λ is. put_far is b w) whole ∙ far_two before after i b n k w above child) in
     let there = split_some up MOST c.args.climb.now.id first rest c.args.steps b n k len (sym above) (sym child) in

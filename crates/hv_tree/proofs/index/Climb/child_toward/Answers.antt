@@ -9,10 +9,12 @@ pub loop-step-init : goal.loop-step-init
 loop-step-init g c = (refl, refl)
 
 pub returns-in_err-parent : goal.returns-in_err-parent
-returns-in_err-parent g c = c.from_residual.ensures ∙ sym (c.loop-step.invariant.0 ∙ climb-lost (parents c.args.index.now) MOST c.loop-step.step c.loop-step.at c.loop-step-test.true c.args.own (sym (c.in_err-parent.ensures)))
+returns-in_err-parent g c = c.from_residual.ensures ∙ sym (c.loop-step.invariant.0 ∙ climb-lost (parents c.args.index.now) MOST c.loop-step.step c.loop-step.at c.loop-step-test.true c.args.own
+    (sym (c.in_err-parent.ensures)))
 
 pub returns-then-parent-own : goal.returns-then-parent-own
-returns-then-parent-own g c = sym (c.loop-step.invariant.0 ∙ climb-found (parents c.args.index.now) MOST c.loop-step.step c.loop-step.at c.loop-step-test.true c.args.own c.in_ok-parent.parent (sym (c.in_ok-parent.ensures)) c.if-parent-own.true)
+returns-then-parent-own g c = sym (c.loop-step.invariant.0 ∙ climb-found (parents c.args.index.now) MOST c.loop-step.step c.loop-step.at c.loop-step-test.true c.args.own c.in_ok-parent.parent
+    (sym (c.in_ok-parent.ensures)) c.if-parent-own.true)
 
 pub loop-step-preserved : goal.loop-step-preserved
 loop-step-preserved g c =

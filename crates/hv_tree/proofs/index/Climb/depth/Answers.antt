@@ -9,7 +9,8 @@ pub loop-step-init : goal.loop-step-init
 loop-step-init g c = (omega arith, refl)
 
 pub returns-in_default : goal.returns-in_default
-returns-in_default g c = let at = depth-top (parents c.args.index.now) MOST c.loop-step.step c.loop-step.at c.loop-step-test.true (sym c.parent_of.ensures ∙ c.in_default.is) in omega (arith, at, c.loop-step.invariant.0)
+returns-in_default g c = let at = depth-top (parents c.args.index.now) MOST c.loop-step.step c.loop-step.at c.loop-step-test.true (sym c.parent_of.ensures ∙ c.in_default.is) in omega
+    (arith, at, c.loop-step.invariant.0)
 
 pub loop-step-preserved : goal.loop-step-preserved
 loop-step-preserved g c =

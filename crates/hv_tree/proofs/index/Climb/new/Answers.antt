@@ -15,7 +15,8 @@ pub loop-step-preserved : goal.loop-step-preserved
 loop-step-preserved g c =
     let on = above-on (parents c.args.index.now) NOTED c.loop-step._step c.loop-step.at c.loop-step-test.true c.in-Some.parent (sym c.parent_in.ensures ∙ c.in-Some.is) in
     let rest = above (parents c.args.index.now) (NOTED - (c.loop-step._step + 1)) c.in-Some.parent in (
-      c.loop-step.invariant.0 ∙ ap (λ xs. c.loop-step.parents.items ++ xs) on ∙ sym (append_assoc c.loop-step.parents.items (c.in-Some.parent ∷ []) rest) ∙ ap (λ xs. xs ++ rest) (sym c.push.ensures.items),
+      c.loop-step.invariant.0 ∙ ap (λ xs. c.loop-step.parents.items ++ xs) on ∙ sym (append_assoc c.loop-step.parents.items (c.in-Some.parent ∷ []) rest) ∙ ap (λ xs. xs ++ rest)
+          (sym c.push.ensures.items),
       omega (arith, c.push.ensures.len, c.loop-step.invariant.1),
     )
 

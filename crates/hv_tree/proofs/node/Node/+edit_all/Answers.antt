@@ -33,7 +33,8 @@ loop-i-preserved g t c =
     let placed = at-box boxed_lines cs i k lt is in
     let new = put_node k.value c.edit_all.new.self in
     let rows : lines new ≡ edited_in f (λ _. true) (lines k.value) =
-    lines-put k.value c.edit_all.new.self ∙ c.edit_all.ensures ∙ ap (λ b. edited_in f (λ _. true) (node_lines (node_of b))) c.deref_mut.ensures.value ∙ ap (edited_in f (λ _. true)) (sym (lines-node k.value)) in
+    lines-put k.value c.edit_all.new.self ∙ c.edit_all.ensures ∙ ap (λ b. edited_in f (λ _. true) (node_lines (node_of b))) c.deref_mut.ensures.value ∙ ap (edited_in f (λ _. true))
+    (sym (lines-node k.value)) in
     let back = out-roll-Node _ _ (record (out-Node _ _ s) { children = with_item (out-Node _ _ s).children i (with_value k new) }) in
     let items = ap (λ r. r.children.items) back in
     record {
@@ -57,7 +58,8 @@ returns g t c =
     let ks = map boxed_lines (children_of n) in
     let i = c.loop-i.i in
     let ge : length ks ≤ i = omega (arith, c.loop-i-test.false, c.len-i-end.ensures, (out-Node _ _ n).children.ok.0, length-map (children_of n) boxed_lines) in
-    let all : map boxed_lines (children_of s) ≡ edited_kids f ks = inv.kids ∙ ap (λ l. edited_kids f l ++ drop i ks) (take_whole ks i ge) ∙ ap (λ l. edited_kids f ks ++ l) (drop_whole ks i ge) ∙ append-nil (edited_kids f ks) in
+    let all : map boxed_lines (children_of s) ≡ edited_kids f ks = inv.kids ∙ ap (λ l. edited_kids f l ++ drop i ks) (take_whole ks i ge) ∙ ap (λ l. edited_kids f ks ++ l) (drop_whole ks i ge) ∙
+    append-nil (edited_kids f ks) in
     let held = c.edit.ensures ∙ ap f inv.content in
     node-lines (roll-Node _ _ (record (out-Node _ _ s) { content = c.edit.new.content }))
     ∙ ap (λ r. (r.id, (None, Some r.content)) ∷ below r.id (map boxed_lines r.children.items)) (out-roll-Node _ _ (record (out-Node _ _ s) { content = c.edit.new.content }))

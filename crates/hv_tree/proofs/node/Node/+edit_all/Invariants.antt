@@ -9,7 +9,8 @@ use Rattle.hv_tree.proofs.node.Node.+edit_all.Given as goal
 abbrev pub invariant-loop-i : goal.invariant-loop-i
 invariant-loop-i g l = record {
   unvisited : goal.unvisited-loop-i g l;
-  kids : map boxed_lines (children_of l.self) ≡ edited_kids (g.E.Edit.edited l.edit) (take l.i (map boxed_lines (children_of l.initial.self))) ++ drop l.i (map boxed_lines (children_of l.initial.self));
+  kids : map boxed_lines (children_of l.self) ≡ edited_kids (g.E.Edit.edited l.edit) (take l.i (map boxed_lines (children_of l.initial.self))) ++ drop l.i
+      (map boxed_lines (children_of l.initial.self));
   own : (out-Node _ _ l.self).id ≡ (out-Node _ _ l.initial.self).id;
   content : content_of l.self ≡ content_of l.initial.self;
 }

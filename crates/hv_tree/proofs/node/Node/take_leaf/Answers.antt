@@ -31,7 +31,8 @@ returns-clause-gone g c =
     let taken : c.remove-child.result ≡ k = c.remove-child.ensures.value ∙ get_or_any cs i _ k lt ∙ sym is in
     let b = c.deref-2.result.now in
     let m = node_of b in
-    let bare : children_of m ≡ [] = no_items (children_of m) (omega (arith, (out-Node _ _ m).children.ok.0, empty_len (out-Node _ _ m).children.len (sym c.is_empty.ensures ∙ c.if-not-is_empty.false))) in
+    let bare : children_of m ≡ [] = no_items (children_of m) (omega (arith, (out-Node _ _ m).children.ok.0, empty_len (out-Node _ _ m).children.len (sym c.is_empty.ensures ∙ c.if-not-is_empty.false)))
+    in
     let back = out-roll-Node _ _ (record n { children = c.remove-child.new.self }) in
     let content : c.into_content.result ≡ content_of m = c.into_content.ensures ∙ ap (λ x. content_of (node_of x)) (c.into_inner.ensures ∙ ap (λ x. x.value) taken ∙ sym c.deref-2.ensures) in
     let name : (out-Node _ _ m).id ≡ c.args.id = ap (λ x. id_of x) c.deref-2.ensures ∙ here in

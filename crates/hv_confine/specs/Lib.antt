@@ -1,4 +1,0 @@
-pub mod Agreed
-pub mod Confined
-pub mod Same
-pub mod Unrelated

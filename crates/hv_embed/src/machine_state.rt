@@ -1,0 +1,81 @@
+// What a handle's block holds: a machine, and memory that its events use one after another.
+ghost use Rattle.std.specs.Prelude.{◌≡◌, OnOk};
+ghost use Rattle.hv_embed.specs.Answer.{frame_of as frame_by};
+
+use crate::layout::HvRegisters;
+use hv_abi::{Bytes, Frame};
+use hv_machine::{Machine, Output};
+use hv_text::Scratch;
+use std::alloc::{AllocError, Global};
+use std::marker::Model;
+
+// The most bytes of memory that are kept for input lists: twice a page. No list has more than a page, and
+// memory that grows may double.
+const MOST_SPARE: usize = 8192;
+
+/// A machine, and what its events use one after another: a call's frame, what an access puts out, and room
+/// for the audit's next line. Contracts see the machine alone.
+#[derive(Drop)]
+pub struct MachineState {
+    pub(crate) machine: Machine<Global>,
+    pub(crate) frame: Frame<Global>,
+    pub(crate) output: Output,
+    pub(crate) scratch: Scratch,
+}
+
+impl Model for MachineState {
+    ghost use Rattle.hv_machine.specs.State.{State, state_code};
+
+    ghost Value = { State };
+
+    ghost coded = { state_code };
+
+    ghost view = { λ h. h.machine };
+}
+
+impl MachineState {
+    // This machine, before its first event.
+    pub(crate) fn of(machine: Machine<Global>, alloc: Global) -> MachineState
+        ensures { result ≡ machine }
+    {
+        MachineState {
+            machine,
+            frame: no_frame(alloc),
+            output: Output::new(),
+            scratch: Scratch::new(),
+        }
+    }
+
+    // Keeps the frame's memory for the next call, unless that is more than is kept.
+    pub(crate) fn trim(&mut self, alloc: Global)
+        ensures { self.new ≡ self.old }
+    {
+        if self.frame.input.capacity() > MOST_SPARE {
+            self.frame = no_frame(alloc);
+        }
+    }
+}
+
+// A frame without memory.
+pub(crate) fn no_frame(alloc: Global) -> Frame<Global> {
+    Frame {
+        rcx: 0,
+        rdx: 0,
+        r8: 0,
+        input: Bytes::from_vec(Vec::new(alloc)),
+    }
+}
+
+// Makes a frame that of these registers and bytes, in the memory that it has where that is enough.
+pub(crate) fn refill(
+    frame: &mut Frame<Global>,
+    registers: &HvRegisters,
+    input: &[u8],
+) -> Result<(), AllocError>
+    ensures { OnOk result (frame.new ≡ frame_by registers.now input.now) }
+{
+    frame.rcx = registers.rcx;
+    frame.rdx = registers.rdx;
+    frame.r8 = registers.r8;
+    frame.input.refill(input)
+}

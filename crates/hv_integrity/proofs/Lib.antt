@@ -1,0 +1,13 @@
+pub mod Alike
+pub mod Apart
+pub mod Calls
+pub mod Carried
+pub mod Confining
+pub mod Gains
+pub mod Reading
+pub mod CallerAndChildren
+pub mod Replies
+pub mod Ruled
+pub mod Sent
+pub mod Through
+pub mod Unshown

@@ -1,0 +1,4 @@
+pub mod Agreed
+pub mod Integrity
+pub mod Same
+pub mod Unrelated

@@ -1,0 +1,76 @@
+-- What an event of a member looks at outside of the members, in two states.
+use Rattle.std.specs.Prelude.{◌≡◌, ℕ, Bool, true, false, Option, None, Some}
+use Rattle.std.specs.FinMap.{contains_key, get}
+use Rattle.std.specs.Option.{option_map}
+use Rattle.hv_calls.specs.declared.call.Call.{Call}
+use Rattle.hv_calls.specs.declared.call.Call.TheVariants.{CreatePartition, PostMessage, SignalEvent}
+use Rattle.hv_calls.specs.declared.call.Call.TheVariants.{CreatePort, ConnectPort}
+use Rattle.hv_policy.specs.Aim.{is_same_birth, on_aim}
+use Rattle.hv_policy.specs.Call.{called}
+use Rattle.hv_policy.specs.Flat.{ConnRow, Flat}
+use Rattle.hv_policy.specs.Met.{has_flag, has_flag_taker, has_message_room, has_message_taker, has_privilege}
+use Rattle.hv_policy.specs.Met.{is_aimed_at_vp, is_depth_left, is_for_messages}
+use Rattle.hv_policy.specs.Needs.{resolved_id, needs_of, target_of}
+use Rattle.hv_policy.specs.declared.event.Action.{Action}
+use Rattle.hv_policy.specs.declared.event.Action.TheVariants.{Hypercall}
+use Rattle.hv_privs.specs.declared.TheConstants.Privileges as privilege
+use Rattle.hv_noninterference.specs.Alike.{unborn}
+
+-- through a connection: whether the port stands with the birth that the connection keeps, what it takes,
+-- whether the processor at which it aims is there, whether one takes what comes, and whether there is room
+-- for one more message
+pub record EndsAlike (key : ℕ × ℕ) (f g : Flat) : Type 0 where
+  pub stands : on_aim f key is_same_birth ≡ on_aim g key is_same_birth
+  pub aimed : on_aim f key (is_aimed_at_vp f) ≡ on_aim g key (is_aimed_at_vp g)
+  pub for_messages : on_aim f key is_for_messages ≡ on_aim g key is_for_messages
+  pub flags : (flag : ℕ) → on_aim f key (has_flag flag) ≡ on_aim g key (has_flag flag)
+  pub message_taker : on_aim f key (has_message_taker f) ≡ on_aim g key (has_message_taker g)
+  pub flag_taker : on_aim f key (has_flag_taker f) ≡ on_aim g key (has_flag_taker g)
+  pub room : on_aim f key is_same_birth ≡ true → on_aim f key (has_message_room f) ≡ on_aim g key
+      (has_message_room g)
+
+-- a connection that leads to no member
+abbrev pub OutsideAlike : (ℕ → Bool) → ℕ × ℕ → Flat → Flat → Type 0
+OutsideAlike members key f g = (conn : ConnRow) → get f.conn key ≡ Some conn → members conn.part ≡ false →
+    EndsAlike key f g
+
+-- who is no member is there in both or in neither
+abbrev pub IsThereAlike : (ℕ → Bool) → ℕ → Flat → Flat → Type 0
+IsThereAlike members id f g = members id ≡ false → contains_key f.part id ≡ contains_key g.part id
+
+-- what a call looks at: HvCreatePartition the next id, and whether its caller is too deep; a post and a
+-- signal the end of a connection that leads out; every other call whether the partitions that it names are
+-- there, and HvConnectPort the port that it names
+abbrev pub LooksAlike : (ℕ → Bool) → Call → ℕ → Flat → Flat → Type 0
+LooksAlike members (CreatePartition flags) caller f g = (f.next ≡ g.next) ×
+    (is_depth_left f caller ≡ is_depth_left g caller)
+LooksAlike members (PostMessage connection message_type payload) caller f g = OutsideAlike members
+    (caller, connection) f g
+LooksAlike members (SignalEvent connection flag) caller f g = OutsideAlike members (caller, connection) f g
+LooksAlike members (CreatePort partition port peer port_kind sint vp base count) caller f g =
+    IsThereAlike members (resolved_id caller partition) f g × IsThereAlike members (resolved_id caller peer) f
+    g
+LooksAlike members (ConnectPort partition connection port_partition port port_kind) caller f g =
+    IsThereAlike members (resolved_id caller partition) f g × IsThereAlike members
+    (resolved_id caller port_partition) f g
+    × (members (resolved_id caller port_partition) ≡ false → option_map unborn
+    (get f.port (resolved_id caller port_partition, port))
+    ≡ option_map unborn (get g.port (resolved_id caller port_partition, port)))
+LooksAlike members call caller f g = IsThereAlike members (target_of call caller) f g
+
+-- the caller of a call looks only where it has the call's privilege, and an access looks at nothing
+abbrev pub CallLooksAlike : (ℕ → Bool) → Option Call → ℕ → Flat → Flat → Type 0
+CallLooksAlike members None caller f g = Unit {0}
+CallLooksAlike members (Some call) caller f g = has_privilege f caller (needs_of call).privilege ≡ true →
+    LooksAlike members call caller f g
+
+abbrev pub ActionLooksAlike : {A : Type 0} → (ℕ → Bool) → Action A → ℕ → Flat → Flat → Type 0
+ActionLooksAlike members (Hypercall frame) caller f g = CallLooksAlike members (called frame) caller f g
+ActionLooksAlike members access caller f g = Unit {0}
+
+-- a partition has none of the privileges by which others can be looked up
+pub record LooksUpNothing (f : Flat) (id : ℕ) : Type 0 where
+  pub partitions : has_privilege f id privilege.CREATE_PARTITIONS ≡ false
+  pub pools : has_privilege f id privilege.ACCESS_MEMORY_POOL ≡ false
+  pub ports : has_privilege f id privilege.CREATE_PORT ≡ false
+  pub connections : has_privilege f id privilege.CONNECT_PORT ≡ false

@@ -1,0 +1,64 @@
+-- Which partitions an event is not about.
+use Rattle.std.specs.Prelude.{◌≡◌, ℕ, ◌==◌, true, false, Option, None, Some}
+use Rattle.std.specs.FinMap.{get}
+use Rattle.hv_calls.specs.declared.call.Call.{Call}
+use Rattle.hv_calls.specs.declared.call.Call.TheVariants.{CreatePartition, DeletePartition}
+use Rattle.hv_calls.specs.declared.call.Call.TheVariants.{GetPartitionProperty, SetPartitionProperty}
+use Rattle.hv_calls.specs.declared.call.Call.TheVariants.{GetPartitionId, GetNextChildPartition}
+use Rattle.hv_calls.specs.declared.call.Call.TheVariants.{DepositMemory, WithdrawMemory, GetMemoryBalance}
+use Rattle.hv_calls.specs.declared.call.Call.TheVariants.{GetVpRegisters, PostMessage, SignalEvent}
+use Rattle.hv_policy.specs.Call.{called}
+use Rattle.hv_policy.specs.Effect.{narrows}
+use Rattle.hv_policy.specs.Flat.{ConnRow, Flat}
+use Rattle.hv_policy.specs.Needs.{target_of}
+use Rattle.hv_policy.specs.Property.{property_of}
+use Rattle.hv_policy.specs.Rules.{unmet}
+use Rattle.hv_policy.specs.Subtree.{is_in_subtree}
+use Rattle.hv_policy.specs.declared.event.Action.{Action}
+use Rattle.hv_policy.specs.declared.event.Action.TheVariants.{Hypercall}
+use Rattle.hv_policy.specs.declared.event.Event.{Event}
+use Rattle.hv_integrity.specs.Same.{HasSame}
+
+-- a partition is no end of a connection
+abbrev pub IsNoEnd : ℕ → Option ConnRow → Type 0
+IsNoEnd id conn = (row : ConnRow) → conn ≡ Some row → id == row.part ≡ false
+
+-- a call isn't about a partition: not about its target, nor the one that it makes, nor the one to which it
+-- sends, nor the subtree that it narrows, nor the caller whose pages it moves. Calls that only read are about
+-- none
+abbrev pub Misses : Call → ℕ → Flat → ℕ → Type 0
+Misses (CreatePartition flags) caller f id = id == f.next ≡ false
+Misses (GetPartitionProperty partition code) caller f id = Unit {0}
+Misses GetPartitionId caller f id = Unit {0}
+Misses (GetNextChildPartition partition previous) caller f id = Unit {0}
+Misses (GetMemoryBalance partition) caller f id = Unit {0}
+Misses (GetVpRegisters partition vp name) caller f id = Unit {0}
+Misses (PostMessage connection message_type payload) caller f id = IsNoEnd id
+    (get f.conn (caller, connection))
+Misses (SignalEvent connection flag) caller f id = IsNoEnd id (get f.conn (caller, connection))
+Misses (SetPartitionProperty partition code value) caller f id =
+    (id == target_of (SetPartitionProperty partition code value) caller ≡ false)
+    × (narrows (property_of code) f (target_of (SetPartitionProperty partition code value) caller) ≡ true
+    → is_in_subtree f (target_of (SetPartitionProperty partition code value) caller) id ≡ false)
+Misses (DeletePartition partition) caller f id = (id == target_of (DeletePartition partition) caller ≡ false)
+    × (id == caller ≡ false)
+Misses (DepositMemory partition page) caller f id =
+    (id == target_of (DepositMemory partition page) caller ≡ false) × (id == caller ≡ false)
+Misses (WithdrawMemory partition) caller f id = (id == target_of (WithdrawMemory partition) caller ≡ false) ×
+    (id == caller ≡ false)
+Misses call caller f id = id == target_of call caller ≡ false
+
+abbrev pub CallMisses : Option Call → ℕ → Flat → ℕ → Type 0
+CallMisses None caller f id = Unit {0}
+CallMisses (Some call) caller f id = Misses call caller f id
+
+-- an access is about its caller
+abbrev pub ActionMisses : {A : Type 0} → Action A → ℕ → Flat → ℕ → Type 0
+ActionMisses (Hypercall frame) caller f id = CallMisses (called frame) caller f id
+ActionMisses access caller f id = id == caller ≡ false
+
+-- an event that leads from `f` to `g` leaves as it was each partition that it isn't about; one that is
+-- refused is about none
+abbrev pub LeavesOthers : {A : Type 0} → Event A → Flat → Flat → Type 0
+LeavesOthers event f g = (id : ℕ) → (unmet f event ≡ None → ActionMisses event.what event.by.part f id) →
+    HasSame id f g

@@ -1,9 +1,0 @@
-use Rattle.std.proofs.Common.{length}
-use Rattle.hv_phases.proofs.Crews.{IsPartly}
-use Rattle.hv_phases.proofs.crew.crew_of.Given as goal
-
-abbrev pub invariant-loop-pass : goal.invariant-loop-pass
-invariant-loop-pass g l = IsPartly l.fn.passes.items l.passes.items l.crew
-
-abbrev pub decreases-loop-pass : goal.decreases-loop-pass
-decreases-loop-pass g l = length l.passes.items

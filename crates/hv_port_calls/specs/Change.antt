@@ -1,0 +1,44 @@
+-- What the calls of this call group make of the rows, and what they need of them.
+use Rattle.std.specs.Prelude.{◌≡◌, ℕ, false, Some}
+use Rattle.std.specs.FinMap.{FinMap, contains_key, get, insert}
+use Rattle.std.specs.Ordering.{nat_cmp}
+use Rattle.hv_partition.specs.Partition.{PartitionState}
+use Rattle.hv_ports.specs.declared.ports.Conn.{Conn}
+use Rattle.hv_ports.specs.declared.ports.Port.{Port}
+use Rattle.hv_tree.specs.Rows.{Row, Rows}
+
+-- the row of a partition that has other ports, and some room for more
+pub record HasPorts (old new : Rows PartitionState) (id : ℕ) (g : FinMap nat_cmp Port → FinMap nat_cmp Port) :
+    Type 0 where
+  pub row : Row PartitionState
+  pub there : get old id ≡ Some row
+  pub room : ℕ
+  pub rows : new ≡ insert old id (
+    row.0,
+    record row.1
+        { ports = record { rows = g row.1.ports.rows; room = room } },
+  )
+
+-- or other connections
+pub record HasConns (old new : Rows PartitionState) (id : ℕ) (g : FinMap nat_cmp Conn → FinMap nat_cmp Conn) :
+    Type 0 where
+  pub row : Row PartitionState
+  pub there : get old id ≡ Some row
+  pub room : ℕ
+  pub rows : new ≡ insert old id (
+    row.0,
+    record row.1
+        { conns = record { rows = g row.1.conns.rows; room = room } },
+  )
+
+-- the partition is there, and has no port with this id
+pub record MayAddPort (rows : Rows PartitionState) (id port : ℕ) : Type 0 where
+  pub row : Row PartitionState
+  pub there : get rows id ≡ Some row
+  pub free : contains_key row.1.ports.rows port ≡ false
+
+-- or no connection
+pub record MayAddConn (rows : Rows PartitionState) (id connection : ℕ) : Type 0 where
+  pub row : Row PartitionState
+  pub there : get rows id ≡ Some row
+  pub free : contains_key row.1.conns.rows connection ≡ false

@@ -1,0 +1,16 @@
+pub mod Allowed
+pub mod Boxes
+pub mod Changed
+pub mod Counted
+pub mod Found
+pub mod Held
+pub mod Kept
+pub mod StateInvariant
+pub mod Links
+pub mod Mailed
+pub mod Processors
+pub mod Room
+pub mod Staff
+pub mod Twice
+pub mod Takers
+pub mod Written

@@ -1,0 +1,31 @@
+-- What a call group makes of an access.
+use Rattle.std.specs.Prelude.{◌≡◌, ℕ, List, None, Some}
+use Rattle.std.specs.declared.result.Result.{Result}
+use Rattle.std.specs.declared.result.Result.TheVariants.{Ok, Err}
+use Rattle.hv_partition.specs.Partition.{PartitionState}
+use Rattle.hv_policy.specs.Answer.{action_answer}
+use Rattle.hv_policy.specs.Effect.{action_effect}
+use Rattle.hv_policy.specs.Flat.{Flat}
+use Rattle.hv_policy.specs.Rules.{action_asks, caller_asks, first_unmet, unmet}
+use Rattle.hv_policy.specs.declared.event.Action.{Action}
+use Rattle.hv_policy.specs.declared.event.Caller.{Caller}
+use Rattle.hv_policy.specs.declared.reply.Reply.TheVariants.{Served}
+use Rattle.hv_policy.specs.declared.rule.Rule.{Rule}
+use Rattle.hv_refine.specs.Tie.{Refines}
+use Rattle.hv_tree.specs.Rows.{Rows}
+
+-- it was served: its output bytes and the rows that it left are the policy's
+pub record IsAccessed {A : Type 0} (f : Flat) (by : Caller) (what : Action A) (bytes : List ℕ)
+    (new : Rows PartitionState) : Type 0 where
+  pub met : first_unmet (action_asks f by.part what) ≡ None
+  pub reply : Served bytes ≡ action_answer f by what
+  pub rows : Refines new (action_effect f by what)
+
+-- what became of an access, in one of the flat states that the rows are tied to: it was served, or refused by
+-- its first unmet rule with the rows as they were. It never needs memory
+abbrev pub IsAnswered : {A : Type 0} → Flat → Caller → Action A → Rows PartitionState → Result (List ℕ) Rule →
+    Rows PartitionState → Type 0
+IsAnswered f by what old (Ok bytes) new = (first_unmet (caller_asks f by) ≡ None) × IsAccessed f by what bytes
+    new
+IsAnswered f by what old (Err rule) new = (unmet f (record { by = by; what = what }) ≡ Some rule) ×
+    (new ≡ old)

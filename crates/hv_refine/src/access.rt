@@ -1,0 +1,136 @@
+// The rules of the caller, and those that ask whether it may make the call.
+ghost use Rattle.std.specs.Prelude.{◌≡◌, IfErr, IfOk, IfSome, None, Some};
+ghost use Rattle.std.specs.Borrow.{LendsIfOk, sem};
+ghost use Rattle.std.specs.FinMap.{get};
+ghost use Rattle.hv_partition.specs.Partition.{with_vp_of};
+ghost use Rattle.hv_partition.specs.contracts.partition.Partition.{the_row as partition_row};
+ghost use Rattle.hv_policy.specs.Flat.{Flat};
+ghost use Rattle.hv_tree.specs.Rows.{change};
+ghost use Rattle.hv_tree.specs.contracts.tree.IdTree.{the_row as tree_row};
+ghost use Rattle.hv_vp.specs.contracts.vp.Vp.{the_row as vp_row};
+ghost use Rattle.hv_policy.specs.Met.{is_kin as is_kin_of};
+ghost use Rattle.hv_policy.specs.Needs.{target_of};
+ghost use Rattle.hv_policy.specs.Rules.{caller_asks, first_unmet, target_asks};
+ghost use Rattle.hv_tree.specs.Rows.{content};
+ghost use Rattle.hv_refine.specs.Tie.{Refines};
+
+use crate::partitions::Partitions;
+use crate::rules::{is_child, resolve_partition_id};
+use hv_calls::Call;
+use hv_defs::Life;
+use hv_partition::Partition;
+use hv_policy::{Caller, Kin, Rule, needs};
+use hv_vp::Vp;
+use std::alloc::Allocator;
+
+/// P1 to P3: the caller's partition where they are met, and else the first of them that isn't.
+pub fn caller_in<A: Allocator>(tree: &Partitions<A>, by: Caller) -> Result<&Partition<A>, Rule>
+    ensures met { IfOk result (λ _. (f : Flat) → Refines tree.now f → first_unmet (caller_asks f by) ≡ None) }
+    ensures there { IfOk result (λ caller. content tree.now by.part ≡ Some caller.now) }
+    ensures unmet { IfErr result (λ rule. (f : Flat) → Refines tree.now f
+        → first_unmet (caller_asks f by) ≡ Some rule) }
+{
+    let Some(caller) = tree.get(by.part) else {
+        return Err(Rule::CallerExists);
+    };
+    if caller.life() != Life::Active {
+        return Err(Rule::CallerActive);
+    }
+    if caller.vp(by.vp).is_none() {
+        return Err(Rule::CallerVpExists);
+    }
+    Ok(caller)
+}
+
+/// P1 to P3 of an access, and the processor that makes it, to be read or changed; else the first of them that
+/// isn't met, with the partitions as they were.
+#[tactic(auto, using(hv_tree::proofs::Laws::unchanged))]
+pub fn caller_vp<A: Allocator>(tree: &mut Partitions<A>, by: Caller) -> Result<&mut Vp<A>, Rule>
+    ensures* writes_back { sem 𝓛 (LendsIfOk (tree_row (partition_row A.row A.Allocator) A.row A.Allocator)
+        (vp_row A.row A.Allocator) tree.entry result (λ w. change tree.old by.part (λ p. with_vp_of p by.vp w)) tree.old) }
+    ensures there { IfOk result (λ vp. IfSome (content tree.old by.part)
+        (λ p. get p.vps.vps by.vp ≡ Some vp.now)) }
+    ensures met { IfOk result (λ _. (f : Flat) → Refines tree.old f → first_unmet (caller_asks f by) ≡ None) }
+    ensures unmet { IfErr result (λ rule. (f : Flat) → Refines tree.old f
+        → first_unmet (caller_asks f by) ≡ Some rule) }
+{
+    let Some(caller) = tree.get_mut(by.part) else {
+        return Err(Rule::CallerExists);
+    };
+    if caller.life() != Life::Active {
+        return Err(Rule::CallerActive);
+    }
+    match caller.vp_mut(by.vp) {
+        Some(vp) => Ok(vp),
+        None => Err(Rule::CallerVpExists),
+    }
+}
+
+/// P8 to P10: the first of them that isn't met. The caller's partition is the one that was found.
+// Inlined: calls for the own id in bench/embed.sh.
+#[inline(always)]
+pub fn unmet_by_target<A: Allocator>(
+    tree: &Partitions<A>,
+    by: Caller,
+    caller: &Partition<A>,
+    call: &Call<'_>,
+) -> Option<Rule>
+    requires { content tree.now by.part ≡ Some caller.now }
+    ensures { (f : Flat) → Refines tree.now f → result ≡ first_unmet (target_asks f by.part call.now) }
+{
+    let need = needs(call);
+    if !caller.mask().contains(need.privilege) {
+        return Some(Rule::Privilege);
+    }
+    // One look tells of a child that it is there and whose it is.
+    let target = target(by.part, call);
+    if is_kin(tree, need.kin, by.part, target) {
+        return None;
+    }
+    if target == by.part || tree.contains(target) {
+        return Some(Rule::TargetScope);
+    }
+    Some(Rule::TargetExists)
+}
+
+// Whether a call that allows this kin may name the partition.
+// Inlined: calls for the own id in bench/embed.sh.
+#[inline(always)]
+fn is_kin<A: Allocator>(tree: &Partitions<A>, kin: Kin, caller: u64, id: u64) -> bool
+    ensures { (f : Flat) → Refines tree.now f → result ≡ is_kin_of kin f caller id }
+{
+    match kin {
+        Kin::Caller => id == caller,
+        Kin::CallerOrChild => id == caller || is_child(tree, caller, id),
+        Kin::Child => is_child(tree, caller, id),
+    }
+}
+
+// The partition that a call of this caller is about.
+fn target(caller: u64, call: &Call<'_>) -> u64
+    ensures { result ≡ target_of call.now caller }
+{
+    match call {
+        Call::CreatePartition { .. }
+        | Call::GetPartitionId
+        | Call::PostMessage { .. }
+        | Call::SignalEvent { .. } => caller,
+        Call::InitializePartition { partition }
+        | Call::FinalizePartition { partition }
+        | Call::DeletePartition { partition }
+        | Call::GetPartitionProperty { partition, .. }
+        | Call::SetPartitionProperty { partition, .. }
+        | Call::GetNextChildPartition { partition, .. }
+        | Call::DepositMemory { partition, .. }
+        | Call::WithdrawMemory { partition }
+        | Call::GetMemoryBalance { partition }
+        | Call::CreateVp { partition, .. }
+        | Call::DeleteVp { partition, .. }
+        | Call::GetVpRegisters { partition, .. }
+        | Call::SetVpRegisters { partition, .. }
+        | Call::DeletePort { partition, .. }
+        | Call::DisconnectPort { partition, .. }
+        | Call::CreatePort { partition, .. }
+        | Call::ConnectPort { partition, .. } => resolve_partition_id(caller, *partition),
+    }
+}
