@@ -69,8 +69,8 @@ impl Replay {
     pub fn go_on(&mut self, by: Caller, reply: &Reply)
         requires { next_in reply.now < REPS_END }
         ensures own { left_by by self.new ≡ after_reply (left_by by self.old) reply.now }
-        ensures others { (other : CallerValue) → other ≢ by → left_by other self.new ≡ left_by other self.old
-            }
+        ensures others { (other : CallerValue) → other ≢ by
+            → left_by other self.new ≡ left_by other self.old }
         ensures later { later_of self.new ≡ later_of self.old }
     {
         if let Some(at) = find(&self.turns, by) {
@@ -124,8 +124,8 @@ fn begin_with(
     first: Line<Global>,
 ) -> Result<(), AllocError>
     requires { turns.old.items ≡ [] }
-    ensures { OnOk result (HasGiven first (reverse later.old.items) turns.new.items (reverse later.new.items))
-        }
+    ensures { OnOk result
+        (HasGiven first (reverse later.old.items) turns.new.items (reverse later.new.items)) }
 {
     let phase = first.phase;
     give(turns, first)?;

@@ -48,10 +48,11 @@ pub(crate) fn step_run(
 ) -> u32
     requires { ELEMENT_OUTPUT ≤ length outputs.old }
     ensures ran { (f : Flat) → IsFlat machine_state.old f → result ≡ DONE → HasRun by
-        (first f by (frame_by registers.now input.now)) events.old machine_state.new reply.new outputs.new done.new }
+        (first f by (frame_by registers.now input.now))
+        events.old machine_state.new reply.new outputs.new done.new }
     ensures effect { (f : Flat) → IsFlat machine_state.old f → AreTyped f → result ≡ DONE → IsRunEffect
-        done.new.events
-        f by (first f by (frame_by registers.now input.now)) reply.new.effect }
+        done.new.events f by
+        (first f by (frame_by registers.now input.now)) reply.new.effect }
     ensures line { result ≡ DONE → reply.new.line_len ≡ 0 }
     ensures pages { machine_state.new.pages ≡ machine_state.old.pages }
     ensures lasting { MachineInvariant machine_state.new }

@@ -67,8 +67,8 @@ fn step_access(
 ) -> u32
     requires { is_short_len (length line.old) ≡ false }
     ensures taken { result ≡ DONE
-        → IsStepped (access_event by access) events.new machine_state.old machine_state.new reply.new line.new
-            }
+        → IsStepped (access_event by access) events.new machine_state.old machine_state.new reply.new
+        line.new }
     ensures count { result ≡ DONE → events.new ≡ events.old + 1 }
     ensures kept { result ≢ DONE → (machine_state.new ≡ machine_state.old) × (events.new ≡ events.old) }
     ensures unwritten { result ≢ DONE → (reply.new ≡ reply.old) × (line.new ≡ line.old) }

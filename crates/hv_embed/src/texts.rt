@@ -115,7 +115,8 @@ fn table_bytes(alloc: Global, machine: &Machine<Global>) -> Option<Vec<u8>>
 // The line of a call, or out of memory.
 fn call_line(alloc: Global, by: HvCaller, registers: &HvRegisters, input: &[u8]) -> Option<Vec<u8>>
     ensures { IfSome result (λ line. line.items
-        ≡ line_text (caller_by by) (Hypercall (frame_by registers.now (readable_of input.now))) ++ codes "\n") }
+        ≡ line_text (caller_by by) (Hypercall (frame_by registers.now (readable_of input.now)))
+        ++ codes "\n") }
 {
     let mut frame = no_frame(alloc);
     let Ok(()) = refill(&mut frame, registers, readable(input)) else {

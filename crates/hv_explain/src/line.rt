@@ -51,8 +51,8 @@ fn happen(
     by: Caller,
     what: &Action<Global>,
 ) -> Result<(u64, Reply), Failure>
-    ensures applied { IfOk result (λ r. HasGained (record { by = by; what = what.now }) r.1 kept.old kept.new)
-        }
+    ensures applied { IfOk result
+        (λ r. HasGained (record { by = by; what = what.now }) r.1 kept.old kept.new) }
     ensures number { IfOk result (λ r. r.0 ≡ 1 + length kept.old.history) }
     ensures next { IfOk result (λ r. GoesOn what.now r.1) }
     ensures run { IsRun kept.new }

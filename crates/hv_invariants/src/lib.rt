@@ -29,8 +29,8 @@ ghost use Rattle.hv_invariants.specs.StateInvariant.{StateInvariant, mail_where}
 /// The state that boot gives is lawful, one event leaves a lawful state lawful, and so is each state that
 /// events lead to.
 pub fn every_state_is_lawful<A>()
-    ensures booted { (config : Config) → boot_fault config ≡ None → StateInvariant config.pages (boot config)
-        }
+    ensures booted { (config : Config) → boot_fault config ≡ None
+        → StateInvariant config.pages (boot config) }
     ensures served { (pages : ℕ) (f : Flat) (e : Event A) → StateInvariant pages f → unmet f e ≡ None
         → StateInvariant pages (effect f e) }
     ensures steps { (pages : ℕ) (f : Flat) (e : Event A) → StateInvariant pages f → StateInvariant pages

@@ -52,8 +52,12 @@ impl<A: Allocator> Model for Machine<A> {
     ghost use Rattle.hv_machine.specs.MachineInvariant.{MachineInvariant};
     ghost use Rattle.hv_refine.specs.Room.{roomless};
 
-    ghost view = { λ m. record { rows = roomless m.tree; pages = m.pages; next = m.next; served = m.served }
-        };
+    ghost view = { λ m. record {
+      rows = roomless m.tree;
+      pages = m.pages;
+      next = m.next;
+      served = m.served;
+    } };
 
     ghost invariant = { λ m. MachineInvariant (record {
       rows = roomless m.tree;

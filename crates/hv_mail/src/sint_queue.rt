@@ -31,11 +31,12 @@ impl<A: Allocator> Model for SintQueue<A> {
 
     ghost view = { λ q. record {
       mail = standing q.is_shown q.messages.items;
-      room = nat_lt (deque_len q.messages) (deque_capacity q.messages) && nat_lt (deque_len q.messages) (2 ^ 59);
+      room = nat_lt (deque_len q.messages) (deque_capacity q.messages)
+          && nat_lt (deque_len q.messages) (2 ^ 59);
     } };
 
-    ghost invariant = { λ q. (deque_len q.messages ≤ 2 ^ 59) × (q.is_shown ≡ true → 1 ≤ deque_len q.messages)
-        };
+    ghost invariant = { λ q. (deque_len q.messages ≤ 2 ^ 59)
+        × (q.is_shown ≡ true → 1 ≤ deque_len q.messages) };
 }
 
 impl<A: Allocator> SintQueue<A> {

@@ -76,7 +76,8 @@ pub fn write_own<A: Allocator>(
 #[tactic(auto, using(hv_tree::proofs::Laws::unchanged))]
 fn own_vp<A: Allocator>(tree: &mut Partitions<A>, by: Caller, msr: u32) -> Result<&mut Vp<A>, Rule>
     ensures* writes_back { sem 𝓛 (LendsIfOk (tree_row (partition_row A.row A.Allocator) A.row A.Allocator)
-        (vp_row A.row A.Allocator) tree.entry result (λ w. change tree.old by.part (λ p. with_vp_of p by.vp w)) tree.old) }
+        (vp_row A.row A.Allocator) tree.entry result
+        (λ w. change tree.old by.part (λ p. with_vp_of p by.vp w)) tree.old) }
     ensures there { IfOk result (λ vp. IfSome (content tree.old by.part)
         (λ p. get p.vps.vps by.vp ≡ Some vp.now)) }
     ensures met { IfOk result (λ _. (f : Flat) → Refines tree.old f
