@@ -60,7 +60,8 @@ events 5
         "1 2.0 call 0000000000000046 denied 000000000000000d P9
 ",
         Exit::Script,
-        "line 1: 2.0 call 0000000000000046: wanted denied 000000000000000d P1, found denied 000000000000000d P9\n",
+        "line 1: 2.0 call 0000000000000046: wanted denied 000000000000000d P1, \
+         found denied 000000000000000d P9\n",
     ),
     // Another event than the processor's next one.
     (
@@ -195,7 +196,8 @@ events 5
         "1 2.0 call 0000000000000046 denied 000000000000000d0
 ",
         Exit::Script,
-        "line 1: 2.0 call 0000000000000046: wanted denied 000000000000000d P1, found denied 000000000000000d0\n",
+        "line 1: 2.0 call 0000000000000046: wanted denied 000000000000000d P1, \
+         found denied 000000000000000d0\n",
     ),
     (
         true,
@@ -203,7 +205,8 @@ events 5
         "1 2.0 call 0000000000000046 denied 000000000000000c P1
 ",
         Exit::Script,
-        "line 1: 2.0 call 0000000000000046: wanted denied 000000000000000d P1, found denied 000000000000000c P1\n",
+        "line 1: 2.0 call 0000000000000046: wanted denied 000000000000000d P1, \
+         found denied 000000000000000c P1\n",
     ),
     (
         true,

@@ -87,13 +87,15 @@ digraph hvpm {\n\
 \x20 edge [fontname=\"Helvetica\" fontsize=9];\n\
 \x20 graph [style=rounded color=gray];\n\
 \x20 subgraph cluster_1 {\n\
-\x20   p1 [label=\"{partition 1|Active, depth 0|mask 0x000000f700000044|pages: 20 loose, 12 pooled, 6 in use}\"];\n\
+\x20   p1 [label=\"{partition 1|Active, depth 0|mask 0x000000f700000044|\
+pages: 20 loose, 12 pooled, 6 in use}\"];\n\
 \x20   v1_0 [label=\"{vp 0}\"];\n\
 \x20   p1 -> v1_0 [arrowhead=none];\n\
 \x20 }\n\
 \x20 p1 -> p2;\n\
 \x20 subgraph cluster_2 {\n\
-\x20   p2 [label=\"{partition 2|Created, depth 1|mask 0x0000003000000044|pages: 0 loose, 0 pooled, 0 in use}\"];\n\
+\x20   p2 [label=\"{partition 2|Created, depth 1|mask 0x0000003000000044|\
+pages: 0 loose, 0 pooled, 0 in use}\"];\n\
 \x20 }\n\
 }\n\
 ";

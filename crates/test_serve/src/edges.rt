@@ -50,7 +50,8 @@ fn long_lines(rt: HostRuntime) -> Result<(), Fail> {
         (1_048_576, ANSWERS),
         (
             1_048_577,
-            "fault: line 1: too long\n1 1.0 call 0000000000000046 ok 0000000000000000 0100000000000000\nevents 1\n",
+            "fault: line 1: too long\n\
+             1 1.0 call 0000000000000046 ok 0000000000000000 0100000000000000\nevents 1\n",
         ),
     ] {
         let mut text: Vec<u8> = Vec::new(alloc);

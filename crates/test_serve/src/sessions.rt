@@ -144,7 +144,8 @@ fn rep_calls(rt: HostRuntime) {
             "1 1.0 call 0000000000000040 ok 0000000000000000 0200000000000000\n",
         ),
         (
-            "1.0 call 0x0000000300000048 0 0 02000000000000000c000000000000000d000000000000000e00000000000000",
+            "1.0 call 0x0000000300000048 0 0 \
+             02000000000000000c000000000000000d000000000000000e00000000000000",
             "2 1.0 call 0000000300000048 more 0000000100000000 -
 3 1.0 call 0001000300000048 more 0000000200000000 -
 4 1.0 call 0002000300000048 ok 0000000300000000 -
@@ -152,7 +153,8 @@ fn rep_calls(rt: HostRuntime) {
         ),
         (
             "table",
-            "partition 1 parent - Active mask 000000f700000044 loose 17 pooled 12 inuse 6 vps 1 ports 0 connections 0
+            "partition 1 parent - Active mask 000000f700000044 \
+             loose 17 pooled 12 inuse 6 vps 1 ports 0 connections 0
 partition 2 parent 1 Created mask 0000003000000044 loose 0 pooled 3 inuse 0 vps 0 ports 0 connections 0
 pages 32
 ",
@@ -171,7 +173,8 @@ fn full_history(rt: HostRuntime) {
             "1 1.0 call 0000000000000040 ok 0000000000000000 0200000000000000\n",
         ),
         (
-            "1.0 call 0x0000000300000048 0 0 02000000000000000c000000000000000d000000000000000e00000000000000",
+            "1.0 call 0x0000000300000048 0 0 \
+             02000000000000000c000000000000000d000000000000000e00000000000000",
             "2 1.0 call 0000000300000048 more 0000000100000000 -
 3 1.0 call 0001000300000048 more 0000000200000000 -
 fault: line 3: history full
