@@ -18,26 +18,7 @@ decoded_of kind frame = decoded kind (input_of frame (is_fast frame.rcx)) (eleme
 -- a call in a block is of the kind as which it was read
 pub kind_of_call-call_in : (kind : CallKind) (block : List ℕ) (element : ℕ) → kind_of_call (call_in kind block element) ≡ kind
 kind_of_call-call_in kind.CreatePartition block element = refl
-kind_of_call-call_in kind.InitializePartition block element = refl
-kind_of_call-call_in kind.FinalizePartition block element = refl
-kind_of_call-call_in kind.DeletePartition block element = refl
-kind_of_call-call_in kind.GetPartitionProperty block element = refl
-kind_of_call-call_in kind.SetPartitionProperty block element = refl
-kind_of_call-call_in kind.GetPartitionId block element = refl
-kind_of_call-call_in kind.GetNextChildPartition block element = refl
-kind_of_call-call_in kind.DepositMemory block element = refl
-kind_of_call-call_in kind.WithdrawMemory block element = refl
-kind_of_call-call_in kind.GetMemoryBalance block element = refl
-kind_of_call-call_in kind.CreateVp block element = refl
-kind_of_call-call_in kind.DeleteVp block element = refl
-kind_of_call-call_in kind.GetVpRegisters block element = refl
-kind_of_call-call_in kind.SetVpRegisters block element = refl
-kind_of_call-call_in kind.DeletePort block element = refl
-kind_of_call-call_in kind.DisconnectPort block element = refl
-kind_of_call-call_in kind.PostMessage block element = refl
-kind_of_call-call_in kind.SignalEvent block element = refl
-kind_of_call-call_in kind.CreatePort block element = refl
-kind_of_call-call_in kind.ConnectPort block element = refl
+kind_of_call-call_in kind block element = refl
 
 abbrev chosen : Bool → Call → Result Call Malformed
 chosen valid call = if valid then Ok call else Err record {}

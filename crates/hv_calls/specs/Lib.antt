@@ -1,5 +1,6 @@
 pub mod Blocks
 pub mod Bytes
 pub mod Call
+pub mod Fields
 pub mod Params
 pub mod WellFormed

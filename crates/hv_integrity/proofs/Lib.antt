@@ -1,9 +1,11 @@
 pub mod Alike
 pub mod Apart
+pub mod Asked
 pub mod Calls
 pub mod Carried
 pub mod Confining
 pub mod Gains
+pub mod Missing
 pub mod Reading
 pub mod CallerAndChildren
 pub mod Replies

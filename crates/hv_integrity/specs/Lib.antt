@@ -1,4 +1,5 @@
 pub mod Agreed
 pub mod Integrity
+pub mod Misses
 pub mod Same
 pub mod Unrelated

@@ -3,7 +3,6 @@ use Rattle.std.proofs.Common.{◌≡◌, ℕ, ◌==◌, ◌&&◌, not, Bool, nat
 use Rattle.std.proofs.lemmas.Bool.{and_parts, eqb-true, ne_eqb, leb-true}
 use Rattle.std.specs.FinMap.{contains_key, get}
 use Rattle.hv_calls.specs.declared.call.Call.{Call}
-use Rattle.hv_calls.specs.declared.call.Call.TheVariants as call
 use Rattle.hv_calls.specs.declared.call.Call.TheVariants.{CreatePartition, InitializePartition, FinalizePartition, DeletePartition, SetPartitionProperty, DepositMemory, WithdrawMemory, CreateVp}
 use Rattle.hv_calls.specs.declared.call.Call.TheVariants.{DeleteVp, SetVpRegisters, DeletePort, DisconnectPort, PostMessage, SignalEvent, CreatePort, ConnectPort}
 use Rattle.hv_defs.specs.declared.aim.Aim.{Aim}
@@ -23,7 +22,7 @@ use Rattle.hv_policy.specs.Property.{property_of}
 use Rattle.hv_policy.specs.Rules.{IsAllowed, unmet}
 use Rattle.hv_policy.specs.Step.{run_from, step, step_by}
 use Rattle.hv_policy.specs.declared.event.Action.{Action}
-use Rattle.hv_policy.specs.declared.event.Action.TheVariants.{Hypercall, ReadMsr, WriteMsr, ReadSlot, ClearSlot, ReadFlags, ClearFlag, TakeInterrupt}
+use Rattle.hv_policy.specs.declared.event.Action.TheVariants.{Hypercall, WriteMsr, ClearSlot, ClearFlag, TakeInterrupt}
 use Rattle.hv_policy.specs.declared.event.Caller.{Caller}
 use Rattle.hv_policy.specs.declared.event.Event.{Event}
 use Rattle.hv_policy.specs.declared.need.States.TheVariants as states
@@ -146,16 +145,11 @@ module _ (pages : ℕ) (f : Flat) (l : StateInvariant pages f) (caller : ℕ) wh
   granted_lawful (WithdrawMemory partition) a bounded =
       counted_lawful pages _ (withdrawn_pages pages f l caller (target_of (WithdrawMemory partition) caller) (caller_there f caller (WithdrawMemory partition) a)
       (leb-true 1 (available f (target_of (WithdrawMemory partition) caller)) a.further.0))
-  granted_lawful (call.GetPartitionProperty partition code) a bounded = counted_lawful pages f l
-  granted_lawful call.GetPartitionId a bounded = counted_lawful pages f l
-  granted_lawful (call.GetNextChildPartition partition previous) a bounded = counted_lawful pages f l
-  granted_lawful (call.GetMemoryBalance partition) a bounded = counted_lawful pages f l
   granted_lawful (CreateVp partition vp) a bounded = counted_lawful pages _ (staff_lawful partition vp a)
   granted_lawful (DeleteVp partition vp) a bounded =
       let target = target_of (DeleteVp partition vp) caller in
       counted_lawful pages _ (vp_removed pages f l (target, vp) (mail_but_at target vp f.mail)
       (mail_left f.served f.port (λ row. not (row.part == target && row.vp == vp)) f.mail (mailed_of pages f l)))
-  granted_lawful (call.GetVpRegisters partition vp name) a bounded = counted_lawful pages f l
   granted_lawful (SetVpRegisters partition vp name value) a bounded =
       counted_lawful pages _ (register_lawful pages (target_of (SetVpRegisters partition vp name value) caller) vp name value f l)
   granted_lawful (DeletePort partition port) a bounded = counted_lawful pages _ (port_removed pages f l (target_of (DeletePort partition port) caller, port))
@@ -164,6 +158,7 @@ module _ (pages : ℕ) (f : Flat) (l : StateInvariant pages f) (caller : ℕ) wh
   granted_lawful (ConnectPort partition connection port_partition port kind) a bounded = counted_lawful pages _ (conn_lawful partition connection port_partition port kind a)
   granted_lawful (PostMessage connection message_type payload) a bounded = counted_lawful pages _ (post_lawful pages (caller, connection) message_type payload f a.further.1.0 l)
   granted_lawful (SignalEvent connection flag) a bounded = counted_lawful pages _ (signal_lawful pages (aim_of f (caller, connection)) flag f l)
+  granted_lawful call a bounded = counted_lawful pages f l
 
 module _ {A : Type 0} (pages : ℕ) where
   by_action : (f : Flat) → StateInvariant pages f → (by : Caller) (what : Action A) → unmet f (record { by = by; what = what }) ≡ None → StateInvariant pages
@@ -172,13 +167,11 @@ module _ {A : Type 0} (pages : ℕ) where
       let served = is_served f by frame h in
       subst (λ call. StateInvariant pages (counted (served_effect f by.part call))) (sym served.called)
       (granted_lawful pages f l by.part served.call served.granted served.bounded)
-  by_action f l by (ReadMsr msr) h = counted_lawful pages f l
   by_action f l by (WriteMsr msr value) h = counted_lawful pages _ (msr_lawful pages by.part by.vp (name_of_msr msr) value f l)
-  by_action f l by (ReadSlot sint) h = counted_lawful pages f l
   by_action f l by (ClearSlot sint) h = counted_lawful pages _ (cleared_lawful pages (place_at by sint) f l)
-  by_action f l by (ReadFlags sint) h = counted_lawful pages f l
   by_action f l by (ClearFlag sint flag) h = counted_lawful pages _ (vp_changed pages f l (by.part, by.vp) _)
   by_action f l by TakeInterrupt h = counted_lawful pages _ (vp_changed pages f l (by.part, by.vp) _)
+  by_action f l by what h = counted_lawful pages f l
 
   -- a served event
   pub lawful_effect : (f : Flat) (e : Event A) → StateInvariant pages f → unmet f e ≡ None → StateInvariant pages (effect f e)

@@ -7,9 +7,7 @@ use Rattle.std.specs.List.{count_by}
 use Rattle.std.specs.Option.{option_map}
 use Rattle.std.specs.Ordering.{nat_cmp}
 use Rattle.hv_calls.specs.declared.call.Call.{Call}
-use Rattle.hv_calls.specs.declared.call.Call.TheVariants.{CreatePartition, InitializePartition, FinalizePartition, DeletePartition, GetPartitionProperty, SetPartitionProperty, GetPartitionId}
-use Rattle.hv_calls.specs.declared.call.Call.TheVariants.{GetNextChildPartition, DepositMemory, WithdrawMemory, GetMemoryBalance, CreateVp, DeleteVp, GetVpRegisters, SetVpRegisters, DeletePort}
-use Rattle.hv_calls.specs.declared.call.Call.TheVariants.{DisconnectPort, PostMessage, SignalEvent, CreatePort, ConnectPort}
+use Rattle.hv_calls.specs.declared.call.Call.TheVariants.{CreatePartition, InitializePartition, FinalizePartition, DeletePartition, SetPartitionProperty, SetVpRegisters, PostMessage, SignalEvent}
 use Rattle.hv_defs.proofs.Counts.{passes}
 use Rattle.hv_defs.proofs.Tallies.{count-fewer}
 use Rattle.hv_defs.specs.Registers.{name_of_msr}
@@ -30,7 +28,7 @@ use Rattle.hv_policy.specs.Step.{run, run_from, step, step_by}
 use Rattle.hv_policy.specs.Subtree.{is_in_subtree}
 use Rattle.hv_policy.specs.declared.config.Config.{Config}
 use Rattle.hv_policy.specs.declared.event.Action.{Action}
-use Rattle.hv_policy.specs.declared.event.Action.TheVariants.{Hypercall, ReadMsr, WriteMsr, ReadSlot, ClearSlot, ReadFlags, ClearFlag, TakeInterrupt}
+use Rattle.hv_policy.specs.declared.event.Action.TheVariants.{Hypercall, WriteMsr}
 use Rattle.hv_policy.specs.declared.event.Caller.{Caller}
 use Rattle.hv_policy.specs.declared.event.Event.{Event}
 use Rattle.hv_policy.specs.declared.property.Property.{Property}
@@ -131,24 +129,12 @@ call_makes (CreatePartition flags) f caller target = one_more f.part f.next (new
 call_makes (InitializePartition partition) f caller target = changed_more f.part target (λ row. record row { life = Active }) (get f.part target)
 call_makes (FinalizePartition partition) f caller target = changed_more f.part target (λ row. record row { life = Finalized }) (get f.part target)
 call_makes (DeletePartition partition) f caller target = none_more f.part target
-call_makes (GetPartitionProperty partition code) f caller target = as_many f f refl
 call_makes (SetPartitionProperty partition code value) f caller target = set_more (narrows (property_of code) f target) f target (property_of code) value
-call_makes GetPartitionId f caller target = as_many f f refl
-call_makes (GetNextChildPartition partition previous) f caller target = as_many f f refl
-call_makes (DepositMemory partition page) f caller target = as_many f f refl
-call_makes (WithdrawMemory partition) f caller target = as_many f f refl
-call_makes (GetMemoryBalance partition) f caller target = as_many f f refl
-call_makes (CreateVp partition vp) f caller target = as_many f f refl
-call_makes (DeleteVp partition vp) f caller target = as_many f f refl
-call_makes (GetVpRegisters partition vp name) f caller target = as_many f f refl
 call_makes (SetVpRegisters partition vp name value) f caller target = as_many f (write_register target vp name value f) (register_part target vp name value f)
-call_makes (DeletePort partition port) f caller target = as_many f f refl
-call_makes (DisconnectPort partition connection) f caller target = as_many f f refl
 call_makes (PostMessage connection message_type payload) f caller target = as_many f (post_to (aim_of f (target, connection)) message_type payload f)
     (posted_part (aim_of f (target, connection)) message_type payload f)
 call_makes (SignalEvent connection flag) f caller target = as_many f (signal_to (aim_of f (target, connection)) flag f) (signalled_part (aim_of f (target, connection)) flag f)
-call_makes (CreatePort partition port peer port_kind sint vp base count) f caller target = as_many f f refl
-call_makes (ConnectPort partition connection port_partition port port_kind) f caller target = as_many f f refl
+call_makes call f caller target = as_many f f refl
 
 makes_by : (f : Flat) (caller : ℕ) (call : Option Call) → len (served_effect f caller call).part ≤ len f.part + 1
 makes_by f caller None = as_many f f refl
@@ -158,13 +144,8 @@ module _ {A : Type 0} where
   -- so does any action, and any event
   action_makes : (what : Action A) (f : Flat) (by : Caller) → len (action_effect f by what).part ≤ len f.part + 1
   action_makes (Hypercall frame) f by = makes_by f by.part (called frame)
-  action_makes (ReadMsr msr) f by = as_many f f refl
   action_makes (WriteMsr msr value) f by = as_many f (write_msr by.part by.vp (name_of_msr msr) value f) (msr_part by.part by.vp (name_of_msr msr) value f)
-  action_makes (ReadSlot sint) f by = as_many f f refl
-  action_makes (ClearSlot sint) f by = as_many f f refl
-  action_makes (ReadFlags sint) f by = as_many f f refl
-  action_makes (ClearFlag sint flag) f by = as_many f f refl
-  action_makes TakeInterrupt f by = as_many f f refl
+  action_makes what f by = as_many f f refl
 
   step_makes : (f : Flat) (e : Event A) → len (step f e).0.part ≤ len f.part + 1
   step_makes f e = by (unmet f e)

@@ -6,8 +6,8 @@ use Rattle.hv_integrity.proofs.Apart.{both}
 use Rattle.hv_integrity.proofs.Carried.{nothing_carried, step_carried}
 use Rattle.hv_integrity.specs.Integrity.{Integrity}
 use Rattle.hv_integrity.specs.Same.{HasSame, held_by}
-use Rattle.hv_noninterference.proofs.Beside.{misses}
-use Rattle.hv_noninterference.specs.Misses.{LeavesOthers}
+use Rattle.hv_integrity.proofs.Missing.{misses}
+use Rattle.hv_integrity.specs.Misses.{LeavesOthers}
 use Rattle.hv_partition.specs.Partition.{PartitionState}
 use Rattle.hv_policy.specs.Flat.{Flat, PageRow}
 use Rattle.hv_policy.specs.Step.{step}

@@ -3,7 +3,7 @@ use Rattle.std.specs.Prelude.{◌≡◌, None, IsTrue, IfOk, OnOk, OnErr}
 use Rattle.std.specs.declared.result.Result.{Result}
 use Rattle.hv_abi.specs.declared.frame.Frame.{Frame}
 use Rattle.hv_integrity.specs.Integrity.{Integrity}
-use Rattle.hv_noninterference.specs.Misses.{LeavesOthers}
+use Rattle.hv_integrity.specs.Misses.{LeavesOthers}
 use Rattle.hv_policy.specs.Call.{may_take_memory}
 use Rattle.hv_policy.specs.Flat.{Flat}
 use Rattle.hv_policy.specs.Result.{HasResult}

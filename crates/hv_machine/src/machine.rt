@@ -6,7 +6,7 @@ ghost use Rattle.hv_integrity.specs.Integrity.{Integrity};
 ghost use Rattle.hv_invariants.specs.Bounded.{IsBounded};
 ghost use Rattle.hv_policy.specs.Call.{IsCall, call_event, may_take_memory};
 ghost use Rattle.hv_policy.specs.Flat.{Flat};
-ghost use Rattle.hv_noninterference.specs.Misses.{LeavesOthers};
+ghost use Rattle.hv_integrity.specs.Misses.{LeavesOthers};
 ghost use Rattle.hv_policy.specs.Result.{HasResult};
 ghost use Rattle.hv_policy.specs.Step.{NamesAsked, step};
 ghost use Rattle.hv_policy.specs.Rules.{unmet};

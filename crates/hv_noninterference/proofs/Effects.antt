@@ -3,9 +3,8 @@ use Rattle.std.proofs.Common.{◌≡◌, ℕ, ◌+◌, ◌&&◌, Bool, true, fal
 use Rattle.std.specs.FinMap.{get}
 use Rattle.hv_abi.specs.declared.frame.Frame.{Frame}
 use Rattle.hv_calls.specs.declared.call.Call.{Call}
-use Rattle.hv_calls.specs.declared.call.Call.TheVariants.{CreatePartition, InitializePartition, FinalizePartition, DeletePartition, GetPartitionProperty, SetPartitionProperty, GetPartitionId}
-use Rattle.hv_calls.specs.declared.call.Call.TheVariants.{GetNextChildPartition, DepositMemory, WithdrawMemory, GetMemoryBalance, CreateVp, DeleteVp, GetVpRegisters, SetVpRegisters, DeletePort}
-use Rattle.hv_calls.specs.declared.call.Call.TheVariants.{DisconnectPort, PostMessage, SignalEvent, CreatePort, ConnectPort}
+use Rattle.hv_calls.specs.declared.call.Call.TheVariants.{CreatePartition, InitializePartition, FinalizePartition, DeletePartition, SetPartitionProperty, DepositMemory, WithdrawMemory, CreateVp}
+use Rattle.hv_calls.specs.declared.call.Call.TheVariants.{DeleteVp, SetVpRegisters, DeletePort, DisconnectPort, PostMessage, SignalEvent, CreatePort, ConnectPort}
 use Rattle.hv_defs.specs.Registers.{name_of_msr}
 use Rattle.hv_invariants.proofs.Granted.{is_served}
 use Rattle.hv_policy.specs.Aim.{is_same_birth}
@@ -18,7 +17,7 @@ use Rattle.hv_policy.specs.Needs.{resolved_id, needs_of, target_of}
 use Rattle.hv_policy.specs.Property.{property_of}
 use Rattle.hv_policy.specs.Rules.{IsAllowed, unmet}
 use Rattle.hv_policy.specs.declared.event.Action.{Action}
-use Rattle.hv_policy.specs.declared.event.Action.TheVariants.{Hypercall, ReadMsr, WriteMsr, ReadSlot, ClearSlot, ReadFlags, ClearFlag, TakeInterrupt}
+use Rattle.hv_policy.specs.declared.event.Action.TheVariants.{Hypercall, WriteMsr, ClearSlot, ClearFlag, TakeInterrupt}
 use Rattle.hv_policy.specs.declared.event.Caller.{Caller}
 use Rattle.hv_policy.specs.declared.event.Event.{Event}
 use Rattle.hv_policy.specs.Subtree.{is_in_subtree}
@@ -68,16 +67,11 @@ module _ (members : ℕ → Bool) (f g : Flat) (a : AreLowEquivalent members f g
         (λ id own. row_alike f.part g.part id (a id own).part (target_of (InitializePartition partition) caller) _)
     call_leaves (FinalizePartition partition) s t n = finalized members f g a past past_too partition caller (target_of (FinalizePartition partition) caller)
     call_leaves (DeletePartition partition) s t n = deleted members f g a partition caller (target_of (DeletePartition partition) caller) n
-    call_leaves (GetPartitionProperty partition code) s t n = a
     call_leaves (SetPartitionProperty partition code value) s t n = set_leaves (target_of (SetPartitionProperty partition code value) caller) (property_of code) value n
-    call_leaves GetPartitionId s t n = a
-    call_leaves (GetNextChildPartition partition previous) s t n = a
     call_leaves (DepositMemory partition page) s t n = deposited members f g a page (target_of (DepositMemory partition page) caller)
     call_leaves (WithdrawMemory partition) s t n = withdrew members f g a caller (target_of (WithdrawMemory partition) caller) n
-    call_leaves (GetMemoryBalance partition) s t n = a
     call_leaves (CreateVp partition vp) s t n = staffed members f g a (target_of (CreateVp partition vp) caller) vp
     call_leaves (DeleteVp partition vp) s t n = dismissed members f g a (target_of (DeleteVp partition vp) caller) vp
-    call_leaves (GetVpRegisters partition vp name) s t n = a
     call_leaves (SetVpRegisters partition vp name value) s t n = register_alike members (target_of (SetVpRegisters partition vp name value) caller) vp name value n f g a
     call_leaves (DeletePort partition port) s t n = port_deleted members f g a past past_too (target_of (DeletePort partition port) caller) port
     call_leaves (DisconnectPort partition connection) s t n = conn_deleted members f g a (target_of (DisconnectPort partition connection) caller) connection
@@ -94,6 +88,7 @@ module _ (members : ℕ → Bool) (f g : Flat) (a : AreLowEquivalent members f g
     call_leaves (ConnectPort partition connection port_partition port port_kind) s t n =
         conn_made members f g a (target_of (ConnectPort partition connection port_partition port port_kind) caller) connection (resolved_id caller port_partition, port) port_kind s.further.1.1.1.0
         t.further.1.1.1.0
+    call_leaves call s t n = a
 
   module _ (by : Caller) where
     -- what another's call does
@@ -151,10 +146,8 @@ module _ (members : ℕ → Bool) (f g : Flat) (a : AreLowEquivalent members f g
           (effect g (event what))
       own_leaves (Hypercall frame) met met_too n = call_done frame met met_too (λ call is s. own_does by own call s
           (looked members f g a closed closed_too by own frame (called frame) call is n s.target.0))
-      own_leaves (ReadMsr msr) met met_too n = counted_alike members f g a
       own_leaves (WriteMsr msr value) met met_too n = counted_alike members _ _ (msr_alike members by.part by.vp (name_of_msr msr) value own f g a)
-      own_leaves (ReadSlot sint) met met_too n = counted_alike members f g a
       own_leaves (ClearSlot sint) met met_too n = counted_alike members _ _ (cleared_alike members (place_at by sint) f g a)
-      own_leaves (ReadFlags sint) met met_too n = counted_alike members f g a
       own_leaves (ClearFlag sint flag) met met_too n = counted_alike members _ _ (staff_alike members (by.part, by.vp) _ f g a)
       own_leaves TakeInterrupt met met_too n = counted_alike members _ _ (staff_alike members (by.part, by.vp) _ f g a)
+      own_leaves what met met_too n = counted_alike members f g a

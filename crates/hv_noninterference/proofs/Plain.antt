@@ -2,9 +2,8 @@
 use Rattle.std.proofs.Common.{◌≡◌, ℕ, Bool, true, false, Some, refl, sym, ap, ◌∙◌}
 use Rattle.std.specs.FinMap.{get}
 use Rattle.hv_calls.specs.declared.call.Call.{Call}
-use Rattle.hv_calls.specs.declared.call.Call.TheVariants.{CreatePartition, InitializePartition, FinalizePartition, DeletePartition, GetPartitionProperty, SetPartitionProperty, GetPartitionId}
-use Rattle.hv_calls.specs.declared.call.Call.TheVariants.{GetNextChildPartition, DepositMemory, WithdrawMemory, GetMemoryBalance, CreateVp, DeleteVp, GetVpRegisters, SetVpRegisters, DeletePort}
-use Rattle.hv_calls.specs.declared.call.Call.TheVariants.{DisconnectPort, PostMessage, SignalEvent, CreatePort, ConnectPort}
+use Rattle.hv_calls.specs.declared.call.Call.TheVariants.{GetPartitionId, DepositMemory, WithdrawMemory, GetMemoryBalance, DeletePort, DisconnectPort, PostMessage, SignalEvent, CreatePort}
+use Rattle.hv_calls.specs.declared.call.Call.TheVariants.{ConnectPort}
 use Rattle.hv_policy.specs.Flat.{Flat, PartRow}
 use Rattle.hv_policy.specs.Met.{has_privilege, test_row}
 use Rattle.hv_privs.proofs.PrivilegesLemmas.{contains-IsSubset}
@@ -39,24 +38,14 @@ starts_plain f id row is less = record {
 
 pub looks_through : (members : ℕ → Bool) (f g : Flat) (caller : ℕ) → members caller ≡ true → LooksUpNothing f caller → (call : Call) → SeesAlike members call caller f g → CallLooksAlike members
     (Some call) caller f g
-looks_through members f g caller own none (CreatePartition flags) sees has = let clash = sym none.partitions ∙ has in cc
-looks_through members f g caller own none (InitializePartition partition) sees has = let clash = sym none.partitions ∙ has in cc
-looks_through members f g caller own none (FinalizePartition partition) sees has = let clash = sym none.partitions ∙ has in cc
-looks_through members f g caller own none (DeletePartition partition) sees has = let clash = sym none.partitions ∙ has in cc
-looks_through members f g caller own none (GetPartitionProperty partition code) sees has = let clash = sym none.partitions ∙ has in cc
-looks_through members f g caller own none (SetPartitionProperty partition code value) sees has = let clash = sym none.partitions ∙ has in cc
 looks_through members f g caller own none GetPartitionId sees has = λ off. (let clash = sym off ∙ own in cc)
-looks_through members f g caller own none (GetNextChildPartition partition previous) sees has = let clash = sym none.partitions ∙ has in cc
 looks_through members f g caller own none (DepositMemory partition page) sees has = let clash = sym none.pools ∙ has in cc
 looks_through members f g caller own none (WithdrawMemory partition) sees has = let clash = sym none.pools ∙ has in cc
 looks_through members f g caller own none (GetMemoryBalance partition) sees has = let clash = sym none.pools ∙ has in cc
-looks_through members f g caller own none (CreateVp partition vp) sees has = let clash = sym none.partitions ∙ has in cc
-looks_through members f g caller own none (DeleteVp partition vp) sees has = let clash = sym none.partitions ∙ has in cc
-looks_through members f g caller own none (GetVpRegisters partition vp name) sees has = let clash = sym none.partitions ∙ has in cc
-looks_through members f g caller own none (SetVpRegisters partition vp name value) sees has = let clash = sym none.partitions ∙ has in cc
 looks_through members f g caller own none (DeletePort partition port) sees has = let clash = sym none.ports ∙ has in cc
 looks_through members f g caller own none (DisconnectPort partition connection) sees has = let clash = sym none.connections ∙ has in cc
 looks_through members f g caller own none (PostMessage connection message_type payload) sees has = sees
 looks_through members f g caller own none (SignalEvent connection flag) sees has = sees
 looks_through members f g caller own none (CreatePort partition port peer port_kind sint vp base count) sees has = let clash = sym none.ports ∙ has in cc
 looks_through members f g caller own none (ConnectPort partition connection port_partition port port_kind) sees has = let clash = sym none.connections ∙ has in cc
+looks_through members f g caller own none call sees has = let clash = sym none.partitions ∙ has in cc

@@ -2,56 +2,35 @@
 use Rattle.std.proofs.Common.{◌≡◌, ℕ, ◌++◌, Bool, true, false, cond, nat_lt, length, List, [], ◌∷◌, map, Option, Some, None, find, is_some, refl, sym, ap, subst, ◌∙◌}
 use Rattle.std.proofs.lemmas.List.{length-map}
 use Rattle.std.specs.FinMap.{contains_key}
-use Rattle.std.specs.Int.{w64, to_le_bytes}
 use Rattle.std.specs.Option.{option_map}
 use Rattle.hv_abi.specs.Check.{call_of}
 use Rattle.hv_abi.specs.declared.call_kind.CallKind.{CallKind}
 use Rattle.hv_abi.specs.declared.frame.Frame.{Frame}
 use Rattle.hv_calls.specs.Params.{parameters}
 use Rattle.hv_calls.specs.declared.call.Call.{Call}
-use Rattle.hv_calls.specs.declared.call.Call.TheVariants.{CreatePartition, GetPartitionProperty, GetNextChildPartition, WithdrawMemory, GetMemoryBalance, GetVpRegisters, PostMessage, SignalEvent}
-use Rattle.hv_calls.specs.declared.call.Call.TheVariants.{CreatePort, ConnectPort}
-use Rattle.hv_defs.specs.Registers.{name_of_msr, row_of}
+use Rattle.hv_calls.specs.declared.call.Call.TheVariants.{CreatePartition, PostMessage, SignalEvent, CreatePort, ConnectPort}
 use Rattle.hv_invariants.proofs.Granted.{is_served}
-use Rattle.hv_policy.specs.Answer.{answer, flags_at, msr_of, output, output_of, page_or_0, register_of, reply_with, value_of, vector_of}
+use Rattle.hv_policy.specs.Answer.{answer, output_of, reply_with}
 use Rattle.hv_policy.specs.Call.{call_event, called}
 use Rattle.hv_policy.specs.Flat.{Flat, MailRow}
 use Rattle.hv_policy.specs.Mail.{is_shown, mail_at, row_bytes}
-use Rattle.hv_policy.specs.Met.{has_privilege, is_active, is_kin, may_access_msr, takes_msr, test_row}
+use Rattle.hv_policy.specs.Met.{has_privilege, is_active, is_kin, test_row}
 use Rattle.hv_policy.specs.Needs.{needs_of, target_of}
-use Rattle.hv_policy.specs.Property.{property_of}
-use Rattle.hv_policy.specs.Rules.{AreMet, Ask, action_asks, caller_asks, first_unmet, frame_asks, further_asks, hypercall_asks, target_asks, unmet}
-use Rattle.hv_policy.specs.Step.{step, step_by}
+use Rattle.hv_policy.specs.Rules.{Ask, caller_asks, first_unmet, frame_asks, further_asks, hypercall_asks, target_asks, unmet}
+use Rattle.hv_policy.specs.Step.{step}
 use Rattle.hv_policy.specs.declared.event.Action.{Action}
-use Rattle.hv_policy.specs.declared.event.Action.TheVariants.{Hypercall, ReadMsr, WriteMsr, ReadSlot, ClearSlot, ReadFlags, ClearFlag, TakeInterrupt}
+use Rattle.hv_policy.specs.declared.event.Action.TheVariants.{Hypercall}
 use Rattle.hv_policy.specs.declared.event.Caller.{Caller}
 use Rattle.hv_policy.specs.declared.event.Event.{Event}
 use Rattle.hv_policy.specs.declared.need.Kin.{Kin}
-use Rattle.hv_policy.specs.declared.reply.Reply.TheVariants.{Served}
-use Rattle.hv_policy.specs.declared.rule.Rule.{Rule}
-use Rattle.hv_policy.specs.declared.rule.Rule.TheVariants.{CallerExists, CallerActive, CallerVpExists, MsrKnown, MsrPrivilege, MsrWrite, Privilege, TargetExists, TargetScope}
+use Rattle.hv_policy.specs.declared.rule.Rule.TheVariants.{CallerExists, CallerActive, CallerVpExists, Privilege, TargetExists, TargetScope}
 use Rattle.hv_privs.specs.Privileges.{contains}
+use Rattle.hv_integrity.proofs.Asked.{CallAlike, MakesAlike, OwnAlike, behind, output_alike, reply_alike as replies_alike, stops, unmet_alike as rules_alike}
 use Rattle.hv_integrity.specs.Same.{place}
 use Rattle.hv_noninterference.specs.Alike.{AreLowEquivalent, AreClosed, marked}
 use Rattle.hv_noninterference.specs.Looks.{ActionLooksAlike, CallLooksAlike, LooksAlike}
-use Rattle.hv_noninterference.proofs.Changes.{lowest_same}
-use Rattle.hv_noninterference.proofs.Reading.{access_alike, available_alike, kin_alike, next_child_alike, no_kin, use_alike}
-use Rattle.hv_noninterference.proofs.Ruled.{further_alike, part_alike}
-
--- the first unmet goes on alike behind the same front
-behind : (asks rest other : List Ask) → first_unmet rest ≡ first_unmet other → first_unmet (asks ++ rest) ≡ first_unmet (asks ++ other)
-behind [] rest other same = same
-behind (ask ∷ asks) rest other same = ap (λ first. cond ask.1 first (Some ask.0)) (behind asks rest other same)
-
--- and what follows doesn't count where some of them is unmet
-stops : (asks rest other : List Ask) → (AreMet asks → ⊥) → first_unmet (asks ++ rest) ≡ first_unmet (asks ++ other)
-stops [] rest other unmet = absurd (unmet tt)
-stops (ask ∷ asks) rest other unmet = by ask.1 refl (λ is. stops asks rest other (λ met. unmet (is, met)))
-  where
-    by : (met : Bool) → ask.1 ≡ met → (ask.1 ≡ true → first_unmet (asks ++ rest) ≡ first_unmet (asks ++ other)) → cond met (first_unmet (asks ++ rest)) (Some ask.0) ≡ cond met
-        (first_unmet (asks ++ other)) (Some ask.0)
-    by true is past = past is
-    by false is past = refl
+use Rattle.hv_noninterference.proofs.Reading.{access_alike, kin_alike, no_kin}
+use Rattle.hv_noninterference.proofs.Ruled.{further_alike, part_alike, reads}
 
 -- a slot shows no birth
 module _ (f : Flat) where
@@ -77,10 +56,16 @@ module _ (members : ℕ → Bool) (f g : Flat) (a : AreLowEquivalent members f g
       (CallerExists, ap is_some (a by.part own).part i) ∷ (CallerActive, ap (test_row (λ row. is_active row.life)) (a by.part own).part i)
       ∷ (CallerVpExists, ap is_some ((a by.part own).vps by.vp) i) ∷ []
 
-  -- P26
-  msr_alike : (name : Option ℕ) → may_access_msr f by.part name ≡ may_access_msr g by.part name
-  msr_alike None = refl
-  msr_alike (Some name) = access_alike members f g a closed closed_too by.part own (row_of name)
+  -- what an access of a member reads
+  own_alike : OwnAlike by f g
+  own_alike = record {
+    callers = callers_alike;
+    accessed = access_alike members f g a closed closed_too by.part own;
+    vp = (a by.part own).vps by.vp;
+    slots = λ sint.
+        bytes_marked f (mail_at (place by.part by.vp sint) f.mail) ∙ ap (bytes f) ((a by.part own).mail by.vp sint)
+        ∙ sym (bytes_marked g (mail_at (place by.part by.vp sint) g.mail));
+  }
 
   -- whom a member may name is one
   pub kin_member : (k : Kin) (id : ℕ) → is_kin k f by.part id ≡ true → members id ≡ true
@@ -133,20 +118,9 @@ module _ (members : ℕ → Bool) (f g : Flat) (a : AreLowEquivalent members f g
           ap (λ b. cond b (first_unmet (rest f)) (Some Privilege)) is
           ∙ sym (ap (λ b. cond b (first_unmet (rest g)) (Some Privilege)) (sym (privilege_alike call) ∙ is))
 
-  -- what a call answers
-  output_alike : (call : Call) → members (target_of call by.part) ≡ true → LooksAlike members call by.part f g → output call f by.part (target_of call by.part) ≡ output call g by.part
-      (target_of call by.part)
-  output_alike (CreatePartition flags) is n = ap (to_le_bytes w64) n.0
-  output_alike (GetPartitionProperty partition code) is n = ap (λ row. to_le_bytes w64 (value_of (property_of code) row)) (a (target_of (GetPartitionProperty partition code) by.part) is).part
-  output_alike (GetNextChildPartition partition previous) is n = ap (to_le_bytes w64) (next_child_alike members f g a closed closed_too (target_of (GetNextChildPartition partition previous) by.part)
-      previous is)
-  output_alike (WithdrawMemory partition) is n = ap (λ page. to_le_bytes w64 (page_or_0 page))
-      (lowest_same (target_of (WithdrawMemory partition) by.part) f g (a (target_of (WithdrawMemory partition) by.part) is).pages)
-  output_alike (GetMemoryBalance partition) is n =
-      λ i. to_le_bytes w64 (available_alike members f g a closed closed_too (target_of (GetMemoryBalance partition) by.part) is i) ++ to_le_bytes w64
-      (use_alike members f g a closed closed_too (target_of (GetMemoryBalance partition) by.part) is i)
-  output_alike (GetVpRegisters partition vp name) is n = ap (λ row. to_le_bytes w64 (register_of row name) ++ to_le_bytes w64 0) ((a (target_of (GetVpRegisters partition vp name) by.part) is).vps vp)
-  output_alike call is n = refl
+  makes : (call : Call) → LooksAlike members call by.part f g → MakesAlike call f g
+  makes (CreatePartition flags) n = n.0
+  makes call n = tt
 
   module _ {A : Type 0} (frame : Frame A) where
     hypercalls_alike : (k : Option CallKind) → CallLooksAlike members (option_map (λ kind. parameters kind frame) k) by.part f g → first_unmet (hypercall_asks f by.part frame k) ≡ first_unmet
@@ -166,42 +140,21 @@ module _ (members : ℕ → Bool) (f g : Flat) (a : AreLowEquivalent members f g
         let s = is_served f by frame met in
         let t = kin_member (needs_of s.call).kin (target_of s.call by.part) s.granted.target.1.1.0 in
         let look = looked (called frame) s.call s.called n s.granted.target.0 in
-        ap (reply_with frame) (ap (output_of f by.part) s.called ∙ output_alike s.call t look ∙ sym (ap (output_of g by.part) s.called))
+        ap (reply_with frame)
+        (ap (output_of f by.part) s.called
+        ∙ output_alike by.part (target_of s.call by.part) f g (reads members f g a closed closed_too by.part own (target_of s.call by.part) t) s.call (makes s.call look)
+        ∙ sym (ap (output_of g by.part) s.called))
 
   module _ {A : Type 0} where
     abbrev event : Action A → Event A
     event what = record { by = by; what = what }
 
-    actions_alike : (what : Action A) → ActionLooksAlike members what by.part f g → first_unmet (action_asks f by.part what) ≡ first_unmet (action_asks g by.part what)
-    actions_alike (Hypercall frame) n = hypercalls_alike frame (call_of frame) n
-    actions_alike (ReadMsr msr) n = λ i. first_unmet ((MsrKnown, is_some (name_of_msr msr)) ∷ (MsrPrivilege, msr_alike (name_of_msr msr) i) ∷ [])
-    actions_alike (WriteMsr msr value) n = λ i.
-        first_unmet ((MsrKnown, is_some (name_of_msr msr)) ∷ (MsrPrivilege, msr_alike (name_of_msr msr) i) ∷ (MsrWrite, takes_msr (name_of_msr msr) value) ∷ [])
-    actions_alike what n = refl
+    calls : (what : Action A) → ActionLooksAlike members what by.part f g → CallAlike by f g what
+    calls (Hypercall frame) n = (hypercalls_alike frame (call_of frame) n, answer_call frame n)
+    calls what n = tt
 
     pub unmet_alike : (what : Action A) → ActionLooksAlike members what by.part f g → unmet f (event what) ≡ unmet g (event what)
-    unmet_alike what n =
-        behind (caller_asks f by) (action_asks f by.part what) (action_asks g by.part what) (actions_alike what n)
-        ∙ ap (λ asks. first_unmet (asks ++ action_asks g by.part what)) callers_alike
-
-    answer_alike : (what : Action A) → ActionLooksAlike members what by.part f g → unmet f (event what) ≡ None → answer f (event what) ≡ answer g (event what)
-    answer_alike (Hypercall frame) n met = answer_call frame n met
-    answer_alike (ReadMsr msr) n met = ap (λ row. Served (to_le_bytes w64 (msr_of row (name_of_msr msr)))) ((a by.part own).vps by.vp)
-    answer_alike (WriteMsr msr value) n met = refl
-    answer_alike (ReadSlot sint) n met =
-        ap Served (bytes_marked f (mail_at (place by.part by.vp sint) f.mail) ∙ ap (bytes f) ((a by.part own).mail by.vp sint) ∙ sym (bytes_marked g (mail_at (place by.part by.vp sint) g.mail)))
-    answer_alike (ClearSlot sint) n met = refl
-    answer_alike (ReadFlags sint) n met = ap (λ row. Served (flags_at row sint)) ((a by.part own).vps by.vp)
-    answer_alike (ClearFlag sint flag) n met = refl
-    answer_alike TakeInterrupt n met = ap (λ row. Served (vector_of row ∷ [])) ((a by.part own).vps by.vp)
+    unmet_alike what n = rules_alike by f g own_alike what (calls what n)
 
     pub reply_alike : (what : Action A) → ActionLooksAlike members what by.part f g → (step f (event what)).1 ≡ (step g (event what)).1
-    reply_alike what n = at (unmet f (event what)) refl
-      where
-        at : (rule : Option Rule) → unmet f (event what) ≡ rule → (step f (event what)).1 ≡ (step g (event what)).1
-        at None is =
-            ap (λ r. (step_by f (event what) r).1) is ∙ answer_alike what n is
-            ∙ sym (ap (λ r. (step_by g (event what) r).1) (sym (unmet_alike what n) ∙ is))
-        at (Some rule) is =
-            ap (λ r. (step_by f (event what) r).1) is
-            ∙ sym (ap (λ r. (step_by g (event what) r).1) (sym (unmet_alike what n) ∙ is))
+    reply_alike what n = replies_alike by f g own_alike what (calls what n)

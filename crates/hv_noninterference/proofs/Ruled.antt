@@ -1,29 +1,21 @@
 -- What a member's call is asked is met alike.
-use Rattle.std.proofs.Common.{◌≡◌, ℕ, ◌==◌, ◌||◌, nat_le, nat_lt, not, ◌&&◌, Bool, true, false, cond, List, [], ◌∷◌, Option, Some, None, is_ok, is_some, refl, sym, ap, ◌∙◌}
+use Rattle.std.proofs.Common.{◌≡◌, ℕ, ◌==◌, Bool, true, false, cond, List, [], ◌∷◌, Option, Some, None, is_some, refl, sym, ap, ◌∙◌}
 use Rattle.std.specs.FinMap.{contains_key, get}
 use Rattle.std.specs.Option.{option_map, option_map_or}
 use Rattle.hv_calls.specs.declared.call.Call.{Call}
-use Rattle.hv_calls.specs.declared.call.Call.TheVariants.{CreatePartition, InitializePartition, FinalizePartition, DeletePartition, GetPartitionProperty, SetPartitionProperty, GetPartitionId}
-use Rattle.hv_calls.specs.declared.call.Call.TheVariants.{GetNextChildPartition, DepositMemory, WithdrawMemory, GetMemoryBalance, CreateVp, DeleteVp, GetVpRegisters, SetVpRegisters, DeletePort}
-use Rattle.hv_calls.specs.declared.call.Call.TheVariants.{DisconnectPort, PostMessage, SignalEvent, CreatePort, ConnectPort}
-use Rattle.hv_defs.specs.Registers as register
-use Rattle.hv_defs.specs.declared.aim.Aim.{Aim}
-use Rattle.hv_defs.specs.declared.aim.Aim.TheVariants.{One, Any}
-use Rattle.hv_defs.specs.declared.sizes.TheConstants.{MAX_VPS}
-use Rattle.hv_policy.specs.Aim.{has_target, is_same_birth, on_aim}
+use Rattle.hv_calls.specs.declared.call.Call.TheVariants.{CreatePartition, PostMessage, SignalEvent, CreatePort, ConnectPort}
+use Rattle.hv_policy.specs.Aim.{is_same_birth, on_aim}
 use Rattle.hv_policy.specs.Flat.{ConnRow, Flat, PortRow}
-use Rattle.hv_policy.specs.Met.{has_available, has_flag, has_flag_taker, has_message_room, has_message_taker, is_aimed_at_vp, is_childless, is_for_messages, is_in, is_in_range, is_kind, is_vp_free}
-use Rattle.hv_policy.specs.Met.{on_port, test_row}
-use Rattle.hv_policy.specs.Needs.{charge_of, is_among, resolved_id, needs_of, target_of}
-use Rattle.hv_policy.specs.Property.{property_of}
-use Rattle.hv_policy.specs.Rules.{Ask, call_asks, first_unmet, further_asks}
-use Rattle.hv_policy.specs.declared.need.States.{States}
-use Rattle.hv_policy.specs.declared.rule.Rule.TheVariants.{PropertyKnown, TargetState, NoChildren, Depth, PeerExists, Connection, Port, Entitlement, VpExists, PropertyRange, Operand, VpReady}
-use Rattle.hv_policy.specs.declared.rule.Rule.TheVariants.{PortRoom, Pages}
+use Rattle.hv_policy.specs.Met.{has_flag, has_flag_taker, has_message_room, has_message_taker, is_aimed_at_vp, is_for_messages, is_kind, on_port}
+use Rattle.hv_policy.specs.Needs.{charge_of, resolved_id, needs_of, target_of}
+use Rattle.hv_policy.specs.Rules.{Ask, first_unmet, further_asks}
+use Rattle.hv_policy.specs.declared.rule.Rule.TheVariants.{Connection, Port, VpExists, Operand, VpReady, PortRoom}
+use Rattle.hv_integrity.proofs.Asked.{NamedAlike, ReadsAlike, asked_alike}
 use Rattle.hv_noninterference.specs.Alike.{AreLowEquivalent, AreClosed, is_born, mark, marked_conn, unborn}
 use Rattle.hv_noninterference.specs.Looks.{EndsAlike, IsThereAlike, LooksAlike, OutsideAlike}
+use Rattle.hv_noninterference.proofs.Changes.{lowest_same}
 use Rattle.hv_noninterference.proofs.Ends.{ends_alike}
-use Rattle.hv_noninterference.proofs.Reading.{access_alike, available_alike, child_alike, children_alike, give_alike, loose_alike, there_alike}
+use Rattle.hv_noninterference.proofs.Reading.{access_alike, available_alike, child_alike, children_alike, give_alike, loose_alike, next_child_alike, there_alike, use_alike}
 use Rattle.hv_noninterference.proofs.Sends.{leads_alike}
 
 module _ (members : ℕ → Bool) (f g : Flat) (a : AreLowEquivalent members f g) (closed : AreClosed members f) (closed_too : AreClosed members g) where
@@ -144,72 +136,42 @@ module _ (members : ℕ → Bool) (f g : Flat) (a : AreLowEquivalent members f g
           by None none = no_conn (signal_rest flag f) (signal_rest flag g) none
           by (Some conn) is = with_end (end_alike conn is)
 
+    -- what a member's call reads of a member
+    pub reads : (target : ℕ) → members target ≡ true → ReadsAlike caller target f g
+    reads target own = record {
+      part = (a target own).part;
+      vps = (a target own).vps;
+      ports = λ port. there_alike unborn unborn (get f.port (target, port)) (get g.port (target, port)) ((a target own).ports port);
+      conns = λ connection. there_alike (marked_conn members f) (marked_conn members g) (get f.conn (target, connection)) (get g.conn (target, connection)) ((a target own).conns connection);
+      children = children_alike members f g a closed closed_too target own;
+      child = λ id. child_alike members f g a closed closed_too target id own;
+      following = λ previous. next_child_alike members f g a closed closed_too target previous own;
+      unused = available_alike members f g a closed closed_too target own;
+      used = use_alike members f g a closed closed_too target own;
+      lowest = lowest_same target f g (a target own).pages;
+      loose = loose_alike members f g a closed closed_too caller own_caller;
+      given = give_alike members f g a closed closed_too caller own_caller;
+      accessed = access_alike members f g a closed closed_too caller own_caller;
+    }
+
+    named : (call : Call) → LooksAlike members call caller f g → NamedAlike caller (target_of call caller) (needs_of call).states (charge_of call) f g call
+    named (CreatePartition flags) n = n.1
+    named (PostMessage connection message_type payload) n = posts_asked connection n
+    named (SignalEvent connection flag) n = signals_asked connection n flag
+    named (CreatePort partition port peer port_kind sint vp base count) n = part_alike (resolved_id caller peer) n.1
+    named (ConnectPort partition connection port_partition port port_kind) n =
+        let key : ℕ × ℕ = (resolved_id caller port_partition, port) in
+        let same = port_alike key n.2 in
+        record {
+          part = part_alike (resolved_id caller port_partition) n.1;
+          port = there_alike unborn unborn (get f.port key) (get g.port key) same;
+          peer = on_port_alike key same (λ row. row.peer == resolved_id caller partition) (λ row. refl);
+          kind = on_port_alike key same (λ row. is_kind row.kind port_kind) (λ row. refl);
+        }
+    named call n = tt
+
     -- P11 to P24 of a member's call about a member
-    module _ (target : ℕ) (own : members target ≡ true) (states : States) (charge : ℕ) where
-      state_alike : is_in f target states ≡ is_in g target states
-      state_alike = ap (test_row (λ row. is_among row.life states)) (a target own).part
-
-      childless_alike : is_childless f target ≡ is_childless g target
-      childless_alike = λ i. test_row (λ row. children_alike members f g a closed closed_too target own i == 0) ((a target own).part i)
-
-      pages_alike : has_available f target charge ≡ has_available g target charge
-      pages_alike = ap (nat_le charge) (available_alike members f g a closed closed_too target own)
-
-      there : (vp : ℕ) → contains_key f.vp (target, vp) ≡ contains_key g.vp (target, vp)
-      there vp = ap is_some ((a target own).vps vp)
-
-      aimed : (aim : Aim) → has_target f target aim ≡ has_target g target aim
-      aimed (One vp) = there vp
-      aimed Any = refl
-
-      free : (vp : ℕ) → is_vp_free f target vp ≡ is_vp_free g target vp
-      free vp = ap (λ row. nat_lt vp MAX_VPS && not (is_some row)) ((a target own).vps vp)
-
-      connected : (connection : ℕ) → contains_key f.conn (target, connection) ≡ contains_key g.conn (target, connection)
-      connected connection = there_alike (marked_conn members f) (marked_conn members g) (get f.conn (target, connection)) (get g.conn (target, connection)) ((a target own).conns connection)
-
-      port_there : (port : ℕ) → contains_key f.port (target, port) ≡ contains_key g.port (target, port)
-      port_there port = there_alike unborn unborn (get f.port (target, port)) (get g.port (target, port)) ((a target own).ports port)
-
-      pub call_alike : (call : Call) → target ≡ target_of call caller → LooksAlike members call caller f g → first_unmet (call_asks f caller target states charge call) ≡ first_unmet
-          (call_asks g caller target states charge call)
-      call_alike (CreatePartition flags) is n = λ i. first_unmet ((Depth, n.1 i) ∷ (Pages, pages_alike i) ∷ [])
-      call_alike (InitializePartition partition) is n = λ i. first_unmet ((TargetState, state_alike i) ∷ [])
-      call_alike (FinalizePartition partition) is n = λ i. first_unmet ((TargetState, state_alike i) ∷ (NoChildren, childless_alike i) ∷ [])
-      call_alike (DeletePartition partition) is n = λ i. first_unmet ((TargetState, state_alike i) ∷ [])
-      call_alike (GetPartitionProperty partition code) is n = refl
-      call_alike (SetPartitionProperty partition code value) is n = λ i.
-          first_unmet ((PropertyKnown, is_some (property_of code)) ∷ (TargetState, state_alike i) ∷
-          (Entitlement, give_alike members f g a closed closed_too caller own_caller (property_of code) value i)
-          ∷ (PropertyRange, is_in_range (property_of code) value) ∷ [])
-      call_alike GetPartitionId is n = refl
-      call_alike (GetNextChildPartition partition previous) is n = λ i. first_unmet ((PeerExists, (previous == 0) || child_alike members f g a closed closed_too target previous own i) ∷ [])
-      call_alike (DepositMemory partition page) is n = λ i. first_unmet ((TargetState, state_alike i) ∷ (Operand, loose_alike members f g a closed closed_too caller own_caller page i) ∷ [])
-      call_alike (WithdrawMemory partition) is n = λ i. first_unmet ((Pages, pages_alike i) ∷ [])
-      call_alike (GetMemoryBalance partition) is n = refl
-      call_alike (CreateVp partition vp) is n = λ i. first_unmet ((TargetState, state_alike i) ∷ (VpExists, free vp i) ∷ (Pages, pages_alike i) ∷ [])
-      call_alike (DeleteVp partition vp) is n = λ i. first_unmet ((TargetState, state_alike i) ∷ (VpExists, there vp i) ∷ [])
-      call_alike (GetVpRegisters partition vp name) is n = λ i.
-          first_unmet ((TargetState, state_alike i) ∷ (Entitlement, access_alike members f g a closed closed_too caller own_caller (register.row_of name) i) ∷ (VpExists, there vp i)
-          ∷ (Operand, is_some (register.row_of name)) ∷ [])
-      call_alike (SetVpRegisters partition vp name value) is n = λ i.
-          first_unmet ((TargetState, state_alike i) ∷ (Entitlement, access_alike members f g a closed closed_too caller own_caller (register.row_of name) i) ∷ (VpExists, there vp i)
-          ∷ (Operand, is_ok (register.kept (register.row_of name) value)) ∷ [])
-      call_alike (DeletePort partition port) is n = λ i. first_unmet ((TargetState, state_alike i) ∷ (Port, port_there port i) ∷ [])
-      call_alike (DisconnectPort partition connection) is n = λ i. first_unmet ((TargetState, state_alike i) ∷ (Connection, connected connection i) ∷ [])
-      call_alike (PostMessage connection message_type payload) is n = rw is (posts_asked connection n)
-      call_alike (SignalEvent connection flag) is n = rw is (signals_asked connection n flag)
-      call_alike (CreatePort partition port peer port_kind sint vp base count) is n = λ i.
-          first_unmet ((TargetState, state_alike i) ∷ (PeerExists, part_alike (resolved_id caller peer) n.1 i) ∷ (Port, not (port_there port i))
-          ∷ (VpExists, aimed vp i) ∷ (Pages, pages_alike i) ∷ [])
-      call_alike (ConnectPort partition connection port_partition port port_kind) is n =
-          let key : ℕ × ℕ = (resolved_id caller port_partition, port) in
-          let same = port_alike key n.2 in
-          λ i. first_unmet ((TargetState, state_alike i) ∷ (PeerExists, part_alike (resolved_id caller port_partition) n.1 i)
-          ∷ (Connection, not (connected connection i)) ∷ (Port, there_alike unborn unborn (get f.port key) (get g.port key) same i)
-          ∷ (Entitlement, on_port_alike key same (λ row. row.peer == target) (λ row. refl) i)
-          ∷ (Operand, on_port_alike key same (λ row. is_kind row.kind port_kind) (λ row. refl) i) ∷ (Pages, pages_alike i) ∷ [])
-
     pub further_alike : (call : Call) → members (target_of call caller) ≡ true → LooksAlike members call caller f g → first_unmet (further_asks f caller call) ≡ first_unmet
         (further_asks g caller call)
-    further_alike call own n = call_alike (target_of call caller) own (needs_of call).states (charge_of call) call refl n
+    further_alike call own n =
+        asked_alike caller (target_of call caller) f g (reads (target_of call caller) own) (needs_of call).states (charge_of call) call (named call n)

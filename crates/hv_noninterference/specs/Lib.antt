@@ -1,6 +1,5 @@
 pub mod Alike
 pub mod Looks
-pub mod Misses
 pub mod Tenant
 pub mod Turns
 pub mod Within

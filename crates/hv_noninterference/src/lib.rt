@@ -19,7 +19,7 @@ ghost use Rattle.hv_privs.specs.Privileges.{IsSubset};
 ghost use Rattle.hv_privs.specs.declared.TheConstants.Privileges as privilege;
 ghost use Rattle.hv_noninterference.specs.Alike.{AreLowEquivalent};
 ghost use Rattle.hv_noninterference.specs.Looks.{CallLooksAlike, LooksUpNothing};
-ghost use Rattle.hv_noninterference.specs.Misses.{LeavesOthers};
+ghost use Rattle.hv_integrity.specs.Misses.{LeavesOthers};
 ghost use Rattle.hv_noninterference.specs.Tenant.{AreTenantTurns, IsTenant, SeesAlike, only};
 ghost use Rattle.hv_noninterference.specs.Turns.{AreAnsweredAlike, AreMatched, IsReached, Turn, own_events};
 ghost use Rattle.hv_noninterference.specs.Turns.{own_replies, turns_of};

@@ -8,7 +8,6 @@ ghost use Rattle.hv_refine.specs.Tie.{Refines};
 use crate::rows::{create, delete, finalize, initialize};
 use crate::rules::{is_childless, is_depth_left, is_previous_there, next_child};
 use hv_calls::Call;
-use hv_defs::PARTITION_CHARGE;
 use hv_policy::{CallOutput, Rule, needs};
 use hv_refine::{
     CallError, Partitions, has_available, is_state_allowed, number_output, resolve_partition_id,
@@ -42,11 +41,11 @@ fn unmet_create<A: Allocator>(tree: &Partitions<A>, caller: u64, flags: u64) -> 
     requires { TreeInvariant tree.now }
     ensures { (f : Flat) → Refines tree.now f → result ≡ unmet_further f caller (call.CreatePartition flags) }
 {
-    let _ = flags;
     if !is_depth_left(tree, caller) {
         return Some(Rule::Depth);
     }
-    if !has_available(tree, caller, PARTITION_CHARGE) {
+    let charge = needs(&Call::CreatePartition { flags }).charge;
+    if !has_available(tree, caller, charge) {
         return Some(Rule::Pages);
     }
     None

@@ -1,8 +1,10 @@
 pub mod Aim
 pub mod Answer
+pub mod Ask
 pub mod Boot
 pub mod BootFault
 pub mod Call
+pub mod Change
 pub mod Count
 pub mod Effect
 pub mod Flat
@@ -11,10 +13,14 @@ pub mod Met
 pub mod Needs
 pub mod Next
 pub mod Parts
+pub mod Policy
 pub mod Property
+pub mod Reading
 pub mod Result
 pub mod Rule
 pub mod Rules
 pub mod Same
 pub mod Step
 pub mod Subtree
+pub mod Target
+pub mod calls

@@ -16,7 +16,7 @@ use Rattle.hv_policy.specs.Aim.{ResolvedPort, flag_taker, has_target, message_ta
 use Rattle.hv_policy.specs.Count.{available, child_count, depth, is_parent}
 use Rattle.hv_policy.specs.Flat.{Flat, PartRow, PageRow, PortRow}
 use Rattle.hv_policy.specs.Mail.{kept_of}
-use Rattle.hv_policy.specs.Needs.{is_among}
+use Rattle.hv_policy.specs.Target.{is_among}
 use Rattle.hv_policy.specs.Property.{takes_value}
 use Rattle.hv_policy.specs.declared.need.Kin.{Kin}
 use Rattle.hv_policy.specs.declared.need.Kin.TheVariants as kin

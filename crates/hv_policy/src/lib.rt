@@ -1,11 +1,13 @@
 //! The flat policy: what an event is, the rules P1 to P27, and the model of the whole partition manager.
 //!
 //! The model stands in `specs/`. It sees the state as flat maps of rows, without trees, queues or sizes
-//! kept: `Flat` is that state, `asks` lists the rules that are asked of an event, call by call and each
-//! beside whether it is met, `unmet` is the first that isn't, `effect` and `answer` say what a served
-//! event changes and answers, and `step` puts them together. Call groups of the TLFS 4.0: "Partition
-//! Management", "Virtual Processor Management", "Inter-Partition Communication". The order of the rules,
-//! the privilege that each call needs and the charges are this project's own.
+//! kept, and `Flat` is that state. `specs/calls` has the policy of each call and of each access, one
+//! record with what it needs, the rules that it is asked, its output and what it changes. `asks` lists
+//! all rules that an event is asked, each beside whether it is met, `unmet` is the first that isn't,
+//! `effect` and `answer` say what a served event changes and answers, and `step` puts them together.
+//! Call groups of the TLFS 4.0: "Partition Management", "Virtual Processor Management", "Inter-Partition
+//! Communication". The order of the rules, the privilege that each call needs and the charges are this
+//! project's own.
 //!
 //! The code of this crate is the vocabulary that the model speaks of, the tables' look-ups, the rules
 //! that look at a frame alone, and the replies and result values.

@@ -1,10 +1,14 @@
-// What each call needs of its caller and its target.
-ghost use Rattle.std.specs.Prelude.{◌≡◌};
+// What each call needs of its caller and its target, and what it costs.
+ghost use Rattle.std.specs.Prelude.{◌≡◌, None, Some};
 ghost use Rattle.hv_policy.specs.Needs.{needs_of, is_among, states_to_set as states_to_set_of};
+ghost use Rattle.hv_policy.specs.Policy.{needs as needs_with};
+ghost use Rattle.hv_policy.specs.declared.need.Kin.TheVariants as kin;
+ghost use Rattle.hv_policy.specs.declared.need.States.TheVariants as states;
+ghost use Rattle.hv_privs.specs.declared.TheConstants.Privileges as privilege;
 
 use crate::property::Property;
 use hv_calls::Call;
-use hv_defs::Life;
+use hv_defs::{CONNECTION_CHARGE, Life, PARTITION_CHARGE, PORT_CHARGE, VP_CHARGE};
 use hv_privs::Privileges;
 
 /// Which partitions a call may name as its target.
@@ -44,12 +48,20 @@ impl States {
     }
 }
 
-/// What a call needs of its caller and its target. This is this project's own.
+/// What a call needs of its caller and its target, and what it costs. This is this project's own.
 #[derive(Clone, Copy, PartialEq, Eq, Debug)]
 pub struct Need {
+    /// The privilege that the caller's mask needs.
     pub privilege: Privileges,
+    /// Which partitions may be the target.
     pub kin: Kin,
+    /// The id that the call's input names first, or `None` where the target is the caller. `SELF_ID` means
+    /// the caller.
+    pub named: Option<u64>,
+    /// The life states in which the target may be.
     pub states: States,
+    /// The pages of the target's pool that serving the call uses.
+    pub charge: u64,
 }
 
 /// The row of a call in the table of needs. One cell looks at the call's parameters: the life states in
@@ -60,90 +72,55 @@ pub fn needs(call: &Call) -> Need
     ensures { result ≡ needs_of call.now }
 {
     match call {
-        Call::CreatePartition { .. } => row(
+        Call::CreatePartition { .. } => of_caller(Privileges::CREATE_PARTITIONS, PARTITION_CHARGE),
+        Call::InitializePartition { partition } => of_child(*partition, States::Created),
+        Call::FinalizePartition { partition } => of_child(*partition, States::CreatedOrActive),
+        Call::DeletePartition { partition } => of_child(*partition, States::CreatedOrFinalized),
+        Call::SetPartitionProperty {
+            partition,
+            code,
+            ..
+        } => of_child(*partition, states_to_set(Property::of(*code))),
+        Call::GetPartitionProperty { partition, .. }
+        | Call::GetNextChildPartition { partition, .. } => of_either(
+            *partition,
             Privileges::CREATE_PARTITIONS,
-            Kin::Caller,
             States::Any,
+            0,
         ),
-        Call::InitializePartition { .. } => row(
+        Call::GetPartitionId => of_caller(Privileges::ACCESS_PARTITION_ID, 0),
+        Call::DepositMemory { partition, .. } => of_pool(*partition, States::CreatedOrActive, 0),
+        Call::WithdrawMemory { partition } => of_pool(*partition, States::Any, 1),
+        Call::GetMemoryBalance { partition } => of_pool(*partition, States::Any, 0),
+        Call::CreateVp { partition, .. } => of_running(
+            *partition,
             Privileges::CREATE_PARTITIONS,
-            Kin::Child,
-            States::Created,
+            VP_CHARGE,
         ),
-        Call::FinalizePartition { .. } => row(
+        Call::DeleteVp { partition, .. }
+        | Call::GetVpRegisters { partition, .. }
+        | Call::SetVpRegisters { partition, .. } => of_running(
+            *partition,
             Privileges::CREATE_PARTITIONS,
-            Kin::Child,
-            States::CreatedOrActive,
+            0,
         ),
-        Call::DeletePartition { .. } => row(
-            Privileges::CREATE_PARTITIONS,
-            Kin::Child,
-            States::CreatedOrFinalized,
-        ),
-        Call::GetPartitionProperty { .. } => row(
-            Privileges::CREATE_PARTITIONS,
-            Kin::CallerOrChild,
-            States::Any,
-        ),
-        Call::SetPartitionProperty { code, .. } => row(
-            Privileges::CREATE_PARTITIONS,
-            Kin::Child,
-            states_to_set(Property::of(*code)),
-        ),
-        Call::GetPartitionId => row(Privileges::ACCESS_PARTITION_ID, Kin::Caller, States::Any),
-        Call::GetNextChildPartition { .. } => row(
-            Privileges::CREATE_PARTITIONS,
-            Kin::CallerOrChild,
-            States::Any,
-        ),
-        Call::DepositMemory { .. } => row(
-            Privileges::ACCESS_MEMORY_POOL,
-            Kin::CallerOrChild,
-            States::CreatedOrActive,
-        ),
-        Call::WithdrawMemory { .. } => row(
-            Privileges::ACCESS_MEMORY_POOL,
-            Kin::CallerOrChild,
-            States::Any,
-        ),
-        Call::GetMemoryBalance { .. } => row(
-            Privileges::ACCESS_MEMORY_POOL,
-            Kin::CallerOrChild,
-            States::Any,
-        ),
-        Call::CreateVp { .. } => row(
-            Privileges::CREATE_PARTITIONS,
-            Kin::CallerOrChild,
-            States::Active,
-        ),
-        Call::DeleteVp { .. } => row(
-            Privileges::CREATE_PARTITIONS,
-            Kin::CallerOrChild,
-            States::Active,
-        ),
-        Call::GetVpRegisters { .. } => row(
-            Privileges::CREATE_PARTITIONS,
-            Kin::CallerOrChild,
-            States::Active,
-        ),
-        Call::SetVpRegisters { .. } => row(
-            Privileges::CREATE_PARTITIONS,
-            Kin::CallerOrChild,
-            States::Active,
-        ),
-        Call::DeletePort { .. } => row(Privileges::CREATE_PORT, Kin::CallerOrChild, States::Active),
-        Call::DisconnectPort { .. } => row(
+        Call::DeletePort { partition, .. } => of_running(*partition, Privileges::CREATE_PORT, 0),
+        Call::DisconnectPort { partition, .. } => of_running(
+            *partition,
             Privileges::CONNECT_PORT,
-            Kin::CallerOrChild,
-            States::Active,
+            0,
         ),
-        Call::PostMessage { .. } => row(Privileges::POST_MESSAGES, Kin::Caller, States::Any),
-        Call::SignalEvent { .. } => row(Privileges::SIGNAL_EVENTS, Kin::Caller, States::Any),
-        Call::CreatePort { .. } => row(Privileges::CREATE_PORT, Kin::CallerOrChild, States::Active),
-        Call::ConnectPort { .. } => row(
+        Call::PostMessage { .. } => of_caller(Privileges::POST_MESSAGES, 0),
+        Call::SignalEvent { .. } => of_caller(Privileges::SIGNAL_EVENTS, 0),
+        Call::CreatePort { partition, .. } => of_running(
+            *partition,
+            Privileges::CREATE_PORT,
+            PORT_CHARGE,
+        ),
+        Call::ConnectPort { partition, .. } => of_running(
+            *partition,
             Privileges::CONNECT_PORT,
-            Kin::CallerOrChild,
-            States::Active,
+            CONNECTION_CHARGE,
         ),
     }
 }
@@ -162,12 +139,56 @@ fn states_to_set(property: Option<Property>) -> States
     }
 }
 
-fn row(privilege: Privileges, kin: Kin, states: States) -> Need
-    ensures { result ≡ record { privilege = privilege; kin = kin; states = states } }
+// A call about its caller, in whatever life state.
+fn of_caller(privilege: Privileges, charge: u64) -> Need
+    ensures { result ≡ needs_with privilege kin.Caller None states.Any charge }
 {
     Need {
         privilege,
-        kin,
-        states,
+        kin: Kin::Caller,
+        named: None,
+        states: States::Any,
+        charge,
     }
+}
+
+// A call about a child of its caller. Each of them needs CREATE_PARTITIONS, and none uses pages.
+fn of_child(partition: u64, states: States) -> Need
+    ensures { result ≡ needs_with privilege.CREATE_PARTITIONS kin.Child (Some partition) states 0 }
+{
+    Need {
+        privilege: Privileges::CREATE_PARTITIONS,
+        kin: Kin::Child,
+        named: Some(partition),
+        states,
+        charge: 0,
+    }
+}
+
+// A call about its caller or a child of it.
+fn of_either(partition: u64, privilege: Privileges, states: States, charge: u64) -> Need
+    ensures { result ≡ needs_with privilege kin.CallerOrChild (Some partition) states charge }
+{
+    Need {
+        privilege,
+        kin: Kin::CallerOrChild,
+        named: Some(partition),
+        states,
+        charge,
+    }
+}
+
+// One about the pool of pages of such a target.
+fn of_pool(partition: u64, states: States, charge: u64) -> Need
+    ensures { result ≡ needs_with privilege.ACCESS_MEMORY_POOL kin.CallerOrChild (Some partition) states
+        charge }
+{
+    of_either(partition, Privileges::ACCESS_MEMORY_POOL, states, charge)
+}
+
+// One about such a target that is Active.
+fn of_running(partition: u64, privilege: Privileges, charge: u64) -> Need
+    ensures { result ≡ needs_with privilege kin.CallerOrChild (Some partition) states.Active charge }
+{
+    of_either(partition, privilege, States::Active, charge)
 }

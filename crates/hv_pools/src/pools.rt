@@ -86,7 +86,8 @@ fn unmet_withdraw<A: Allocator>(tree: &Partitions<A>, caller: u64, partition: u6
     ensures { (f : Flat) → Refines tree.now f → result
         ≡ unmet_further f caller (call.WithdrawMemory partition) }
 {
-    if !has_available(tree, resolve_partition_id(caller, partition), 1) {
+    let charge = needs(&Call::WithdrawMemory { partition }).charge;
+    if !has_available(tree, resolve_partition_id(caller, partition), charge) {
         return Some(Rule::Pages);
     }
     None

@@ -10,7 +10,7 @@ ghost use Rattle.hv_refine.specs.Tie.{Refines};
 use crate::rows::{add_conn, add_port, remove_conn, remove_port};
 use crate::rules::{born_of, has_conn, has_port, is_kind, is_peer, is_there};
 use hv_calls::Call;
-use hv_defs::{Aim, CONNECTION_CHARGE, PORT_CHARGE, PortKind};
+use hv_defs::{Aim, PortKind};
 use hv_policy::{CallOutput, Rule, needs};
 use hv_ports::{Conn, Port};
 use hv_refine::{
@@ -91,7 +91,7 @@ fn unmet_create<A: Allocator>(
         base,
         count,
     } = new;
-    let states = needs(&Call::CreatePort {
+    let need = needs(&Call::CreatePort {
         partition,
         port,
         peer,
@@ -100,9 +100,8 @@ fn unmet_create<A: Allocator>(
         vp,
         base,
         count,
-    })
-    .states;
-    if !is_state_allowed(tree, target, states) {
+    });
+    if !is_state_allowed(tree, target, need.states) {
         return Some(Rule::TargetState);
     }
     if !is_there(tree, resolve_partition_id(caller, peer)) {
@@ -114,7 +113,7 @@ fn unmet_create<A: Allocator>(
     if !has_target(tree, target, vp) {
         return Some(Rule::VpExists);
     }
-    if !has_available(tree, target, PORT_CHARGE) {
+    if !has_available(tree, target, need.charge) {
         return Some(Rule::Pages);
     }
     None
@@ -218,15 +217,14 @@ fn unmet_connect<A: Allocator>(
 {
     let target = resolve_partition_id(caller, partition);
     let part = resolve_partition_id(caller, port_partition);
-    let states = needs(&Call::ConnectPort {
+    let need = needs(&Call::ConnectPort {
         partition,
         connection,
         port_partition,
         port,
         kind,
-    })
-    .states;
-    if !is_state_allowed(tree, target, states) {
+    });
+    if !is_state_allowed(tree, target, need.states) {
         return Some(Rule::TargetState);
     }
     if !is_there(tree, part) {
@@ -244,7 +242,7 @@ fn unmet_connect<A: Allocator>(
     if !is_kind(tree, part, port, kind) {
         return Some(Rule::Operand);
     }
-    if !has_available(tree, target, CONNECTION_CHARGE) {
+    if !has_available(tree, target, need.charge) {
         return Some(Rule::Pages);
     }
     None

@@ -11,7 +11,6 @@ ghost use Rattle.hv_refine.specs.Tie.{Refines};
 use crate::rows::{add, remove, write};
 use crate::rules::{is_known, is_vp_free, may_access, register, takes};
 use hv_calls::Call;
-use hv_defs::VP_CHARGE;
 use hv_policy::{CallOutput, Rule, needs};
 use hv_refine::{
     CallError, Partitions, has_available, has_vp, is_state_allowed, resolve_partition_id,
@@ -51,17 +50,14 @@ fn unmet_create<A: Allocator>(
     ensures { (f : Flat) → Refines tree.now f → result ≡ unmet_further f caller (call.CreateVp partition vp) }
 {
     let target = resolve_partition_id(caller, partition);
-    if !is_state_allowed(
-        tree,
-        target,
-        needs(&Call::CreateVp { partition, vp }).states,
-    ) {
+    let need = needs(&Call::CreateVp { partition, vp });
+    if !is_state_allowed(tree, target, need.states) {
         return Some(Rule::TargetState);
     }
     if !is_vp_free(tree, target, vp) {
         return Some(Rule::VpExists);
     }
-    if !has_available(tree, target, VP_CHARGE) {
+    if !has_available(tree, target, need.charge) {
         return Some(Rule::Pages);
     }
     None

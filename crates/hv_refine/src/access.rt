@@ -9,7 +9,7 @@ ghost use Rattle.hv_tree.specs.Rows.{change};
 ghost use Rattle.hv_tree.specs.contracts.tree.IdTree.{the_row as tree_row};
 ghost use Rattle.hv_vp.specs.contracts.vp.Vp.{the_row as vp_row};
 ghost use Rattle.hv_policy.specs.Met.{is_kin as is_kin_of};
-ghost use Rattle.hv_policy.specs.Needs.{target_of};
+ghost use Rattle.hv_policy.specs.Needs.{target_at};
 ghost use Rattle.hv_policy.specs.Rules.{caller_asks, first_unmet, target_asks};
 ghost use Rattle.hv_tree.specs.Rows.{content};
 ghost use Rattle.hv_refine.specs.Tie.{Refines};
@@ -84,7 +84,7 @@ pub fn unmet_by_target<A: Allocator>(
         return Some(Rule::Privilege);
     }
     // One look tells of a child that it is there and whose it is.
-    let target = target(by.part, call);
+    let target = target(by.part, need.named);
     if is_kin(tree, need.kin, by.part, target) {
         return None;
     }
@@ -107,31 +107,12 @@ fn is_kin<A: Allocator>(tree: &Partitions<A>, kin: Kin, caller: u64, id: u64) ->
     }
 }
 
-// The partition that a call of this caller is about.
-fn target(caller: u64, call: &Call<'_>) -> u64
-    ensures { result ≡ target_of call.now caller }
+// The partition that a call of this caller is about, where its input names this one first.
+fn target(caller: u64, named: Option<u64>) -> u64
+    ensures { result ≡ target_at named caller }
 {
-    match call {
-        Call::CreatePartition { .. }
-        | Call::GetPartitionId
-        | Call::PostMessage { .. }
-        | Call::SignalEvent { .. } => caller,
-        Call::InitializePartition { partition }
-        | Call::FinalizePartition { partition }
-        | Call::DeletePartition { partition }
-        | Call::GetPartitionProperty { partition, .. }
-        | Call::SetPartitionProperty { partition, .. }
-        | Call::GetNextChildPartition { partition, .. }
-        | Call::DepositMemory { partition, .. }
-        | Call::WithdrawMemory { partition }
-        | Call::GetMemoryBalance { partition }
-        | Call::CreateVp { partition, .. }
-        | Call::DeleteVp { partition, .. }
-        | Call::GetVpRegisters { partition, .. }
-        | Call::SetVpRegisters { partition, .. }
-        | Call::DeletePort { partition, .. }
-        | Call::DisconnectPort { partition, .. }
-        | Call::CreatePort { partition, .. }
-        | Call::ConnectPort { partition, .. } => resolve_partition_id(caller, *partition),
+    match named {
+        None => caller,
+        Some(id) => resolve_partition_id(caller, id),
     }
 }

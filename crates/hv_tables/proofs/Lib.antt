@@ -1,4 +1,5 @@
 pub mod Families
 pub mod FlagLines
+pub mod Policies
 pub mod Starts
 pub mod Takers

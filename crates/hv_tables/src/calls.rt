@@ -1,9 +1,11 @@
 // The table of calls. A call's privilege is a power of 2, by its bit.
 ghost use Rattle.std.specs.Prelude.{◌≡◌, ℕ, ◌+◌, ◌*◌, ◌^◌, ◌==◌, ◌||◌, true, false, List, [], ◌∷◌, length};
 ghost use Rattle.std.specs.Prelude.{None};
-ghost use Rattle.hv_abi.specs.CallRow.{kind_of};
+ghost use Rattle.hv_abi.specs.CallRow.{kind_of, row_of};
 ghost use Rattle.hv_abi.specs.declared.call_kind.CallKind.TheVariants as kind;
 ghost use Rattle.hv_abi.specs.declared.call_kind.TheConstants.{ALL_CALLS};
+ghost use Rattle.hv_calls.specs.Call.{kind_of_call};
+ghost use Rattle.hv_calls.specs.declared.call.Call.{Call};
 ghost use Rattle.hv_calls.specs.declared.call.Call.TheVariants as call;
 ghost use Rattle.hv_defs.specs.declared.aim.Aim.{Aim};
 ghost use Rattle.hv_defs.specs.declared.life.Life.TheVariants.{Created, Active, Finalized};
@@ -12,6 +14,7 @@ ghost use Rattle.hv_policy.specs.Needs.{target_of, resolved_id};
 ghost use Rattle.hv_policy.specs.Flat.{Flat};
 ghost use Rattle.hv_policy.specs.Property.{property_of};
 ghost use Rattle.hv_policy.specs.Met.{is_kin, is_child};
+ghost use Rattle.hv_policy.specs.calls.{policy_of};
 ghost use Rattle.hv_policy.specs.declared.need.Kin.TheVariants as kin;
 ghost use Rattle.hv_tables.specs.Lines.{frame_line, list_line, need_line, rules_line};
 
@@ -48,6 +51,11 @@ pub fn each_call_has_its_frame()
     ensures signal_event { frame_line kind.SignalEvent ≡ (0x5D, false, true) }
     ensures create_port { frame_line kind.CreatePort ≡ (0x95, false, false) }
     ensures connect_port { frame_line kind.ConnectPort ≡ (0x96, false, false) }
+{}
+
+/// The policy of each call names the call's own row.
+pub fn each_policy_has_its_row()
+    ensures { (call : Call) → (policy_of call).row ≡ row_of (kind_of_call call) }
 {}
 
 /// The lengths of each call's input and output list in bytes, for n reps.

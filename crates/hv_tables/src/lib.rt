@@ -32,7 +32,7 @@ pub use blocks::{
 pub use calls::{
     each_call_has_its_frame, each_call_has_its_lists, each_call_has_its_needs,
     each_call_has_its_rules, each_call_has_its_target, each_kin_has_its_partitions,
-    the_profile_has_its_calls,
+    each_policy_has_its_row, the_profile_has_its_calls,
 };
 pub use frames::{
     each_frame_has_its_fault, each_input_value_has_its_parts, each_result_has_its_value,

@@ -1,0 +1,44 @@
+-- What is read in a flat state for the outputs of calls and accesses. What is missing reads as 0.
+use Rattle.std.specs.Prelude.{ℕ, ◌&&◌, nat_lt, List, find, Option, None, Some}
+use Rattle.std.specs.FinMap.{get, entries}
+use Rattle.std.specs.Option.{option_map_or}
+use Rattle.hv_defs.specs.Flags.{flag_bytes}
+use Rattle.hv_defs.specs.Slot.{zeros}
+use Rattle.hv_defs.specs.Vectors.{highest}
+use Rattle.hv_policy.specs.Count.{is_parent}
+use Rattle.hv_policy.specs.Flat.{Flat, PartRow, VpRow}
+use Rattle.hv_policy.specs.Property.{property_value}
+use Rattle.hv_policy.specs.declared.property.Property.{Property}
+
+abbrev pub first_id : Option (ℕ × PartRow) → ℕ
+first_id e = option_map_or (λ e. e.0) e 0
+
+-- the least id above `previous` among the children of `parent`, 0 if there is none: ids stand in rising order
+abbrev pub next_child : Flat → ℕ → ℕ → ℕ
+next_child f parent previous = first_id (find (λ e. is_parent parent e.1.parent && nat_lt previous e.0)
+    (entries f.part))
+
+abbrev pub page_or_0 : Option ℕ → ℕ
+page_or_0 page = option_map_or (λ page. page) page 0
+
+-- the value of a property in a partition's row, 0 where either is missing
+abbrev pub value_of : Option Property → Option PartRow → ℕ
+value_of None row = 0
+value_of (Some property) None = 0
+value_of (Some property) (Some row) = property_value property row
+
+-- the value of a register of the processor with this row, 0 where either is missing
+abbrev pub register_of : Option VpRow → ℕ → ℕ
+register_of row name = option_map_or (λ row. option_map_or (λ value. value) (get row.registers name) 0) row 0
+
+-- the same for a model-specific register, by the name that it has
+abbrev pub msr_of : Option VpRow → Option ℕ → ℕ
+msr_of row name = option_map_or (register_of row) name 0
+
+-- the bytes of the event flags of a SINT of the processor with this row, and zeros where it is missing
+abbrev pub flags_at : Option VpRow → ℕ → List ℕ
+flags_at row sint = option_map_or (λ row. flag_bytes row.flags sint) row (zeros 256)
+
+-- the highest vector that is pending, and 0 where none is
+abbrev pub vector_of : Option VpRow → ℕ
+vector_of row = option_map_or (λ row. option_map_or (λ vector. vector) (highest row.pending) 0) row 0
