@@ -1,4 +1,4 @@
--- What is known of a call for which P1 to P10 are met, and accesses as events.
+-- The facts about a call for which P1 to P10 hold, and accesses as events.
 use Rattle.std.specs.Prelude.{◌≡◌, ℕ, List, true}
 use Rattle.std.specs.declared.result.Result.{Result}
 use Rattle.std.specs.declared.result.Result.TheVariants.{Ok, Err}
@@ -14,7 +14,7 @@ use Rattle.hv_policy.specs.declared.reply.Reply.{Reply}
 use Rattle.hv_policy.specs.declared.reply.Reply.TheVariants.{Served, Fault}
 use Rattle.hv_policy.specs.declared.rule.Rule.{Rule}
 
--- the caller is Active, and P8 to P10 are met for its call
+-- precondition of serving a call: the caller is Active, and P8 to P10 hold for the call
 pub record HasAccess (f : Flat) (caller : ℕ) (call : Call) : Type 0 where
   pub active : is_running f caller ≡ true
   pub target : AreMet (target_asks f caller call)
@@ -23,7 +23,7 @@ pub record HasAccess (f : Flat) (caller : ℕ) (call : Call) : Type 0 where
 abbrev pub access_event : {A : Type 0} → Caller → Access → Event A
 access_event by access = record { by = by; what = action_of access }
 
--- the reply to an access, from what became of it and what it put out
+-- the reply to an access, from its result and its output
 abbrev pub access_reply : {U : Type 0} → Result U Rule → List ℕ → Reply
 access_reply (Ok _) output = Served output
 access_reply (Err rule) output = Fault rule

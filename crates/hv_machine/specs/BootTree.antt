@@ -1,4 +1,4 @@
--- What boot makes.
+-- The tree that boot makes.
 use Rattle.std.specs.Prelude.{◌≡◌, ℕ, ◌&&◌, cond, nat_le, nat_lt, None, Some}
 use Rattle.std.specs.FinMap as map
 use Rattle.std.specs.FinSet as set
@@ -9,7 +9,8 @@ use Rattle.hv_policy.specs.declared.config.Config.{Config}
 use Rattle.hv_tree.specs.Rows.{Rows}
 use Rattle.hv_vp.specs.Vp.{new_vp}
 
--- the root partition that boot makes: the first pages pooled, the others loose, and so many processors
+-- the root partition that boot makes: its first pages are pooled, the others are loose, and it has the
+-- configured number of processors
 pub record IsBootRoot (config : Config) (p : PartitionState) : Type 0 where
   pub start : p ≡ record (new_partition Active config.mask)
       { loose = p.loose; pooled = p.pooled; vps = p.vps }
@@ -20,7 +21,7 @@ pub record IsBootRoot (config : Config) (p : PartitionState) : Type 0 where
   pub vps : (index : ℕ) → map.get p.vps.vps index ≡ cond (nat_lt index config.vps) (Some (new_vp index)) None
   pub vp_count : map.len p.vps.vps ≡ config.vps
 
--- the root is the one partition
+-- the tree holds the root and no other partition
 pub record IsBootTree (config : Config) (rows : Rows PartitionState) : Type 0 where
   pub partition : PartitionState
   pub root : IsBootRoot config partition

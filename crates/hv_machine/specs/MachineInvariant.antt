@@ -1,4 +1,4 @@
--- What a machine keeps from one event to the next.
+-- The invariant of a machine.
 use Rattle.std.specs.Prelude.{◌≤◌}
 use Rattle.hv_defs.specs.declared.sizes.TheConstants.{MAX_PAGES}
 use Rattle.hv_invariants.specs.StateInvariant.{StateInvariant}
@@ -6,7 +6,8 @@ use Rattle.hv_policy.specs.Flat.{Flat}
 use Rattle.hv_machine.specs.IsFlat.{IsFlat}
 use Rattle.hv_machine.specs.State.{State}
 
--- the machine stands for a flat state, and that state is lawful
+-- invariant: the machine stands for a flat state for which `StateInvariant` holds, and has at most
+-- `MAX_PAGES` pages
 pub record MachineInvariant (m : State) : Type 0 where
   pub flat : Flat
   pub stands : IsFlat m flat

@@ -1,11 +1,11 @@
--- How far privileges reach.
+-- The bound on the privileges of a partition.
 use Rattle.std.specs.Prelude.{◌≡◌, ℕ, Some}
 use Rattle.std.specs.FinMap.{get}
 use Rattle.hv_partition.specs.Partition.{PartitionState}
 use Rattle.hv_privs.specs.Privileges.{IsSubset}
 use Rattle.hv_tree.specs.Rows.{Row, Rows}
 
--- no partition has a privilege that its parent lacks
+-- invariant: no partition has a privilege that its parent lacks
 abbrev pub AreMasksWithin : Rows PartitionState → Type 0
 AreMasksWithin rows =
     (id parent : ℕ) (child above : Row PartitionState) → get rows id ≡ Some child → child.0 ≡ Some parent

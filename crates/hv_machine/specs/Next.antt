@@ -1,4 +1,4 @@
--- The id that the next partition gets, after a call.
+-- The id that the next partition gets after a call.
 use Rattle.std.specs.Prelude.{ℕ, ◌+◌}
 use Rattle.hv_calls.specs.declared.call.Call.{Call}
 use Rattle.hv_calls.specs.declared.call.Call.TheVariants.{CreatePartition}

@@ -1,4 +1,4 @@
--- What became of a call in the machine.
+-- The outcomes of a call in the machine.
 use Rattle.std.specs.Prelude.{◌≡◌, ℕ, true, List, None, Some}
 use Rattle.std.specs.declared.result.Result.{Result}
 use Rattle.std.specs.declared.result.Result.TheVariants.{Ok, Err}
@@ -14,13 +14,14 @@ use Rattle.hv_refine.specs.declared.refused.CallError.TheVariants.{Unmet, Memory
 use Rattle.hv_machine.specs.IsFlat.{IsFlat}
 use Rattle.hv_machine.specs.State.{State}
 
--- it was served: its output and the new state are the policy's
+-- the call was served: its own rules hold, and its output and the new state are the policy's
 pub record IsDone (f : Flat) (caller : ℕ) (call : Call) (bytes : List ℕ) (new : State) : Type 0 where
   pub met : unmet_further f caller call ≡ None
   pub output : bytes ≡ output call f caller (target_of call caller)
   pub flat : IsFlat new (counted (call_effect call f caller (target_of call caller)))
 
--- it was served, or refused by its first unmet rule or for lack of memory, and then nothing changed
+-- the outcome of a call: it was served, or it failed with the first rule that does not hold, or the host was
+-- out of memory. If it was not served, nothing changed
 abbrev pub IsResult : Flat → ℕ → Call → State → Result (List ℕ) CallError → State → Type 0
 IsResult f caller call old (Ok bytes) new = IsDone f caller call bytes new
 IsResult f caller call old (Err (Unmet rule)) new = (unmet_further f caller call ≡ Some rule) × (new ≡ old)

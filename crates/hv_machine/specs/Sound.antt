@@ -1,5 +1,5 @@
--- What holds of every machine: each page has one owner, use is within the pool, masks are within the
--- parent's.
+-- Invariants of every machine: each page has one owner, the pages in use are within the pool, and each mask
+-- is within the parent's.
 use Rattle.std.specs.Prelude.{◌≡◌, ℕ, ◌≤◌, ◌<◌, Bool, true, false, length, Some}
 use Rattle.std.specs.FinMap.{get}
 use Rattle.std.specs.FinSet as set
@@ -9,15 +9,15 @@ use Rattle.hv_refine.specs.Tie.{holds}
 use Rattle.hv_machine.specs.Masks.{AreMasksWithin}
 use Rattle.hv_machine.specs.State.{State}
 
--- the page stands in one page set of one partition, and in no other
+-- the page is in one page set of one partition, and in no other
 pub record IsHeldOnce (m : State) (page : ℕ) : Type 0 where
   pub owner : ℕ
   pub pooled : Bool
   pub held : holds pooled page (get m.rows owner) ≡ true
   pub alone : (id : ℕ) (kind : Bool) → holds kind page (get m.rows id) ≡ true → (id ≡ owner) × (kind ≡ pooled)
 
--- each boot page stands in exactly one page set, and no other page in any; what a partition uses is at most
--- what its pool has; and it has no privilege that its parent lacks
+-- invariant: each boot page is in exactly one page set, and no other page is in any; a partition uses at most
+-- the pages of its pool; and it has no privilege that its parent lacks
 pub record IsSound (m : State) : Type 0 where
   pub once : (page : ℕ) → page < m.pages → IsHeldOnce m page
   pub others : (page id : ℕ) (kind : Bool) → m.pages ≤ page → holds kind page (get m.rows id) ≡ false

@@ -1,12 +1,12 @@
--- What the machine is seen as.
+-- The state of a machine, as contracts see it.
 use Rattle.std.specs.Prelude.{ℕ, refl}
 use Rattle.std.specs.Coded.{Coded, code_by, coded×, coded_ℕ, coded_option}
 use Rattle.std.specs.FinMap as map
 use Rattle.hv_partition.specs.Partition.{PartitionState, partition_code}
 use Rattle.hv_tree.specs.Rows.{Rows}
 
--- the partitions by id, each with its parent and without the room of its page sets, processors and
--- tables; how many pages boot gave, the id that the next partition gets, and how many events were served
+-- the partitions by id, each with its parent and without the room of its page sets, processors and tables;
+-- the number of pages at boot, the id that the next partition gets, and the number of served events
 pub record State : Type 0 where
   pub rows : Rows PartitionState
   pub pages : ℕ

@@ -1,4 +1,4 @@
--- What an event makes of a machine.
+-- The effect of one event on a machine.
 use Rattle.std.specs.Prelude.{◌≡◌, None, IsTrue, IfOk, OnOk, OnErr}
 use Rattle.std.specs.declared.result.Result.{Result}
 use Rattle.hv_abi.specs.declared.frame.Frame.{Frame}
@@ -18,8 +18,8 @@ use Rattle.hv_machine.specs.Sound.{IsSound}
 use Rattle.hv_machine.specs.State.{State}
 use Rattle.hv_machine.specs.declared.machine.HostRefused.{HostRefused}
 
--- The machine took the event, or the host refused it: what `Machine::step` promises, clause by clause, of an
--- event, the machine's state before, what became of it, and the state after.
+-- The machine took the event, or the host refused it: the promises of `Machine::step`, clause by clause, as a
+-- relation on the event, the state before it, its result, and the state after it.
 pub record IsStep {A : Type 0} (event : Event A) (old : State) (became : Result Reply HostRefused)
     (new : State) : Type 0 where
   pub reply : (f : Flat) → IsFlat old f → IfOk became (λ r. r ≡ (step f event).1)

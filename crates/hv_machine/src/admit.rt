@@ -1,4 +1,4 @@
-// The rules up to P10, asked in the policy's order.
+// Checks of the rules up to P10, in the policy's order.
 ghost use Rattle.std.specs.Prelude.{◌≡◌, Some, IfOk, IfErr};
 ghost use Rattle.hv_abi.specs.Check.{IsShape, call_of};
 ghost use Rattle.hv_invariants.specs.Bounded.{IsBounded};
@@ -17,8 +17,9 @@ use hv_refine::{caller_in, unmet_by_target};
 use std::alloc::Allocator;
 
 impl<A: Allocator> Machine<A> {
-    // The call that a frame holds where P1 to P10 are met, and what its input value says; else the first
-    // of them that isn't met. The call that the frame names, if it names one, is known.
+    // Checks P1 to P10 and returns the call in a frame, together with the shape that its input value gives.
+    // The error is the first of these rules that fails. `named` is the kind of call that the frame names, if
+    // it names one.
     // Inlined: calls for the own id in bench/embed.sh.
     #[inline(always)]
     pub fn admit<'f>(

@@ -1,4 +1,4 @@
-// The machine as it boots.
+// Booting the machine.
 ghost use Rattle.std.specs.Prelude.{◌≡◌, ◌+◌, ◌≤◌, ◌&&◌, ℕ, Some, None, cond, nat_le, nat_lt, IfOk, IfErr};
 ghost use Rattle.std.specs.Prelude.{OnOk};
 ghost use Rattle.std.specs.FinMap as map;
@@ -21,15 +21,15 @@ use hv_vp::Vp;
 use std::alloc::{AllocError, Allocator};
 
 impl<A: Allocator + Copy> Machine<A> {
-    /// Makes the root partition of the configuration, and nothing else.
+    /// Boots a machine with the root partition of the configuration, and nothing else.
     pub fn boot(alloc: A, config: Config) -> Result<Machine<A>, BootRefused>
         ensures refused { IfErr result (IsBootRefusal config) }
         ensures accepted { IfOk result (λ m. boot_fault config ≡ None) }
         ensures state { IfOk result (λ m. IsFlat m (booted config)) }
         ensures pages { IfOk result (λ m. m.pages ≡ config.pages) }
 
-        // The state is lawful, so that what is said of each flat state that the machine stands for is
-        // said of one.
+        // The machine stands for at least one flat state, and that state is lawful. The clauses on all
+        // flat states that it stands for are therefore not vacuous.
         ensures lasting { IfOk result MachineInvariant }
         ensures sound { IfOk result IsSound }
     {
@@ -47,7 +47,7 @@ impl<A: Allocator + Copy> Machine<A> {
     }
 }
 
-// Names the first fault of a configuration, if it has one.
+// Checks a configuration. The error is its first fault.
 fn check_config(config: Config) -> Result<(), BootRefused>
     ensures ok { IfOk result (λ u. boot_fault config ≡ None) }
     ensures fault { IfErr result (λ e. boot_fault config ≡ Some e) }
@@ -67,7 +67,7 @@ fn check_config(config: Config) -> Result<(), BootRefused>
     Ok(())
 }
 
-// The tree of the root alone.
+// Makes the tree that holds only the root.
 fn make_tree<A: Allocator + Copy>(
     alloc: &A,
     config: Config,
@@ -82,7 +82,7 @@ fn make_tree<A: Allocator + Copy>(
     }
 }
 
-// The root: the first pages pooled, the others loose, and its processors.
+// Makes the root partition: the first pages are pooled, the others are loose, and it has its processors.
 fn make_root<A: Allocator + Clone>(alloc: &A, config: Config) -> Result<Partition<A>, AllocError>
     requires { config.pool ≤ config.pages }
     ensures { IfOk result (IsBootRoot config) }
@@ -108,7 +108,7 @@ fn fill<A: Allocator + Clone>(
     Ok(())
 }
 
-// Gives the pages from one number up to another, as one run.
+// Adds the pages from `from` up to but not including `to`, as one run.
 fn give<A: Allocator>(
     root: &mut Partition<A>,
     kind: PageKind,
@@ -130,7 +130,7 @@ fn give<A: Allocator>(
     Ok(())
 }
 
-// Makes the processors with the indexes below a number.
+// Adds the processors with the indexes below `to`.
 fn give_vps<A: Allocator + Clone>(
     root: &mut Partition<A>,
     alloc: &A,

@@ -1,4 +1,4 @@
-// The calls and accesses, each to its call group.
+// Dispatches each call and each access to its call group.
 ghost use Rattle.std.specs.Prelude.{◌≡◌, ◌+◌, ◌-◌, ◌^◌, ◌<◌, []};
 ghost use Rattle.std.specs.Result.{result_map_both};
 ghost use Rattle.hv_defs.specs.declared.sizes.TheConstants.{MAX_SERVED};
@@ -27,8 +27,8 @@ use hv_properties::{get_partition_property, set_partition_property};
 use hv_refine::{CallError, Partitions};
 use std::alloc::Allocator;
 
-// Hands a call for which P1 to P10 are met to its call group. `next` is the id that the next partition gets,
-// and `served` how many events were served.
+// Dispatches a call for which P1 to P10 hold to its call group. `next` is the id that the next partition
+// gets, and `served` is the count of served events.
 // Inlined: calls for the own id in bench/embed.sh.
 #[inline(always)]
 pub fn dispatch<A: Allocator + Clone>(
@@ -128,8 +128,8 @@ pub fn dispatch<A: Allocator + Clone>(
     }
 }
 
-// Hands an access to its call group, which asks P1 to P3, too. What it puts out is added to an output that is
-// empty before.
+// Dispatches an access to its call group, which also checks P1 to P3. The access appends its result to
+// `output`, which must be empty.
 pub fn dispatch_access<A: Allocator>(
     tree: &mut Partitions<A>,
     by: Caller,

@@ -1,15 +1,16 @@
-//! The machine: one event on the partitions that are there is one step of the flat policy.
+//! The machine: it holds the partitions, and each event on it refines one step of the flat policy.
 //!
-//! The partitions are a tree, each with its pages, its processors with their registers, messages, event
-//! flags and pending vectors, its ports and its connections. [`Machine::boot`] makes the root partition,
-//! and [`Machine::step`] takes one event: a call is asked P1 to P10 and an access P1 to P3, and it goes
-//! to its call group, which asks the rules that are left and serves it exactly where all of them are met.
-//! `IsFlat` in `specs/` says which flat state of the policy a machine stands for, and the contract of
-//! `step` says that its reply and its new state are those of the flat step. Every machine stands for a
-//! lawful flat state (`MachineInvariant`), and so each boot page stands in exactly one page set, no partition
-//! uses more pages than it has pooled, and none has a privilege that its parent lacks.
+//! The partitions form a tree. Each has its pages, its ports, its connections, and its processors with
+//! their registers, messages, event flags and pending vectors. [`Machine::boot`] makes the root partition,
+//! and [`Machine::step`] takes one event. A call must meet P1 to P10 and an access P1 to P3; its call group
+//! checks the remaining rules, and serves it exactly when all of them hold.
 //!
-//! Call groups of the TLFS 4.0: "Hypercall Interface", "Partition Management", "Resource Management",
+//! `IsFlat` in `specs/` relates a machine to the flat states that it stands for. The contract of `step`
+//! ensures that its reply and its new state are those of the flat step. Every machine stands for a lawful
+//! flat state (`MachineInvariant`). Hence each boot page is in exactly one page set, no partition uses more
+//! pages than its pool has, and no partition has a privilege that its parent lacks.
+//!
+//! Chapters of the TLFS 4.0: "Hypercall Interface", "Partition Management", "Resource Management",
 //! "Virtual Processor Management", "Inter-Partition Communication", "Synthetic Interrupt Controller".
 #![tactic(auto)]
 

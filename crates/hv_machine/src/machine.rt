@@ -32,7 +32,7 @@ use hv_refine::{CallError, Partitions};
 use std::alloc::Allocator;
 use std::marker::Model;
 
-/// The partitions that are there, with all that they hold.
+/// All existing partitions, with everything that they hold.
 #[derive(Drop)]
 pub struct Machine<A: Allocator> {
     pub(crate) tree: Partitions<A>,
@@ -67,47 +67,49 @@ impl<A: Allocator> Model for Machine<A> {
     }) };
 }
 
-/// Why the host couldn't let an event happen. Nothing changed.
+/// The reason that the host could not let an event happen. Nothing changed.
 #[derive(Clone, Copy, PartialEq, Eq, Debug)]
 pub enum HostRefused {
-    /// The host has no memory for it.
+    /// The host is out of memory.
     Memory,
 }
 
 impl<A: Allocator + Clone> Machine<A> {
-    /// Takes one event: serves it exactly where every rule that is asked of it is met, and else answers the
-    /// first unmet one and changes nothing. The caller keeps the count of served events below 2^64 - 3.
+    /// Takes one event and serves it exactly when all rules that apply to it hold.
+    ///
+    /// Otherwise it replies with the first rule that fails and changes nothing. The caller keeps the count of
+    /// served events below 2^64 - 3.
     // Inlined: calls for the own id in bench/largest.sh.
     #[inline(always)]
     pub fn step(&mut self, event: &Event<A>) -> Result<Reply, HostRefused>
         requires { self.old.served < MAX_SERVED }
 
-        // The reply and the new state are those of the flat step, of each flat state that the machine
-        // stands for.
+        // Refinement: the reply and the new state are those of the flat step, for every flat state that
+        // the machine stands for.
         ensures reply { (f : Flat) → IsFlat self.old f → IfOk result (λ r. r ≡ (step f event.now).1) }
         ensures state { (f : Flat) → IsFlat self.old f → OnOk result (IsFlat self.new (step f event.now).0) }
 
-        // The host refuses only what would be served, and only where it may take memory. Then nothing
+        // The host refuses only an event that would be served and that may take memory. Then nothing
         // changes.
         ensures refused { (f : Flat) → IsFlat self.old f → OnErr result (unmet f event.now ≡ None) }
         ensures memory { OnErr result (IsTrue (may_take_memory event.now)) }
         ensures kept { OnErr result (self.new ≡ self.old) }
 
-        // Nothing changes of a partition that is neither the caller nor a child of it, before or after,
-        // but for what a post or a signal adds where its connection's port aims.
+        // Integrity: a partition that is neither the caller nor a child of it, before or after, does not
+        // change, except for what a post or a signal adds where its connection's port aims.
         ensures confined { (f g : Flat) → IsFlat self.old f → IsFlat self.new g → Integrity event.now f g }
 
-        // Nor of a partition that the event isn't about: that is neither its target nor made by it, nor
-        // where it sends to, nor below a mask that it narrows, nor the caller where it moves the
-        // caller's pages.
+        // A partition does not change either if the event is not about it: it is neither the event's
+        // target nor created by it, nor where it sends to, nor below a mask that it narrows, nor the
+        // caller of an event that moves the caller's pages.
         ensures others { (f g : Flat) → IsFlat self.old f → IsFlat self.new g → LeavesOthers event.now f g }
 
-        // A refusal names a rule that is asked, and a reply to a hypercall has a result value.
+        // A refusal names a rule that applies to the event, and a reply to a hypercall has a result value.
         ensures asked { IfOk result (NamesAsked event.now) }
         ensures result { (frame : CallFrame A) → event.now.what ≡ Hypercall frame → IfOk result HasResult }
 
-        // The machine stands for a lawful flat state, so that what is said of each is said of one; each
-        // boot page stays in exactly one page set, what is in use within what is pooled, and each mask
+        // The machine stands for a lawful flat state, so the clauses on all such states are not vacuous.
+        // Each boot page stays in exactly one page set, the pages in use within the pool, and each mask
         // within the parent's.
         ensures lasting { MachineInvariant self.new }
         ensures pages { self.new.pages ≡ self.old.pages }
@@ -128,14 +130,15 @@ impl<A: Allocator + Clone> Machine<A> {
         }
     }
 
-    /// Takes one hypercall of a processor, as [`Machine::step`] takes it as an event, with the same
-    /// promises. A [`CallReply`] has no room for the output of an access.
+    /// Takes one hypercall of a processor, with the promises of [`Machine::step`] for that event.
+    ///
+    /// A [`CallReply`] has no room for the output of an access.
     pub fn hypercall(&mut self, by: Caller, frame: &Frame<A>) -> Result<CallReply, HostRefused>
         requires { self.old.served < MAX_SERVED }
         ensures { IsStep (call_event by frame.now) self.old result self.new }
     {
-        // A call that guests make again and again has a way of its own, on which it is known which one it is,
-        // so that the compiler leaves out what that tells. The others share the last.
+        // Each frequent call has an arm with a constant call kind, so the compiler can specialize `take` for
+        // it. All other calls share the last arm.
         match CallKind::of(InputValue::read(frame.rcx).call) {
             Some(CallKind::GetPartitionProperty) => self.take(
                 by,
@@ -168,7 +171,7 @@ impl<A: Allocator + Clone> Machine<A> {
         }
     }
 
-    // The same where the call that the frame names, if it names one, is known.
+    // Takes one hypercall, given the kind of call that the frame names, if it names one.
     // Inlined: calls for the own id in bench/embed.sh.
     #[inline(always)]
     fn take(
@@ -181,7 +184,7 @@ impl<A: Allocator + Clone> Machine<A> {
         requires named { call_of frame.now ≡ named }
         ensures { IsStep (call_event by frame.now) self.old result self.new }
     {
-        // Opens the machine for the proof: what it keeps is known of its fields.
+        // proof: opens the machine, so its invariant holds of its fields.
         let _ = &self.tree;
         match self.admit(by, frame, named) {
             Ok((shape, call)) => self.answer(by, frame, shape, &call),
@@ -189,7 +192,7 @@ impl<A: Allocator + Clone> Machine<A> {
         }
     }
 
-    // Serves a call for which P1 to P10 are met, where its own rules are met too, and answers.
+    // Serves a call for which P1 to P10 hold if its own rules hold too, and makes the reply.
     // Inlined: calls for the own id in bench/embed.sh.
     #[inline(always)]
     fn answer(
@@ -208,7 +211,7 @@ impl<A: Allocator + Clone> Machine<A> {
             → unmet f (call_event by frame.now) ≡ unmet_further f by.part call.now }
         ensures { IsStep (call_event by frame.now) self.old result self.new }
     {
-        // Opens the machine for the proof: what it keeps is known of its fields.
+        // proof: opens the machine, so its invariant holds of its fields.
         let _ = &self.tree;
         match self.serve(by, call) {
             Ok(output) => Ok(served_reply(frame, shape, output)),
@@ -217,8 +220,9 @@ impl<A: Allocator + Clone> Machine<A> {
         }
     }
 
-    /// Takes one access of a processor, as [`Machine::step`] takes it as an event, with the same promises.
-    /// What it puts out is added to `output`, which is empty before. The host refuses none.
+    /// Takes one access of a processor, with the promises of [`Machine::step`] for that event.
+    ///
+    /// The access appends its result to `output`, which must be empty. The host never refuses an access.
     pub fn access(&mut self, by: Caller, access: Access, output: &mut Output) -> Result<(), Rule>
         requires count { self.old.served < MAX_SERVED }
         requires empty { output.old ≡ [] }
@@ -234,7 +238,7 @@ impl<A: Allocator + Clone> Machine<A> {
         }
     }
 
-    // Serves a call for which P1 to P10 are met, where its own rules are met too.
+    // Serves a call for which P1 to P10 hold if its own rules hold too.
     // Inlined: calls for the own id in bench/embed.sh.
     #[inline(always)]
     fn serve(&mut self, by: Caller, call: &Call<'_>) -> Result<CallOutput, CallError>
@@ -265,7 +269,7 @@ impl<A: Allocator + Clone> Machine<A> {
 }
 
 impl<A: Allocator> Machine<A> {
-    /// How many events were served. Every machine stands for a lawful flat state.
+    /// Returns the number of served events. Every machine stands for a lawful flat state.
     pub fn served(&self) -> u64
         ensures count { result ≡ self.now.served }
         ensures lasting { MachineInvariant self.now }
@@ -273,15 +277,16 @@ impl<A: Allocator> Machine<A> {
         self.served
     }
 
-    /// The id that the next partition gets.
+    /// Returns the id that the next partition gets.
     pub fn next_id(&self) -> u64
         ensures { result ≡ self.now.next }
     {
         self.next
     }
 
-    /// The partitions, as a tree. What contracts see of a machine is this tree without the room of its
-    /// page sets, processors and tables.
+    /// Returns the tree of partitions.
+    ///
+    /// In contracts, a machine's rows are this tree without the room of its page sets, processors and tables.
     pub fn tree(&self) -> &Partitions<A>
         ensures { roomless result.now ≡ self.now.rows }
     {

@@ -1,4 +1,4 @@
--- Where a connection leads, as the tree has it, and what is known once it was reached.
+-- Resolving a connection: the rules that apply, and the facts that hold for the port that it reaches.
 use Rattle.std.specs.Prelude.{◌≡◌, ℕ, true, Option, Some, List, [], ◌∷◌}
 use Rattle.std.specs.FinMap.{contains_key, get}
 use Rattle.hv_defs.specs.declared.port_kind.PortKind.{PortKind}
@@ -17,13 +17,13 @@ use Rattle.hv_ports.specs.declared.ports.Port.{Port}
 abbrev pub aim_row : Conn → Port → ResolvedPort
 aim_row conn port = record { conn = conn_row_of conn; port = port_row_of port }
 
--- P16, P17 and P19 of a post or a signal through the connection with this key
+-- P16, P17 and P19 for a post or a signal through the connection with this key
 abbrev pub reach_asks : Flat → ℕ × ℕ → List Ask
 reach_asks f key =
     (rule.Connection, contains_key f.conn key) ∷ (rule.Port, on_aim f key is_same_birth) ∷
     (rule.VpExists, on_aim f key (is_aimed_at_vp f)) ∷ []
 
--- all three are met, and this is where it leads
+-- P16, P17 and P19 hold for the connection with this key, and it resolves to this port
 pub record IsReached (f : Flat) (key : ℕ × ℕ) (conn : Conn) (port : Port) : Type 0 where
   pub there : contains_key f.conn key ≡ true
   pub row : get f.port (conn.part, conn.port) ≡ Some (port_row_of port)
@@ -31,7 +31,7 @@ pub record IsReached (f : Flat) (key : ℕ × ℕ) (conn : Conn) (port : Port) :
   pub born : is_same_birth (aim_row conn port) ≡ true
   pub target : has_target f conn.part port.vp ≡ true
 
--- the processor that takes what comes that way and is of a port's kind
+-- the processor to which a port of this kind delivers through the resolved connection, if there is one
 abbrev pub taker_of : PortKind → Flat → ResolvedPort → Option ℕ
 taker_of port_type.Message f aim = message_taker f aim
 taker_of port_type.Event f aim = flag_taker f aim

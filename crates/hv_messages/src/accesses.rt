@@ -1,5 +1,5 @@
-// The accesses of this call group, each with P1 to P3. No access asks for a privilege. What one puts out goes
-// into an output that has room for a whole slot and stays where it is.
+// The accesses of this call group. Each one checks P1 to P3 as well, and none requires a privilege. An access
+// writes its result to an output that has room for a whole slot and is not moved.
 ghost use Rattle.std.specs.Prelude.{◌≡◌, [], ◌∷◌, Some, false};
 ghost use Rattle.std.specs.Prelude.{◌++◌};
 ghost use Rattle.std.specs.Result.{result_map_both};
@@ -16,7 +16,7 @@ use hv_policy::{Caller, Output, Rule};
 use hv_refine::{Partitions, caller_in};
 use std::alloc::Allocator;
 
-/// A read of the message slot of one of the caller's SINTs, in 256 bytes.
+/// Reads the message slot of one of the caller's SINTs. The output is 256 bytes.
 pub fn read_slot<A: Allocator>(
     tree: &mut Partitions<A>,
     by: Caller,
@@ -33,7 +33,9 @@ pub fn read_slot<A: Allocator>(
     slot(tree, by, sint, output)
 }
 
-/// The message that one of the caller's SINTs shows is removed, if it shows one. None is shown in its place.
+/// Removes the message that one of the caller's SINTs shows, if it shows one.
+///
+/// No other message is shown in its place.
 pub fn clear_slot<A: Allocator>(tree: &mut Partitions<A>, by: Caller, sint: u8) -> Result<(), Rule>
     ensures { (f : Flat) → Refines tree.old f → IsAnswered {A = A} f by (action.ClearSlot sint) tree.old
         (result_map_both (λ _. []) (λ rule. rule) result) tree.new }
@@ -47,7 +49,7 @@ pub fn clear_slot<A: Allocator>(tree: &mut Partitions<A>, by: Caller, sint: u8) 
     }
 }
 
-/// A read of the event flags of one of the caller's SINTs, in 256 bytes.
+/// Reads the event flags of one of the caller's SINTs. The output is 256 bytes.
 pub fn read_flags<A: Allocator>(
     tree: &mut Partitions<A>,
     by: Caller,
@@ -64,7 +66,7 @@ pub fn read_flags<A: Allocator>(
     flags(tree, by, sint, output)
 }
 
-/// An event flag of one of the caller's SINTs is cleared.
+/// Clears an event flag of one of the caller's SINTs.
 pub fn clear_flag<A: Allocator>(
     tree: &mut Partitions<A>,
     by: Caller,
@@ -83,7 +85,9 @@ pub fn clear_flag<A: Allocator>(
     }
 }
 
-/// The highest of the vectors that are pending at the caller is taken, in 1 byte, which is 0 where none is.
+/// Takes the highest vector that is pending at the caller.
+///
+/// The output is 1 byte: the vector, or 0 if none is pending.
 pub fn take_interrupt<A: Allocator>(
     tree: &mut Partitions<A>,
     by: Caller,
@@ -102,7 +106,7 @@ pub fn take_interrupt<A: Allocator>(
     }
 }
 
-// The first unmet rule of an access to a SINT or a flag that no processor has: one of P1 to P3, or else P21.
+// The first rule that fails for an access to a SINT or a flag that no processor has: one of P1 to P3, or P21.
 fn no_subject<A: Allocator>(tree: &Partitions<A>, by: Caller) -> Rule
     ensures { (f : Flat) → Refines tree.now f
         → first_unmet (caller_asks f by ++ ((rule.Operand, false) ∷ [])) ≡ Some result }

@@ -1,4 +1,4 @@
-// Where a connection leads, and the rules that look there.
+// Resolving a connection to its port and target, and the rules that apply there.
 ghost use Rattle.std.specs.Prelude.{◌≡◌, ℕ, option_map, IfOk, IfErr, IfSome, Some};
 ghost use Rattle.std.specs.FinMap.{get};
 ghost use Rattle.hv_partition.specs.Partition.{PartitionState};
@@ -18,14 +18,14 @@ use hv_ports::{Conn, Port};
 use hv_refine::Partitions;
 use std::alloc::Allocator;
 
-// What a connection is aimed at: the connection, and the port with the id that it keeps.
+// A resolved connection: the connection itself, and the port with the id that it keeps.
 #[derive(Clone, Copy)]
 pub struct ResolvedPort {
     pub conn: Conn,
     pub port: Port,
 }
 
-// The same with the processor that takes what comes that way, of those of the port's partition.
+// A resolved connection, with the processor of the port's partition that it delivers to.
 #[derive(Clone, Copy)]
 pub struct Target {
     pub conn: Conn,
@@ -33,9 +33,9 @@ pub struct Target {
     pub vp: u32,
 }
 
-// P16, P17 and P19 of a post or a signal: where the caller's connection leads and the partition of the port,
-// or the first of them that isn't met. What is asked of the port's partition is asked of the one that was
-// found.
+// Checks P16, P17 and P19 for a post or a signal, and returns the caller's connection, its port and the
+// port's partition. The error is the first of these rules that fails. The checks on the port's partition
+// use the partition that the lookup found.
 pub fn resolve_connection<'t, A: Allocator>(
     tree: &'t Partitions<A>,
     caller: u64,
@@ -72,7 +72,7 @@ fn conn_of<A: Allocator>(tree: &Partitions<A>, id: u64, connection: u32) -> Opti
     }
 }
 
-// A partition's port with this id, if it has one, and the partition.
+// A partition's port with this id, if it has one, together with the partition.
 fn port_of<'t, A: Allocator>(
     tree: &'t Partitions<A>,
     id: u64,
@@ -91,7 +91,8 @@ fn port_of<'t, A: Allocator>(
     }
 }
 
-// P19 of a port: whether the one processor of its partition at which it aims is there. For any it is met.
+// P19 for a port: whether its partition has the one processor at which the port aims. The rule always holds
+// for `Aim::Any`.
 fn has_target<A: Allocator>(home: &Partition<A>, aim: Aim) -> bool
     ensures { (f : Flat) (rows : Rows PartitionState) (id : ℕ) → content rows id ≡ Some home.now
         → Refines rows f → result ≡ has_target_of f id aim }
@@ -102,8 +103,8 @@ fn has_target<A: Allocator>(home: &Partition<A>, aim: Aim) -> bool
     }
 }
 
-// P22: the processor of the port's partition that takes what a port of this kind takes, if there is one: the
-// one at which the port aims, if it is ready, and for any the lowest of those that are.
+// P22: the processor of the port's partition to which a port of this kind delivers, if there is one: the one
+// at which the port aims, if it is ready, or for `Aim::Any` the lowest that is ready.
 pub fn select_vp<A: Allocator>(
     home: &Partition<A>,
     aimed: ResolvedPort,
@@ -123,8 +124,8 @@ pub fn select_vp<A: Allocator>(
     }
 }
 
-// P23: whether fewer than the most messages of the port and its birth are kept. They stand at the processor
-// at which the port aims, and for any at processors of its partition.
+// P23: whether fewer than `MAX_MESSAGES` messages of the port and its birth are kept. They are at the
+// processor at which the port aims, or for `Aim::Any` at any processors of its partition.
 pub fn has_message_room<A: Allocator>(home: &Partition<A>, aimed: ResolvedPort) -> bool
     ensures { (f : Flat) (rows : Rows PartitionState) (caller connection : ℕ)
         → content rows aimed.conn.part ≡ Some home.now → TreeInvariant rows

@@ -1,10 +1,10 @@
 //! Messages, event flags and interrupts (TLFS 4.0, "Inter-Partition Communication" and "Synthetic
 //! Interrupt Controller"): posting and signalling through a connection, and a processor's accesses to
-//! what arrived at its own SINTs.
+//! everything that arrived at its own SINTs.
 //!
-//! One public function for each call and each access. It asks the rules in the policy's order, makes what
-//! room it needs, and then changes the tree; its contract says in the policy's words what became of the
-//! call (`IsOutcome`) or of the access (`IsAnswered`), which is asked P1 to P3 here as well.
+//! Each call and each access has one public function. It checks the rules in the policy's order, reserves
+//! the room that it needs, and then changes the tree. Its contract states the outcome in the policy's terms
+//! (`IsOutcome` for a call, `IsAnswered` for an access). The function of an access also checks P1 to P3.
 #![tactic(auto)]
 
 mod accesses;

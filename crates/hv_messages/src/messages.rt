@@ -18,9 +18,11 @@ use hv_ports::Port;
 use hv_refine::{CallError, Partitions};
 use std::alloc::{AllocError, Allocator};
 
-/// HvPostMessage: a message goes last among those at the SINT at which the connection's port aims, of the
-/// processor at which it aims, or of the lowest that is ready for messages where it aims at any. Where none
-/// is shown there, the oldest is, and the SINT raises its vector.
+/// HvPostMessage: posts a message at the SINT at which the connection's port aims.
+///
+/// The SINT is that of the processor at which the port aims, or for `Aim::Any` of the lowest processor
+/// that is ready for messages. The message goes behind those already at the SINT. If the SINT shows none,
+/// it then shows its oldest message and raises its vector.
 pub fn post_message<A: Allocator + Clone>(
     tree: &mut Partitions<A>,
     caller: u64,
@@ -49,8 +51,8 @@ pub fn post_message<A: Allocator + Clone>(
     }
 }
 
-// P16, P17, P19, P21, P22 and P23: where the connection leads and the processor that takes the message, or
-// the first of them that isn't met.
+// Checks P16, P17, P19, P21, P22 and P23, and returns the resolved connection with the processor that takes
+// the message. The error is the first of these rules that fails.
 fn ask_post<A: Allocator>(
     tree: &Partitions<A>,
     caller: u64,
@@ -86,7 +88,7 @@ fn ask_post<A: Allocator>(
     })
 }
 
-// P21 of a post: whether the port takes messages.
+// P21 for a post: whether the port takes messages.
 fn is_for_messages(port: Port) -> bool
     ensures { result ≡ is_kind port.kind port_type.Message }
 {
@@ -96,9 +98,11 @@ fn is_for_messages(port: Port) -> bool
     }
 }
 
-/// HvSignalEvent: an event flag of the SINT at which the connection's port aims is set, counted from the
-/// port's first flag, at the processor at which it aims, or at the lowest that is ready for event flags where
-/// it aims at any. Where it was clear, the SINT raises its vector.
+/// HvSignalEvent: sets an event flag of the SINT at which the connection's port aims.
+///
+/// `flag` counts from the port's first flag. The SINT is that of the processor at which the port aims, or
+/// for `Aim::Any` of the lowest processor that is ready for event flags. If the flag was clear, the SINT
+/// raises its vector.
 pub fn signal_event<A: Allocator>(
     tree: &mut Partitions<A>,
     caller: u64,
@@ -124,8 +128,8 @@ pub fn signal_event<A: Allocator>(
     Ok(CallOutput::new())
 }
 
-// P16, P17, P19, P21 and P22: where the connection leads and the processor that takes the event flag, or the
-// first of them that isn't met.
+// Checks P16, P17, P19, P21 and P22, and returns the resolved connection with the processor that takes the
+// event flag. The error is the first of these rules that fails.
 fn ask_signal<A: Allocator>(
     tree: &Partitions<A>,
     caller: u64,
@@ -159,7 +163,7 @@ fn ask_signal<A: Allocator>(
     })
 }
 
-// P21 of a signal: whether the port takes event flags and has one of this number.
+// P21 for a signal: whether the port takes event flags and has one with this number.
 fn has_flag(port: Port, flag: u16) -> bool
     ensures { result ≡ is_kind port.kind port_type.Event && nat_lt flag port.count }
 {

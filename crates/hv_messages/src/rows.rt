@@ -1,4 +1,4 @@
-// What the calls and accesses of this call group change in the tree, and read of it.
+// The changes that the calls and accesses of this call group make to the tree, and what they read from it.
 ghost use Rattle.std.specs.Prelude.{◌≡◌, ◌<◌, [], None, Some, IfOk, IfErr, OnOk, OnErr};
 ghost use Rattle.hv_policy.specs.Rules.{caller_asks, first_unmet};
 ghost use Rattle.std.specs.FinMap.{get};
@@ -16,7 +16,7 @@ use hv_policy::{Caller, Output, Rule};
 use hv_refine::{Partitions, caller_vp};
 use std::alloc::{AllocError, Allocator};
 
-// Posts a message at a SINT of a processor, where both are there.
+// Posts a message at a SINT of a processor, if the partition and the processor exist.
 #[tactic(auto, using(hv_tree::proofs::Laws::unchanged, hv_refine::proofs::Written::same_vp))]
 pub fn post<A: Allocator + Clone>(
     tree: &mut Partitions<A>,
@@ -39,7 +39,7 @@ pub fn post<A: Allocator + Clone>(
     Ok(())
 }
 
-// Sets an event flag of a SINT of a processor, where both are there.
+// Sets an event flag of a SINT of a processor, if the partition and the processor exist.
 #[tactic(auto, using(hv_tree::proofs::Laws::unchanged))]
 pub fn signal<A: Allocator>(tree: &mut Partitions<A>, id: u64, index: u32, sint: u8, flag: u16)
     requires sint { sint < SINTS }
@@ -97,7 +97,7 @@ pub fn clear_one_flag<A: Allocator>(
     Ok(())
 }
 
-// Takes the highest vector that is pending at the calling processor, or 0 where none is.
+// Takes the highest vector that is pending at the calling processor, or returns 0 if none is.
 #[tactic(auto, using(hv_tree::proofs::Laws::unchanged))]
 pub fn take<A: Allocator>(tree: &mut Partitions<A>, by: Caller) -> Result<u8, Rule>
     ensures vector { IfOk result (λ vector. (f : Flat) → Refines tree.old f
@@ -118,7 +118,7 @@ pub fn take<A: Allocator>(tree: &mut Partitions<A>, by: Caller) -> Result<u8, Ru
     }
 }
 
-// Puts out the message slot of a SINT of the calling processor.
+// Writes the message slot of a SINT of the calling processor to the output.
 #[tactic(auto, using(hv_tree::proofs::Laws::unchanged))]
 pub fn slot<A: Allocator>(
     tree: &mut Partitions<A>,
@@ -143,7 +143,7 @@ pub fn slot<A: Allocator>(
     Ok(())
 }
 
-// Puts out the event flags of a SINT of the calling processor.
+// Writes the event flags of a SINT of the calling processor to the output.
 #[tactic(auto, using(hv_tree::proofs::Laws::unchanged))]
 pub fn flags<A: Allocator>(
     tree: &mut Partitions<A>,

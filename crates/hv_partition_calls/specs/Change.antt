@@ -1,4 +1,4 @@
--- What the calls of this call group make of the rows, and what they need of them.
+-- The changes that the calls of this call group make to the rows, and their preconditions.
 use Rattle.std.specs.Prelude.{◌≡◌, ℕ, ◌==◌, ◌<◌, ◌≤◌, ◌+◌, ◌-◌, ◌^◌, true, false, length, Some}
 use Rattle.std.specs.FinMap.{get, insert, remove, contains_key}
 use Rattle.std.specs.FinSet as set
@@ -10,11 +10,11 @@ use Rattle.hv_privs.specs.Privileges.{restrict}
 use Rattle.hv_privs.specs.declared.TheConstants.Privileges as privilege
 use Rattle.hv_tree.specs.Rows.{Row, Rows, children, is_leaf}
 
--- a new partition below the one with this row
+-- the row of a new partition below the one with this row
 abbrev pub child_of : ℕ → Row PartitionState → Row PartitionState
 child_of parent r = (Some parent, new_partition Created (restrict r.1.mask privilege.NEW_PARTITION))
 
--- a partition that took over the pages of another as loose pages, with some room left for more
+-- the row of a partition that took over all pages of `gone` as loose pages, with `room` left for more
 abbrev pub new_owner_of : PartitionState → ℕ → Row PartitionState → Row PartitionState
 new_owner_of gone room r = (
   r.0,
@@ -27,7 +27,7 @@ new_owner_of gone room r = (
   },
 )
 
--- the row of a partition that got room for so many more runs of loose pages
+-- the partition got room for at least `more` runs of loose pages, and nothing else changed
 pub record HasRoom (old new : Rows PartitionState) (id more : ℕ) : Type 0 where
   pub row : Row PartitionState
   pub there : get old id ≡ Some row
@@ -39,7 +39,7 @@ pub record HasRoom (old new : Rows PartitionState) (id more : ℕ) : Type 0 wher
         { loose = record { pages = row.1.loose.pages; room = room } },
   )
 
--- a partition can take over the pages of another: it has room for their runs, and none of them stands twice
+-- precondition: the partition has room for the runs of all pages of `gone`, and no page would be held twice
 pub record MayTakeOver (rows : Rows PartitionState) (id : ℕ) (gone : PartitionState) : Type 0 where
   pub row : Row PartitionState
   pub there : get rows id ≡ Some row
@@ -48,13 +48,14 @@ pub record MayTakeOver (rows : Rows PartitionState) (id : ℕ) (gone : Partition
   pub pooled : IsDisjoint row.1.loose.pages gone.pooled.pages
   pub own : IsDisjoint gone.loose.pages gone.pooled.pages
 
+-- the partition took over all pages of `gone` as loose pages, and no other row changed
 pub record HasTakenOver (old new : Rows PartitionState) (id : ℕ) (gone : PartitionState) : Type 0 where
   pub row : Row PartitionState
   pub there : get old id ≡ Some row
   pub room : ℕ
   pub rows : new ≡ insert old id (new_owner_of gone room row)
 
--- a partition was made below `parent`
+-- a partition was created below `parent`
 pub record IsCreated (old new : Rows PartitionState) (parent id : ℕ) : Type 0 where
   pub creator : Row PartitionState
   pub there : get old parent ≡ Some creator
@@ -69,13 +70,14 @@ pub record IsDeleted (old new : Rows PartitionState) (new_owner id : ℕ) : Type
   pub room : ℕ
   pub rows : new ≡ insert (remove old id) new_owner (new_owner_of gone.1 room owner)
 
--- the caller's row can have one more child, of which a tree counts fewer than 2^32, and the id is free
+-- precondition of creating: the parent exists and can count one more child (a count stays below 2^32), and
+-- the id is free
 pub record MayCreate (rows : Rows PartitionState) (parent id : ℕ) : Type 0 where
   pub there : contains_key rows parent ≡ true
   pub free : contains_key rows id ≡ false
   pub few : length (children rows parent) < 2 ^ 32 - 1
 
--- the partition has no children, and the heir holds none of its pages
+-- precondition of deleting: the partition has no children, and `new_owner` holds none of its pages
 pub record MayDelete (rows : Rows PartitionState) (new_owner id : ℕ) : Type 0 where
   pub leaf : is_leaf rows id ≡ true
   pub apart : id == new_owner ≡ false

@@ -14,8 +14,10 @@ use hv_refine::{
 };
 use std::alloc::{AllocError, Allocator};
 
-/// HvCreatePartition: a new partition with the id `next` below the caller, Created and without pages. The
-/// flags have no effect. It uses 2 pages of the caller's pool.
+/// HvCreatePartition: creates a partition with the id `next` below the caller.
+///
+/// The new partition is Created and has no pages. It uses 2 pages of the caller's pool. The flags have no
+/// effect.
 pub fn create_partition<A: Allocator + Clone>(
     tree: &mut Partitions<A>,
     alloc: &A,
@@ -51,7 +53,7 @@ fn unmet_create<A: Allocator>(tree: &Partitions<A>, caller: u64, flags: u64) -> 
     None
 }
 
-/// HvInitializePartition: the target becomes Active.
+/// HvInitializePartition: makes the target Active.
 pub fn initialize_partition<A: Allocator>(
     tree: &mut Partitions<A>,
     caller: u64,
@@ -72,8 +74,9 @@ pub fn initialize_partition<A: Allocator>(
     Ok(CallOutput::new())
 }
 
-/// HvFinalizePartition: the target becomes Finalized. Its virtual processors go with the messages that
-/// stand there, its ports and its connections go; its pages stay.
+/// HvFinalizePartition: makes the target Finalized.
+///
+/// Removes its virtual processors with their messages, its ports and its connections. Its pages stay.
 pub fn finalize_partition<A: Allocator>(
     tree: &mut Partitions<A>,
     caller: u64,
@@ -108,7 +111,7 @@ fn unmet_finalize<A: Allocator>(tree: &Partitions<A>, caller: u64, partition: u6
     None
 }
 
-/// HvDeletePartition: the target goes, and all its pages become loose pages of the caller.
+/// HvDeletePartition: removes the target. All its pages become loose pages of the caller.
 pub fn delete_partition<A: Allocator>(
     tree: &mut Partitions<A>,
     caller: u64,
@@ -132,7 +135,7 @@ pub fn delete_partition<A: Allocator>(
     }
 }
 
-/// HvGetPartitionId: the caller's id.
+/// HvGetPartitionId: returns the caller's id.
 pub fn get_partition_id<A: Allocator>(
     tree: &Partitions<A>,
     caller: u64,
@@ -144,7 +147,7 @@ pub fn get_partition_id<A: Allocator>(
     Ok(number_output(caller))
 }
 
-/// HvGetNextChildPartition: the least id above `previous` among the target's children, 0 if there is none.
+/// HvGetNextChildPartition: returns the least id above `previous` among the target's children, or 0 if none.
 pub fn get_next_child_partition<A: Allocator>(
     tree: &Partitions<A>,
     caller: u64,

@@ -1,4 +1,4 @@
-// What the calls of this call group change in the tree.
+// The changes that the calls of this call group make to the tree.
 ghost use Rattle.std.specs.Prelude.{◌≡◌, true, OnOk, OnErr};
 ghost use Rattle.std.specs.FinMap.{contains_key};
 ghost use Rattle.std.specs.FinMap as map;
@@ -16,7 +16,7 @@ use hv_refine::Partitions;
 use hv_tree::{IdTree, InsertRefused};
 use std::alloc::{AllocError, Allocator};
 
-// Makes a partition below `parent`, with no pages and a restricted mask.
+// Creates a partition below `parent`, without pages and with a restricted mask.
 pub fn create<A: Allocator + Clone>(
     tree: &mut Partitions<A>,
     alloc: &A,
@@ -70,8 +70,8 @@ pub fn finalize<A: Allocator>(tree: &mut Partitions<A>, id: u64)
     }
 }
 
-// Hands all pages of a partition without children to `new_owner` as loose pages, and removes it. It makes
-// room for their runs, however many pages they are.
+// Removes a partition without children and gives all its pages to `new_owner` as loose pages. It reserves
+// room by the number of their runs, not of pages.
 pub fn delete<A: Allocator>(
     tree: &mut Partitions<A>,
     new_owner: u64,
@@ -96,7 +96,7 @@ pub fn delete<A: Allocator>(
     Ok(())
 }
 
-// Makes room for more runs of loose pages of a partition.
+// Reserves room for `more` runs of loose pages in a partition.
 #[tactic(auto, using(hv_tree::proofs::Laws::unchanged))]
 fn make_room<A: Allocator>(tree: &mut Partitions<A>, id: u64, more: u64) -> Result<(), AllocError>
     requires { contains_key tree.old id ≡ true }
@@ -109,7 +109,7 @@ fn make_room<A: Allocator>(tree: &mut Partitions<A>, id: u64, more: u64) -> Resu
     partition.reserve(PageKind::Loose, more as usize)
 }
 
-// Hands all pages of a partition that is gone to another.
+// Gives all pages of a removed partition to another one.
 fn hand_over<A: Allocator>(tree: &mut Partitions<A>, new_owner: u64, gone: Partition<A>)
     requires { MayTakeOver tree.old new_owner gone }
     ensures { HasTakenOver tree.old tree.new new_owner gone }

@@ -1,4 +1,4 @@
-// The rules that this call group asks alone, and what it reads of the tree for them.
+// The rules that only this call group checks, and the lookups in the tree that they need.
 ghost use Rattle.std.specs.Prelude.{◌≡◌, ◌==◌, ◌||◌};
 ghost use Rattle.std.specs.FinMap.{get};
 ghost use Rattle.std.specs.Option.{option_map};
@@ -14,7 +14,7 @@ use hv_defs::MAX_DEPTH;
 use hv_refine::{Partitions, is_child};
 use std::alloc::Allocator;
 
-// P13: whether a partition is there, without children.
+// P13: whether a partition exists and has no children.
 pub fn is_childless<A: Allocator>(tree: &Partitions<A>, id: u64) -> bool
     ensures { (f : Flat) → Refines tree.now f → result ≡ is_childless_of f id }
 {
@@ -24,7 +24,7 @@ pub fn is_childless<A: Allocator>(tree: &Partitions<A>, id: u64) -> bool
     }
 }
 
-// P14: whether a partition is there, and a child of it would stand at most at the most depth.
+// P14: whether a partition exists and the depth of a child of it would be at most `MAX_DEPTH`.
 pub fn is_depth_left<A: Allocator>(tree: &Partitions<A>, id: u64) -> bool
     requires { TreeInvariant tree.now }
     ensures { (f : Flat) → Refines tree.now f → result ≡ is_depth_left_of f id }
@@ -35,7 +35,7 @@ pub fn is_depth_left<A: Allocator>(tree: &Partitions<A>, id: u64) -> bool
     }
 }
 
-// How many partitions stand above one.
+// The number of partitions above this one, if it exists.
 fn depth<A: Allocator>(tree: &Partitions<A>, id: u64) -> Option<u64>
     requires { TreeInvariant tree.now }
     ensures { (f : Flat) → Refines tree.now f → result ≡ option_map (λ row. depth_of f id) (get f.part id) }

@@ -1,4 +1,4 @@
--- What the calls of this call group make of the rows, and what they need of them.
+-- The changes that the calls of this call group make to the rows, and their preconditions.
 use Rattle.std.specs.Prelude.{◌≡◌, ℕ, ◌<◌, ◌≤◌, ◌^◌, true, false, Option, Some}
 use Rattle.std.specs.Option.{option_map}
 use Rattle.std.specs.FinSet as set
@@ -17,11 +17,11 @@ other Pooled = Loose
 abbrev pub pages_at : Rows PartitionState → ℕ → PageKind → Option PagesAndRoom
 pages_at rows id kind = option_map (pages_in kind) (content rows id)
 
--- the rows with other pages of a kind of a partition
+-- the rows with a partition's pages of a kind replaced
 abbrev pub with_pages_at : Rows PartitionState → ℕ → PageKind → PagesAndRoom → Rows PartitionState
 with_pages_at rows id kind pages = change rows id (with_pages kind pages)
 
--- a partition's pages of a kind were changed so
+-- a partition's pages of a kind changed as `How` relates them, and nothing else changed
 pub record HasPages (old new : Rows PartitionState) (id : ℕ) (kind : PageKind)
     (How : PagesAndRoom → PagesAndRoom → Type 0) : Type 0 where
   pub before : PagesAndRoom
@@ -30,27 +30,30 @@ pub record HasPages (old new : Rows PartitionState) (id : ℕ) (kind : PageKind)
   pub how : How before after
   pub rows : new ≡ with_pages_at old id kind after
 
--- the same pages with room for one more; the pages without one of them; without the lowest; and with one more
+-- the pages are unchanged, and there is room for one more
 abbrev pub HasOneRoom : PagesAndRoom → PagesAndRoom → Type 0
 HasOneRoom before after = (after.pages ≡ before.pages) × (1 ≤ after.room)
 
+-- this page was removed
 abbrev pub HasLost : ℕ → PagesAndRoom → PagesAndRoom → Type 0
 HasLost page before after = after.pages ≡ set.remove before.pages page
 
+-- this page was the lowest, and was removed
 abbrev pub HasLostLowest : ℕ → PagesAndRoom → PagesAndRoom → Type 0
 HasLostLowest page before after = IsLowest before.pages page × (after.pages ≡ set.remove before.pages page)
 
+-- this page was added
 abbrev pub HasGained : ℕ → PagesAndRoom → PagesAndRoom → Type 0
 HasGained page before after = after.pages ≡ set.insert before.pages page
 
--- pages that are there, have room for one more, and don't hold this one
+-- precondition of adding a page: the page set exists, has room for one more, and lacks this page
 pub record CanGain (page : ℕ) (pages : Option PagesAndRoom) : Type 0 where
   pub there : PagesAndRoom
   pub at : pages ≡ Some there
   pub room : 1 ≤ there.room
   pub new : set.contains there.pages page ≡ false
 
--- pages that are there, and some
+-- precondition of removing the lowest page: the page set exists and is not empty
 pub record CanLose (pages : Option PagesAndRoom) : Type 0 where
   pub there : PagesAndRoom
   pub at : pages ≡ Some there
@@ -78,7 +81,7 @@ pub record IsWithdrawn (old new : Rows PartitionState) (from to : ℕ) : Type 0 
   pub moved : IsMoved old new from to page Pooled
   pub lowest : IsLowest moved.source.pages page
 
--- the page is a loose page of `from`, and not in the pool of `to`
+-- precondition of a deposit: the page is a loose page of `from`, and not in the pool of `to`
 pub record MayDeposit (rows : Rows PartitionState) (from to page : ℕ) : Type 0 where
   pub loose : PagesAndRoom
   pub had : pages_at rows from Loose ≡ Some loose
@@ -88,7 +91,7 @@ pub record MayDeposit (rows : Rows PartitionState) (from to page : ℕ) : Type 0
   pub new : set.contains pooled.pages page ≡ false
   pub small : page < 2 ^ 32
 
--- `from` has pooled pages, none of which is a loose page of `to`
+-- precondition of a withdrawal: `from` has pooled pages, and none of them is a loose page of `to`
 pub record MayWithdraw (rows : Rows PartitionState) (from to : ℕ) : Type 0 where
   pub pooled : PagesAndRoom
   pub pool : pages_at rows from Pooled ≡ Some pooled

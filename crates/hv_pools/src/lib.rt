@@ -1,9 +1,9 @@
-//! Pools: a partition's balance of pages, and pages that are deposited into and withdrawn from pools
-//! (TLFS 4.0, "Resource Management").
+//! Pools: depositing pages, withdrawing them, and reading a partition's balance of pages (TLFS 4.0,
+//! "Resource Management").
 //!
-//! One public function for each call; of a rep call it serves one element. It asks the call's own rules
-//! in the policy's order, makes what room it needs, and then changes the tree; its contract says in the
-//! policy's words what became of the call (`IsOutcome`).
+//! Each call has one public function; for a rep call, it serves one element. It checks the call's own rules
+//! in the policy's order, reserves the room that it needs, and then changes the tree. Its contract states
+//! the call's outcome in the policy's terms (`IsOutcome`).
 #![tactic(auto)]
 
 mod pools;

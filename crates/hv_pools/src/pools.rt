@@ -15,7 +15,7 @@ use hv_refine::{
 };
 use std::alloc::{AllocError, Allocator};
 
-/// HvDepositMemory: the page, a loose page of the caller, goes to the target's pool.
+/// HvDepositMemory: moves a loose page of the caller to the target's pool.
 pub fn deposit_memory<A: Allocator>(
     tree: &mut Partitions<A>,
     caller: u64,
@@ -59,7 +59,7 @@ fn unmet_deposit<A: Allocator>(
     None
 }
 
-/// HvWithdrawMemory: the lowest pooled page of the target becomes a loose page of the caller.
+/// HvWithdrawMemory: moves the lowest pooled page of the target to the caller's loose pages.
 pub fn withdraw_memory<A: Allocator>(
     tree: &mut Partitions<A>,
     caller: u64,
@@ -93,7 +93,7 @@ fn unmet_withdraw<A: Allocator>(tree: &Partitions<A>, caller: u64, partition: u6
     None
 }
 
-/// HvGetMemoryBalance: the target's available pages, and those in use.
+/// HvGetMemoryBalance: returns the numbers of the target's available pages and of its pages in use.
 pub fn get_memory_balance<A: Allocator>(
     tree: &Partitions<A>,
     caller: u64,

@@ -1,5 +1,5 @@
-// What a deposit and a withdrawal change in the tree: one page goes from one partition to another, or
-// within one.
+// The changes that a deposit and a withdrawal make to the tree: one page moves from one partition to another,
+// or within one.
 ghost use Rattle.std.specs.Prelude.{◌≡◌, IsSome, OnOk, OnErr};
 ghost use Rattle.hv_refine.specs.Room.{IsSameButRoom};
 ghost use Rattle.hv_pools.specs.Change.{CanGain, CanLose, HasGained, HasLost, HasLostLowest, HasOneRoom};
@@ -52,7 +52,7 @@ pub fn withdraw<A: Allocator>(
     Ok(())
 }
 
-// Makes room for one more page of a kind of a partition.
+// Reserves room for one more page of a kind in a partition.
 #[tactic(auto, using(hv_tree::proofs::Laws::unchanged))]
 fn reserve<A: Allocator>(
     tree: &mut Partitions<A>,
@@ -69,7 +69,7 @@ fn reserve<A: Allocator>(
     partition.reserve(kind, 1)
 }
 
-// Takes a page that is there out of a partition's pages of a kind, once there is room for the change.
+// Reserves room for the change, then removes a page that is there from a partition's pages of a kind.
 #[tactic(auto, using(hv_tree::proofs::Laws::unchanged))]
 fn take<A: Allocator>(
     tree: &mut Partitions<A>,
@@ -99,7 +99,7 @@ fn put<A: Allocator>(tree: &mut Partitions<A>, id: u64, kind: PageKind, page: u3
     partition.put(kind, page);
 }
 
-// Takes out the lowest page of a kind of a partition that has one.
+// Removes and returns the lowest page of a kind of a partition that has one.
 fn take_lowest<A: Allocator>(tree: &mut Partitions<A>, id: u64, kind: PageKind) -> u32
     requires { CanLose (pages_at tree.old id kind) }
     ensures { HasPages tree.old tree.new id kind (HasLostLowest result) }

@@ -1,4 +1,4 @@
-// The rule that this call group asks alone, and what it reads of the tree.
+// The rule that only this call group checks, and what the group reads from the tree.
 ghost use Rattle.std.specs.Prelude.{◌≡◌};
 ghost use Rattle.std.specs.FinMap.{get};
 ghost use Rattle.hv_policy.specs.Answer.{page_or_0};
@@ -12,7 +12,7 @@ use hv_partition::{PageKind, Partition};
 use hv_refine::Partitions;
 use std::alloc::Allocator;
 
-// P21: whether a page is one of a partition's loose pages, whatever number it is.
+// P21: whether a page is one of a partition's loose pages. Any number is allowed.
 pub fn is_loose<A: Allocator>(tree: &Partitions<A>, id: u64, page: u64) -> bool
     requires { TreeInvariant tree.now }
     ensures { (f : Flat) → Refines tree.now f → result ≡ is_loose_of id (get f.page page) }

@@ -1,9 +1,9 @@
-//! Links between partitions: making and deleting ports, and connecting to them (TLFS 4.0,
-//! "Inter-Partition Communication").
+//! Ports and connections: creating and deleting ports, and connecting to and disconnecting from them
+//! (TLFS 4.0, "Inter-Partition Communication").
 //!
-//! One public function for each call. It asks the call's own rules in the policy's order, makes what room
-//! it needs, and then changes the tree; its contract says in the policy's words what became of the call
-//! (`IsOutcome`).
+//! Each call has one public function. It checks the call's own rules in the policy's order, reserves the
+//! room that it needs, and then changes the tree. Its contract states the call's outcome in the policy's
+//! terms (`IsOutcome`).
 #![tactic(auto)]
 
 mod links;

@@ -18,25 +18,27 @@ use hv_refine::{
 };
 use std::alloc::{AllocError, Allocator};
 
-/// A port to be made, as HvCreatePort has it.
+/// The parameters of a new port, as HvCreatePort has them.
 #[derive(Clone, Copy)]
 pub struct NewPort {
-    /// Its id, of 24 bits.
+    /// The port's id, of 24 bits.
     pub port: u32,
     /// The partition that may connect.
     pub peer: u64,
-    /// What it takes.
+    /// The type of the port: what it takes.
     pub kind: PortKind,
-    /// The SINT that it aims at, and at which processor.
+    /// The SINT at which the port aims, and the processor.
     pub sint: u32,
     pub vp: Aim,
-    /// The first of an event port's flags, and their count. A message port has none, whatever stands here.
+    /// The first of an event port's flags, and their count. Both are ignored for a message port.
     pub base: u16,
     pub count: u16,
 }
 
-/// HvCreatePort: the target gets a port, whose birth is the count of served events after this one;
-/// `served` is the count before. It uses 1 page of the target's pool.
+/// HvCreatePort: creates a port of the target.
+///
+/// The port's birth is the count of served events after this one; `served` is the count before it. The
+/// port uses 1 page of the target's pool.
 pub fn create_port<A: Allocator>(
     tree: &mut Partitions<A>,
     caller: u64,
@@ -119,7 +121,7 @@ fn unmet_create<A: Allocator>(
     None
 }
 
-// The first flag of a port, or the count of its flags, of which a message port keeps 0.
+// The first flag of a port, or the count of its flags, as the port keeps it: 0 for a message port.
 fn flags_of(kind: PortKind, number: u16) -> u16
     ensures { result ≡ flags_kept kind number }
 {
@@ -129,7 +131,7 @@ fn flags_of(kind: PortKind, number: u16) -> u16
     }
 }
 
-/// HvDeletePort: the target's port with this id goes. Connections to it stay.
+/// HvDeletePort: removes the target's port with this id. Connections to it stay.
 pub fn delete_port<A: Allocator>(
     tree: &mut Partitions<A>,
     caller: u64,
@@ -155,8 +157,9 @@ pub fn delete_port<A: Allocator>(
     Ok(CallOutput::new())
 }
 
-/// HvConnectPort: the target gets a connection, which keeps the port's partition, id, type and birth. It
-/// uses 1 page of the target's pool.
+/// HvConnectPort: creates a connection of the target to a port.
+///
+/// The connection keeps the port's partition, id, type and birth. It uses 1 page of the target's pool.
 pub fn connect_port<A: Allocator>(
     tree: &mut Partitions<A>,
     caller: u64,
@@ -248,7 +251,7 @@ fn unmet_connect<A: Allocator>(
     None
 }
 
-/// HvDisconnectPort: the target's connection with this id goes.
+/// HvDisconnectPort: removes the target's connection with this id.
 pub fn disconnect_port<A: Allocator>(
     tree: &mut Partitions<A>,
     caller: u64,

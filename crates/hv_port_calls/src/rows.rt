@@ -1,4 +1,4 @@
-// What the calls of this call group change in the tree.
+// The changes that the calls of this call group make to the tree.
 ghost use Rattle.std.specs.Prelude.{◌≡◌, true, OnOk, OnErr};
 ghost use Rattle.std.specs.FinMap.{contains_key, insert, remove};
 ghost use Rattle.hv_port_calls.specs.Change.{HasConns, HasPorts, MayAddConn, MayAddPort};
@@ -7,7 +7,7 @@ use hv_ports::{Conn, Port};
 use hv_refine::Partitions;
 use std::alloc::{AllocError, Allocator};
 
-// Adds a port with an id that is free to a partition that is there.
+// Adds a port with a free id to an existing partition.
 #[tactic(auto, using(hv_tree::proofs::Laws::unchanged))]
 pub fn add_port<A: Allocator>(
     tree: &mut Partitions<A>,
@@ -27,7 +27,7 @@ pub fn add_port<A: Allocator>(
     Ok(())
 }
 
-// Removes a port of a partition that is there.
+// Removes a port from an existing partition.
 pub fn remove_port<A: Allocator>(tree: &mut Partitions<A>, id: u64, port: u32)
     requires { contains_key tree.old id ≡ true }
     ensures { HasPorts tree.old tree.new id (λ rows. remove rows port) }
@@ -38,7 +38,7 @@ pub fn remove_port<A: Allocator>(tree: &mut Partitions<A>, id: u64, port: u32)
     partition.remove_port(port);
 }
 
-// Adds a connection with an id that is free to a partition that is there.
+// Adds a connection with a free id to an existing partition.
 #[tactic(auto, using(hv_tree::proofs::Laws::unchanged))]
 pub fn add_conn<A: Allocator>(
     tree: &mut Partitions<A>,
@@ -58,7 +58,7 @@ pub fn add_conn<A: Allocator>(
     Ok(())
 }
 
-// Removes a connection of a partition that is there.
+// Removes a connection from an existing partition.
 pub fn remove_conn<A: Allocator>(tree: &mut Partitions<A>, id: u64, connection: u32)
     requires { contains_key tree.old id ≡ true }
     ensures { HasConns tree.old tree.new id (λ rows. remove rows connection) }

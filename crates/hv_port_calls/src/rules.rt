@@ -1,4 +1,4 @@
-// The rules that this call group asks alone, and what it reads of the tree for them.
+// The rules that only this call group checks, and the lookups in the tree that they need.
 ghost use Rattle.std.specs.Prelude.{◌≡◌, ◌==◌, option_map};
 ghost use Rattle.std.specs.FinMap.{contains_key, get};
 ghost use Rattle.hv_policy.specs.Effect.{born_of as born_at};
@@ -11,7 +11,7 @@ use hv_ports::Port;
 use hv_refine::Partitions;
 use std::alloc::Allocator;
 
-// P15: whether a partition is there.
+// P15: whether a partition exists.
 pub fn is_there<A: Allocator>(tree: &Partitions<A>, id: u64) -> bool
     ensures { (f : Flat) → Refines tree.now f → result ≡ contains_key f.part id }
 {
@@ -45,7 +45,7 @@ pub fn has_port<A: Allocator>(tree: &Partitions<A>, id: u64, port: u32) -> bool
     port_of(tree, id, port).is_some()
 }
 
-// P18: whether a port lets this partition connect.
+// P18: whether this partition may connect to the port.
 pub fn is_peer<A: Allocator>(tree: &Partitions<A>, id: u64, port: u32, peer: u64) -> bool
     ensures { (f : Flat) → Refines tree.now f → result ≡ on_port f (id, port) (λ row. row.peer == peer) }
 {
@@ -55,7 +55,7 @@ pub fn is_peer<A: Allocator>(tree: &Partitions<A>, id: u64, port: u32, peer: u64
     }
 }
 
-// P21: whether a port takes what a connection to it would.
+// P21: whether the port has the type of the connection.
 pub fn is_kind<A: Allocator>(tree: &Partitions<A>, id: u64, port: u32, kind: PortKind) -> bool
     ensures { (f : Flat) → Refines tree.now f → result ≡ on_port f (id, port) (λ row. is_same row.kind kind) }
 {
@@ -74,7 +74,7 @@ fn are_same(a: PortKind, b: PortKind) -> bool
     }
 }
 
-// When a port was made, or 0 where there is none.
+// The birth of a port, or 0 if there is no such port.
 pub fn born_of<A: Allocator>(tree: &Partitions<A>, id: u64, port: u32) -> u64
     ensures { (f : Flat) → Refines tree.now f → result ≡ born_at (get f.port (id, port)) }
 {

@@ -1,4 +1,4 @@
-// The accesses of this call group, each with P1 to P3.
+// The accesses of this call group. Each one checks P1 to P3 as well.
 ghost use Rattle.std.specs.Prelude.{◌≡◌, []};
 ghost use Rattle.std.specs.Result.{result_map_both};
 ghost use Rattle.hv_policy.specs.Flat.{Flat};
@@ -11,7 +11,7 @@ use hv_policy::{Caller, Output, Rule};
 use hv_refine::Partitions;
 use std::alloc::Allocator;
 
-/// A read of one of the caller's model-specific registers: its value, in 8 bytes.
+/// Reads one of the caller's model-specific registers. The output is its value, in 8 bytes.
 pub fn read_msr<A: Allocator>(
     tree: &mut Partitions<A>,
     by: Caller,
@@ -31,7 +31,7 @@ pub fn read_msr<A: Allocator>(
     }
 }
 
-/// A write to one of the caller's model-specific registers, which keeps what it keeps of the value.
+/// Writes one of the caller's model-specific registers. The register determines which value it keeps.
 pub fn write_msr<A: Allocator>(
     tree: &mut Partitions<A>,
     by: Caller,

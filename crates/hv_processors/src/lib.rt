@@ -1,10 +1,10 @@
-//! Virtual processors: making and deleting them, and reading and writing their registers, by calls and as
+//! Virtual processors: creating and deleting them, and reading and writing their registers, by calls and as
 //! model-specific registers (TLFS 4.0, "Virtual Processor Management").
 //!
-//! One public function for each call; of a rep call it serves one element. It asks the call's own rules
-//! in the policy's order, makes what room it needs, and then changes the tree; its contract says in the
-//! policy's words what became of the call (`IsOutcome`). An access has such a function too, which asks P1
-//! to P3 as well (`IsAnswered`).
+//! Each call has one public function; for a rep call, it serves one element. It checks the call's own rules
+//! in the policy's order, reserves the room that it needs, and then changes the tree. Its contract states
+//! the call's outcome in the policy's terms (`IsOutcome`). Each access has such a function too, which also
+//! checks P1 to P3 (`IsAnswered`).
 #![tactic(auto)]
 
 mod accesses;

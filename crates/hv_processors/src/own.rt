@@ -23,7 +23,7 @@ use hv_refine::Partitions;
 use hv_vp::{Vp, name_of_msr, privilege_of};
 use std::alloc::Allocator;
 
-// P1 to P3, P25 and P26, and then the register's value.
+// Checks P1 to P3, P25 and P26, and returns the register's value.
 #[tactic(auto, using(hv_tree::proofs::Laws::unchanged))]
 pub fn read_own<A: Allocator>(tree: &mut Partitions<A>, by: Caller, msr: u32) -> Result<u64, Rule>
     ensures value { IfOk result (λ value. (f : Flat) → Refines tree.old f
@@ -44,8 +44,8 @@ pub fn read_own<A: Allocator>(tree: &mut Partitions<A>, by: Caller, msr: u32) ->
     }
 }
 
-// P1 to P3, P25 and P26, and then a write, by which the processor tells P27: what it doesn't take changes
-// nothing.
+// Checks P1 to P3, P25 and P26, and writes the register. The write itself decides P27: if the processor
+// rejects the value, nothing changes.
 #[tactic(auto, using(hv_tree::proofs::Laws::unchanged))]
 pub fn write_own<A: Allocator>(
     tree: &mut Partitions<A>,
@@ -71,8 +71,8 @@ pub fn write_own<A: Allocator>(
     }
 }
 
-// P1 to P3, P25 and P26, and the processor that makes the access, to be read or changed; else the first of
-// them that isn't met, with the partitions as they were.
+// Checks P1 to P3, P25 and P26, and returns the processor that makes the access, to read or change. The error
+// is the first of these rules that fails. The partitions are then unchanged.
 #[tactic(auto, using(hv_tree::proofs::Laws::unchanged))]
 fn own_vp<A: Allocator>(tree: &mut Partitions<A>, by: Caller, msr: u32) -> Result<&mut Vp<A>, Rule>
     ensures* writes_back { sem 𝓛 (LendsIfOk (tree_row (partition_row A.row A.Allocator) A.row A.Allocator)
@@ -102,7 +102,7 @@ fn own_vp<A: Allocator>(tree: &mut Partitions<A>, by: Caller, msr: u32) -> Resul
     }
 }
 
-// P25 and P26 of a partition with this mask: the first of them that isn't met.
+// The first of P25 and P26 that fails for a partition with this mask, if one does.
 fn unmet_by_mask(mask: Privileges, msr: u32) -> Option<Rule>
     ensures { (f : Flat) (rows : Rows PartitionState) (id : ℕ) (p : PartitionState) → content rows id ≡ Some p
         → p.mask ≡ mask → Refines rows f → result ≡ first_unmet (msr_asks f id (name_of_msr msr)) }

@@ -17,8 +17,9 @@ use hv_refine::{
 };
 use std::alloc::{AllocError, Allocator};
 
-/// HvCreateVp: the target gets a processor with this index, whose registers are at their start. It uses 4
-/// pages of the target's pool.
+/// HvCreateVp: creates a processor with this index in the target.
+///
+/// Its registers have their initial values. It uses 4 pages of the target's pool.
 pub fn create_vp<A: Allocator + Clone>(
     tree: &mut Partitions<A>,
     alloc: &A,
@@ -63,7 +64,7 @@ fn unmet_create<A: Allocator>(
     None
 }
 
-/// HvDeleteVp: the target's processor with this index goes, with its registers.
+/// HvDeleteVp: removes the target's processor with this index, and its registers.
 pub fn delete_vp<A: Allocator>(
     tree: &mut Partitions<A>,
     caller: u64,
@@ -89,8 +90,9 @@ pub fn delete_vp<A: Allocator>(
     Ok(CallOutput::new())
 }
 
-/// HvGetVpRegisters, one element: the value of a register of the target's processor, in the lower half of
-/// 16 bytes.
+/// HvGetVpRegisters, one element: returns the value of a register of the target's processor.
+///
+/// The value is the lower half of 16 bytes.
 pub fn get_vp_registers<A: Allocator>(
     tree: &Partitions<A>,
     caller: u64,
@@ -137,7 +139,7 @@ fn unmet_get<A: Allocator>(
     None
 }
 
-// P18 and P19, which reading and writing a register ask alike.
+// P18 and P19, which apply both to reading and to writing a register.
 fn unmet_register<A: Allocator>(
     tree: &Partitions<A>,
     caller: u64,
@@ -156,7 +158,7 @@ fn unmet_register<A: Allocator>(
     None
 }
 
-// The output of a register's value: 16 bytes, of which the upper 8 are 0.
+// The output for a register's value: 16 bytes, with the upper 8 bytes 0.
 fn register_output(value: u64) -> CallOutput
     ensures { result ≡ to_le_bytes w64 value ++ to_le_bytes w64 0 }
 {
@@ -166,7 +168,9 @@ fn register_output(value: u64) -> CallOutput
     output
 }
 
-/// HvSetVpRegisters, one element: a register of the target's processor keeps what it keeps of the value.
+/// HvSetVpRegisters, one element: writes a register of the target's processor.
+///
+/// The register determines which value it keeps.
 pub fn set_vp_registers<A: Allocator>(
     tree: &mut Partitions<A>,
     caller: u64,

@@ -1,4 +1,4 @@
-// What the calls and accesses of this call group change in the tree.
+// The changes that the calls and accesses of this call group make to the tree.
 ghost use Rattle.std.specs.Prelude.{◌≡◌, true, OnOk, OnErr};
 ghost use Rattle.std.specs.FinMap.{contains_key, insert};
 ghost use Rattle.std.specs.FinMap as map;
@@ -11,7 +11,7 @@ use hv_refine::Partitions;
 use hv_vp::Vp;
 use std::alloc::{AllocError, Allocator};
 
-// Adds a processor with an index that is free to a partition that is there.
+// Adds a processor with a free index to an existing partition.
 #[tactic(auto, using(hv_tree::proofs::Laws::unchanged))]
 pub fn add<A: Allocator + Clone>(
     tree: &mut Partitions<A>,
@@ -32,7 +32,7 @@ pub fn add<A: Allocator + Clone>(
     Ok(())
 }
 
-// Removes a processor of a partition that is there.
+// Removes a processor from an existing partition.
 pub fn remove<A: Allocator>(tree: &mut Partitions<A>, id: u64, index: u32)
     requires { contains_key tree.old id ≡ true }
     ensures { HasVps tree.old tree.new id (λ vps. map.remove vps index) }
@@ -43,14 +43,14 @@ pub fn remove<A: Allocator>(tree: &mut Partitions<A>, id: u64, index: u32)
     partition.remove_vp(index);
 }
 
-// Writes a value to a register of a processor, where both are there.
+// Writes a value to a register of a processor, if the partition and the processor exist.
 #[tactic(auto, using(hv_tree::proofs::Laws::unchanged))]
 pub fn write<A: Allocator>(tree: &mut Partitions<A>, id: u64, index: u32, name: u32, value: u64)
     ensures { tree.new ≡ changed tree.old id (with_state_of index (written name value)) }
 {
     if let Some(partition) = tree.get_mut(id) {
         if let Some(vp) = partition.vp_mut(index) {
-            // What the register doesn't take changes nothing.
+            // A value that the register rejects changes nothing.
             let _ = vp.write_reg(name, value);
         }
     }

@@ -1,4 +1,4 @@
-// The rules that this call group asks alone, and what it reads of the tree.
+// The rules that only this call group checks, and what the group reads from the tree.
 ghost use Rattle.std.specs.Prelude.{◌≡◌, is_some, is_ok};
 ghost use Rattle.std.specs.FinMap.{get};
 ghost use Rattle.hv_defs.specs.Registers.{kept as kept_by, row_of};
@@ -20,7 +20,8 @@ pub fn is_vp_free<A: Allocator>(tree: &Partitions<A>, id: u64, index: u32) -> bo
     index < MAX_VPS && !has_vp(tree, id, index)
 }
 
-// P18: whether a partition has the privilege of the register with this name, if there is one.
+// P18: whether a partition has the privilege of the register with this name. The rule holds if there is no
+// such register.
 pub fn may_access<A: Allocator>(tree: &Partitions<A>, id: u64, name: u32) -> bool
     ensures { (f : Flat) → Refines tree.now f → result ≡ may_access_of f id (row_of name) }
 {
@@ -40,14 +41,14 @@ pub fn is_known(name: u32) -> bool
     privilege_of(name).is_some()
 }
 
-// P21: whether there is a register with this name, and it takes this value.
+// P21: whether there is a register with this name that accepts this value.
 pub fn takes(name: u32, value: u64) -> bool
     ensures { result ≡ is_ok (kept_by (row_of name) value) }
 {
     kept(name, value).is_ok()
 }
 
-// The value of a processor's register, or 0 where there is none.
+// The value of a processor's register, or 0 if there is none.
 pub fn register<A: Allocator>(tree: &Partitions<A>, id: u64, index: u32, name: u32) -> u64
     ensures { (f : Flat) → Refines tree.now f → result ≡ register_of (get f.vp (id, index)) name }
 {

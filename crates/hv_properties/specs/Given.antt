@@ -1,4 +1,4 @@
--- A partition with a new value of a property, and one with its mask narrowed.
+-- The effect of a new property value, and of a narrowed mask, on one partition.
 use Rattle.std.specs.Prelude.{ℕ, Option, None, Some}
 use Rattle.hv_partition.specs.Partition.{PartitionState}
 use Rattle.hv_policy.specs.declared.property.Property.{Property}
@@ -7,7 +7,7 @@ use Rattle.hv_policy.specs.declared.property.Property.TheVariants.{CpuWeight}
 use Rattle.hv_privs.specs.Privileges.{of, restrict}
 use Rattle.hv_privs.specs.declared.Privileges.{Privileges}
 
--- a partition with a property changed
+-- the partition with a property set to this value
 abbrev pub given : Option Property → ℕ → PartitionState → PartitionState
 given None value p = p
 given (Some PrivilegeFlags) value p = record p { mask = of value }
@@ -15,6 +15,6 @@ given (Some CpuReserve) value p = record p { reserve = value }
 given (Some CpuCap) value p = record p { cap = value }
 given (Some CpuWeight) value p = record p { weight = value }
 
--- a partition with its mask restricted to a value
+-- the partition with its mask restricted to this value
 abbrev pub narrowed : Privileges → PartitionState → PartitionState
 narrowed value p = record p { mask = restrict p.mask value }

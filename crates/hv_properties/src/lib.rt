@@ -1,8 +1,8 @@
 //! Partition properties: reading and setting them (TLFS 4.0, "Partition Properties").
 //!
-//! One public function for each call. It asks the call's own rules in the policy's order and then changes
-//! the tree; its contract says in the policy's words what became of the call (`IsOutcome`). Setting the mask
-//! of a partition that runs changes all rows of its subtree at once.
+//! Each call has one public function. It checks the call's own rules in the policy's order and then changes
+//! the tree. Its contract states the call's outcome in the policy's terms (`IsOutcome`). Setting the mask of
+//! an Active partition changes all rows of its subtree at once.
 #![tactic(auto)]
 
 mod properties;

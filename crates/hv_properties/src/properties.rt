@@ -12,7 +12,7 @@ use hv_policy::{CallOutput, Rule, needs};
 use hv_refine::{CallError, Partitions, is_state_allowed, number_output, resolve_partition_id};
 use std::alloc::Allocator;
 
-/// HvGetPartitionProperty: the value of a property of the target.
+/// HvGetPartitionProperty: returns the value of a property of the target.
 pub fn get_partition_property<A: Allocator>(
     tree: &Partitions<A>,
     caller: u64,
@@ -28,8 +28,10 @@ pub fn get_partition_property<A: Allocator>(
     Ok(number_output(property_value(tree, resolve_partition_id(caller, partition), code)))
 }
 
-/// HvSetPartitionProperty: a property of the target gets its new value. A mask that an Active target is
-/// given narrows it and all partitions below it: each keeps those of its bits that the value has.
+/// HvSetPartitionProperty: sets a property of the target to a new value.
+///
+/// A new mask for an Active target narrows it and all partitions below it: each keeps only the bits that
+/// the value also has.
 pub fn set_partition_property<A: Allocator>(
     tree: &mut Partitions<A>,
     caller: u64,

@@ -1,4 +1,4 @@
-// What setting a property changes in the tree.
+// The changes that setting a property makes to the tree.
 ghost use Rattle.std.specs.Prelude.{◌≡◌};
 ghost use Rattle.hv_policy.specs.Effect.{narrowed as narrowed_parts, narrows as narrows_of, property_set};
 ghost use Rattle.hv_policy.specs.Flat.{Flat};
@@ -16,7 +16,7 @@ use hv_refine::Partitions;
 use hv_tree::Edit;
 use std::alloc::Allocator;
 
-// Sets a property of a partition: it gets its new value, or the value narrows its subtree.
+// Sets a property of a partition to its new value, or narrows the partition's subtree by it.
 pub fn set_property<A: Allocator>(tree: &mut Partitions<A>, id: u64, code: u32, value: u64)
     requires { TreeInvariant tree.old }
     ensures { (f : Flat) → Refines tree.old f
@@ -68,7 +68,7 @@ fn give<A: Allocator>(tree: &mut Partitions<A>, id: u64, code: u32, value: u64)
     }
 }
 
-// Restricts a partition's mask, which gives no bit that it hasn't got.
+// The edit that restricts a partition's mask. It never adds a bit.
 #[derive(Drop)]
 struct Narrowing {
     to: Privileges,

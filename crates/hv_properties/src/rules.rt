@@ -1,4 +1,4 @@
-// The rules that this call group asks alone, and what it reads of the tree.
+// The rules that only this call group checks, and what the group reads from the tree.
 ghost use Rattle.std.specs.Prelude.{◌≡◌, Some, is_some};
 ghost use Rattle.std.specs.FinMap.{get};
 ghost use Rattle.hv_policy.specs.Answer.{value_of};
@@ -19,7 +19,7 @@ pub fn is_known(code: u32) -> bool
     Property::of(code).is_some()
 }
 
-// P18: whether a partition may give this value to the property with this code: a mask lies within its own.
+// P18: whether a partition may set the property with this code to this value: a mask must lie within its own.
 pub fn may_give<A: Allocator>(tree: &Partitions<A>, caller: u64, code: u32, value: u64) -> bool
     ensures { (f : Flat) → Refines tree.now f → result ≡ may_give_of (property_of code) value f caller }
 {
@@ -43,7 +43,7 @@ pub fn is_in_range(code: u32, value: u64) -> bool
     }
 }
 
-// The value of a property, or 0 where there is none.
+// The value of a property, or 0 if there is none.
 pub fn property_value<A: Allocator>(tree: &Partitions<A>, id: u64, code: u32) -> u64
     ensures { (f : Flat) → Refines tree.now f → result ≡ value_of (property_of code) (get f.part id) }
 {

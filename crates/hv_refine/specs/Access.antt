@@ -1,4 +1,4 @@
--- What a call group makes of an access.
+-- How a call group answers an access.
 use Rattle.std.specs.Prelude.{◌≡◌, ℕ, List, None, Some}
 use Rattle.std.specs.declared.result.Result.{Result}
 use Rattle.std.specs.declared.result.Result.TheVariants.{Ok, Err}
@@ -14,15 +14,15 @@ use Rattle.hv_policy.specs.declared.rule.Rule.{Rule}
 use Rattle.hv_refine.specs.Tie.{Refines}
 use Rattle.hv_tree.specs.Rows.{Rows}
 
--- it was served: its output bytes and the rows that it left are the policy's
+-- the access was served: its own rules hold, and its output bytes and the new rows are the policy's
 pub record IsAccessed {A : Type 0} (f : Flat) (by : Caller) (what : Action A) (bytes : List ℕ)
     (new : Rows PartitionState) : Type 0 where
   pub met : first_unmet (action_asks f by.part what) ≡ None
   pub reply : Served bytes ≡ action_answer f by what
   pub rows : Refines new (action_effect f by what)
 
--- what became of an access, in one of the flat states that the rows are tied to: it was served, or refused by
--- its first unmet rule with the rows as they were. It never needs memory
+-- the outcome of an access, in a flat state that the old rows refine: it was served, or it failed with the
+-- first rule that does not hold and the rows are unchanged. An access never needs memory
 abbrev pub IsAnswered : {A : Type 0} → Flat → Caller → Action A → Rows PartitionState → Result (List ℕ) Rule →
     Rows PartitionState → Type 0
 IsAnswered f by what old (Ok bytes) new = (first_unmet (caller_asks f by) ≡ None) × IsAccessed f by what bytes

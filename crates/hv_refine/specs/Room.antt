@@ -1,11 +1,11 @@
--- Rows that are the same but for the room of their page sets, their processors, ports and connections.
+-- Equality of rows up to the room of their page sets, processors, ports and connections.
 use Rattle.std.specs.Prelude.{◌≡◌, ℕ, map}
 use Rattle.std.specs.FinMap.{get, entries, from_entries}
 use Rattle.std.specs.Option.{option_map}
 use Rattle.hv_partition.specs.Partition.{PartitionState}
 use Rattle.hv_tree.specs.Rows.{Row, Rows}
 
--- a row without its room, and rows that are the same but for it
+-- a row with all its room set to 0
 abbrev pub bare : Row PartitionState → Row PartitionState
 bare r = (
   r.0,
@@ -18,9 +18,10 @@ bare r = (
   },
 )
 
+-- the old and the new rows are equal up to room
 abbrev pub IsSameButRoom : Rows PartitionState → Rows PartitionState → Type 0
 IsSameButRoom old new = (id : ℕ) → option_map bare (get new id) ≡ option_map bare (get old id)
 
--- the rows without room
+-- the rows, each with all its room set to 0
 abbrev pub roomless : Rows PartitionState → Rows PartitionState
 roomless rows = from_entries (map (λ e. (e.0, bare e.1)) (entries rows))

@@ -1,4 +1,4 @@
--- What a call group is told of a call, and what it makes of it.
+-- The precondition of a call group's functions, and the possible outcomes of a call.
 use Rattle.std.specs.Prelude.{◌≡◌, ℕ, ◌≤◌, true, List, Option, None, Some}
 use Rattle.std.specs.declared.result.Result.{Result}
 use Rattle.std.specs.declared.result.Result.TheVariants.{Ok, Err}
@@ -20,7 +20,7 @@ use Rattle.hv_refine.specs.Tie.{Refines}
 use Rattle.hv_refine.specs.declared.refused.CallError.{CallError}
 use Rattle.hv_refine.specs.declared.refused.CallError.TheVariants.{Unmet, Memory}
 
--- the rows are those of a lawful flat state
+-- the invariant of the tree: its rows refine a flat state for which `StateInvariant` holds
 pub record TreeInvariant (rows : Rows PartitionState) : Type 0 where
   pub pages : ℕ
   pub bounded : pages ≤ MAX_PAGES
@@ -28,31 +28,31 @@ pub record TreeInvariant (rows : Rows PartitionState) : Type 0 where
   pub tied : Refines rows flat
   pub lawful : StateInvariant pages flat
 
--- and P1 to P10 are met there for a call by this partition
+-- the precondition of a call: the invariant holds, and P1 to P10 hold for this call by this partition
 pub record IsAdmitted (tree : Rows PartitionState) (caller : ℕ) (call : Call) : Type 0 where
   pub rows : TreeInvariant tree
   pub active : is_running rows.flat caller ≡ true
   pub target : AreMet (target_asks rows.flat caller call)
 
--- the first of its own rules that a call doesn't meet
+-- the first of a call's own rules that fails, if one does
 abbrev pub unmet_further : Flat → ℕ → Call → Option Rule
 unmet_further f caller call = first_unmet (further_asks f caller call)
 
--- a call was served: its output bytes and the rows that it left are the policy's
+-- the call was served: its own rules hold, and its output bytes and the new rows are the policy's
 pub record IsServed (f : Flat) (caller : ℕ) (call : Call) (bytes : List ℕ) (new : Rows PartitionState) : Type
     0 where
   pub met : unmet_further f caller call ≡ None
   pub output : bytes ≡ output call f caller (target_of call caller)
   pub rows : Refines new (call_effect call f caller (target_of call caller))
 
--- a call that would be served needs memory that the host doesn't have, and nothing changed but room
+-- the host was out of memory: the call's own rules hold, it may need memory, and only room changed
 pub record IsRefused (f : Flat) (caller : ℕ) (call : Call) (old new : Rows PartitionState) : Type 0 where
   pub met : unmet_further f caller call ≡ None
   pub memory : takes_memory (kind_of_call call) ≡ true
   pub rows : IsSameButRoom old new
 
--- what became of a call in one of the flat states that the rows are tied to: it was served, or refused by its
--- first unmet rule with the rows as they were, or for lack of memory
+-- the outcome of a call, in a flat state that the old rows refine: it was served, or it failed with the first
+-- rule that does not hold and the rows are unchanged, or the host was out of memory
 abbrev pub IsOutcome : Flat → ℕ → Call → Rows PartitionState → Result (List ℕ) CallError → Rows PartitionState
     → Type 0
 IsOutcome f caller call old (Ok bytes) new = IsServed f caller call bytes new

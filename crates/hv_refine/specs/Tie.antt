@@ -1,5 +1,5 @@
--- How the tree of partitions and the flat state of the policy belong together, key by key: what the flat maps
--- have under a partition's id is what the tree's row of that partition holds.
+-- The refinement relation between the tree of partitions and the policy's flat state, key by key: the flat
+-- maps hold under a partition's id what the tree's row of that partition holds.
 use Rattle.std.specs.Prelude.{◌≡◌, ℕ, ◌==◌, ◌&&◌, Bool, true, false, not, List, [], ◌∷◌, ◌++◌, map, Option}
 use Rattle.std.specs.Prelude.{Some, None}
 use Rattle.std.specs.Option.{option_map}
@@ -26,13 +26,13 @@ part_row r = record {
   weight = r.1.weight;
 }
 
--- whether the page with this row is one of the pooled, or of the loose, pages of a partition
+-- whether a page with this flat row is a pooled, or a loose, page of the partition
 abbrev pub is_held : ℕ → Bool → Option PageRow → Bool
 is_held id pooled None = false
 is_held id true (Some page) = page.owner == id && page.pooled
 is_held id false (Some page) = page.owner == id && not page.pooled
 
--- whether the partition of a row has a page in its pool, or among its loose pages
+-- whether the partition in a row has the page in its pool, or among its loose pages
 abbrev pub holds : Bool → ℕ → Option (Row PartitionState) → Bool
 holds pooled page None = false
 holds true page (Some r) = set.contains r.1.pooled.pages page
@@ -42,7 +42,7 @@ holds false page (Some r) = set.contains r.1.loose.pages page
 abbrev pub vp_row_of : VpState → VpRow
 vp_row_of v = record { registers = v.registers; flags = v.flags; pending = v.pending }
 
--- the flat row of the processor with this index, where the partition of a row has it
+-- the flat row of the processor with this index, if the partition in the row has it
 abbrev pub vp_row : ℕ → Option (Row PartitionState) → Option VpRow
 vp_row index None = None
 vp_row index (Some r) = option_map vp_row_of (get r.1.vps.vps index)
@@ -59,7 +59,7 @@ port_row_of p = record {
   born = p.born;
 }
 
--- the flat row of the port with this id, where the partition of a row has it
+-- the flat row of the port with this id, if the partition in the row has it
 abbrev pub port_row : ℕ → Option (Row PartitionState) → Option PortRow
 port_row id None = None
 port_row id (Some r) = option_map port_row_of (get r.1.ports.rows id)
@@ -68,7 +68,7 @@ port_row id (Some r) = option_map port_row_of (get r.1.ports.rows id)
 abbrev pub conn_row_of : Conn → ConnRow
 conn_row_of c = record { part = c.part; port = c.port; kind = c.kind; born = c.born }
 
--- the flat row of the connection with this id, where the partition of a row has it
+-- the flat row of the connection with this id, if the partition in the row has it
 abbrev pub conn_row : ℕ → Option (Row PartitionState) → Option ConnRow
 conn_row id None = None
 conn_row id (Some r) = option_map conn_row_of (get r.1.conns.rows id)
@@ -90,26 +90,26 @@ abbrev pub slot_rows : Place → Option Message → List MailRow
 slot_rows place None = []
 slot_rows place (Some message) = mail_row place true message ∷ []
 
--- the rows of what stands at a place: the slot's, and then those that wait
+-- the flat rows of the messages at a place: the one in the slot first, then the waiting ones
 abbrev pub rows_of : Place → SintMail → List MailRow
 rows_of place mail = slot_rows place mail.slot ++ map (mail_row place false) mail.waiting
 
--- what stands at a SINT of a processor, and nothing where there is no such processor
+-- the messages at a SINT of a processor; none if there is no such processor
 abbrev pub sint_mail : ℕ → Option VpState → SintMail
 sint_mail sint None = no_mail
 sint_mail sint (Some v) = at v.mail sint
 
--- the same of the processor with this index, where the partition of a row has it
+-- the messages at a SINT of the processor with this index; none if the partition in the row lacks it
 abbrev pub mail_there : ℕ → ℕ → Option (Row PartitionState) → SintMail
 mail_there index sint None = no_mail
 mail_there index sint (Some r) = sint_mail sint (get r.1.vps.vps index)
 
--- a place of a partition
+-- the place with this processor index and SINT in a partition
 abbrev pub here : ℕ → ℕ → ℕ → Place
 here id vp sint = record { part = id; vp = vp; sint = sint }
 
--- the flat state has under this id what the row holds; of the list of messages that is what stands at each of
--- its places
+-- the relation for one partition: the flat maps hold under its id what the row holds, and the flat messages
+-- at each of its places are, in order, those that the row holds there
 pub record PartitionRelation (f : Flat) (id : ℕ) (row : Option (Row PartitionState)) : Type 0 where
   pub part : get f.part id ≡ option_map part_row row
   pub page : (page : ℕ) (pooled : Bool) → is_held id pooled (get f.page page) ≡ holds pooled page row
@@ -119,6 +119,6 @@ pub record PartitionRelation (f : Flat) (id : ℕ) (row : Option (Row PartitionS
   pub mail : (vp sint : ℕ) → mail_at (here id vp sint) f.mail ≡ rows_of (here id vp sint)
       (mail_there vp sint row)
 
--- the flat state has the partitions of these rows with all that they hold, and nothing else
+-- the refinement relation: the flat state holds these partitions with everything in their rows, and no more
 pub record Refines (tree : Rows PartitionState) (f : Flat) : Type 0 where
   pub rows : (id : ℕ) → PartitionRelation f id (get tree id)

@@ -1,4 +1,4 @@
-// The rules of the caller, and those that ask whether it may make the call.
+// The rules on the caller, and the rules that decide whether it may make a call.
 ghost use Rattle.std.specs.Prelude.{◌≡◌, IfErr, IfOk, IfSome, None, Some};
 ghost use Rattle.std.specs.Borrow.{LendsIfOk, sem};
 ghost use Rattle.std.specs.FinMap.{get};
@@ -23,7 +23,9 @@ use hv_policy::{Caller, Kin, Rule, needs};
 use hv_vp::Vp;
 use std::alloc::Allocator;
 
-/// P1 to P3: the caller's partition where they are met, and else the first of them that isn't.
+/// Checks P1 to P3 and returns the caller's partition.
+///
+/// The error is the first of the three rules that fails.
 pub fn caller_in<A: Allocator>(tree: &Partitions<A>, by: Caller) -> Result<&Partition<A>, Rule>
     ensures met { IfOk result (λ _. (f : Flat) → Refines tree.now f → first_unmet (caller_asks f by) ≡ None) }
     ensures there { IfOk result (λ caller. content tree.now by.part ≡ Some caller.now) }
@@ -42,8 +44,9 @@ pub fn caller_in<A: Allocator>(tree: &Partitions<A>, by: Caller) -> Result<&Part
     Ok(caller)
 }
 
-/// P1 to P3 of an access, and the processor that makes it, to be read or changed; else the first of them that
-/// isn't met, with the partitions as they were.
+/// Checks P1 to P3 for an access and returns the processor that makes it, to read or change.
+///
+/// The error is the first of the three rules that fails. The partitions are then unchanged.
 #[tactic(auto, using(hv_tree::proofs::Laws::unchanged))]
 pub fn caller_vp<A: Allocator>(tree: &mut Partitions<A>, by: Caller) -> Result<&mut Vp<A>, Rule>
     ensures* writes_back { sem 𝓛 (LendsIfOk (tree_row (partition_row A.row A.Allocator) A.row A.Allocator)
@@ -67,7 +70,9 @@ pub fn caller_vp<A: Allocator>(tree: &mut Partitions<A>, by: Caller) -> Result<&
     }
 }
 
-/// P8 to P10: the first of them that isn't met. The caller's partition is the one that was found.
+/// Returns the first of P8 to P10 that fails, if one does.
+///
+/// `caller` is the caller's partition, which P1 already looked up.
 // Inlined: calls for the own id in bench/embed.sh.
 #[inline(always)]
 pub fn unmet_by_target<A: Allocator>(
@@ -83,7 +88,7 @@ pub fn unmet_by_target<A: Allocator>(
     if !caller.mask().contains(need.privilege) {
         return Some(Rule::Privilege);
     }
-    // One look tells of a child that it is there and whose it is.
+    // For a child, one lookup shows both that it exists and which partition is its parent.
     let target = target(by.part, need.named);
     if is_kin(tree, need.kin, by.part, target) {
         return None;
@@ -94,7 +99,7 @@ pub fn unmet_by_target<A: Allocator>(
     Some(Rule::TargetExists)
 }
 
-// Whether a call that allows this kin may name the partition.
+// Whether the partition is in the target scope of a call that allows this kin.
 // Inlined: calls for the own id in bench/embed.sh.
 #[inline(always)]
 fn is_kin<A: Allocator>(tree: &Partitions<A>, kin: Kin, caller: u64, id: u64) -> bool
@@ -107,7 +112,7 @@ fn is_kin<A: Allocator>(tree: &Partitions<A>, kin: Kin, caller: u64, id: u64) ->
     }
 }
 
-// The partition that a call of this caller is about, where its input names this one first.
+// The target of a call by this caller, if the call's input names `named` first.
 fn target(caller: u64, named: Option<u64>) -> u64
     ensures { result ≡ target_at named caller }
 {

@@ -1,11 +1,11 @@
-//! The tree of partitions and the flat state of the policy: how they belong together, and what every
-//! call group of calls reads of the tree.
+//! The refinement relation between the tree of partitions and the policy's flat state, and the checks that
+//! all call groups share.
 //!
-//! `Refines` in `specs/` says which flat state the tree's rows are those of, key by key. A call group's
-//! function on a call is told that the call is admitted (`IsAdmitted`: P1 to P10 are met) and promises
-//! its outcome in the policy's words (`IsOutcome`). The functions here ask the rules of every call, P1 to
-//! P3 and P8 to P10, and single rules that several call groups ask, each for every flat state that the tree
-//! is tied to.
+//! `Refines` in `specs/` relates the tree's rows to a flat state, key by key. A call group's function may
+//! assume that its call is admitted (`IsAdmitted`: P1 to P10 hold), and ensures the call's outcome in the
+//! policy's terms (`IsOutcome`). The functions here check the rules of every call, P1 to P3 and P8 to P10,
+//! and single rules that several call groups share. Their contracts hold for every flat state that the
+//! tree refines.
 #![tactic(auto)]
 
 mod access;

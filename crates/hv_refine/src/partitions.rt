@@ -1,7 +1,7 @@
-// The tree of the partitions.
+// The tree of partitions.
 
 use hv_partition::Partition;
 use hv_tree::IdTree;
 
-/// The partitions that are there, by id: each below its parent, with what it has.
+/// All existing partitions by id, each below its parent, with everything that it holds.
 pub type Partitions<A> = IdTree<Partition<A>, A>;

@@ -1,12 +1,12 @@
-// Why a call was not served.
+// The reasons for not serving a call.
 
 use hv_policy::Rule;
 
-/// Why a call was not served.
+/// The reason that a call was not served.
 #[derive(Clone, Copy, PartialEq, Eq, Debug)]
 pub enum CallError {
-    /// This rule, the first of those that it is asked, isn't met. Nothing changed.
+    /// This rule is the first one that fails. Nothing changed.
     Unmet(Rule),
-    /// The host has no memory for it. Nothing changed but room that may have been made.
+    /// The host is out of memory. Nothing changed, except that room may have been reserved.
     Memory,
 }

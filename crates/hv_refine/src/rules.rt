@@ -1,4 +1,4 @@
-// Rules that several call groups ask, and what they read of the tree for them.
+// Rules that several call groups check, and the lookups in the tree that they need.
 ghost use Rattle.std.specs.Prelude.{◌≡◌, ◌==◌};
 ghost use Rattle.std.specs.FinMap.{contains_key};
 ghost use Rattle.std.specs.Int.{w64, to_le_bytes};
@@ -15,21 +15,21 @@ use hv_defs::{Aim, SELF_ID};
 use hv_policy::{CallOutput, States};
 use std::alloc::Allocator;
 
-/// A partition's pages: those of its pool that it may still use, and those that it uses.
+/// A partition's balance of pooled pages: those still available, and those in use.
 #[derive(Clone, Copy)]
 pub struct Balance {
     pub available: u64,
     pub in_use: u64,
 }
 
-/// The partition that an id in a block means: all ones is the caller's own.
+/// Returns the partition that an id in an input block names. All ones names the caller's own.
 pub fn resolve_partition_id(caller: u64, id: u64) -> u64
     ensures { result ≡ resolved_id caller id }
 {
     if id == SELF_ID { caller } else { id }
 }
 
-/// Whether `id` is a child of `parent`.
+/// Returns `true` if `id` is a child of `parent`.
 pub fn is_child<A: Allocator>(tree: &Partitions<A>, parent: u64, id: u64) -> bool
     ensures { (f : Flat) → Refines tree.now f → result ≡ is_child_of f parent id }
 {
@@ -39,7 +39,7 @@ pub fn is_child<A: Allocator>(tree: &Partitions<A>, parent: u64, id: u64) -> boo
     }
 }
 
-/// P12: whether a partition is there, in one of these life states.
+/// Checks P12: the partition exists and is in one of these life states.
 pub fn is_state_allowed<A: Allocator>(tree: &Partitions<A>, id: u64, states: States) -> bool
     ensures { (f : Flat) → Refines tree.now f → result ≡ is_in f id states }
 {
@@ -49,7 +49,7 @@ pub fn is_state_allowed<A: Allocator>(tree: &Partitions<A>, id: u64, states: Sta
     }
 }
 
-/// P19: whether a partition has a processor with this index.
+/// Checks P19: the partition has a processor with this index.
 pub fn has_vp<A: Allocator>(tree: &Partitions<A>, id: u64, index: u32) -> bool
     ensures { (f : Flat) → Refines tree.now f → result ≡ contains_key f.vp (id, index) }
 {
@@ -59,7 +59,9 @@ pub fn has_vp<A: Allocator>(tree: &Partitions<A>, id: u64, index: u32) -> bool
     partition.vp(index).is_some()
 }
 
-/// P19 of a port: whether the one processor of a partition at which it aims is there. For any it is met.
+/// Checks P19 for a port: the partition has the one processor at which the port aims.
+///
+/// The rule always holds for `Aim::Any`.
 pub fn has_target<A: Allocator>(tree: &Partitions<A>, id: u64, aim: Aim) -> bool
     ensures { (f : Flat) → Refines tree.now f → result ≡ has_target_of f id aim }
 {
@@ -69,7 +71,7 @@ pub fn has_target<A: Allocator>(tree: &Partitions<A>, id: u64, aim: Aim) -> bool
     }
 }
 
-/// P24: whether a partition has so many available pages.
+/// Checks P24: the partition has at least `charge` available pages.
 pub fn has_available<A: Allocator>(tree: &Partitions<A>, id: u64, charge: u64) -> bool
     requires { TreeInvariant tree.now }
     ensures { (f : Flat) → Refines tree.now f → result ≡ has_available_of f id charge }
@@ -77,7 +79,7 @@ pub fn has_available<A: Allocator>(tree: &Partitions<A>, id: u64, charge: u64) -
     charge <= memory_balance(tree, id).available
 }
 
-/// A partition's balance of pages, 0 and 0 where there is none.
+/// Returns a partition's balance of pages, or 0 and 0 if there is no such partition.
 pub fn memory_balance<A: Allocator>(tree: &Partitions<A>, id: u64) -> Balance
     requires { TreeInvariant tree.now }
     ensures available { (f : Flat) → Refines tree.now f → result.available ≡ available_of f id }
@@ -98,7 +100,7 @@ pub fn memory_balance<A: Allocator>(tree: &Partitions<A>, id: u64) -> Balance
     }
 }
 
-/// The output of a call that answers one number.
+/// Returns the output of a call that answers one number.
 pub fn number_output(number: u64) -> CallOutput
     ensures { result ≡ to_le_bytes w64 number }
 {
