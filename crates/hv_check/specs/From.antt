@@ -1,4 +1,4 @@
--- What is left of an audit, line by line.
+-- Legality of the rest of an audit, line by line.
 use Rattle.std.specs.Prelude.{ℕ, ◌≡◌, ◌+◌, ◌<◌, ◌^◌, Bool, true, false, List, [], ◌∷◌, ◌++◌, length, codes}
 use Rattle.std.specs.Prelude.{decimal}
 use Rattle.std.specs.declared.alloc.Global.{Global}
@@ -15,13 +15,13 @@ use Rattle.hv_check.specs.declared.replay.Replay.{Replay}
 use Rattle.hv_check.specs.declared.step.Step.{Step}
 use Rattle.hv_check.specs.declared.step.Step.TheVariants.{On, Not}
 
--- no lines are left, unless an audit may end early
+-- no lines are left, or the audit may end early
 abbrev pub IsOver : Bool → List (Line Global) → Type 0
 IsOver false lines = lines ≡ []
 IsOver true lines = Unit {0}
 
--- The rest of an audit is legal behind what is kept, where these lines are left: the history goes on as a
--- run, each entry is of the next event of its processor, and the text is that of these entries.
+-- The rest of an audit is legal after the history of `k`, with these lines left: the history extends to a
+-- run, each new entry is the next event of its processor, and the text is the audit of these entries.
 pub record IsLegalFrom (prefix rules : Bool) (k : Kept Global) (lines : List (Line Global)) (text : List ℕ) :
     Type 0 where
   pub kept : Kept Global
@@ -54,7 +54,7 @@ abbrev pub IsNoLine : List ℕ → Type 0
 IsNoLine text = (rules : Bool) (number : ℕ) (entry : Entry Global) (rest : List ℕ) → number < 2 ^ 64 → IsLine
     rules number entry text rest → ⊥
 
--- behind a line the rest of the audit is legal just where it was before that line
+-- after a line, the rest of the audit is legal exactly if the text was legal before it
 pub record HasMoved (rules : Bool) (old_kept new_kept : Kept Global) (new : Replay)
     (lines : List (Line Global)) (text rest : List ℕ) : Type 0 where
   pub left : List (Line Global)
@@ -64,26 +64,26 @@ pub record HasMoved (rules : Bool) (old_kept new_kept : Kept Global) (new : Repl
   pub back : (prefix : Bool) → IsLegalFrom prefix rules new_kept left rest → IsLegalFrom prefix rules old_kept
       lines text
 
--- a line was taken, or no audit is legal that goes on with this text
+-- either a line was taken, or no legal audit continues with this text
 abbrev pub IsStep : Bool → Kept Global → Kept Global → Replay → Replay → List ℕ → Step → Type 0
 IsStep rules old_kept new_kept old new text (On rest) = (lines : List (Line Global)) → StandsFor old lines →
     HasMoved rules old_kept new_kept new lines text rest.now
 IsStep rules old_kept new_kept old new text (Not wrong) = (lines : List (Line Global)) → StandsFor old lines →
     (prefix : Bool) → IsLegalFrom prefix rules old_kept lines text → ⊥
 
--- what stands behind a line is shorter
+-- the text after a line is shorter
 abbrev pub IsShorter : List ℕ → Step → Type 0
 IsShorter text (On rest) = length rest.now < length text
 IsShorter text (Not wrong) = Unit {0}
 
--- the audit ends well, or it doesn't
+-- the end of the audit is legal, or it isn't
 abbrev pub IsEnding : Bool → Replay → ℕ → List ℕ → Ending → Type 0
 IsEnding prefix replay events text Good = (lines : List (Line Global)) → StandsFor replay lines → IsOver
     prefix lines × IsEnd prefix events text
 IsEnding prefix replay events text (Bad wrong) = (lines : List (Line Global)) → StandsFor replay lines →
     IsOver prefix lines → IsEnd prefix events text → ⊥
 
--- the text is the last line of an audit of so many events, or it isn't
+-- the text is the last line of an audit with this number of events, or it isn't
 abbrev pub IsLastLine : ℕ → List ℕ → Ending → Type 0
 IsLastLine events text Good = text ≡ end_text events
 IsLastLine events text (Bad wrong) = text ≡ end_text events → ⊥

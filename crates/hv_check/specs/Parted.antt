@@ -1,7 +1,7 @@
--- What stands round a byte of a text. Only contracts of private functions cite these words.
+-- Splitting a text at a byte. Only contracts of private functions cite these words.
 use Rattle.std.specs.Prelude.{ℕ, ◌≡◌, ◌≢◌, List, ◌∷◌, ◌++◌, All}
 
--- the text parts at the first byte of this value
+-- the text splits at its first byte of this value
 pub record IsAround (byte : ℕ) (text before behind : List ℕ) : Type 0 where
   pub all : text ≡ before ++ byte ∷ behind
   pub first : All (λ it. it ≢ byte) before

@@ -17,11 +17,11 @@ use Rattle.hv_check.specs.Read.{AreRead}
 use Rattle.hv_check.specs.declared.replay.Replay.{Replay}
 use Rattle.hv_check.specs.declared.turn.Turn.{Turn}
 
--- what is left of a turn
+-- the actions that are left of a turn
 abbrev pub todo : Turn → List (Action Global)
 todo turn = drop turn.done turn.actions.items
 
--- what a processor has left to do in the phase, by these turns
+-- the actions that a processor has left in the phase, by these turns
 abbrev pub todo_of : Caller → List Turn → List (Action Global)
 todo_of by [] = []
 todo_of by (turn ∷ turns) = (if is_caller by turn.by then todo turn else []) ++ todo_of by turns
@@ -31,7 +31,7 @@ abbrev pub first_of : List (Action Global) → Option (Action Global)
 first_of [] = None
 first_of (action ∷ actions) = Some action
 
--- an action that asks for another element, where it is a call
+-- a call that asks for another element; an access is unchanged
 abbrev pub at_element : Action Global → ℕ → Action Global
 at_element (Hypercall frame) next = Hypercall (restart frame next)
 at_element (ReadMsr msr) next = ReadMsr msr
@@ -42,7 +42,7 @@ at_element (ReadFlags sint) next = ReadFlags sint
 at_element (ClearFlag sint flag) next = ClearFlag sint flag
 at_element TakeInterrupt next = TakeInterrupt
 
--- what is left of actions of which the first got this reply
+-- the actions that are left after the first one got this reply
 abbrev pub after_reply : List (Action Global) → Reply → List (Action Global)
 after_reply [] reply = []
 after_reply (action ∷ actions) (Served output) = actions
@@ -54,12 +54,12 @@ after_reply (action ∷ actions) (Fault rule) = actions
 abbrev pub later_of : Replay → List (Line Global)
 later_of replay = reverse replay.later.items
 
--- what a processor has left to do in the phase
+-- the actions that a processor has left in the phase
 abbrev pub left_by : Caller → Replay → List (Action Global)
 left_by by replay = todo_of by replay.turns.items
 
--- These lines are left: first those of the phase that is on, of which each processor has left to do what they
--- ask of it, and then those of later phases.
+-- These lines are left: first those of the current phase, whose actions each processor has left to do, and
+-- then those of later phases.
 pub record StandsFor (replay : Replay) (lines : List (Line Global)) : Type 0 where
   pub block : List (Line Global)
   pub all : lines ≡ block ++ later_of replay
@@ -69,10 +69,10 @@ pub record StandsFor (replay : Replay) (lines : List (Line Global)) : Type 0 whe
   pub asked : (by : Caller) → left_by by replay ≡ asked_by by block
   pub read : AreRead lines
 
--- nobody has anything left to do in the phase
+-- no processor has an action left in the phase
 abbrev pub IsIdle : Replay → Type 0
 IsIdle replay = (by : Caller) → left_by by replay ≡ []
 
--- so it is only where all lines are done
+-- the phase is idle only if all lines are done
 abbrev pub IsBegun : Replay → Type 0
 IsBegun replay = IsIdle replay → later_of replay ≡ []

@@ -5,7 +5,7 @@ use Rattle.hv_policy.specs.declared.answer.Answer.TheVariants as answer
 use Rattle.hv_policy.specs.declared.rule.Rule.{Rule}
 use Rattle.hv_check.specs.Legal.{IsName}
 
--- behind nothing, or a space and bytes without a line feed, stands a line feed, and then this
+-- a text is a line's end: nothing, or a space and bytes without a line feed, then a line feed, then `rest`
 pub record IsBehindName (text rest : List ℕ) : Type 0 where
   pub tail : List ℕ
   pub name : IsName tail

@@ -1,4 +1,4 @@
--- How the lines of a script are taken, one event after another.
+-- Taking the lines of a script, one event after another.
 use Rattle.std.specs.Prelude.{◌≡◌, ◌≢◌, ◌+◌, List, [], ◌∷◌, ◌++◌, All, map}
 use Rattle.std.specs.declared.alloc.Global.{Global}
 use Rattle.hv_abi.specs.declared.frame.Frame.{Frame}
@@ -11,7 +11,7 @@ use Rattle.hv_policy.specs.declared.reply.Reply.{Reply}
 use Rattle.hv_policy.specs.declared.reply.Reply.TheVariants.{Served, More, Denied, Fault}
 use Rattle.hv_script.specs.declared.line.Line.{Line}
 
--- what is left of a call after the reply to an element: where the call goes on, its next element, and else
+-- what is left of a call after the reply to an element: its next element if the call continues, otherwise
 -- nothing
 abbrev pub call_left : Frame Global → Reply → List (Action Global)
 call_left frame (Served output) = []
@@ -19,7 +19,7 @@ call_left frame (More next output) = Hypercall (restart frame (start_of frame + 
 call_left frame (Denied rule status reps) = []
 call_left frame (Fault rule) = []
 
--- what is left of an action after the reply to its event; of an access nothing
+-- what is left of an action after the reply to its event; of an access, nothing
 abbrev pub action_left : Action Global → Reply → List (Action Global)
 action_left (Hypercall frame) reply = call_left frame reply
 action_left (ReadMsr msr) reply = []
@@ -30,12 +30,12 @@ action_left (ReadFlags sint) reply = []
 action_left (ClearFlag sint flag) reply = []
 action_left TakeInterrupt reply = []
 
--- the line that asks for it
+-- the line with the action that is left, if one is
 abbrev pub line_left : Line Global → Reply → List (Line Global)
 line_left line reply = map (λ action. record line { action = action }) (action_left line.action reply)
 
--- The event is the next one of its processor: what its first line asks for, in the phase that is on, which is
--- that of all lines before it. These lines are left then.
+-- The event is the next one of its processor: the action of its first line. All lines before that line are of
+-- the same phase. `left` are the lines that are left after the event.
 pub record IsNext (lines : List (Line Global)) (e : Entry Global) (left : List (Line Global)) : Type 0 where
   pub before : List (Line Global)
   pub line : Line Global
@@ -46,7 +46,7 @@ pub record IsNext (lines : List (Line Global)) (e : Entry Global) (left : List (
   pub event : e.event ≡ record { by = line.by; what = line.action }
   pub left_is : left ≡ before ++ (line_left line e.reply ++ after)
 
--- each entry is of the next event of its processor, one after another, and these lines are left at the end
+-- each entry is the next event of its processor, one after another, and `left` are the lines left at the end
 abbrev pub Takes : List (Line Global) → List (Entry Global) → List (Line Global) → Type 0
 Takes lines [] left = left ≡ lines
 Takes lines (e ∷ es) left = (next : List (Line Global)) × IsNext lines e next × Takes next es left

@@ -1,5 +1,5 @@
--- Where a turn stands among others, and what is handed out for a phase. Only contracts of private functions
--- cite these words.
+-- The place of a turn among others, and the turns of a phase. Only contracts of private functions cite these
+-- words.
 use Rattle.std.specs.Prelude.{ℕ, ◌≡◌, ◌≢◌, List, [], ◌∷◌, ◌++◌, All, length}
 use Rattle.std.specs.declared.alloc.Global.{Global}
 use Rattle.hv_phases.specs.Lines.{asked_by}
@@ -8,7 +8,7 @@ use Rattle.hv_script.specs.declared.line.Line.{Line}
 use Rattle.hv_check.specs.Replay.{todo, todo_of}
 use Rattle.hv_check.specs.declared.turn.Turn.{Turn}
 
--- at this place stands the processor's first turn that has something left to do
+-- the processor's first turn that has an action left is at this place
 pub record IsAt (by : Caller) (turns : List Turn) (at : ℕ) : Type 0 where
   pub before : List Turn
   pub turn : Turn
@@ -19,7 +19,7 @@ pub record IsAt (by : Caller) (turns : List Turn) (at : ℕ) : Type 0 where
   pub first : todo_of by before ≡ []
   pub some : todo turn ≢ []
 
--- at this place stands a turn of the processor, and the turns behind it have nothing left for it
+-- a turn of the processor is at this place, and no later turn has an action left for it
 pub record IsLast (by : Caller) (turns : List Turn) (at : ℕ) : Type 0 where
   pub before : List Turn
   pub turn : Turn
@@ -29,7 +29,7 @@ pub record IsLast (by : Caller) (turns : List Turn) (at : ℕ) : Type 0 where
   pub by_is : turn.by ≡ by
   pub last : todo_of by after ≡ []
 
--- no line that stands first, or last, is of this phase
+-- the first line, or the last line, is not of this phase
 abbrev pub IsPast : ℕ → List (Line Global) → Type 0
 IsPast phase lines = (line : Line Global) (rest : List (Line Global)) → lines ≡ line ∷ rest → line.phase ≢
     phase
@@ -38,7 +38,7 @@ abbrev pub IsPastAtEnd : ℕ → List (Line Global) → Type 0
 IsPastAtEnd phase lines = (line : Line Global) (rest : List (Line Global)) → lines ≡ rest ++ line ∷ [] →
     line.phase ≢ phase
 
--- a line and the next ones of its phase were handed to their processors
+-- a line and the next lines of its phase were given to their processors
 pub record HasGiven (first : Line Global) (old : List (Line Global)) (turns : List Turn)
     (new : List (Line Global)) : Type 0 where
   pub more : List (Line Global)

@@ -1,4 +1,4 @@
-// A whole audit.
+// Checking a whole audit.
 ghost use Rattle.std.specs.Prelude.{◌≡◌, ◌<◌, ◌^◌, Bool, List, IfErr, IfOk, IsTrue, length, false};
 ghost use Rattle.std.specs.declared.alloc.Global.{Global as GlobalValue};
 ghost use Rattle.hv_script.specs.Reading.{said};
@@ -23,8 +23,10 @@ use hv_run::Failure;
 use hv_script::Script;
 use std::alloc::{AllocError, Global};
 
-/// Checks an audit beside its script, whose lines are those of a script that was read. Where a line differs
-/// from the policy's, `own` has the policy's. Out of memory is a failure that says nothing of the audit.
+/// Checks an audit beside its script.
+///
+/// The lines are those of a script that was read. If a line differs from the policy's, `own` holds the
+/// policy's line. Running out of memory is a failure that says nothing about the audit.
 pub fn check<'a>(
     alloc: Global,
     script: Script<Global>,
@@ -55,7 +57,7 @@ pub fn check<'a>(
     }
 }
 
-// Checks the audit of a machine to which nothing happened yet, beside all lines of its script.
+// Checks an audit beside all lines of its script. The machine has taken no event yet.
 fn follow<'a>(
     kept: &mut Kept<Global>,
     replay: &mut Replay,
@@ -78,7 +80,7 @@ fn follow<'a>(
     Ok(finish(kept, replay, text, ask.prefix))
 }
 
-// What the end of an audit comes to, where no line of an event is left.
+// Returns the verdict on the end of an audit, where no line of an event is left.
 fn finish<'a>(kept: &Kept<Global>, replay: &Replay, text: &'a [u8], prefix: bool) -> Verdict<'a>
     requires begun { IsBegun replay.now }
     requires no_line { IsNoLine text.now }
@@ -92,18 +94,18 @@ fn finish<'a>(kept: &Kept<Global>, replay: &Replay, text: &'a [u8], prefix: bool
     }
 }
 
-// How many events there were.
+// Returns the number of events.
 fn events_of(kept: &Kept<Global>) -> u64
     ensures events { result ≡ length kept.now.history }
     ensures few { length kept.now.history < 2 ^ 32 }
     ensures run { IsRun kept.now }
 {
-    // The proof reads here that a history's length fits 32 bits.
+    // Proof: a history's length fits 32 bits.
     let _limit = kept.limit();
     kept.history().len() as u64
 }
 
-// Whether a text begins with the line of an event, if it is an audit.
+// Returns whether a text begins with the line of an event, assuming that it is an audit.
 fn is_event(text: &[u8]) -> bool
     ensures event { IsTrue result → IsNoEnd text.now }
     ensures none { result ≡ false → IsNoLine text.now }

@@ -1,4 +1,4 @@
-// A line of an audit beside the policy's.
+// Comparing a line of an audit with the policy's.
 ghost use Rattle.std.specs.Prelude.{◌≡◌, ◌++◌, ℕ, List, IfNone, IfSome, codes, length};
 ghost use Rattle.std.specs.declared.alloc.Global.{Global as GlobalValue};
 ghost use Rattle.hv_history.specs.declared.entry.Entry.{Entry};
@@ -11,9 +11,10 @@ use crate::reader::around;
 use hv_history::Answer;
 use hv_policy::Rule;
 
-/// What stands in a text behind the line of an event, if the text begins with that line. `line` is the
-/// policy's, with its line feed, of an event that has this answer. Without `rules` the name of a rule isn't
-/// compared.
+/// Returns the text after the line of an event, if the text begins with that line.
+///
+/// `line` is the policy's line, with its line feed, of an event that has this answer. Without `rules` the
+/// name of a rule is not compared.
 pub fn behind_line<'a>(text: &'a [u8], line: &[u8], answer: Answer, rules: bool) -> Option<&'a [u8]>
     ensures some { (number : ℕ) (entry : Entry GlobalValue) (output : List ℕ)
         → line.now ≡ entry_text number entry ++ codes "\n" → entry.reply ≡ reply_of answer output
@@ -34,7 +35,7 @@ pub fn behind_line<'a>(text: &'a [u8], line: &[u8], answer: Answer, rules: bool)
     }
 }
 
-// The rule that refused an event.
+// Returns the rule that refused an event.
 fn name_in(answer: Answer) -> Option<Rule>
     ensures { result ≡ name_in answer }
 {
@@ -44,14 +45,14 @@ fn name_in(answer: Answer) -> Option<Rule>
     }
 }
 
-// A text without so many of its last bytes.
+// Returns a text without this many of its last bytes.
 fn without_end(text: &[u8], most: usize) -> &[u8]
     ensures { (before rest : List ℕ) → text.now ≡ before ++ rest → length rest ≡ most → result.now ≡ before }
 {
     &text[..text.len().saturating_sub(most)]
 }
 
-/// What stands in a text behind these bytes, if the text begins with them.
+/// Returns the text after these bytes, if the text begins with them.
 pub fn behind<'a>(text: &'a [u8], bytes: &[u8]) -> Option<&'a [u8]>
     ensures some { IfSome result (λ rest. text.now ≡ bytes.now ++ rest.now) }
     ensures none { IfNone result ((rest : List ℕ) → text.now ≡ bytes.now ++ rest → ⊥) }
@@ -63,7 +64,7 @@ pub fn behind<'a>(text: &'a [u8], bytes: &[u8]) -> Option<&'a [u8]>
     if front == bytes { Some(rest) } else { None }
 }
 
-// What stands behind the line feed, if nothing or a space and other bytes stand before it.
+// Returns the text after the first line feed, if nothing, or a space and other bytes, comes before it.
 fn behind_name(text: &[u8]) -> Option<&[u8]>
     ensures some { IfSome result (λ rest. IsBehindName text.now rest.now) }
     ensures none { IfNone result ((rest : List ℕ) → IsBehindName text.now rest → ⊥) }

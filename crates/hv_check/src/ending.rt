@@ -1,4 +1,4 @@
-// The end of an audit.
+// Checking the end of an audit.
 ghost use Rattle.std.specs.Prelude.{◌≡◌, ◌++◌, ℕ, List, IfNone, IfSome};
 ghost use Rattle.hv_check.specs.From.{IsEnding, IsLastLine};
 ghost use Rattle.hv_check.specs.Legal.{end_text};
@@ -9,14 +9,14 @@ use crate::replay::Replay;
 use crate::verdict::Wrong;
 use itoa::Buffer;
 
-/// Whether an audit ends well.
+/// Whether the end of an audit is legal.
 #[derive(Clone, Copy)]
 pub enum Ending {
     Good,
     Bad(Wrong),
 }
 
-/// Whether an audit may end with this text behind so many events.
+/// Checks whether an audit may end with this text after this number of events.
 pub fn end_of(replay: &Replay, text: &[u8], events: u64, prefix: bool) -> Ending
     requires { IsBegun replay.now }
     ensures { IsEnding prefix replay.now events text.now result }
@@ -34,7 +34,7 @@ pub fn end_of(replay: &Replay, text: &[u8], events: u64, prefix: bool) -> Ending
     }
 }
 
-// Whether a text is the last line of an audit of so many events.
+// Checks whether a text is the last line of an audit with this number of events.
 fn last_line(text: &[u8], events: u64) -> Ending
     ensures { IsLastLine events text.now result }
 {
@@ -45,7 +45,7 @@ fn last_line(text: &[u8], events: u64) -> Ending
     }
 }
 
-// What stands in a text behind the last line of an audit, if the text begins with that.
+// Returns the text after the last line of an audit, if the text begins with that line.
 fn behind_end(text: &[u8], events: u64) -> Option<&[u8]>
     ensures some { IfSome result (λ rest. text.now ≡ end_text events ++ rest.now) }
     ensures none { IfNone result ((rest : List ℕ) → text.now ≡ end_text events ++ rest → ⊥) }

@@ -1,4 +1,4 @@
-// From both texts to an exit status.
+// Checking two texts, up to an exit status.
 
 ghost use Rattle.std.specs.Prelude.{◌≡◌, ◌≢◌, IfErr, IfOk};
 ghost use Rattle.hv_run.specs.Failure.{exit_of};
@@ -15,10 +15,12 @@ use hv_script::parse;
 use std::alloc::Global;
 use std::io::Write;
 
-/// Checks an audit beside its script, and prints `legal, N events` on `out`, or the first line that isn't
-/// legal and what the policy answers there. With `prefix` an audit may end before the script's lines do, and
-/// without `rules` the names of rules aren't compared. A fault of the script, a refused boot and what the
-/// host lacks are told on `err`, in one line.
+/// Checks an audit beside its script, and prints the verdict on `out`.
+///
+/// The verdict is `legal, N events`, or the first line that isn't legal with what the policy answers there.
+/// With `prefix` an audit may end before the script's lines do. Without `rules` the names of rules are not
+/// compared. A fault of the script, a refused boot and a failure of the host are printed on `err`, in one
+/// line.
 pub fn check_text<W: Write, E: Write>(
     alloc: Global,
     script: &[u8],
@@ -61,7 +63,7 @@ fn verdict_of<'a>(
     }
 }
 
-// The exit status of a verdict.
+// Returns the exit status of a verdict.
 fn status_of(verdict: Verdict<'_>) -> Exit
     ensures { result ≡ status_of verdict.entry }
 {

@@ -1,10 +1,10 @@
-//! Whether a recorded audit is a legal run of a script.
+//! Checks whether a recorded audit is a legal run of a script.
 //!
 //! An emulator records its events in the order in which they happened. [`check`] reads such an audit beside
-//! the script and answers that it is legal, or which line isn't. Legal is what `IsLegal` of
-//! `specs/Legal.antt` says: there is a history that is a run of the policy from the script's boot, in which
-//! each processor's events are those that its lines ask for, phase by phase, and whose audit has these bytes.
-//! [`check_text`] does so from both texts to an exit status. [`Replay`] steps through a script's lines by
+//! the script, and returns that it is legal, or the first line that isn't. `IsLegal` of `specs/Legal.antt`
+//! defines legal: some history is a run of the policy from the script's boot, in which each processor's
+//! events are those that its lines ask for, phase by phase, and this history's audit has these bytes.
+//! [`check_text`] takes both texts and returns an exit status. [`Replay`] steps through a script's lines by
 //! named processor.
 //!
 //! Nothing here opens a file. Scripts and audits are this project's own.

@@ -29,7 +29,7 @@ impl Model for OwnLine {
 }
 
 impl OwnLine {
-    /// No line.
+    /// Returns an empty line.
     pub fn new() -> OwnLine {
         OwnLine {
             scratch: Scratch::new(),
@@ -38,14 +38,14 @@ impl OwnLine {
         }
     }
 
-    /// The line.
+    /// Returns the bytes of the line.
     pub fn as_slice(&self) -> &[u8]
         ensures { result.now ≡ self.now }
     {
         &self.bytes[..self.len]
     }
 
-    /// Makes it the line of the last event of a history.
+    /// Writes the line of the last event of a history.
     pub(crate) fn put_last(&mut self, kept: &Kept<Global>)
         requires { 0 < length kept.now.history }
         ensures { (before : List (Entry GlobalValue)) (last : Entry GlobalValue) → kept.now.history ≡ before

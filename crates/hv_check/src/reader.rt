@@ -1,4 +1,4 @@
-// The processor that a line of an audit names.
+// Reading the processor that a line of an audit names.
 ghost use Rattle.std.specs.Prelude.{◌≡◌, ◌<◌, ◌^◌, ℕ, ◌==◌, ◌++◌, ◌∷◌, IfNone, IfSome, Some, decimal};
 ghost use Rattle.std.specs.Option.{SomeIff};
 ghost use Rattle.std.specs.Str.Parse.{IsNumeral, digits_value};
@@ -8,7 +8,7 @@ ghost use Rattle.hv_check.specs.Parted.{IsAround, IsNowhere};
 
 use hv_policy::Caller;
 
-/// The processor of the line at the start of a text: `NUMBER ID.VP` and a space.
+/// Returns the processor of the line at the start of a text, which is `NUMBER ID.VP` and a space.
 pub fn processor(text: &[u8]) -> Option<Caller>
     ensures { (by : CallerValue) → IsNamedIn text.now by → result ≡ Some by }
 {
@@ -18,7 +18,7 @@ pub fn processor(text: &[u8]) -> Option<Caller>
     caller_of(decimal(part)?, decimal(vp)?)
 }
 
-// The processor of these numbers, if they fit.
+// Returns the processor with these numbers, if they fit.
 fn caller_of(part: u64, vp: u64) -> Option<Caller>
     ensures { vp < 2 ^ 32 → result ≡ Some (record { part = part; vp = vp }) }
 {
@@ -32,7 +32,7 @@ fn caller_of(part: u64, vp: u64) -> Option<Caller>
     }
 }
 
-/// What stands before and behind the first byte of this value, if there is one.
+/// Splits a text at the first byte of this value into the bytes before and after it, if there is one.
 pub fn around(text: &[u8], byte: u8) -> Option<(&[u8], &[u8])>
     ensures some { IfSome result (λ both. IsAround byte text.now both.0.now both.1.now) }
     ensures none { IfNone result (IsNowhere byte text.now) }
@@ -43,7 +43,7 @@ pub fn around(text: &[u8], byte: u8) -> Option<(&[u8], &[u8])>
     }
 }
 
-// The number that decimal digits write, if it fits 64 bits.
+// Returns the number that decimal digits write, if it fits 64 bits.
 fn decimal(word: &[u8]) -> Option<u64>
     ensures { SomeIff result (IsNumeral 10 word.now × (digits_value 10 word.now < 2 ^ 64))
         (digits_value 10 word.now) }

@@ -17,7 +17,7 @@ use hv_policy::{Action, Caller, Reply};
 use hv_script::Line;
 use std::alloc::{AllocError, Global};
 
-/// A script's lines, taken one event after another in any order that the script allows.
+/// The lines of a script, taken one event after another in any order that the script allows.
 #[derive(Drop)]
 pub struct Replay {
     // The processors of the phase.
@@ -27,7 +27,7 @@ pub struct Replay {
 }
 
 impl Replay {
-    /// All lines of a script, of which none is taken and no phase is begun.
+    /// Returns a replay of these lines, of which none is taken. No phase has begun.
     pub fn new(alloc: Global, lines: Vec<Line<Global>>) -> Replay
         ensures { AreRead lines.items → StandsFor result lines.items }
     {
@@ -39,7 +39,7 @@ impl Replay {
         }
     }
 
-    /// Begins the next phase, where the one before it is over. After an error it is of no more use.
+    /// Begins the next phase if the one before it is over. After an error the replay must not be used.
     pub fn begin(&mut self) -> Result<(), AllocError>
         ensures lines { OnOk result ((lines : List (LineValue GlobalValue)) → StandsFor self.old lines
             → StandsFor self.new lines) }
@@ -55,7 +55,7 @@ impl Replay {
         }
     }
 
-    /// What this processor is to do next in the phase, if it has anything left to do there.
+    /// Returns the next action of this processor in the phase, if it has one left.
     pub fn next(&self, by: Caller) -> Option<&Action<Global>>
         ensures { option_copied result ≡ first_of (left_by by self.now) }
     {
@@ -65,7 +65,7 @@ impl Replay {
         }
     }
 
-    /// Takes the event that this processor was to do next, which got this reply.
+    /// Takes the next event of this processor, which got this reply.
     pub fn go_on(&mut self, by: Caller, reply: &Reply)
         requires { next_in reply.now < REPS_END }
         ensures own { left_by by self.new ≡ after_reply (left_by by self.old) reply.now }
@@ -78,7 +78,7 @@ impl Replay {
         }
     }
 
-    /// A processor of the phase that has something left to do there.
+    /// Returns a processor that has an action left in the phase.
     pub fn waiting(&self) -> Option<Caller>
         ensures some { IfSome result (λ by. left_by by self.now ≢ []) }
         ensures none { IfNone result (IsIdle self.now) }
@@ -92,7 +92,7 @@ impl Replay {
     }
 }
 
-// The place of a processor's turn that isn't over, if it has one.
+// Returns the place of a processor's turn that isn't over, if it has one.
 fn find(turns: &[Turn], by: Caller) -> Option<usize>
     ensures some { IfSome result (IsAt by turns.now) }
     ensures none { IfNone result (todo_of by turns.now ≡ []) }
@@ -105,7 +105,7 @@ fn find(turns: &[Turn], by: Caller) -> Option<usize>
     None
 }
 
-// The place of a processor's last turn, if it has one.
+// Returns the place of a processor's last turn, if it has one.
 fn find_last(turns: &[Turn], by: Caller) -> Option<usize>
     ensures { IfSome result (IsLast by turns.now) }
 {
@@ -117,7 +117,7 @@ fn find_last(turns: &[Turn], by: Caller) -> Option<usize>
     None
 }
 
-// Begins a phase with its first line. The lines that are left stand with the next one last.
+// Begins a phase with its first line. `later` holds the lines that are left, the next one last.
 fn begin_with(
     turns: &mut Vec<Turn>,
     later: &mut Vec<Line<Global>>,
@@ -135,7 +135,7 @@ fn begin_with(
     Ok(())
 }
 
-// Hands a line to its processor.
+// Gives a line to its processor.
 fn give(turns: &mut Vec<Turn>, line: Line<Global>) -> Result<(), AllocError>
     ensures { OnOk result ((by : CallerValue) → todo_of by turns.new.items
         ≡ todo_of by turns.old.items ++ asked_by by (line ∷ [])) }
@@ -151,7 +151,7 @@ fn give(turns: &mut Vec<Turn>, line: Line<Global>) -> Result<(), AllocError>
     }
 }
 
-// Has a turn do an action more.
+// Adds an action to a turn.
 fn add(turn: &mut Turn, action: Action<Global>) -> Result<(), AllocError>
     ensures todo { OnOk result (todo turn.new ≡ todo turn.old ++ action ∷ []) }
     ensures by { turn.new.by ≡ turn.old.by }
@@ -160,7 +160,7 @@ fn add(turn: &mut Turn, action: Action<Global>) -> Result<(), AllocError>
     Ok(())
 }
 
-// A turn that has one action to do.
+// Returns a turn with one action.
 fn turn_of(alloc: Global, by: Caller, action: Action<Global>) -> Result<Turn, AllocError>
     ensures todo { IfOk result (λ turn. todo turn ≡ action ∷ []) }
     ensures by { IfOk result (λ turn. turn.by ≡ by) }
@@ -174,7 +174,7 @@ fn turn_of(alloc: Global, by: Caller, action: Action<Global>) -> Result<Turn, Al
     })
 }
 
-// Takes out the next line, if there is one and it is of this phase.
+// Removes the next line, if there is one and it belongs to this phase.
 fn next_of(later: &mut Vec<Line<Global>>, phase: u32) -> Option<Line<Global>>
     ensures some { IfSome result (λ line. (later.old.items ≡ later.new.items ++ line ∷ []) ×
         (line.phase ≡ phase)) }

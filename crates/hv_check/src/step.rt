@@ -1,4 +1,4 @@
-// One line of an audit.
+// Checking one line of an audit.
 ghost use Rattle.std.specs.Prelude.{◌≡◌, ◌<◌, ◌^◌, IfOk, Some, length};
 ghost use Rattle.hv_check.specs.From.{IsNamedIn, IsNoEnd, IsShorter, IsStep};
 ghost use Rattle.hv_check.specs.Replay.{IsBegun, first_of, left_by};
@@ -13,17 +13,19 @@ use hv_history::{HostRefused, Kept};
 use hv_policy::{Action, Caller, Event};
 use std::alloc::{AllocError, Global};
 
-/// What became of a line.
+/// The result for a line.
 #[derive(Clone, Copy)]
 pub enum Step<'a> {
-    /// It is legal, and this text stands behind it.
+    /// The line is legal, and this text follows it.
     On(&'a [u8]),
-    /// It isn't legal.
+    /// The line isn't legal.
     Not(Wrong),
 }
 
-/// Takes the line at the start of a text. The machine takes the event that the named processor is to do next,
-/// and the line is to be the policy's.
+/// Takes the line at the start of a text.
+///
+/// The machine takes the next event of the processor that the line names. The line must be the policy's line
+/// of that event.
 pub fn take_line<'a>(
     kept: &mut Kept<Global>,
     replay: &mut Replay,
@@ -46,16 +48,16 @@ pub fn take_line<'a>(
     }
 }
 
-// The number of the next event.
+// Returns the number of the next event.
 fn number_of(kept: &Kept<Global>) -> u64
     ensures { length kept.now.history < 2 ^ 32 }
 {
-    // The proof reads here that a history's length fits 32 bits.
+    // Proof: a history's length fits 32 bits.
     let _limit = kept.limit();
     kept.history().len() as u64 + 1
 }
 
-// A copy of what a processor is to do next.
+// Returns a copy of the next action of a processor.
 fn next_of(replay: &Replay, by: Caller) -> Result<Option<Action<Global>>, AllocError>
     ensures { IfOk result (λ next. next ≡ first_of (left_by by replay.now)) }
 {
@@ -65,7 +67,7 @@ fn next_of(replay: &Replay, by: Caller) -> Result<Option<Action<Global>>, AllocE
     }
 }
 
-// Lets an event happen, and compares the line with the policy's.
+// Takes an event, and compares the line with the policy's.
 fn take_event<'a>(
     kept: &mut Kept<Global>,
     replay: &mut Replay,

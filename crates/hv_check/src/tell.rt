@@ -1,4 +1,4 @@
-// The texts of a verdict.
+// Printing a verdict.
 ghost use Rattle.std.specs.Prelude.{◌≤◌, length};
 
 use crate::verdict::{Verdict, Wrong};
@@ -6,10 +6,10 @@ use hv_policy::Caller;
 use std::io;
 use std::io::Write;
 
-// The most bytes that are shown of a line of the audit.
+// The most bytes printed of a line of the audit.
 const SHOWN: usize = 800;
 
-/// Prints a verdict, in one line. `own` is the policy's line where the audit's differs from it.
+/// Prints a verdict in one line. `own` is the policy's line if the audit's differs from it.
 pub fn put_verdict<W: Write>(out: &mut W, verdict: Verdict<'_>, own: &[u8]) -> io::Result<()> {
     match verdict {
         Verdict::Legal { events } => writeln!(out, "legal, {events} events")?,
@@ -22,7 +22,7 @@ pub fn put_verdict<W: Write>(out: &mut W, verdict: Verdict<'_>, own: &[u8]) -> i
     out.flush()
 }
 
-// What is wrong with a line, and what the policy answers there.
+// Prints what is wrong with a line, and what the policy answers there.
 fn put_wrong<W: Write>(out: &mut W, wrong: Wrong, text: &[u8], own: &[u8]) -> io::Result<()> {
     match wrong {
         Wrong::Unreadable { .. } => {
@@ -67,7 +67,7 @@ fn put_caller<W: Write>(out: &mut W, by: Caller) -> io::Result<()> {
     write!(out, "{}.{}", by.part, by.vp)
 }
 
-// The line of an event, cut into its number, the processor with what it asked for, and how it was answered.
+// The line of an event in three parts: its number, the processor with its request, and the answer.
 #[derive(Clone, Copy)]
 struct Parts<'a> {
     number: &'a [u8],
@@ -87,7 +87,7 @@ impl<'a> Parts<'a> {
     }
 }
 
-// What stands before a space and behind it. All stands before it where there is none.
+// Splits a text at a space. If there is none, everything is before it.
 fn cut(text: &[u8], space: usize) -> (&[u8], &[u8]) {
     if space < text.len() {
         (&text[..space], &text[space + 1..])
@@ -96,7 +96,7 @@ fn cut(text: &[u8], space: usize) -> (&[u8], &[u8]) {
     }
 }
 
-// The place of the first space from a place on, or the length.
+// Returns the place of the first space from a place on, or the length.
 fn space_from(text: &[u8], from: usize) -> usize
     requires { from ≤ length text.now }
     ensures least { from ≤ result }
@@ -109,7 +109,7 @@ fn space_from(text: &[u8], from: usize) -> usize
     at
 }
 
-// The place of the space before the word that says how an event was answered, or the length.
+// Returns the place of the space before the word that begins the answer to an event, or the length.
 fn reply_in(event: &[u8]) -> usize {
     let mut at = space_from(event, 0);
     while at < event.len() {
@@ -127,7 +127,7 @@ fn reply_in(event: &[u8]) -> usize {
     at
 }
 
-// The first thing in which a line differs from the policy's.
+// Prints the first part in which a line differs from the policy's.
 fn put_difference<W: Write>(
     out: &mut W,
     own: Parts<'_>,
@@ -155,7 +155,7 @@ fn put_difference<W: Write>(
     }
 }
 
-// The first line of a text, without its line feed.
+// Returns the first line of a text, without its line feed.
 fn first_line(text: &[u8]) -> &[u8] {
     match text.iter().position(|byte| *byte == b'\n') {
         Some(at) => &text[..at],
@@ -163,7 +163,7 @@ fn first_line(text: &[u8]) -> &[u8] {
     }
 }
 
-// What stands behind the first line.
+// Returns the text after the first line.
 fn after_line(text: &[u8]) -> &[u8] {
     match text.iter().position(|byte| *byte == b'\n') {
         Some(at) => &text[at + 1..],
@@ -171,7 +171,7 @@ fn after_line(text: &[u8]) -> &[u8] {
     }
 }
 
-// The first line of what was found, or that there is none.
+// Prints the first line of a text, or that the text is empty.
 fn put_found<W: Write>(out: &mut W, text: &[u8]) -> io::Result<()> {
     if text.is_empty() {
         write!(out, "the end")
@@ -182,7 +182,7 @@ fn put_found<W: Write>(out: &mut W, text: &[u8]) -> io::Result<()> {
     }
 }
 
-// Bytes as they are shown: those that aren't printable as `?`, and no more than so many.
+// Prints bytes, with `?` for each that is not printable, and at most `SHOWN` of them.
 fn put_shown<W: Write>(out: &mut W, text: &[u8]) -> io::Result<()> {
     let mut line = [b'?'; SHOWN];
     let len = text.len().min(SHOWN);

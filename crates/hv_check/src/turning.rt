@@ -1,4 +1,4 @@
-// How a processor gets on in a phase.
+// The progress of a processor in a phase.
 ghost use Rattle.std.specs.Prelude.{◌≡◌, ◌<◌, ◌↔◌, [], IsTrue, option_copied};
 ghost use Rattle.hv_defs.specs.declared.sizes.TheConstants.{REPS_END};
 ghost use Rattle.hv_policy.specs.Parts.{next_in};
@@ -10,7 +10,7 @@ use std::alloc::Global;
 use std::mem;
 
 impl Turn {
-    /// What it is to do next.
+    /// Returns its next action.
     pub fn next(&self) -> Option<&Action<Global>>
         ensures { option_copied result ≡ first_of (todo self.now) }
     {
@@ -21,14 +21,14 @@ impl Turn {
         }
     }
 
-    // Whether it has nothing left to do.
+    // Returns whether no action is left.
     pub(crate) fn is_over(&self) -> bool
         ensures { IsTrue result ↔ (todo self.now ≡ []) }
     {
         self.done >= self.actions.len()
     }
 
-    // Notes that what it was to do next got this reply.
+    // Records the reply to its next action.
     pub(crate) fn go_on(&mut self, reply: &Reply)
         requires { next_in reply.now < REPS_END }
         ensures todo { todo self.new ≡ after_reply (todo self.old) reply.now }
@@ -46,7 +46,7 @@ impl Turn {
     }
 }
 
-// Has a call ask for another element.
+// Points a call at another element.
 fn restart(action: &mut Action<Global>, next: u16)
     requires { next < REPS_END }
     ensures { action.new ≡ at_element action.old next }

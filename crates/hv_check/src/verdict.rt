@@ -1,8 +1,8 @@
-// What a check answers.
+// The result of a check.
 
 use hv_policy::Caller;
 
-/// How an audit is looked at.
+/// Options of a check.
 #[derive(Clone, Copy, PartialEq, Eq, Debug)]
 pub struct Ask {
     /// Whether an audit may end before all lines of the script are done.
@@ -11,36 +11,36 @@ pub struct Ask {
     pub rules: bool,
 }
 
-/// What a check answers.
+/// The result of a check.
 #[derive(Clone, Copy, PartialEq, Eq, Debug)]
 pub enum Verdict<'a> {
-    /// The audit is a legal run of the script, of so many events.
+    /// The audit is a legal run of the script, with this number of events.
     Legal { events: u64 },
-    /// It isn't: what is wrong first, and the audit's bytes from that line on.
+    /// The audit is not legal: the first fault, and the audit's bytes from that line on.
     Illegal { wrong: Wrong, text: &'a [u8] },
 }
 
-/// What is wrong with the first line that isn't legal. Lines count from 1.
+/// The fault of the first line that isn't legal. Lines count from 1.
 #[derive(Clone, Copy, PartialEq, Eq, Debug)]
 pub enum Wrong {
-    /// The line begins with no number and processor.
+    /// The line doesn't begin with a number and a processor.
     Unreadable { line: u64 },
-    /// The processor has nothing left to do in this phase.
+    /// The processor has no action left in this phase.
     Idle { line: u64, by: Caller },
     /// The history has as many events as the script allows.
     Full { line: u64, by: Caller },
-    /// The policy's line of the processor's next event is another one.
+    /// The line is not the policy's line of the processor's next event.
     Differs { line: u64 },
-    /// The audit ends after so many events, before this processor has done what its lines ask for.
+    /// The audit ends after this number of events, before this processor has done what its lines ask for.
     Early { events: u64, by: Caller },
-    /// The last line doesn't tell that there are so many events.
+    /// The last line doesn't give this number of events.
     Count { events: u64 },
-    /// Bytes stand behind the last line, after so many events.
+    /// Bytes follow the last line, after this number of events.
     Behind { events: u64 },
 }
 
 impl Wrong {
-    /// The number of the line.
+    /// Returns the number of the line.
     pub fn line(self) -> u64 {
         match self {
             Wrong::Unreadable { line } => line,

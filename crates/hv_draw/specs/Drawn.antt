@@ -1,4 +1,4 @@
--- What is drawn.
+-- The meaning of a drawing.
 use Rattle.std.specs.Prelude.{ℕ, ◌≡◌, ◌+◌, List, ◌++◌, length, All, Option, Ok}
 use Rattle.std.specs.FinMap.{entries}
 use Rattle.std.specs.Io.KnownBytes.{Appends}
@@ -19,7 +19,7 @@ use Rattle.hv_refine.specs.Room.{roomless}
 use Rattle.hv_tree.specs.Rows.{Rows}
 use Rattle.hv_draw.specs.Graph.{AreBlocks}
 
--- the action is no hypercall
+-- the action is an access
 abbrev pub AsksAccess : Action Global → Type 0
 AsksAccess (Hypercall frame) = ⊥
 AsksAccess (ReadMsr msr) = Unit {0}
@@ -30,7 +30,7 @@ AsksAccess (ReadFlags sint) = Unit {0}
 AsksAccess (ClearFlag sint flag) = Unit {0}
 AsksAccess TakeInterrupt = Unit {0}
 
--- the history has the entries of an action more, all by this processor, and the action came to its end
+-- the history gains the entries of one action, all by this processor, and the action came to its end
 pub record HasDone (by : Caller) (what : Action Global) (old new : Kept Global) : Type 0 where
   pub own : List (Entry Global)
   pub history : new.history ≡ old.history ++ own
@@ -39,7 +39,7 @@ pub record HasDone (by : Caller) (what : Action Global) (old new : Kept Global) 
   pub config : new.config ≡ old.config
   pub limit : new.limit ≡ old.limit
 
--- the history has the entries of these lines more, those of each behind those of the line before it
+-- the history gains the entries of these lines, in the lines' order
 pub record HasRun (lines : List (Line Global)) (old new : Kept Global) : Type 0 where
   pub own : List (Entry Global)
   pub history : new.history ≡ old.history ++ own
@@ -47,8 +47,8 @@ pub record HasRun (lines : List (Line Global)) (old new : Kept Global) : Type 0 
   pub config : new.config ≡ old.config
   pub limit : new.limit ≡ old.limit
 
--- the graph of what is kept: the block of each partition of its machine, by rising id, with something before
--- and behind them
+-- the text is a graph of the machine: the block of each partition, by rising id, with some text before and
+-- after the blocks
 pub record IsGraph (kept : Kept Global) (text : List ℕ) : Type 0 where
   pub tree : Rows PartitionState
   pub shown : roomless tree ≡ kept.machine.rows
@@ -58,15 +58,14 @@ pub record IsGraph (kept : Kept Global) (text : List ℕ) : Type 0 where
   pub are : AreBlocks tree (entries tree) blocks
   pub all : text ≡ before ++ blocks ++ behind
 
--- the writer got the graph of what is kept
+-- the writer gets the graph of the machine
 pub record HasGraph (kept : Kept Global) (old new : Option (List ℕ)) : Type 0 where
   pub text : List ℕ
   pub graph : IsGraph kept text
   pub told : Appends old new text
 
--- The writer got the graph of the machine of a history that is a run from the script's boot, with at most as
--- many events as its limit; its events are those that the lines ask for, those of each line behind those of
--- the line before it.
+-- The writer gets the graph of the machine after a history. The history is a run from the script's boot, with
+-- at most as many events as its limit. Its events are those that the lines ask for, in the lines' order.
 pub record HasDrawn (said : Said Global) (old new : Option (List ℕ)) : Type 0 where
   pub kept : Kept Global
   pub run : IsRun kept
@@ -75,7 +74,7 @@ pub record HasDrawn (said : Said Global) (old new : Option (List ℕ)) : Type 0 
   pub order : AreInOrder 1 said.lines kept.history
   pub drawn : HasGraph kept old new
 
--- the same of a script's text
+-- as `HasDrawn`, for the script with this text
 pub record HasDrawnOf (text : List ℕ) (old new : Option (List ℕ)) : Type 0 where
   pub said : Said Global
   pub is : script_of text ≡ Ok said

@@ -13,11 +13,11 @@ abbrev pub edge_text : Option ℕ → ℕ → List ℕ
 edge_text None id = []
 edge_text (Some parent) id = codes "  p" ++ decimal parent ++ codes " -> p" ++ decimal id ++ codes ";\n"
 
--- a cluster's beginning, as far as the name of its first node, which is the partition's
+-- the beginning of a cluster, up to the name of its first node, which is the partition's
 abbrev pub opening_text : ℕ → List ℕ
 opening_text id = codes "  subgraph cluster_" ++ decimal id ++ codes " {\n    p" ++ decimal id
 
--- that node's label: the partition's id and its life state, ..
+-- the label of that node: the partition's id and its life state, ..
 abbrev pub name_text : ℕ → PartitionState → List ℕ
 name_text id p = codes " [label=\"{partition " ++ decimal id ++ codes "|" ++ life_text p.life
 
@@ -25,16 +25,16 @@ name_text id p = codes " [label=\"{partition " ++ decimal id ++ codes "|" ++ lif
 abbrev pub rank_text : ℕ → PartitionState → List ℕ
 rank_text depth p = codes ", depth " ++ decimal depth ++ codes "|mask 0x" ++ hex_64 (bits_of p.mask)
 
--- .. how many pages it has, ..
+-- .. the number of its pages, ..
 abbrev pub pages_text : PartitionState → List ℕ
 pages_text p = codes "|pages: " ++ decimal (set.len p.loose.pages) ++ codes " loose, " ++ decimal
     (set.len p.pooled.pages)
 
--- .. and how many of them it uses, with so many children
+-- .. and the number of them in use, with this number of children
 abbrev pub use_text : ℕ → PartitionState → List ℕ
 use_text children p = codes " pooled, " ++ decimal (in_use children p) ++ codes " in use}\"];\n"
 
--- the edge to a partition and its node, with this depth and so many children
+-- the edge to a partition and its node, with this depth and this number of children
 abbrev pub node_text : ℕ → ℕ → ℕ → Row PartitionState → List ℕ
 node_text id depth children row =
     edge_text row.0 id ++ opening_text id ++ name_text id row.1 ++ rank_text depth row.1 ++ pages_text row.1
@@ -47,20 +47,20 @@ pub record IsBlock (tree : Rows PartitionState) (e : ℕ × Row PartitionState) 
   pub more : List ℕ
   pub all : block ≡ node_text e.0 depth (length (children tree e.0)) e.1 ++ more
 
--- the blocks of partitions, one after the other
+-- the blocks of partitions, one after another
 abbrev pub AreBlocks : Rows PartitionState → List (ℕ × Row PartitionState) → List ℕ → Type 0
 AreBlocks tree [] text = text ≡ []
 AreBlocks tree (e ∷ es) text =
     (own : List ℕ) × (rest : List ℕ) × (text ≡ own ++ rest) × IsBlock tree e own × AreBlocks tree es rest
 
--- a text has the block of a partition more
+-- the text gains the block of a partition
 pub record HasBlock (tree : Rows PartitionState) (e : ℕ × Row PartitionState) (old new : List ℕ) : Type 0
   where
     pub own : List ℕ
     pub block : IsBlock tree e own
     pub added : new ≡ old ++ own
 
--- a text has the block of each partition of a tree more, by rising id
+-- the text gains the block of each partition of a tree, by rising id
 pub record HasBlocks (tree : Rows PartitionState) (old new : List ℕ) : Type 0 where
   pub own : List ℕ
   pub blocks : AreBlocks tree (entries tree) own

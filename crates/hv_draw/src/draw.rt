@@ -1,4 +1,4 @@
-// From a script's bytes to the exit status.
+// Drawing a script, from its bytes to the exit status.
 ghost use Rattle.std.specs.Prelude.{◌≡◌, ◌≢◌, IfErr, IfOk, IsOk, OnOk};
 ghost use Rattle.std.specs.Io.KnownBytes.{Appends, Keeps};
 ghost use Rattle.hv_history.specs.Kept.{IsRun};
@@ -17,7 +17,7 @@ use hv_script::{Script, parse};
 use std::alloc::{AllocError, Global};
 use std::io::Write;
 
-// What stands before the partitions: how the graph looks.
+// The head of the graph, before the partitions: its style.
 const HEAD: &[u8] = b"\
 digraph hvpm {\n\
 \x20 node [fontname=\"Helvetica\" fontsize=10 shape=record];\n\
@@ -25,11 +25,11 @@ digraph hvpm {\n\
 \x20 graph [style=rounded color=gray];\n\
 ";
 
-/// Runs a script in its order, and writes the state in which it ends as a graph for Graphviz to `out`. Why it
-/// didn't all run goes to `err`, in one line.
+/// Runs a script in order, and writes its last state as a graph for Graphviz to `out`.
 ///
-/// After a fault of the script or a refused boot nothing is written to `out`. Where the host refuses an
-/// event, no later line is run, and the state so far is drawn.
+/// If not everything runs, the reason goes to `err`, in one line. After a fault of the script or a refused
+/// boot, nothing is written to `out`. If the host refuses an event, no later line is run, and the graph shows
+/// the state so far.
 pub fn draw_text<W: Write, E: Write>(alloc: Global, script: &[u8], out: &mut W, err: &mut E) -> Exit
     ensures drawn { result ≡ Exit.Done → HasDrawnOf script.now (W.contents out.old) (W.contents out.new) }
     ensures silent { result ≡ Exit.Script → out.new ≡ out.old }
@@ -41,7 +41,7 @@ pub fn draw_text<W: Write, E: Write>(alloc: Global, script: &[u8], out: &mut W, 
     }
 }
 
-// Draws a script that has no fault, and tells why it didn't all run.
+// Draws a script that has no fault, and writes the reason if not everything runs.
 fn finish<W: Write, E: Write>(
     alloc: Global,
     script: Script<Global>,
@@ -58,7 +58,7 @@ fn finish<W: Write, E: Write>(
     }
 }
 
-// Runs a script's lines, and writes the graph of what is there then.
+// Runs a script's lines, and writes the graph of the state after them.
 fn draw_script<W: Write>(alloc: Global, script: Script<Global>, out: &mut W) -> Result<(), Failure>
     ensures drawn { OnOk result (HasDrawn (said script) (W.contents out.old) (W.contents out.new)) }
     ensures silent { IfErr result (λ failure. exit_of failure ≡ Exit.Script → out.new ≡ out.old) }
@@ -74,7 +74,8 @@ fn draw_script<W: Write>(alloc: Global, script: Script<Global>, out: &mut W) -> 
     ended(ran, drawn)
 }
 
-// Why a script didn't all run comes before output that couldn't be written.
+// Combines two results. The reason that not everything ran takes precedence over output that couldn't be
+// written.
 fn ended(ran: Result<(), HostRefused>, drawn: Result<(), Failure>) -> Result<(), Failure>
     ensures ran { OnOk result (IsOk ran) }
     ensures drawn { OnOk result (IsOk drawn) }
@@ -88,13 +89,13 @@ fn ended(ran: Result<(), HostRefused>, drawn: Result<(), Failure>) -> Result<(),
     }
 }
 
-// Writes the graph of what is kept.
+// Writes the graph of the machine.
 fn write_graph<W: Write>(alloc: Global, kept: &Kept<Global>, out: &mut W) -> Result<(), Failure>
     ensures graph { OnOk result (HasGraph kept.now (W.contents out.old) (W.contents out.new)) }
     ensures run { IsRun kept.now }
     ensures host { IfErr result (λ failure. exit_of failure ≡ Exit.Host) }
 {
-    // The proof reads here that what is kept is a run.
+    // Proof: the history is a run.
     let _history = kept.history();
     match graph(alloc, kept) {
         Ok(text) => put(&text, out),
@@ -102,7 +103,7 @@ fn write_graph<W: Write>(alloc: Global, kept: &Kept<Global>, out: &mut W) -> Res
     }
 }
 
-// Writes a text to its end.
+// Writes a whole text.
 fn put<W: Write>(text: &[u8], out: &mut W) -> Result<(), Failure>
     ensures told { OnOk result (Appends (W.contents out.old) (W.contents out.new) text.now) }
     ensures host { IfErr result (λ failure. exit_of failure ≡ Exit.Host) }
@@ -123,7 +124,7 @@ fn flush<W: Write>(out: &mut W) -> Result<(), Failure>
     }
 }
 
-// The graph of what is kept.
+// Returns the graph of the machine.
 fn graph(alloc: Global, kept: &Kept<Global>) -> Result<Vec<u8>, AllocError>
     ensures { IfOk result (λ text. IsGraph kept.now text.items) }
 {

@@ -15,7 +15,7 @@ use hv_partition::{PageKind, Partition};
 use hv_refine::Partitions;
 use std::alloc::{AllocError, Global};
 
-/// Adds the block of each partition with one of these ids, which are all.
+/// Adds the block of each partition. These ids are those of all partitions.
 pub(crate) fn push_blocks(
     text: &mut Vec<u8>,
     tree: &Partitions<Global>,
@@ -33,8 +33,8 @@ pub(crate) fn push_blocks(
     Ok(())
 }
 
-// Adds the block of the partition with this id: the edge from its parent, and its cluster, in which its node
-// stands first, with this behind it.
+// Adds the block of the partition with this id: the edge from its parent, and its cluster, which begins with
+// its node.
 fn push_block(
     text: &mut Vec<u8>,
     tree: &Partitions<Global>,

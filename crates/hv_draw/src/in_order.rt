@@ -1,4 +1,4 @@
-// The lines of a script in its order.
+// Running the lines of a script in order.
 ghost use Rattle.std.specs.Prelude.{OnOk};
 ghost use Rattle.hv_policy.specs.declared.event.Action.TheVariants.{Hypercall};
 ghost use Rattle.hv_draw.specs.Drawn.{AsksAccess, HasDone, HasRun};
@@ -9,7 +9,7 @@ use hv_policy::{Action, Caller, Event};
 use hv_script::Line;
 use std::alloc::Global;
 
-/// Runs the lines one after the other, each to its end, up to the first that the host refuses.
+/// Runs the lines one after another, each to its end. It stops at the first that the host refuses.
 pub(crate) fn run_in_order(
     kept: &mut Kept<Global>,
     lines: Vec<Line<Global>>,
@@ -25,7 +25,7 @@ pub(crate) fn run_in_order(
     Ok(())
 }
 
-// Lets one action come to its end: a hypercall with all its elements, or an access.
+// Runs one action to its end: all elements of a hypercall, or an access.
 fn perform(kept: &mut Kept<Global>, by: Caller, what: Action<Global>) -> Result<(), HostRefused>
     ensures { OnOk result (HasDone by what kept.old kept.new) }
 {
@@ -41,7 +41,7 @@ fn perform(kept: &mut Kept<Global>, by: Caller, what: Action<Global>) -> Result<
     }
 }
 
-// Lets an access happen.
+// Takes an access.
 fn happen(kept: &mut Kept<Global>, by: Caller, what: Action<Global>) -> Result<(), HostRefused>
     requires { AsksAccess what }
     ensures { OnOk result (HasDone by what kept.old kept.new) }
@@ -52,7 +52,8 @@ fn happen(kept: &mut Kept<Global>, by: Caller, what: Action<Global>) -> Result<(
     }
 }
 
-// Lets the elements of a call happen. No call has as many as may happen here, so that it comes to its end.
+// Takes all elements of a call. The bound on their number is larger than any call has, so the call comes to
+// its end.
 fn drive(kept: &mut Kept<Global>, by: Caller, frame: Frame<Global>) -> Result<(), HostRefused>
     ensures { OnOk result (HasDone by (Hypercall frame) kept.old kept.new) }
 {

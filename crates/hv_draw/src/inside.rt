@@ -1,4 +1,4 @@
-// What a partition's cluster holds behind the partition's node: its virtual processors and its ports.
+// The contents of a partition's cluster after the partition's node: its virtual processors and its ports.
 ghost use Rattle.std.specs.Prelude.{◌<◌};
 ghost use Rattle.hv_draw.specs.declared.inside.TheConstants.{SINTS};
 
@@ -12,13 +12,13 @@ use hv_refine::Partitions;
 use hv_vp::Vp;
 use std::alloc::{AllocError, Global};
 
-// How many processors a partition may have.
+// The most processors of a partition.
 const VPS: u32 = 64;
 
-// How many SINTs a processor has.
+// The number of SINTs of a processor.
 pub const SINTS: u8 = 16;
 
-/// Adds the nodes of the processors and the ports of the partition with this id, if it is there.
+/// Adds the nodes of the processors and the ports of the partition with this id, if it exists.
 pub(crate) fn push_inside(
     text: &mut Vec<u8>,
     tree: &Partitions<Global>,
@@ -70,7 +70,8 @@ fn push_vp_name(text: &mut Vec<u8>, by: Caller) -> Result<(), AllocError> {
     push_number(text, u64::from(by.vp))
 }
 
-// How many messages a processor of this partition keeps at a SINT, by the ports that were made.
+// Returns the number of messages that a processor of this partition keeps at a SINT, counted by the ports
+// that were created.
 fn kept_at(part: u64, sint: u8, vp: &Vp<Global>, made: &[MadePort]) -> usize {
     let mut kept = 0usize;
     for one in made {
@@ -81,7 +82,7 @@ fn kept_at(part: u64, sint: u8, vp: &Vp<Global>, made: &[MadePort]) -> usize {
     kept
 }
 
-// Adds a row for the messages of a SINT, where it keeps some.
+// Adds a row for the messages of a SINT, if it keeps any.
 fn push_messages(
     text: &mut Vec<u8>,
     sint: u8,
@@ -109,17 +110,17 @@ fn push_messages(
     push(text, b" waiting")
 }
 
-// Whether a slot shows a message, whose type isn't zero.
+// Returns whether a slot shows a message, whose type isn't zero.
 fn is_shown(slot: &[u8; 256]) -> bool {
     slot[0] != 0 || slot[1] != 0 || slot[2] != 0 || slot[3] != 0
 }
 
-// The port of the message in a slot.
+// Returns the port of the message in a slot.
 fn port_in(slot: &[u8; 256]) -> u32 {
     u32::from_le_bytes([slot[8], slot[9], slot[10], slot[11]])
 }
 
-// Adds a row for the event flags of a SINT, where one is set.
+// Adds a row for the event flags of a SINT, if any is set.
 fn push_flags(text: &mut Vec<u8>, sint: u8, flags: &[u8; 256]) -> Result<(), AllocError> {
     if !flags.iter().any(|byte| *byte != 0) {
         return Ok(());
@@ -130,7 +131,7 @@ fn push_flags(text: &mut Vec<u8>, sint: u8, flags: &[u8; 256]) -> Result<(), All
     push_set(text, flags, 0, 2048)
 }
 
-// Adds the numbers of those flags that are set, of so many from a first one on, or that none is.
+// Adds the numbers of the set flags in a range, given by its first flag and its length, or that none is set.
 fn push_set(
     text: &mut Vec<u8>,
     flags: &[u8; 256],
@@ -149,7 +150,7 @@ fn push_set(
     if some { Ok(()) } else { push(text, b" none") }
 }
 
-// Whether a flag below 2,048 is set.
+// Returns whether a flag below 2,048 is set.
 fn is_set(flags: &[u8; 256], flag: u16) -> bool {
     match flags.get(usize::from(flag / 8)) {
         Some(byte) => *byte >> (flag % 8) & 1 == 1,
@@ -157,7 +158,7 @@ fn is_set(flags: &[u8; 256], flag: u16) -> bool {
     }
 }
 
-// Adds a row for the vectors that are pending, the highest first, where one is.
+// Adds a row for the pending vectors, the highest first, if there are any.
 fn push_vectors(text: &mut Vec<u8>, pending: [u64; 4]) -> Result<(), AllocError> {
     let mut some = false;
     for below in 0..256usize {
@@ -185,7 +186,7 @@ fn push_ports(
     Ok(())
 }
 
-// Adds the node of a port, and the line to the processor at which it aims.
+// Adds the node of a port, and the edge to the processor at which it aims.
 fn push_port(
     text: &mut Vec<u8>,
     id: u64,
@@ -230,7 +231,7 @@ fn push_aim(text: &mut Vec<u8>, at: Caller, number: u32) -> Result<(), AllocErro
     push(text, b" [style=dotted];\n")
 }
 
-// Adds where a port aims.
+// Adds the aim of a port.
 fn push_target(text: &mut Vec<u8>, port: &Port) -> Result<(), AllocError> {
     push(text, b"SINT ")?;
     push_number(text, u64::from(port.sint))?;
@@ -243,7 +244,7 @@ fn push_target(text: &mut Vec<u8>, port: &Port) -> Result<(), AllocError> {
     }
 }
 
-// Adds that a port takes messages, and how many of them its partition keeps.
+// Adds that a port takes messages, and the number of its messages that its partition keeps.
 fn push_message_port(
     text: &mut Vec<u8>,
     number: u32,
@@ -262,7 +263,7 @@ fn push_message_port(
     push_number(text, kept as u64)
 }
 
-// Adds which flags a port sets, and which of them are set where it aims.
+// Adds the flags of a port, and which of them are set where it aims.
 fn push_event_port(
     text: &mut Vec<u8>,
     partition: &Partition<Global>,
@@ -281,7 +282,7 @@ fn push_event_port(
     push_set(text, &flags_of(partition, port), port.base, port.count)
 }
 
-// The flags that are set at a port's SINT, at the processor at which it aims, or at any.
+// Returns the flags that are set at a port's SINT, at the processor at which it aims, or at any processor.
 fn flags_of(partition: &Partition<Global>, port: &Port) -> [u8; 256] {
     let mut flags = [0; 256];
     for index in 0..VPS {
@@ -298,7 +299,7 @@ fn flags_of(partition: &Partition<Global>, port: &Port) -> [u8; 256] {
     flags
 }
 
-// Adds the bits of one to another.
+// Adds the bits of `more` to `flags`.
 fn join(flags: &mut [u8; 256], more: &[u8; 256]) {
     for at in 0..256 {
         flags[at] |= more[at];

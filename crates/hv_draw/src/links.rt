@@ -24,7 +24,7 @@ pub(crate) fn push_links(
     Ok(())
 }
 
-// Adds an edge, and where the port is gone a node that says so.
+// Adds an edge and, if the port is gone, a node that says so.
 fn push_link(
     text: &mut Vec<u8>,
     tree: &Partitions<Global>,
@@ -49,7 +49,7 @@ fn push_link(
     push(text, b"\" style=dashed constraint=false];\n")
 }
 
-// Whether the connection's port is there, with the birth that the connection keeps.
+// Returns whether the connection's port exists, with the birth that the connection keeps.
 fn leads_to_port(tree: &Partitions<Global>, conn: Conn) -> bool {
     match tree.get(conn.part) {
         Some(partition) => match partition.port(conn.port) {

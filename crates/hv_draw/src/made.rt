@@ -1,5 +1,5 @@
-// The ports that a history made. A processor tells how many messages it keeps of a port and its birth, and it
-// keeps those of a port that is gone, which the partition doesn't list.
+// The ports that were created in a history. A processor counts its kept messages by port and birth, and keeps
+// messages of a port that is gone, which its partition does not list.
 
 use hv_abi::{Bytes, Frame};
 use hv_calls::{Call, decode};
@@ -7,19 +7,19 @@ use hv_history::{Answer, EntryRef, Kept, Request};
 use hv_refine::resolve_partition_id;
 use std::alloc::{AllocError, Global};
 
-/// A port that an event made, of which nothing says that it is still there.
+/// A port that an event created. It may be gone.
 #[derive(Clone, Copy)]
 pub(crate) struct MadePort {
     /// The partition to which it belongs, and its id there.
     pub(crate) part: u64,
     pub(crate) port: u32,
-    /// The count of served events that its making gave.
+    /// The count of served events at its creation, that event included.
     pub(crate) born: u64,
     /// The SINT at which it aims.
     pub(crate) sint: u32,
 }
 
-/// The ports that a history made, in its order.
+/// Returns the ports that were created in a history, in its order.
 pub(crate) fn made_ports(alloc: Global, kept: &Kept<Global>) -> Result<Vec<MadePort>, AllocError> {
     let mut made = Vec::new(alloc);
     let mut served = 0u64;
@@ -36,7 +36,7 @@ pub(crate) fn made_ports(alloc: Global, kept: &Kept<Global>) -> Result<Vec<MadeP
     Ok(made)
 }
 
-// Whether this is the answer to a served event.
+// Returns whether this is the answer to a served event.
 fn is_served(answer: Answer) -> bool {
     match answer {
         Answer::Served | Answer::More { .. } => true,
@@ -44,7 +44,8 @@ fn is_served(answer: Answer) -> bool {
     }
 }
 
-// The port that a served event made, if it made one. This many events were served with it.
+// Returns the port that a served event created, if it created one. `served` counts the served events, this
+// one included.
 fn port_of(
     alloc: Global,
     entry: &EntryRef<'_>,

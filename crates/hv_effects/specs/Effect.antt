@@ -1,4 +1,4 @@
--- What an effect names of a flat state, and when it tells what is different in another one.
+-- What an effect names of a flat state, and when it describes the difference between two flat states.
 use Rattle.std.specs.Prelude.{◌≡◌, ◌≢◌, ℕ, ◌%◌, ◌^◌, ◌==◌, ◌&&◌, ◌||◌, not, Bool, true, false, List, [], ◌∷◌}
 use Rattle.std.specs.Prelude.{◌++◌, Option, None, Some}
 use Rattle.std.specs.FinMap.{get}
@@ -14,7 +14,7 @@ use Rattle.hv_effects.specs.declared.effect.Effect.TheVariants as effect
 use Rattle.hv_effects.specs.declared.effect.FlagChange.{FlagChange}
 use Rattle.hv_effects.specs.declared.effect.Synic.{Synic}
 
--- a processor of which nothing is named
+-- the effect at a processor that names nothing
 abbrev pub quiet : ℕ → ℕ → Synic
 quiet part vp =
     record {
@@ -28,7 +28,7 @@ quiet part vp =
       freed = None;
     }
 
--- whether the processor with this index of a partition is the one that is named
+-- whether the effect is at the processor with this index of a partition
 abbrev pub is_at : Synic → ℕ → ℕ → Bool
 is_at s part vp = (part == s.part) && (vp == s.vp)
 
@@ -36,14 +36,14 @@ is_at s part vp = (part == s.part) && (vp == s.vp)
 abbrev pub has_bit : ℕ → ℕ → Bool
 has_bit mask sint = bit_at mask sint == 1
 
--- whether this is the number that is named, if one is
+-- whether a number is named, and is this one
 abbrev pub is_number : Option ℕ → ℕ → Bool
 is_number named number = option_map_or (λ n. number == n) named false
 
 abbrev pub is_change : Option FlagChange → ℕ → ℕ → Bool
 is_change named sint flag = option_map_or (λ c. (sint == c.sint) && (flag == c.flag)) named false
 
--- an effect names the messages at a SINT of a processor
+-- whether an effect names the messages at a SINT of a processor
 abbrev pub names_messages : Effect → Place → Bool
 names_messages effect.Nothing at = false
 names_messages (effect.Synic s) at = is_at s at.part at.vp &&
@@ -53,7 +53,7 @@ names_messages (effect.Pages from to) at = false
 names_messages (effect.Processor part vp) at = (at.part == part) && (at.vp == vp)
 names_messages (effect.Partition part) at = at.part == part
 
--- an event flag of a SINT of a processor
+-- whether an effect names an event flag of a SINT of a processor
 abbrev pub names_flag : Effect → Place → ℕ → Bool
 names_flag effect.Nothing at flag = false
 names_flag (effect.Synic s) at flag = is_at s at.part at.vp && is_change s.flag at.sint flag
@@ -62,7 +62,7 @@ names_flag (effect.Pages from to) at flag = false
 names_flag (effect.Processor part vp) at flag = (at.part == part) && (at.vp == vp)
 names_flag (effect.Partition part) at flag = at.part == part
 
--- a vector of the processor with this index of a partition
+-- whether an effect names a vector of the processor with this index of a partition
 abbrev pub names_vector : Effect → ℕ → ℕ → ℕ → Bool
 names_vector effect.Nothing id index vector = false
 names_vector (effect.Synic s) id index vector = is_at s id index &&
@@ -72,11 +72,11 @@ names_vector (effect.Pages from to) id index vector = false
 names_vector (effect.Processor part vp) id index vector = (id == part) && (index == vp)
 names_vector (effect.Partition part) id index vector = id == part
 
--- whether a page was one of a partition's
+-- whether a page belonged to this partition
 abbrev pub was_of : ℕ → Option PageRow → Bool
 was_of part row = option_map_or (λ row. row.owner == part) row false
 
--- a page, which had this row
+-- whether an effect names a page that had this row
 abbrev pub names_page : Effect → ℕ → Option PageRow → Bool
 names_page effect.Nothing number row = false
 names_page (effect.Synic s) number row = false
@@ -85,8 +85,8 @@ names_page (effect.Pages from to) number row = was_of from row
 names_page (effect.Processor part vp) number row = false
 names_page (effect.Partition part) number row = false
 
--- what an effect doesn't name is as it was: each message, shown or waiting, each event flag, each pending
--- vector, and who has each page
+-- what an effect does not name is unchanged: each message, shown or waiting, each event flag, each pending
+-- vector, and the partition and pool of each page
 pub record LeavesUnnamed (effect : Effect) (f g : Flat) : Type 0 where
   pub messages : (at : Place) → names_messages effect at ≡ false → mail_at at g.mail ≡ mail_at at f.mail
   pub flags : (at : Place) (flag : ℕ) → names_flag effect at flag ≡ false
@@ -102,18 +102,18 @@ pub record WaitsMore (at : Place) (f g : Flat) : Type 0 where
   pub waits : message.shown ≡ false
   pub last : mail_at at g.mail ≡ mail_at at f.mail ++ message ∷ []
 
--- a flag was the other way round
+-- the flag had the opposite value before
 pub record IsTurned (s : Synic) (change : FlagChange) (f g : Flat) : Type 0 where
   pub before : has_flag (get f.vp (s.part, s.vp)) change.sint change.flag ≡ not change.is_set
   pub now : has_flag (get g.vp (s.part, s.vp)) change.sint change.flag ≡ change.is_set
 
--- a vector was the highest that was pending, or 0 where none was, and it isn't pending now
+-- the vector was the highest pending one, or 0 if none was pending, and is not pending afterwards
 pub record IsTaken (s : Synic) (vector : ℕ) (f g : Flat) : Type 0 where
   pub before : vector ≡ vector_of (get f.vp (s.part, s.vp))
   pub now : has_vector (get g.vp (s.part, s.vp)) vector ≡ false
 
--- a message left its slot that came by the port with this id of the processor's partition. An id has 24 bits,
--- and 32 are told
+-- the message that left its slot came through the port with this id of the processor's partition. An id has
+-- 24 bits, and the effect has 32
 pub record IsFreed (s : Synic) (port : ℕ) (f g : Flat) : Type 0 where
   pub sint : ℕ
   pub message : MailRow
@@ -121,30 +121,30 @@ pub record IsFreed (s : Synic) (port : ℕ) (f g : Flat) : Type 0 where
   pub by : port ≡ message.port % 2 ^ 32
   pub now : shown_at (place s.part s.vp sint) g.mail ≡ None
 
--- what is named at a processor is so
+-- what is named at a processor is true
 pub record IsSynic (s : Synic) (f g : Flat) : Type 0 where
-  -- the slot shows another message than it did, or one of the two is none
+  -- the slot shows another message than before, or one of the two is none
   pub shown : (sint : ℕ) → has_bit s.shown sint ≡ true
       → shown_at (place s.part s.vp sint) g.mail ≢ shown_at (place s.part s.vp sint) f.mail
   pub waiting : (sint : ℕ) → s.waiting ≡ Some sint → WaitsMore (place s.part s.vp sint) f g
   pub flag : (change : FlagChange) → s.flag ≡ Some change → IsTurned s change f g
-  -- each vector that was raised is pending
+  -- each raised vector is pending
   pub raised : (vector : ℕ) → set.contains s.raised vector ≡ true → has_vector (get g.vp (s.part, s.vp))
       vector ≡ true
   pub taken : (vector : ℕ) → s.taken ≡ Some vector → IsTaken s vector f g
   pub freed : (port : ℕ) → s.freed ≡ Some port → IsFreed s port f g
-  -- and where a message left its slot, and no other is shown there, its port is named
+  -- if a message left its slot and no other is shown there, its port is named
   pub left : (sint : ℕ) (message : MailRow) → has_bit s.shown sint ≡ true → shown_at (place s.part s.vp sint)
       f.mail ≡ Some message
       → shown_at (place s.part s.vp sint) g.mail ≡ None → s.freed ≡ Some (message.port % 2 ^ 32)
 
--- a processor has nothing
+-- the processor has no message, no event flag and no pending vector
 pub record HasNothing (part vp : ℕ) (g : Flat) : Type 0 where
   pub messages : (sint : ℕ) → mail_at (place part vp sint) g.mail ≡ []
   pub flags : (sint flag : ℕ) → has_flag (get g.vp (part, vp)) sint flag ≡ false
   pub vectors : (vector : ℕ) → has_vector (get g.vp (part, vp)) vector ≡ false
 
--- what an effect names is so
+-- what an effect names is true
 abbrev pub IsSo : Effect → Flat → Flat → Type 0
 IsSo effect.Nothing f g = Unit {0}
 IsSo (effect.Synic s) f g = IsSynic s f g
@@ -155,7 +155,8 @@ IsSo (effect.Pages from to) f g =
 IsSo (effect.Processor part vp) f g = HasNothing part vp g
 IsSo (effect.Partition part) f g = (vp : ℕ) → HasNothing part vp g
 
--- an effect tells what is different in `g` from what was in `f`
+-- an effect describes the change from `f` to `g`: what it names is true in `g`, and everything else is
+-- unchanged
 pub record Tells (effect : Effect) (f g : Flat) : Type 0 where
   pub unnamed : LeavesUnnamed effect f g
   pub named : IsSo effect f g

@@ -1,4 +1,4 @@
--- What SINTs raise at which a message became shown.
+-- The vectors of SINTs that begin to show a message.
 use Rattle.std.specs.Prelude.{ℕ, zero, suc, ◌&&◌, not, Bool, cond}
 use Rattle.std.specs.FinMap.{FinMap}
 use Rattle.std.specs.FinSet as set
@@ -9,7 +9,7 @@ use Rattle.hv_defs.specs.Vectors.{VectorSet, raised}
 use Rattle.hv_policy.specs.Flat.{Flat}
 use Rattle.hv_policy.specs.Mail.{is_shown, mail_at}
 
--- the vectors of those of the first so many SINTs that pass a test, at a processor with these registers
+-- the vectors of those SINTs below a number that pass a test, at a processor with these registers
 unfoldable pub vectors_of : (ℕ → Bool) → FinMap nat_cmp ℕ → ℕ → VectorSet
 vectors_of test registers zero = set.empty
 vectors_of test registers (suc sint) = cond (test sint)
@@ -19,6 +19,6 @@ vectors_of test registers (suc sint) = cond (test sint)
 abbrev pub shows : ℕ → ℕ → Flat → ℕ → Bool
 shows part vp f sint = list_any is_shown (mail_at (place part vp sint) f.mail)
 
--- whether it does now and didn't
+-- whether a SINT shows a message in `g` and showed none in `f`
 abbrev pub became_shown : ℕ → ℕ → Flat → Flat → ℕ → Bool
 became_shown part vp f g sint = shows part vp g sint && not (shows part vp f sint)

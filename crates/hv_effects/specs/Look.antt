@@ -1,4 +1,4 @@
--- What is told before an event, and what it foretells.
+-- What is known before an event, and what it promises of the state after it.
 use Rattle.std.specs.Prelude.{◌≡◌, ℕ, ◌&&◌, nat_lt, Bool, List, [], ◌∷◌, Option, Some, true, false}
 use Rattle.std.specs.FinMap.{contains_key, get}
 use Rattle.hv_defs.specs.Vectors.{highest, without}
@@ -27,29 +27,29 @@ message part vp sint port born type payload = record {
   shown = false;
 }
 
--- a processor's row once its highest pending vector was taken
+-- a processor's row after its highest pending vector was taken
 abbrev pub interrupted : VpRow → VpRow
 interrupted row = record row { pending = without row.pending (highest row.pending) }
 
--- these are the SINTs of a processor that show a message
+-- the bits are exactly the SINTs of a processor that show a message
 abbrev pub AreShown : Flat → ℕ → ℕ → ℕ → Type 0
 AreShown f part vp bits = (sint : ℕ) → has_bit bits sint ≡ (nat_lt sint SINTS && shows part vp f sint)
 
--- EOM is written at a processor
+-- the event writes EOM at a processor
 pub record IsEnding (f g : Flat) (part vp bits : ℕ) : Type 0 where
   pub value : ℕ
   pub written : g ≡ write_register part vp EOM value f
   pub there : contains_key f.vp (part, vp) ≡ true
   pub shown : AreShown f part vp bits
 
--- a processor takes a vector, which its reply puts out
+-- the event takes a vector at a processor, and its reply outputs the vector
 pub record IsTaking (f g : Flat) (reply : Reply) (part vp : ℕ) : Type 0 where
   pub row : VpRow
   pub there : get f.vp (part, vp) ≡ Some row
   pub taken : g ≡ record f { vp = with_vp f.vp (part, vp) interrupted }
   pub answered : reply ≡ Served (vector_of (get f.vp (part, vp)) ∷ [])
 
--- what was told of an event that leads from `f` to `g` and has this reply
+-- the look foretells an event that leads from `f` to `g` with this reply
 abbrev pub Foretells : Look → Flat → Flat → Reply → Type 0
 Foretells (Told effect) f g reply = Tells effect f g
 Foretells (Ends part vp shown) f g reply = IsEnding f g part vp shown
@@ -62,15 +62,15 @@ is_served (More next output) = true
 is_served (Denied rule status reps) = false
 is_served (Fault rule) = false
 
--- an event that is served leads from `f` to `g`, which counts it, as was told; and if its reply is a vector,
--- this is it
+-- a served event leads from `f` to `g`, which counts it, as the look foretold. If its reply is a vector,
+-- `taken` is that vector
 pub record IsAsTold (look : Look) (taken : Option ℕ) (f g : Flat) (reply : Reply) : Type 0 where
   pub before : Flat
   pub counts : g ≡ counted before
   pub foretold : Foretells look f before reply
   pub vector : (n : ℕ) → reply ≡ Served (n ∷ []) → taken ≡ Some n
 
--- and one that isn't served changes nothing
+-- if the event is served, its look described it; otherwise nothing changed
 abbrev pub IsToldBy : Look → Bool → Option ℕ → Flat → Flat → Reply → Type 0
 IsToldBy look true taken f g reply = IsAsTold look taken f g reply
 IsToldBy look false taken f g reply = f ≡ g

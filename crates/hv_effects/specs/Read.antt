@@ -1,4 +1,4 @@
--- What is read of a processor, and that it is the flat state's.
+-- Reading a processor of the tree, and when it is the flat state's.
 use Rattle.std.specs.Prelude.{◌≡◌, ℕ, ◌%◌, ◌^◌, ◌<◌, is_some, Bool, true, Option, None, Some}
 use Rattle.std.specs.FinMap.{get}
 use Rattle.std.specs.Option.{option_and_then, option_map}
@@ -19,20 +19,20 @@ use Rattle.hv_effects.specs.Ended.{shows}
 abbrev pub vp_at : Rows PartitionState → ℕ → ℕ → Option VpState
 vp_at rows id index = option_and_then (λ p. get p.vps.vps index) (content rows id)
 
--- a message that is shown has a type that a guest may post
+-- if a message is shown, it has a type that a guest may post
 abbrev pub IsSlotTyped : Option Message → Type 0
 IsSlotTyped None = Unit {0}
 IsSlotTyped (Some message) = is_message_type message.kind ≡ true
 
--- and so at each SINT
+-- this holds at each SINT
 abbrev pub AreSlotsTyped : Mail → Type 0
 AreSlotsTyped mail = (sint : ℕ) → sint < SINTS → IsSlotTyped (at mail sint).slot
 
--- the port by which a message came, in the 32 bits that are read of it
+-- the port through which a message came, in the 32 bits that are read of it
 abbrev pub port_of : Option Message → Option ℕ
 port_of slot = option_map (λ message. message.port % 2 ^ 32) slot
 
--- a processor of a flat state has this state
+-- a processor of a flat state has this state: its registers, its shown messages and their ports
 pub record IsSeen (f : Flat) (part vp : ℕ) (v : VpState) : Type 0 where
   pub row : get f.vp (part, vp) ≡ Some (vp_row_of v)
   pub shown : (sint : ℕ) → shows part vp f sint ≡ is_some (at v.mail sint).slot

@@ -4,10 +4,10 @@ use Rattle.std.specs.List.{AllByRecursion}
 use Rattle.hv_calls.specs.WellFormed.{is_message_type}
 use Rattle.hv_policy.specs.Flat.{Flat, MailRow}
 
--- a message has a type that a guest may post, so not 0, which is that of an empty slot
+-- a message has a type that a guest may post. It isn't 0, which is the type of an empty slot
 abbrev pub is_typed : MailRow → Bool
 is_typed row = is_message_type row.type
 
--- each message has. So it is in every state that a run leads to
+-- every message is typed, as in every state that a run leads to
 abbrev pub AreTyped : Flat → Type 0
 AreTyped f = AllByRecursion (λ row. is_typed row ≡ true) f.mail

@@ -27,8 +27,10 @@ use hv_policy::{Access, Answer, CallReply, Caller, Output, Rule, ask_frame};
 use hv_refine::Partitions;
 use std::alloc::Allocator;
 
-/// Takes one hypercall of a processor, as [`Machine::hypercall`] does, with the same promises, and says what
-/// it changed of messages, event flags, pending vectors and pages.
+/// Takes one hypercall of a processor and returns its effect beside the reply.
+///
+/// It makes the promises of [`Machine::hypercall`]. The effect says what changed of messages, event flags,
+/// pending vectors and pages.
 pub fn hypercall<A: Allocator + Clone>(
     machine: &mut Machine<A>,
     by: Caller,
@@ -38,7 +40,7 @@ pub fn hypercall<A: Allocator + Clone>(
     ensures step { IsStep (call_event by frame.now) machine.old
         (result_map_both (λ done. done.0) (λ why. why) result) machine.new }
 
-    // Of each flat state that the machine stands for whose messages have types, as those of each run have.
+    // Holds for each flat state that the machine stands for whose messages have types, as in each run.
     ensures effect { (f : Flat) → IsFlat machine.old f → AreTyped f
         → IfOk result (λ done. Tells done.1 f (step f (call_event by frame.now)).0) }
 {
@@ -56,8 +58,10 @@ pub fn hypercall<A: Allocator + Clone>(
     }
 }
 
-/// Takes one access of a processor, as [`Machine::access`] does, with the same promises, and says what it
-/// changed of messages, event flags, pending vectors and pages.
+/// Takes one access of a processor and returns its effect beside the reply.
+///
+/// It makes the promises of [`Machine::access`]. The effect says what changed of messages, event flags,
+/// pending vectors and pages.
 pub fn access<A: Allocator + Clone>(
     machine: &mut Machine<A>,
     by: Caller,
@@ -69,7 +73,7 @@ pub fn access<A: Allocator + Clone>(
     ensures step { IsStep {A = A} (access_event by access) machine.old
         (Ok (access_reply result output.new)) machine.new }
 
-    // Of each flat state that the machine stands for whose messages have types, as those of each run have.
+    // Holds for each flat state that the machine stands for whose messages have types, as in each run.
     ensures effect { (f : Flat) → IsFlat machine.old f → AreTyped f
         → IfOk result (λ effect. Tells effect f (step {A = A} f (access_event by access)).0) }
 {
@@ -86,7 +90,7 @@ pub fn access<A: Allocator + Clone>(
     }
 }
 
-// What is told of a hypercall before it.
+// Returns what a hypercall will change, as far as the state before it shows.
 fn look_at_frame<A: Allocator + Clone>(machine: &Machine<A>, by: Caller, frame: &Frame<A>) -> Look
     ensures { (f : Flat) (reply : Reply) → IsFlat machine.now f → AreTyped f
         → unmet f (call_event by frame.now) ≡ None
@@ -101,7 +105,7 @@ fn look_at_frame<A: Allocator + Clone>(machine: &Machine<A>, by: Caller, frame: 
     }
 }
 
-// Whether a hypercall or an element of one was served.
+// Returns whether a hypercall, or an element of one, was served.
 fn is_served(reply: &CallReply) -> bool
     ensures { result ≡ is_served_reply reply.now }
 {
@@ -112,8 +116,8 @@ fn is_served(reply: &CallReply) -> bool
     }
 }
 
-// The effect of an event after it, from what was told before, whether it was served, and the vector that it
-// took.
+// Returns the effect of an event after it happened, from the look before it, whether it was served, and the
+// vector that it took.
 fn effect_of<A: Allocator>(
     tree: &Partitions<A>,
     look: Look,

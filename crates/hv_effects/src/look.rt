@@ -1,4 +1,5 @@
-// What a call or an access changes of messages, flags, vectors and pages, as far as it can be told before it.
+// What a call or an access will change of messages, flags, vectors and pages, as far as the state before it
+// shows.
 ghost use Rattle.std.specs.Prelude.{◌≡◌, ℕ, List, None, Some, true};
 ghost use Rattle.std.specs.FinMap.{contains_key};
 ghost use Rattle.hv_defs.specs.declared.registers.TheConstants.{EOM as EOM_NAME};
@@ -30,19 +31,19 @@ use hv_refine::{Partitions, resolve_partition_id};
 use hv_vp::name_of_msr;
 use std::alloc::Allocator;
 
-// What is told before an event.
+// What the state before an event says of its effect.
 #[derive(Drop)]
 pub enum Look {
-    // All that it changes.
+    // The whole effect.
     Told(Effect),
-    // A message ends at a processor, of which these SINTs show one before. Which show their next one is told
-    // after it.
+    // A message ends at a processor, where these SINTs show one before the event. The state after it says
+    // which SINTs show their next message.
     Ends { part: u64, vp: u32, shown: u16 },
-    // A processor takes a vector, which the event itself tells.
+    // A processor takes a vector. The event itself says which one.
     Takes { part: u64, vp: u32 },
 }
 
-// Of a call whose rules are met.
+// Returns the look at a call whose rules are met.
 pub fn look_at_call<A: Allocator>(tree: &Partitions<A>, caller: u64, call: &Call<'_>) -> Look
     requires { TreeInvariant tree.now }
     ensures { (f : Flat) (reply : Reply) → Refines tree.now f → AreTyped f → IsAllowed f caller call.now
@@ -101,7 +102,7 @@ pub fn look_at_call<A: Allocator>(tree: &Partitions<A>, caller: u64, call: &Call
     }
 }
 
-// Of the lowest page of a pool that goes to a partition, if there is one.
+// Returns the effect of moving a pool's lowest page to a partition, if the pool has a page.
 fn look_at_pool<A: Allocator>(tree: &Partitions<A>, from: u64, to: u64) -> Effect
     ensures { (f : Flat) → Refines tree.now f
         → Tells result f (record f { page = withdrawn to (lowest_pooled_of f from) f.page }) }
@@ -116,7 +117,7 @@ fn look_at_pool<A: Allocator>(tree: &Partitions<A>, from: u64, to: u64) -> Effec
     }
 }
 
-// Of a message through a connection of the caller.
+// Returns the effect of a message through a connection of the caller.
 fn look_at_post<A: Allocator>(tree: &Partitions<A>, caller: u64, connection: u32) -> Effect
     requires { TreeInvariant tree.now }
     ensures { (f : Flat) (type : ℕ) (payload : List ℕ) → Refines tree.now f → AreTyped f
@@ -134,7 +135,7 @@ fn look_at_post<A: Allocator>(tree: &Partitions<A>, caller: u64, connection: u32
     posted(conn.part, index, port.sint as u8, vp)
 }
 
-// Of an event flag through a connection of the caller, whose port has it.
+// Returns the effect of an event flag through a connection of the caller, whose port has the flag.
 fn look_at_signal<A: Allocator>(
     tree: &Partitions<A>,
     caller: u64,
@@ -161,7 +162,7 @@ fn look_at_signal<A: Allocator>(
     signalled(conn.part, index, port.sint as u8, port.base + flag, vp)
 }
 
-// Of a write to the register with this name of a processor that is there.
+// Returns the look at a write to the register with this name. The processor exists.
 fn look_at_write<A: Allocator>(tree: &Partitions<A>, part: u64, index: u32, name: u32) -> Look
     ensures { (f : Flat) (value : ℕ) (reply : Reply) → Refines tree.now f → AreTyped f
         → contains_key f.vp (part, index) ≡ true
@@ -180,7 +181,7 @@ fn look_at_write<A: Allocator>(tree: &Partitions<A>, part: u64, index: u32, name
     }
 }
 
-// Of an access whose rules are met.
+// Returns the look at an access whose rules are met.
 pub fn look_at_access<A: Allocator>(tree: &Partitions<A>, by: Caller, access: Access) -> Look
     ensures { (f : Flat) → Refines tree.now f → AreTyped f
         → unmet {A = A} f (record { by = by; what = action_of access }) ≡ None
@@ -204,7 +205,7 @@ pub fn look_at_access<A: Allocator>(tree: &Partitions<A>, by: Caller, access: Ac
     }
 }
 
-// Of a slot of the caller that is cleared.
+// Returns the effect of clearing a slot of the caller.
 fn look_at_slot<A: Allocator>(tree: &Partitions<A>, by: Caller, sint: u8) -> Effect
     ensures { (f : Flat) → Refines tree.now f → AreTyped f
         → unmet {A = A} f (record { by = by; what = action_of (access.ClearSlot sint) }) ≡ None
@@ -219,7 +220,7 @@ fn look_at_slot<A: Allocator>(tree: &Partitions<A>, by: Caller, sint: u8) -> Eff
     }
 }
 
-// Of an event flag of the caller that is cleared.
+// Returns the effect of clearing an event flag of the caller.
 fn look_at_flag<A: Allocator>(tree: &Partitions<A>, by: Caller, sint: u8, flag: u16) -> Effect
     ensures { (f : Flat) → Refines tree.now f → AreTyped f
         → unmet {A = A} f (record { by = by; what = action_of (access.ClearFlag sint flag) }) ≡ None

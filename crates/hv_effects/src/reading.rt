@@ -1,4 +1,4 @@
-// What is read of a processor, and of where a connection leads.
+// Reading a processor, and resolving a connection.
 ghost use Rattle.std.specs.Prelude.{◌≡◌, ◌<◌, ◌==◌, ◌&&◌, ℕ, nat_lt, is_some, None, Some, IfNone, IfSome};
 ghost use Rattle.std.specs.Prelude.{option_copied};
 ghost use Rattle.std.specs.FinSet as set;
@@ -23,7 +23,7 @@ use hv_refine::Partitions;
 use hv_vp::Vp;
 use std::alloc::Allocator;
 
-// The processor with this index of a partition.
+// Returns the processor with this index of a partition.
 pub fn vp_of<A: Allocator>(tree: &Partitions<A>, id: u64, index: u32) -> Option<&Vp<A>>
     ensures { option_copied result ≡ vp_at tree.now id index }
 {
@@ -33,7 +33,7 @@ pub fn vp_of<A: Allocator>(tree: &Partitions<A>, id: u64, index: u32) -> Option<
     }
 }
 
-// Whether a SINT below 16 shows a message: the type in its slot isn't that of an empty one.
+// Returns whether a SINT below 16 shows a message: the type in its slot isn't that of an empty one.
 pub fn shows<A: Allocator>(vp: &Vp<A>, sint: u8) -> bool
     requires { sint < SINTS }
     ensures { IsSlotTyped (at vp.now.mail sint).slot → result ≡ is_some (at vp.now.mail sint).slot }
@@ -42,7 +42,7 @@ pub fn shows<A: Allocator>(vp: &Vp<A>, sint: u8) -> bool
     u32::from_le_bytes([slot[0], slot[1], slot[2], slot[3]]) != 0
 }
 
-// The id of the port by which the message came that a SINT below 16 shows, if it shows one.
+// Returns the id of the port whose message a SINT below 16 shows, if it shows one.
 pub fn port_shown<A: Allocator>(vp: &Vp<A>, sint: u8) -> Option<u32>
     requires { sint < SINTS }
     ensures { IsSlotTyped (at vp.now.mail sint).slot
@@ -55,7 +55,7 @@ pub fn port_shown<A: Allocator>(vp: &Vp<A>, sint: u8) -> Option<u32>
     Some(u32::from_le_bytes([slot[8], slot[9], slot[10], slot[11]]))
 }
 
-// The SINTs that show a message, as bits.
+// Returns the SINTs that show a message, as bits.
 pub fn shown_bits<A: Allocator>(vp: &Vp<A>) -> u16
     ensures { AreSlotsTyped vp.now.mail → (k : ℕ) → (bit_at result k == 1)
         ≡ (nat_lt k SINTS && is_some (at vp.now.mail k).slot) }
@@ -69,7 +69,7 @@ pub fn shown_bits<A: Allocator>(vp: &Vp<A>) -> u16
     bits
 }
 
-// Whether an event flag below 2,048 of a SINT below 16 is set.
+// Returns whether an event flag below 2,048 of a SINT below 16 is set.
 pub fn is_flag_set<A: Allocator>(vp: &Vp<A>, sint: u8, flag: u16) -> bool
     requires sint { sint < SINTS }
     requires flag { flag < EVENT_FLAGS }
@@ -92,7 +92,7 @@ pub fn raise<A: Allocator>(raised: &mut Pending, vp: &Vp<A>, sint: u8)
     }
 }
 
-// The lowest pooled page of a partition, if it has one.
+// Returns the lowest pooled page of a partition, if it has one.
 pub fn lowest_pooled<A: Allocator>(tree: &Partitions<A>, id: u64) -> Option<u64>
     ensures { (f : Flat) → Refines tree.now f → result ≡ lowest_pooled_of f id }
 {
@@ -105,8 +105,8 @@ pub fn lowest_pooled<A: Allocator>(tree: &Partitions<A>, id: u64) -> Option<u64>
     }
 }
 
-// Where a connection of a partition leads: the connection, the port with the id that it keeps, and the port's
-// partition.
+// Resolves a connection of a partition: returns the connection, the port with the id that it keeps, and the
+// port's partition.
 pub fn way<'t, A: Allocator>(
     tree: &'t Partitions<A>,
     caller: u64,
@@ -132,8 +132,8 @@ pub fn way<'t, A: Allocator>(
     Some((conn, port, home))
 }
 
-// The processor that takes what comes to a port of this kind, if there is one: the one at which the port
-// aims, if it is ready, and for any the lowest of those that are.
+// Returns the processor to which a port of this kind delivers, if there is one. If the port aims at one
+// processor, that is the one, provided it is ready; if at any, the lowest that is ready.
 pub fn select_vp<A: Allocator>(
     home: &Partition<A>,
     conn: Conn,

@@ -1,4 +1,4 @@
-// What comes to a processor, or what it does itself, as an effect.
+// The effects of what reaches a processor, and of what it does itself.
 ghost use Rattle.std.specs.Prelude.{◌≡◌, ◌<◌, ◌&&◌, ℕ, List, is_some, not};
 ghost use Rattle.std.specs.FinSet as set;
 ghost use Rattle.hv_integrity.specs.Same.{place};
@@ -19,7 +19,7 @@ use hv_mail::Pending;
 use hv_vp::Vp;
 use std::alloc::Allocator;
 
-// A processor of which nothing is named.
+// Returns the effect at a processor that names nothing.
 pub fn quiet(part: u64, vp: u32) -> Synic
     ensures { result ≡ quiet_of part vp }
 {
@@ -35,8 +35,8 @@ pub fn quiet(part: u64, vp: u32) -> Synic
     }
 }
 
-// A message is posted at a SINT below 16 of the processor: it waits where one is shown, and else the oldest
-// is shown, and the SINT raises its vector.
+// Returns the effect of posting a message at a SINT below 16 of the processor. If the SINT shows a message,
+// the new one waits. Otherwise the oldest is shown, and the SINT raises its vector.
 pub fn posted<A: Allocator>(part: u64, index: u32, sint: u8, vp: &Vp<A>) -> Effect
     requires { sint < SINTS }
     ensures { (f : Flat) (port born type : ℕ) (payload : List ℕ) → IsSeen f part index vp.now
@@ -52,8 +52,8 @@ pub fn posted<A: Allocator>(part: u64, index: u32, sint: u8, vp: &Vp<A>) -> Effe
     Effect::Synic(synic)
 }
 
-// An event flag below 2,048 of a SINT below 16 of the processor is set. Where it was clear, the SINT raises
-// its vector.
+// Returns the effect of setting an event flag below 2,048 of a SINT below 16. If the flag was clear, the SINT
+// raises its vector.
 pub fn signalled<A: Allocator>(part: u64, index: u32, sint: u8, flag: u16, vp: &Vp<A>) -> Effect
     requires sint { sint < SINTS }
     requires flag { flag < EVENT_FLAGS }
@@ -73,7 +73,7 @@ pub fn signalled<A: Allocator>(part: u64, index: u32, sint: u8, flag: u16, vp: &
     Effect::Synic(synic)
 }
 
-// An event flag below 2,048 of a SINT below 16 of the processor is cleared.
+// Returns the effect of clearing an event flag below 2,048 of a SINT below 16.
 pub fn flag_cleared<A: Allocator>(part: u64, index: u32, sint: u8, flag: u16, vp: &Vp<A>) -> Effect
     requires sint { sint < SINTS }
     requires flag { flag < EVENT_FLAGS }
@@ -93,7 +93,7 @@ pub fn flag_cleared<A: Allocator>(part: u64, index: u32, sint: u8, flag: u16, vp
     Effect::Synic(synic)
 }
 
-// The message that a SINT below 16 of the processor shows is removed, if it shows one.
+// Returns the effect of removing the message that a SINT below 16 shows, if it shows one.
 pub fn slot_cleared<A: Allocator>(part: u64, index: u32, sint: u8, vp: &Vp<A>) -> Effect
     requires { sint < SINTS }
     ensures { (f : Flat) → IsSeen f part index vp.now
@@ -108,7 +108,7 @@ pub fn slot_cleared<A: Allocator>(part: u64, index: u32, sint: u8, vp: &Vp<A>) -
     Effect::Synic(synic)
 }
 
-// Whether a SINT below 16 shows a message and isn't among those that showed one before.
+// Returns whether a SINT below 16 shows a message and is not among those that showed one before.
 fn becomes_shown<A: Allocator>(vp: &Vp<A>, sint: u8, before: u16) -> bool
     requires { sint < SINTS }
     ensures { IsSlotTyped (at vp.now.mail sint).slot → result
@@ -117,8 +117,8 @@ fn becomes_shown<A: Allocator>(vp: &Vp<A>, sint: u8, before: u16) -> bool
     before >> sint & 1 == 0 && shows(vp, sint)
 }
 
-// A message ended at the processor, which is seen as it is now: each SINT that shows a message and didn't has
-// raised its vector. The bits are those of the SINTs that showed one before.
+// Returns the effect of ending a message. `vp` is the processor after the event, and the bits of `before` are
+// the SINTs that showed a message before it. Each SINT that begins to show a message raises its vector.
 pub fn ended<A: Allocator>(part: u64, index: u32, before: u16, vp: &Vp<A>) -> Effect
     ensures { (f : Flat) (value : ℕ) → IsSeen (write_register part index EOM value f) part index vp.now
         → AreShown f part index before → Tells result f (write_register part index EOM value f) }

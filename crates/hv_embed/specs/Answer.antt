@@ -1,4 +1,4 @@
--- What C hands over and is answered, beside the policy's events and replies.
+-- The arguments and replies of C, beside the policy's events and replies.
 use Rattle.std.specs.Prelude.{◌≡◌, ◌++◌, ℕ, List, length, take, codes}
 use Rattle.std.specs.Global.{Global}
 use Rattle.hv_abi.specs.declared.frame.Frame.{Frame}
@@ -23,7 +23,7 @@ use Rattle.hv_embed.specs.declared.layout.HvReply.{HvReply}
 use Rattle.hv_embed.specs.declared.layout.TheConstants.{SERVED, MORE, DENIED, FAULT}
 use Rattle.hv_embed.specs.declared.status.TheConstants as status
 
--- the configuration that C asks for
+-- the configuration that C requests
 abbrev pub config_of : HvConfig → Config
 config_of c = record { pages = c.pages; pool = c.pool; vps = c.vps; mask = of c.mask }
 
@@ -40,7 +40,7 @@ frame_of registers input = record {
   input = input;
 }
 
--- an event of that processor
+-- an event of the processor that C names
 abbrev pub event_of : HvCaller → Action Global → Event Global
 event_of by what = record { by = caller_of by; what = what }
 
@@ -55,13 +55,13 @@ result_in (ReadFlags sint) reply = 0
 result_in (ClearFlag sint flag) reply = 0
 result_in TakeInterrupt reply = 0
 
--- the output bytes of an answer are these
+-- a reply for C has exactly these output bytes
 pub record HasOutput (a : HvReply) (output : List ℕ) : Type 0 where
   pub len : a.output_len ≡ length output
   pub bytes : take a.output_len a.output ≡ output
 
--- an answer says of a reply how it ended, which rule refused, or 0, with which element the call goes on, or
--- 0, and what was put out
+-- a reply for C says how the event ended, the rule that refused it, or 0, the element at which the call
+-- continues, or 0, and the output
 abbrev pub Says : HvReply → Reply → Type 0
 Says a (Served output) = (a.kind ≡ SERVED) × (a.rule ≡ 0) × (a.next ≡ 0) × HasOutput a output
 Says a (More next output) = (a.kind ≡ MORE) × (a.rule ≡ 0) × (a.next ≡ next) × HasOutput a output
@@ -69,12 +69,12 @@ Says a (Denied rule status reps) = (a.kind ≡ DENIED) × (a.rule ≡ rule_numbe
     (a.output_len ≡ 0)
 Says a (Fault rule) = (a.kind ≡ FAULT) × (a.rule ≡ rule_number rule) × (a.next ≡ 0) × (a.output_len ≡ 0)
 
--- an answer is that of a reply to an event
+-- a reply for C is that of the policy's reply to an event
 pub record IsAnswer (a : HvReply) (what : Action Global) (reply : Reply) : Type 0 where
   pub says : Says a reply
   pub result : a.result ≡ result_in what reply
 
--- the audit's line of an event with its reply, with its line feed
+-- the audit's line of an event with its reply, ending in a line feed
 abbrev pub line_text : ℕ → Event Global → Reply → List ℕ
 line_text number event reply = entry_text number (record { event = event; reply = reply }) ++ codes "\n"
 

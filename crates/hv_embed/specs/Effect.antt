@@ -1,4 +1,4 @@
--- What C is shown of an effect.
+-- The effect of an event, as C sees it.
 use Rattle.std.specs.Prelude.{◌≡◌, ℕ, ◌<◌, ◌==◌, ◌||◌, Bool, if◌then◌else◌, Option, None, Some}
 use Rattle.std.specs.FinMap.{get}
 use Rattle.hv_integrity.specs.Same.{has_flag, has_vector}
@@ -16,18 +16,19 @@ use Rattle.hv_embed.specs.declared.layout.TheConstants.{EFFECT_NOTHING, EFFECT_S
 use Rattle.hv_embed.specs.declared.layout.TheConstants.{EFFECT_PAGES, EFFECT_PROCESSOR, EFFECT_PARTITION}
 use Rattle.hv_embed.specs.declared.layout.TheConstants.{FLAG_SET, FLAG_CLEARED}
 
--- the event flag that changed, its SINT and how, or that none did
+-- the event flag that changed, its SINT and how it changed, or no flag
 abbrev pub IsFlag : Option FlagChange → (flag sint is : ℕ) → Type 0
 IsFlag None flag sint is = is ≡ 0
 IsFlag (Some change) flag sint is =
     (flag ≡ change.flag) × (sint ≡ change.sint) × (is ≡ (if change.is_set then FLAG_SET else FLAG_CLEARED))
 
--- the port by which the message came that left its slot, or that none left one
+-- the port whose message left its slot, or no port
 abbrev pub IsPort : Option ℕ → (port freed : ℕ) → Type 0
 IsPort None port freed = freed ≡ 0
 IsPort (Some number) port freed = (port ≡ number) × (freed ≡ 1)
 
--- What is shown of a processor. A vector that it took isn't: the event puts it out.
+-- C sees the effect at one processor. It does not include the vector that the processor took, which is the
+-- event's output.
 pub record IsSynicShown (s : Synic) (told : HvEffect) : Type 0 where
   pub kind : told.kind ≡ EFFECT_SYNIC
   pub part : told.part ≡ s.part
@@ -38,7 +39,7 @@ pub record IsSynicShown (s : Synic) (told : HvEffect) : Type 0 where
   pub flag : IsFlag s.flag told.flag told.flag_sint told.flag_is
   pub freed : IsPort s.freed told.port told.freed
 
--- this is shown of an effect. Fields that its kind doesn't have may be anything
+-- C sees this effect. Fields that its kind does not use may have any value
 abbrev pub IsShown : Effect → HvEffect → Type 0
 IsShown effect.Nothing told = told.kind ≡ EFFECT_NOTHING
 IsShown (effect.Synic s) told = IsSynicShown s told
@@ -49,7 +50,7 @@ IsShown (effect.Pages from to) told = (told.kind ≡ EFFECT_PAGES) × (told.page
 IsShown (effect.Processor part vp) told = (told.kind ≡ EFFECT_PROCESSOR) × (told.part ≡ part) × (told.vp ≡ vp)
 IsShown (effect.Partition part) told = (told.kind ≡ EFFECT_PARTITION) × (told.part ≡ part)
 
--- C is shown an effect that tells what is different in `g` from what was in `f`
+-- C sees an effect that describes the change from `f` to `g`
 pub record IsEffect (told : HvEffect) (f g : Flat) : Type 0 where
   pub effect : Effect
   pub shown : IsShown effect told
@@ -59,7 +60,7 @@ pub record IsEffect (told : HvEffect) (f g : Flat) : Type 0 where
 abbrev pub is_quiet_kind : ℕ → Bool
 is_quiet_kind kind = (kind == EFFECT_NOTHING) || (kind == EFFECT_PAGE)
 
--- messages, event flags and pending vectors are as they were, at each processor
+-- messages, event flags and pending vectors are unchanged, at each processor
 pub record IsCalm (f g : Flat) : Type 0 where
   pub messages : (at : Place) → mail_at at g.mail ≡ mail_at at f.mail
   pub flags : (at : Place) (flag : ℕ)

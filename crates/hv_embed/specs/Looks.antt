@@ -1,4 +1,4 @@
--- What looks put out for C.
+-- The output of looks for C.
 use Rattle.std.specs.Prelude.{◌≡◌, ◌≢◌, ℕ, true, false, Option, None, Some, unwrap_or}
 use Rattle.hv_defs.specs.declared.aim.Aim.{Aim}
 use Rattle.hv_defs.specs.declared.aim.Aim.TheVariants.{One, Any}
@@ -19,20 +19,21 @@ use Rattle.hv_embed.specs.declared.layout.TheConstants.{LIFE_CREATED, LIFE_ACTIV
 use Rattle.hv_embed.specs.declared.layout.TheConstants.{PORT_MESSAGES, PORT_EVENTS}
 use Rattle.hv_embed.specs.declared.status.TheConstants.{DONE, EMPTY, NONE}
 
--- the status of what is shown, which stands in its place, or of what isn't there
+-- a look that shows something stores it and returns `DONE`; a look that finds nothing returns `NONE`
 abbrev pub Shows : {X : Type 0} → Option X → ℕ → X → Type 0
 Shows None status place = status ≡ NONE
 Shows (Some x) status place = (status ≡ DONE) × (place ≡ x)
 
--- What a look at a handle answers: that it is empty; and else what is shown of each flat state that its
--- machine stands for, or that there is none. Nothing is written but what is shown.
+-- The result of a look at a handle. An empty handle has its status. Otherwise the look shows the value of
+-- each flat state that the machine stands for, or reports that there is none. Only a value that is shown is
+-- written.
 pub record IsLook {X : Type 0} (m : HvMachine) (shown : Flat → Option X) (status : ℕ) (old new : X) : Type 0
   where
     pub empty : m.live ≡ false → status ≡ EMPTY
     pub shows : m.live ≡ true → (f : Flat) → IsFlat m.raw_machine.machine f → Shows (shown f) status new
     pub unwritten : status ≢ DONE → new ≡ old
 
--- the numbers by which C knows life states, types of ports and aims
+-- C's numbers for life states, port types and aims
 abbrev pub life_number : Life → ℕ
 life_number Created = LIFE_CREATED
 life_number Active = LIFE_ACTIVE
@@ -46,7 +47,7 @@ abbrev pub aim_number : Aim → ℕ
 aim_number (One index) = index
 aim_number Any = ANY_VP
 
--- a partition, whose parent is 0 where it has none
+-- a partition. Its parent is 0 if it has none
 abbrev pub partition_shown : PartitionLook → HvPartition
 partition_shown look = record {
   mask = bits_of look.mask;
@@ -61,7 +62,7 @@ partition_shown look = record {
   connections = look.conns;
 }
 
--- a port and a connection, with the partition that has it and its id there
+-- a port and a connection, with its partition and its id there
 abbrev pub port_shown : ℕ → ℕ → PortRow → HvPort
 port_shown part id row = record {
   part = part;

@@ -1,4 +1,4 @@
--- The elements of one call, one after another.
+-- A run: the elements of one call, one after another.
 use Rattle.std.specs.Prelude.{ℕ, zero, suc, ◌≡◌, ◌+◌, ◌-◌, ◌<◌, ◌≤◌, List, [], ◌++◌, IsTrue, true, false, not}
 use Rattle.std.specs.Prelude.{nat_lt, length, take, if◌then◌else◌}
 use Rattle.std.specs.Global.{Global}
@@ -28,22 +28,22 @@ use Rattle.hv_embed.specs.declared.layout.HvRun.{HvRun}
 use Rattle.hv_embed.specs.declared.layout.TheConstants.{ELEMENT_OUTPUT}
 use Rattle.hv_embed.specs.declared.status.TheConstants.{DONE, EMPTY, SHORT, USED_UP}
 
--- the bytes that a reply puts out
+-- the output bytes of a reply
 abbrev pub output_in : Reply → List ℕ
 output_in (Served output) = output
 output_in (More next output) = output
 output_in (Denied rule status reps) = []
 output_in (Fault rule) = []
 
--- what elements of a call have come to: the state that the last of them left, its frame and its reply, and
--- what all of them put out, one after another
+-- the result of a run: the state that its last element left, the frame and the reply of that element, and the
+-- output of all elements, one after another
 pub record Ran : Type 0 where
   pub flat : Flat
   pub frame : Frame Global
   pub reply : Reply
   pub bytes : List ℕ
 
--- the element of this frame, after some that put out these bytes
+-- the run that adds the element of this frame, after elements with these output bytes
 abbrev pub element_after : List ℕ → Flat → Caller → Frame Global → Ran
 element_after bytes f by frame = record {
   flat = (step f (call_event by frame)).0;
@@ -52,49 +52,49 @@ element_after bytes f by frame = record {
   bytes = bytes ++ output_in (step f (call_event by frame)).1;
 }
 
--- the first element
+-- the run of the first element
 abbrev pub first : Flat → Caller → Frame Global → Ran
 first f by frame = element_after [] f by frame
 
--- and the one with which the call goes on, as the last one's reply says
+-- the run with one more element, the one at which the call continues by the last reply
 abbrev pub on : Caller → Ran → Ran
 on by ran = element_after ran.bytes ran.flat by (restart ran.frame (next_in ran.reply))
 
--- and so many more
+-- the run with n more elements
 abbrev pub run : ℕ → Caller → Ran → Ran
 run zero by ran = ran
 run (suc n) by ran = on by (run n by ran)
 
--- each element before the last of so many more is answered that the call goes on
+-- the reply to each of the first n elements says that the call continues
 abbrev pub GoesOn : ℕ → Caller → Ran → Type 0
 GoesOn n by ran = (k : ℕ) → k < n → IsMore (run k by ran).reply
 
--- this is where elements of a call have come to: the machine stands for the state, and the rest is the same
+-- the machine stands for the run's state, and the frame, the reply and the output bytes are the run's
 pub record IsAt (ran : Ran) (m : State) (last : Frame Global) (told : Reply) (out : List ℕ) : Type 0 where
   pub state : IsFlat m ran.flat
   pub frame : last ≡ ran.frame
   pub reply : told ≡ ran.reply
   pub bytes : out ≡ ran.bytes
 
--- and this is where so many more of them have come to
+-- as `IsAt`, for the run with n more elements
 pub record IsAtMore (n : ℕ) (by : Caller) (ran : Ran) (m : State) (last : Frame Global) (told : Reply)
     (out : List ℕ) : Type 0 where
   pub goes : GoesOn n by ran
   pub stands : IsAt (run n by ran) m last told out
 
--- The elements of a call end here: it doesn't go on, or the last one's effect names more than a page, or too
--- few bytes are left for another output, or no more events are counted, or there were so many more already as
--- no call has elements. Else the host refused the next one, which may take memory.
+-- The run ends here: the call does not continue, or the last effect names more than a page, or too few bytes
+-- are left for another output, or no more events are counted, or as many elements were taken as a call can
+-- have. Otherwise the host refused the next element, which may take memory.
 abbrev pub HasStopped : Caller → Ran → State → HvEffect → (left more events : ℕ) → Type 0
 HasStopped by ran m told left more events =
     IsMore ran.reply → is_quiet_kind told.kind ≡ true → ELEMENT_OUTPUT ≤ left → is_used_up m.served events ≡
     false → more < REPS_END
     → IsTrue (may_take_memory (call_event by (restart ran.frame (next_in ran.reply))))
 
--- The first element of a call was taken, before which there were so many events, and more after it, as many
--- as can be. All but the last are answered that the call goes on; the answer is the last one's reply, the
--- machine stands for the state that it left, and as many bytes of a buffer as were put out are those of all
--- of them.
+-- The machine took the first element of a call, and as many further ones as it could. `before` is the number
+-- of events before the first. Each reply but the last says that the call continues. The reply for C is that
+-- of the last element, the machine stands for the state that this element left, and the buffer begins with
+-- the output of all elements.
 pub record HasRun (by : Caller) (start : Ran) (before : ℕ) (m : State) (told : HvReply) (buffer : List ℕ)
     (done : HvRun) : Type 0 where
   pub more : ℕ
@@ -107,26 +107,26 @@ pub record HasRun (by : Caller) (start : Ran) (before : ℕ) (m : State) (told :
   pub stopped : HasStopped by (run more by start) m told.effect (length buffer - done.output_len) more
       (before + done.events)
 
--- the state before the last of so many more elements, of which the first one was taken in this state
+-- the state before the last of n more elements, if the first element was taken in `f`
 abbrev pub flat_before : ℕ → Flat → Caller → Ran → Flat
 flat_before zero f by ran = f
 flat_before (suc n) f by ran = (run n by ran).flat
 
--- C is shown the effect of the last of so many more elements, and those before it left messages, event flags
--- and pending vectors as they were
+-- C sees the effect of the last of n more elements. The elements before it left messages, event flags and
+-- pending vectors unchanged
 pub record IsLastEffect (n : ℕ) (f : Flat) (by : Caller) (ran : Ran) (told : HvEffect) : Type 0 where
   pub last : IsEffect told (flat_before n f by ran) (run n by ran).flat
   pub calm : IsCalm f (flat_before n f by ran)
 
--- and so of all elements that were taken
+-- C sees the effect of the last element, where this number of elements was taken
 pub record IsRunEffect (events : ℕ) (f : Flat) (by : Caller) (start : Ran) (told : HvEffect) : Type 0 where
   pub more : ℕ
   pub counted : events ≡ more + 1
   pub shown : IsLastEffect more f by start told
 
--- Elements of a call were taken so, of each flat state that the machine of a handle stood for. It now stands
--- for a lawful one, is sound, and has as many pages; as many events more are counted as elements were taken.
--- No line is put.
+-- The machine of a handle took elements of a call, for each flat state that it stood for. The new machine
+-- satisfies the invariant, is sound, and has the old number of pages. The count of events grows by the number
+-- of elements taken. No line is written.
 pub record IsRunTaken (by : Caller) (frame : Frame Global) (old new : HvMachine) (answer : HvReply)
     (buffer : List ℕ) (done : HvRun) : Type 0 where
   pub ran : (f : Flat) → IsFlat old.raw_machine.machine f → HasRun by (first f by frame) old.events
@@ -141,7 +141,8 @@ pub record IsRunTaken (by : Caller) (frame : Frame Global) (old new : HvMachine)
   pub events : new.events ≡ old.events + done.events
   pub live : new.live ≡ true
 
--- whether a handle takes a call's elements with a buffer for their outputs of this length, or else why not
+-- the status of a run with an output buffer of this length: `DONE` if the handle can take it, or else the
+-- reason
 abbrev pub run_readiness : HvMachine → ℕ → ℕ
 run_readiness m len =
     if not m.live then EMPTY

@@ -1,4 +1,4 @@
--- What a call does to a handle.
+-- The effect of a call on a handle.
 use Rattle.std.specs.Prelude.{◌≡◌, ◌+◌, ◌<◌, ◌&&◌, ◌||◌, ℕ, List, Bool, true, not, nat_le, nat_lt, length}
 use Rattle.std.specs.Prelude.{take, None, if◌then◌else◌}
 use Rattle.std.specs.Global.{Global}
@@ -22,7 +22,7 @@ use Rattle.hv_embed.specs.declared.handle.HvMachine.{HvMachine}
 use Rattle.hv_embed.specs.declared.layout.HvReply.{HvReply}
 use Rattle.hv_embed.specs.declared.status.TheConstants.{DONE, EMPTY, SHORT, USED_UP, MAX_EVENTS}
 
--- a machine that booted with this configuration, to which nothing happened yet
+-- a machine that booted with this configuration and has taken no event
 pub record IsStarted (config : Config) (m : State) : Type 0 where
   pub accepted : boot_fault config ≡ None
   pub state : IsFlat m (boot config)
@@ -30,29 +30,29 @@ pub record IsStarted (config : Config) (m : State) : Type 0 where
   pub lasting : MachineInvariant m
   pub sound : IsSound m
 
--- a handle that has such a machine
+-- a handle with such a machine
 pub record IsBooted (config : Config) (new : HvMachine) : Type 0 where
   pub live : new.live ≡ true
   pub events : new.events ≡ 0
   pub machine : IsStarted config new.raw_machine.machine
 
--- a boot with this configuration is refused with the status of its first fault, or, where it has none, for
--- out of memory
+-- a boot with this configuration is refused with the status of its first fault, or, if it has none, with that
+-- of out of memory
 pub record IsRefused (config : Config) (told : ℕ) : Type 0 where
   pub why : BootRefused
   pub first : IsBootRefusal config why
   pub status : told ≡ refusal_status why
 
--- so many bytes of a line's buffer are this line; a buffer without bytes takes none
+-- the first `count` bytes of a line's buffer are this line; a buffer without bytes gets none
 pub record HasLine (buffer : List ℕ) (count : ℕ) (line : List ℕ) : Type 0 where
   pub none : length buffer ≡ 0 → count ≡ 0
   pub some : 0 < length buffer → take count buffer ≡ line
   pub len : 0 < length buffer → count ≡ length line
 
--- The event was taken. Of each flat state that the machine stood for, the answer and the line with the
--- event's number are those of the flat step's reply, and the machine now stands for that step's state. If the
--- messages have types, as those of each run have, the answer's effect tells what that step changed. The
--- machine stands for a lawful state, is sound, and has as many pages.
+-- The machine took the event. For each flat state that it stood for, the reply and the line with the event's
+-- number are those of the flat step's reply, and the new machine stands for that step's state. If the
+-- messages have types, as in each run, the effect describes the step's change. The new machine satisfies the
+-- invariant, is sound, and has the old number of pages.
 pub record IsStepped (event : Event Global) (number : ℕ) (old new : State) (answer : HvReply)
     (buffer : List ℕ) : Type 0 where
   pub reply : (f : Flat) → IsFlat old f → IsAnswer answer event.what (step f event).1
@@ -64,7 +64,8 @@ pub record IsStepped (event : Event Global) (number : ℕ) (old new : State) (an
   pub lasting : MachineInvariant new
   pub sound : IsSound new
 
--- the machine of a handle took it, and one event more is counted, whose number the line has
+-- the machine of a handle took the event, and the count of events grows by one. The line has this count as
+-- its number
 pub record IsTaken (event : Event Global) (old new : HvMachine) (answer : HvReply) (buffer : List ℕ) : Type 0
   where
     pub step : IsStepped event new.events old.raw_machine.machine new.raw_machine.machine answer buffer
@@ -77,15 +78,16 @@ pub record IsAsBefore (old new : HvMachine) : Type 0 where
   pub events : new.events ≡ old.events
   pub machine : old.live ≡ true → new.raw_machine.machine ≡ old.raw_machine.machine
 
--- a line's buffer has bytes, but not for every line
+-- a line's buffer has bytes, but too few for the longest line
 abbrev pub is_short : ℕ → Bool
 is_short len = nat_lt 0 len && nat_lt len LINE
 
--- as many events were served, or taken, as are counted
+-- as many events were served, or counted, as can be counted
 abbrev pub is_used_up : ℕ → ℕ → Bool
 is_used_up served events = nat_le MAX_SERVED served || nat_le MAX_EVENTS events
 
--- whether a handle takes an event with a line's buffer of this length, or else why not
+-- the status of an event with a line's buffer of this length: `DONE` if the handle can take it, or else the
+-- reason
 abbrev pub readiness : HvMachine → ℕ → ℕ
 readiness m len =
     if not m.live then EMPTY

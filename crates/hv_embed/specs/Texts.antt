@@ -1,4 +1,4 @@
--- Texts that are put into a buffer of C's.
+-- Texts written into a buffer of C's.
 use Rattle.std.specs.Prelude.{◌≡◌, ◌≢◌, ◌++◌, ◌&&◌, ◌==◌, ℕ, nat_le, nat_lt, List, length, take, drop, codes}
 use Rattle.std.specs.Prelude.{Option, None, Some, if◌then◌else◌}
 use Rattle.std.specs.Global.{Global}
@@ -13,8 +13,8 @@ use Rattle.hv_embed.specs.declared.layout.TheConstants.{READ_FLAGS, CLEAR_FLAG, 
 use Rattle.hv_embed.specs.declared.status.TheConstants.{DONE, MEMORY, NONE, SHORT}
 use Rattle.hv_embed.specs.declared.texts.TheConstants.{MOST_INPUT}
 
--- A text was put into a buffer that has room for it, and its length is told. Of out of memory nothing is
--- written.
+-- A text is written into a buffer that has room for it, and its length is reported. If memory runs out,
+-- nothing is written.
 pub record IsPut (text : List ℕ) (status : ℕ) (old new : List ℕ) (old_len new_len : ℕ) : Type 0 where
   pub told : status ≢ MEMORY → status ≡ if nat_lt (length old) (length text) then SHORT else DONE
   pub len : status ≢ MEMORY → new_len ≡ length text
@@ -23,7 +23,7 @@ pub record IsPut (text : List ℕ) (status : ℕ) (old new : List ℕ) (old_len 
   pub unwritten : status ≢ DONE → new ≡ old
   pub untold : status ≡ MEMORY → new_len ≡ old_len
 
--- the bytes of an input list that a line has: as many as a page has, and no list has more
+-- the bytes of an input list that a line has: at most a page, and no valid list is longer
 abbrev pub readable : List ℕ → List ℕ
 readable input = take MOST_INPUT input
 
@@ -36,7 +36,7 @@ access_at_sint access sint value =
     else if (access == CLEAR_FLAG) && nat_le value 0xFFFF then Some (ClearFlag sint value)
     else None
 
--- the access that C names by these numbers, of which that of a SINT has 8 bits
+-- the access that C names by these numbers. The number of a SINT has 8 bits
 abbrev pub access_named : (access number value : ℕ) → Option Access
 access_named access number value =
     if access == READ_MSR then Some (ReadMsr number)
@@ -45,7 +45,7 @@ access_named access number value =
     else if nat_lt number 256 then access_at_sint access number value
     else None
 
--- the line of an access is put, or there is no such access
+-- the line of an access is written, or there is no such access
 abbrev pub IsAccessLine : Caller → Option Access → ℕ → (old new : List ℕ) → (old_len new_len : ℕ) → Type 0
 IsAccessLine by None status old new old_len new_len = (status ≡ NONE) × (new ≡ old) × (new_len ≡ old_len)
 IsAccessLine by (Some access) status old new old_len new_len =

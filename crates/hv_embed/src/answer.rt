@@ -1,4 +1,4 @@
-// The answer to an event, as C reads it.
+// The reply to an event, as C reads it.
 ghost use Rattle.std.specs.Prelude.{◌≡◌, ◌<◌, ◌≤◌, ℕ, List, [], length, false};
 ghost use Rattle.std.specs.Global.{Global};
 ghost use Rattle.hv_defs.specs.declared.sizes.TheConstants.{REPS_END};
@@ -18,8 +18,8 @@ use hv_policy::result_value;
 use hv_text::{LINE, Scratch, audit_line};
 use std::alloc::Global;
 
-// Answers an event with its reply, whose effect stays, and puts the audit's line with this number into a
-// buffer that has bytes.
+// Fills the reply to an event, whose effect stays, and writes the audit's line with this number into `line`
+// if that has bytes.
 pub(crate) fn answer(
     entry: &EntryRef<'_>,
     number: u64,
@@ -45,7 +45,7 @@ pub(crate) fn answer(
     };
 }
 
-// Answers the call of a frame with its reply, in its two parts, as `answer` does.
+// Fills the reply to a hypercall from its two parts, as `answer` does.
 pub(crate) fn answer_call(
     by: Caller,
     frame: &Frame<Global>,
@@ -78,7 +78,7 @@ pub(crate) fn answer_call(
     answer(&entry, number, scratch, reply, line);
 }
 
-// What an access asks for.
+// Returns the request of an access.
 pub(crate) fn asked_of(access: Access) -> Request
     ensures { (input : List ℕ) → action_of {A = Global} result input ≡ action_by access }
 {
@@ -93,7 +93,7 @@ pub(crate) fn asked_of(access: Access) -> Request
     }
 }
 
-// Says how an event ended, and what it put out.
+// Writes how an event ended, and its output, into a reply.
 fn fill_reply(answer: Answer, output: &[u8], reply: &mut HvReply)
     requires { length output.now ≤ 256 }
     ensures says { Says reply.new (reply_of answer output.now) }
@@ -107,7 +107,7 @@ fn fill_reply(answer: Answer, output: &[u8], reply: &mut HvReply)
     }
 }
 
-// Puts these into a reply. The bytes of its output past those stay.
+// Writes these fields into a reply. The bytes of its output beyond `output` keep their values.
 fn put(kind: u32, rule: u32, next: u32, output: &[u8], reply: &mut HvReply)
     requires { length output.now ≤ 256 }
     ensures kind { reply.new.kind ≡ kind }
@@ -123,7 +123,7 @@ fn put(kind: u32, rule: u32, next: u32, output: &[u8], reply: &mut HvReply)
     reply.output_len = output.len() as u32;
 }
 
-// The result value of a call that was answered so. An access has none.
+// Returns the result value of a call with this reply. An access has none.
 fn result_in(asked: Request, answer: Answer) -> u64
     requires { next_in (reply_of answer []) < REPS_END }
     ensures { (input output : List ℕ)
@@ -141,7 +141,7 @@ fn result_in(asked: Request, answer: Answer) -> u64
     }
 }
 
-// Whether a buffer has bytes, but not for every line.
+// Returns whether a buffer has bytes, but too few for the longest line.
 pub(crate) fn is_short(line: &[u8]) -> bool
     ensures { result ≡ is_short_len (length line.now) }
 {

@@ -14,7 +14,7 @@ use hv_defs::SINTS;
 use hv_effects::{Effect, FlagChange, Synic};
 use hv_policy::Rule;
 
-// No message, event flag, pending vector or page changed.
+// Returns the effect in which no message, event flag, pending vector or page changed.
 fn no_effect() -> HvEffect
     ensures { result.kind ≡ NOTHING }
 {
@@ -35,7 +35,7 @@ fn no_effect() -> HvEffect
     }
 }
 
-// What C is shown of an effect.
+// Converts an effect for C.
 pub(crate) fn shown(effect: Effect) -> HvEffect
     ensures { IsShown effect result }
 {
@@ -71,7 +71,8 @@ pub(crate) fn shown(effect: Effect) -> HvEffect
     told
 }
 
-// What became of an access, and what C is shown of its effect. One that a rule refuses has none.
+// Splits the result of an access into its reply and its effect for C. An access that a rule refuses has no
+// effect.
 pub(crate) fn parted(became: Result<Effect, Rule>) -> (Result<(), Rule>, HvEffect)
     ensures reply { (output : List ℕ) → access_reply result.0 output ≡ access_reply became output }
     ensures shown { IfOk became (λ effect. IsShown effect result.1) }
@@ -83,7 +84,7 @@ pub(crate) fn parted(became: Result<Effect, Rule>) -> (Result<(), Rule>, HvEffec
     }
 }
 
-// What is shown of a processor.
+// Converts the effect at one processor for C.
 fn shown_synic(synic: Synic) -> HvEffect
     ensures { IsSynicShown synic result }
 {
@@ -106,7 +107,7 @@ fn shown_synic(synic: Synic) -> HvEffect
     }
 }
 
-// The event flag that changed, its SINT and how.
+// Returns the event flag that changed, its SINT, and how it changed.
 fn flag_parts(flag: Option<FlagChange>) -> (u16, u8, u8)
     ensures { IsFlag flag result.0 result.1 result.2 }
 {
@@ -123,7 +124,7 @@ fn flag_parts(flag: Option<FlagChange>) -> (u16, u8, u8)
     }
 }
 
-// The port that has room, and 1 where there is one.
+// Returns the port that has room, and 1 if there is one.
 fn port_parts(freed: Option<u32>) -> (u32, u8)
     ensures { IsPort freed result.0 result.1 }
 {
@@ -133,7 +134,7 @@ fn port_parts(freed: Option<u32>) -> (u32, u8)
     }
 }
 
-// The SINT at which one more message waits, as a bit.
+// Returns the SINT at which one more message waits, as a bit.
 fn waiting_bits(waiting: Option<u8>) -> u16
     ensures { (k : ℕ) → k < MOST_SINTS → has_bit result k ≡ is_number waiting k }
 {
@@ -143,7 +144,7 @@ fn waiting_bits(waiting: Option<u8>) -> u16
     }
 }
 
-// The bit of a SINT. No other number has one.
+// Returns the bit of a SINT. Any other number has none.
 fn bit_of(sint: u8) -> u16
     ensures { (k : ℕ) → k < MOST_SINTS → has_bit result k ≡ k == sint }
 {
@@ -159,7 +160,7 @@ fn one_if(is: bool) -> u8
     if is { 1 } else { 0 }
 }
 
-// Whether an effect names at most a page.
+// Returns whether an effect names at most a page.
 pub(crate) fn is_quiet(told: &HvEffect) -> bool
     ensures { result ≡ is_quiet_kind told.now.kind }
 {

@@ -1,4 +1,4 @@
-// What C calls.
+// The functions that C calls to boot a machine, to take events, and to destroy it.
 ghost use Rattle.std.specs.Prelude.{◌≡◌, ◌≢◌, ◌≤◌, length, false, true, IfOk, IfErr};
 ghost use Rattle.hv_policy.specs.BootFault.{IsBootRefusal};
 ghost use Rattle.hv_policy.specs.declared.event.Action.TheVariants.{
@@ -30,8 +30,10 @@ use hv_privs::Privileges;
 use std::alloc::Global;
 use std::mem::replace;
 
-/// Boots a machine into an empty handle. Else the handle stays as it is: it isn't empty, the configuration
-/// is refused, or the host has no memory.
+/// Boots a machine into an empty handle.
+///
+/// On any other status the handle is unchanged: it was not empty, the configuration is refused, or memory ran
+/// out.
 #[unsafe(no_mangle)]
 pub extern "C" fn hv_embed_boot(alloc: Global, machine: &mut HvMachine, config: &HvConfig) -> u32
     ensures booted { result ≡ DONE → IsBooted (config_of config.now) machine.new }
@@ -51,7 +53,7 @@ pub extern "C" fn hv_embed_boot(alloc: Global, machine: &mut HvMachine, config: 
     }
 }
 
-// A machine in a block of its own.
+// Boots a machine in a block of its own.
 fn boot(alloc: Global, config: &HvConfig) -> Result<Box<MachineState>, BootRefused>
     ensures booted { IfOk result (λ boxed. IsStarted (config_of config.now) boxed.value) }
     ensures refused { IfErr result (IsBootRefusal (config_of config.now)) }
@@ -69,8 +71,9 @@ fn boot(alloc: Global, config: &HvConfig) -> Result<Box<MachineState>, BootRefus
     }
 }
 
-/// Takes a hypercall of a processor with the bytes of its input list. Of a rep call that is the element at
-/// the start index in RCX.
+/// Takes a hypercall of a processor with the bytes of its input list.
+///
+/// For a rep call it takes one element, the one at the start index in RCX.
 #[unsafe(no_mangle)]
 pub extern "C" fn hv_embed_hypercall(
     alloc: Global,
@@ -112,12 +115,14 @@ pub extern "C" fn hv_embed_hypercall(
     status
 }
 
-/// Takes a hypercall of a processor as [`hv_embed_hypercall`] does, and of a rep call the elements after it,
-/// one after another: up to the last or to one that isn't served or whose effect names more than a page, or
-/// until fewer than 16 bytes of the buffer for their outputs are left, the handle or the machine takes no
-/// more events, or the host has no memory. The reply is that of the last that was taken, with its effect, so
-/// a call that goes on may be made again from the next element on. Bytes of the buffer past the outputs may
-/// be written, too. No line is put.
+/// Takes a hypercall as [`hv_embed_hypercall`] does, and the further elements of a rep call one after
+/// another.
+///
+/// It stops after the last element, or after one that isn't served or whose effect names more than a page. It
+/// also stops when fewer than 16 bytes are left of the buffer for outputs, when the handle or the machine
+/// takes no more events, or when memory runs out. The reply and its effect are those of the last element
+/// taken, so the caller may call again from the next element on. Bytes of the buffer beyond the outputs may
+/// be overwritten. No line is written.
 #[unsafe(no_mangle)]
 pub extern "C" fn hv_embed_run(
     alloc: Global,
@@ -162,7 +167,7 @@ pub extern "C" fn hv_embed_run(
     status
 }
 
-/// Reads an MSR of a processor, of 8 bytes.
+/// Reads an MSR of a processor. The output has 8 bytes.
 #[unsafe(no_mangle)]
 pub extern "C" fn hv_embed_read_msr(
     alloc: Global,
@@ -208,7 +213,7 @@ pub extern "C" fn hv_embed_write_msr(
     )
 }
 
-/// Reads the message slot of a SINT of a processor, of 256 bytes.
+/// Reads the message slot of a SINT of a processor. The output has 256 bytes.
 #[unsafe(no_mangle)]
 pub extern "C" fn hv_embed_read_slot(
     alloc: Global,
@@ -246,7 +251,7 @@ pub extern "C" fn hv_embed_clear_slot(
     take_access(alloc, machine, by, Access::ClearSlot(sint), reply, line)
 }
 
-/// Reads the event flags of a SINT of a processor, of 256 bytes.
+/// Reads the event flags of a SINT of a processor. The output has 256 bytes.
 #[unsafe(no_mangle)]
 pub extern "C" fn hv_embed_read_flags(
     alloc: Global,
@@ -292,7 +297,8 @@ pub extern "C" fn hv_embed_clear_flag(
     )
 }
 
-/// Takes the highest of the interrupt vectors that are pending at a processor, one byte, or 0.
+/// Takes the highest interrupt vector that is pending at a processor. The output is one byte, 0 if none is
+/// pending.
 #[unsafe(no_mangle)]
 pub extern "C" fn hv_embed_take_interrupt(
     alloc: Global,
@@ -310,7 +316,7 @@ pub extern "C" fn hv_embed_take_interrupt(
     take_access(alloc, machine, by, Access::TakeInterrupt, reply, line)
 }
 
-/// Ends the machine of a handle, if there is one, and leaves the handle empty.
+/// Destroys the machine of a handle, if there is one, and leaves the handle empty.
 #[unsafe(no_mangle)]
 pub extern "C" fn hv_embed_destroy(alloc: Global, machine: &mut HvMachine)
     ensures live { machine.new.live ≡ false }

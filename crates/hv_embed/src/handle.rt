@@ -1,4 +1,4 @@
-// The handle of C.
+// The handle that C owns.
 ghost use Rattle.std.specs.Prelude.{◌≡◌, true, false};
 
 use crate::machine_state::MachineState;
@@ -6,18 +6,18 @@ use crate::parts::Parts;
 use crate::raw_machine::RawMachine;
 use std::alloc::Global;
 
-/// A machine, or nothing. C makes one of zeros, which is nothing.
+/// A machine, or nothing. C initializes it to zeros, which is an empty handle.
 #[repr(C)]
 pub struct HvMachine {
     pub(crate) live: bool,
-    // How many events it took, served or not.
+    // The number of events that it took, served or not.
     pub(crate) events: u64,
     pub(crate) raw_machine: RawMachine,
     ghost tied: { raw_machine.full ≡ live },
 }
 
 impl HvMachine {
-    // Nothing.
+    // Returns an empty handle.
     pub(crate) fn none(alloc: Global) -> HvMachine
         ensures live { result.live ≡ false }
         ensures events { result.events ≡ 0 }
@@ -29,7 +29,7 @@ impl HvMachine {
         }
     }
 
-    // This machine, which took so many events.
+    // Returns a handle with this machine, which took this number of events.
     pub(crate) fn full(machine: Box<MachineState>, events: u64) -> HvMachine
         ensures live { result.live ≡ true }
         ensures events { result.events ≡ events }
@@ -42,7 +42,7 @@ impl HvMachine {
         }
     }
 
-    // The machine that is there.
+    // Returns the machine. The handle is full.
     pub(crate) fn open(self) -> Box<MachineState>
         requires { self.live ≡ true }
         ensures { result.value ≡ self.raw_machine.machine }
@@ -55,7 +55,7 @@ impl HvMachine {
         raw_machine.into_parts().into_box()
     }
 
-    // Lets go of one that holds nothing.
+    // Drops a handle that is empty.
     pub(crate) fn let_go(self)
         requires { self.live ≡ false }
     {
@@ -68,10 +68,10 @@ impl HvMachine {
     }
 }
 
-// A type whose values may go to another thread.
+// Requires a type whose values may move to another thread.
 fn may_cross<T: Send>() {}
 
-// A handle may go to another thread, so that one behind a lock serves many. That it may is shown here.
+// Shows that a handle may move to another thread, as a handle behind a lock does.
 fn handles_may_cross() {
     may_cross::<HvMachine>();
 }

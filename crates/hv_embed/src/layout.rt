@@ -1,16 +1,16 @@
 // The plain structs that C and this crate share.
 
-/// What a machine boots with.
+/// The configuration with which a machine boots.
 #[repr(C)]
 #[derive(Drop)]
 pub struct HvConfig {
     /// The root's privilege mask.
     pub mask: u64,
-    /// How many pages there are, 1 to 65,536.
+    /// The number of pages, 1 to 65,536.
     pub pages: u32,
-    /// How many of them, from page 0 on, are the root's pool.
+    /// The number of pages in the root's pool, from page 0 on.
     pub pool: u32,
-    /// How many virtual processors the root has, 1 to 64.
+    /// The number of the root's virtual processors, 1 to 64.
     pub vps: u32,
 }
 
@@ -31,7 +31,7 @@ pub struct HvRegisters {
     pub r8: u64,
 }
 
-/// What an event is answered.
+/// The reply to an event.
 #[repr(C)]
 #[derive(Drop)]
 pub struct HvReply {
@@ -39,21 +39,22 @@ pub struct HvReply {
     pub kind: u32,
     /// The number of the rule that refuses, 1 to 27, or 0 where the event was served.
     pub rule: u32,
-    /// The result value of a hypercall, for RAX; 0 of an access.
+    /// The result value of a hypercall, for RAX; 0 for an access.
     pub result: u64,
-    /// The element with which a rep call goes on where the kind is [`MORE`], else 0.
+    /// The element at which a rep call continues if the kind is [`MORE`], else 0.
     pub next: u32,
-    /// How many bytes of `output` the event put out.
+    /// The number of bytes of `output` that the event wrote.
     pub output_len: u32,
-    /// How many bytes the audit's line has, with its line feed; 0 where none was asked for.
+    /// The number of bytes in the audit's line, with its line feed; 0 if none was asked for.
     pub line_len: u32,
     pub output: [u8; 256],
-    /// What the event changed elsewhere.
+    /// What the event changed for others.
     pub effect: HvEffect,
 }
 
-/// What an event changed of messages, event flags, pending vectors and pages. Only the fields of its kind
-/// have a meaning.
+/// What an event changed of messages, event flags, pending vectors and pages.
+///
+/// Only the fields of its kind have a meaning.
 #[repr(C)]
 #[derive(Clone, Copy)]
 pub struct HvEffect {
@@ -62,36 +63,37 @@ pub struct HvEffect {
     pub kind: u32,
     /// The index of a processor.
     pub vp: u32,
-    /// The partition of that processor, the one that was finalized, or the one that has the pages now.
+    /// The partition of that processor, the one that was finalized, or the one that has the pages after the
+    /// event.
     pub part: u64,
-    /// The page, or the id of the partition that had the pages and is gone.
+    /// The page, or the id of the deleted partition that had the pages.
     pub page: u64,
     /// The vectors that SINTs raised: vector v is bit v % 64 of word v / 64.
     pub raised: [u64; 4],
-    /// Bit s is 1 where the slot of SINT s shows another message now, or none where it showed one.
+    /// Bit s is 1 if the slot of SINT s shows another message, or none where it showed one.
     pub shown: u16,
-    /// Bit s is 1 where one more message waits at SINT s.
+    /// Bit s is 1 if one more message waits at SINT s.
     pub waiting: u16,
     /// The event flag that changed, and its SINT.
     pub flag: u16,
     pub flag_sint: u8,
-    /// [`FLAG_SET`], [`FLAG_CLEARED`], or 0 where no event flag changed.
+    /// [`FLAG_SET`], [`FLAG_CLEARED`], or 0 if no event flag changed.
     pub flag_is: u8,
-    /// The port by which the message came that left its slot.
+    /// The port whose message left its slot.
     pub port: u32,
-    /// 1 where a message left its slot.
+    /// 1 if a message left its slot.
     pub freed: u8,
-    /// 1 where the page is in the partition's pool, 0 where it is loose.
+    /// 1 if the page is in the partition's pool, 0 if it is loose.
     pub pooled: u8,
 }
 
-/// What became of the elements of a call.
+/// The progress of a call's elements.
 #[repr(C)]
 #[derive(Clone, Copy)]
 pub struct HvRun {
-    /// How many elements were taken.
+    /// The number of elements that were taken.
     pub events: u32,
-    /// How many bytes they put out, one after another.
+    /// The number of bytes that they output, one after another.
     pub output_len: u32,
 }
 
@@ -103,21 +105,21 @@ pub struct HvPartition {
     pub mask: u64,
     /// Its parent's id, or 0 for the root.
     pub parent: u64,
-    /// How many partitions stand above it.
+    /// The number of partitions above it.
     pub depth: u64,
-    /// How many pages its pool has.
+    /// The number of pages in its pool.
     pub pooled: u64,
-    /// How many of those its children, processors, ports and connections use.
+    /// The number of pooled pages that pay for its children, processors, ports and connections.
     pub in_use: u64,
     /// [`LIFE_CREATED`], [`LIFE_ACTIVE`] or [`LIFE_FINALIZED`].
     pub life: u32,
-    /// How many children it has.
+    /// The number of children.
     pub children: u32,
-    /// How many virtual processors it has.
+    /// The number of virtual processors.
     pub vps: u32,
-    /// How many ports it has.
+    /// The number of ports.
     pub ports: u32,
-    /// How many connections it has.
+    /// The number of connections.
     pub connections: u32,
 }
 
@@ -131,11 +133,11 @@ pub struct HvPort {
     pub peer: u64,
     /// [`PORT_MESSAGES`] or [`PORT_EVENTS`].
     pub port_type: u32,
-    /// The SINT at which it aims.
+    /// The SINT to which it delivers.
     pub sint: u32,
-    /// The processor of that SINT, or all ones for any.
+    /// The processor of that SINT, or all ones for any processor.
     pub vp: u32,
-    /// The first of its flags, and how many there are.
+    /// The first of its flags, and the number of flags.
     pub base_flag: u16,
     pub flag_count: u16,
 }
@@ -149,23 +151,23 @@ pub struct HvConnection {
     /// The partition that has the port, and the port's id there.
     pub port_partition: u64,
     pub port: u32,
-    /// What the port took when the connection was made: [`PORT_MESSAGES`] or [`PORT_EVENTS`].
+    /// The type of the port when the connection was made: [`PORT_MESSAGES`] or [`PORT_EVENTS`].
     pub port_type: u32,
 }
 
-/// The most bytes that an element of a call puts out.
+/// The most bytes that an element of a call outputs.
 pub const ELEMENT_OUTPUT: usize = 16;
 
-/// The event is served; of a rep call, with its last element.
+/// The event is served. For a rep call, this was the last element.
 pub const SERVED: u32 = 0;
 
-/// The element is served, and the call goes on with the next one.
+/// The element is served, and the call continues with the next one.
 pub const MORE: u32 = 1;
 
-/// A hypercall that a rule refuses. Nothing changed.
+/// A rule refuses the hypercall. Nothing changed.
 pub const DENIED: u32 = 2;
 
-/// An access that a rule refuses. Nothing changed.
+/// A rule refuses the access. Nothing changed.
 pub const FAULT: u32 = 3;
 
 /// No message, event flag, pending vector or page changed.
@@ -174,40 +176,40 @@ pub const EFFECT_NOTHING: u32 = 0;
 /// Something changed at one processor.
 pub const EFFECT_SYNIC: u32 = 1;
 
-/// A page has another partition, or is in a pool and wasn't, or isn't and was.
+/// A page moved to another partition, or into or out of a pool.
 pub const EFFECT_PAGE: u32 = 2;
 
 /// A partition was deleted, and another one has its pages.
 pub const EFFECT_PAGES: u32 = 3;
 
-/// A processor was made or deleted.
+/// A processor was created or deleted.
 pub const EFFECT_PROCESSOR: u32 = 4;
 
 /// A partition was finalized.
 pub const EFFECT_PARTITION: u32 = 5;
 
-/// The event flag was clear and is set.
+/// The event set the event flag.
 pub const FLAG_SET: u8 = 1;
 
-/// The event flag was set and is clear.
+/// The event cleared the event flag.
 pub const FLAG_CLEARED: u8 = 2;
 
-/// A partition that was made and isn't initialized.
+/// The partition was created and is not initialized.
 pub const LIFE_CREATED: u32 = 0;
 
-/// A partition that runs.
+/// The partition runs.
 pub const LIFE_ACTIVE: u32 = 1;
 
-/// A partition that is finalized.
+/// The partition is finalized.
 pub const LIFE_FINALIZED: u32 = 2;
 
-/// A port that takes messages.
+/// The port takes messages.
 pub const PORT_MESSAGES: u32 = 1;
 
-/// A port that takes event flags.
+/// The port takes event flags.
 pub const PORT_EVENTS: u32 = 2;
 
-/// The accesses, as a script's line of one names them.
+/// The kinds of accesses, as a script's line names them.
 pub const READ_MSR: u32 = 0;
 
 pub const WRITE_MSR: u32 = 1;

@@ -1,16 +1,15 @@
-//! The machine for a hypervisor that is written in C or in Rust: a static library behind C's calling
-//! convention.
+//! The machine for a hypervisor written in C or in Rust: a static library with C's calling convention.
 //!
-//! `include/hvpm.h` is its header. The caller owns a handle of fixed size, [`HvMachine`], which is empty
-//! where it is zeros. `hv_embed_boot` puts a machine into it, `hv_embed_hypercall` and a function for
-//! each access take one event each, and `hv_embed_destroy` ends it. Each promises of the machine in the
-//! handle what `Machine::step` of `hv_machine` promises, and hands back the audit's line of the event.
-//! `hv_embed_run` takes the elements of a rep call one after another, each as such an event, and hands
-//! back no line. What is refused to the caller is told by a status, and then nothing changed.
+//! `include/hvpm.h` is its header. The caller owns a handle of fixed size, [`HvMachine`], which is empty when
+//! it is all zeros. `hv_embed_boot` puts a machine into it, `hv_embed_hypercall` and one function per access
+//! take one event each, and `hv_embed_destroy` destroys the machine. Each function promises of the machine in
+//! the handle what `Machine::step` of `hv_machine` promises, and returns the audit's line of the event.
+//! `hv_embed_run` takes the elements of a rep call one after another, each as one such event, and returns no
+//! line. A status reports each refusal, after which nothing has changed.
 //!
-//! `hv_embed_peek_*` and the functions beside them look at a machine: no event, as `hv_looks` promises.
-//! `hv_embed_table` puts its table into a buffer, and `hv_embed_hypercall_line` and `hv_embed_access_line` an
-//! event as a line of a script, as `hv_record` writes it.
+//! `hv_embed_peek_*` and the functions beside them look at a machine without an event, as `hv_looks`
+//! promises. `hv_embed_table` writes the machine's table into a buffer. `hv_embed_hypercall_line` and
+//! `hv_embed_access_line` write an event as a line of a script, as `hv_record` does.
 #![tactic(auto)]
 
 mod answer;

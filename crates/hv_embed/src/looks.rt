@@ -1,4 +1,5 @@
-// What C calls to look at a machine. A look is no event: it counts nothing, has no line, and takes no memory.
+// The functions that C calls to look at a machine. A look is not an event: it is not counted, has no line,
+// and takes no memory.
 ghost use Rattle.std.specs.Prelude.{◌≡◌, ◌≢◌, is_some};
 ghost use Rattle.std.specs.Option.{option_map};
 ghost use Rattle.std.specs.FinMap.{get};
@@ -30,7 +31,7 @@ use hv_looks::{
 };
 use hv_ports::{Conn, Port};
 
-/// Looks at the message slot of a SINT of a processor, of 256 bytes.
+/// Looks at the 256 bytes of the message slot of a SINT of a processor.
 #[unsafe(no_mangle)]
 pub extern "C" fn hv_embed_peek_slot(
     machine: &mut HvMachine,
@@ -50,7 +51,7 @@ pub extern "C" fn hv_embed_peek_slot(
     )
 }
 
-/// Looks at the event flags of a SINT of a processor, of 256 bytes.
+/// Looks at the 256 bytes of the event flags of a SINT of a processor.
 #[unsafe(no_mangle)]
 pub extern "C" fn hv_embed_peek_flags(
     machine: &mut HvMachine,
@@ -134,8 +135,8 @@ pub extern "C" fn hv_embed_peek_partition(
     }
 }
 
-/// Looks for the least id above `previous` among the children of a partition. Where there is none, the child
-/// is 0.
+/// Looks up the least id above `previous` among the children of a partition. If there is none, the child is
+/// 0.
 #[unsafe(no_mangle)]
 pub extern "C" fn hv_embed_child_after(
     machine: &mut HvMachine,
@@ -155,7 +156,7 @@ pub extern "C" fn hv_embed_child_after(
     )
 }
 
-/// Looks for the partition that has a page.
+/// Looks up the partition that has a page.
 #[unsafe(no_mangle)]
 pub extern "C" fn hv_embed_page_owner(machine: &mut HvMachine, page: u64, owner: &mut u64) -> u32
     ensures look { IsLook machine.old (λ f. owner_seen f page) result owner.old owner.new }
@@ -215,7 +216,7 @@ pub extern "C" fn hv_embed_peek_connection(
     }
 }
 
-/// EAX, EBX, ECX and EDX of CPUID leaf 0x40000003 for a partition.
+/// Looks at EAX, EBX, ECX and EDX of CPUID leaf 0x40000003 for a partition.
 #[unsafe(no_mangle)]
 pub extern "C" fn hv_embed_features(machine: &mut HvMachine, part: u64, out: &mut [u32; 4]) -> u32
     ensures look { IsLook machine.old (λ f. features_seen f part) result out.old out.new }
@@ -227,7 +228,7 @@ pub extern "C" fn hv_embed_features(machine: &mut HvMachine, part: u64, out: &mu
     put(features(&machine.raw_machine.look().machine, part), out)
 }
 
-/// Whether an MSR with this number is one that a machine keeps.
+/// Returns whether a machine keeps an MSR with this number.
 #[unsafe(no_mangle)]
 pub extern "C" fn hv_embed_is_msr(msr: u32) -> bool
     ensures { result ≡ is_some (name_of_msr msr) }
@@ -235,7 +236,7 @@ pub extern "C" fn hv_embed_is_msr(msr: u32) -> bool
     is_msr(msr)
 }
 
-/// Whether a hypercall has this code.
+/// Returns whether a hypercall has this code.
 #[unsafe(no_mangle)]
 pub extern "C" fn hv_embed_is_call(code: u16) -> bool
     ensures { result ≡ is_some (kind_of code) }
@@ -243,7 +244,7 @@ pub extern "C" fn hv_embed_is_call(code: u16) -> bool
     is_call(code)
 }
 
-// Puts what a look showed into its place.
+// Stores what a look showed, and returns the status.
 fn put<T: Copy>(shown: Option<T>, place: &mut T) -> u32
     ensures shows { Shows shown result place.new }
     ensures unwritten { result ≢ DONE → place.new ≡ place.old }

@@ -1,4 +1,4 @@
-// What a handle's block holds: a machine, and memory that its events use one after another.
+// The contents of a handle's block: a machine, and memory that its events reuse.
 ghost use Rattle.std.specs.Prelude.{◌≡◌, OnOk};
 ghost use Rattle.hv_embed.specs.Answer.{frame_of as frame_by};
 
@@ -9,12 +9,14 @@ use hv_text::Scratch;
 use std::alloc::{AllocError, Global};
 use std::marker::Model;
 
-// The most bytes of memory that are kept for input lists: twice a page. No list has more than a page, and
-// memory that grows may double.
+// The most bytes of memory kept for input lists: twice a page. No list is longer than a page, and memory that
+// grows may double.
 const MOST_SPARE: usize = 8192;
 
-/// A machine, and what its events use one after another: a call's frame, what an access puts out, and room
-/// for the audit's next line. Contracts see the machine alone.
+/// A machine, and the memory that its events reuse.
+///
+/// The memory holds a call's frame, an access's output, and the audit's next line. Contracts see the machine
+/// alone.
 #[derive(Drop)]
 pub struct MachineState {
     pub(crate) machine: Machine<Global>,
@@ -34,7 +36,7 @@ impl Model for MachineState {
 }
 
 impl MachineState {
-    // This machine, before its first event.
+    // Wraps a machine before its first event.
     pub(crate) fn of(machine: Machine<Global>, alloc: Global) -> MachineState
         ensures { result ≡ machine }
     {
@@ -46,7 +48,7 @@ impl MachineState {
         }
     }
 
-    // Keeps the frame's memory for the next call, unless that is more than is kept.
+    // Keeps the frame's memory for the next call, unless that is more than `MOST_SPARE`.
     pub(crate) fn trim(&mut self, alloc: Global)
         ensures { self.new ≡ self.old }
     {
@@ -56,7 +58,7 @@ impl MachineState {
     }
 }
 
-// A frame without memory.
+// Returns a frame without memory.
 pub(crate) fn no_frame(alloc: Global) -> Frame<Global> {
     Frame {
         rcx: 0,
@@ -66,7 +68,7 @@ pub(crate) fn no_frame(alloc: Global) -> Frame<Global> {
     }
 }
 
-// Makes a frame that of these registers and bytes, in the memory that it has where that is enough.
+// Fills a frame with these registers and bytes, in the memory that it has if that is enough.
 pub(crate) fn refill(
     frame: &mut Frame<Global>,
     registers: &HvRegisters,

@@ -1,4 +1,5 @@
-// A housed machine in a block of its own, behind a pointer whose type names no other type, as C takes it.
+// A machine state in a block of its own, behind a pointer that C accepts because its type names no other
+// type.
 ghost use Rattle.std.specs.Prelude.{◌≡◌, Bool, true, false};
 ghost use Rattle.hv_machine.specs.State.{State, state_code};
 ghost use Rattle.hv_embed.specs.Holds.{machine_owns};
@@ -26,7 +27,7 @@ impl RawMachine {
     ghost use Rattle.std.specs.Borrow.{sem};
     ghost use Rattle.hv_embed.specs.Lent.{LendsMachine};
 
-    /// Nothing.
+    /// Returns an empty one.
     pub fn none(alloc: Global) -> RawMachine
         ensures { result.full ≡ false }
     {
@@ -57,7 +58,7 @@ impl RawMachine {
         }
     }
 
-    // The machine that is there.
+    // Borrows the machine. There is one.
     pub fn look(&mut self) -> &mut MachineState
         requires { self.old.full ≡ true }
         ensures* writes_back { sem 𝓛 (LendsMachine self.entry result) }
@@ -66,7 +67,7 @@ impl RawMachine {
         unsafe { &mut *(self.at as *mut MachineState) }
     }
 
-    // Lets go of one that holds nothing.
+    // Drops one that is empty, and returns its allocator.
     pub fn let_go(self) -> Global
         requires { self.full ≡ false }
         ensures { result ≡ self.alloc }

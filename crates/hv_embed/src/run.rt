@@ -1,4 +1,4 @@
-// The elements of one call of a handle's machine.
+// Taking the elements of one call of a handle's machine.
 ghost use Rattle.std.specs.Prelude.{◌≡◌, ◌≢◌, ◌+◌, ◌*◌, ◌<◌, ◌≤◌, ◌++◌, length, take, false, true, IsTrue};
 ghost use Rattle.std.specs.Prelude.{if◌then◌else◌};
 ghost use Rattle.hv_defs.specs.declared.sizes.TheConstants.{REPS_END};
@@ -33,8 +33,8 @@ use hv_machine::{Answer, CallReply, Caller, Machine};
 use std::alloc::Global;
 use std::mem::replace;
 
-// Lets a machine take a call with these registers and the bytes of its input list, then the elements with
-// which it goes on, and counts them with the events before.
+// Takes a call with these registers and the bytes of its input list, then its further elements, and counts
+// each of them.
 pub(crate) fn step_run(
     alloc: Global,
     machine_state: &mut MachineState,
@@ -108,9 +108,10 @@ pub(crate) fn step_run(
     DONE
 }
 
-// Lets the elements after the last one happen, one after another: up to the last of the call, or to one that
-// isn't served or whose effect names more than a page, as long as the buffer has room for an output and more
-// events are counted. Answers how many did. An element that the host refuses didn't happen.
+// Takes the elements after the last one, one after another, and returns how many it took. It stops after the
+// call's last element, or after one that isn't served or whose effect names more than a page. It also stops
+// when the buffer has no room for an output, or no more events are counted. An element that the host refuses
+// didn't happen.
 fn run_on(
     alloc: Global,
     machine: &mut Machine<Global>,
@@ -168,7 +169,7 @@ fn run_on(
     u32::from(REPS_END)
 }
 
-// Lets a frame ask for another element of its call.
+// Points a frame at another element of its call.
 fn restart(alloc: Global, frame: &mut Frame<Global>, start: u16)
     requires { start < REPS_END }
     ensures { frame.new ≡ restarted_at frame.old start }
@@ -176,7 +177,7 @@ fn restart(alloc: Global, frame: &mut Frame<Global>, start: u16)
     *frame = replace(frame, no_frame(alloc)).with_start(start);
 }
 
-// Puts the output of a reply into a buffer at a place, and answers the place after it.
+// Appends the output of a reply to a buffer at a place, and returns the place after it.
 fn append_output(reply: &CallReply, outputs: &mut [u8], at: usize) -> usize
     requires { at + ELEMENT_OUTPUT ≤ length outputs.old }
     ensures bytes { take result outputs.new ≡ take at outputs.old ++ output_in reply.now }

@@ -1,4 +1,4 @@
-// One event of a handle's machine.
+// Taking one event of a handle's machine.
 ghost use Rattle.std.specs.Prelude.{◌≡◌, ◌≢◌, ◌+◌, length, false, if◌then◌else◌};
 ghost use Rattle.hv_machine.specs.Access.{access_event};
 ghost use Rattle.hv_machine.specs.MachineInvariant.{MachineInvariant};
@@ -21,7 +21,7 @@ use hv_machine::{Access, Caller, Machine};
 use std::alloc::Global;
 use std::mem::replace;
 
-// Lets the machine of a handle take an access.
+// Takes an access with the machine of a handle.
 pub(crate) fn take_access(
     alloc: Global,
     machine: &mut HvMachine,
@@ -56,7 +56,7 @@ pub(crate) fn take_access(
     status
 }
 
-// Lets a machine take an access, and counts it with the events before.
+// Takes an access with a machine, and counts it.
 fn step_access(
     machine_state: &mut MachineState,
     events: &mut u64,
@@ -98,8 +98,7 @@ fn step_access(
     DONE
 }
 
-// Lets a machine take a call with these registers and the bytes of its input list, and counts it with the
-// events before.
+// Takes a call with these registers and the bytes of its input list, and counts it.
 pub(crate) fn step_call(
     machine_state: &mut MachineState,
     events: &mut u64,
@@ -143,7 +142,7 @@ pub(crate) fn step_call(
     DONE
 }
 
-// Whether a machine served, or a handle counted, as many events as are counted.
+// Returns whether the machine has served, or the handle has counted, as many events as can be counted.
 pub(crate) fn is_used_up(machine: &Machine<Global>, events: u64) -> bool
     ensures used { result ≡ is_used_up_at machine.now.served events }
     ensures lasting { MachineInvariant machine.now }
@@ -151,7 +150,7 @@ pub(crate) fn is_used_up(machine: &Machine<Global>, events: u64) -> bool
     machine.served() >= MAX_SERVED || events >= MAX_EVENTS
 }
 
-// The processor that C names.
+// Returns the processor that C names.
 pub(crate) fn caller_of(by: HvCaller) -> Caller
     ensures { result ≡ caller_by by }
 {

@@ -1,5 +1,5 @@
-// Texts for C: a machine's table, and events as lines of a script. None is an event. A buffer that has room
-// for a text takes it, and its length is told.
+// Texts for C: a machine's table, and events as lines of a script. Writing a text is not an event. Each
+// function reports the text's length, and writes the text if the buffer has room for it.
 ghost use Rattle.std.specs.Prelude.{◌≡◌, ◌≢◌, ◌++◌, codes, length, nat_lt, take, true, false};
 ghost use Rattle.std.specs.Prelude.{IfSome, if◌then◌else◌};
 ghost use Rattle.hv_machine.specs.IsFlat.{IsFlat};
@@ -28,11 +28,13 @@ use hv_record::script_line;
 use hv_text::table_of;
 use std::alloc::Global;
 
-// The most bytes of an input list: it lies in a page.
+// The most bytes of an input list, which lies in one page.
 pub const MOST_INPUT: usize = 4096;
 
-/// Puts the table of the partitions into a buffer that has room for it, and tells how many bytes the table
-/// has. It takes memory for the table, and for the partitions' ids.
+/// Writes the table of the partitions.
+///
+/// The table goes into a buffer that has room for it, and its length in bytes is reported. It takes memory
+/// for the table, and for the partitions' ids.
 #[unsafe(no_mangle)]
 pub extern "C" fn hv_embed_table(
     alloc: Global,
@@ -56,8 +58,10 @@ pub extern "C" fn hv_embed_table(
     }
 }
 
-/// Puts the line of a script by which a processor asks for a hypercall into a buffer that has room for it,
-/// and tells how many bytes the line has, with its line feed. Of the input list it has the first 4,096 bytes.
+/// Writes a hypercall of a processor as a line of a script.
+///
+/// The line goes into a buffer that has room for it, and its length in bytes, with its line feed, is
+/// reported. It has the first 4,096 bytes of the input list.
 #[unsafe(no_mangle)]
 pub extern "C" fn hv_embed_hypercall_line(
     alloc: Global,
@@ -76,9 +80,11 @@ pub extern "C" fn hv_embed_hypercall_line(
     }
 }
 
-/// Puts the line of a script by which a processor asks for an access into a buffer that has room for it, and
-/// tells how many bytes the line has, with its line feed. `number` is that of the MSR or of the SINT, and
-/// `value` what is written, or the number of the event flag.
+/// Writes an access of a processor as a line of a script.
+///
+/// The line goes into a buffer that has room for it, and its length in bytes, with its line feed, is
+/// reported. `number` is that of the MSR or of the SINT. `value` is the value to write, or the number of the
+/// event flag.
 #[unsafe(no_mangle)]
 pub extern "C" fn hv_embed_access_line(
     alloc: Global,
@@ -101,7 +107,7 @@ pub extern "C" fn hv_embed_access_line(
     }
 }
 
-// The table of a machine, or out of memory.
+// Returns the table of a machine, or `None` if memory runs out.
 fn table_bytes(alloc: Global, machine: &Machine<Global>) -> Option<Vec<u8>>
     ensures { (f : Flat) → IsFlat machine.now f → IfSome result (λ bytes. bytes.items ≡ table_text f) }
 {
@@ -112,7 +118,7 @@ fn table_bytes(alloc: Global, machine: &Machine<Global>) -> Option<Vec<u8>>
     }
 }
 
-// The line of a call, or out of memory.
+// Returns the line of a call, or `None` if memory runs out.
 fn call_line(alloc: Global, by: HvCaller, registers: &HvRegisters, input: &[u8]) -> Option<Vec<u8>>
     ensures { IfSome result (λ line. line.items
         ≡ line_text (caller_by by) (Hypercall (frame_by registers.now (readable_of input.now)))
@@ -125,7 +131,7 @@ fn call_line(alloc: Global, by: HvCaller, registers: &HvRegisters, input: &[u8])
     event_line(alloc, caller_of(by), &Action::Hypercall(frame))
 }
 
-// The bytes of an input list that a line has.
+// Returns the bytes of an input list that a line has.
 fn readable(input: &[u8]) -> &[u8]
     ensures { result.now ≡ readable_of input.now }
 {
@@ -135,7 +141,7 @@ fn readable(input: &[u8]) -> &[u8]
     &input[..MOST_INPUT]
 }
 
-// The line of an event with its line feed, or out of memory.
+// Returns the line of an event with its line feed, or `None` if memory runs out.
 fn event_line(alloc: Global, by: Caller, what: &Action<Global>) -> Option<Vec<u8>>
     ensures { IfSome result (λ line. line.items ≡ line_text by what.now ++ codes "\n") }
 {
@@ -148,7 +154,7 @@ fn event_line(alloc: Global, by: Caller, what: &Action<Global>) -> Option<Vec<u8
     }
 }
 
-// The access that C names so, if there is one.
+// Returns the access that C names by these numbers, if there is one.
 fn access_of(access: u32, number: u32, value: u64) -> Option<Access>
     ensures { result ≡ access_named access number value }
 {
@@ -167,7 +173,7 @@ fn access_of(access: u32, number: u32, value: u64) -> Option<Access>
     }
 }
 
-// The access to a SINT that C names so, if there is one.
+// Returns the access to a SINT that C names by these numbers, if there is one.
 fn access_at(access: u32, sint: u8, value: u64) -> Option<Access>
     ensures { result ≡ access_at_sint access sint value }
 {
@@ -186,7 +192,7 @@ fn access_at(access: u32, sint: u8, value: u64) -> Option<Access>
     None
 }
 
-// An access as what its processor asks for.
+// Converts an access to the action of its processor.
 fn action_of(access: Access) -> Action<Global>
     ensures { result ≡ action_by access }
 {
@@ -201,7 +207,7 @@ fn action_of(access: Access) -> Action<Global>
     }
 }
 
-// Puts a text into a buffer that has room for it, and tells how many bytes it has.
+// Writes a text into a buffer that has room for it, and reports its length in bytes.
 fn put_text(bytes: &[u8], text: &mut [u8], len: &mut usize) -> u32
     ensures put { IsPut bytes.now result text.old text.new len.old len.new }
     ensures told { result ≡ if nat_lt (length text.old) (length bytes.now) then SHORT else DONE }

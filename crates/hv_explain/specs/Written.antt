@@ -1,4 +1,4 @@
--- What an explanation tells.
+-- The text of an explanation.
 use Rattle.std.specs.Prelude.{ℕ, ◌≡◌, ◌+◌, List, [], ◌∷◌, ◌++◌, length, codes, decimal, All, Option, IfSome}
 use Rattle.std.specs.Prelude.{IfNone, Ok}
 use Rattle.std.specs.Io.KnownBytes.{Appends}
@@ -22,15 +22,15 @@ use Rattle.hv_words.specs.Words.{IsPlain}
 unfoldable pub head_text : ℕ → Caller → List ℕ
 head_text number by = decimal number ++ codes " " ++ caller_text by ++ codes " "
 
--- a line for each of these events, of which the first has this number: its start, words without a line feed,
--- and a line feed
+-- a line for each of these events, the first of which has this number. A line is its start, words without a
+-- line feed, and a line feed
 abbrev pub AreTold : ℕ → List (Entry Global) → List ℕ → Type 0
 AreTold number [] text = text ≡ []
 AreTold number (e ∷ es) text =
     (words : List ℕ) × (rest : List ℕ) × IsPlain words ×
     (text ≡ head_text number e.event.by ++ words ++ codes "\n" ++ rest) × AreTold (number + 1) es rest
 
--- the history has these entries more, and the writer a line for each
+-- the history gains these entries, and the writer gets a line for each
 pub record HasWritten (more : List (Entry Global)) (old new : Kept Global) (before after : Option (List ℕ)) :
     Type 0 where
   pub history : new.history ≡ old.history ++ more
@@ -44,14 +44,14 @@ pub record HasWritten (more : List (Entry Global)) (old new : Kept Global) (befo
 abbrev pub entry_of : Caller → Action Global → Reply → Entry Global
 entry_of by what reply = record { event = record { by = by; what = what }; reply = reply }
 
--- the same of one event
+-- as `HasWritten`, for one event
 abbrev pub HasWrittenOne : Caller → Action Global → Reply → Kept Global → Kept Global → Option (List ℕ) →
     Option (List ℕ) → Type 0
 HasWrittenOne by what reply old new before after = HasWritten (entry_of by what reply ∷ []) old new before
     after
 
--- the same of the element of a call at the frame's start index, with the index of the next one if the call
--- goes on
+-- as `HasWritten`, for the element of a call at the frame's start index. `next` is the index of the next
+-- element if the call continues
 pub record HasWrittenElement (by : Caller) (frame : Frame Global) (next : Option ℕ) (old new : Kept Global)
     (before after : Option (List ℕ)) : Type 0 where
   pub reply : Reply
@@ -59,7 +59,7 @@ pub record HasWrittenElement (by : Caller) (frame : Frame Global) (next : Option
   pub goes : IfSome next (λ n. (n ≡ start_of frame + 1) × GoesOnAt n reply)
   pub ends : IfNone next (IsMore reply → ⊥)
 
--- the same of what a processor asks for, to its end
+-- as `HasWritten`, for what a processor asks for, to its end
 pub record HasWrittenAll (by : Caller) (what : Action Global) (old new : Kept Global)
     (before after : Option (List ℕ)) : Type 0 where
   pub own : List (Entry Global)
@@ -67,16 +67,16 @@ pub record HasWrittenAll (by : Caller) (what : Action Global) (old new : Kept Gl
   pub all : All (λ e. e.event.by ≡ by) own
   pub whole : IsWhole by what (receipts_by by (1 + length old.history) own)
 
--- the same of lines, one after the other
+-- as `HasWritten`, for the lines of a script, one after another
 pub record HasWrittenLines (lines : List (Line Global)) (old new : Kept Global)
     (before after : Option (List ℕ)) : Type 0 where
   pub more : List (Entry Global)
   pub told : HasWritten more old new before after
   pub order : AreInOrder (1 + length old.history) lines more
 
--- The writer got a line for each event of a history that is a run from the script's boot, with at most as
--- many events as its limit. The events are those that the script's lines ask for, in their order, each line's
--- to its end.
+-- The writer gets a line for each event of a history. The history is a run from the script's boot, with at
+-- most as many events as its limit. The events are those that the script's lines ask for, in order, each
+-- line's to its end.
 pub record HasExplained (said : Said Global) (before after : Option (List ℕ)) : Type 0 where
   pub kept : Kept Global
   pub run : IsRun kept
@@ -87,7 +87,7 @@ pub record HasExplained (said : Said Global) (before after : Option (List ℕ)) 
   pub told : AreTold 1 kept.history text
   pub wrote : Appends before after text
 
--- the same of a script's text
+-- as `HasExplained`, for the script with this text
 pub record HasExplainedText (script : List ℕ) (before after : Option (List ℕ)) : Type 0 where
   pub said : Said Global
   pub is : script_of script ≡ Ok said

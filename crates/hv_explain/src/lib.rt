@@ -1,10 +1,12 @@
-//! The events of a script in words: a line for each, with the call or the access, its answer, and for a
-//! refusal the rule that failed and the values that decided.
+//! The events of a script in words, one line for each.
 //!
-//! [`explain_text`] runs a script's lines in their order and explains each event as it happens. Its contract
-//! says that what is run is the run, and that each event has one line, which begins with its number and its
-//! processor. [`explain_event`] lets one event happen and explains it, for whoever takes events in another
-//! order. What stands behind the processor is free text, which `hv_reasons` puts together.
+//! A line has the call or the access and its answer. For a refusal it also has the rule that failed, and the
+//! values that decided.
+//!
+//! [`explain_text`] runs a script's lines in order and explains each event as it happens. Its contract says
+//! that the events are those of a run, and that each has one line, which begins with its number and its
+//! processor. [`explain_event`] takes one event and explains it, for callers that take events in another
+//! order. After the processor comes free text, which `hv_reasons` composes.
 #![tactic(auto)]
 
 mod line;

@@ -1,4 +1,4 @@
-// An event with its line.
+// Explaining one event.
 ghost use Rattle.std.specs.Prelude.{◌≡◌, ◌+◌, ◌++◌, codes, decimal, length, IfErr, IfOk, OnOk};
 ghost use Rattle.std.specs.Io.KnownBytes.{Appends};
 ghost use Rattle.hv_history.specs.Kept.{HasGained, IsRun};
@@ -18,10 +18,12 @@ use std::alloc::Global;
 use std::io;
 use std::io::Write;
 
-/// Lets an event happen, and writes its line: its number and its processor as the audit has them, and what
-/// happened in words. Answers its reply. The room's words are lost.
+/// Takes an event, writes its line, and returns its reply.
 ///
-/// `Err` where the host refuses the event, which then changes nothing, and where the line can't be written.
+/// The line has the event's number and its processor as in the audit, and in words what happened. The
+/// contents of `room` are lost.
+///
+/// `Err` if the host refuses the event, which then changes nothing, or if the line can't be written.
 pub fn explain_event<W: Write>(
     kept: &mut Kept<Global>,
     by: Caller,
@@ -45,7 +47,7 @@ pub fn explain_event<W: Write>(
     }
 }
 
-// Lets an event happen, and answers its number and its reply.
+// Takes an event, and returns its number and its reply.
 fn happen(
     kept: &mut Kept<Global>,
     by: Caller,
@@ -58,7 +60,7 @@ fn happen(
     ensures run { IsRun kept.new }
     ensures host { IfErr result (λ failure. exit_of failure ≡ Exit.Host) }
 {
-    // The proof reads here that what is kept is a run.
+    // Proof: the history is a run.
     let _history = kept.history();
     let Ok(what) = what.copy() else {
         return Err(Failure::Memory);
@@ -69,7 +71,7 @@ fn happen(
     }
 }
 
-// Writes an event's line: its number, its processor and some words.
+// Writes the line of an event: its number, its processor and these words.
 fn put_line<W: Write>(out: &mut W, number: u64, by: Caller, words: &Words) -> io::Result<()>
     ensures line { OnOk result (Appends (W.contents out.old) (W.contents out.new)
         (head_text number by ++ words.now ++ codes "\n")) }
@@ -81,7 +83,7 @@ fn put_line<W: Write>(out: &mut W, number: u64, by: Caller, words: &Words) -> io
     out.write_all(b"\n")
 }
 
-// Writes the start of an event's line.
+// Writes the start of an event's line: its number and its processor.
 fn put_head<W: Write>(out: &mut W, number: u64, by: Caller) -> io::Result<()>
     ensures { OnOk result (Appends (W.contents out.old) (W.contents out.new) (head_text number by)) }
 {
@@ -90,7 +92,7 @@ fn put_head<W: Write>(out: &mut W, number: u64, by: Caller) -> io::Result<()>
     put_number(out, u64::from(by.vp), b" ")
 }
 
-// Writes a number in decimal, and a mark behind it.
+// Writes a number in decimal, followed by a mark.
 fn put_number<W: Write>(out: &mut W, number: u64, mark: &[u8]) -> io::Result<()>
     ensures { OnOk result (Appends (W.contents out.old) (W.contents out.new) (decimal number ++ mark.now)) }
 {

@@ -1,4 +1,4 @@
-// The lines of a script, one after the other.
+// Explaining the lines of a script, one after another.
 ghost use Rattle.std.specs.Prelude.{◌≡◌, IfErr, IfOk, OnOk};
 ghost use Rattle.hv_history.specs.Kept.{IsRun};
 ghost use Rattle.hv_policy.specs.declared.event.Action.TheVariants.{Hypercall};
@@ -15,8 +15,8 @@ use hv_words::Words;
 use std::alloc::Global;
 use std::io::Write;
 
-// Runs the lines of a script in their order, and explains each event. It ends with the first event that the
-// host refuses, or whose line can't be written.
+// Runs the lines of a script in order, and explains each event. It stops at the first event that the host
+// refuses, or whose line can't be written.
 pub fn explain_lines<W: Write>(
     kept: &mut Kept<Global>,
     lines: &[Line<Global>],
@@ -27,7 +27,7 @@ pub fn explain_lines<W: Write>(
     ensures run { IsRun kept.new }
     ensures host { IfErr result (λ failure. exit_of failure ≡ Exit.Host) }
 {
-    // The proof reads here that what is kept is a run.
+    // Proof: the history is a run.
     let _history = kept.history();
     let mut room = Words::new();
     for at in 0..lines.len() {
@@ -71,7 +71,7 @@ fn explain_call<W: Write>(
     ensures run { IsRun kept.new }
     ensures host { IfErr result (λ failure. exit_of failure ≡ Exit.Host) }
 {
-    // The proof reads here that what is kept is a run.
+    // Proof: the history is a run.
     let _history = kept.history();
     let Ok(mut now) = frame.copy() else {
         return Err(Failure::Memory);
@@ -85,8 +85,8 @@ fn explain_call<W: Write>(
     }
 }
 
-// Runs the element of a hypercall at the frame's start index, and tells with which the call goes on, if it
-// does.
+// Runs the element of a hypercall at the frame's start index. Returns the index of the next element, if the
+// call continues.
 fn explain_element<W: Write>(
     kept: &mut Kept<Global>,
     by: Caller,
@@ -99,7 +99,7 @@ fn explain_element<W: Write>(
     ensures run { IsRun kept.new }
     ensures host { IfErr result (λ failure. exit_of failure ≡ Exit.Host) }
 {
-    // The proof reads here that what is kept is a run.
+    // Proof: the history is a run.
     let _history = kept.history();
     let Ok(own) = frame.copy() else {
         return Err(Failure::Memory);

@@ -1,4 +1,4 @@
-// A script's text, explained.
+// Explaining a script's text.
 ghost use Rattle.std.specs.Prelude.{◌≡◌, ◌≢◌, ◌<◌, length, IfErr, OnOk};
 ghost use Rattle.hv_run.specs.Failure.{exit_of};
 ghost use Rattle.hv_script.specs.Reading.{said};
@@ -12,11 +12,11 @@ use hv_script::{Script, parse};
 use std::alloc::Global;
 use std::io::Write;
 
-/// Runs a script's lines in their order, and explains each event in a line on `out`. Why it didn't all run
-/// goes to `err`, in one line.
+/// Runs a script's lines in order, and explains each event in a line on `out`.
 ///
-/// After a fault of the script or a refused boot nothing is written to `out`. Where the host refuses an
-/// event, the lines of those before it are written.
+/// If not everything runs, the reason goes to `err`, in one line. After a fault of the script or a refused
+/// boot, nothing is written to `out`. If the host refuses an event, `out` has the lines of the events before
+/// it.
 pub fn explain_text<W: Write, E: Write>(
     alloc: Global,
     script: &[u8],
@@ -35,7 +35,7 @@ pub fn explain_text<W: Write, E: Write>(
     }
 }
 
-// Explains a script that has no fault, and tells why it didn't all run.
+// Explains a script that has no fault, and writes the reason if not everything runs.
 fn finish<W: Write, E: Write>(
     alloc: Global,
     script: Script<Global>,
@@ -52,7 +52,7 @@ fn finish<W: Write, E: Write>(
     }
 }
 
-// Boots a script's machine, runs its lines and explains them.
+// Boots the script's machine, runs its lines and explains them.
 fn explain_script<W: Write>(
     alloc: Global,
     script: &Script<Global>,

@@ -1,4 +1,4 @@
-// From both texts to an exit status.
+// Explaining an audit, from both texts to an exit status.
 ghost use Rattle.std.specs.Prelude.{◌≡◌, ◌≢◌, ◌<◌, true, IfSome, length};
 ghost use Rattle.hv_check.specs.Legal.{IsLegalOf};
 
@@ -12,9 +12,10 @@ use hv_words::Words;
 use std::alloc::Global;
 use std::io::Write;
 
-/// Explains the events of an audit in its order, each in a line on `out`. The audit may end early. Of one
-/// that isn't legal the first line that isn't is told on `out`, as a check tells it, and nothing else. A
-/// fault of the script, a refused boot and what the host lacks are told on `err`, in one line.
+/// Explains the events of an audit in its order, each in a line on `out`.
+///
+/// The audit may end early. If it isn't legal, `out` gets only the first line that isn't, as a check prints
+/// it. A fault of the script, a refused boot and a failure of the host are printed on `err`, in one line.
 pub fn follow_text<W: Write, E: Write>(
     alloc: Global,
     script: &[u8],
@@ -32,7 +33,7 @@ pub fn follow_text<W: Write, E: Write>(
     }
 }
 
-// Shows what a check told, and gives its exit status.
+// Prints the text of a check, and returns its exit status.
 fn show<W: Write, E: Write>(exit: Exit, told: &[u8], out: &mut W, err: &mut E) -> Exit
     requires done { exit ≢ Exit.Done }
     requires usage { exit ≢ Exit.Usage }
@@ -45,7 +46,7 @@ fn show<W: Write, E: Write>(exit: Exit, told: &[u8], out: &mut W, err: &mut E) -
     exit
 }
 
-// Explains the events of an audit that is legal.
+// Explains the events of a legal audit.
 fn explain<W: Write, E: Write>(
     alloc: Global,
     script: &[u8],
@@ -64,7 +65,7 @@ fn explain<W: Write, E: Write>(
     }
 }
 
-// Lets the events of an audit happen, and explains them.
+// Takes the events of an audit, and explains them.
 fn follow<W: Write>(
     alloc: Global,
     script: Script<Global>,
@@ -87,7 +88,7 @@ fn follow<W: Write>(
     out.flush().map_err(|_| Failure::Write)
 }
 
-// Lets the next event of a processor happen, and explains it.
+// Takes the next event of a processor, and explains it.
 fn step<W: Write>(
     kept: &mut Kept<Global>,
     replay: &mut Replay,
@@ -98,7 +99,7 @@ fn step<W: Write>(
     if replay.begin().is_err() {
         return Err(Failure::Memory);
     }
-    // A legal audit names none that has nothing left to do.
+    // A legal audit names only processors that have an action left.
     let Some(action) = replay.next(by) else {
         return Ok(());
     };
@@ -107,7 +108,7 @@ fn step<W: Write>(
     Ok(())
 }
 
-// The processor of the first line of an audit, if it is the line of an event, and what stands behind the
+// Returns the processor of an audit's first line, if that is the line of an event, and the text after the
 // line.
 fn next_caller(audit: &[u8]) -> Option<(Caller, &[u8])>
     ensures { IfSome result (λ r. length r.1.now < length audit.now) }

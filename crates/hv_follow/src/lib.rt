@@ -1,8 +1,8 @@
 //! The events of an audit in words: `hvpm explain SCRIPT AUDIT`.
 //!
-//! [`follow_text`] checks the audit beside its script, as `hv_check` does, and then lets its events happen
-//! once more, in its order, and explains each in a line, as `hv_explain` does for a script alone. So an audit
-//! of threads, or of another program, is told in the order in which its events happened.
+//! [`follow_text`] checks the audit beside its script, as `hv_check` does. It then takes the audit's events
+//! once more, in the audit's order, and explains each in a line, as `hv_explain` does for a script alone. An
+//! audit of threads, or of another program, is thus explained in the order in which its events happened.
 #![tactic(auto)]
 
 mod follow;

@@ -1,4 +1,4 @@
-// What a guest may find out about the machine itself, and which of its exits the machine takes.
+// What a guest may learn about the machine itself, and which exits the machine handles.
 ghost use Rattle.std.specs.Prelude.{◌≡◌, is_some};
 ghost use Rattle.hv_abi.specs.CallRow.{kind_of};
 ghost use Rattle.hv_defs.specs.Registers.{name_of_msr as name_of};
@@ -13,8 +13,10 @@ use hv_privs::Privileges;
 use hv_vp::name_of_msr;
 use std::alloc::Allocator;
 
-/// EAX, EBX, ECX and EDX of CPUID leaf 0x40000003 for a partition: the low and the high half of its
-/// privilege mask, and 0 (TLFS 4.0, "Feature Discovery"). `None` where there is no such partition.
+/// Returns EAX, EBX, ECX and EDX of CPUID leaf 0x40000003 for a partition.
+///
+/// They are the low and the high half of its privilege mask, then 0 and 0 (TLFS 4.0, "Feature Discovery").
+/// `None` if there is no such partition.
 pub fn features<A: Allocator>(machine: &Machine<A>, part: u64) -> Option<[u32; 4]>
     ensures { (f : Flat) → IsFlat machine.now f → result ≡ features_seen f part }
 {
@@ -24,7 +26,7 @@ pub fn features<A: Allocator>(machine: &Machine<A>, part: u64) -> Option<[u32; 4
     }
 }
 
-// The leaf of a mask.
+// Returns the CPUID leaf for a mask.
 fn leaf(mask: Privileges) -> [u32; 4]
     ensures { result ≡ leaf_of mask }
 {
@@ -32,15 +34,15 @@ fn leaf(mask: Privileges) -> [u32; 4]
     [(bits & 0xFFFF_FFFF) as u32, (bits >> 32) as u32, 0, 0]
 }
 
-/// Whether a model-specific register with this number is one that the machine keeps, which is what P25
-/// asks. All others are the hypervisor's own matter.
+/// Returns whether the machine keeps a model-specific register with this number, as P25 requires. All other
+/// registers are left to the hypervisor.
 pub fn is_msr(msr: u32) -> bool
     ensures { result ≡ is_some (name_of msr) }
 {
     name_of_msr(msr).is_some()
 }
 
-/// Whether a hypercall has this code, bits 15:0 of its input value, which is what P4 asks.
+/// Returns whether a hypercall has this code, as P4 requires. The code is bits 15:0 of the input value.
 pub fn is_call(code: u16) -> bool
     ensures { result ≡ is_some (kind_of code) }
 {

@@ -1,12 +1,13 @@
-//! Looks at a machine that are no events: they count nothing, take no memory, change nothing and ask no
-//! privilege.
+//! Looks at a machine without an event.
 //!
-//! A hypervisor that shows a message page to its guest, or a debugger, wants to know what a processor or a
-//! partition has without an event, which counts, has a line of the audit and may be refused. Each look
-//! answers what the policy says of every flat state that the machine stands for (`specs/Look.antt`), or
-//! `None` where there is no such partition, processor, SINT or register. Where an access shows the same,
-//! a second clause (`served`) says that the look answers just the bytes of the access, if that would be
-//! served.
+//! A look changes nothing, takes no memory, needs no privilege, and is not counted. It serves a hypervisor
+//! that shows a message page to its guest, or a debugger. An event would count, would add a line to the
+//! audit, and may be refused.
+//!
+//! Each look returns what the policy says of every flat state that the machine stands for
+//! (`specs/Look.antt`). It returns `None` where there is no such partition, processor, SINT or register.
+//! Where an access reads the same bytes, a second clause (`served`) says that the look returns exactly these
+//! bytes, if the access would be served.
 //!
 //! - At a processor: [`slot`], [`flags`], [`msr`] and [`pending`].
 //! - At partitions: [`partition`], [`child_after`], [`page_owner`], [`port`], [`connection`].

@@ -11,7 +11,7 @@ use hv_machine::Machine;
 use hv_ports::{Conn, Port};
 use std::alloc::Allocator;
 
-/// The port with this id of a partition. `None` where there is no such partition, or no such port.
+/// Returns the port with this id of a partition. `None` if there is no such partition, or no such port.
 pub fn port<A: Allocator>(machine: &Machine<A>, part: u64, id: u32) -> Option<Port>
     ensures { (f : Flat) → IsFlat machine.now f → option_map port_row_of result ≡ get f.port (part, id) }
 {
@@ -21,8 +21,9 @@ pub fn port<A: Allocator>(machine: &Machine<A>, part: u64, id: u32) -> Option<Po
     }
 }
 
-/// The connection with this id of a partition. `None` where there is no such partition, or no such
-/// connection. Whether its port is still there is not asked.
+/// Returns the connection with this id of a partition.
+///
+/// `None` if there is no such partition, or no such connection. The connection's port may be gone.
 pub fn connection<A: Allocator>(machine: &Machine<A>, part: u64, id: u32) -> Option<Conn>
     ensures { (f : Flat) → IsFlat machine.now f → option_map conn_row_of result ≡ get f.conn (part, id) }
 {

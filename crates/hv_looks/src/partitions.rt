@@ -16,35 +16,35 @@ use hv_privs::Privileges;
 use hv_refine::Partitions;
 use std::alloc::Allocator;
 
-// No page has a number as high.
+// Every page number is below this.
 const MOST: u64 = MAX_PAGES as u64;
 
 /// What a look at a partition shows.
 #[derive(Clone, Copy)]
 pub struct PartitionLook {
-    /// Its life state.
+    /// The life state.
     pub life: Life,
-    /// Its privilege mask.
+    /// The privilege mask.
     pub mask: Privileges,
-    /// Its parent's id. The root has none.
+    /// The parent's id. The root has none.
     pub parent: Option<u64>,
-    /// How many partitions stand above it: 0 for the root.
+    /// The number of partitions above it: 0 for the root.
     pub depth: u64,
-    /// How many pages its pool has.
+    /// The number of pages in its pool.
     pub pooled: u64,
-    /// How many of those its children, processors, ports and connections use.
+    /// The number of pooled pages that pay for its children, processors, ports and connections.
     pub in_use: u64,
-    /// How many children it has.
+    /// The number of children.
     pub children: u32,
-    /// How many virtual processors it has.
+    /// The number of virtual processors.
     pub vps: u32,
-    /// How many ports it has.
+    /// The number of ports.
     pub ports: u32,
-    /// How many connections it has.
+    /// The number of connections.
     pub conns: u32,
 }
 
-/// What a partition is and has. `None` where there is no such partition.
+/// Returns the state and the counts of a partition. `None` if there is no such partition.
 pub fn partition<A: Allocator>(machine: &Machine<A>, id: u64) -> Option<PartitionLook>
     ensures { (f : Flat) → IsFlat machine.now f → result ≡ partition_seen f id }
 {
@@ -78,9 +78,10 @@ fn partition_in<A: Allocator>(tree: &Partitions<A>, id: u64) -> Option<Partition
     })
 }
 
-/// The least id above `previous` among the children of a partition, or 0 where there is none, as
-/// HvGetNextChildPartition answers it. From 0, each answer passed back in turn, it walks over all children.
-/// `None` where there is no such partition.
+/// Returns the least id above `previous` among a partition's children, or 0 if there is none.
+///
+/// This is what HvGetNextChildPartition answers. To walk over all children, start from 0 and pass each answer
+/// to the next call. `None` if there is no such partition.
 pub fn child_after<A: Allocator>(machine: &Machine<A>, parent: u64, previous: u64) -> Option<u64>
     ensures { (f : Flat) → IsFlat machine.now f → result ≡ child_seen f parent previous }
 {
@@ -94,8 +95,10 @@ pub fn child_after<A: Allocator>(machine: &Machine<A>, parent: u64, previous: u6
     }
 }
 
-/// The partition that has a page, loose or pooled. `None` where boot gave no such page. The time is
-/// proportional to the number of ids that partitions got so far.
+/// Returns the partition that has a page, loose or pooled.
+///
+/// `None` if boot gave no such page. The time is proportional to the number of ids given to partitions so
+/// far.
 pub fn page_owner<A: Allocator>(machine: &Machine<A>, page: u64) -> Option<u64>
     ensures { (f : Flat) → IsFlat machine.now f → result ≡ owner_seen f page }
 {
@@ -112,7 +115,7 @@ pub fn page_owner<A: Allocator>(machine: &Machine<A>, page: u64) -> Option<u64>
     None
 }
 
-// Whether a partition is there and has the page, loose or pooled.
+// Returns whether the partition exists and has the page, loose or pooled.
 fn has_page<A: Allocator>(tree: &Partitions<A>, id: u64, page: u32) -> bool
     ensures { result ≡ has_page_of page (content tree.now id) }
 {

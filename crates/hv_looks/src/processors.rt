@@ -18,9 +18,10 @@ use hv_refine::Partitions;
 use hv_vp::name_of_msr;
 use std::alloc::Allocator;
 
-/// The 256 bytes of the message slot of a SINT of a processor, as a read of the slot puts them out: zeros
-/// where it shows no message (TLFS 4.0, "Messages"). `None` where there is no such processor, or no such
-/// SINT.
+/// Returns the 256 bytes of the message slot of a SINT, as a read of the slot does.
+///
+/// They are zeros if the slot shows no message (TLFS 4.0, "Messages"). `None` if there is no such processor,
+/// or no such SINT.
 pub fn slot<A: Allocator>(machine: &Machine<A>, of: Caller, sint: u8) -> Option<[u8; 256]>
     ensures look { (f : Flat) → IsFlat machine.now f → result ≡ slot_seen f of sint }
     ensures served { (f : Flat) → IsFlat machine.now f
@@ -29,8 +30,10 @@ pub fn slot<A: Allocator>(machine: &Machine<A>, of: Caller, sint: u8) -> Option<
     slot_in(tree_of(machine), of, sint)
 }
 
-/// The 256 bytes of the event flags of a SINT of a processor: flag f is bit f % 8 of byte f / 8 (TLFS 4.0,
-/// "Event Flags"). `None` where there is no such processor, or no such SINT.
+/// Returns the 256 bytes of the event flags of a SINT.
+///
+/// Flag f is bit f % 8 of byte f / 8 (TLFS 4.0, "Event Flags"). `None` if there is no such processor, or no
+/// such SINT.
 pub fn flags<A: Allocator>(machine: &Machine<A>, of: Caller, sint: u8) -> Option<[u8; 256]>
     ensures look { (f : Flat) → IsFlat machine.now f → result ≡ flags_seen f of sint }
     ensures served { (f : Flat) → IsFlat machine.now f
@@ -39,8 +42,9 @@ pub fn flags<A: Allocator>(machine: &Machine<A>, of: Caller, sint: u8) -> Option
     flags_in(tree_of(machine), of, sint)
 }
 
-/// The value of a model-specific register of a processor. `None` where there is no such processor, or no
-/// register has this number.
+/// Returns the value of a model-specific register of a processor.
+///
+/// `None` if there is no such processor, or no register has this number.
 pub fn msr<A: Allocator>(machine: &Machine<A>, of: Caller, msr: u32) -> Option<u64>
     ensures look { (f : Flat) → IsFlat machine.now f → result ≡ msr_seen f of msr }
     ensures served { (f : Flat) → IsFlat machine.now f
@@ -49,8 +53,10 @@ pub fn msr<A: Allocator>(machine: &Machine<A>, of: Caller, msr: u32) -> Option<u
     msr_in(tree_of(machine), of, msr)
 }
 
-/// The interrupt vectors that are pending at a processor, as bits: vector v is bit v % 64 of word v / 64. The
-/// highest of them is what the processor takes next. `None` where there is no such processor.
+/// Returns the interrupt vectors that are pending at a processor, as bits.
+///
+/// Vector v is bit v % 64 of word v / 64. The processor takes the highest one next. `None` if there is no
+/// such processor.
 pub fn pending<A: Allocator>(machine: &Machine<A>, of: Caller) -> Option<[u64; 4]>
     ensures look { (f : Flat) → IsFlat machine.now f → option_map numbers_of result ≡ pending_seen f of }
     ensures served { (f : Flat) → IsFlat machine.now f → ShowsServed {A = A} f (access_event of TakeInterrupt)

@@ -13,19 +13,19 @@ use hv_refine::Partitions;
 use hv_vp::Vp;
 use std::alloc::Allocator;
 
-// The partitions, tied to each flat state that the machine stands for. Their rows are those of a lawful one,
-// and their ids are below the next one.
+// Returns the machine's partitions, which refine each flat state that the machine stands for. Their rows
+// satisfy the tree's invariant, and their ids are below the next one.
 pub(crate) fn tree_of<A: Allocator>(machine: &Machine<A>) -> &Partitions<A>
     ensures tied { (f : Flat) → IsFlat machine.now f → Refines result.now f }
     ensures lawful { TreeInvariant result.now }
     ensures below { (id : ℕ) → contains_key result.now id ≡ true → id < machine.now.next }
 {
-    // Proof: that a machine stands for a lawful state is told with its count.
+    // Proof: the contract of `served` says that a machine stands for a lawful state.
     let _ = machine.served();
     machine.tree()
 }
 
-// A processor, if it is there.
+// Returns a processor, if it exists.
 pub(crate) fn vp_at<A: Allocator>(tree: &Partitions<A>, of: Caller) -> Option<&Vp<A>>
     ensures { option_copied result ≡ vp_there tree.now of }
 {

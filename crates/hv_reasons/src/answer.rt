@@ -1,4 +1,4 @@
-// How an event is answered.
+// An event and its answer.
 
 use crate::frames::{call_of, push_frame};
 use crate::rules::push_rule;
@@ -8,7 +8,7 @@ use hv_policy::{Access, Action, Answer, Caller, Reply};
 use hv_words::{Words, push_access, push_access_output, push_call_output};
 use std::alloc::Global;
 
-// Adds what an event is and how it was answered. The partitions are those after it.
+// Adds an event and its answer. The partitions are those after the event.
 pub fn push_event(
     words: &mut Words,
     tree: &Tree,
@@ -48,7 +48,7 @@ fn push_status(words: &mut Words, status: Status) {
     words.text(", ");
 }
 
-// What an event that was served put out.
+// Adds the output of an event that was served.
 fn push_output(words: &mut Words, what: &Action<Global>, output: &[u8]) {
     match what.as_access() {
         Ok(access) => push_access_output(words, access, output),

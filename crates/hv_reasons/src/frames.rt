@@ -1,11 +1,11 @@
-// The hypercall that a frame holds.
+// The hypercall in a frame.
 
 use hv_abi::{CallKind, Frame, InputValue, Shape};
 use hv_calls::{Call, decode};
 use hv_words::{Words, call_name, push_call};
 use std::alloc::Global;
 
-// The call of a frame, where P4 to P7 hold.
+// Returns the call of a frame, if P4 to P7 hold.
 pub fn call_of(frame: &Frame<Global>) -> Option<Call<'_>> {
     match frame.check() {
         Ok(shape) => match decode(frame, &shape) {
@@ -16,8 +16,8 @@ pub fn call_of(frame: &Frame<Global>) -> Option<Call<'_>> {
     }
 }
 
-// Adds a call with its fields. Where they can't be read, it adds its name and the registers, and where no
-// call has the code, the code in place of the name.
+// Adds a call with its fields. If the fields can't be read, it adds the call's name and the registers. If no
+// call has the code, the code takes the place of the name.
 pub fn push_frame(words: &mut Words, frame: &Frame<Global>) {
     match call_of(frame) {
         Some(call) => {
@@ -33,7 +33,7 @@ pub fn push_frame(words: &mut Words, frame: &Frame<Global>) {
     }
 }
 
-// The element of a rep call, and that a call is fast.
+// Adds the element of a rep call, and whether the call is fast.
 fn push_elements(words: &mut Words, rcx: u64) {
     let InputValue {
         fast,

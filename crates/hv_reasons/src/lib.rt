@@ -1,9 +1,10 @@
-//! An event with its answer in words: the call or the access, what it put out, and for a refusal the rule
-//! that failed with the values that decided.
+//! An event with its answer in words: the call or the access, and its output. For a refusal the text has the
+//! rule that failed, and the values that decided.
 //!
-//! [`push_event`] adds the text of one event. It reads the values from the partitions as they are after the
-//! event: a refusal changes nothing, so these are the ones that decided. The text is this project's own, and
-//! `docs/PROGRAM.md` describes its form. The functions here have no contract but that they are safe and end.
+//! [`push_event`] adds the text of one event. It reads the values from the partitions after the event. A
+//! refusal changes nothing, so these values are the ones that decided. The text is this project's own, and
+//! `docs/PROGRAM.md` describes its form. The functions here have no contract except that they are safe and
+//! terminate.
 #![tactic(auto)]
 
 mod answer;

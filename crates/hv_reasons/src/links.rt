@@ -8,7 +8,7 @@ use hv_ports::{Conn, Port};
 use hv_refine::resolve_partition_id;
 use hv_words::{Words, kind_name};
 
-// P15: the other partition.
+// Adds the value of P15: the other partition.
 pub fn push_other(words: &mut Words, caller: u64, target: u64, call: &Call<'_>) {
     match call {
         Call::GetNextChildPartition { previous, .. } => {
@@ -29,7 +29,7 @@ pub fn push_other(words: &mut Words, caller: u64, target: u64, call: &Call<'_>) 
     }
 }
 
-// P16: whether the partition has the connection.
+// Adds the value of P16: whether the partition has the connection.
 pub fn push_connection(words: &mut Words, target: u64, call: &Call<'_>) {
     match call {
         Call::DisconnectPort { connection, .. }
@@ -50,13 +50,13 @@ pub fn push_connection(words: &mut Words, target: u64, call: &Call<'_>) {
     }
 }
 
-// That a partition has something by this number, or doesn't.
+// Adds that a partition has something with this number, or has none.
 fn push_none(words: &mut Words, id: u64, has: &str, number: u32) {
     words.decimal("partition ", id);
     words.decimal(has, u64::from(number));
 }
 
-// P17: whether the partition has the port, or where a connection leads.
+// Adds the value of P17: whether the partition has the port, or where a connection leads.
 pub fn push_port(words: &mut Words, tree: &Tree, caller: u64, target: u64, call: &Call<'_>) {
     match call {
         Call::DeletePort { port, .. } => push_none(words, target, " has no port ", *port),
@@ -83,7 +83,7 @@ pub fn push_port(words: &mut Words, tree: &Tree, caller: u64, target: u64, call:
     }
 }
 
-// A connection whose port is gone.
+// Adds a connection whose port is gone.
 fn push_lost(words: &mut Words, tree: &Tree, connection: u32, conn: Conn) {
     words.decimal("connection ", u64::from(connection));
     words.decimal(" leads to port ", u64::from(conn.port));
@@ -97,7 +97,7 @@ fn push_lost(words: &mut Words, tree: &Tree, connection: u32, conn: Conn) {
     }
 }
 
-// P18: the mask, the privilege or the peer.
+// Adds the value of P18: the mask, the privilege or the peer.
 pub fn push_right(words: &mut Words, tree: &Tree, caller: u64, target: u64, call: &Call<'_>) {
     match call {
         Call::SetPartitionProperty { value, .. } => push_mask(words, mask_of(tree, caller), *value),
@@ -119,7 +119,7 @@ pub fn push_right(words: &mut Words, tree: &Tree, caller: u64, target: u64, call
     }
 }
 
-// The bits that the caller's mask lacks.
+// Adds the bits that the caller's mask lacks.
 fn push_mask(words: &mut Words, mask: u64, value: u64) {
     words.hex("the caller's mask ", mask);
     words.hex(" lacks the bits ", value & !mask);
@@ -132,7 +132,7 @@ fn push_peer(words: &mut Words, part: u64, port: u32, row: Port, target: u64) {
     words.decimal(", not ", target);
 }
 
-// P19: whether the partition has the processor.
+// Adds the value of P19: whether the partition has the processor.
 pub fn push_vp(words: &mut Words, tree: &Tree, target: u64, call: &Call<'_>) {
     match call {
         Call::CreateVp { vp, .. } => {
@@ -166,7 +166,7 @@ fn push_aim(words: &mut Words, id: u64, aim: Aim) {
     }
 }
 
-// A port whose processor is gone.
+// Adds a port whose processor is gone, and where it aims.
 fn push_aimed(words: &mut Words, conn: Conn, port: Port) {
     words.decimal("port ", u64::from(conn.port));
     words.decimal(" of partition ", conn.part);
@@ -176,7 +176,8 @@ fn push_aimed(words: &mut Words, conn: Conn, port: Port) {
     }
 }
 
-// P22: what the processor at which the port aims has in the registers that turn it on, or that none is ready.
+// Adds the value of P22: the registers that enable delivery at the processor at which the port aims, or that
+// none is ready.
 pub fn push_taker(words: &mut Words, tree: &Tree, caller: u64, call: &Call<'_>) {
     match call {
         Call::PostMessage { connection, .. } | Call::SignalEvent { connection, .. } => {
@@ -196,7 +197,7 @@ pub fn push_taker(words: &mut Words, tree: &Tree, caller: u64, call: &Call<'_>) 
     }
 }
 
-// The registers that turn a processor on for what a port of this kind takes.
+// Adds the registers that enable delivery at a processor for a port of this kind.
 fn push_ready(words: &mut Words, tree: &Tree, part: u64, vp: u32, kind: PortKind) {
     words.decimal("vp ", u64::from(vp));
     words.decimal(" of partition ", part);
@@ -207,7 +208,7 @@ fn push_ready(words: &mut Words, tree: &Tree, part: u64, vp: u32, kind: PortKind
     }
 }
 
-// The value of a processor's register, 0 where there is none.
+// Returns the value of a processor's register, 0 if there is none.
 fn register_at(tree: &Tree, part: u64, vp: u32, name: u32) -> u64 {
     let Some(partition) = tree.get(part) else {
         return 0;
@@ -218,7 +219,7 @@ fn register_at(tree: &Tree, part: u64, vp: u32, name: u32) -> u64 {
     }
 }
 
-// P23: the port.
+// Adds the value of P23: the port.
 pub fn push_kept(words: &mut Words, tree: &Tree, caller: u64, call: &Call<'_>) {
     let Call::PostMessage { connection, .. } = call else {
         return;

@@ -1,4 +1,4 @@
-// The values of P5, P6 and P7, which look at a frame alone.
+// The values of P5, P6 and P7, which check a frame alone.
 
 use hv_abi::{CallKind, Frame, InputValue, Shape};
 use hv_defs::{
@@ -7,7 +7,7 @@ use hv_defs::{
 use hv_words::Words;
 use std::alloc::Global;
 
-// P5: what is wrong with an input value first.
+// Adds the value of P5: the first fault of an input value.
 pub fn push_input_value(words: &mut Words, rcx: u64) {
     let Some(kind) = CallKind::of(InputValue::read(rcx).call) else {
         return;
@@ -35,7 +35,7 @@ fn push_reps(words: &mut Words, is_rep: bool, reps: u16, start: u16) {
     words.text(if is_rep { "" } else { " of a simple call" });
 }
 
-// P6: which list may not stand where it does, and why.
+// Adds the value of P6: which list lies where it may not, and why.
 pub fn push_lists(words: &mut Words, frame: &Frame<Global>) {
     let InputValue { call, reps, .. } = InputValue::read(frame.rcx);
     let Some(kind) = CallKind::of(call) else {
@@ -46,7 +46,7 @@ pub fn push_lists(words: &mut Words, frame: &Frame<Global>) {
     }
 }
 
-// Says what is wrong with a list, if something is, and whether it is.
+// Adds what is wrong with a list, if anything is, and returns whether it is.
 fn push_list(words: &mut Words, name: &str, address: u64, len: u32) -> bool {
     let aligned = address % 8 == 0;
     if len == 0 || aligned && address % PAGE_SIZE + u64::from(len) <= PAGE_SIZE {
@@ -63,7 +63,7 @@ fn push_list(words: &mut Words, name: &str, address: u64, len: u32) -> bool {
     true
 }
 
-// P7: which parameter is malformed.
+// Adds the value of P7: the malformed parameter.
 pub fn push_parameters(words: &mut Words, frame: &Frame<Global>) {
     let Ok(shape) = frame.check() else {
         return;
@@ -80,14 +80,14 @@ pub fn push_parameters(words: &mut Words, frame: &Frame<Global>) {
     };
 }
 
-// The upper 8 bytes of a register's new value.
+// Adds the upper 8 bytes of a register's new value.
 fn push_upper(words: &mut Words, frame: &Frame<Global>, shape: &Shape) -> bool {
     let upper = number_at(frame, shape, 16 + 32 * usize::from(shape.start) + 24, 8);
     words.hex("the value's upper 8 bytes are ", upper);
     true
 }
 
-// An id of more than 24 bits.
+// Adds an id if it has more than 24 bits, and returns whether it has.
 fn push_id(words: &mut Words, name: &str, id: u64) -> bool {
     if id <= u64::from(MAX_PORT_ID) {
         return false;
@@ -141,7 +141,7 @@ fn push_new_port(words: &mut Words, frame: &Frame<Global>, shape: &Shape) -> boo
     )
 }
 
-// The flags of an event port, which are none or go past the last one.
+// Adds the flags of an event port, if it has none or they go past the last one.
 fn push_flags(words: &mut Words, base: u64, count: u64) -> bool {
     if count > 0 {
         words.decimal("BaseFlagNumber ", base);
@@ -160,7 +160,7 @@ fn push_new_connection(words: &mut Words, frame: &Frame<Global>, shape: &Shape) 
         || push_type(words, number_at(frame, shape, 32, 4))
 }
 
-// The number in so many bytes, at most 8, of a call's input from a place on, the lowest first.
+// Returns the little-endian number of `size` bytes, at most 8, of a call's input from a place on.
 fn number_at(frame: &Frame<Global>, shape: &Shape, at: usize, size: usize) -> u64 {
     let mut number: u64 = 0;
     for k in 0..size {

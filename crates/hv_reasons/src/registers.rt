@@ -6,7 +6,7 @@ use hv_policy::Access;
 use hv_vp::{RegFault, kept, name_of_msr, privilege_of};
 use hv_words::{Words, register_name};
 
-// P26: the caller's mask, and the privilege that it lacks.
+// Adds the values of P26: the caller's mask, and the privilege that it lacks.
 pub fn push_msr_privilege(words: &mut Words, tree: &Tree, caller: u64, access: Access) {
     match access {
         Access::ReadMsr(msr) | Access::WriteMsr(msr, _) => match name_of_msr(msr) {
@@ -17,7 +17,8 @@ pub fn push_msr_privilege(words: &mut Words, tree: &Tree, caller: u64, access: A
     }
 }
 
-// P18 of a register: the same of one that a call names.
+// Adds the values of P18 for the register that a call names: the caller's mask, and the privilege that it
+// lacks.
 pub fn push_register_privilege(words: &mut Words, tree: &Tree, caller: u64, name: u32) {
     push_missing(
         words,
@@ -26,7 +27,7 @@ pub fn push_register_privilege(words: &mut Words, tree: &Tree, caller: u64, name
     );
 }
 
-// P27: why the register doesn't take the value.
+// Adds the value of P27: why the register doesn't accept the value.
 pub fn push_msr_value(words: &mut Words, access: Access) {
     match access {
         Access::WriteMsr(msr, value) => match name_of_msr(msr) {
@@ -37,7 +38,7 @@ pub fn push_msr_value(words: &mut Words, access: Access) {
     }
 }
 
-// P21 of a register: the same of one that a call names.
+// Adds the value of P21 for the register that a call names: why it doesn't accept the value.
 pub fn push_register_value(words: &mut Words, name: u32, value: u64) {
     match kept(name, value) {
         Ok(_) => {}
@@ -53,7 +54,7 @@ pub fn push_register_value(words: &mut Words, name: u32, value: u64) {
     }
 }
 
-// P21 of a register that isn't known.
+// Adds the value of P21 for an unknown register.
 pub fn push_unknown(words: &mut Words, name: u32) {
     words.hex("no register ", u64::from(name));
 }

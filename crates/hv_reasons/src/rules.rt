@@ -33,7 +33,7 @@ pub fn push_rule(words: &mut Words, tree: &Tree, by: Caller, rule: Rule, what: &
     }
 }
 
-// Whether there are values: for the others the sentence and the event's fields say all.
+// Returns whether a rule has values. For the others, the sentence and the event's fields say everything.
 fn has_values(rule: Rule) -> bool {
     match rule {
         Rule::CallerExists
@@ -66,7 +66,7 @@ fn has_values(rule: Rule) -> bool {
     }
 }
 
-// The values of an access.
+// Adds the values of an access.
 fn push_access_values(words: &mut Words, tree: &Tree, by: Caller, rule: Rule, access: Access) {
     match rule {
         Rule::CallerActive => push_life(words, tree, by.part),
@@ -77,7 +77,7 @@ fn push_access_values(words: &mut Words, tree: &Tree, by: Caller, rule: Rule, ac
     }
 }
 
-// The values of a hypercall.
+// Adds the values of a hypercall.
 fn push_frame_values(
     words: &mut Words,
     tree: &Tree,
@@ -97,7 +97,7 @@ fn push_frame_values(
     }
 }
 
-// The values of a call whose parameters are well formed.
+// Adds the values of a call whose parameters are well formed.
 fn push_call_values(words: &mut Words, tree: &Tree, caller: u64, rule: Rule, call: &Call<'_>) {
     let target = target_of(caller, call);
     match rule {

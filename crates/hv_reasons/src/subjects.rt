@@ -9,7 +9,7 @@ use hv_ports::Port;
 use hv_refine::resolve_partition_id;
 use hv_words::{Words, kind_name};
 
-// P21 of a call.
+// Adds the value of P21 for a call.
 pub fn push_subject(words: &mut Words, tree: &Tree, caller: u64, call: &Call<'_>) {
     match call {
         Call::DepositMemory { page, .. } => {
@@ -41,7 +41,7 @@ pub fn push_subject(words: &mut Words, tree: &Tree, caller: u64, call: &Call<'_>
     }
 }
 
-// What a port takes.
+// Adds the kind of a port.
 fn push_kind(words: &mut Words, part: u64, port: u32, row: Port) {
     words.decimal("port ", u64::from(port));
     words.decimal(" of partition ", part);
@@ -49,7 +49,7 @@ fn push_kind(words: &mut Words, part: u64, port: u32, row: Port) {
     words.text(kind_name(row.kind));
 }
 
-// That a port takes messages, or how many flags it has.
+// Adds that a port takes messages, or the number of its flags.
 fn push_flag(words: &mut Words, part: u64, port: u32, row: Port, flag: u16) {
     match row.kind {
         PortKind::Message => push_kind(words, part, port, row),
@@ -62,7 +62,7 @@ fn push_flag(words: &mut Words, part: u64, port: u32, row: Port, flag: u16) {
     }
 }
 
-// P21 of an access.
+// Adds the value of P21 for an access.
 pub fn push_access_subject(words: &mut Words, access: Access) {
     match access {
         Access::ReadSlot(sint) | Access::ClearSlot(sint) | Access::ReadFlags(sint) => push_sint(

@@ -1,4 +1,4 @@
-// The values of the rules that look at a call's privilege, its target and the target's pages.
+// The values of the rules that check a call's privilege, its target and the target's pages.
 
 use crate::tree::{Tree, available, mask_of};
 use hv_calls::Call;
@@ -7,7 +7,7 @@ use hv_partition::PageKind;
 use hv_policy::{Property, States, needs};
 use hv_words::{Words, life_name, privilege_name, property_name};
 
-// P2: the life state of a partition.
+// Adds the value of P2: the life state of a partition.
 pub fn push_life(words: &mut Words, tree: &Tree, id: u64) {
     let Some(partition) = tree.get(id) else {
         return;
@@ -17,12 +17,12 @@ pub fn push_life(words: &mut Words, tree: &Tree, id: u64) {
     words.text(life_name(partition.life()));
 }
 
-// P8: the caller's mask, and the privilege that it lacks.
+// Adds the values of P8: the caller's mask, and the privilege that it lacks.
 pub fn push_privilege(words: &mut Words, tree: &Tree, caller: u64, call: &Call<'_>) {
     push_missing(words, mask_of(tree, caller), needs(call).privilege.bits());
 }
 
-// A mask, and the lowest bit of those that it is to have and lacks.
+// Adds a mask, and the lowest of the needed bits that it lacks.
 pub fn push_missing(words: &mut Words, mask: u64, needed: u64) {
     words.hex("mask ", mask);
     for bit in 0..64u32 {
@@ -35,7 +35,7 @@ pub fn push_missing(words: &mut Words, mask: u64, needed: u64) {
     }
 }
 
-// P10: where the target stands.
+// Adds the value of P10: the place of the target in the tree.
 pub fn push_kinship(words: &mut Words, tree: &Tree, caller: u64, target: u64) {
     words.decimal("partition ", target);
     if target == caller {
@@ -48,7 +48,7 @@ pub fn push_kinship(words: &mut Words, tree: &Tree, caller: u64, target: u64) {
     }
 }
 
-// P12: the target's life state, and those that the call allows.
+// Adds the values of P12: the target's life state, and those that the call allows.
 pub fn push_state(words: &mut Words, tree: &Tree, target: u64, call: &Call<'_>) {
     push_life(words, tree, target);
     words.text(", not ");
@@ -65,7 +65,7 @@ fn states_name(states: States) -> &'static str {
     }
 }
 
-// P13: how many children the target has.
+// Adds the value of P13: the number of the target's children.
 pub fn push_children(words: &mut Words, tree: &Tree, target: u64) {
     let Some(count) = tree.children_of(target) else {
         return;
@@ -75,7 +75,7 @@ pub fn push_children(words: &mut Words, tree: &Tree, target: u64) {
     words.text(if count == 1 { " child" } else { " children" });
 }
 
-// P14: the depth of the caller.
+// Adds the value of P14: the depth of the caller.
 pub fn push_depth(words: &mut Words, tree: &Tree, caller: u64) {
     let Some(depth) = tree.depth_of(caller) else {
         return;
@@ -85,7 +85,7 @@ pub fn push_depth(words: &mut Words, tree: &Tree, caller: u64) {
     words.decimal(", and the most is ", MAX_DEPTH);
 }
 
-// P20: the range of the property.
+// Adds the value of P20: the range of the property.
 pub fn push_range(words: &mut Words, call: &Call<'_>) {
     let Call::SetPartitionProperty { code, .. } = call else {
         return;
@@ -101,7 +101,7 @@ pub fn push_range(words: &mut Words, call: &Call<'_>) {
     });
 }
 
-// P24: the pages that the call needs, and those of the partition that pays.
+// Adds the values of P24: the pages that the call needs, and those of the partition that pays.
 pub fn push_pages(words: &mut Words, tree: &Tree, target: u64, call: &Call<'_>) {
     let (Some(partition), Some(children)) = (tree.get(target), tree.children_of(target)) else {
         return;
@@ -116,7 +116,7 @@ pub fn push_pages(words: &mut Words, tree: &Tree, target: u64, call: &Call<'_>) 
     words.text(" pooled");
 }
 
-// How many available pages a call needs.
+// Returns the number of available pages that a call needs.
 fn charge_of(call: &Call<'_>) -> u64 {
     match call {
         Call::CreatePartition { .. } => PARTITION_CHARGE,

@@ -1,4 +1,4 @@
-// What the values of several rules are read from.
+// Reading the partitions, for the values of several rules.
 
 use hv_calls::Call;
 use hv_partition::Partition;
@@ -9,7 +9,7 @@ use std::alloc::Global;
 // The partitions of a machine.
 pub type Tree = Partitions<Global>;
 
-// The partition that a call of this caller is about.
+// Returns the target of a call of this caller.
 pub fn target_of(caller: u64, call: &Call<'_>) -> u64 {
     match call {
         Call::CreatePartition { .. }
@@ -36,7 +36,7 @@ pub fn target_of(caller: u64, call: &Call<'_>) -> u64 {
     }
 }
 
-// The mask of a partition, 0 where there is none.
+// Returns the mask of a partition, 0 if there is none.
 pub fn mask_of(tree: &Tree, id: u64) -> u64 {
     match tree.get(id) {
         None => 0,
@@ -44,7 +44,7 @@ pub fn mask_of(tree: &Tree, id: u64) -> u64 {
     }
 }
 
-// A partition's connection with this id.
+// Returns a partition's connection with this id.
 pub fn conn_at(tree: &Tree, id: u64, connection: u32) -> Option<Conn> {
     match tree.get(id) {
         None => None,
@@ -52,7 +52,7 @@ pub fn conn_at(tree: &Tree, id: u64, connection: u32) -> Option<Conn> {
     }
 }
 
-// A partition's port with this id.
+// Returns a partition's port with this id.
 pub fn port_at(tree: &Tree, id: u64, port: u32) -> Option<Port> {
     match tree.get(id) {
         None => None,
@@ -60,14 +60,14 @@ pub fn port_at(tree: &Tree, id: u64, port: u32) -> Option<Port> {
     }
 }
 
-// A partition's connection, and the port with the id that it keeps.
+// Returns a partition's connection, and the port with the id that it keeps.
 pub fn way_of(tree: &Tree, id: u64, connection: u32) -> Option<(Conn, Port)> {
     let conn = conn_at(tree, id, connection)?;
     let port = port_at(tree, conn.part, conn.port)?;
     Some((conn, port))
 }
 
-// How many of a partition's pooled pages are available.
+// Returns the number of a partition's pooled pages that are available.
 pub fn available(partition: &Partition<Global>, children: u32, pooled: u64) -> u64 {
     pooled.saturating_sub(partition.in_use(children))
 }

@@ -27,7 +27,7 @@ use Rattle.hv_serve.proofs.Lines.{IsOne, split_joined}
 use Rattle.hv_serve.proofs.Order.{order-append, run_in_order}
 use Rattle.hv_serve.proofs.Texts.{audited, drop_front, entries-append}
 use Rattle.hv_serve.specs.Law.{IsServed, done_in, is_done, script_in, told_in}
-use Rattle.hv_serve.specs.Meant.{Asks, Meant, Reads, asks_table, resolve_partition_id, table_line}
+use Rattle.hv_serve.specs.Meant.{Asks, Meant, Reads, asks_table, meant, table_line}
 use Rattle.hv_serve.specs.Session.{AreTurns, Becomes, HasCome, HasDone, IsBooted, IsTurn, Served, Turn, answer_of, answers_in, end_text, history_of, kept_of, lines_in, new_text, read_of}
 use Rattle.hv_serve.specs.declared.outcome.Outcome.{Outcome}
 use Rattle.hv_serve.specs.declared.outcome.Outcome.TheVariants.{Done, Table, Fault, Boot, Host}
@@ -52,8 +52,8 @@ no_reading (Some so_far) after words = at (length words == 1)
     at true = λ same. cc
     at false = λ same. cc
 
-pub reads_line : (before after : Option (SoFar Global)) (line : List ℕ) → resolve_partition_id before line ≡ Ok (Reads after) → read_line before line ≡ Ok after
-unfolding resolve_partition_id
+pub reads_line : (before after : Option (SoFar Global)) (line : List ℕ) → meant before line ≡ Ok (Reads after) → read_line before line ≡ Ok after
+unfolding meant
 reads_line before after line same =
     by_tests (nat_lt MOST_BYTES (length line)) (asks_table line) (table_line before (words_of line)) (read_line before line) after (λ _. no_reading before after (words_of line)) same
 
@@ -188,7 +188,7 @@ answer_is number before mid turn own answer done grown =
 comes-then : (number : ℕ) (before mid after : Option Served) (turn : Turn) (rest : List Turn) → IsTurn number before turn mid → turn.outcome ≡ Done → Comes mid rest after
     → Comes before (turn ∷ rest) after
 comes-then number before mid after turn rest is done more =
-    let becomes : Becomes before (resolve_partition_id (read_of before) turn.line) Done mid = subst (λ (o : Outcome). Becomes before (resolve_partition_id (read_of before) turn.line) o mid) done
+    let becomes : Becomes before (meant (read_of before) turn.line) Done mid = subst (λ (o : Outcome). Becomes before (meant (read_of before) turn.line) o mid) done
     is.becomes in
     let grown = grown_by before mid becomes.1 in
     let first : turn.answer ≡ entries_text (length (history_of (kept_of before)) + 1) grown.0 = answer_is number before mid turn grown.0 is.answer done grown.1 in
@@ -218,12 +218,12 @@ comes number before (turn ∷ turns) after run some all =
     choose : (t : Bool) → is_done turn.outcome ≡ t → (IsRunOf some.0 → Comes some.0 (done_in turns) after) → Comes before (done_in (turn ∷ turns)) after
     choose true same later =
         let done = is_that turn.outcome same in
-        let becomes : Becomes before (resolve_partition_id (read_of before) turn.line) Done some.0 = subst (λ (o : Outcome). Becomes before (resolve_partition_id (read_of before) turn.line) o some.0)
+        let becomes : Becomes before (meant (read_of before) turn.line) Done some.0 = subst (λ (o : Outcome). Becomes before (meant (read_of before) turn.line) o some.0)
         done some.1.becomes in
         subst (λ (d : List Turn). Comes before d after) (sym (shape true turn (done_in turns) same))
         (comes-then number before some.0 after turn (done_in turns) some.1 done (later (run_of_come before some.0 becomes.1)))
     choose false same later =
-        let still : some.0 ≡ before = unchanged before some.0 (resolve_partition_id (read_of before) turn.line) turn.outcome some.1.becomes (All-head WasServed turn turns all) same in
+        let still : some.0 ≡ before = unchanged before some.0 (meant (read_of before) turn.line) turn.outcome some.1.becomes (All-head WasServed turn turns all) same in
         subst (λ (d : List Turn). Comes before d after) (sym (shape false turn (done_in turns) same))
         (subst (λ (b : Option Served). Comes b (done_in turns) after) still (later (subst IsRunOf (sym still) run)))
 

@@ -16,7 +16,7 @@ use Rattle.hv_script.specs.declared.fault.FaultKind.TheVariants.{Byte, Long}
 use Rattle.hv_script.specs.declared.script.TheConstants.{MOST_BYTES}
 use Rattle.hv_serve.proofs.Lines.{IsOne}
 use Rattle.hv_serve.specs.Bench.{reads, words_say}
-use Rattle.hv_serve.specs.Meant.{Meant, Reads, asks_table, resolve_partition_id, table_line}
+use Rattle.hv_serve.specs.Meant.{Meant, Reads, asks_table, meant, table_line}
 
 chained : (r : Result (SoFar Global) FaultKind) → (r >>= (λ so_far. Ok (Some so_far))) >>= (λ after. Ok (Reads after)) ≡ reads r
 chained (Ok so_far) = refl
@@ -50,15 +50,15 @@ too_long : (n : ℕ) → MOST_BYTES < n → nat_lt MOST_BYTES n ≡ true
 too_long n more = grind (arith, nat_tests)
 
 -- a line is cut, and its words say what it says
-pub cut_says : (before : Option (SoFar Global)) (line : List ℕ) → length line ≤ MOST_BYTES → resolve_partition_id before line ≡ words_read line >>= (λ words. words_say before words)
-unfolding resolve_partition_id read_line
+pub cut_says : (before : Option (SoFar Global)) (line : List ℕ) → length line ≤ MOST_BYTES → meant before line ≡ words_read line >>= (λ words. words_say before words)
+unfolding meant read_line
 cut_says before line most =
     ap (λ (t : Bool). cond t (Err Long) (cond (asks_table line) (table_line before (words_of line)) (read_line before line >>= (λ after. Ok (Reads after))))) (not_long (length line) most)
     ∙ by_words before (words_of line) (is_skipped (words_of line)) (has_good_bytes line) (begins_with (words_of line) (codes "table")) refl refl
 
 -- one that is longer than any script isn't
-pub long_says : (before : Option (SoFar Global)) (line : List ℕ) → MOST_BYTES < length line → resolve_partition_id before line ≡ Err Long
-unfolding resolve_partition_id
+pub long_says : (before : Option (SoFar Global)) (line : List ℕ) → MOST_BYTES < length line → meant before line ≡ Err Long
+unfolding meant
 long_says before line more =
     ap (λ (t : Bool). cond t (Err Long) (cond (asks_table line) (table_line before (words_of line)) (read_line before line >>= (λ after. Ok (Reads after))))) (too_long (length line) more)
 

@@ -14,7 +14,7 @@ use Rattle.hv_serve.proofs.Lines.{IsOne}
 use Rattle.hv_serve.proofs.Says.{by_first, cut_says, line_shorter, line_whole, long_says}
 use Rattle.hv_serve.specs.Bench.{HasBecome, HasTaken, IsBench, IsToldAs, StandsFor, kept_in, reads, words_say}
 use Rattle.hv_serve.specs.Input.{AreKept, HasLine}
-use Rattle.hv_serve.specs.Meant.{Meant, resolve_partition_id}
+use Rattle.hv_serve.specs.Meant.{Meant, meant}
 use Rattle.hv_serve.specs.Session.{Served, answer_of, history_of, kept_of, read_of}
 use Rattle.hv_serve.specs.Turned.{HasTurned}
 use Rattle.hv_serve.specs.declared.bench.Bench.{Bench}
@@ -23,14 +23,14 @@ use Rattle.hv_serve.specs.declared.outcome.Outcome.{Outcome}
 
 -- a line that is cut says what its words say
 pub cut_faulty : (bench : Option Bench) (before : Option Served) (text : List ℕ) (kind : FaultKind) → StandsFor bench before → length text ≤ MOST_BYTES
-    → (kind ≢ Memory → words_read (line_of text) ≡ Err kind) → HasTaken before (resolve_partition_id (read_of before) (line_of text)) bench (Err kind)
+    → (kind ≢ Memory → words_read (line_of text) ≡ Err kind) → HasTaken before (meant (read_of before) (line_of text)) bench (Err kind)
 cut_faulty bench before text kind stands most is =
     (stands, λ apart. cut_says (read_of before) (line_of text) (omega (arith, line_shorter text)) ∙ ap (λ r. r >>= (λ words. words_say (read_of before) words)) (is apart))
 
 pub cut_taken : (bench : Option Bench) (before : Option Served) (text : List ℕ) (words : List (List ℕ)) (result : Result Outcome FaultKind) → length text ≤ MOST_BYTES
-    → words_read (line_of text) ≡ Ok words → HasTaken before (words_say (read_of before) words) bench result → HasTaken before (resolve_partition_id (read_of before) (line_of text)) bench result
+    → words_read (line_of text) ≡ Ok words → HasTaken before (words_say (read_of before) words) bench result → HasTaken before (meant (read_of before) (line_of text)) bench result
 cut_taken bench before text words result most is taken =
-    let says : resolve_partition_id (read_of before) (line_of text) ≡ words_say (read_of before) words =
+    let says : meant (read_of before) (line_of text) ≡ words_say (read_of before) words =
     cut_says (read_of before) (line_of text) (omega (arith, line_shorter text)) ∙ ap (λ r. r >>= (λ words. words_say (read_of before) words)) is in
     subst (λ (s : Result Meant FaultKind). HasTaken before s bench result) (sym says) taken
 
@@ -52,24 +52,24 @@ took_later bench old new (Some served) words result stands is some other taken =
 
 -- a line that was kept, and one that was lost
 pub kept_line : (old new : Option Bench) (before : Option Served) (bytes line : List ℕ) (result : Result Outcome FaultKind) → StandsFor old before → IsOne bytes → AreKept bytes line None
-    → ((before : Option Served) → StandsFor old before → length line ≤ MOST_BYTES → HasTaken before (resolve_partition_id (read_of before) (line_of line)) new result)
-    → HasTaken before (resolve_partition_id (read_of before) bytes) new result
+    → ((before : Option Served) → StandsFor old before → length line ≤ MOST_BYTES → HasTaken before (meant (read_of before) (line_of line)) new result)
+    → HasTaken before (meant (read_of before) bytes) new result
 kept_line old new before bytes line result stands one kept taken =
     let most : length line ≤ MOST_BYTES = subst (λ (l : List ℕ). length l ≤ MOST_BYTES) (sym kept.0) kept.1 in
     let same : line_of line ≡ bytes = ap line_of kept.0 ∙ line_whole bytes one in
-    subst (λ (l : List ℕ). HasTaken before (resolve_partition_id (read_of before) l) new result) same (taken before stands most)
+    subst (λ (l : List ℕ). HasTaken before (meant (read_of before) l) new result) same (taken before stands most)
 
 pub lost_line : (bench : Option Bench) (before : Option Served) (bytes kept : List ℕ) (kind : FaultKind) → StandsFor bench before → AreKept bytes kept (Some kind)
-    → HasTaken before (resolve_partition_id (read_of before) bytes) bench (Err kind)
+    → HasTaken before (meant (read_of before) bytes) bench (Err kind)
 lost_line bench before bytes kept kind stands lost =
     (stands, λ apart. long_says (read_of before) bytes (lost apart).1 ∙ ap Err (sym (lost apart).0))
 
 -- the line of a number, read, done and answered
 pub turned : (number count : ℕ) (before : Option Served) (old new : Option Bench) (line : List ℕ) (end : LineEnd) (input rest from to : Option (List ℕ)) (outcome told : Outcome)
-    → StandsFor old before → (came : HasLine line end input rest) → HasBecome before (resolve_partition_id (read_of before) came.bytes) outcome new → count ≡ length (history_of (kept_in old))
+    → StandsFor old before → (came : HasLine line end input rest) → HasBecome before (meant (read_of before) came.bytes) outcome new → count ≡ length (history_of (kept_in old))
     → IsToldAs outcome told → Appends from to (answer_of number count told (kept_in new)) → HasTurned number before end.last new input rest from to
 turned number count before old new line end input rest from to outcome told stands came has counted told_as went =
-    let become = told_becomes before (resolve_partition_id (read_of before) came.bytes) new outcome told has told_as in
+    let become = told_becomes before (meant (read_of before) came.bytes) new outcome told has told_as in
     let counts : count ≡ length (history_of (kept_of before)) = counted ∙ ap (λ k. length (history_of k)) (same_kept old before stands) in
     let answer : answer_of number count told (kept_in new) ≡ answer_of number (length (history_of (kept_of before))) told (kept_of become.after) =
     ap (λ (n : ℕ). answer_of number n told (kept_in new)) counts ∙ ap (answer_of number (length (history_of (kept_of before))) told) (same_kept new become.after become.stands) in

@@ -1,4 +1,4 @@
--- What a processor's line does to the machine. Only contracts of private functions cite these words.
+-- The effect of a processor's line on the machine. Only contracts of private functions cite these words.
 use Rattle.std.specs.Prelude.{◌≡◌, ◌+◌, ◌↔◌, ◌++◌, List, length, All, Result, Ok, Err}
 use Rattle.std.specs.declared.alloc.Global.{Global}
 use Rattle.hv_history.specs.Kept.{IsRun, Kept}
@@ -10,7 +10,7 @@ use Rattle.hv_policy.specs.declared.event.Caller.{Caller}
 use Rattle.hv_shared.specs.ByCaller.{receipts_by}
 use Rattle.hv_threads.specs.Perform.{IsStopped, IsWhole}
 
--- the history has the entries more of what this processor asked for, to its end
+-- the history gains the entries of what this processor asked for, to its end
 pub record HasActed (by : Caller) (what : Action Global) (old new : Kept Global) : Type 0 where
   pub own : List (Entry Global)
   pub history : new.history ≡ old.history ++ own
@@ -20,7 +20,7 @@ pub record HasActed (by : Caller) (what : Action Global) (old new : Kept Global)
   pub limit : new.limit ≡ old.limit
   pub run : IsRun new
 
--- the history has the entries more of a part of it, or none, since the host stopped it
+-- the host stopped the action: the history gains the entries of a part of it, or none
 pub record WasStopped (by : Caller) (what : Action Global) (why : HostRefused) (old new : Kept Global) : Type
     0 where
   pub own : List (Entry Global)
@@ -32,7 +32,7 @@ pub record WasStopped (by : Caller) (what : Action Global) (why : HostRefused) (
   pub limit : new.limit ≡ old.limit
   pub run : IsRun new
 
--- one of both
+-- the action was done to its end, or the host stopped it
 abbrev pub HasTried : {T : Type 0} → Caller → Action Global → Kept Global → Kept Global → Result T HostRefused
     → Type 0
 HasTried by what old new (Ok done) = HasActed by what old new

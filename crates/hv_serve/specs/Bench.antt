@@ -24,7 +24,8 @@ abbrev pub kept_in : Option Bench → Option (Kept Global)
 kept_in None = None
 kept_in (Some bench) = Some bench.kept
 
--- the machine is what was served, a run, and the processors are those of the phase
+-- the machine and its history are those of `served`, the history is a run, and the processors are those of
+-- the phase
 pub record IsBench (bench : Bench) (served : Served) : Type 0 where
   pub kept : bench.kept ≡ served.kept
   pub callers : bench.callers.items ≡ callers_of served.read.phase served.read.lines
@@ -37,31 +38,31 @@ StandsFor None (Some served) = ⊥
 StandsFor (Some bench) None = ⊥
 StandsFor (Some bench) (Some served) = IsBench bench served
 
--- what a line that is read by itself says
+-- the meaning of a line of a script, from the result of reading it
 abbrev pub reads : Result (SoFar Global) FaultKind → Result Meant FaultKind
 reads read = read >>= (λ so_far. Ok (Reads (Some so_far)))
 
--- what the words of a line say, by what was read before it
+-- the meaning of a line's words, after what was read before
 abbrev pub words_say : Option (SoFar Global) → List (List ℕ) → Result Meant FaultKind
 words_say before words =
     if length words == 0 then Ok (Reads before)
     else (if begins_with words (codes "table") then table_line before words else reads
     (read_words before words))
 
--- after a line that says this, the bench stands for what was served
+-- after a line with this meaning and this outcome, the bench stands for the new state of the session
 pub record HasBecome (before : Option Served) (says : Result Meant FaultKind) (outcome : Outcome)
     (bench : Option Bench) : Type 0 where
   pub after : Option Served
   pub stands : StandsFor bench after
   pub becomes : Becomes before says outcome after
 
--- the same, or the line has a fault, and nothing is different
+-- as `HasBecome`, or the line has a fault, and nothing changed
 abbrev pub HasTaken : Option Served → Result Meant FaultKind → Option Bench → Result Outcome FaultKind → Type
     0
 HasTaken before says bench (Ok outcome) = HasBecome before says outcome bench
 HasTaken before says bench (Err kind) = StandsFor bench before × (kind ≢ Memory → says ≡ Err kind)
 
--- what became of a line of a processor, which was done or stopped
+-- the outcome of a processor's line, which was done or stopped
 abbrev pub IsOutcomeOf : Caller → Action Global → Kept Global → Kept Global → Outcome → Type 0
 IsOutcomeOf by what old new Done = HasActed by what old new
 IsOutcomeOf by what old new Table = ⊥
@@ -69,6 +70,6 @@ IsOutcomeOf by what old new (Fault kind) = ⊥
 IsOutcomeOf by what old new (Boot why) = ⊥
 IsOutcomeOf by what old new (Host why) = WasStopped by what why old new
 
--- what became of a line is told, but for a table for which there is no memory
+-- the outcome that is reported: the line's own, or out of memory for a table
 abbrev pub IsToldAs : Outcome → Outcome → Type 0
 IsToldAs outcome told = (told ≡ outcome) ⊎ ((outcome ≡ Table) × (told ≡ Host host.Memory))

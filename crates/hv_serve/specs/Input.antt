@@ -1,4 +1,4 @@
--- How a line comes in. Only contracts of private functions cite these words.
+-- Reading a line. Only contracts of private functions cite these words.
 use Rattle.std.specs.Prelude.{ℕ, ◌≡◌, ◌≢◌, ◌≤◌, ◌<◌, ◌++◌, List, [], ◌∷◌, length, All, Bool, true, false}
 use Rattle.std.specs.Prelude.{Option, None, Some}
 use Rattle.std.specs.Io.KnownBytes.{Consumes, IsAtEnd}
@@ -7,22 +7,22 @@ use Rattle.hv_script.specs.declared.fault.FaultKind.TheVariants.{Long, Memory}
 use Rattle.hv_script.specs.declared.script.TheConstants.{MOST_BYTES}
 use Rattle.hv_serve.specs.declared.input.LineEnd.{LineEnd}
 
--- the next byte came, or the input's end
+-- the next byte was read, or the input ended
 abbrev pub IsNext : Option ℕ → Option (List ℕ) → Option (List ℕ) → Type 0
 IsNext None old new = Consumes old new [] × IsAtEnd new
 IsNext (Some byte) old new = Consumes old new (byte ∷ [])
 
--- these bytes of a line were kept, unless they are more than a script has, or there was no memory for them
+-- these bytes of a line were kept, unless they are more than a script may have, or memory ran out
 abbrev pub AreKept : List ℕ → List ℕ → Option FaultKind → Type 0
 AreKept bytes kept None = (kept ≡ bytes) × (length bytes ≤ MOST_BYTES)
 AreKept bytes kept (Some kind) = kind ≢ Memory → (kind ≡ Long) × (MOST_BYTES < length bytes)
 
--- these bytes came, and then the input's end, or a line feed
+-- these bytes were read, and then the input's end, or a line feed
 abbrev pub HasEnded : Bool → List ℕ → Option (List ℕ) → Option (List ℕ) → Type 0
 HasEnded true bytes old new = Consumes old new bytes × IsAtEnd new
 HasEnded false bytes old new = Consumes old new (bytes ++ 10 ∷ [])
 
--- a line came, and was kept
+-- a line was read, and its bytes were kept or lost
 pub record HasLine (kept : List ℕ) (end : LineEnd) (old new : Option (List ℕ)) : Type 0 where
   pub bytes : List ℕ
   pub one : All (λ byte. byte ≢ 10) bytes

@@ -1,4 +1,4 @@
--- A session beside a script.
+-- A session compared with a script.
 use Rattle.std.specs.Prelude.{ℕ, List, filter, Bool, true, false}
 use Rattle.std.specs.List.{join_with_byte}
 use Rattle.hv_serve.specs.Session.{Turn, answers_in, lines_in}
@@ -12,7 +12,7 @@ is_done (Fault kind) = false
 is_done (Boot why) = false
 is_done (Host why) = false
 
--- the host refused it nothing
+-- the host refused nothing of the line
 abbrev pub IsServed : Outcome → Type 0
 IsServed Done = Unit {0}
 IsServed Table = Unit {0}
@@ -24,7 +24,7 @@ IsServed (Host why) = ⊥
 abbrev pub done_in : List Turn → List Turn
 done_in turns = filter (λ turn. is_done turn.outcome) turns
 
--- these lines as a script, and what they were answered
+-- the lines that were done, as a script, and the answers to them
 abbrev pub script_in : List Turn → List ℕ
 script_in turns = join_with_byte 10 (lines_in (done_in turns))
 

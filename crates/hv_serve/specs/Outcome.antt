@@ -1,4 +1,4 @@
--- What is told of a line that wasn't done.
+-- The text for a line that wasn't done.
 use Rattle.std.specs.Prelude.{ℕ, ◌++◌, List, [], codes, decimal}
 use Rattle.hv_history.specs.declared.kept.HostRefused.TheVariants as host
 use Rattle.hv_policy.specs.declared.config.BootRefused.{BootRefused}
@@ -34,17 +34,17 @@ why_text (Boot refused.Memory) = codes "memory"
 why_text (Host host.HistoryFull) = codes "history full"
 why_text (Host host.Memory) = codes "memory"
 
--- the line that tells why the line of a number wasn't done
+-- the answer that says why the line with this number wasn't done
 unfoldable pub fault_text : ℕ → Outcome → List ℕ
 fault_text number outcome = codes "fault: line " ++ decimal number ++ codes ": " ++ why_text outcome ++ codes
     "\n"
 
--- a fault as what becomes of its line: out of memory is the host's
+-- the outcome of a line with this fault: out of memory is the host's refusal
 abbrev pub outcome_by : FaultKind → Outcome
 outcome_by kind.Memory = Host host.Memory
 outcome_by kind = Fault kind
 
--- the same of a boot that is refused
+-- the outcome of a boot that is refused: out of memory is the host's refusal
 abbrev pub outcome_of_boot : BootRefused → Outcome
 outcome_of_boot refused.Memory = Host host.Memory
 outcome_of_boot why = Boot why

@@ -1,4 +1,4 @@
--- A session: its lines, what becomes of each, and what each is answered.
+-- A session: its lines, the outcome of each, and the answer to each.
 use Rattle.std.specs.Prelude.{ℕ, ◌≡◌, ◌≢◌, ◌⊎◌, ◌↔◌, ◌+◌, ◌++◌, List, [], ◌∷◌, length, drop, map, codes}
 use Rattle.std.specs.Prelude.{decimal, All, IfSome, Option, Some, None, Result, Ok, Err}
 use Rattle.std.specs.Io.KnownBytes.{Appends}
@@ -20,17 +20,17 @@ use Rattle.hv_shared.specs.ByCaller.{receipts_by}
 use Rattle.hv_text.specs.Audit.{entries_text}
 use Rattle.hv_text.specs.Table.{table_text}
 use Rattle.hv_threads.specs.Perform.{IsStopped}
-use Rattle.hv_serve.specs.Meant.{Asks, Meant, Reads, resolve_partition_id}
+use Rattle.hv_serve.specs.Meant.{Asks, Meant, Reads, meant}
 use Rattle.hv_serve.specs.Outcome.{fault_text}
 use Rattle.hv_serve.specs.declared.outcome.Outcome.{Outcome}
 use Rattle.hv_serve.specs.declared.outcome.Outcome.TheVariants.{Done, Table, Fault, Boot, Host}
 
--- what the lines said that were served, and the machine with what happened to it
+-- the state of a session: what its lines said, and the machine with its history
 pub record Served : Type 0 where
   pub read : SoFar Global
   pub kept : Kept Global
 
--- the same, before or after the boot line
+-- what was read, and the machine; before the boot line there is neither
 abbrev pub read_of : Option Served → Option (SoFar Global)
 read_of None = None
 read_of (Some served) = Some served.read
@@ -39,12 +39,12 @@ abbrev pub kept_of : Option Served → Option (Kept Global)
 kept_of None = None
 kept_of (Some served) = Some served.kept
 
--- what happened to the machine, if there is one
+-- the machine's history, if there is a machine
 abbrev pub history_of : Option (Kept Global) → List (Entry Global)
 history_of None = []
 history_of (Some kept) = kept.history
 
--- the boot line booted a machine, to which nothing happened yet
+-- the boot line booted a machine, which has taken no event
 pub record IsBooted (now : Served) : Type 0 where
   pub config : now.kept.config ≡ now.read.boot.config
   pub limit : now.kept.limit ≡ now.read.boot.limit
@@ -52,8 +52,9 @@ pub record IsBooted (now : Served) : Type 0 where
   pub history : now.kept.history ≡ []
   pub run : IsRun now.kept
 
--- these lines of processors were read, of which a line has one or none, and the history has the entries more
--- of what they ask for, to its end, in their order; the machine is still that of the boot line
+-- the session read these lines of processors, and the history gains the entries of what they ask for, to its
+-- end, in their order. The machine is still that of the boot line. A line of a session adds one of these
+-- lines, or none
 pub record HasDone (old new : Served) : Type 0 where
   pub lines : List (Line Global)
   pub own : List (Entry Global)
@@ -65,15 +66,15 @@ pub record HasDone (old new : Served) : Type 0 where
   pub limit : new.kept.limit ≡ old.kept.limit
   pub run : IsRun new.kept
 
--- what comes of a line that is done
+-- the change of state by a line that is done
 abbrev pub HasCome : Option Served → Option Served → Type 0
 HasCome None None = Unit {0}
 HasCome None (Some new) = IsBooted new
 HasCome (Some old) None = ⊥
 HasCome (Some old) (Some new) = HasDone old new
 
--- a line of a processor was read, and the host stopped it: the history has the entries more of a part of what
--- it asks for, or none. It is full where that is why
+-- a line of a processor was read, and the host stopped it: the history gains the entries of a part of what it
+-- asks for, or none. The history is full exactly if that is the reason
 pub record HasStopped (why : HostRefused) (old new : Served) : Type 0 where
   pub line : Line Global
   pub own : List (Entry Global)
@@ -87,13 +88,13 @@ pub record HasStopped (why : HostRefused) (old new : Served) : Type 0 where
   pub limit : new.kept.limit ≡ old.kept.limit
   pub run : IsRun new.kept
 
--- the same of a line that says this
+-- the host stopped the line with this meaning, which was one of a processor
 abbrev pub IsStoppedLine : Option Served → Result Meant FaultKind → HostRefused → Option Served → Type 0
 IsStoppedLine None says why after = ⊥
 IsStoppedLine (Some old) says why None = ⊥
 IsStoppedLine (Some old) says why (Some new) = (says ≡ Ok (Reads (Some new.read))) × HasStopped why old new
 
--- no machine boots with what the line says
+-- no machine boots with the configuration of the line
 pub record IsRefusedBoot (before : Option Served) (says : Result Meant FaultKind) (why : BootRefused) : Type 0
   where
     pub read : SoFar Global
@@ -101,9 +102,9 @@ pub record IsRefusedBoot (before : Option Served) (says : Result Meant FaultKind
     pub boots : says ≡ Ok (Reads (Some read))
     pub refused : IsBootRefusal read.boot.config why
 
--- what becomes of a line that says this: it is done; the table is asked for; it has a fault, or its boot is
--- refused; or the host refuses it. Only a line that is done, and one of a processor that the host stops,
--- changes anything. Out of memory may refuse any line
+-- the outcome of a line with this meaning: it is done; it asks for the table; it has a fault, or its boot is
+-- refused; or the host refuses it. Only a line that is done, or a processor's line that the host stops,
+-- changes anything. Running out of memory may refuse any line
 abbrev pub Becomes : Option Served → Result Meant FaultKind → Outcome → Option Served → Type 0
 Becomes before says Done after = (says ≡ Ok (Reads (read_of after))) × HasCome before after
 Becomes before says Table after = (says ≡ Ok Asks) × (after ≡ before)
@@ -112,12 +113,12 @@ Becomes before says (Boot why) after = IsRefusedBoot before says why × (after �
 Becomes before says (Host why) after = ((why ≡ host.Memory) × (after ≡ before)) ⊎ IsStoppedLine before says
     why after
 
--- the table of the state in which the run of what happened ends
+-- the table of the state at the end of the history's run
 abbrev pub table_of : Option (Kept Global) → List ℕ
 table_of None = []
 table_of (Some kept) = table_text (run kept.config (events_of kept.history)).0
 
--- what the line of a number is answered behind the audit's lines
+-- what follows the audit's lines in the answer to the line with this number
 abbrev pub told_of : ℕ → Outcome → Option (Kept Global) → List ℕ
 told_of number Done now = []
 told_of number Table now = table_of now
@@ -125,35 +126,35 @@ told_of number (Fault kind) now = fault_text number (Fault kind)
 told_of number (Boot why) now = fault_text number (Boot why)
 told_of number (Host why) now = fault_text number (Host why)
 
--- the audit's lines of the entries behind so many
+-- the audit's lines of the entries after the first `before`
 abbrev pub new_text : ℕ → Option (Kept Global) → List ℕ
 new_text before now = entries_text (before + 1) (drop before (history_of now))
 
--- what the line of a number is answered, before which so many events had happened: the audit's lines of the
--- entries that it adds, then the table that it asks for, or why it wasn't done
+-- the answer to the line with this number, before which this number of events had happened: the audit's lines
+-- of the entries that it adds, then the table that it asks for, or why it wasn't done
 abbrev pub answer_of : ℕ → ℕ → Outcome → Option (Kept Global) → List ℕ
 answer_of number before outcome now = new_text before now ++ told_of number outcome now
 
--- a line without its line feed, what became of it, and what it was answered
+-- a line without its line feed, its outcome, and the answer to it
 pub record Turn : Type 0 where
   pub line : List ℕ
   pub outcome : Outcome
   pub answer : List ℕ
 
--- the line of a number
+-- the line with this number, with its outcome and its answer
 pub record IsTurn (number : ℕ) (before : Option Served) (turn : Turn) (after : Option Served) : Type 0 where
   pub one : All (λ byte. byte ≢ 10) turn.line
-  pub becomes : Becomes before (resolve_partition_id (read_of before) turn.line) turn.outcome after
+  pub becomes : Becomes before (meant (read_of before) turn.line) turn.outcome after
   pub answer : turn.answer ≡ answer_of number (length (history_of (kept_of before))) turn.outcome
       (kept_of after)
 
--- the lines one after the other, of which the first has this number
+-- the lines one after another. The first one has this number
 abbrev pub AreTurns : ℕ → Option Served → List Turn → Option Served → Type 0
 AreTurns number before [] after = after ≡ before
 AreTurns number before (turn ∷ turns) after = (mid : Option Served) × IsTurn number before turn mid × AreTurns
     (number + 1) mid turns after
 
--- the lines, and their answers in a row
+-- the lines, and their answers one after another
 abbrev pub lines_in : List Turn → List (List ℕ)
 lines_in turns = map (λ turn. turn.line) turns
 
@@ -161,12 +162,12 @@ abbrev pub answers_in : List Turn → List ℕ
 answers_in [] = []
 answers_in (turn ∷ turns) = turn.answer ++ answers_in turns
 
--- how many events happened, as an audit ends
+-- the number of events, as an audit ends
 unfoldable pub end_text : ℕ → List ℕ
 end_text count = codes "events " ++ decimal count ++ codes "\n"
 
--- the input was these lines, with a line feed between each two, and the writer got their answers, and then
--- how many events happened
+-- the input consists of these lines, with a line feed between each two. The writer gets their answers, and
+-- then the number of events
 pub record HasServed (input old new : Option (List ℕ)) : Type 0 where
   pub turns : List Turn
   pub now : Option Served

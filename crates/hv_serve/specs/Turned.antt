@@ -1,4 +1,4 @@
--- A session as it goes. Only contracts of private functions cite these words.
+-- A session in progress. Only contracts of private functions cite these words.
 use Rattle.std.specs.Prelude.{ℕ, ◌≡◌, ◌+◌, ◌++◌, List, [], ◌∷◌, length, Bool, Option, None}
 use Rattle.std.specs.Io.KnownBytes.{Appends, Consumes}
 use Rattle.hv_serve.specs.Bench.{StandsFor}
@@ -6,7 +6,7 @@ use Rattle.hv_serve.specs.Input.{HasEnded}
 use Rattle.hv_serve.specs.Session.{AreTurns, IsTurn, Served, Turn, answers_in}
 use Rattle.hv_serve.specs.declared.bench.Bench.{Bench}
 
--- the line of a number was read from the input and answered, the last one or not
+-- the line with this number was read and answered. It was the last one, or not
 pub record HasTurned (number : ℕ) (before : Option Served) (last : Bool) (bench : Option Bench)
     (input rest old new : Option (List ℕ)) : Type 0 where
   pub turn : Turn
@@ -16,12 +16,12 @@ pub record HasTurned (number : ℕ) (before : Option Served) (last : Bool) (benc
   pub ended : HasEnded last turn.line input rest
   pub told : Appends old new turn.answer
 
--- lines as they come in, each with its line feed
+-- the lines of the input, each with its line feed
 abbrev pub closed : List Turn → List ℕ
 closed [] = []
 closed (turn ∷ turns) = turn.line ++ (10 ∷ []) ++ closed turns
 
--- the lines before that of a number were read and answered
+-- the lines before the one with this number were read and answered
 pub record IsServing (number : ℕ) (bench : Option Bench) (input rest old new : Option (List ℕ)) : Type 0 where
   pub turns : List Turn
   pub now : Option Served

@@ -1,4 +1,4 @@
-// What a line is answered.
+// Writing the answer to a line.
 ghost use Rattle.std.specs.Prelude.{◌≡◌, ◌+◌, ◌≤◌, ◌<◌, ◌++◌, [], IfOk, OnOk, Some, codes, decimal, drop};
 ghost use Rattle.std.specs.Prelude.{length};
 ghost use Rattle.std.specs.Io.KnownBytes.{Appends};
@@ -19,8 +19,8 @@ use itoa::Buffer;
 use std::alloc::Global;
 use std::io::Write;
 
-// Writes the answer to the line of a number, before which so many events had happened, and flushes it. Tells
-// what became of the line, also where there is no memory for the table.
+// Writes the answer to the line with this number, before which this number of events had happened, and
+// flushes it. Returns the outcome of the line, which is out of memory if there is no memory for the table.
 pub(crate) fn put_answer<W: Write>(
     out: &mut W,
     bench: &Option<Bench>,
@@ -37,7 +37,7 @@ pub(crate) fn put_answer<W: Write>(
     Ok(told)
 }
 
-// How many events happened.
+// Returns the number of events.
 pub(crate) fn events_of(bench: &Option<Bench>) -> usize
     ensures { result ≡ length (history_of (kept_in bench.now)) }
 {
@@ -47,7 +47,7 @@ pub(crate) fn events_of(bench: &Option<Bench>) -> usize
     }
 }
 
-// Writes how many events happened, as an audit ends, and flushes it.
+// Writes the number of events, as an audit ends, and flushes it.
 pub(crate) fn put_end<W: Write>(out: &mut W, bench: &Option<Bench>) -> Result<(), Failure>
     ensures { OnOk result (Appends (W.contents out.old) (W.contents out.new)
         (end_text (length (history_of (kept_in bench.now))))) }
@@ -58,7 +58,7 @@ pub(crate) fn put_end<W: Write>(out: &mut W, bench: &Option<Bench>) -> Result<()
     out.flush().map_err(|_| Failure::Write)
 }
 
-// Writes the audit's lines of the events behind so many.
+// Writes the audit's lines of the events after the first `before`.
 fn put_new<W: Write>(out: &mut W, bench: &Option<Bench>, before: usize) -> Result<(), Failure>
     ensures { OnOk result (Appends (W.contents out.old) (W.contents out.new)
         (new_text before (kept_in bench.now))) }
@@ -73,7 +73,7 @@ fn put_entries<W: Write>(out: &mut W, kept: &Kept<Global>, before: usize) -> Res
     ensures { OnOk result (Appends (W.contents out.old) (W.contents out.new)
         (entries_text (before + 1) (drop before kept.now.history))) }
 {
-    // The proof reads here that a history's length fits 32 bits.
+    // Proof: a history's length fits 32 bits.
     let _limit = kept.limit();
     let history = kept.history();
     for at in before..history.len() {
@@ -82,7 +82,7 @@ fn put_entries<W: Write>(out: &mut W, kept: &Kept<Global>, before: usize) -> Res
     Ok(())
 }
 
-// Writes the audit's line of an event with its number.
+// Writes the audit's line of the event with this number.
 fn put_entry<W: Write>(out: &mut W, number: u64, entry: &EntryRef<'_>) -> Result<(), Failure>
     requires most { length entry.now.output.now ≤ 256 }
     requires index { next_in (reply_of entry.now.answer []) < REPS_END }
@@ -112,7 +112,7 @@ fn put_outcome<W: Write>(
     }
 }
 
-// Writes the table of the state so far, or that there is no memory for it.
+// Writes the table of the current state, or that there is no memory for it.
 fn put_table<W: Write>(out: &mut W, bench: &Option<Bench>, number: u64) -> Result<Outcome, Failure>
     ensures { IfOk result (λ told. IsToldAs Outcome.Table told × Appends (W.contents out.old)
         (W.contents out.new) (told_of number told (kept_in bench.now))) }
@@ -120,7 +120,7 @@ fn put_table<W: Write>(out: &mut W, bench: &Option<Bench>, number: u64) -> Resul
     let Some(bench) = bench else {
         return Ok(Outcome::Table);
     };
-    // The proof reads here that what is kept is a run.
+    // Proof: the history is a run.
     let _history = bench.kept.history();
     match table(out, &bench.kept) {
         Ok(()) => Ok(Outcome::Table),
@@ -129,7 +129,7 @@ fn put_table<W: Write>(out: &mut W, bench: &Option<Bench>, number: u64) -> Resul
     }
 }
 
-// Writes why the line of a number wasn't done.
+// Writes why the line with this number wasn't done.
 fn put_fault<W: Write>(out: &mut W, number: u64, outcome: Outcome) -> Result<Outcome, Failure>
     ensures told { IfOk result (λ told. told ≡ outcome) }
     ensures text { OnOk result (Appends (W.contents out.old) (W.contents out.new)

@@ -1,4 +1,4 @@
-// A booted machine and what its lines do.
+// A booted machine, and the effect of its lines.
 ghost use Rattle.std.specs.Prelude.{◌≡◌, ◌≢◌, ◌≤◌, Option, Some, None, IfErr, MatchResult, OnErr, OnOk};
 ghost use Rattle.std.specs.Prelude.{is_some};
 ghost use Rattle.std.specs.Prelude.{All, Err, List, Ok, ℕ, length, true, false};
@@ -10,7 +10,7 @@ ghost use Rattle.hv_serve.specs.Acts.{HasTried};
 ghost use Rattle.hv_serve.specs.Bench.{HasBecome, HasTaken, IsBench, IsOutcomeOf, StandsFor, reads};
 ghost use Rattle.hv_serve.specs.Bench.{words_say};
 ghost use Rattle.hv_serve.specs.Input.{AreKept};
-ghost use Rattle.hv_serve.specs.Meant.{Asks, resolve_partition_id, table_line};
+ghost use Rattle.hv_serve.specs.Meant.{Asks, meant, table_line};
 ghost use Rattle.hv_serve.specs.Session.{Served, read_of};
 
 use crate::calls::act;
@@ -20,15 +20,15 @@ use hv_policy::{Action, Caller};
 use hv_script::{CutLine, FaultKind, MOST_PROCESSORS, action, processor, read_boot};
 use std::alloc::Global;
 
-// A machine that was booted, with what happened to it.
+// A booted machine with its history.
 #[derive(Drop)]
 pub(crate) struct Bench {
     pub(crate) kept: Kept<Global>,
-    // The processors that the lines of the phase named.
+    // The processors that lines of the current phase named.
     callers: Vec<Caller>,
 }
 
-// Does what a line asks for, unless it wasn't kept. Until a machine is booted there is none.
+// Does what a line asks for, unless its bytes were lost. Before the boot line there is no machine.
 pub(crate) fn take_line(
     alloc: Global,
     bench: &mut Option<Bench>,
@@ -37,7 +37,7 @@ pub(crate) fn take_line(
 ) -> Outcome
     ensures { (before : Option Served) (bytes : List ℕ) → StandsFor bench.old before
         → All (λ byte. byte ≢ 10) bytes → AreKept bytes line.now lost
-        → HasBecome before (resolve_partition_id (read_of before) bytes) result bench.new }
+        → HasBecome before (meant (read_of before) bytes) result bench.new }
 {
     match lost {
         Some(kind) => outcome_of(Err(kind)),
@@ -48,14 +48,14 @@ pub(crate) fn take_line(
 // Does what a line asks for.
 fn do_line(alloc: Global, bench: &mut Option<Bench>, text: &[u8]) -> Result<Outcome, FaultKind>
     ensures { (before : Option Served) → StandsFor bench.old before → length text.now ≤ MOST
-        → HasTaken before (resolve_partition_id (read_of before) (line_of text.now)) bench.new result }
+        → HasTaken before (meant (read_of before) (line_of text.now)) bench.new result }
 {
     let mut line = CutLine::new();
     line.cut(text)?;
     do_words(alloc, bench, &line)
 }
 
-// Does what a line's words ask for.
+// Does what the words of a line ask for.
 fn do_words(
     alloc: Global,
     bench: &mut Option<Bench>,
@@ -76,7 +76,7 @@ fn do_words(
     }
 }
 
-// A line that asks for the table. There is one once a machine is booted.
+// Handles a line that asks for the table. There is a table once a machine is booted.
 fn table_line(booted: bool, line: &CutLine<'_>) -> Result<Outcome, FaultKind>
     ensures { (before : Option (SoFar Global)) → booted ≡ is_some before → MatchResult result
         (λ outcome. (outcome ≡ Outcome.Table) × (table_line before line.now ≡ Ok Asks))
@@ -91,7 +91,7 @@ fn table_line(booted: bool, line: &CutLine<'_>) -> Result<Outcome, FaultKind>
     Ok(Outcome::Table)
 }
 
-// The first line, which is a `boot` line.
+// Handles the first line, which must be a `boot` line.
 fn boot_line(
     alloc: Global,
     bench: &mut Option<Bench>,
@@ -117,7 +117,7 @@ fn boot_line(
 }
 
 impl Bench {
-    // Any line after the first.
+    // Handles any line after the first.
     fn later_line(&mut self, alloc: Global, line: &CutLine<'_>) -> Result<Outcome, FaultKind>
         ensures { (served : Served) → IsBench self.old served
             → HasTaken (Some served) (reads (later_line served.read line.now)) (Some self.new) result }
@@ -131,7 +131,7 @@ impl Bench {
         self.processor_line(alloc, line)
     }
 
-    // A `phase` line.
+    // Handles a `phase` line.
     fn phase_line(&mut self, line: &CutLine<'_>) -> Result<Outcome, FaultKind>
         ensures { (served : Served) → IsBench self.old served
             → HasTaken (Some served) (reads (phase_line served.read line.now)) (Some self.new) result }
@@ -143,7 +143,7 @@ impl Bench {
         Ok(Outcome::Done)
     }
 
-    // A line of a processor, which is read before anything changes.
+    // Handles a line of a processor. It reads the whole line before it changes anything.
     fn processor_line(&mut self, alloc: Global, line: &CutLine<'_>) -> Result<Outcome, FaultKind>
         ensures { (served : Served) → IsBench self.old served
             → HasTaken (Some served) (reads (processor_line served.read line.now)) (Some self.new) result }
@@ -172,7 +172,7 @@ impl Bench {
         self.callers.push(by).map_err(|_| FaultKind::Memory)
     }
 
-    // Lets an action come to its end, unless the host refuses it.
+    // Runs an action to its end, unless the host refuses it.
     fn perform(&mut self, by: Caller, action: Action<Global>) -> Outcome
         ensures acted { IsOutcomeOf by action self.old.kept self.new.kept result }
         ensures callers { self.new.callers.items ≡ self.old.callers.items }
@@ -184,7 +184,7 @@ impl Bench {
     }
 }
 
-// Whether a processor is one of these.
+// Returns whether a processor is one of these.
 #[tactic(auto, using(std::proofs::lemmas::List::Folds::list_any_at))]
 fn is_among(callers: &[Caller], by: Caller) -> bool
     ensures { result ≡ is_among callers.now by }

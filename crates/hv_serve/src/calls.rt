@@ -1,4 +1,4 @@
-// What a processor's line asks for, done.
+// Performing the action of a processor's line.
 ghost use Rattle.hv_policy.specs.declared.event.Action.TheVariants.{Hypercall};
 ghost use Rattle.hv_serve.specs.Acts.{HasTried};
 
@@ -7,7 +7,7 @@ use hv_history::{HostRefused, Kept};
 use hv_policy::{Action, Caller, Event};
 use std::alloc::Global;
 
-// Lets an action come to its end: drives a hypercall to its last element, or lets an access happen.
+// Runs an action to its end: drives a hypercall to its last element, or takes an access.
 pub(crate) fn act(
     kept: &mut Kept<Global>,
     by: Caller,

@@ -1,4 +1,4 @@
-// The lines of a reader, one at a time.
+// Reading lines, one at a time.
 ghost use Rattle.std.specs.Prelude.{◌≡◌, ◌++◌, [], ◌∷◌, ℕ, List, IfOk};
 ghost use Rattle.hv_serve.specs.Input.{AreKept, HasLine, IsNext};
 
@@ -6,17 +6,17 @@ use hv_run::{Failure, unread};
 use hv_script::{FaultKind, MOST_BYTES};
 use std::io::{ErrorKind, Read};
 
-// How a line ended, and whether it was kept.
+// How a line ended, and whether its bytes were kept.
 #[derive(Clone, Copy)]
 pub(crate) struct LineEnd {
-    // No line feed stands behind it, and the input ends there.
+    // The input ends after it, without a line feed.
     pub(crate) last: bool,
-    // Why it wasn't kept: it is longer than a whole script, or there was no memory for it.
+    // Why its bytes were lost: the line is longer than a whole script, or memory ran out.
     pub(crate) lost: Option<FaultKind>,
 }
 
-// Reads a line, and keeps its bytes without the line feed. Of one that is too long no more is kept than a
-// script has.
+// Reads a line, and keeps its bytes without the line feed. Of a line that is too long, it keeps at most as
+// many bytes as a script may have.
 pub(crate) fn read_line<R: Read>(reader: &mut R, line: &mut Vec<u8>) -> Result<LineEnd, Failure>
     ensures { IfOk result (λ end. HasLine line.new.items end (R.remaining reader.old)
         (R.remaining reader.new)) }
@@ -50,7 +50,7 @@ fn keep_byte(line: &mut Vec<u8>, byte: u8, lost: Option<FaultKind>) -> Option<Fa
     }
 }
 
-// The next byte, or none at the end of the input. A read that was interrupted is tried again.
+// Reads the next byte, or `None` at the end of the input. It retries a read that was interrupted.
 fn next_byte<R: Read>(reader: &mut R) -> Result<Option<u8>, Failure>
     ensures { IfOk result (λ next. IsNext next (R.remaining reader.old) (R.remaining reader.new)) }
 {

@@ -1,4 +1,4 @@
-// What a session is beside a run of a script.
+// A session compared with a run of a script.
 ghost use Rattle.std.specs.Prelude.{◌≡◌, ◌≤◌, ◌++◌, ℕ, List, Option, Some, None, All, length, true, false};
 ghost use Rattle.std.specs.Io.KnownBytes.{Appends};
 ghost use Rattle.hv_run.specs.Written.{HasWrittenOf};
@@ -6,9 +6,12 @@ ghost use Rattle.hv_script.specs.declared.script.TheConstants.{MOST_BYTES as MOS
 ghost use Rattle.hv_serve.specs.Law.{IsServed, is_done, script_in, told_in};
 ghost use Rattle.hv_serve.specs.Session.{AreTurns, HasServed, Served, Turn, end_text, history_of};
 
-/// The answers to the lines that were done, with the count behind them, are what a serial run writes of these
-/// lines as a script, wherever the host refused nothing: faulty lines and tables between them change nothing.
-/// So a session in which all lines were done wrote what a serial run of its whole input writes.
+/// A session writes what a serial run writes.
+///
+/// Its answers to the lines that were done, with the count of events after them, are what a serial run of
+/// these lines as a script writes, provided that the host refused nothing. Faulty lines and tables between
+/// them change nothing. A session in which all lines were done therefore wrote what a serial run of its whole
+/// input writes.
 pub fn a_session_is_a_serial_run()
     ensures done { (turns : List Turn) (now : Served) → AreTurns 1 None turns (Some now)
         → All (λ turn. IsServed turn.outcome) turns → length (script_in turns) ≤ MOST

@@ -1,4 +1,4 @@
-// What became of a line.
+// The outcome of a line.
 ghost use Rattle.std.specs.Prelude.{◌≡◌, MatchResult};
 ghost use Rattle.hv_serve.specs.Outcome.{kind_text, outcome_by, outcome_of_boot, why_text};
 
@@ -6,23 +6,23 @@ use hv_history::HostRefused;
 use hv_machine::BootRefused;
 use hv_script::FaultKind;
 
-/// What became of a line.
+/// The outcome of a line.
 #[derive(Clone, Copy, PartialEq, Eq, Debug)]
 pub enum Outcome {
-    /// It was read and done, to its end. A line that is skipped counts here, too.
+    /// It was read and done to its end. A line that is skipped has this outcome, too.
     Done,
     /// It asked for the table.
     Table,
     /// It has a fault. Nothing changed.
     Fault(FaultKind),
-    /// No machine boots with what it gives. Nothing changed.
+    /// A machine with its configuration does not boot. Nothing changed.
     Boot(BootRefused),
-    /// The host refused what it asks for, or what was left of it.
+    /// The host refused its action, or the rest of it.
     Host(HostRefused),
 }
 
 impl Outcome {
-    /// Why the line wasn't done. Of one that was done there is nothing to tell.
+    /// Returns why the line wasn't done. For a line that was done, the text is empty.
     pub fn text(self) -> &'static str
         ensures { result.now ≡ why_text self }
     {
@@ -39,7 +39,7 @@ impl Outcome {
     }
 }
 
-// A fault's text, which is that of a script's fault.
+// Returns the text of a fault, as for a fault of a script.
 fn fault_text(kind: FaultKind) -> &'static str
     ensures { result.now ≡ kind_text kind }
 {
@@ -58,7 +58,7 @@ fn fault_text(kind: FaultKind) -> &'static str
     }
 }
 
-// What becomes of a line that has this fault: out of memory is the host's.
+// Converts the result of a line to its outcome. Out of memory is the host's refusal, not the line's fault.
 pub(crate) fn outcome_of(came: Result<Outcome, FaultKind>) -> Outcome
     ensures { MatchResult came (λ outcome. result ≡ outcome) (λ kind. result ≡ outcome_by kind) }
 {
@@ -69,7 +69,7 @@ pub(crate) fn outcome_of(came: Result<Outcome, FaultKind>) -> Outcome
     }
 }
 
-// What becomes of a boot line that was refused.
+// Returns the outcome of a boot line that was refused.
 pub(crate) fn refused_boot(refused: BootRefused) -> Outcome
     ensures { result ≡ outcome_of_boot refused }
 {

@@ -11,13 +11,15 @@ use hv_run::{Exit, Failure, tell};
 use std::alloc::Global;
 use std::io::{BufReader, Read, Write};
 
-/// Serves the lines of a reader to its end: reads a line, does what it asks for, writes its answer and
-/// flushes it, and only then reads the next one. At the end it writes how many events happened, as an audit
-/// ends. Why it ended before goes to `err`, in one line: the input can't be read, the output can't be
-/// written, or there is no memory to begin with.
+/// Serves the lines of a reader until it ends.
 ///
-/// A line that has a fault, or that the host refuses, is answered by `fault: line N: TEXT`, and serving goes
-/// on.
+/// For each line it does what the line asks for, writes the answer and flushes it, and only then reads the
+/// next line. At the end it writes the number of events, as an audit ends. If it ends early, it writes the
+/// reason to `err`, in one line: the input can't be read, the output can't be written, or there is no memory
+/// at the start.
+///
+/// The answer to a line that has a fault, or that the host refuses, is `fault: line N: TEXT`, and serving
+/// continues.
 pub fn serve<R: Read + Drop, W: Write, E: Write>(
     alloc: Global,
     reader: R,
@@ -37,7 +39,7 @@ pub fn serve<R: Read + Drop, W: Write, E: Write>(
     }
 }
 
-// Serves the lines of a reader to its end.
+// Serves the lines of a reader until it ends.
 fn serve_lines<R: Read, W: Write>(alloc: Global, reader: &mut R, out: &mut W) -> Result<(), Failure>
     ensures { OnOk result (HasServed (R.remaining reader.old) (W.contents out.old) (W.contents out.new)) }
 {
@@ -51,7 +53,7 @@ fn serve_lines<R: Read, W: Write>(alloc: Global, reader: &mut R, out: &mut W) ->
     Err(Failure::Unreadable)
 }
 
-// Reads a line and answers it. Tells whether it was the last one.
+// Reads a line and answers it. Returns whether it was the last one.
 fn serve_line<R: Read, W: Write>(
     alloc: Global,
     bench: &mut Option<Bench>,
