@@ -1,14 +1,14 @@
 -- The rows of a node, around those of one child.
 use Rattle.std.proofs.lemmas.Bool.{cases_Bool}
-use Rattle.std.proofs.Common.{◌≡◌, ℕ, ◌+◌, ◌<◌, ◌≤◌, suc, true, false, ◌==◌, inl, inr, Option, None, Some, is_some, List, ◌∷◌, ◌++◌, Box, refl, sym, ap, ◌∙◌, arith, length, take, drop, set, get_or}
-use Rattle.std.proofs.Common.{append_assoc, append-nil, length-append}
+use Rattle.std.proofs.Common.{◌≡◌, ℕ, ◌+◌, ◌<◌, suc, true, false, ◌==◌, inl, inr, Option, None, Some, is_some, List, ◌∷◌, ◌++◌, Box, refl, sym, ap, ◌∙◌, arith, length, take, drop, set, get_or}
+use Rattle.std.proofs.Common.{append_assoc, append-nil}
 use Rattle.std.specs.Option.{option_or, option_map}
 use Rattle.std.specs.Box.{with_value}
 use Rattle.std.specs.List.{insert}
 use Rattle.std.proofs.lemmas.List.{take-append-drop}
 use Rattle.hv_tree.specs.Rows.{children_in}
 use Rattle.hv_tree.specs.Nest.{Line, has_row, look, uses, AreDistinct, hang, put_at, IsPart, IsGrownBy}
-use Rattle.hv_tree.specs.Below.{below, AreNests, length-hang}
+use Rattle.hv_tree.specs.Below.{below, AreNests}
 use Rattle.hv_tree.proofs.Lists.{parted, set-parted}
 use Rattle.hv_tree.proofs.Lines.{has-hang, has-look, look-none, look-append, look-hang, hung, uses-append, uses-hang, used, has-unused, one_if, below-append, hang-append, hang-hang, put-append}
 use Rattle.hv_tree.proofs.Lines.{put-hang}
@@ -43,15 +43,6 @@ module _ {T A : Type 0} (p : ℕ) (ks : List (Box (List (Line T)) A)) (i : ℕ) 
 
   pub around-set : (new : List (Line T)) → below p (set ks i (with_value k new)) ≡ below p (take i ks) ++ (hang p new ++ below p (drop (suc i) ks))
   around-set new = ap (below p) (set-parted ks i (with_value k new) lt) ∙ below-append p (take i ks) (with_value k new ∷ drop (suc i) ks)
-
-  pub length-child : length k.value ≤ length (below p ks)
-  length-child = omega (
-    arith,
-    ap length around,
-    length-append (below p (take i ks)) (hang p k.value ++ below p (drop (suc i) ks)),
-    length-append (hang p k.value) (below p (drop (suc i) ks)),
-    length-hang p k.value,
-  )
 
   -- where no earlier child has the id
   module _ (q : ℕ) (none : has_row q (below p (take i ks)) ≡ false) where

@@ -1,4 +1,4 @@
--- The way down to a node, in two parts and one step between.
+-- The places on the way down to a node, in two parts and one step between.
 use Rattle.std.proofs.Common.{◌≡◌, ◌≢◌, ℕ, zero, suc, ◌+◌, ◌<◌, ◌≤◌, ◌==◌, false, inl, inr, Option, None, Some, List, [], ◌∷◌, ◌++◌, Box, length, get_or, slice_get, refl, sym, ap, ◌∙◌, arith, eq-eqb}
 use Rattle.std.specs.List.{All}
 use Rattle.std.specs.List.Sorted.{IsNonDecreasingBy}
@@ -8,7 +8,7 @@ use Rattle.std.proofs.Math.Dec.{ltb}
 use Rattle.hv_tree.specs.declared.node.Branch.{Branch}
 use Rattle.hv_tree.specs.declared.node.Node.{Node}
 use Rattle.hv_tree.specs.Put.{node_of, child_of, reach}
-use Rattle.hv_tree.specs.Way.{id_of, children_of, place_by, place_to, step, further, way, IsRising, AreRising}
+use Rattle.hv_tree.specs.Way.{id_of, children_of, place_by, further, places, IsRising, AreRising}
 use Rattle.hv_tree.proofs.Ways.{reach_two}
 
 pub none-past : {X : Type 0} (xs : List X) (i : ℕ) → length xs ≤ i → slice_get xs i ≡ None
@@ -39,17 +39,12 @@ module _ {T A : Type 0} where
       let off : (id_of k.value == q) ≡ false = ne_eqb (id_of k.value) q (all zero k (omega arith)) in
       rw off (ap (λ n. n + 1) (place-absent q ks (λ i d lt. all (suc i) d (omega arith))) ∙ (omega arith))
 
-  -- the place of the next child, where the index names it
-  pub step-some : (n : Node T A) (q i : ℕ) (o : Option ℕ) → o ≡ Some q → IsRising n → i < length (children_of n) → ((d : Box (Branch T A) A) → id_of (get_or (children_of n) i d).value ≡ q) → i ≡
-      place_to o (children_of n)
-  step-some n q i o e r lt at = sym (ap (λ o. place_to o (children_of n)) e ∙ place-found q (children_of n) i r lt at)
+  -- the place of the child with the id
+  pub place-some : (n : Node T A) (q i : ℕ) → IsRising n → i < length (children_of n) → ((d : Box (Branch T A) A) → id_of (get_or (children_of n) i d).value ≡ q) → i ≡ place_by q (children_of n)
+  place-some n q i r lt at = sym (place-found q (children_of n) i r lt at)
 
-  pub step-none : (n : Node T A) (q : ℕ) (o : Option ℕ) → o ≡ Some q → All (λ k. id_of k.value ≢ q) (children_of n) → child_of n (place_to o (children_of n)) ≡ None
-  step-none n q o e all = ap (λ i. child_of n i) (ap (λ o. place_to o (children_of n)) e ∙ place-absent q (children_of n) all) ∙ ap (option_map (λ b. b.value))
-      (none-past (children_of n) (length (children_of n)) (omega arith))
-
-  pub step-lost : (n : Node T A) (o : Option ℕ) → o ≡ None → child_of n (place_to o (children_of n)) ≡ None
-  step-lost n o e = ap (λ i. child_of n i) (ap (λ o. place_to o (children_of n)) e) ∙ ap (option_map (λ b. b.value)) (none-past (children_of n) (length (children_of n)) (omega arith))
+  pub place-none : (n : Node T A) (q : ℕ) → All (λ k. id_of k.value ≢ q) (children_of n) → child_of n (place_by q (children_of n)) ≡ None
+  place-none n q all = ap (λ i. child_of n i) (place-absent q (children_of n) all) ∙ ap (option_map (λ b. b.value)) (none-past (children_of n) (length (children_of n)) (omega arith))
 
   pub rising-non_decreasing : (n : Node T A) → IsRising n → IsNonDecreasingBy (λ k. id_of k.value) (children_of n)
   rising-non_decreasing n r i j d le lt = elim (cases_Bool (ltb i j)) [
@@ -60,53 +55,45 @@ module _ {T A : Type 0} where
   pub rising-child : (b : Branch T A) → AreRising b → (is : List ℕ) (n : Node T A) (i : ℕ) (k : Branch T A) → reach is b ≡ Some n → child_of n i ≡ Some k → AreRising k
   rising-child b r is n i k e f = λ js m h. r (is ++ i ∷ js) m (reach_two is js i b n k e f ∙ h)
 
-  module _ (up : ℕ → Option ℕ) (most q : ℕ) where
-    abbrev next : Node T A → ℕ
-    next = step up most q
+  abbrev next : ℕ → Node T A → ℕ
+  next q n = place_by q (children_of n)
 
-    abbrev on : ℕ → Option (Node T A) → Option (Node T A)
-    on s o = option_and_then (λ n. option_and_then (λ k. reach (way up most q s k) k) (child_of n (next n))) o
+  abbrev on : ℕ → List ℕ → Option (Node T A) → Option (Node T A)
+  on q ys o = option_and_then (λ n. option_and_then (λ k. reach (places ys k) k) (child_of n (next q n))) o
 
-    first_step : (s : ℕ) (o : Option (Branch T A)) → option_and_then (reach (further (way up most q s) o)) o ≡ option_and_then (λ k. reach (way up most q s k) k) o
-    first_step s None = refl
-    first_step s (Some k) = refl
+  first_step : (ys : List ℕ) (o : Option (Branch T A)) → option_and_then (reach (further (places ys) o)) o ≡ option_and_then (λ k. reach (places ys k) k) o
+  first_step ys None = refl
+  first_step ys (Some k) = refl
 
-    pub reach_split : (s t : ℕ) (b : Branch T A) → reach (way up most q (s + suc t) b) b ≡ on t (reach (way up most q s b) b)
-    reach_split zero t b =
-        let e : zero + suc t ≡ suc t = omega arith in
-        ap (λ n. reach (way up most q n b) b) e ∙ first_step t (child_of (node_of b) (next (node_of b)))
-    reach_split (suc s) t b =
-        let e : suc s + suc t ≡ suc (s + suc t) = omega arith in
-        ap (λ n. reach (way up most q n b) b) e ∙ by (λ k. reach_split s t k) (child_of (node_of b) (next (node_of b)))
-      where
-        by : ((k : Branch T A) → reach (way up most q (s + suc t) k) k ≡ on t (reach (way up most q s k) k)) → (o : Option (Branch T A))
-            → option_and_then (reach (further (way up most q (s + suc t)) o)) o ≡ on t (option_and_then (reach (further (way up most q s) o)) o)
-        by rest None = refl
-        by rest (Some k) = rest k
+  reach_split : (xs ys : List ℕ) (q : ℕ) (b : Branch T A) → reach (places (xs ++ q ∷ ys) b) b ≡ on q ys (reach (places xs b) b)
+  reach_split [] ys q b = first_step ys (child_of (node_of b) (next q (node_of b)))
+  reach_split (x ∷ xs) ys q b = by (λ k. reach_split xs ys q k) (child_of (node_of b) (next x (node_of b)))
+    where
+      by : ((k : Branch T A) → reach (places (xs ++ q ∷ ys) k) k ≡ on q ys (reach (places xs k) k)) → (o : Option (Branch T A))
+          → option_and_then (reach (further (places (xs ++ q ∷ ys)) o)) o ≡ on q ys (option_and_then (reach (further (places xs) o)) o)
+      by rest None = refl
+      by rest (Some k) = rest k
 
-    pub way_split : (s t : ℕ) (b : Branch T A) (n : Node T A) (k : Branch T A) → reach (way up most q s b) b ≡ Some n → child_of n (next n) ≡ Some k
-        → way up most q (s + suc t) b ≡ way up most q s b ++ next n ∷ way up most q t k
-    way_split zero t b n k e f =
-        let len : zero + suc t ≡ suc t = omega arith in
-        let same : node_of b ≡ n = cc in
-        ap (λ n. way up most q n b) len ∙ ap (λ m. next m ∷ further (way up most q t) (child_of m (next m))) same ∙ ap (λ o. next n ∷ further (way up most q t) o) f
-    way_split (suc s) t b n k e f =
-        let len : suc s + suc t ≡ suc (s + suc t) = omega arith in
-        ap (λ n. way up most q n b) len ∙ ap (λ l. next (node_of b) ∷ l) (by (λ m h. way_split s t m n k h f) (child_of (node_of b) (next (node_of b))) e)
-      where
-        by : ((m : Branch T A) → reach (way up most q s m) m ≡ Some n → way up most q (s + suc t) m ≡ way up most q s m ++ next n ∷ way up most q t k) → (o : Option (Branch T A))
-            → option_and_then (reach (further (way up most q s) o)) o ≡ Some n
-            → further (way up most q (s + suc t)) o ≡ further (way up most q s) o ++ next n ∷ way up most q t k
-        by rest None h = cc
-        by rest (Some m) h = rest m h
+  pub places_split : (xs ys : List ℕ) (q : ℕ) (b : Branch T A) (n : Node T A) (k : Branch T A) → reach (places xs b) b ≡ Some n → child_of n (next q n) ≡ Some k
+      → places (xs ++ q ∷ ys) b ≡ places xs b ++ next q n ∷ places ys k
+  places_split [] ys q b n k e f =
+      let same : node_of b ≡ n = cc in
+      ap (λ m. next q m ∷ further (places ys) (child_of m (next q m))) same ∙ ap (λ o. next q n ∷ further (places ys) o) f
+  places_split (x ∷ xs) ys q b n k e f = ap (λ l. next x (node_of b) ∷ l) (by (λ m h. places_split xs ys q m n k h f) (child_of (node_of b) (next x (node_of b))) e)
+    where
+      by : ((m : Branch T A) → reach (places xs m) m ≡ Some n → places (xs ++ q ∷ ys) m ≡ places xs m ++ next q n ∷ places ys k) → (o : Option (Branch T A))
+          → option_and_then (reach (further (places xs) o)) o ≡ Some n
+          → further (places (xs ++ q ∷ ys)) o ≡ further (places xs) o ++ next q n ∷ places ys k
+      by rest None h = cc
+      by rest (Some m) h = rest m h
 
-    -- what lies in two parts is found in the second
-    pub split_some : (s t len : ℕ) (b : Branch T A) (n : Node T A) (k : Branch T A) → len ≡ s + suc t → Some n ≡ reach (way up most q s b) b → Some k ≡ child_of n (next n) → reach
-        (way up most q len b) b ≡ reach (way up most q t k) k
-    split_some s t len b n k e f g = ap (λ l. reach (way up most q l b) b) e ∙ reach_split s t b ∙ ap (on t) (sym f) ∙ ap (option_and_then (λ k. reach (way up most q t k) k)) (sym g)
+  -- what lies in two parts is found in the second
+  pub split_some : (xs ys zs : List ℕ) (q : ℕ) (b : Branch T A) (n : Node T A) (k : Branch T A) → zs ≡ xs ++ q ∷ ys → Some n ≡ reach (places xs b) b → Some k ≡ child_of n (next q n) → reach
+      (places zs b) b ≡ reach (places ys k) k
+  split_some xs ys zs q b n k e f g = ap (λ l. reach (places l b) b) e ∙ reach_split xs ys q b ∙ ap (on q ys) (sym f) ∙ ap (option_and_then (λ k. reach (places ys k) k)) (sym g)
 
-    pub split_lost : (s t len : ℕ) (b : Branch T A) → len ≡ s + suc t → None ≡ reach (way up most q s b) b → reach (way up most q len b) b ≡ None
-    split_lost s t len b e f = ap (λ l. reach (way up most q l b) b) e ∙ reach_split s t b ∙ ap (on t) (sym f)
+  pub split_lost : (xs ys zs : List ℕ) (q : ℕ) (b : Branch T A) → zs ≡ xs ++ q ∷ ys → None ≡ reach (places xs b) b → reach (places zs b) b ≡ None
+  split_lost xs ys zs q b e f = ap (λ l. reach (places l b) b) e ∙ reach_split xs ys q b ∙ ap (on q ys) (sym f)
 
-    pub split_stuck : (s t len : ℕ) (b : Branch T A) (n : Node T A) → len ≡ s + suc t → Some n ≡ reach (way up most q s b) b → child_of n (next n) ≡ None → reach (way up most q len b) b ≡ None
-    split_stuck s t len b n e f g = ap (λ l. reach (way up most q l b) b) e ∙ reach_split s t b ∙ ap (on t) (sym f) ∙ ap (option_and_then (λ k. reach (way up most q t k) k)) g
+  pub split_stuck : (xs ys zs : List ℕ) (q : ℕ) (b : Branch T A) (n : Node T A) → zs ≡ xs ++ q ∷ ys → Some n ≡ reach (places xs b) b → child_of n (next q n) ≡ None → reach (places zs b) b ≡ None
+  split_stuck xs ys zs q b n e f g = ap (λ l. reach (places l b) b) e ∙ reach_split xs ys q b ∙ ap (on q ys) (sym f) ∙ ap (option_and_then (λ k. reach (places ys k) k)) g

@@ -1,12 +1,11 @@
 -- An index from each id to its parent, and the rows that it agrees with.
-use Rattle.std.specs.Prelude.{◌≡◌, ℕ, ◌<◌, ◌^◌, length, true, nat_eq, Option, None, Some, List, ◌∷◌, Box}
+use Rattle.std.specs.Prelude.{◌≡◌, ℕ, ◌<◌, ◌^◌, length, nat_eq, Option, List}
 use Rattle.std.specs.List.Sorted.{IsNonDecreasing}
 use Rattle.hv_tree.specs.Rows.{children_in}
-use Rattle.std.specs.Option.{option_map, option_and_then}
+use Rattle.std.specs.Option.{option_and_then}
 use Rattle.indexmap.specs.IndexMap.{IndexMap, get}
-use Rattle.hv_tree.specs.Nest.{Line, AreDistinct, has_row, look}
+use Rattle.hv_tree.specs.Nest.{Line, AreDistinct, look}
 use Rattle.hv_tree.specs.Full.{IsSound}
-use Rattle.hv_tree.specs.Below.{below, AreNests}
 
 -- the index as a function
 abbrev pub parents : {S : Type 0} → IndexMap ℕ ℕ S → ℕ → Option ℕ
@@ -15,24 +14,6 @@ parents m = get nat_eq m
 -- the index names the parent of each row that has one, and nothing else
 abbrev pub IsIndexOf : {C : Type 0} → List (ℕ × (Option ℕ × C)) → (ℕ → Option ℕ) → Type 0
 IsIndexOf es up = (q : ℕ) → up q ≡ option_and_then (λ r. r.0) (look q es)
-
--- the index names the parent of each row that has one
-abbrev pub Agrees : {C : Type 0} → List (ℕ × (Option ℕ × C)) → (ℕ → Option ℕ) → Type 0
-Agrees es up = (q p : ℕ) → option_map (λ r. r.0) (look q es) ≡ Some (Some p) → up q ≡ Some p
-
--- the index leads from q to the first of the rows
-pub record IsWay {T : Type 0} (up : ℕ → Option ℕ) (q : ℕ) (es : List (Line T)) : Type 0 where
-  pub distinct : AreDistinct es
-  pub agrees : Agrees es up
-  pub has : has_row q es ≡ true
-
--- the index leads from q to one of the children of own
-pub record IsPath {T A : Type 0} (up : ℕ → Option ℕ) (own : ℕ) (ks : List (Box (List (Line T)) A)) (q : ℕ) :
-    Type 0 where
-  pub distinct : AreDistinct {X = Option ℕ × Option T} ((own, (None, None)) ∷ below own ks)
-  pub nests : AreNests ks
-  pub agrees : Agrees (below own ks) up
-  pub has : has_row q (below own ks) ≡ true
 
 -- rows that the calls on a tree may rest on: an index of just their parents, and children that rise
 pub record IsLaid {T : Type 0} (es : List (Line T)) (up : ℕ → Option ℕ) : Type 0 where

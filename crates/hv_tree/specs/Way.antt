@@ -1,24 +1,24 @@
 -- The way down to a node, as an index of parents tells it.
 use Rattle.std.specs.List.{remove}
-use Rattle.std.specs.Prelude.{◌≡◌, ℕ, zero, suc, ◌+◌, ◌<◌, ◌≤◌, ◌==◌, cond, length, List, [], ◌∷◌, Option}
-use Rattle.std.specs.Prelude.{None, Some, Box, get_or}
+use Rattle.std.specs.Option.{unwrap_or}
+use Rattle.std.specs.Prelude.{◌≡◌, ℕ, zero, suc, ◌+◌, ◌<◌, ◌≤◌, ◌==◌, cond, length, List, [], ◌∷◌, ◌++◌}
+use Rattle.std.specs.Prelude.{Option, None, Some, Box, get_or}
 use Rattle.hv_tree.specs.declared.node.Branch.{Branch}
 use Rattle.hv_tree.specs.declared.node.Node.{Node, out-Node}
-use Rattle.hv_tree.specs.declared.index.TheConstants.{MOST, NOTED}
-use Rattle.hv_tree.specs.declared.index.Climb.{Climb}
+use Rattle.hv_tree.specs.declared.index.TheConstants.{MOST}
 use Rattle.hv_tree.specs.Nest.{IsFound}
 use Rattle.hv_tree.specs.Lines.{lines, node_lines}
 use Rattle.hv_tree.specs.Put.{node_of, child_of, content_of, reach}
 
--- the id, or what f gives above
-abbrev pub climb_from : ℕ → ℕ → (ℕ → Option ℕ) → Option ℕ → Option ℕ
-climb_from own at f None = None
-climb_from own at f (Some p) = cond (p == own) (Some at) (f p)
+-- the id that is so many steps above at, where above an id without a parent is that id
+unfoldable pub above : (ℕ → Option ℕ) → ℕ → ℕ → ℕ
+above up zero at = at
+above up (suc n) at = above up n (unwrap_or (up at) at)
 
--- the id on the way up from at whose parent is own, within so many steps
-unfoldable pub climb : (ℕ → Option ℕ) → ℕ → ℕ → ℕ → Option ℕ
-climb up own zero at = None
-climb up own (suc n) at = climb_from own at (climb up own n) (up at)
+-- so many ids on the way down to at, which is the last
+unfoldable pub line : (ℕ → Option ℕ) → ℕ → ℕ → List ℕ
+line up zero at = []
+line up (suc n) at = line up n (unwrap_or (up at) at) ++ at ∷ []
 
 abbrev pub depth_from : (ℕ → ℕ) → Option ℕ → ℕ
 depth_from f None = 0
@@ -28,19 +28,6 @@ depth_from f (Some p) = f p + 1
 unfoldable pub depth : (ℕ → Option ℕ) → ℕ → ℕ → ℕ
 depth up zero at = 0
 depth up (suc n) at = depth_from (depth up n) (up at)
-
-abbrev pub above_from : (ℕ → List ℕ) → Option ℕ → List ℕ
-above_from f None = []
-above_from f (Some p) = p ∷ f p
-
--- the ids above at, from its parent up, so many at most
-unfoldable pub above : (ℕ → Option ℕ) → ℕ → ℕ → List ℕ
-above up zero at = []
-above up (suc n) at = above_from (above up n) (up at)
-
--- the climb notes the ids above its own
-abbrev pub IsClimb : (ℕ → Option ℕ) → Climb → Type 0
-IsClimb up c = c.parents.items ≡ above up NOTED c.id
 
 module _ {T A : Type 0} where
   abbrev pub id_of : Branch T A → ℕ
@@ -54,23 +41,15 @@ module _ {T A : Type 0} where
   place_by q [] = 0
   place_by q (k ∷ ks) = cond (id_of k.value == q) 0 (place_by q ks + 1)
 
-  abbrev pub place_to : Option ℕ → List (Box (Branch T A) A) → ℕ
-  place_to None ks = length ks
-  place_to (Some q) ks = place_by q ks
-
-  -- the place of the child that is on the way to the id
-  abbrev pub step : (ℕ → Option ℕ) → ℕ → ℕ → Node T A → ℕ
-  step up limit q n = place_to (climb up (out-Node T A n).id limit q) (children_of n)
-
   abbrev pub further : (Branch T A → List ℕ) → Option (Branch T A) → List ℕ
   further f None = []
   further f (Some k) = f k
 
-  -- the places of the children on the way to the id, so many steps down
-  abbrev pub way : (ℕ → Option ℕ) → ℕ → ℕ → ℕ → Branch T A → List ℕ
-  way up limit q zero b = []
-  way up limit q (suc s) b = step up limit q (node_of b) ∷ further (way up limit q s)
-      (child_of (node_of b) (step up limit q (node_of b)))
+  -- the places of the children with the ids, each a child of the one before
+  abbrev pub places : List ℕ → Branch T A → List ℕ
+  places [] b = []
+  places (q ∷ qs) b = place_by q (children_of (node_of b)) ∷ further (places qs)
+      (child_of (node_of b) (place_by q (children_of (node_of b))))
 
   -- the ids of a node's children rise
   abbrev pub IsRising : Node T A → Type 0
@@ -83,7 +62,7 @@ module _ {T A : Type 0} where
 
   -- the way to the node with the id
   abbrev pub way_to : (ℕ → Option ℕ) → ℕ → Branch T A → List ℕ
-  way_to up q b = way up MOST q (depth up MOST q) b
+  way_to up q b = places (line up (depth up MOST q) q) b
 
   -- n is the node with the id, and the way leads to it
   pub record IsReached (up : ℕ → Option ℕ) (q : ℕ) (b : Branch T A) (n : Node T A) : Type 0 where

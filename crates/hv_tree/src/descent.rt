@@ -2,40 +2,38 @@
 //!
 //! No proof of a recursion that returns a `&mut` is made today. So each type here goes down so many steps, by
 //! the one before it.
-ghost use Rattle.std.specs.Prelude.{◌≡◌, ◌≤◌, ◌+◌, ℕ, IfSome, IfNone, Some, None};
+ghost use Rattle.std.specs.Prelude.{◌≡◌, ◌≤◌, ◌+◌, ℕ};
 ghost use Rattle.std.specs.Borrow.{LendsIf, sem};
 ghost use Rattle.std.specs.Option.{option_copied_mut};
 ghost use Rattle.hv_tree.specs.contracts.node.Branch.{the_row as branch_row};
 ghost use Rattle.hv_tree.specs.contracts.node.Node.{the_row as node_row};
-ghost use Rattle.hv_tree.specs.declared.index.TheConstants.{MOST};
 ghost use Rattle.hv_tree.specs.Index.{parents};
 ghost use Rattle.hv_tree.specs.Put.{child_of, put_child, put_far, reach};
-ghost use Rattle.hv_tree.specs.Way.{way, step, IsClimb, IsRising, AreRising};
+ghost use Rattle.hv_tree.specs.Way.{above, children_of, line, place_by, places, IsRising, AreRising};
 
-use crate::index::{Climb, Index};
-use crate::node::{Branch, Node, search_child};
+use crate::index::{Index, above};
+use crate::node::{Branch, Node};
 use std::alloc::Allocator;
 
-/// Goes down toward a node.
+/// Goes down to a node.
 pub(crate) trait Toward {
     // How many steps it can go.
     ghost most: { ℕ };
 
-    /// The node that is so many steps down on the way to the one with the climb's id.
+    /// The node with the id, which is so many steps down.
     fn toward<'n, T, A: Allocator>(
         branch: &'n mut Branch<T, A>,
         index: &Index<A>,
-        climb: &Climb,
+        id: u64,
         steps: u64,
     ) -> Option<&'n mut Node<T, A>>
         requires rising { AreRising branch.old }
-        requires climb { IsClimb (parents index.now) climb.now }
         requires few { steps ≤ most }
         ensures* writes_back { sem 𝓛 (LendsIf (branch_row T.row A.row A.Allocator)
             (node_row T.row A.row A.Allocator) branch.entry result
-            (put_far (way (parents index.now) MOST climb.now.id steps branch.old) branch.old) branch.old) }
+            (put_far (places (line (parents index.now) steps id) branch.old) branch.old) branch.old) }
         ensures value { option_copied_mut result
-            ≡ reach (way (parents index.now) MOST climb.now.id steps branch.old) branch.old };
+            ≡ reach (places (line (parents index.now) steps id) branch.old) branch.old };
 }
 
 /// Goes no step.
@@ -47,7 +45,7 @@ impl Toward for Stay {
     fn toward<'n, T, A: Allocator>(
         branch: &'n mut Branch<T, A>,
         index: &Index<A>,
-        climb: &Climb,
+        id: u64,
         steps: u64,
     ) -> Option<&'n mut Node<T, A>> {
         Some(branch.node_mut())
@@ -63,54 +61,45 @@ impl<D: Toward> Toward for Twice<D> {
     fn toward<'n, T, A: Allocator>(
         branch: &'n mut Branch<T, A>,
         index: &Index<A>,
-        climb: &Climb,
+        id: u64,
         steps: u64,
     ) -> Option<&'n mut Node<T, A>> {
         if steps == 0 {
             return Some(branch.node_mut());
         }
         let first = steps / 2;
-        let above = D::toward(branch, index, climb, first)?;
-        let child = step_toward(above, index, climb)?;
-        D::toward(child, index, climb, steps - first - 1)
+        let rest = steps - first - 1;
+        let next = above(index, id, rest);
+        let node = D::toward(branch, index, parent_at(index, next, first), first)?;
+        let child = step_toward(node, next)?;
+        D::toward(child, index, id, rest)
     }
 }
 
-// The child that is the node with the climb's id, or has it below.
+// The parent of the node with the id, where it is so many steps down. For no step any id will do.
+fn parent_at<A: Allocator>(index: &Index<A>, id: u64, steps: u64) -> u64
+    ensures { line (parents index.now) steps result
+        ≡ line (parents index.now) steps (above (parents index.now) 1 id) }
+{
+    if steps == 0 {
+        return id;
+    }
+    above(index, id, 1)
+}
+
+// The child with the id.
 fn step_toward<'n, T, A: Allocator>(
     node: &'n mut Node<T, A>,
-    index: &Index<A>,
-    climb: &Climb,
+    id: u64,
 ) -> Option<&'n mut Branch<T, A>>
-    requires rising { IsRising node.old }
-    requires climb { IsClimb (parents index.now) climb.now }
+    requires { IsRising node.old }
     ensures* writes_back { sem 𝓛 (LendsIf (node_row T.row A.row A.Allocator)
         (branch_row T.row A.row A.Allocator) node.entry result
-        (put_child node.old (step (parents index.now) MOST climb.now.id node.old)) node.old) }
-    ensures value { option_copied_mut result
-        ≡ child_of node.old (step (parents index.now) MOST climb.now.id node.old) }
+        (put_child node.old (place_by id (children_of node.old))) node.old) }
+    ensures value { option_copied_mut result ≡ child_of node.old (place_by id (children_of node.old)) }
 {
-    let at = place_toward(node, index, climb)?;
+    let at = node.place_of(id)?;
     node.child_mut(at)
-}
-
-/// The place of the child that is the node with the climb's id, or has it below.
-pub(crate) fn place_toward<T, A: Allocator>(
-    node: &Node<T, A>,
-    index: &Index<A>,
-    climb: &Climb,
-) -> Option<usize>
-    requires rising { IsRising node.now }
-    requires climb { IsClimb (parents index.now) climb.now }
-    ensures some { IfSome result (λ i. i ≡ step (parents index.now) MOST climb.now.id node.now) }
-    ensures none { IfNone result (child_of node.now (step (parents index.now) MOST climb.now.id node.now) ≡
-        None) }
-{
-    let next = climb.child_toward(index, node.id)?;
-    match search_child(&node.children, next) {
-        Ok(at) => Some(at),
-        Err(_) => None,
-    }
 }
 
 type Twice7<D> = Twice<Twice<Twice<Twice<Twice<Twice<Twice<D>>>>>>>;

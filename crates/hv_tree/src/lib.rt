@@ -8,10 +8,9 @@
 //! - A refusal names its first cause, hands back what it was given, and leaves the rows as they were.
 //! - Look-ups, `get_mut`, `update_subtree` and `remove_leaf` take no memory.
 //!
-//! Beside the boxes stands an index from each id to its parent's. A look-up climbs in it once, from the id
-//! that is wanted, and notes the first ids above. Then it goes down from the root: at each node the noted ids
-//! tell the next child, and a binary search finds it. Only a climb past what is noted looks into the index
-//! again.
+//! Beside the boxes stands an index from each id to its parent's. A look-up climbs in it from the id that is
+//! wanted up to the root. It comes down through the same ids: at each node a binary search finds the next
+//! child. For a `&mut` it counts the steps first, and asks the index for the ids on the way down.
 //!
 //! `specs/Rows.antt` and `specs/Subtree.antt` have the words of the contracts. `proofs/Laws.antt`,
 //! `proofs/ChildLaws.antt` and `proofs/SubtreeLaws.antt` have what a caller's proof may need of them.

@@ -1,27 +1,48 @@
 //! Which node has an id.
-ghost use Rattle.std.specs.Prelude.{◌≡◌, IfSome, IfNone, false};
+ghost use Rattle.std.specs.Prelude.{◌≡◌, IfSome, IfNone, true, false};
 ghost use Rattle.std.specs.Borrow.{LendsIf, sem};
-ghost use Rattle.std.specs.Option.{option_copied, option_copied_mut, option_and_then};
 ghost use Rattle.hv_tree.specs.contracts.node.Branch.{the_row as branch_row};
 ghost use Rattle.hv_tree.specs.contracts.node.Node.{the_row as node_row};
 ghost use Rattle.hv_tree.specs.declared.index.TheConstants.{MOST};
 ghost use Rattle.hv_tree.specs.Index.{parents, IsLaid};
 ghost use Rattle.hv_tree.specs.Lines.{lines};
-ghost use Rattle.hv_tree.specs.Nest.{has_row, look};
-ghost use Rattle.hv_tree.specs.Put.{put_far, put_content_far, reach, IsContentAt};
-ghost use Rattle.hv_tree.specs.Way.{way, way_to, AreRising, IsClimb, IsReached};
+ghost use Rattle.hv_tree.specs.Nest.{has_row};
+ghost use Rattle.hv_tree.specs.Put.{put_far, put_content_far, IsContentAt};
+ghost use Rattle.hv_tree.specs.Way.{depth, way_to, IsReached};
 
-use crate::descent::{Down, Toward, place_toward};
-use crate::index::{Climb, Index};
+use crate::descent::{Down, Toward};
+use crate::index::{Index, MOST, parent_in};
 use crate::node::{Branch, Node};
 use std::alloc::Allocator;
 
-/// Whether a node has the id, where `parent` is the parent of one that has it.
-pub(crate) fn is_there<T, A: Allocator>(root: &Branch<T, A>, id: u64, parent: Option<u64>) -> bool
-    requires { parent ≡ option_and_then (λ r. r.0) (look id (lines root.now)) }
+/// Whether a node has the id.
+pub(crate) fn is_there<T, A: Allocator>(root: &Branch<T, A>, index: &Index<A>, id: u64) -> bool
+    requires { IsLaid (lines root.now) (parents index.now) }
     ensures { result ≡ has_row id (lines root.now) }
 {
-    id == root.node.id || parent.is_some()
+    id == root.node.id || parent_in(index, id).is_some()
+}
+
+/// How many nodes are above the one with the id.
+pub(crate) fn depth_in<T, A: Allocator>(
+    root: &Branch<T, A>,
+    index: &Index<A>,
+    id: u64,
+) -> Option<u64>
+    requires { IsLaid (lines root.now) (parents index.now) }
+    ensures found { IfSome result (λ _. has_row id (lines root.now) ≡ true) }
+    ensures depth { IfSome result (λ d. d ≡ depth (parents index.now) MOST id) }
+    ensures none { IfNone result (has_row id (lines root.now) ≡ false) }
+{
+    let mut at = id;
+    for step in 0..MOST {
+        if at == root.node.id {
+            return Some(step);
+        }
+        let parent = parent_in(index, at)?;
+        at = parent;
+    }
+    None
 }
 
 /// The node with the id.
@@ -34,31 +55,14 @@ pub(crate) fn seek<'t, T, A: Allocator>(
     ensures found { IfSome result (λ n. IsReached (parents index.now) id root.now n.now) }
     ensures none { IfNone result (has_row id (lines root.now) ≡ false) }
 {
-    let climb = Climb::new(index, id);
-    if !is_there(root, id, climb.parent_of(index, id, 0)) {
-        return None;
+    if id == root.node.id {
+        return Some(&root.node);
     }
-    walk(root, index, &climb, climb.depth(index))
-}
-
-// The node that is so many steps down on the way to the one with the climb's id.
-fn walk<'t, T, A: Allocator>(
-    branch: &'t Branch<T, A>,
-    index: &Index<A>,
-    climb: &Climb,
-    steps: u64,
-) -> Option<&'t Node<T, A>>
-    requires rising { AreRising branch.now }
-    requires climb { IsClimb (parents index.now) climb.now }
-    ensures { option_copied result
-        ≡ reach (way (parents index.now) MOST climb.now.id steps branch.now) branch.now }
-{
-    if steps == 0 {
-        return Some(&branch.node);
-    }
-    let at = place_toward(&branch.node, index, climb)?;
-    let child = branch.node.children.get(at)?;
-    walk(child, index, climb, steps - 1)
+    let parent = parent_in(index, id)?;
+    let node = seek(root, index, parent)?;
+    let at = node.place_of(id)?;
+    let child = node.children.get(at)?;
+    Some(&child.node)
 }
 
 /// The node with the id, to be changed.
@@ -74,11 +78,8 @@ pub(crate) fn seek_mut<'t, T, A: Allocator>(
     ensures found { IfSome result (λ r. IsReached (parents index.now) id root.old r.now) }
     ensures none { IfNone result (has_row id (lines root.old) ≡ false) }
 {
-    let climb = Climb::new(index, id);
-    if !is_there(root, id, climb.parent_of(index, id, 0)) {
-        return None;
-    }
-    Down::toward(root, index, &climb, climb.depth(index))
+    let steps = depth_in(root, index, id)?;
+    Down::toward(root, index, id, steps)
 }
 
 /// The content of the node with the id, to be changed.

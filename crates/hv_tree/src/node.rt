@@ -11,7 +11,7 @@ ghost use Rattle.hv_tree.specs.Put.{node_of, put_node, child_of, put_child, cont
 ghost use Rattle.hv_tree.specs.Lines.{lines, node_lines};
 ghost use Rattle.hv_tree.specs.Edited.{edited_in};
 ghost use Rattle.hv_tree.specs.Rows.{IsLeastAbove};
-ghost use Rattle.hv_tree.specs.Way.{id_of, children_of, IsRising, IsShorn, HasChild, HasParent};
+ghost use Rattle.hv_tree.specs.Way.{id_of, children_of, place_by, IsRising, IsShorn, HasChild, HasParent};
 
 use crate::edit::Edit;
 use std::alloc::{AllocError, Allocator};
@@ -74,6 +74,18 @@ impl<T, A: Allocator> Node<T, A> {
         ensures value { result.now ≡ content_of self.old }
     {
         &mut self.content
+    }
+
+    /// The place of the child with the id.
+    pub(crate) fn place_of(&self, id: u64) -> Option<usize>
+        requires { IsRising self.now }
+        ensures some { IfSome result (λ i. i ≡ place_by id (children_of self.now)) }
+        ensures none { IfNone result (child_of self.now (place_by id (children_of self.now)) ≡ None) }
+    {
+        match search_child(&self.children, id) {
+            Ok(at) => Some(at),
+            Err(_) => None,
+        }
     }
 
     pub(crate) fn child_mut(&mut self, at: usize) -> Option<&mut Branch<T, A>>

@@ -13,8 +13,8 @@ ghost use Rattle.hv_tree.specs.Lines.{lines};
 
 use crate::change::{edit_below, graft, prune, reserve};
 use crate::edit::Edit;
-use crate::index::{Climb, Index, MOST, forget, parent_in};
-use crate::look_up::{content_at, is_there, seek};
+use crate::index::{Index, MOST, forget, parent_in};
+use crate::look_up::{content_at, depth_in, is_there, seek};
 use crate::node::Branch;
 use crate::refused::{InsertRefused, ReserveRefused};
 use indexmap::IndexMap;
@@ -61,7 +61,7 @@ impl<T, A: Allocator> IdTree<T, A> {
         ensures none { result ≡ false → children self.now id ≡ [] }
         ensures tree { IsTree self.now }
     {
-        is_there(&self.root, id, parent_in(&self.index, id))
+        is_there(&self.root, &self.index, id)
     }
 
     /// The content of a node.
@@ -88,11 +88,7 @@ impl<T, A: Allocator> IdTree<T, A> {
         ensures depth { IfSome result (HasDepth self.now id) }
         ensures tree { IsTree self.now }
     {
-        let climb = Climb::new(&self.index, id);
-        if !is_there(&self.root, id, climb.parent_of(&self.index, id, 0)) {
-            return None;
-        }
-        Some(climb.depth(&self.index))
+        depth_in(&self.root, &self.index, id)
     }
 
     /// How many children a node has, or `None` where no node has the id.

@@ -1,4 +1,4 @@
-use Rattle.std.proofs.Common.{◌≡◌, false, ap, sym, ◌∙◌, arith}
+use Rattle.std.proofs.Common.{◌≡◌, Some, IfSome, is_some, false, refl, ap, sym, subst, ◌∙◌, arith}
 use borrow.Follows.Closed.{read_of}
 use Rattle.std.specs.Option.{option_copied_mut, ghost_name_of}
 use Rattle.hv_tree.specs.declared.index.TheConstants.{MOST}
@@ -6,37 +6,33 @@ use Rattle.hv_tree.specs.Index.{parents}
 use Rattle.hv_tree.specs.Lines.{lines}
 use Rattle.hv_tree.specs.Nest.{has_row}
 use Rattle.hv_tree.specs.Put.{reach, put_far}
-use Rattle.hv_tree.specs.Way.{way, way_to, depth, IsReached}
-use Rattle.hv_tree.proofs.Reached.{laid-rising, few-steps, reached}
+use Rattle.hv_tree.specs.Way.{depth, line, places, IsReached}
+use Rattle.hv_tree.proofs.Sought.{laid-rising, few-steps, reached}
 use Rattle.hv_tree.proofs.Found.{some_copied_mut, none_copied_mut}
 use Rattle.hv_tree.proofs.look_up.seek_mut.Goals as goal
 
-pub is_there-requires : goal.is_there-requires
-is_there-requires g c = c.parent_of.ensures ∙ c.requires.indexed c.args.id
-
-pub parent_of-requires-clause-led : goal.parent_of-requires-clause-led
-parent_of-requires-clause-led g c = c.new-climb.ensures.id
+pub returns-in_err-steps : goal.returns-in_err-steps
+returns-in_err-steps g c = rw c.from_residual.ensures (refl, record { writes_back = tt; found = tt; none = c.in_err-steps.ensures.none })
 
 pub toward-requires-clause-rising : goal.toward-requires-clause-rising
-toward-requires-clause-rising g c = laid-rising (parents c.args.index.now) c.args.root.now c.requires c.args.id (sym c.is_there.ensures ∙ c.if-not-is_there.false)
+toward-requires-clause-rising g c = laid-rising (parents c.args.index.now) c.args.root.now c.requires
 
 pub toward-requires-clause-few : goal.toward-requires-clause-few
-toward-requires-clause-few g c = omega (
-  arith,
-  c.depth.ensures,
-  ap (depth (parents c.args.index.now) MOST) c.new-climb.ensures.id,
-  few-steps (parents c.args.index.now) c.args.root.now c.requires
-      c.args.id (sym c.is_there.ensures ∙ c.if-not-is_there.false),
-)
+toward-requires-clause-few g c = omega (arith, c.in_ok-steps.ensures.depth, few-steps (parents c.args.index.now) c.args.root.now c.requires c.args.id c.in_ok-steps.ensures.found)
 
 pub returns : goal.returns
 returns g c =
     let up = parents c.args.index.now in
     let b = c.args.root.now in
-    let led : option_copied_mut c.toward.result ≡ reach (way_to up c.args.id b) b = c.toward.ensures.value ∙ ap (λ s. reach (way up MOST c.new-climb.result.id s b) b) c.depth.ensures ∙ ap
-    (λ q. reach (way_to up q b) b) c.new-climb.ensures.id in
-    let all = reached up b c.requires c.args.id (sym c.is_there.ensures ∙ c.if-not-is_there.false) (option_copied_mut c.toward.result) led in (
-      ap (λ s. read_of (ghost_name_of c.toward.result) (put_far (way up MOST c.new-climb.result.id s b) b) b) c.depth.ensures
-          ∙ ap (λ q. read_of (ghost_name_of c.toward.result) (put_far (way_to up q b) b) b) c.new-climb.ensures.id,
-      record { writes_back = tt; found = some_copied_mut (λ n. IsReached up c.args.id b n) c.toward.result all.0; none = none_copied_mut (has_row c.args.id (lines b) ≡ false) c.toward.result all.1 },
+    let id = c.args.id in
+    let s : c.in_ok-steps.steps ≡ depth up MOST id = c.in_ok-steps.ensures.depth in
+    let r = reached up b c.requires id c.in_ok-steps.ensures.found in
+    let led : option_copied_mut c.toward.result ≡ Some r.0 = c.toward.ensures.value ∙ ap (λ s. reach (places (line up s id) b) b) s ∙ r.1.led in (
+      ap (λ s. read_of (ghost_name_of c.toward.result) (put_far (places (line up s id) b) b) b) s,
+      record {
+        writes_back = tt;
+        found = some_copied_mut (λ n. IsReached up id b n) c.toward.result (subst (λ o. IfSome o (λ n. IsReached up id b n)) (sym led) r.1);
+        none = none_copied_mut
+            (has_row id (lines b) ≡ false) c.toward.result (ap is_some led);
+      },
     )
