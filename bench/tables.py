@@ -1,5 +1,5 @@
 #!/usr/bin/env python3
-"""Prints the tables of docs/SPEED.md, in the form of that page:
+"""Prints tables of the figures of docs/SPEED.md, those of that page in its form:
 
     bench/tables.py [NAME [OUTPUT]]
 
