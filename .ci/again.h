@@ -1,6 +1,7 @@
 /*
- * Included before a C program over the library, so that its boots and hypercalls are made again where there was no memory. What
- * was refused must have changed nothing: the handle and the reply keep their bytes, and the line's buffer too.
+ * Included before a C program over the library, so that its boots and hypercalls are made again where there
+ * was no memory. What was refused must have changed nothing: the handle and the reply keep their bytes, and
+ * the line's buffer too.
  */
 #include "hvpm.h"
 
@@ -24,7 +25,8 @@ static inline uint32_t again_boot(hvpm_machine *machine, const hvpm_config *conf
 }
 
 static inline uint32_t again_hypercall(hvpm_machine *machine, hvpm_caller by, const hvpm_registers *registers,
-                                       const uint8_t *input, size_t input_len, hvpm_reply *reply, char *line, size_t line_size) {
+                                       const uint8_t *input, size_t input_len, hvpm_reply *reply, char *line,
+                                       size_t line_size) {
     const hvpm_machine before = *machine;
     static hvpm_reply reply_before;
     static char line_before[HVPM_LINE];

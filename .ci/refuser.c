@@ -1,7 +1,7 @@
 /*
- * Refuses a program one block of memory: preloaded, it lets the call of malloc or realloc fail whose number the variable
- * REFUSE has, counted from 1, and makes the empty file that REFUSED names where there was such a call. A `realloc` that fails
- * leaves its block as it was.
+ * Refuses a program one block of memory: preloaded, it lets the call of malloc or realloc fail whose number
+ * the variable REFUSE has, counted from 1, and makes the empty file that REFUSED names where there was such a
+ * call. A `realloc` that fails leaves its block as it was.
  */
 #define _GNU_SOURCE
 #include <dlfcn.h>

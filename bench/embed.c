@@ -1,4 +1,7 @@
-/* How long an event takes through the library, without and with its line of the audit. Sourced by embed.sh. */
+/*
+ * How long an event takes through the library, without and with its line of the audit.
+ * Sourced by embed.sh.
+ */
 #include "hvpm.h"
 
 #include <inttypes.h>
@@ -26,7 +29,8 @@ static void put_number(uint8_t *at, uint64_t value, size_t len) {
 static void call(uint64_t rcx, uint64_t rdx, const void *input, size_t len) {
     hvpm_registers registers = {rcx, rdx, 0};
     do {
-        want(hvpm_hypercall(&machine, root, &registers, input, len, &reply, line_size ? line : NULL, line_size));
+        want(hvpm_hypercall(&machine, root, &registers, input, len, &reply, line_size ? line : NULL,
+                            line_size));
         registers.rcx = hvpm_next(registers.rcx, &reply);
     } while (reply.kind == HVPM_REPLY_MORE && !failed);
 }

@@ -1,9 +1,10 @@
 #!/usr/bin/env bash
-# How long an event takes through the library for C, in five kinds of work, with and without its line of the audit: nanoseconds
-# of processor time, the least of five runs. Then the calls and the time of a heartbeat between two processors, and of each script
-# that is named the time of an event, without a line. Builds the library first, where that isn't done. An event of the five kinds
-# that isn't served ends it with status 1, and so do a heartbeat of more than 8 calls, and a line of a script at which the library
-# answers a status other than 0.
+# How long an event takes through the library for C, in five kinds of work, with and without its line of the
+# audit: nanoseconds of processor time, the least of five runs. Then the calls and the time of a heartbeat
+# between two processors, and of each script that is named the time of an event, without a line. Builds the
+# library first, where that isn't done. An event of the five kinds that isn't served ends it with status 1,
+# and so do a heartbeat of more than 8 calls, and a line of a script at which the library answers a status
+# other than 0.
 #
 #     bench/embed.sh [SCRIPT..]
 set -eu

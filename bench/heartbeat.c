@@ -1,8 +1,9 @@
 /*
- * What a heartbeat costs, at 1 processor and at 64: the root signals an event, the processor takes the interrupt, finds the flag
- * in its page, and answers by a signal, whose interrupt and flag the root takes. A VMM that follows docs/EMBEDDING.md makes all
- * of it. Prints the calls of the library, events and looks, and nanoseconds of processor time. Run by embed.sh. The status is 1
- * where a heartbeat takes more than 8 calls, or isn't answered.
+ * What a heartbeat costs, at 1 processor and at 64: the root signals an event, the processor takes the
+ * interrupt, finds the flag in its page, and answers by a signal, whose interrupt and flag the root takes. A
+ * VMM that follows docs/EMBEDDING.md makes all of it. Prints the calls of the library, events and looks, and
+ * nanoseconds of processor time. Run by embed.sh. The status is 1 where a heartbeat takes more than 8 calls,
+ * or isn't answered.
  */
 #include "hvpm.h"
 
@@ -37,7 +38,10 @@ static void served(uint32_t status) {
     want(status == HVPM_STATUS_OK && reply.kind <= HVPM_REPLY_MORE);
 }
 
-/* A signal, what it changes of pages, and the vectors that it raises: at the processor that the effect names. */
+/*
+ * A signal, what it changes of pages, and the vectors that it raises: at the
+ * processor that the effect names.
+ */
 static void signal_event(const struct processor *from, uint32_t connection) {
     uint8_t vector;
     served(hvpm_signal_event(&machine, from->pages.of, connection, 0, &reply, NULL, 0));
@@ -45,7 +49,8 @@ static void signal_event(const struct processor *from, uint32_t connection) {
     for (uint32_t i = 0; i < count; i++) {
         struct processor *at = &processors[i];
         want(hvpm_pages_after(&machine, &at->pages, &effect) == HVPM_STATUS_OK);
-        while (hvpm_pages_vector(&machine, &at->pages, &vector) == HVPM_STATUS_OK && vector != 0) at->injected = vector;
+        while (hvpm_pages_vector(&machine, &at->pages, &vector) == HVPM_STATUS_OK && vector != 0)
+            at->injected = vector;
     }
 }
 
@@ -86,7 +91,8 @@ static void set_up(uint32_t vps) {
     uint64_t guest = 0, pages[512];
     want(hvpm_boot(&machine, &config) == HVPM_STATUS_OK);
     served(hvpm_create_partition(&machine, root, 0, &guest, &reply, NULL, 0));
-    served(hvpm_set_partition_property(&machine, root, guest, HVPM_PRIVILEGE_FLAGS, 0x3000000064, &reply, NULL, 0));
+    served(hvpm_set_partition_property(&machine, root, guest, HVPM_PRIVILEGE_FLAGS, 0x3000000064, &reply,
+                                       NULL, 0));
     served(hvpm_initialize_partition(&machine, root, guest, &reply, NULL, 0));
     for (uint16_t i = 0; i < 500; i++) pages[i] = 256 + i;
     for (uint16_t i = 0; i < 500; i++)

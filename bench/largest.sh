@@ -1,10 +1,11 @@
 #!/usr/bin/env bash
-# What `hvpm` takes for scripts of the largest size, 1,048,576 bytes, of five kinds: calls for the caller's own id; rep calls of
-# 255 elements; messages that are posted, read and cleared; partitions that are made and deleted; and lines of which each names
-# another processor, 64 in a phase. Beside time and memory it prints the instructions of an event, as valgrind counts them, which
-# are the same on every machine: those of the whole script less those of its first line. Of the first four kinds peak memory
-# should stay within that of one line and twenty times the script's bytes, and no event should be refused. Of the last each is,
-# since the processors aren't there.
+# What `hvpm` takes for scripts of the largest size, 1,048,576 bytes, of five kinds: calls for the caller's
+# own id; rep calls of 255 elements; messages that are posted, read and cleared; partitions that are made and
+# deleted; and lines of which each names another processor, 64 in a phase. Beside time and memory it prints
+# the instructions of an event, as valgrind counts them, which are the same on every machine: those of the
+# whole script less those of its first line. Of the first four kinds peak memory should stay within that of
+# one line and twenty times the script's bytes, and no event should be refused. Of the last each is, since the
+# processors aren't there.
 set -eu
 
 root=$(cd -- "$(dirname -- "${BASH_SOURCE[0]}")/.." && pwd)
@@ -17,7 +18,11 @@ source "$root/bench/measure.sh"
 make() {
     awk -v kind="$1" -v most=1048576 '
         # The k bytes of a number, the lowest first.
-        function bytes(n, k,    s) { s = ""; for (; k > 0; k--) { s = s sprintf("%02x", n % 256); n = int(n / 256) } return s }
+        function bytes(n, k,    s) {
+            s = ""
+            for (; k > 0; k--) { s = s sprintf("%02x", n % 256); n = int(n / 256) }
+            return s
+        }
 
         # Prints a line, or the comment at the end where it does not fit.
         function line(text) {
@@ -31,7 +36,8 @@ make() {
         # A port of the root for messages at SINT 2, a connection to it, and a processor that is ready.
         function begin_messages() {
             line("1.0 wrmsr 0x40000080 1"); line("1.0 wrmsr 0x40000083 1"); line("1.0 wrmsr 0x40000092 0x30")
-            call("0x95", 0, bytes(1, 8) bytes(5, 8) bytes(1, 8) bytes(1, 8) bytes(2, 4) bytes(0, 4) bytes(0, 8))
+            call("0x95", 0, bytes(1, 8) bytes(5, 8) bytes(1, 8) bytes(1, 8) bytes(2, 4) bytes(0, 4) \
+                bytes(0, 8))
             call("0x96", 0, bytes(1, 8) bytes(7, 8) bytes(1, 8) bytes(5, 8) bytes(1, 4))
         }
 
@@ -66,7 +72,8 @@ for kind in id reps messages partitions processors; do
     make "$kind"
     echo "== $kind, $(stat -c %s "$folder/$kind.hv") bytes"
     measure "$program" "$folder/$kind.hv"
-    echo "bytes of the outputs: $(awk '/ (ok|more) / && $NF != "-" { n += length($NF) / 2 } END { print n + 0 }' "$folder/audit")"
+    bytes=$(awk '/ (ok|more) / && $NF != "-" { n += length($NF) / 2 } END { print n + 0 }' "$folder/audit")
+    echo "bytes of the outputs: $bytes"
 done
 echo "== the boot line alone"
 measure "$program" "$folder/boot.hv"

@@ -1,6 +1,7 @@
 # Sourced by the benchmarks: the program that they measure, the bytes of a number, and one measured run.
 
-# HVPM where it is set, and else the repository's own program, which is proved and built first where that isn't done.
+# HVPM where it is set, and else the repository's own program, which is proved and
+# built first where that isn't done.
 program=${HVPM:-$root/crates/hvpm/out/hvpm}
 [[ -n ${HVPM:-} ]] || "$root/bin/hvpm" --prove
 
@@ -13,16 +14,17 @@ field() {
     done
 }
 
-# The instructions of a run of the script $2 with the program $1, as valgrind counts them. The status is 1 without valgrind.
+# The instructions of a run of the script $2 with the program $1, as valgrind counts them.
+# The status is 1 without valgrind.
 instructions() {
     command -v valgrind >/dev/null || return 1
     valgrind --tool=callgrind --callgrind-out-file=/dev/null "$1" run "$2" --serial 2>&1 >/dev/null |
         sed -n 's/.*Collected : //p'
 }
 
-# Runs the script $2 with the program $1, and prints its time, its peak memory, the last line of its audit, how many events
-# were refused, and with valgrind the instructions of an event: those of the script less those of its first line. The folder
-# of the script takes the audit.
+# Runs the script $2 with the program $1, and prints its time, its peak memory, the last line of its audit,
+# how many events were refused, and with valgrind the instructions of an event: those of the script less those
+# of its first line. The folder of the script takes the audit.
 measure() {
     local folder events whole
     folder=$(dirname -- "$2")

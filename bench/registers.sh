@@ -1,8 +1,9 @@
 #!/usr/bin/env bash
-# How long `hvpm` takes for registers and MSRs, as processors and partitions grow. Each script has the same work in 64 turns:
-# a call that writes 100 registers, a call that reads 100, and 100 writes and 100 reads of MSRs, 25,600 events in all. The
-# time of an event should stay level from 1 processor to 64 and from 1 partition to 100: where it grows, an event goes through
-# processors or partitions that it doesn't name. No event should be refused.
+# How long `hvpm` takes for registers and MSRs, as processors and partitions grow. Each script has the same
+# work in 64 turns: a call that writes 100 registers, a call that reads 100, and 100 writes and 100 reads of
+# MSRs, 25,600 events in all. The time of an event should stay level from 1 processor to 64 and from 1
+# partition to 100: where it grows, an event goes through processors or partitions that it doesn't name. No
+# event should be refused.
 set -eu
 
 root=$(cd -- "$(dirname -- "${BASH_SOURCE[0]}")/.." && pwd)
@@ -13,15 +14,16 @@ source "$root/bench/measure.sh"
 
 turns=64
 
-# The registers that take values: RAX to RFLAGS, the 16 SINTs, SCONTROL, SIEFP, SIMP and EOM. VP_INDEX and SVERSION are
-# read alone.
+# The registers that take values: RAX to RFLAGS, the 16 SINTs, SCONTROL, SIEFP, SIMP and EOM. VP_INDEX and
+# SVERSION are read alone.
 writable=()
 for ((i = 0; i < 18; i++)); do writable+=($((0x20000 + i))); done
 for ((i = 0; i < 16; i++)); do writable+=($((0xa0000 + i))); done
 writable+=($((0xa0010)) $((0xa0012)) $((0xa0013)) $((0xa0014)))
 readable=("${writable[@]}" $((0x90003)) $((0xa0011)))
 
-# 100 elements of a call that writes, each with a value of its own that a SINT takes, and of a call that reads.
+# 100 elements of a call that writes, each with a value of its own that a SINT
+# takes, and of a call that reads.
 written=$(for ((i = 0; i < 100; i++)); do
     field "${writable[i % ${#writable[@]}]}" 16
     field $((0x0123456789abcd20 + i)) 16
@@ -33,7 +35,8 @@ msrs=(0x40000080 0x40000082 0x40000083 0x40000084)
 for ((i = 0; i < 16; i++)); do msrs+=("$(printf '0x%x' $((0x40000090 + i)))"); done
 all_msrs=("${msrs[@]}" 0x40000002 0x40000081)
 
-# One turn: processor $1 writes and reads the registers of processor $3 of partition $2, and processor $4 its own MSRs.
+# One turn: processor $1 writes and reads the registers of processor $3 of partition $2,
+# and processor $4 its own MSRs.
 turn() {
     local header
     header=$(field "$2" 8)$(field "$3" 8)
@@ -55,8 +58,9 @@ processors_script() {
     done
 }
 
-# Makes a script in which the root makes $1 partitions, each of which gets 4 pages and a processor, and then reads and
-# writes the registers of one after another. A script names at most 64 processors, so the MSRs are those of the first 60.
+# Makes a script in which the root makes $1 partitions, each of which gets 4 pages and a processor, and then
+# reads and writes the registers of one after another. A script names at most 64 processors, so the MSRs are
+# those of the first 60.
 partitions_script() {
     local id page=256
     echo "boot 1024 256 1 0x000000f700000044 4294967295"

@@ -1,6 +1,7 @@
 /*
- * How long an event of a script takes through the library, without its line of the audit: nanoseconds of processor time, the least
- * of 25 passes, each on a machine of its own. A script is read whole before the first pass. Sourced by embed.sh.
+ * How long an event of a script takes through the library, without its line of the audit: nanoseconds of
+ * processor time, the least of 25 passes, each on a machine of its own. A script is read whole before the
+ * first pass. Sourced by embed.sh.
  *
  * It reads scripts without a fault, of at most 1 MiB, and leaves LIMIT alone.
  */
@@ -14,7 +15,10 @@
 
 enum { MOST = 1 << 17, PASSES = 25 };
 
-/* What a line asks for. Of a call `input` is where its bytes begin among those of all, of an access the first number. */
+/*
+ * What a line asks for. Of a call `input` is where its bytes begin among those of all,
+ * of an access the first number.
+ */
 struct line {
     hvpm_caller by;
     enum { CALL, READ_MSR, WRITE_MSR, READ_SLOT, CLEAR_SLOT, READ_FLAGS, CLEAR_FLAG, TAKE_INTERRUPT } what;
@@ -35,12 +39,14 @@ static uint64_t number(const char *word) {
 
 static void put_input(struct line *line, const char *word) {
     line->input = inputs_len;
-    for (unsigned byte; word[0] != '-' && sscanf(word, "%2x", &byte) == 1; word += 2) inputs[inputs_len++] = (uint8_t)byte;
+    for (unsigned byte; word[0] != '-' && sscanf(word, "%2x", &byte) == 1; word += 2)
+        inputs[inputs_len++] = (uint8_t)byte;
     line->input_len = inputs_len - line->input;
 }
 
 static void put_line(char **words) {
-    static const char *const whats[] = {"call", "rdmsr", "wrmsr", "slot", "clearslot", "flags", "clearflag", "interrupt"};
+    static const char *const whats[] = {"call", "rdmsr", "wrmsr", "slot", "clearslot", "flags", "clearflag",
+                                        "interrupt"};
     struct line *line = &lines[count++];
     line->by = (hvpm_caller){number(words[0]), (uint32_t)number(strchr(words[0], '.') + 1)};
     line->what = CALL;
@@ -57,7 +63,8 @@ static bool read_script(const char *name) {
     while (count < MOST && fgets(text, sizeof text, file)) {
         char *words[8] = {NULL};
         size_t some = 0;
-        for (char *word = strtok(text, " \n"); word && some < 8; word = strtok(NULL, " \n")) words[some++] = word;
+        for (char *word = strtok(text, " \n"); word && some < 8; word = strtok(NULL, " \n"))
+            words[some++] = word;
         if (some < 2 || words[0][0] == '#') continue;
         if (strcmp(words[0], "boot") == 0)
             config = (hvpm_config){number(words[4]), (uint32_t)number(words[1]), (uint32_t)number(words[2]),
@@ -72,8 +79,8 @@ static bool read_script(const char *name) {
 static uint32_t call(struct line *line, hvpm_reply *reply) {
     static uint8_t outputs[4096 * HVPM_OUTPUT];
     hvpm_run_done done;
-    return hvpm_run(&machine, line->by, &line->registers, inputs + line->input, line->input_len, reply, outputs, sizeof outputs,
-                    &done);
+    return hvpm_run(&machine, line->by, &line->registers, inputs + line->input, line->input_len, reply,
+                    outputs, sizeof outputs, &done);
 }
 
 static uint32_t happen(struct line *line, hvpm_reply *reply) {
@@ -106,7 +113,8 @@ static double pass(uint64_t *events, uint64_t *served) {
     clock_gettime(CLOCK_PROCESS_CPUTIME_ID, &end);
     *events = machine.events;
     hvpm_destroy(&machine);
-    return ((double)(end.tv_sec - start.tv_sec) * 1e9 + (double)(end.tv_nsec - start.tv_nsec)) / (double)*events;
+    return ((double)(end.tv_sec - start.tv_sec) * 1e9 + (double)(end.tv_nsec - start.tv_nsec)) /
+           (double)*events;
 }
 
 int main(int argc, char **argv) {

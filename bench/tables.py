@@ -54,7 +54,8 @@ PAGES = (4096, 16384, 32768, 65536)
 
 
 class Part:
-    """The figures of a script: its events, processor time, peak memory and instructions, None where the output lacks one."""
+    """The figures of a script: its events, processor time, peak memory and instructions, None
+    where the output lacks one."""
 
     def __init__(self, text):
         def figure(pattern, kind=int):
@@ -102,7 +103,8 @@ def largest(text):
         beyond = None if None in (part.peak, boot.peak) else (part.peak - boot.peak) / 1024
         rows.append((LARGEST[name.partition(",")[0]], number(part.events), milliseconds(part.seconds),
                      number(part.instructions), shown(beyond, "{:.1f} MiB")))
-    print_table(("script", "events", "processor time", "instructions an event", "peak memory above an empty script"), rows)
+    print_table(("script", "events", "processor time", "instructions an event",
+                 "peak memory above an empty script"), rows)
 
 
 def threads(text):
@@ -113,7 +115,8 @@ def threads(text):
 
 
 def pools(text):
-    parts = {title.rpartition(",")[0] if title.endswith("events") else title: part for title, part in parts_of(text).items()}
+    parts = {title.rpartition(",")[0] if title.endswith("events") else title: part
+             for title, part in parts_of(text).items()}
     rows = []
     for pages in PAGES:
         titles = (f"{pages} pages", f"every second of {pages} pages",
@@ -138,7 +141,8 @@ def embed(text):
     scripts = re.findall(r"^(\S+) +([\d.]+) ns, of (\d+) events", text, re.M)
     if scripts:
         print()
-        print_table(("script", "events", "ns an event"), [(name, number(int(events)), ns) for name, ns, events in scripts])
+        print_table(("script", "events", "ns an event"),
+                    [(name, number(int(events)), ns) for name, ns, events in scripts])
 
 
 def registers(text):
@@ -155,7 +159,8 @@ def registers(text):
 def messages(text):
     parts = parts_of(text)
     rows = [(*cells, number(parts.get(title, Part("")).instructions)) for title, cells in MESSAGES.items()]
-    print_table(("VPs", "ports of each kind", "partitions beside the root", "stored messages at the VP", "instructions"), rows)
+    print_table(("VPs", "ports of each kind", "partitions beside the root", "stored messages at the VP",
+                 "instructions"), rows)
 
 
 TABLES = {table.__name__: table for table in (largest, threads, pools, embed, registers, messages)}
@@ -218,7 +223,8 @@ def main():
             if words[1:]:
                 text = pathlib.Path(words[1]).read_text()
             else:
-                text = subprocess.run([ROOT / "bench" / f"{name}.sh"], check=True, stdout=subprocess.PIPE, text=True).stdout
+                text = subprocess.run([ROOT / "bench" / f"{name}.sh"], check=True,
+                                      stdout=subprocess.PIPE, text=True).stdout
             TABLES[name](text)
     except subprocess.CalledProcessError as failed:
         print(failed, file=sys.stderr)

@@ -1,6 +1,6 @@
 /*
- * Counts the threads that a program starts: preloaded, it adds a byte to the file that the variable STARTED names for each
- * call of pthread_create that starts one.
+ * Counts the threads that a program starts: preloaded, it adds a byte to the file that the variable STARTED
+ * names for each call of pthread_create that starts one.
  */
 #define _GNU_SOURCE
 #include <dlfcn.h>
@@ -9,7 +9,8 @@
 #include <stdlib.h>
 #include <unistd.h>
 
-int pthread_create(pthread_t *thread, const pthread_attr_t *attributes, void *(*start)(void *), void *argument) {
+int pthread_create(pthread_t *thread, const pthread_attr_t *attributes, void *(*start)(void *),
+                   void *argument) {
     static int (*next)(pthread_t *, const pthread_attr_t *, void *(*)(void *), void *);
     if (!next) *(void **)&next = dlsym(RTLD_NEXT, "pthread_create");
     const int status = next(thread, attributes, start, argument);

@@ -3,13 +3,14 @@
 #
 #     bench/threads.sh [RUNS [WORD..]]        runs the script RUNS times, 1000 if left out
 #
-# The script has 5,000 events of 8 processors of the root in one phase. Each processor reads and writes registers of its own
-# alone, so that its lines of the audit are the same in whatever order the processors come. A run passes where its status is
-# 0, nothing is told on standard error, the numbers of its audit rise from 1 by one to `events 5000`, and each processor's
-# lines are, but for their numbers, those of a run with --serial, in that order. The WORDs go to each run that is counted: with
-# --serial no threads run, and what passes is this script. HVPM, where it is set, is the program that is run, which is not
-# built then. The last line is 'N passed, M failed', and the status is 1 where a run failed. It is 1, too, where a run before
-# these starts no thread for each processor but one, which the main thread may run, or with --serial any.
+# The script has 5,000 events of 8 processors of the root in one phase. Each processor reads and writes
+# registers of its own alone, so that its lines of the audit are the same in whatever order the processors
+# come. A run passes where its status is 0, nothing is told on standard error, the numbers of its audit rise
+# from 1 by one to `events 5000`, and each processor's lines are, but for their numbers, those of a run with
+# --serial, in that order. The WORDs go to each run that is counted: with --serial no threads run, and what
+# passes is this script. HVPM, where it is set, is the program that is run, which is not built then. The last
+# line is 'N passed, M failed', and the status is 1 where a run failed. It is 1, too, where a run before these
+# starts no thread for each processor but one, which the main thread may run, or with --serial any.
 set -eu
 
 root=$(cd -- "$(dirname -- "${BASH_SOURCE[0]}")/.." && pwd)
@@ -47,8 +48,8 @@ turn() {
     done
 } >"$folder/threads.hv"
 
-# Runs the script, with further words, for 20 seconds at most. The audit, what was told and the status are files, and the
-# processor time is a line more of the file $1.
+# Runs the script, with further words, for 20 seconds at most. The audit, what was told and the status are
+# files, and the processor time is a line more of the file $1.
 run() {
     local times=$1 status=0 TIMEFORMAT='%U %S'
     shift
@@ -57,7 +58,8 @@ run() {
     echo "$status" >"$folder/status"
 }
 
-# Whether the run ended well, and its audit is a merge of the serial run's lines of each processor. Says what is wrong first.
+# Whether the run ended well, and its audit is a merge of the serial run's lines of each processor.
+# Says what is wrong first.
 passes() {
     local status
     status=$(<"$folder/status")
@@ -101,7 +103,8 @@ if [[ $(<"$folder/status") != 0 || $(tail -n 1 -- "$folder/serial") != "events $
     exit 1
 fi
 
-"${CC:-cc}" -std=c11 -Wall -Wextra -Werror -O2 -fPIC -shared "$root/bench/threads.c" -o "$folder/threads.so" -ldl
+"${CC:-cc}" -std=c11 -Wall -Wextra -Werror -O2 -fPIC -shared "$root/bench/threads.c" \
+    -o "$folder/threads.so" -ldl
 starts_threads "$@" || { echo "these are not the threads of $processors processors"; exit 1; }
 
 failed=0

@@ -4,8 +4,9 @@
     conformance/run --group interface --no-tables conformance/driver_example.py
     conformance/run --group interface --no-tables --batch conformance/driver_example.py
 
-With --batch it takes one script after another from standard input, each by its path. The machine is a toy: it has the root
-partition alone, and serves HvGetPartitionId. Whoever connects an emulator puts it in the place of `Toy`, and keeps the rest."""
+With --batch it takes one script after another from standard input, each by its path. The machine is a toy: it
+has the root partition alone, and serves HvGetPartitionId. Whoever connects an emulator puts it in the place
+of `Toy`, and keeps the rest."""
 import sys
 
 REP_CALLS = {0x48, 0x49, 0x50, 0x51}
@@ -27,8 +28,8 @@ class Toy:
         self.processors, self.mask = processors, mask
 
     def call(self, partition, processor, rcx, rdx, r8, data):
-        """One hypercall, or the element of a rep call at its start index: the result value, the output of that element,
-        and the first rule that isn't met, "" where all are."""
+        """One hypercall, or the element of a rep call at its start index: the result value, the output of
+        that element, and the first rule that isn't met, "" where all are."""
         unmet = [
             ("P1", partition != 1),
             ("P3", processor >= self.processors),
@@ -41,7 +42,8 @@ class Toy:
         return (RULES[rule], b"", rule) if rule else (0, (1).to_bytes(8, "little"), "")
 
     def access(self, partition, processor, word, numbers):
-        """One access, as "rdmsr" with its numbers: the output, and the first rule that isn't met. The toy has none."""
+        """One access, as "rdmsr" with its numbers: the output, and the first rule that isn't met.
+        The toy has none."""
         return b"", "P1" if partition != 1 else "P3" if processor >= self.processors else "P25"
 
 
@@ -65,7 +67,10 @@ def events(machine, caller, word, words):
         result, output, rule = machine.call(partition, processor, rcx, rdx, r8, data)
         done, count = result >> 32, rcx >> 32 & 0xFFF
         more = not rule and rcx & 0xFFFF in REP_CALLS and done < count
-        reply = f"denied {result:016x} {rule}" if rule else f"{'more' if more else 'ok'} {result:016x} {output.hex() or '-'}"
+        if rule:
+            reply = f"denied {result:016x} {rule}"
+        else:
+            reply = f"{'more' if more else 'ok'} {result:016x} {output.hex() or '-'}"
         yield f"call {rcx:016x} {reply}"
         if not more:
             return
@@ -87,7 +92,8 @@ def run(path):
 
 
 def run_batch():
-    """Runs the scripts whose paths are lines of standard input; a line `end` stands behind what is told of each."""
+    """Runs the scripts whose paths are lines of standard input; a line `end` stands
+    behind what is told of each."""
     for path in sys.stdin:
         try:
             run(path.rstrip("\n"))

@@ -1,12 +1,14 @@
 /*
- * Keeps a processor's message page (SIMP) and event flags page (SIEFP) in step with the library. The guest reads and writes
- * both without an exit, so no event tells the library what it took (TLFS 4.0, "Inter-Partition Communication"). docs/EMBEDDING.md
- * says when a VMM calls what. All of one exit is one critical section under the lock of the handle:
+ * Keeps a processor's message page (SIMP) and event flags page (SIEFP) in step with the library. The guest
+ * reads and writes both without an exit, so no event tells the library what it took (TLFS 4.0,
+ * "Inter-Partition Communication"). docs/EMBEDDING.md says when a VMM calls what. All of one exit is one
+ * critical section under the lock of the handle:
  *
  *     hvpm_pages_before(&machine, p);                 // before a post, EOM, and HvSetVpRegisters
  *     hvpm_hypercall(&machine, ..., &reply, ...);     // what the guest exited for, or hvpm_write_msr
  *     hvpm_pages_move(&machine, p, messages, flags);  // only after a write of SIMP or SIEFP
- *     hvpm_pages_after(&machine, p, &reply.effect);   // after each event; each p, or the one that the effect names
+ *     hvpm_pages_after(&machine, p, &reply.effect);   // after each event;
+ *                                                     // each p, or the one that the effect names
  *     while (hvpm_pages_vector(&machine, p, &vector) == HVPM_STATUS_OK && vector != 0) inject(p, vector);
  *
  * A function answers HVPM_STATUS_OK, or the first other status that the library gave it.
@@ -32,37 +34,44 @@ typedef struct hvpm_pages {
     hvpm_slot *messages; /* 16 slots, or NULL: the processor has no message page */
     uint8_t *flags;      /* 16 times 256 bytes, or NULL: it has no event flags page */
     uint16_t shown;      /* bit s: the slot of SINT s has a message that the library shows, too */
-    bool freed;          /* a message was let go: a post that P23 refused may be tried again. The VMM sets it to false */
+    bool freed;          /* a message was let go: a post that P23 refused may be tried again. The VMM
+                            sets it to false */
     uint64_t raised[4];  /* vectors that were raised, and not taken yet */
-    /* Called for each event made here, with its audit line. `number` is the MSR or SINT, `value` the flag or 0. May be NULL. */
+    /* Called for each event made here, with its audit line.
+     * `number` is the MSR or SINT, `value` the flag or 0. May be NULL. */
     void (*record)(void *context, hvpm_caller by, enum hvpm_access event, uint32_t number, uint64_t value,
                    const hvpm_reply *reply, const char *line);
     void *context;
 } hvpm_pages;
 
 /* Makes an event in the guest's place. The audit has it as the guest's own. */
-static inline uint32_t hvpm_pages_make(hvpm_machine *machine, hvpm_pages *pages, enum hvpm_access event, uint32_t number,
-                                       uint64_t value, hvpm_reply *reply) {
+static inline uint32_t hvpm_pages_make(hvpm_machine *machine, hvpm_pages *pages, enum hvpm_access event,
+                                       uint32_t number, uint64_t value, hvpm_reply *reply) {
     char line[HVPM_LINE];
     const size_t size = pages->record ? sizeof line : 0;
     const uint8_t sint = (uint8_t)number;
     const uint32_t status =
         event == HVPM_WRITE_MSR    ? hvpm_write_msr(machine, pages->of, number, value, reply, line, size)
         : event == HVPM_CLEAR_SLOT ? hvpm_clear_slot(machine, pages->of, sint, reply, line, size)
-        : event == HVPM_CLEAR_FLAG ? hvpm_clear_flag(machine, pages->of, sint, (uint16_t)value, reply, line, size)
+        : event == HVPM_CLEAR_FLAG ? hvpm_clear_flag(machine, pages->of, sint, (uint16_t)value, reply, line,
+                                                     size)
                                    : hvpm_take_interrupt(machine, pages->of, reply, line, size);
-    if (status == HVPM_STATUS_OK && pages->record) pages->record(pages->context, pages->of, event, number, value, reply, line);
+    if (status == HVPM_STATUS_OK && pages->record)
+        pages->record(pages->context, pages->of, event, number, value, reply, line);
     return status;
 }
 
 /*
- * Clears in the library the slots that the guest cleared in the page. The library still shows their messages: a post would wait
- * behind one, EOM would show none, and P23 would count it. It calls the library only where a slot was cleared.
+ * Clears in the library the slots that the guest cleared in the page. The library still shows their messages:
+ * a post would wait behind one, EOM would show none, and P23 would count it. It calls the library only where
+ * a slot was cleared.
  */
 static inline uint32_t hvpm_pages_before(hvpm_machine *machine, hvpm_pages *pages) {
     hvpm_reply reply;
     for (uint32_t sint = 0; pages->messages && sint < 16; sint++) {
-        if (!(pages->shown >> sint & 1) || __atomic_load_n(&pages->messages[sint].type, __ATOMIC_SEQ_CST) != 0) continue;
+        if (!(pages->shown >> sint & 1) ||
+            __atomic_load_n(&pages->messages[sint].type, __ATOMIC_SEQ_CST) != 0)
+            continue;
         const uint32_t status = hvpm_pages_make(machine, pages, HVPM_CLEAR_SLOT, sint, 0, &reply);
         if (status != HVPM_STATUS_OK) return status;
         pages->shown &= (uint16_t)~(1u << sint);
@@ -71,7 +80,10 @@ static inline uint32_t hvpm_pages_before(hvpm_machine *machine, hvpm_pages *page
     return HVPM_STATUS_OK;
 }
 
-/* Writes what the library shows into slots of the page. The guest has freed them, or else it would show what it did before. */
+/*
+ * Writes what the library shows into slots of the page.
+ * The guest has freed them, or else it would show what it did before.
+ */
 static inline uint32_t hvpm_pages_show(hvpm_machine *machine, hvpm_pages *pages, uint32_t sints) {
     for (uint32_t sint = 0; pages->messages && sint < 16; sint++) {
         uint8_t bytes[256];
@@ -95,10 +107,11 @@ static inline uint32_t hvpm_pages_show(hvpm_machine *machine, hvpm_pages *pages,
 }
 
 /*
- * Hands a flag over to the page: the guest clears it there, atomically, without an exit. In the library it goes at once, since
- * a signal of a flag that is set raises nothing, and the guest would wait for good.
+ * Hands a flag over to the page: the guest clears it there, atomically, without an exit. In the library it
+ * goes at once, since a signal of a flag that is set raises nothing, and the guest would wait for good.
  */
-static inline uint32_t hvpm_pages_flag(hvpm_machine *machine, hvpm_pages *pages, uint32_t sint, uint32_t flag) {
+static inline uint32_t hvpm_pages_flag(hvpm_machine *machine, hvpm_pages *pages, uint32_t sint,
+                                       uint32_t flag) {
     hvpm_reply reply;
     __atomic_fetch_or(&pages->flags[256 * sint + flag / 8], (uint8_t)(1u << flag % 8), __ATOMIC_SEQ_CST);
     return hvpm_pages_make(machine, pages, HVPM_CLEAR_FLAG, sint, flag, &reply);
@@ -106,9 +119,11 @@ static inline uint32_t hvpm_pages_flag(hvpm_machine *machine, hvpm_pages *pages,
 
 /* Brings the pages up to date after an event. An effect that doesn't name their processor does nothing. */
 static inline uint32_t hvpm_pages_after(hvpm_machine *machine, hvpm_pages *pages, const hvpm_effect *effect) {
-    const bool is_all = effect->kind == HVPM_EFFECT_PARTITION, is_new = is_all || effect->kind == HVPM_EFFECT_PROCESSOR;
+    const bool is_all = effect->kind == HVPM_EFFECT_PARTITION,
+               is_new = is_all || effect->kind == HVPM_EFFECT_PROCESSOR;
     if (!is_new && effect->kind != HVPM_EFFECT_SYNIC) return HVPM_STATUS_OK;
-    if (effect->partition != pages->of.partition || (!is_all && effect->vp != pages->of.vp)) return HVPM_STATUS_OK;
+    if (effect->partition != pages->of.partition || (!is_all && effect->vp != pages->of.vp))
+        return HVPM_STATUS_OK;
     if (is_new) { /* the processor is gone, or its registers are at their start, with SIMP and SIEFP off */
         pages->messages = NULL, pages->flags = NULL, pages->shown = 0, pages->freed = true;
         memset(pages->raised, 0, sizeof pages->raised);
@@ -122,10 +137,13 @@ static inline uint32_t hvpm_pages_after(hvpm_machine *machine, hvpm_pages *pages
     if (status == HVPM_STATUS_OK) status = hvpm_pages_show(machine, pages, effect->shown);
     const uint32_t waiting = pages->messages ? effect->waiting & pages->shown : 0;
     if (status != HVPM_STATUS_OK || waiting == 0) return status;
-    /* MessagePending may be set at any time: the guest looks for it after it has let the message go, and then writes EOM. */
+    /* MessagePending may be set at any time: the guest looks for it after it has let the
+     * message go, and then writes EOM. */
     for (uint32_t sint = 0; sint < 16; sint++)
-        if (waiting >> sint & 1) __atomic_fetch_or(&pages->messages[sint].flags, (uint8_t)1, __ATOMIC_SEQ_CST);
-    /* If it let it go before, it may have looked too early and writes none. Then EOM is the VMM's to write. */
+        if (waiting >> sint & 1)
+            __atomic_fetch_or(&pages->messages[sint].flags, (uint8_t)1, __ATOMIC_SEQ_CST);
+    /* If it let it go before, it may have looked too early and writes none.
+     * Then EOM is the VMM's to write. */
     status = hvpm_pages_before(machine, pages);
     if (status != HVPM_STATUS_OK || (waiting & ~(uint32_t)pages->shown) == 0) return status;
     hvpm_reply reply;
@@ -134,13 +152,15 @@ static inline uint32_t hvpm_pages_after(hvpm_machine *machine, hvpm_pages *pages
 }
 
 /*
- * Gives the pages where they are after a write of SIMP or SIEFP, NULL where bit 0 is 0 or the address isn't the guest's memory.
- * They are aligned to 4,096 bytes. A page begins with what the library shows and is zero else; flags that the guest didn't take
- * move along from page to page.
+ * Gives the pages where they are after a write of SIMP or SIEFP, NULL where bit 0 is 0 or the address isn't
+ * the guest's memory. They are aligned to 4,096 bytes. A page begins with what the library shows and is zero
+ * else; flags that the guest didn't take move along from page to page.
  */
-static inline uint32_t hvpm_pages_move(hvpm_machine *machine, hvpm_pages *pages, void *messages, void *flags) {
+static inline uint32_t hvpm_pages_move(hvpm_machine *machine, hvpm_pages *pages, void *messages,
+                                       void *flags) {
     uint8_t bytes[256], *const from = pages->flags, *const to = (uint8_t *)flags;
-    uint32_t status = hvpm_pages_before(machine, pages); /* else a message that was let go is shown once more */
+    /* else a message that was let go is shown once more */
+    uint32_t status = hvpm_pages_before(machine, pages);
     if (status == HVPM_STATUS_OK && messages != pages->messages) {
         pages->messages = (hvpm_slot *)messages, pages->shown = 0;
         if (messages) memset(messages, 0, 4096);
@@ -149,22 +169,26 @@ static inline uint32_t hvpm_pages_move(hvpm_machine *machine, hvpm_pages *pages,
     if (status != HVPM_STATUS_OK || to == from) return status;
     for (size_t i = 0; to && i < 4096; i++) to[i] = from ? __atomic_load_n(&from[i], __ATOMIC_RELAXED) : 0;
     pages->flags = to;
-    for (uint32_t at = 0; to && status == HVPM_STATUS_OK && at < 4096; at++) { /* what was set while there was no page */
+    /* what was set while there was no page */
+    for (uint32_t at = 0; to && status == HVPM_STATUS_OK && at < 4096; at++) {
         if (at % 256 == 0) status = hvpm_peek_flags(machine, pages->of, (uint8_t)(at / 256), bytes);
         for (uint32_t bit = 0; status == HVPM_STATUS_OK && bytes[at % 256] >> bit != 0; bit++)
-            if (bytes[at % 256] >> bit & 1) status = hvpm_pages_flag(machine, pages, at / 256, at % 256 * 8 + bit);
+            if (bytes[at % 256] >> bit & 1)
+                status = hvpm_pages_flag(machine, pages, at / 256, at % 256 * 8 + bit);
     }
     return status;
 }
 
 /*
- * Takes the highest vector that was raised; 0 where none is left. It goes to the processor's interrupt controller now, since a
- * processor that waits in HLT has no exit at which to ask. The library is called only where one was raised.
+ * Takes the highest vector that was raised; 0 where none is left. It goes to the processor's interrupt
+ * controller now, since a processor that waits in HLT has no exit at which to ask. The library is called only
+ * where one was raised.
  */
 static inline uint32_t hvpm_pages_vector(hvpm_machine *machine, hvpm_pages *pages, uint8_t *vector) {
     hvpm_reply reply;
     *vector = 0;
-    if ((pages->raised[0] | pages->raised[1] | pages->raised[2] | pages->raised[3]) == 0) return HVPM_STATUS_OK;
+    if ((pages->raised[0] | pages->raised[1] | pages->raised[2] | pages->raised[3]) == 0)
+        return HVPM_STATUS_OK;
     const uint32_t status = hvpm_pages_make(machine, pages, HVPM_TAKE_INTERRUPT, 0, 0, &reply);
     if (status != HVPM_STATUS_OK) return status;
     *vector = reply.kind == HVPM_REPLY_SERVED ? reply.output[0] : 0;

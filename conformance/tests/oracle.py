@@ -19,7 +19,8 @@ def read(path):
 
 
 def wanted(stem, table):
-    """What a case's files want: standard output without the lines `phase`, the status, and the line on standard error."""
+    """What a case's files want: standard output without the lines `phase`, the status, and
+    the line on standard error."""
     folder, name = os.path.split(stem)
     rows = [row.split("\t") for row in (read(os.path.join(folder, "ends")) or "").splitlines()]
     status, error = next(((int(status), error) for each, status, error in rows if each == name), (0, ""))

@@ -52,7 +52,9 @@ def run(*words, home=HOME):
 
 
 def run_by_itself(*words):
-    ran = subprocess.run([*PYTHON, HOME / "run", *words], stdout=subprocess.PIPE, stderr=subprocess.STDOUT, text=True)
+    ran = subprocess.run(
+        [*PYTHON, HOME / "run", *words], stdout=subprocess.PIPE, stderr=subprocess.STDOUT, text=True
+    )
     return ran.returncode, ran.stdout
 
 
@@ -68,7 +70,8 @@ def must(result, status, *parts):
 
 
 def must_count(result, passed, failed, *parts):
-    """Whether the runner's last line has these counts, its status is that of them, and it told each of the parts."""
+    """Whether the runner's last line has these counts, its status is that of them,
+    and it told each of the parts."""
     must(result, 0 if failed == 0 else 1, *parts)
     last = result[1].splitlines()[-1]
     assert last == f"{passed} passed, {failed} failed", f"not {passed} passed, {failed} failed:\n{result[1]}"
@@ -85,7 +88,12 @@ def a_right_program_passes():
 
 @test
 def a_wrong_byte_fails_with_its_line():
-    told = "\n    1.0 call 0x46 0 0x1f000 -\n", "wanted: 1 1.0 call", "told:   1 1.0 call", "byte 0: 01 wanted, f1 told; 1 of 8"
+    told = (
+        "\n    1.0 call 0x46 0 0x1f000 -\n",
+        "wanted: 1 1.0 call",
+        "told:   1 1.0 call",
+        "byte 0: 01 wanted, f1 told; 1 of 8",
+    )
     name = "interface/calls/46_get_partition_id"
     must_count(oracle("byte"), 0, 1, f"FAILED {name}\n", *told, f"\nfailed: {name}\n")
     must_count(oracle("byte", "--batch"), 0, 1, *told)
@@ -100,7 +108,8 @@ def one_case_that_fails_is_enough():
 
 @test
 def each_byte_counts():
-    for name, table in (("interface/flags/worked", False), ("program/history/worked_rep", True), ("threads/worked", True)):
+    names = ("interface/flags/worked", False), ("program/history/worked_rep", True), ("threads/worked", True)
+    for name, table in names:
         path = HOME / f"{name}.hv"
         case = RUNNER.Case(path, RUNNER.read_ends(path.parent))
         text = case.wanted(table).replace("\nphase\n", "\n")
@@ -122,7 +131,8 @@ def the_runner_by_itself_ends_with_its_status():
 def a_crash_behind_the_last_line_fails():
     crash = "it was ended by signal 11 (SIGSEGV)"
     must_count(oracle("crash"), 0, 1, crash)
-    must_count(run("--batch", "--group", "interface/flags", *ORACLE, "crash"), 0, 5, f"{crash} before its line `end`")
+    told = run("--batch", "--group", "interface/flags", *ORACLE, "crash")
+    must_count(told, 0, 5, f"{crash} before its line `end`")
     must_count(oracle("exit"), 0, 1, "it ended with status 7, and not with status 0")
     must_count(oracle("exit", "--batch"), 0, 1, "it ended with status 7 before its line `end`")
     must_count(oracle("ending", "--batch"), 1, 1, "it ended with status 7 behind the last script")
@@ -135,7 +145,8 @@ def a_wrong_status_or_line_on_standard_error_fails():
     must_count(oracle("status", "--batch"), 0, 1, "it ended with status 3, and not with status 0")
     must_count(oracle("zero", case=fault), 0, 1, "it ended with status 0, and not with status 1")
     must_count(oracle("noise"), 0, 1, "standard error isn't empty: oracle: noise")
-    must_count(oracle("noise", case=fault), 0, 1, "standard error wanted: NAME: line 2: bad hex", "told:   oracle: noise")
+    told = "standard error wanted: NAME: line 2: bad hex", "told:   oracle: noise"
+    must_count(oracle("noise", case=fault), 0, 1, *told)
 
 
 @test
@@ -243,19 +254,22 @@ def one_case_by_the_path_of_its_file():
 
 @test
 def cases_are_listed_and_left_out():
-    scripts = [path for group in GROUPS for path in (HOME / group).rglob("*") if path.suffix in (".hv", ".make")]
+    paths = (path for group in GROUPS for path in (HOME / group).rglob("*"))
+    scripts = [path for path in paths if path.suffix in (".hv", ".make")]
     status, told = run("--list")
     assert status == 0 and len(told.splitlines()) == len(set(told.splitlines())) == len(scripts), told
     status, told = run("--list", "--group", "interface", "--without", "interface/no_guest")
     assert "interface/rules/p06_links\n" in told and "no_guest" not in told and "tlfs" not in told, told
-    must(run("--group", "interface/nope", "x"), 2, "no group interface/nope; there are\n    interface\n    interface/accesses")
+    told = "no group interface/nope; there are\n    interface\n    interface/accesses"
+    must(run("--group", "interface/nope", "x"), 2, told)
 
 
 @test
 def results_are_told_to_machines():
     told = run("--tap", "--batch", "--group", "interface/flags", *ORACLE, "none")
     must(told, 0, "TAP version 13\n", "\nok 5 - interface/flags/", "\n1..5\n")
-    must(oracle("byte", "--tap"), 1, "\nnot ok 1 - interface/calls/46_get_partition_id\n# event 1", "\n# 0 passed, 1 failed\n")
+    told = "\nnot ok 1 - interface/calls/46_get_partition_id\n# event 1", "\n# 0 passed, 1 failed\n"
+    must(oracle("byte", "--tap"), 1, *told)
     with tempfile.TemporaryDirectory() as room:
         file = Path(room, "results.xml")
         must(run("--junit", str(file), "--batch", "--group", "interface/flags", *ORACLE, "byte"), 1)
@@ -278,7 +292,8 @@ def cases_are_expanded_to_plain_scripts():
         must(run("--group", "interface/messages", "--expand", room), 0)
         folder = Path(room, "interface", "messages")
         assert len(list(folder.glob("*.hv"))) == len(list(folder.glob("*.audit"))) == 25
-        assert not list(folder.glob("*.make")) and (folder / "many.hv").read_text().startswith("boot 160 60 2 ")
+        assert not list(folder.glob("*.make"))
+        assert (folder / "many.hv").read_text().startswith("boot 160 60 2 ")
 
 
 @test
@@ -293,7 +308,11 @@ def files_that_belong_to_no_case_fail():
         with open(boot / "ends", "a") as ends:
             ends.write("nothing\t1\tboot refused: pool\n")
         must(run("--case", "interface/boot/mask_all", *ORACLE, "none", home=home), 0)
-        told = "boot/mask has no audit", "boot/task.table has no script", "boot/ends names nothing, which has no script"
+        told = (
+            "boot/mask has no audit",
+            "boot/task.table has no script",
+            "boot/ends names nothing, which has no script",
+        )
         must(run("--batch", "--group", "interface/boot", *ORACLE, "none", home=home), 1, *told)
 
 
@@ -332,8 +351,8 @@ def a_change_of_a_case_is_a_new_version():
     assert known == now, f"cases changed: raise the {number} in conformance/VERSION, and put {now} behind it"
 
 
-SIZES = {0x40: 8, 0x41: 8, 0x42: 8, 0x43: 8, 0x44: 16, 0x45: 24, 0x47: 16, 0x48: 8, 0x49: 8, 0x4A: 8, 0x4E: 16, 0x4F: 16}
-SIZES |= {0x50: 16, 0x51: 16, 0x58: 16, 0x5B: 16, 0x5C: 256, 0x5D: 8, 0x95: 48, 0x96: 48}
+SIZES = {0x40: 8, 0x41: 8, 0x42: 8, 0x43: 8, 0x44: 16, 0x45: 24, 0x47: 16, 0x48: 8, 0x49: 8, 0x4A: 8}
+SIZES |= {0x4E: 16, 0x4F: 16, 0x50: 16, 0x51: 16, 0x58: 16, 0x5B: 16, 0x5C: 256, 0x5D: 8, 0x95: 48, 0x96: 48}
 OUTPUTS = {0x40: 8, 0x44: 8, 0x46: 8, 0x47: 8, 0x4A: 16}
 ELEMENTS = {0x48: (8, 0), 0x49: (0, 8), 0x50: (4, 16), 0x51: (32, 0)}
 
@@ -344,7 +363,11 @@ def pages_of(line):
     code, count = rcx & 0xFFFF, rcx >> 32 & 0xFFF
     ins, outs = ELEMENTS.get(code, (0, 0))
     lists = [(rdx, SIZES.get(code, 0) + ins * count), (r8, OUTPUTS.get(code, 0) + outs * count)]
-    return [at // 4096 for at, size in lists if size and at % 8 == 0 and at % 4096 + size <= 4096 and not rcx >> 16 & 1]
+    return [
+        at // 4096
+        for at, size in lists
+        if size and at % 8 == 0 and at % 4096 + size <= 4096 and not rcx >> 16 & 1
+    ]
 
 
 def deposited(line):

@@ -1,11 +1,12 @@
 /*
- * A driver of the conformance suite over the library: lets the machine do what a script's lines say, and prints the audit.
+ * A driver of the conformance suite over the library: lets the machine do what a script's
+ * lines say, and prints the audit.
  *
  *     conformance/run --group interface --no-tables out/driver
  *     conformance/run --group interface --no-tables --batch out/driver
  *
- * With --batch it takes one script after another from standard input, each by its path. It reads scripts without a fault, of
- * at most 1 MiB, and leaves LIMIT alone.
+ * With --batch it takes one script after another from standard input, each by its path. It reads scripts
+ * without a fault, of at most 1 MiB, and leaves LIMIT alone.
  */
 #include "hvpm.h"
 
@@ -21,7 +22,8 @@ static uint64_t number(const char *word) {
 /* The bytes of a word of hexadecimal digits, or none of a dash, and how many they are. */
 static size_t bytes_of(const char *word, uint8_t *bytes) {
     size_t len = 0;
-    for (unsigned byte; word[0] != '-' && sscanf(word, "%2x", &byte) == 1; word += 2) bytes[len++] = (uint8_t)byte;
+    for (unsigned byte; word[0] != '-' && sscanf(word, "%2x", &byte) == 1; word += 2)
+        bytes[len++] = (uint8_t)byte;
     return len;
 }
 
@@ -38,7 +40,8 @@ static uint32_t call(hvpm_machine *machine, hvpm_caller by, char **words) {
     hvpm_reply reply;
     char line[HVPM_LINE];
     for (;;) {
-        const uint32_t status = hvpm_hypercall(machine, by, &registers, input, input_len, &reply, line, sizeof line);
+        const uint32_t status =
+            hvpm_hypercall(machine, by, &registers, input, input_len, &reply, line, sizeof line);
         if (put(status, &reply, line) != HVPM_STATUS_OK || reply.kind != HVPM_REPLY_MORE) return status;
         registers.rcx = hvpm_next(registers.rcx, &reply);
     }
@@ -46,7 +49,8 @@ static uint32_t call(hvpm_machine *machine, hvpm_caller by, char **words) {
 
 static uint32_t access_by(hvpm_machine *machine, hvpm_caller by, char **words) {
     const char *word = words[1];
-    const uint64_t first = words[2] ? number(words[2]) : 0, second = words[2] && words[3] ? number(words[3]) : 0;
+    const uint64_t first = words[2] ? number(words[2]) : 0,
+                   second = words[2] && words[3] ? number(words[3]) : 0;
     const uint8_t sint = (uint8_t)first;
     hvpm_reply reply;
     char line[HVPM_LINE];
@@ -71,7 +75,8 @@ static uint32_t access_by(hvpm_machine *machine, hvpm_caller by, char **words) {
 /* The words of a line; none of a comment and of an empty line. */
 static size_t words_of(char *line, char **words) {
     size_t count = 0;
-    for (char *word = strtok(line, " \n"); word && count < 8; word = strtok(NULL, " \n")) words[count++] = word;
+    for (char *word = strtok(line, " \n"); word && count < 8; word = strtok(NULL, " \n"))
+        words[count++] = word;
     return count > 0 && words[0][0] == '#' ? 0 : count;
 }
 
@@ -99,7 +104,8 @@ static uint32_t run(FILE *script) {
     while (status == HVPM_STATUS_OK && fgets(line, sizeof line, script)) {
         char *words[8] = {NULL};
         const size_t count = words_of(line, words);
-        if (count > 1) status = strcmp(words[0], "boot") == 0 ? boot(&machine, words) : happen(&machine, words);
+        if (count > 1)
+            status = strcmp(words[0], "boot") == 0 ? boot(&machine, words) : happen(&machine, words);
     }
     if (status == HVPM_STATUS_OK) printf("events %" PRIu64 "\n", machine.events);
     hvpm_destroy(&machine);
@@ -118,7 +124,10 @@ static int told(uint32_t status, char *text, size_t size) {
     return 3;
 }
 
-/* Runs one script after another, whose paths are lines of standard input; a line `end` stands behind what each of them told. */
+/*
+ * Runs one script after another, whose paths are lines of standard input; a line `end` stands
+ * behind what each of them told.
+ */
 static int run_batch(void) {
     static char path[4096];
     while (fgets(path, sizeof path, stdin)) {

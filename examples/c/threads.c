@@ -1,10 +1,12 @@
 /*
- * Eight threads share one machine behind a lock, and each is a processor of the root that posts, signals, reads and writes.
+ * Eight threads share one machine behind a lock, and each is a processor of the root that
+ * posts, signals, reads and writes.
  *
  *     threads EVENTS SEED SCRIPT AUDIT
  *
- * lets EVENTS events happen in whatever order the threads come to, and writes them as a script, in that order, and the audit
- * that the library handed back line by line. `hvpm run --serial SCRIPT` must print that very AUDIT.
+ * lets EVENTS events happen in whatever order the threads come to, and writes them as a script, in that
+ * order, and the audit that the library handed back line by line. `hvpm run --serial SCRIPT` must print that
+ * very AUDIT.
  */
 #include "hvpm.h"
 
@@ -26,7 +28,10 @@ static struct {
     FILE *script, *audit;
 } shared = {.lock = PTHREAD_MUTEX_INITIALIZER};
 
-/* Lets one event happen, where there is one left and all before it did, and writes it down. `text` is what a script says of it. */
+/*
+ * Lets one event happen, where there is one left and all before it did, and writes it down.
+ * `text` is what a script says of it.
+ */
 #define HAPPEN(text, call)                                                     \
     do {                                                                       \
         shared.status = (call);                                                \
@@ -41,7 +46,8 @@ static void hypercall(hvpm_caller by, uint64_t rcx, uint64_t rdx, const uint8_t 
     hvpm_reply reply;
     char line[HVPM_LINE], text[128];
     int end = snprintf(text, sizeof text, "call %" PRIu64 " %" PRIu64 " 0 %s", rcx, rdx, len == 0 ? "-" : "");
-    for (size_t at = 0; at < len; at++) end += snprintf(text + end, sizeof text - (size_t)end, "%02x", input[at]);
+    for (size_t at = 0; at < len; at++)
+        end += snprintf(text + end, sizeof text - (size_t)end, "%02x", input[at]);
     HAPPEN(text, hvpm_hypercall(&shared.machine, by, &registers, input, len, &reply, line, sizeof line));
 }
 
@@ -54,7 +60,8 @@ static void write_msr(hvpm_caller by, uint32_t msr, uint64_t value) {
 
 /* One event by a processor, of a kind that a number picks. SINT 2 takes messages, SINT 3 event flags. */
 static void act(hvpm_caller by, uint32_t pick) {
-    const uint8_t post[] = {(uint8_t)(pick >> 8 & 7), 0, 0, 0, 0, 0, 0, 0, 1, 0, 0, 0, 2, 0, 0, 0, (uint8_t)by.vp, (uint8_t)pick};
+    const uint8_t post[] = {
+        (uint8_t)(pick >> 8 & 7), 0, 0, 0, 0, 0, 0, 0, 1, 0, 0, 0, 2, 0, 0, 0, (uint8_t)by.vp, (uint8_t)pick};
     hvpm_machine *machine = &shared.machine;
     hvpm_reply reply;
     char line[HVPM_LINE], text[64];
@@ -70,7 +77,9 @@ static void act(hvpm_caller by, uint32_t pick) {
         snprintf(text, sizeof text, "clearflag 3 %" PRIu32, pick >> 16 & 7);
         HAPPEN(text, hvpm_clear_flag(machine, by, 3, (uint16_t)(pick >> 16 & 7), &reply, line, sizeof line));
         return;
-    case 8: HAPPEN("rdmsr 1073741954", hvpm_read_msr(machine, by, 0x40000082, &reply, line, sizeof line)); return;
+    case 8:
+        HAPPEN("rdmsr 1073741954", hvpm_read_msr(machine, by, 0x40000082, &reply, line, sizeof line));
+        return;
     default: HAPPEN("interrupt", hvpm_take_interrupt(machine, by, &reply, line, sizeof line)); return;
     }
 }
@@ -89,7 +98,8 @@ static void *run(void *of) {
     struct processor *self = of;
     pthread_barrier_wait(&start);
     for (bool goes_on = true; goes_on;) {
-        self->random ^= self->random << 13, self->random ^= self->random >> 17, self->random ^= self->random << 5;
+        self->random ^= self->random << 13, self->random ^= self->random >> 17,
+            self->random ^= self->random << 5;
         pthread_mutex_lock(&shared.lock);
         goes_on = shared.left > 0 && shared.status == HVPM_STATUS_OK;
         if (goes_on) {
@@ -107,7 +117,10 @@ static void put_number(uint8_t *at, uint64_t value, size_t len) {
     for (size_t i = 0; i < len; i++) at[i] = (uint8_t)(value >> 8 * i);
 }
 
-/* Turns a processor's interrupt controller on, and makes a port of messages and one of 8 event flags there, with connections. */
+/*
+ * Turns a processor's interrupt controller on, and makes a port of messages and one of 8 event
+ * flags there, with connections.
+ */
 static void set_up(hvpm_caller by) {
     write_msr(by, 0x40000080, 1);
     write_msr(by, 0x40000082, 1);
@@ -117,8 +130,10 @@ static void set_up(hvpm_caller by) {
     for (uint32_t type = 1; type <= 2; type++) {
         const uint32_t id = by.vp + 8 * (type - 1);
         uint8_t port[48] = {0}, connection[36] = {0};
-        put_number(port, 1, 8), put_number(port + 8, id, 4), put_number(port + 16, 1, 8), put_number(port + 24, type, 4);
-        put_number(port + 32, 1 + type, 4), put_number(port + 36, by.vp, 4), put_number(port + 42, type == 1 ? 0 : 8, 2);
+        put_number(port, 1, 8), put_number(port + 8, id, 4), put_number(port + 16, 1, 8),
+            put_number(port + 24, type, 4);
+        put_number(port + 32, 1 + type, 4), put_number(port + 36, by.vp, 4),
+            put_number(port + 42, type == 1 ? 0 : 8, 2);
         hypercall(by, 0x95, 0, port, sizeof port);
         put_number(connection, 1, 8), put_number(connection + 8, id, 4), put_number(connection + 16, 1, 8);
         put_number(connection + 24, id, 4), put_number(connection + 32, type, 4);
@@ -142,7 +157,8 @@ int main(int argc, char **argv) {
     pthread_barrier_init(&start, NULL, THREADS);
     for (uint32_t vp = 0; vp < THREADS; vp++) set_up((hvpm_caller){1, vp});
     for (uint32_t vp = 0; vp < THREADS; vp++) {
-        processors[vp] = (struct processor){{1, vp}, (uint32_t)strtoul(argv[2], NULL, 10) * 2654435761u + vp + 1, 0};
+        processors[vp] =
+            (struct processor){{1, vp}, (uint32_t)strtoul(argv[2], NULL, 10) * 2654435761u + vp + 1, 0};
         if (pthread_create(&threads[vp], NULL, run, &processors[vp]) != 0) return 3;
     }
     for (uint32_t vp = 0; vp < THREADS; vp++) pthread_join(threads[vp], NULL);

@@ -1,7 +1,8 @@
 /*
- * The hypervisor of docs/EMBEDDING.md in small. Guest 3 posts two messages to guest 2, which waits in HLT, and signals an event
- * flag. Guest 2 takes all three from pages in its memory, and exits only for EOM. In place of a processor, a table says what a
- * guest does. One thread runs both guests in turn: with more, a VMM holds a lock for all of an exit.
+ * The hypervisor of docs/EMBEDDING.md in small. Guest 3 posts two messages to guest 2, which waits in HLT,
+ * and signals an event flag. Guest 2 takes all three from pages in its memory, and exits only for EOM. In
+ * place of a processor, a table says what a guest does. One thread runs both guests in turn: with more, a VMM
+ * holds a lock for all of an exit.
  */
 #include "hvpm_pages.h"
 
@@ -9,10 +10,16 @@
 #include <stdio.h>
 #include <stdlib.h>
 
-enum { GUESTS = 2, PAGE = 4096, INPUT = 0x0000, MESSAGES = 0x1000, FLAGS = 0x2000, MEMORY = 0x3000, SINT = 2, FLAG = 13 };
+enum {
+    GUESTS = 2, PAGE = 4096, INPUT = 0x0000, MESSAGES = 0x1000, FLAGS = 0x2000, MEMORY = 0x3000,
+    SINT = 2, FLAG = 13
+};
 enum { SCONTROL = 0x40000080, SVERSION, SIEFP, SIMP, EOM, SINT2 = 0x40000092 };
 
-/* What a guest does in its memory, if anything, and how it exits then. RCX has the number of an MSR, and RDX its value. */
+/*
+ * What a guest does in its memory, if anything, and how it exits then.
+ * RCX has the number of an MSR, and RDX its value.
+ */
 struct step {
     const char *what;
     enum { HYPERCALL, RDMSR, WRMSR, HLT } reason;
@@ -54,26 +61,36 @@ static void move(struct vcpu *vcpu) {
     void *at[2] = {NULL, NULL};
     uint64_t value;
     for (size_t i = 0; i < 2; i++)
-        if (hvpm_peek_msr(&machine, vcpu->pages.of, i == 0 ? SIMP : SIEFP, &value) == HVPM_STATUS_OK && value & 1)
+        if (hvpm_peek_msr(&machine, vcpu->pages.of, i == 0 ? SIMP : SIEFP, &value) == HVPM_STATUS_OK &&
+            value & 1)
             at[i] = guest_memory(vcpu, value & ~UINT64_C(4095), PAGE);
     need(hvpm_pages_move(&machine, &vcpu->pages, at[0], at[1]) == HVPM_STATUS_OK, "a page isn't moved");
 }
 
-/* The effect names the processor where something changed, which is rarely the caller. A vector ends its HLT. */
+/*
+ * The effect names the processor where something changed, which is rarely the caller.
+ * A vector ends its HLT.
+ */
 static void after(const hvpm_effect *effect) {
     for (struct vcpu *at = vcpus; at < vcpus + GUESTS; at++) {
         need(hvpm_pages_after(&machine, &at->pages, effect) == HVPM_STATUS_OK, "a page isn't up to date");
-        for (uint8_t v; hvpm_pages_vector(&machine, &at->pages, &v) == HVPM_STATUS_OK && v != 0; at->is_halted = false)
-            printf("    inject 0x%02x at %" PRIu64 ".0%s\n", v, at->pages.of.partition, at->is_halted ? " and wake it" : "");
+        for (uint8_t v; hvpm_pages_vector(&machine, &at->pages, &v) == HVPM_STATUS_OK && v != 0;
+             at->is_halted = false)
+            printf("    inject 0x%02x at %" PRIu64 ".0%s\n", v, at->pages.of.partition,
+                   at->is_halted ? " and wake it" : "");
     }
 }
 
-/* These guests may only post and signal. docs/EMBEDDING.md also serves calls that have an output or elements. */
+/*
+ * These guests may only post and signal. docs/EMBEDDING.md also serves calls
+ * that have an output or elements.
+ */
 static uint32_t hypercall(struct vcpu *vcpu, const hvpm_registers *at, hvpm_reply *reply, char *line) {
     const size_t size = at->rcx >> 16 & 1 ? 0 : PAGE - at->rdx % PAGE;
     const void *from = guest_memory(vcpu, at->rdx, size);
     uint8_t input[PAGE];
-    if (size != 0 && !from && hvpm_is_call((uint16_t)at->rcx)) return *reply = (hvpm_reply){.result = 4}, HVPM_STATUS_OK;
+    if (size != 0 && !from && hvpm_is_call((uint16_t)at->rcx))
+        return *reply = (hvpm_reply){.result = 4}, HVPM_STATUS_OK;
     if (from) memcpy(input, from, size);
     return hvpm_hypercall(&machine, vcpu->pages.of, at, input, from ? size : 0, reply, line, HVPM_LINE);
 }
@@ -85,20 +102,25 @@ static void handle(struct vcpu *vcpu, const struct step *exit) {
     hvpm_reply reply;
     char line[HVPM_LINE];
     before();
-    if (exit->reason == RDMSR) status = hvpm_read_msr_value(&machine, by, msr, &value, &reply, line, sizeof line);
-    else if (exit->reason == WRMSR) status = hvpm_write_msr(&machine, by, msr, value, &reply, line, sizeof line);
+    if (exit->reason == RDMSR)
+        status = hvpm_read_msr_value(&machine, by, msr, &value, &reply, line, sizeof line);
+    else if (exit->reason == WRMSR)
+        status = hvpm_write_msr(&machine, by, msr, value, &reply, line, sizeof line);
     else status = hypercall(vcpu, &(hvpm_registers){exit->rcx, exit->rdx, 0}, &reply, line);
-    need(status == HVPM_STATUS_OK, "the library takes no event"); /* out of memory, a VMM may leave RIP at the call */
+    /* out of memory, a VMM may leave RIP at the call */
+    need(status == HVPM_STATUS_OK, "the library takes no event");
     if (reply.line_len != 0) printf("    audit %.*s", (int)reply.line_len, line);
     if (exit->reason == WRMSR) move(vcpu);
     after(&reply.effect);
-    if (reply.kind == HVPM_REPLY_FAULT) printf("    inject #GP, since P%" PRIu32 " doesn't hold\n", reply.rule);
+    if (reply.kind == HVPM_REPLY_FAULT)
+        printf("    inject #GP, since P%" PRIu32 " doesn't hold\n", reply.rule);
     else if (exit->reason == RDMSR) printf("    EDX:EAX %016" PRIx64 "\n", value);
     else if (exit->reason == HYPERCALL) printf("    RAX %016" PRIx64 "\n", reply.result);
 }
 
 static void write_message(uint8_t *memory, const char *text) {
-    const uint32_t header[4] = {HVPM_PORT_MESSAGES, 0, 7, (uint32_t)strlen(text)}; /* connection, message type, size */
+    /* connection, message type, size */
+    const uint32_t header[4] = {HVPM_PORT_MESSAGES, 0, 7, (uint32_t)strlen(text)};
     memcpy(memory + INPUT, header, sizeof header);
     memcpy(memory + INPUT + sizeof header, text, header[3]);
 }
@@ -111,7 +133,8 @@ static void take(uint8_t *memory, const char *text) {
     printf("    it reads \"%.*s\"", slot->size, (const char *)slot->rest + 10);
     __atomic_store_n(&slot->type, 0, __ATOMIC_SEQ_CST);
     printf(", MessagePending is %d", __atomic_load_n(&slot->flags, __ATOMIC_SEQ_CST) & 1);
-    printf(", flag %d is %d\n", FLAG, __atomic_fetch_and(flags, (uint8_t)~(1 << FLAG % 8), __ATOMIC_SEQ_CST) >> FLAG % 8 & 1);
+    printf(", flag %d is %d\n", FLAG,
+           __atomic_fetch_and(flags, (uint8_t)~(1 << FLAG % 8), __ATOMIC_SEQ_CST) >> FLAG % 8 & 1);
 }
 
 static const struct step receiver[] = {
@@ -127,7 +150,8 @@ static const struct step receiver[] = {
 };
 static const struct step sender[] = {
     {"posts a message", HYPERCALL, .rcx = 0x5C, .rdx = INPUT, .use = write_message, .text = "first"},
-    {"posts another, which waits", HYPERCALL, .rcx = 0x5C, .rdx = INPUT, .use = write_message, .text = "second"},
+    {"posts another, which waits", HYPERCALL, .rcx = 0x5C, .rdx = INPUT, .use = write_message,
+     .text = "second"},
     {"signals an event flag, by a fast call", HYPERCALL, .rcx = 0x1005D, .rdx = HVPM_PORT_EVENTS},
     {"posts what isn't in its memory", HYPERCALL, .rcx = 0x5C, .rdx = MEMORY},
     {"creates a partition, which it may not", HYPERCALL, .rcx = 0x40, .rdx = INPUT},
@@ -138,7 +162,10 @@ static void done(uint32_t status, const hvpm_reply *reply) {
     need(status == HVPM_STATUS_OK && reply->kind == HVPM_REPLY_SERVED, "the root isn't served");
 }
 
-/* The root makes both guests, each with 6 pages and a processor. The ids of ports and connections are their types. */
+/*
+ * The root makes both guests, each with 6 pages and a processor.
+ * The ids of ports and connections are their types.
+ */
 static void boot(void) {
     const hvpm_caller root = {1, 0};
     hvpm_reply reply = {.kind = HVPM_REPLY_SERVED};
@@ -146,15 +173,18 @@ static void boot(void) {
     for (uint64_t id = 2, page = 8, made; id < 2 + GUESTS; id++) {
         done(hvpm_create_partition(&machine, root, 0, &made, &reply, NULL, 0), &reply);
         done(hvpm_initialize_partition(&machine, root, id, &reply, NULL, 0), &reply);
-        for (int i = 0; i < 6; i++, page++) done(hvpm_deposit_memory(&machine, root, id, &page, 1, 0, &reply, NULL, 0), &reply);
+        for (int i = 0; i < 6; i++, page++)
+            done(hvpm_deposit_memory(&machine, root, id, &page, 1, 0, &reply, NULL, 0), &reply);
         done(hvpm_create_vp(&machine, root, id, 0, &reply, NULL, 0), &reply);
         vcpus[id - 2].pages = (hvpm_pages){.of = {id, 0}, .record = record};
         vcpus[id - 2].rip = id == 2 ? receiver : sender;
     }
     for (uint32_t type = HVPM_PORT_MESSAGES; type <= HVPM_PORT_EVENTS; type++) {
-        const hvpm_port port = {.partition = 2, .id = type, .peer = 3, type, SINT, .base_flag = FLAG, .flag_count = 1};
+        const hvpm_port port = {
+            .partition = 2, .id = type, .peer = 3, type, SINT, .base_flag = FLAG, .flag_count = 1};
         done(hvpm_create_port(&machine, root, &port, &reply, NULL, 0), &reply);
-        done(hvpm_connect_port(&machine, root, &(hvpm_connection){3, type, 2, type, type}, &reply, NULL, 0), &reply);
+        done(hvpm_connect_port(&machine, root, &(hvpm_connection){3, type, 2, type, type}, &reply, NULL, 0),
+             &reply);
     }
 }
 

@@ -2,7 +2,8 @@
 
 fn main() {
     println!("cargo::rerun-if-env-changed=HVPM_LIB");
-    let folder = std::env::var("HVPM_LIB").expect("HVPM_LIB names the folder of libhv_embed.a and liblibc_c.a");
+    let folder =
+        std::env::var("HVPM_LIB").expect("HVPM_LIB names the folder of libhv_embed.a and liblibc_c.a");
     println!("cargo::rerun-if-changed={folder}/libhv_embed.a");
     println!("cargo::rustc-link-search=native={folder}");
     println!("cargo::rustc-link-lib=static=hv_embed");

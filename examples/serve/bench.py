@@ -1,5 +1,6 @@
 #!/usr/bin/env python3
-"""Drives the core through a pipe, line by line: examples/serve/bench.py [PROGRAM], which is bin/hvpm if none is given."""
+"""Drives the core through a pipe, line by line: examples/serve/bench.py [PROGRAM], which
+is bin/hvpm if none is given."""
 import pathlib
 import subprocess
 import sys
@@ -31,7 +32,9 @@ class Bench:
 
 bench = Bench(sys.argv[1] if len(sys.argv) > 1 else pathlib.Path(__file__).parents[2] / "bin" / "hvpm")
 bench.say("boot 32 12 1 0x000000f700000044 1000")
-assert bench.ask("1.0 call 0x40 0 0 -") == ["1 1.0 call 0000000000000040 ok 0000000000000000 0200000000000000"]
+assert bench.ask("1.0 call 0x40 0 0 -") == [
+    "1 1.0 call 0000000000000040 ok 0000000000000000 0200000000000000"
+]
 child = "0200000000000000"
 pages = "".join(page.to_bytes(8, "little").hex() for page in (12, 13, 14))
 deposit = bench.ask(f"1.0 call 0x0000000300000048 0 0 {child}{pages}")

@@ -1,6 +1,6 @@
 /*
- * What events tell of their effects: each kind of effect, and each field of it, as docs/POLICY.md says what the
- * event changes. It compiles as C and as C++. What is wrong goes to standard error.
+ * What events tell of their effects: each kind of effect, and each field of it, as docs/POLICY.md says what
+ * the event changes. It compiles as C and as C++. What is wrong goes to standard error.
  */
 #include "hvpm.h"
 
@@ -87,7 +87,8 @@ static hvpm_effect processor(uint64_t partition, uint32_t vp) {
 
 static bool is_synic(const hvpm_effect *told, const hvpm_effect *wanted) {
     return told->partition == wanted->partition && told->vp == wanted->vp && told->shown == wanted->shown &&
-           told->waiting == wanted->waiting && memcmp(told->raised, wanted->raised, sizeof told->raised) == 0 &&
+           told->waiting == wanted->waiting &&
+           memcmp(told->raised, wanted->raised, sizeof told->raised) == 0 &&
            told->flag_is == wanted->flag_is && told->freed == wanted->freed &&
            (told->flag_is == 0 || (told->flag == wanted->flag && told->flag_sint == wanted->flag_sint)) &&
            (told->freed == 0 || told->port == wanted->port);
@@ -100,7 +101,8 @@ static bool is_effect(const hvpm_effect *told, const hvpm_effect *wanted) {
     case HVPM_EFFECT_NOTHING: return true;
     case HVPM_EFFECT_SYNIC: return is_synic(told, wanted);
     case HVPM_EFFECT_PAGE:
-        return told->page == wanted->page && told->partition == wanted->partition && told->pooled == wanted->pooled;
+        return told->page == wanted->page && told->partition == wanted->partition &&
+               told->pooled == wanted->pooled;
     case HVPM_EFFECT_PAGES: return told->page == wanted->page && told->partition == wanted->partition;
     case HVPM_EFFECT_PROCESSOR: return told->partition == wanted->partition && told->vp == wanted->vp;
     case HVPM_EFFECT_PARTITION: return told->partition == wanted->partition;
@@ -112,13 +114,14 @@ static bool is_effect(const hvpm_effect *told, const hvpm_effect *wanted) {
 static void tells(const char *what, uint32_t status, uint32_t kind, hvpm_effect wanted) {
     if (status != HVPM_STATUS_OK || reply.kind != kind || !is_effect(&reply.effect, &wanted)) {
         fprintf(stderr,
-                "%s: status %" PRIu32 ", kind %" PRIu32 ", rule %" PRIu32 ", effect %" PRIu32 ", partition %" PRIu64
-                ", vp %" PRIu32 ", page %" PRIu64 ", raised %016" PRIx64 ", shown %04x, waiting %04x, flag %u.%u is %u"
+                "%s: status %" PRIu32 ", kind %" PRIu32 ", rule %" PRIu32 ", effect %" PRIu32
+                ", partition %" PRIu64 ", vp %" PRIu32 ", page %" PRIu64 ", raised %016" PRIx64
+                ", shown %04x, waiting %04x, flag %u.%u is %u"
                 ", freed %u port %" PRIu32 ", pooled %u\n",
-                what, status, reply.kind, reply.rule, reply.effect.kind, reply.effect.partition, reply.effect.vp,
-                reply.effect.page, reply.effect.raised[0], reply.effect.shown, reply.effect.waiting,
-                reply.effect.flag_sint, reply.effect.flag, reply.effect.flag_is, reply.effect.freed,
-                reply.effect.port, reply.effect.pooled);
+                what, status, reply.kind, reply.rule, reply.effect.kind, reply.effect.partition,
+                reply.effect.vp, reply.effect.page, reply.effect.raised[0], reply.effect.shown,
+                reply.effect.waiting, reply.effect.flag_sint, reply.effect.flag, reply.effect.flag_is,
+                reply.effect.freed, reply.effect.port, reply.effect.pooled);
         wrong = 1;
     }
     memset(&reply, 0xA5, sizeof reply);
@@ -143,8 +146,8 @@ static uint32_t clear_slot(uint8_t sint) {
 /* ---- The events ---- */
 
 /*
- * Partition 2 gets the pages 20 to 31 and processor 1. Ports 5 and 9 take messages at its SINTs 2 and 4, and port
- * 7 takes the flags 8 to 11 of SINT 3. The root has connections 1, 3 and 2 to them.
+ * Partition 2 gets the pages 20 to 31 and processor 1. Ports 5 and 9 take messages at its SINTs 2 and 4, and
+ * port 7 takes the flags 8 to 11 of SINT 3. The root has connections 1, 3 and 2 to them.
  */
 static void make(void) {
     static const hvpm_config config = {0xf700000044, 64, 16, 1};
@@ -165,7 +168,8 @@ static void make(void) {
     serves("a processor is made", hvpm_create_vp(&machine, root, 2, 1, &reply, NULL, 0), processor(2, 1));
     for (size_t i = 0; i < 3; i++) {
         serves("a port is made", hvpm_create_port(&machine, root, &ports[i], &reply, NULL, 0), nothing());
-        serves("it is connected", hvpm_connect_port(&machine, root, &connections[i], &reply, NULL, 0), nothing());
+        serves("it is connected", hvpm_connect_port(&machine, root, &connections[i], &reply, NULL, 0),
+               nothing());
     }
     serves("SCONTROL is written", write_msr(0x40000080, 1), nothing());
     serves("SIEFP is written", write_msr(0x40000082, 1), nothing());
@@ -186,7 +190,8 @@ static void send_messages(void) {
     serves("a post to another SINT is shown", post(3), synic(1 << 4, VECTOR(0x34)));
     serves("another waits there", post(3), waiting(1 << 4));
     serves("that slot is cleared", clear_slot(4), freed(1 << 4, 9));
-    serves("both SINTs show what waits", write_msr(0x40000084, 7), synic(1 << 2 | 1 << 4, VECTOR(0x32) | VECTOR(0x34)));
+    serves("both SINTs show what waits", write_msr(0x40000084, 7),
+           synic(1 << 2 | 1 << 4, VECTOR(0x32) | VECTOR(0x34)));
     serves("nothing waits any more", write_msr(0x40000084, 0), synic(0, 0));
     serves("a slot is cleared to be empty", clear_slot(4), freed(1 << 4, 9));
     serves("SINT 4 is masked", write_msr(0x40000094, 0x10034), nothing());
@@ -205,11 +210,12 @@ static void set_flags(void) {
 
 static void refuse(void) {
     const uint64_t own[1] = {3};
-    tells("a processor that is there", hvpm_create_vp(&machine, root, 2, 1, &reply, NULL, 0), HVPM_REPLY_DENIED, nothing());
-    tells("a page that is pooled", hvpm_deposit_memory(&machine, root, 2, own, 1, 0, &reply, NULL, 0), HVPM_REPLY_DENIED,
-          nothing());
-    tells("no such register", hvpm_read_msr(&machine, guest, 0x40000081 + 0x100, &reply, NULL, 0), HVPM_REPLY_FAULT,
-          nothing());
+    tells("a processor that is there", hvpm_create_vp(&machine, root, 2, 1, &reply, NULL, 0),
+          HVPM_REPLY_DENIED, nothing());
+    tells("a page that is pooled", hvpm_deposit_memory(&machine, root, 2, own, 1, 0, &reply, NULL, 0),
+          HVPM_REPLY_DENIED, nothing());
+    tells("no such register", hvpm_read_msr(&machine, guest, 0x40000081 + 0x100, &reply, NULL, 0),
+          HVPM_REPLY_FAULT, nothing());
     tells("no such SINT", clear_slot(16), HVPM_REPLY_FAULT, nothing());
 }
 
@@ -236,22 +242,25 @@ static void take_runs(void) {
     tells("a run ends at EOM", first, HVPM_REPLY_MORE, synic(1 << 2, VECTOR(0x32)));
     holds("after two elements", done.events == 2);
     serves("it goes on with the third",
-           hvpm_run(&machine, root, &registers, set, sizeof set, &reply, outputs, sizeof outputs, &done), nothing());
+           hvpm_run(&machine, root, &registers, set, sizeof set, &reply, outputs, sizeof outputs, &done),
+           nothing());
     holds("which is the last", done.events == 1);
     hvpm_put(deposits, 2, 8);
     for (size_t i = 0; i < 3; i++) hvpm_put(deposits + 8 + 8 * i, 40 + i, 8);
     registers.rcx = UINT64_C(3) << 32 | 0x48;
     serves("deposits go on to the last",
-           hvpm_run(&machine, root, &registers, deposits, sizeof deposits, &reply, outputs, sizeof outputs, &done),
+           hvpm_run(&machine, root, &registers, deposits, sizeof deposits, &reply, outputs, sizeof outputs,
+                    &done),
            page(42, 2, 1));
     holds("of all three", done.events == 3);
 }
 
 static void end(void) {
     uint64_t list[1] = {0};
-    serves("the lowest page is withdrawn", hvpm_withdraw_memory(&machine, root, 2, list, 1, 0, &reply, NULL, 0),
-           page(20, 1, 0));
-    serves("the processor is deleted", hvpm_delete_vp(&machine, root, 2, 1, &reply, NULL, 0), processor(2, 1));
+    serves("the lowest page is withdrawn",
+           hvpm_withdraw_memory(&machine, root, 2, list, 1, 0, &reply, NULL, 0), page(20, 1, 0));
+    serves("the processor is deleted", hvpm_delete_vp(&machine, root, 2, 1, &reply, NULL, 0),
+           processor(2, 1));
     tells("nobody takes a post", post(1), HVPM_REPLY_DENIED, nothing());
     serves("the partition is finalized", hvpm_finalize_partition(&machine, root, 2, &reply, NULL, 0),
            of_kind(HVPM_EFFECT_PARTITION, 2));

@@ -1,9 +1,9 @@
 /*
- * Calls each function of hvpm.h with each of its pointers null in turn, each function that takes an event on a
- * machine that takes no more of them, and each that looks at a machine on an empty handle. Each must answer what
- * the header says, and change nothing: neither what it is given nor the machine, whose next events are answered
- * as if there had been no call. Each case is a line of standard output, the names of the function and of the
- * argument, which `compare` lays beside the header. What is wrong goes to standard error.
+ * Calls each function of hvpm.h with each of its pointers null in turn, each function that takes an event on
+ * a machine that takes no more of them, and each that looks at a machine on an empty handle. Each must answer
+ * what the header says, and change nothing: neither what it is given nor the machine, whose next events are
+ * answered as if there had been no call. Each case is a line of standard output, the names of the function
+ * and of the argument, which `compare` lays beside the header. What is wrong goes to standard error.
  *
  * A machine takes no more events after 2^64 - 1. The count of them stands in the handle, so this test writes
  * it there, which the header leaves to the library. The machine has a count of its own, of those that were
@@ -110,7 +110,8 @@ struct world {
 static void take(struct world *world, uint64_t rcx, uint64_t rdx, const void *input, size_t len) {
     const hvpm_registers registers = {rcx, rdx, 0};
     want("the set-up", "call",
-         hvpm_hypercall(&world->machine, root, &registers, input, len, &world->reply, NULL, 0), HVPM_STATUS_OK);
+         hvpm_hypercall(&world->machine, root, &registers, input, len, &world->reply, NULL, 0),
+         HVPM_STATUS_OK);
     holds("the set-up", "served", world->reply.kind == HVPM_REPLY_SERVED);
 }
 
@@ -137,7 +138,8 @@ static void set_up(struct world *world) {
     for (size_t i = 0; i < 5; i++) {
         const uint32_t msr = 0x40000000 + (uint32_t)registers[i][0];
         want("the set-up", "write",
-             hvpm_write_msr(&world->machine, root, msr, registers[i][1], &world->reply, NULL, 0), HVPM_STATUS_OK);
+             hvpm_write_msr(&world->machine, root, msr, registers[i][1], &world->reply, NULL, 0),
+             HVPM_STATUS_OK);
     }
     for (size_t i = 0; i < 2; i++) {
         take(world, 0x95, 0, ports[i], sizeof ports[i]);
@@ -522,7 +524,8 @@ static void try_all(const struct function *function) {
     const struct arguments arguments = arguments_of(&world, function->kind);
     want(function->name, "nothing null", function->call(&arguments), HVPM_STATUS_OK);
     holds(function->name, "that it is served", function->kind != EVENT || world.reply.rule == 0);
-    holds(function->name, "that an event is counted", (world.machine.events > 12) == (function->kind == EVENT));
+    holds(function->name, "that an event is counted",
+          (world.machine.events > 12) == (function->kind == EVENT));
     hvpm_destroy(&world.machine);
     hvpm_destroy(&world.empty);
 }
@@ -566,7 +569,8 @@ static void try_look(const struct function *function) {
     arguments.at[MACHINE] = &world.empty;
     memcpy(&before, &world, sizeof before);
     want(function->name, "an empty handle", function->call(&arguments), HVPM_STATUS_EMPTY);
-    holds(function->name, "that nothing is written of an empty handle", memcmp(&before, &world, sizeof before) == 0);
+    holds(function->name, "that nothing is written of an empty handle",
+          memcmp(&before, &world, sizeof before) == 0);
     hvpm_destroy(&world.machine);
 }
 

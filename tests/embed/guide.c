@@ -1,12 +1,16 @@
 
 /*
- * The guest of docs/EMBEDDING.md, whose C fragments stand above: `.ci/embed` puts them there. It finds its hypervisor, turns its
- * SynIC on, takes messages and a flag from its pages, calls, and is reset. What is wrong goes to standard error.
+ * The guest of docs/EMBEDDING.md, whose C fragments stand above: `.ci/embed` puts them there. It finds its
+ * hypervisor, turns its SynIC on, takes messages and a flag from its pages, calls, and is reset. What is
+ * wrong goes to standard error.
  */
 #include <stdio.h>
 #include <stdlib.h>
 
-enum { MEMORY = 0x10000, INPUT = 0x1000, OUTPUT = 0x2000, MESSAGES = 0x3000, FLAGS = 0x4000, MSR_EOM = 0x40000084 };
+enum {
+    MEMORY = 0x10000, INPUT = 0x1000, OUTPUT = 0x2000, MESSAGES = 0x3000, FLAGS = 0x4000,
+    MSR_EOM = 0x40000084
+};
 
 static uint8_t guest[MEMORY] __attribute__((aligned(4096))), own[2][4096] __attribute__((aligned(4096)));
 static hvpm_caller injected_at;
@@ -59,11 +63,13 @@ static void connect(void) {
     const hvpm_port ports[] = {{child, 1, 1, HVPM_PORT_MESSAGES, 2, 1, 0, 0},
                                {child, 2, 1, HVPM_PORT_EVENTS, 2, 1, 5, 1},
                                {1, 3, child, HVPM_PORT_MESSAGES, 4, 0, 0, 0}};
-    const hvpm_connection connections[] = {
-        {1, 1, child, 1, HVPM_PORT_MESSAGES}, {1, 2, child, 2, HVPM_PORT_EVENTS}, {child, 3, 1, 3, HVPM_PORT_MESSAGES}};
+    const hvpm_connection connections[] = {{1, 1, child, 1, HVPM_PORT_MESSAGES},
+                                           {1, 2, child, 2, HVPM_PORT_EVENTS},
+                                           {child, 3, 1, 3, HVPM_PORT_MESSAGES}};
     for (uint32_t i = 0; i < 3; i++) {
         holds("a port", served(hvpm_create_port(&machine, root, &ports[i], &reply, NULL, 0), &reply));
-        holds("a connection", served(hvpm_connect_port(&machine, root, &connections[i], &reply, NULL, 0), &reply));
+        holds("a connection",
+              served(hvpm_connect_port(&machine, root, &connections[i], &reply, NULL, 0), &reply));
     }
 }
 
@@ -71,7 +77,8 @@ static void post(const char *text) {
     hvpm_reply reply;
     before();
     holds("a post",
-          served(hvpm_post_message(&machine, root, 1, 7, text, (uint32_t)strlen(text), &reply, NULL, 0), &reply));
+          served(hvpm_post_message(&machine, root, 1, 7, text, (uint32_t)strlen(text), &reply, NULL, 0),
+                 &reply));
     after(&reply.effect);
 }
 
@@ -98,7 +105,8 @@ int main(void) {
     hvpm_pages *vcpu = &vcpus[2], *other = &vcpus[1];
     holds("boot", boot());
     holds("the vendor", cpuid(0x40000000, regs) && memcmp(&regs[1], "Microsoft Hv", 12) == 0);
-    holds("the mask", cpuid(0x40000003, regs) && regs[0] == 0x64 && regs[1] == 0x30 && regs[2] == 0 && regs[3] == 0);
+    holds("the mask",
+          cpuid(0x40000003, regs) && regs[0] == 0x64 && regs[1] == 0x30 && regs[2] == 0 && regs[3] == 0);
     holds("no further leaf", !cpuid(0x40000006, regs) && cpuid(0x40000004, regs) && regs[0] == 0x200);
     connect();
     turn_on(vcpu);

@@ -24,7 +24,8 @@ static hvpm_reply reply;
 
 /* An event that is served. */
 static void served(const char *what, uint32_t status) {
-    holds(what, status == HVPM_STATUS_OK && (reply.kind == HVPM_REPLY_SERVED || reply.kind == HVPM_REPLY_MORE));
+    holds(what,
+          status == HVPM_STATUS_OK && (reply.kind == HVPM_REPLY_SERVED || reply.kind == HVPM_REPLY_MORE));
 }
 
 /* An access that is taken, served or not. */
@@ -38,8 +39,9 @@ static void write_msr(hvpm_caller by, uint32_t msr, uint64_t value) {
 
 /*
  * Partition 2 is Active below the root, with 10 pages in its pool, processor 1, the ports 5 and 7, and the
- * connection 6 to port 3 of the root. Partition 3 is Created below the root, and 4 Finalized below 2. SINT 2 of
- * processor 2.1 shows one message, while another waits; flag 9 of its SINT 3 is set. They raised 0x32 and 0x33.
+ * connection 6 to port 3 of the root. Partition 3 is Created below the root, and 4 Finalized below 2. SINT 2
+ * of processor 2.1 shows one message, while another waits; flag 9 of its SINT 3 is set. They raised 0x32 and
+ * 0x33.
  */
 static void set_up(void) {
     static const hvpm_config config = {.mask = 0xf700000047, .pages = 64, .pool = 16, .vps = 1};
@@ -52,7 +54,8 @@ static void set_up(void) {
     uint64_t id;
     holds("boot", hvpm_boot(&machine, &config) == HVPM_STATUS_OK);
     served("partition 2", hvpm_create_partition(&machine, root, 0, &id, &reply, NULL, 0));
-    served("its mask", hvpm_set_partition_property(&machine, root, 2, HVPM_PRIVILEGE_FLAGS, 0xb100000044, &reply, NULL, 0));
+    served("its mask", hvpm_set_partition_property(&machine, root, 2, HVPM_PRIVILEGE_FLAGS, 0xb100000044,
+                                                   &reply, NULL, 0));
     served("its state", hvpm_initialize_partition(&machine, root, 2, &reply, NULL, 0));
     for (uint16_t i = 0; i < 10; i++)
         served("its pages", hvpm_deposit_memory(&machine, root, 2, pages, 10, i, &reply, NULL, 0));
@@ -125,7 +128,8 @@ static void look_at_msrs(void) {
         served_or_fault(hvpm_read_msr_value(&machine, guest, msr, &read, &reply, NULL, 0));
         const bool is_there = reply.rule != 25;
         holds("which registers there are", hvpm_is_msr(msr) == is_there);
-        holds("a register is shown where it is there", status == (is_there ? HVPM_STATUS_OK : HVPM_STATUS_NONE));
+        holds("a register is shown where it is there",
+              status == (is_there ? HVPM_STATUS_OK : HVPM_STATUS_NONE));
         holds("a register shows what is read", reply.kind == HVPM_REPLY_FAULT || shown == read);
         holds("nothing is written of a register that isn't there", is_there || shown == 0xA5);
         known += is_there;
@@ -134,18 +138,22 @@ static void look_at_msrs(void) {
     holds("there are 22 registers", known == 22);
     holds("SINT 2", hvpm_peek_msr(&machine, guest, 0x40000092, &value) == HVPM_STATUS_OK && value == 0x32);
     holds("no processor has one", hvpm_peek_msr(&machine, nobody, 0x40000092, &value) == HVPM_STATUS_NONE);
-    holds("nor has a partition without", hvpm_peek_msr(&machine, other, 0x40000092, &value) == HVPM_STATUS_NONE);
+    holds("nor has a partition without",
+          hvpm_peek_msr(&machine, other, 0x40000092, &value) == HVPM_STATUS_NONE);
 }
 
 /* The two vectors, and then without the highest. */
 static void look_at_pending(void) {
     uint64_t out[4] = {9, 9, 9, 9};
-    holds("no processor has vectors", hvpm_peek_pending(&machine, nobody, out) == HVPM_STATUS_NONE && out[0] == 9);
+    holds("no processor has vectors",
+          hvpm_peek_pending(&machine, nobody, out) == HVPM_STATUS_NONE && out[0] == 9);
     holds("vectors are shown", hvpm_peek_pending(&machine, guest, out) == HVPM_STATUS_OK);
-    holds("vectors 0x32 and 0x33", out[0] == UINT64_C(3) << 0x32 && out[1] == 0 && out[2] == 0 && out[3] == 0);
+    holds("vectors 0x32 and 0x33",
+          out[0] == UINT64_C(3) << 0x32 && out[1] == 0 && out[2] == 0 && out[3] == 0);
     served("one is taken", hvpm_take_interrupt(&machine, guest, &reply, NULL, 0));
     holds("the highest is taken", reply.output[0] == 0x33);
-    holds("the other is shown", hvpm_peek_pending(&machine, guest, out) == HVPM_STATUS_OK && out[0] == UINT64_C(1) << 0x32);
+    holds("the other is shown",
+          hvpm_peek_pending(&machine, guest, out) == HVPM_STATUS_OK && out[0] == UINT64_C(1) << 0x32);
 }
 
 /* ---- At partitions ---- */
@@ -159,9 +167,10 @@ static void is_partition(uint64_t id, hvpm_partition wanted) {
         shown.children == wanted.children && shown.vps == wanted.vps && shown.ports == wanted.ports &&
         shown.connections == wanted.connections)
         return;
-    fprintf(stderr, "partition %" PRIu64 ": mask %" PRIx64 " parent %" PRIu64 " depth %" PRIu64 " pooled %" PRIu64
-                    " in use %" PRIu64 " life %" PRIu32 " children %" PRIu32 " vps %" PRIu32 " ports %" PRIu32
-                    " connections %" PRIu32 "\n",
+    fprintf(stderr,
+            "partition %" PRIu64 ": mask %" PRIx64 " parent %" PRIu64 " depth %" PRIu64 " pooled %" PRIu64
+            " in use %" PRIu64 " life %" PRIu32 " children %" PRIu32 " vps %" PRIu32 " ports %" PRIu32
+            " connections %" PRIu32 "\n",
             id, shown.mask, shown.parent, shown.depth, shown.pooled, shown.in_use, shown.life, shown.children,
             shown.vps, shown.ports, shown.connections);
     wrong = 1;
@@ -188,10 +197,11 @@ static bool is_child_after(uint64_t parent, uint64_t previous, uint64_t child) {
 
 static void look_at_children(void) {
     uint64_t child = 0xA5;
-    holds("the root's children",
-          is_child_after(1, 0, 2) && is_child_after(1, 2, 3) && is_child_after(1, 3, 0) && is_child_after(1, 1, 2));
+    holds("the root's children", is_child_after(1, 0, 2) && is_child_after(1, 2, 3) &&
+                                     is_child_after(1, 3, 0) && is_child_after(1, 1, 2));
     holds("those of others", is_child_after(2, 0, 4) && is_child_after(2, 4, 0) && is_child_after(3, 0, 0));
-    holds("no partition has none", hvpm_child_after(&machine, 5, 0, &child) == HVPM_STATUS_NONE && child == 0xA5);
+    holds("no partition has none",
+          hvpm_child_after(&machine, 5, 0, &child) == HVPM_STATUS_NONE && child == 0xA5);
 }
 
 static void look_at_pages(void) {
@@ -210,11 +220,13 @@ static void look_at_ports(void) {
     hvpm_port port;
     hvpm_connection connection;
     holds("port 5 is there", hvpm_peek_port(&machine, 2, 5, &port) == HVPM_STATUS_OK);
-    holds("port 5", port.partition == 2 && port.id == 5 && port.peer == 1 && port.type == HVPM_PORT_MESSAGES &&
-                        port.sint == 2 && port.vp == 1 && port.base_flag == 0 && port.flag_count == 0);
+    holds("port 5", port.partition == 2 && port.id == 5 && port.peer == 1 &&
+                        port.type == HVPM_PORT_MESSAGES && port.sint == 2 && port.vp == 1 &&
+                        port.base_flag == 0 && port.flag_count == 0);
     holds("port 7 is there", hvpm_peek_port(&machine, 2, 7, &port) == HVPM_STATUS_OK);
     holds("port 7", port.partition == 2 && port.id == 7 && port.peer == 1 && port.type == HVPM_PORT_EVENTS &&
-                        port.sint == 3 && port.vp == HVPM_ANY_VP && port.base_flag == 8 && port.flag_count == 4);
+                        port.sint == 3 && port.vp == HVPM_ANY_VP && port.base_flag == 8 &&
+                        port.flag_count == 4);
     holds("connection 6 is there", hvpm_peek_connection(&machine, 2, 6, &connection) == HVPM_STATUS_OK);
     holds("connection 6", connection.partition == 2 && connection.id == 6 && connection.port_partition == 1 &&
                               connection.port == 3 && connection.type == HVPM_PORT_MESSAGES);
@@ -222,7 +234,8 @@ static void look_at_ports(void) {
     memset(&connection, 0xA5, sizeof connection);
     holds("no partition's port 7", hvpm_peek_port(&machine, 5, 7, &port) == HVPM_STATUS_NONE);
     holds("another partition's port 7", hvpm_peek_port(&machine, 1, 7, &port) == HVPM_STATUS_NONE);
-    holds("another partition's connection 6", hvpm_peek_connection(&machine, 1, 6, &connection) == HVPM_STATUS_NONE);
+    holds("another partition's connection 6",
+          hvpm_peek_connection(&machine, 1, 6, &connection) == HVPM_STATUS_NONE);
     holds("a port is no connection", hvpm_peek_connection(&machine, 2, 5, &connection) == HVPM_STATUS_NONE);
     holds("nothing is written of what isn't there",
           is_untouched(&port, sizeof port) && is_untouched(&connection, sizeof connection));
@@ -230,19 +243,26 @@ static void look_at_ports(void) {
 
 static void look_at_table(void) {
     static const char wanted[] =
-        "partition 1 parent - Active mask 000000f700000047 loose 38 pooled 16 inuse 11 vps 1 ports 1 connections 2\n"
-        "partition 2 parent 1 Active mask 000000b100000044 loose 0 pooled 10 inuse 9 vps 1 ports 2 connections 1\n"
-        "partition 3 parent 1 Created mask 0000003000000044 loose 0 pooled 0 inuse 0 vps 0 ports 0 connections 0\n"
-        "partition 4 parent 2 Finalized mask 0000003000000044 loose 0 pooled 0 inuse 0 vps 0 ports 0 connections 0\n"
+        "partition 1 parent - Active mask 000000f700000047 loose 38 pooled 16 inuse 11"
+        " vps 1 ports 1 connections 2\n"
+        "partition 2 parent 1 Active mask 000000b100000044 loose 0 pooled 10 inuse 9"
+        " vps 1 ports 2 connections 1\n"
+        "partition 3 parent 1 Created mask 0000003000000044 loose 0 pooled 0 inuse 0"
+        " vps 0 ports 0 connections 0\n"
+        "partition 4 parent 2 Finalized mask 0000003000000044 loose 0 pooled 0 inuse 0"
+        " vps 0 ports 0 connections 0\n"
         "pages 64\n";
     char text[sizeof wanted];
     size_t len = 0;
-    holds("the table's length", hvpm_table(&machine, NULL, 0, &len) == HVPM_STATUS_SHORT && len == sizeof wanted - 1);
+    holds("the table's length",
+          hvpm_table(&machine, NULL, 0, &len) == HVPM_STATUS_SHORT && len == sizeof wanted - 1);
     memset(text, 0xA5, sizeof text);
     len = 0;
-    holds("a byte less", hvpm_table(&machine, text, sizeof wanted - 2, &len) == HVPM_STATUS_SHORT && len == sizeof wanted - 1);
+    holds("a byte less", hvpm_table(&machine, text, sizeof wanted - 2, &len) == HVPM_STATUS_SHORT &&
+                             len == sizeof wanted - 1);
     holds("nothing is written of it", is_untouched(text, sizeof text));
-    holds("just its bytes", hvpm_table(&machine, text, len, &len) == HVPM_STATUS_OK && len == sizeof wanted - 1);
+    holds("just its bytes",
+          hvpm_table(&machine, text, len, &len) == HVPM_STATUS_OK && len == sizeof wanted - 1);
     holds("the table", memcmp(text, wanted, len) == 0 && is_untouched(text + len, 1));
 }
 
@@ -251,11 +271,13 @@ static void look_at_table(void) {
 static void look_at_features(void) {
     uint32_t out[4] = {9, 9, 9, 9};
     unsigned calls = 0;
-    holds("there is no leaf of no partition", hvpm_features(&machine, 5, out) == HVPM_STATUS_NONE && out[0] == 9);
+    holds("there is no leaf of no partition",
+          hvpm_features(&machine, 5, out) == HVPM_STATUS_NONE && out[0] == 9);
     holds("the leaf of partition 2", hvpm_features(&machine, 2, out) == HVPM_STATUS_OK);
     holds("its registers", out[0] == 0x44 && out[1] == 0xb1 && out[2] == 0 && out[3] == 0);
     for (uint32_t code = 0; code < 0x10000; code++) calls += hvpm_is_call((uint16_t)code);
-    holds("there are 21 calls", calls == 21 && hvpm_is_call(0x40) && hvpm_is_call(0x96) && !hvpm_is_call(0x4B));
+    holds("there are 21 calls",
+          calls == 21 && hvpm_is_call(0x40) && hvpm_is_call(0x96) && !hvpm_is_call(0x4B));
 }
 
 int main(void) {

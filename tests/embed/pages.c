@@ -3,11 +3,12 @@
  *
  *     pages [MESSAGES FLAGS]
  *
- * First come cases, one after another. Then a root and a guest's two processors run as threads over one machine behind one lock
- * and send each other MESSAGES messages and FLAGS event flags in all, 40,000 of each if left out. A thread reads and writes its
- * own two pages as a guest does, takes vectors that others inject, and exits for posts, signals and EOM alone. None of the
- * messages and flags may be lost or doubled, the messages of a SINT come in the order of their posts, and no thread may wait for
- * good: a sender doesn't go on before the receiver has all of its batch. Compile it with -fsanitize=thread. What is wrong goes to
+ * First come cases, one after another. Then a root and a guest's two processors run as threads over one
+ * machine behind one lock and send each other MESSAGES messages and FLAGS event flags in all, 40,000 of each
+ * if left out. A thread reads and writes its own two pages as a guest does, takes vectors that others inject,
+ * and exits for posts, signals and EOM alone. None of the messages and flags may be lost or doubled, the
+ * messages of a SINT come in the order of their posts, and no thread may wait for good: a sender doesn't go
+ * on before the receiver has all of its batch. Compile it with -fsanitize=thread. What is wrong goes to
  * standard error, and the status is then 1.
  */
 #include "hvpm_pages.h"
@@ -18,7 +19,10 @@
 #include <stdlib.h>
 #include <time.h>
 
-enum { PROCESSORS = 3, SINTS = 16, FLAG_SINT = 3, FLAGS = 64, STALL_SECONDS = 10, MSR_EOM = 0x40000084, PAGE = 4096 };
+enum {
+    PROCESSORS = 3, SINTS = 16, FLAG_SINT = 3, FLAGS = 64, STALL_SECONDS = 10, MSR_EOM = 0x40000084,
+    PAGE = 4096
+};
 
 static hvpm_machine machine = HVPM_EMPTY;
 static uint64_t events; /* that this program and the functions of the header made, as counted here */
@@ -47,7 +51,8 @@ static void served(const char *what, uint32_t status, const hvpm_reply *reply) {
 
 static struct processor {
     hvpm_pages pages;
-    uint64_t injected;                  /* vectors from 0x40 on that its interrupt controller has, and it didn't take */
+    uint64_t injected;                  /* vectors from 0x40 on that its interrupt controller has,
+                                           and it didn't take */
     uint64_t rooms;                     /* how often a message was let go here */
     uint64_t posted[SINTS];             /* how many messages were posted at each SINT */
     uint64_t got[SINTS];                /* how many of them it got */
@@ -68,8 +73,8 @@ static void record(void *context, hvpm_caller by, enum hvpm_access event, uint32
     (void)number, (void)value;
     events++;
     if (machine.events > 20000 && machine.events % 64 != 0) return;
-    snprintf(wanted, sizeof wanted, "%" PRIu64 " %" PRIu64 ".%" PRIu32 " %s", machine.events, by.partition, by.vp,
-             names[event]);
+    snprintf(wanted, sizeof wanted, "%" PRIu64 " %" PRIu64 ".%" PRIu32 " %s", machine.events, by.partition,
+             by.vp, names[event]);
     holds("the line of a recorded event",
           strncmp(line, wanted, strlen(wanted)) == 0 && reply->line_len > strlen(wanted));
     holds("the context of a recorded event", context == &events && machine.events == events);
@@ -80,7 +85,8 @@ static void settle(const hvpm_effect *effect) {
     for (size_t i = 0; i < PROCESSORS; i++) {
         struct processor *at = &processors[i];
         uint8_t vector;
-        holds("pages are brought up to date", hvpm_pages_after(&machine, &at->pages, effect) == HVPM_STATUS_OK);
+        holds("pages are brought up to date",
+              hvpm_pages_after(&machine, &at->pages, effect) == HVPM_STATUS_OK);
         for (;;) {
             holds("a vector is taken", hvpm_pages_vector(&machine, &at->pages, &vector) == HVPM_STATUS_OK);
             if (vector == 0) break;
@@ -110,21 +116,28 @@ static void write_msr(hvpm_caller by, uint32_t msr, uint64_t value) {
     settle(&reply.effect);
 }
 
-/* Writes SIMP or SIEFP, and gives the pages that both name now. The address is a page's number in `memory`, from 1 on. */
+/*
+ * Writes SIMP or SIEFP, and gives the pages that both name now.
+ * The address is a page's number in `memory`, from 1 on.
+ */
 static void write_page(struct processor *self, uint32_t msr, uint64_t value) {
     uint64_t at[2];
     void *pages[2] = {NULL, NULL};
     write_msr(self->pages.of, msr, value);
     for (uint32_t i = 0; i < 2; i++) {
         holds("SIMP and SIEFP are seen",
-              hvpm_peek_msr(&machine, self->pages.of, i == 0 ? 0x40000083 : 0x40000082, &at[i]) == HVPM_STATUS_OK);
+              hvpm_peek_msr(&machine, self->pages.of, i == 0 ? 0x40000083 : 0x40000082, &at[i]) ==
+                  HVPM_STATUS_OK);
         const uint64_t page = at[i] / PAGE - 1;
         if (at[i] & 1 && page < 2 * PROCESSORS) pages[i] = memory[page / 2][page % 2];
     }
     holds("pages are moved", hvpm_pages_move(&machine, &self->pages, pages[0], pages[1]) == HVPM_STATUS_OK);
 }
 
-/* What is sent from one processor to another: messages, or event flags, each with a port and a connection of one number. */
+/*
+ * What is sent from one processor to another: messages, or event flags, each with a port
+ * and a connection of one number.
+ */
 static const struct link {
     uint32_t id, from, to, type, sint;
     uint16_t first_flag, flags;
@@ -151,18 +164,21 @@ static void set_up(void) {
     memset(memory, 0, sizeof memory);
     served("a guest", hvpm_create_partition(&machine, root, 0, &guest, &reply, NULL, 0), &reply);
     served("its mask",
-           hvpm_set_partition_property(&machine, root, guest, HVPM_PRIVILEGE_FLAGS, 0xb000000064, &reply, NULL, 0),
+           hvpm_set_partition_property(&machine, root, guest, HVPM_PRIVILEGE_FLAGS, 0xb000000064, &reply,
+                                       NULL, 0),
            &reply);
     served("its start", hvpm_initialize_partition(&machine, root, guest, &reply, NULL, 0), &reply);
     for (uint16_t i = 0; i < 24; i++) pages[i] = 32 + i;
     for (uint16_t i = 0; i < 24; i++)
-        served("its pages", hvpm_deposit_memory(&machine, root, guest, pages, 24, i, &reply, NULL, 0), &reply);
+        served("its pages", hvpm_deposit_memory(&machine, root, guest, pages, 24, i, &reply, NULL, 0),
+               &reply);
     for (uint32_t i = 0; i < PROCESSORS; i++) {
         struct processor *self = &processors[i];
         self->pages.of = i == 0 ? root : (hvpm_caller){guest, i - 1};
         self->pages.record = record, self->pages.context = &events;
         self->random = 0x9e3779b9u * (i + 1);
-        if (i > 0) served("a processor", hvpm_create_vp(&machine, root, guest, i - 1, &reply, NULL, 0), &reply);
+        if (i > 0)
+            served("a processor", hvpm_create_vp(&machine, root, guest, i - 1, &reply, NULL, 0), &reply);
         write_msr(self->pages.of, 0x40000080, 1);
         write_page(self, 0x40000083, PAGE * (2 * i + 1) | 1);
         write_page(self, 0x40000082, PAGE * (2 * i + 2) | 1);
@@ -195,8 +211,8 @@ static bool post(const struct link *link) {
     uint8_t payload[240];
     hvpm_reply reply;
     const uint32_t size = payload_of(*number, payload);
-    taken(hvpm_post_message(&machine, processors[link->from].pages.of, link->id, 1 + (uint32_t)*number % 1000, payload,
-                            size, &reply, NULL, 0));
+    taken(hvpm_post_message(&machine, processors[link->from].pages.of, link->id, 1 + (uint32_t)*number % 1000,
+                            payload, size, &reply, NULL, 0));
     settle(&reply.effect);
     holds("a post is served, or P23 refuses it", reply.kind == HVPM_REPLY_SERVED || reply.rule == 23);
     if (reply.kind == HVPM_REPLY_SERVED) __atomic_fetch_add(number, 1, __ATOMIC_RELAXED);
@@ -205,7 +221,8 @@ static bool post(const struct link *link) {
 
 static void signal_flag(const struct link *link, uint16_t flag) {
     hvpm_reply reply;
-    served("a signal", hvpm_signal_event(&machine, processors[link->from].pages.of, link->id, flag, &reply, NULL, 0),
+    served("a signal",
+           hvpm_signal_event(&machine, processors[link->from].pages.of, link->id, flag, &reply, NULL, 0),
            &reply);
     settle(&reply.effect);
 }
@@ -218,7 +235,10 @@ static uint8_t *flags_of(const struct processor *self) {
     return memory[self - processors][1] + 256 * FLAG_SINT;
 }
 
-/* The last processor looks at its slots also without a vector, as Linux does where it waits for a message of its own. */
+/*
+ * The last processor looks at its slots also without a vector, as Linux does where it
+ * waits for a message of its own.
+ */
 static bool polls(const struct processor *self) {
     return self == &processors[PROCESSORS - 1];
 }
@@ -288,7 +308,8 @@ static void message_cases(void) {
     holds("a slot that was let go is told", self->pages.shown == 0 && self->pages.freed);
     holds("a third post", post(&links[0]));
     gets("the third, with no EOM", self, 2, false);
-    /* A post that didn't look first finds the old message in the library. The guest won't write EOM: it saw nothing pending. */
+    /* A post that didn't look first finds the old message in the library.
+     * The guest won't write EOM: it saw nothing pending. */
     holds("a fourth post, without a look", post(&links[0]));
     gets("the fourth, by the second look", self, 2, false);
     look_first();
@@ -348,7 +369,8 @@ static void processor_cases(void) {
     holds("a post", post(&links[1]));
     served("a deletion", hvpm_delete_vp(&machine, root, 2, 1, &reply, NULL, 0), &reply);
     settle(&reply.effect);
-    holds("one that is gone has no pages", !self->pages.messages && !self->pages.flags && self->pages.shown == 0);
+    holds("one that is gone has no pages",
+          !self->pages.messages && !self->pages.flags && self->pages.shown == 0);
     holds("and its messages make room", self->rooms == 1);
     holds("the other keeps its pages", other->pages.messages && other->pages.flags);
     served("it is made again", hvpm_create_vp(&machine, root, 2, 1, &reply, NULL, 0), &reply);
@@ -387,7 +409,10 @@ static uint32_t random_of(struct processor *self) {
     return self->random;
 }
 
-/* Whether a link sent something. Of a SINT at which two links aim the receiver has all messages of both, or the batch goes on. */
+/*
+ * Whether a link sent something. Of a SINT at which two links aim the receiver has all messages
+ * of both, or the batch goes on.
+ */
 static bool send_message(struct processor *self, const struct link *link, struct batch *batch) {
     static const uint64_t sizes[] = {1, 2, 2, 3, 12};
     struct processor *to = &processors[link->to];
@@ -455,8 +480,8 @@ static void *run(void *of) {
         }
         for (size_t i = 0; i < LINKS && vector == 0; i++) {
             if (&processors[links[i].from] != self) continue;
-            acted |=
-                links[i].type == HVPM_PORT_MESSAGES ? send_message(self, &links[i], &batches[i]) : send_flag(&links[i]);
+            acted |= links[i].type == HVPM_PORT_MESSAGES ? send_message(self, &links[i], &batches[i])
+                                                         : send_flag(&links[i]);
         }
         idle = acted ? 0 : idle + 1;
         if (idle > 4) nanosleep(&halt, NULL);
@@ -484,9 +509,11 @@ static void nothing_is_left(void) {
         holds("no vector is left", take_vector(&processors[i]) == 0);
         for (uint32_t at = 0; at < PAGE; at++) holds("no flag is left in a page", memory[i][1][at] == 0);
         for (uint8_t sint = 0; sint < SINTS; sint++) {
-            holds("a slot is seen", hvpm_peek_slot(&machine, processors[i].pages.of, sint, bytes) == HVPM_STATUS_OK);
+            holds("a slot is seen",
+                  hvpm_peek_slot(&machine, processors[i].pages.of, sint, bytes) == HVPM_STATUS_OK);
             holds("no message is left", bytes[0] == 0 && bytes[1] == 0);
-            holds("flags are seen", hvpm_peek_flags(&machine, processors[i].pages.of, sint, bytes) == HVPM_STATUS_OK);
+            holds("flags are seen",
+                  hvpm_peek_flags(&machine, processors[i].pages.of, sint, bytes) == HVPM_STATUS_OK);
             for (uint32_t at = 0; at < 256; at++) holds("no flag is left", bytes[at] == 0);
         }
     }
@@ -507,8 +534,8 @@ static void threads(uint64_t messages, uint64_t flags) {
         idle = got[0] + got[1] == last ? idle + 1 : 0;
         last = got[0] + got[1];
         if (idle < STALL_SECONDS * 50) continue;
-        fprintf(stderr, "%" PRIu64 " of %" PRIu64 " messages and %" PRIu64 " of %" PRIu64 " flags arrived\n", got[0],
-                wanted[0], got[1], wanted[1]);
+        fprintf(stderr, "%" PRIu64 " of %" PRIu64 " messages and %" PRIu64 " of %" PRIu64 " flags arrived\n",
+                got[0], wanted[0], got[1], wanted[1]);
         fail("a processor waits for good");
     }
     __atomic_store_n(&is_over, true, __ATOMIC_RELAXED);

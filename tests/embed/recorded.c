@@ -1,7 +1,7 @@
 /*
- * Events as lines of a script: a run that is recorded, and each line's text. The words are SCRIPT and AUDIT, the
- * files for the recording and for the audit that the library hands back, which `hvpm run SCRIPT --serial` must
- * print, too. The texts are those of "Script" in docs/POLICY.md. What is wrong goes to standard error.
+ * Events as lines of a script: a run that is recorded, and each line's text. The words are SCRIPT and AUDIT,
+ * the files for the recording and for the audit that the library hands back, which `hvpm run SCRIPT --serial`
+ * must print, too. The texts are those of "Script" in docs/POLICY.md. What is wrong goes to standard error.
  */
 #include "hvpm.h"
 
@@ -32,7 +32,8 @@ static void keep(uint32_t status, const char *line) {
 }
 
 /* Records a hypercall, and takes it to its last element. */
-static void call(hvpm_caller by, uint64_t rcx, uint64_t rdx, uint64_t r8, const void *input, size_t input_len) {
+static void call(hvpm_caller by, uint64_t rcx, uint64_t rdx, uint64_t r8, const void *input,
+                 size_t input_len) {
     hvpm_registers registers = {rcx, rdx, r8};
     char text[HVPM_CALL_LINE], line[HVPM_LINE];
     size_t len;
@@ -109,8 +110,9 @@ static void call_with(hvpm_caller by, uint64_t rcx, uint64_t rdx, const uint64_t
 }
 
 /*
- * Partition 2 is made, gets 8 pages and processor 1, posts to processor 1.1 and signals it. Each call and access
- * is there, with and without input, fast, in elements, denied and at fault, and by a processor that isn't there.
+ * Partition 2 is made, gets 8 pages and processor 1, posts to processor 1.1 and signals it. Each call and
+ * access is there, with and without input, fast, in elements, denied and at fault, and by a processor that
+ * isn't there.
  */
 static void run(void) {
     static const hvpm_config config = {0xf700000047, 64, 40, 2};
@@ -123,8 +125,8 @@ static void run(void) {
     static const uint64_t property[] = {2, HVPM_PRIVILEGE_FLAGS, 0xb100000044};
     static const uint64_t registers[] = {2, 1, UINT64_C(0x00020001) << 32 | 0x00020000, 0x00020002};
     holds("boot", hvpm_boot(&machine, &config) == HVPM_STATUS_OK);
-    fprintf(script, "boot %" PRIu32 " %" PRIu32 " %" PRIu32 " 0x%" PRIx64 " %" PRIu32 "\n", config.pages, config.pool,
-            config.vps, config.mask, UINT32_MAX);
+    fprintf(script, "boot %" PRIu32 " %" PRIu32 " %" PRIu32 " 0x%" PRIx64 " %" PRIu32 "\n", config.pages,
+            config.pool, config.vps, config.mask, UINT32_MAX);
     call(root, 0x40, 0, 0x1000, NULL, 0);
     call_with(root, 0x45, 0, property, 3);
     call_with(root, 0x41, 0x2000, partition, 1);
@@ -174,19 +176,23 @@ static void run(void) {
 /* ---- The texts ---- */
 
 /* The line of a call, with just as much room as it takes, with a byte less, and with none. */
-static void is_call(hvpm_caller by, hvpm_registers registers, const void *input, size_t input_len, const char *wanted) {
+static void is_call(hvpm_caller by, hvpm_registers registers, const void *input, size_t input_len,
+                    const char *wanted) {
     char text[HVPM_CALL_LINE];
     const size_t size = strlen(wanted);
     size_t len = 0;
     memset(text, 0x5A, sizeof text);
     holds("a call's length",
-          hvpm_hypercall_line(by, &registers, input, input_len, NULL, 0, &len) == HVPM_STATUS_SHORT && len == size);
+          hvpm_hypercall_line(by, &registers, input, input_len, NULL, 0, &len) == HVPM_STATUS_SHORT &&
+              len == size);
     len = 0;
     holds("a byte less for a call",
-          hvpm_hypercall_line(by, &registers, input, input_len, text, size - 1, &len) == HVPM_STATUS_SHORT && len == size);
+          hvpm_hypercall_line(by, &registers, input, input_len, text, size - 1, &len) == HVPM_STATUS_SHORT &&
+              len == size);
     holds("nothing is written of a call", text[0] == 0x5A && memcmp(text, text + 1, sizeof text - 1) == 0);
     holds("a call",
-          hvpm_hypercall_line(by, &registers, input, input_len, text, size, &len) == HVPM_STATUS_OK && len == size);
+          hvpm_hypercall_line(by, &registers, input, input_len, text, size, &len) == HVPM_STATUS_OK &&
+              len == size);
     if (memcmp(text, wanted, size) != 0) fprintf(stderr, "%.*s, wanted %s", (int)len, text, wanted);
     holds("its line", memcmp(text, wanted, size) == 0 && (size == sizeof text || text[size] == 0x5A));
 }
@@ -197,7 +203,8 @@ static void calls(void) {
     static const hvpm_registers most = {UINT64_MAX, UINT64_MAX, UINT64_MAX};
     static const char head[] =
         "18446744073709551615.4294967295 call 0xffffffffffffffff 0xffffffffffffffff 0xffffffffffffffff ";
-    static const hvpm_registers id = {0x46, 0, 0}, fast = {0x1004E, 2, 1}, deposit = {UINT64_C(0x600000048), 0x3000, 0};
+    static const hvpm_registers id = {0x46, 0, 0}, fast = {0x1004E, 2, 1},
+                                deposit = {UINT64_C(0x600000048), 0x3000, 0};
     char wanted[HVPM_CALL_LINE + 1];
     is_call(root, id, NULL, 0, "1.0 call 0x46 0x0 0x0 -\n");
     is_call(guest, fast, NULL, 0, "2.1 call 0x1004e 0x2 0x1 -\n");
@@ -226,9 +233,11 @@ static void is_access(hvpm_caller by, uint32_t access, uint32_t number, uint64_t
           hvpm_access_line(by, access, number, value, NULL, 0, &len) == HVPM_STATUS_SHORT && len == size);
     len = 0;
     holds("a byte less for an access",
-          hvpm_access_line(by, access, number, value, text, size - 1, &len) == HVPM_STATUS_SHORT && len == size);
+          hvpm_access_line(by, access, number, value, text, size - 1, &len) == HVPM_STATUS_SHORT &&
+              len == size);
     holds("nothing is written of an access", text[0] == 0x5A && memcmp(text, text + 1, sizeof text - 1) == 0);
-    holds("an access", hvpm_access_line(by, access, number, value, text, size, &len) == HVPM_STATUS_OK && len == size);
+    holds("an access",
+          hvpm_access_line(by, access, number, value, text, size, &len) == HVPM_STATUS_OK && len == size);
     if (memcmp(text, wanted, size) != 0) fprintf(stderr, "%.*s, wanted %s", (int)len, text, wanted);
     holds("its line", memcmp(text, wanted, size) == 0 && text[size] == 0x5A);
 }
@@ -238,7 +247,8 @@ static void is_no_access(uint32_t access, uint32_t number, uint64_t value) {
     size_t len = 9;
     memset(text, 0x5A, sizeof text);
     holds("there is no such access",
-          hvpm_access_line(root, access, number, value, text, sizeof text, &len) == HVPM_STATUS_NONE && len == 9);
+          hvpm_access_line(root, access, number, value, text, sizeof text, &len) == HVPM_STATUS_NONE &&
+              len == 9);
     holds("nothing is written of no access", text[0] == 0x5A && memcmp(text, text + 1, sizeof text - 1) == 0);
 }
 

@@ -1,7 +1,8 @@
 /*
- * A 64-bit guest without an operating system, which does what Linux's drivers of VMBus do: it turns its SynIC on, posts and
- * takes messages, writes EOM, opens the channel of heartbeats, is woken from HLT by event flags, answers each by a signal, and
- * is denied a post. It needs a processor, a local APIC and a serial port.
+ * A 64-bit guest without an operating system, which does what Linux's drivers of VMBus do: it turns its SynIC
+ * on, posts and takes messages, writes EOM, opens the channel of heartbeats, is woken from HLT by event
+ * flags, answers each by a signal, and is denied a post. It needs a processor, a local APIC and a serial
+ * port.
  */
 #include <stdint.h>
 
@@ -59,7 +60,10 @@ static void set_gate(unsigned n, uint64_t at) {
 static uint64_t hypercall(uint64_t rcx, uint64_t rdx) {
     uint64_t rax;
     register uint64_t r8 __asm__("r8") = 0;
-    __asm__ volatile("call *%4" : "=a"(rax), "+c"(rcx), "+d"(rdx), "+r"(r8) : "r"(code) : "memory", "r9", "r10", "r11");
+    __asm__ volatile("call *%4"
+                     : "=a"(rax), "+c"(rcx), "+d"(rdx), "+r"(r8)
+                     : "r"(code)
+                     : "memory", "r9", "r10", "r11");
     return rax;
 }
 
@@ -70,7 +74,8 @@ static uint64_t post(uint32_t connection, const uint32_t *payload, uint32_t len)
     return hypercall(0x5C, (uint64_t)input);
 }
 
-/* Halts until the type of a message or an event flag is there. Between the look and HLT no interrupt is let in. */
+/* Halts until the type of a message or an event flag is there.
+ * Between the look and HLT no interrupt is let in. */
 static void wait_for(volatile uint32_t *word) {
     __asm__ volatile("cli");
     while (*word == 0) {
@@ -91,13 +96,15 @@ static uint32_t take(uint32_t to[60]) {
     return to[0];
 }
 
-/* Sends each packet that came back as it is, which is an answer that the host takes. Answers how many there were. */
+/* Sends each packet that came back as it is, which is an answer that the host takes.
+ * Answers how many there were. */
 static unsigned echo(void) {
     uint32_t *out = (uint32_t *)rings, *in = (uint32_t *)(rings + 2 * PAGE);
     unsigned count = 0;
     for (; in[1] != __atomic_load_n(&in[0], __ATOMIC_SEQ_CST); count++) {
         const uint8_t *at = rings + 3 * PAGE;
-        const uint32_t from = in[1], to = out[0], len = 8u * (at[(from + 4) % PAGE] | at[(from + 5) % PAGE] << 8) + 8;
+        const uint32_t from = in[1], to = out[0],
+                       len = 8u * (at[(from + 4) % PAGE] | at[(from + 5) % PAGE] << 8) + 8;
         for (uint32_t i = 0; i < len; i++) rings[PAGE + (to + i) % PAGE] = at[(from + i) % PAGE];
         __atomic_store_n(&in[1], (from + len) % PAGE, __ATOMIC_SEQ_CST);
         __atomic_store_n(&out[0], (to + len) % PAGE, __ATOMIC_SEQ_CST);
@@ -105,7 +112,8 @@ static unsigned echo(void) {
     return count;
 }
 
-/* Posts, and waits for the answer before it says anything: a line to the console takes longer than the host does. */
+/* Posts, and waits for the answer before it says anything: a line to the console
+ * takes longer than the host does. */
 static void ask(const char *what, const uint32_t *payload, uint32_t len, uint32_t m[60]) {
     const uint64_t status = post(4, payload, len);
     take(m);
@@ -121,19 +129,22 @@ static void connect(uint32_t m[60]) {
         tell("VERSION_RESPONSE, supported", m[2] & 0xFF);
     }
     const uint32_t request[2] = {3, 0};
-    for (ask("REQUESTOFFERS", request, sizeof request, m); m[0] == 1; take(m)) tell("offer of channel", m[46]);
+    for (ask("REQUESTOFFERS", request, sizeof request, m); m[0] == 1; take(m))
+        tell("offer of channel", m[46]);
     tell("message", m[0]);
 }
 
 static void open(uint32_t m[60]) {
     const uint32_t pfn = (uint32_t)((uint64_t)rings / PAGE);
-    const uint32_t gpadl[15] = {8, 0, HEARTBEAT, 7, 40 | 1 << 16, 4 * PAGE, 0, pfn, 0, pfn + 1, 0, pfn + 2, 0, pfn + 3, 0};
+    const uint32_t gpadl[15] = {8, 0, HEARTBEAT, 7, 40 | 1 << 16, 4 * PAGE, 0, pfn, 0, pfn + 1, 0, pfn + 2, 0,
+                                pfn + 3, 0};
     const uint32_t channel[7] = {5, 0, HEARTBEAT, 1, 7, 0, 2};
     ask("GPADL_HEADER", gpadl, sizeof gpadl, m), tell("  its status", m[4]);
     ask("OPENCHANNEL", channel, sizeof channel, m), tell("  its status", m[4]);
 }
 
-/* Waits for event flags, and answers the packets that they stand for: the host's versions, and its heartbeats. */
+/* Waits for event flags, and answers the packets that they stand for: the host's
+ * versions, and its heartbeats. */
 static void answer(void) {
     uint32_t *flags = (uint32_t *)(events + 256 * SINT);
     unsigned count = 0;
@@ -172,7 +183,9 @@ static void run(void) {
     for (;;) out16(POWER, 1 << 13);
 }
 
-__attribute__((naked, section(".start"))) void start(void) { __asm__ volatile("lea stack_top(%rip), %rsp; call begin; hlt"); }
+__attribute__((naked, section(".start"))) void start(void) {
+    __asm__ volatile("lea stack_top(%rip), %rsp; call begin; hlt");
+}
 static uint8_t stack[8192] __attribute__((aligned(16), used));
 __asm__(".globl stack_top\n.set stack_top, stack + 8192");
 __attribute__((used)) void begin(void) { run(); }

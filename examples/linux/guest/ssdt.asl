@@ -1,4 +1,5 @@
-// Linux looks for VMBus in ACPI: a device VMBUS below a VMOD, whose resources are the memory that VMBus may give out.
+// Linux looks for VMBus in ACPI: a device VMBUS below a VMOD, whose resources are the memory
+// that VMBus may give out.
 DefinitionBlock ("ssdt.aml", "SSDT", 2, "HVPM", "HVPMVMBS", 1)
 {
     Scope (\_SB)

@@ -1,18 +1,19 @@
 /*
- * What crosses between QEMU and the VMM, each in a process of its own: one socket for each processor, by which QEMU hands over
- * an exit and waits for the answer, and one control socket for the guest. All of them are SOCK_SEQPACKET: a message is one
- * struct.
+ * What crosses between QEMU and the VMM, each in a process of its own: one socket for each processor, by
+ * which QEMU hands over an exit and waits for the answer, and one control socket for the guest. All of them
+ * are SOCK_SEQPACKET: a message is one struct.
  */
 #ifndef HVPM_EXITS_H
 #define HVPM_EXITS_H
 #include <stdint.h>
 
-/* The environment names the first descriptor, the control socket's; that of processor N is the (N + 1)th after it. */
+/* The environment names the first descriptor, the control socket's; that of processor
+ * N is the (N + 1)th after it. */
 #define HVPM_SOCKETS "HVPM_SOCKETS"
 
 /* The code that the hypercall page has: out %eax, $HVPM_PORT; ret. */
 #define HVPM_PORT 0xEA
-#define HVPM_CODE                                                                                                              \
+#define HVPM_CODE                                                                                            \
     { 0xE7, HVPM_PORT, 0xC3 }
 
 enum hvpm_exit_kind { HVPM_CPUID, HVPM_RDMSR, HVPM_WRMSR, HVPM_HYPERCALL, HVPM_RESET };

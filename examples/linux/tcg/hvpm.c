@@ -1,7 +1,7 @@
 /*
- * Hands a guest's exits to a VMM in another process: CPUID 0x40000000 to 0x400000FF, MSRs 0x40000000 to 0x400001FF, and OUT to
- * the hypercall page's port. The linker leads QEMU's calls of four of its functions here, and this file calls them for all else.
- * Without HVPM_SOCKETS in the environment nothing differs.
+ * Hands a guest's exits to a VMM in another process: CPUID 0x40000000 to 0x400000FF, MSRs 0x40000000 to
+ * 0x400001FF, and OUT to the hypercall page's port. The linker leads QEMU's calls of four of its functions
+ * here, and this file calls them for all else. Without HVPM_SOCKETS in the environment nothing differs.
  */
 #include "qemu/osdep.h"
 #include "qemu/main-loop.h"
@@ -54,8 +54,8 @@ static bool is_ours(CPUX86State *env, uint32_t number, uint32_t count)
     return sockets >= 0 && number >= 0x40000000 && number - 0x40000000 < count;
 }
 
-/* Each call of the real function stands last, so that the compiler makes it a jump (-foptimize-sibling-calls): the callee takes
- * its return address for a place in the translated code. */
+/* Each call of the real function stands last, so that the compiler makes it a jump
+ * (-foptimize-sibling-calls): the callee takes its return address for a place in the translated code. */
 void __wrap_helper_cpuid(CPUX86State *env)
 {
     uint32_t leaf = env->regs[R_EAX];
@@ -93,7 +93,8 @@ void __wrap_helper_wrmsr(CPUX86State *env)
 
     if (is_ours(env, msr, 0x200)) {
         uint64_t value = env->regs[R_EDX] << 32 | (uint32_t)env->regs[R_EAX];
-        struct hvpm_entry entry = exit_of(env, (struct hvpm_exit){.kind = HVPM_WRMSR, .number = msr, .rcx = value});
+        struct hvpm_entry entry =
+            exit_of(env, (struct hvpm_exit){.kind = HVPM_WRMSR, .number = msr, .rcx = value});
         if (!entry.served) {
             raise_exception_err_ra(env, EXCP0D_GPF, 0, GETPC());
         }
@@ -129,7 +130,8 @@ static void on_reset(void *unused)
 {
     static const struct hvpm_exit exit = {.kind = HVPM_RESET};
 
-    /* The injector reads this socket, so that nothing is waited for: the VMM looks at it before it serves another exit. */
+    /* The injector reads this socket, so that nothing is waited for: the VMM looks at it
+     * before it serves another exit. */
     if (send(sockets, &exit, sizeof exit, MSG_NOSIGNAL) != sizeof exit) {
         _exit(1);
     }

@@ -1,6 +1,7 @@
 /*
- * The machine behind its lock. An exit is one critical section: what guests took from their message pages meanwhile is told to
- * the library, the event is taken, and its effect is delivered to the one processor that it names.
+ * The machine behind its lock. An exit is one critical section: what guests took from their message pages
+ * meanwhile is told to the library, the event is taken, and its effect is delivered to the one processor that
+ * it names.
  */
 #include "core.h"
 #include <inttypes.h>
@@ -12,15 +13,16 @@ struct guest guests[MAX_GUESTS];
 static pthread_mutex_t lock = PTHREAD_MUTEX_INITIALIZER;
 static hvpm_machine machine = HVPM_EMPTY;
 
-/* Of the statuses only HVPM_STATUS_MEMORY may come here. A VMM that lives on would stop the guest and try again; this one ends. */
+/* Of the statuses only HVPM_STATUS_MEMORY may come here.
+ * A VMM that lives on would stop the guest and try again; this one ends. */
 static void must(uint32_t status) {
     if (status != HVPM_STATUS_OK) die("the library answers %" PRIu32, status);
 }
 
 /* ---- effects ---- */
 
-/* The processor's slots and flags go into its pages, and its vectors into its interrupt controller at once: one in HLT has no
- * exit at which it would ask. */
+/* The processor's slots and flags go into its pages, and its vectors into its interrupt controller at once:
+ * one in HLT has no exit at which it would ask. */
 static void deliver_to(struct vcpu *vcpu, const hvpm_effect *effect) {
     must(hvpm_pages_after(&machine, &vcpu->pages, effect));
     for (uint8_t vector;;) {
@@ -30,8 +32,9 @@ static void deliver_to(struct vcpu *vcpu, const hvpm_effect *effect) {
     }
 }
 
-/* What an effect doesn't name is as it was before the event, so nobody else is asked. A VMM whose guests have the machine's
- * pages as their memory maps and unmaps here, by HVPM_EFFECT_PAGE and HVPM_EFFECT_PAGES; in this one pages are numbers. */
+/* What an effect doesn't name is as it was before the event, so nobody else is asked. A VMM whose guests have
+ * the machine's pages as their memory maps and unmaps here, by HVPM_EFFECT_PAGE and HVPM_EFFECT_PAGES; in
+ * this one pages are numbers. */
 static void deliver(const hvpm_effect *effect) {
     const bool is_one = effect->kind == HVPM_EFFECT_SYNIC || effect->kind == HVPM_EFFECT_PROCESSOR;
     if (!is_one && effect->kind != HVPM_EFFECT_PARTITION) return;
@@ -40,7 +43,8 @@ static void deliver(const hvpm_effect *effect) {
             if (!is_one || vp == effect->vp) deliver_to(&guest->vcpu[vp], effect);
 }
 
-/* A guest lets a message go by a write into its page, without an exit. Only pages that show a message are looked at. */
+/* A guest lets a message go by a write into its page, without an exit.
+ * Only pages that show a message are looked at. */
 static void hear_of_messages_taken(void) {
     for (struct guest *guest = guests; guest < guests + MAX_GUESTS; guest++)
         for (unsigned vp = 0; vp < guest->vps; vp++) {
@@ -80,11 +84,12 @@ static void place_pages(struct vcpu *vcpu) {
 }
 
 /*
- * A hypercall, of a rep call all elements, each an event with an effect of its own. The lock is held from the first to the
- * last, so that they stand together in the record. The bytes of `output` are those that elements put out, each at its place.
+ * A hypercall, of a rep call all elements, each an event with an effect of its own. The lock is held from the
+ * first to the last, so that they stand together in the record. The bytes of `output` are those that elements
+ * put out, each at its place.
  */
-uint64_t core_call(struct vcpu *vcpu, const hvpm_registers *registers, const void *input, size_t len, uint8_t *output,
-                   size_t room) {
+uint64_t core_call(struct vcpu *vcpu, const hvpm_registers *registers, const void *input, size_t len,
+                   uint8_t *output, size_t room) {
     const uint16_t code = (uint16_t)registers->rcx;
     hvpm_registers at = *registers;
     hvpm_reply reply;
@@ -97,7 +102,8 @@ uint64_t core_call(struct vcpu *vcpu, const hvpm_registers *registers, const voi
         deliver(&reply.effect);
         at.rcx = hvpm_next(at.rcx, &reply);
     }
-    for (struct guest *guest = guests; code == HV_CALL_SET_VP_REGISTERS && guest < guests + MAX_GUESTS; guest++)
+    for (struct guest *guest = guests; code == HV_CALL_SET_VP_REGISTERS && guest < guests + MAX_GUESTS;
+         guest++)
         for (unsigned vp = 0; vp < guest->vps; vp++) place_pages(&guest->vcpu[vp]);
     core_leave(HVPM_STATUS_OK, &reply);
     return reply.result;

@@ -1,6 +1,7 @@
 /*
- * What the parts of the VMM share. core.c calls the library, identity.c answers CPUID and the VMM's own MSRs, vmbus.c is the
- * root's side of VMBus, kvm.c and tcg.c run a guest's processors, record.c keeps the audit, and main.c starts all of it.
+ * What the parts of the VMM share. core.c calls the library, identity.c answers CPUID and the VMM's own MSRs,
+ * vmbus.c is the root's side of VMBus, kvm.c and tcg.c run a guest's processors, record.c keeps the audit,
+ * and main.c starts all of it.
  */
 #ifndef CORE_H
 #define CORE_H
@@ -8,7 +9,10 @@
 #include "hvpm_pages.h"
 
 enum { PAGE = 4096, MAX_VPS = 8, MAX_GUESTS = 3 };
-enum { MSR_SCONTROL = 0x40000080, MSR_SIEFP = 0x40000082, MSR_SIMP = 0x40000083, MSR_EOM = 0x40000084, MSR_SINT0 = 0x40000090 };
+enum {
+    MSR_SCONTROL = 0x40000080, MSR_SIEFP = 0x40000082, MSR_SIMP = 0x40000083, MSR_EOM = 0x40000084,
+    MSR_SINT0 = 0x40000090
+};
 enum { HV_CALL_SET_VP_REGISTERS = 0x51, HV_CALL_ADD_LOGICAL_PROCESSOR = 0x76 };
 enum { HV_STATUS_INVALID_ALIGNMENT = 4, HV_STATUS_INSUFFICIENT_BUFFERS = 0x13 };
 
@@ -46,7 +50,8 @@ struct guest {
     int control; /* TCG: the socket of interrupts and resets. KVM: the VM */
 };
 
-/* The root partition's, and those of its children. Where Linux isn't the root, the root is this program (vmbus.c). */
+/* The root partition's, and those of its children.
+ * Where Linux isn't the root, the root is this program (vmbus.c). */
 extern struct guest guests[MAX_GUESTS];
 
 extern struct options {
@@ -56,16 +61,16 @@ extern struct options {
 } options;
 
 /*
- * The machine. Each event is one critical section: core_enter locks and answers the machine, and core_leave takes the event's
- * status, delivers its effect and unlocks: core_leave(hvpm_create_vp(core_enter(), ROOT, id, vp, &reply, NULL, 0), &reply). A
- * look has no reply, and gives NULL.
+ * The machine. Each event is one critical section: core_enter locks and answers the machine, and core_leave
+ * takes the event's status, delivers its effect and unlocks: core_leave(hvpm_create_vp(core_enter(), ROOT,
+ * id, vp, &reply, NULL, 0), &reply). A look has no reply, and gives NULL.
  */
 hvpm_machine *core_enter(void);
 void core_leave(uint32_t status, const hvpm_reply *reply);
 void core_boot(const hvpm_config *config);
 uint64_t core_end(void); /* answers how many events there were */
-uint64_t core_call(struct vcpu *vcpu, const hvpm_registers *registers, const void *input, size_t len, uint8_t *output,
-                   size_t room);
+uint64_t core_call(struct vcpu *vcpu, const hvpm_registers *registers, const void *input, size_t len,
+                   uint8_t *output, size_t room);
 bool core_read_msr(struct vcpu *vcpu, uint32_t msr, uint64_t *value);
 bool core_write_msr(struct vcpu *vcpu, uint32_t msr, uint64_t value);
 

@@ -1,6 +1,6 @@
 /*
- * The engine over KVM: the kernel runs the processors and their local APICs, and this file has the exits, the few devices that
- * a Linux needs to boot, and what a guest finds in its memory. A reset ends the guest.
+ * The engine over KVM: the kernel runs the processors and their local APICs, and this file has the exits, the
+ * few devices that a Linux needs to boot, and what a guest finds in its memory. A reset ends the guest.
  */
 #include "core.h"
 #include "../tcg/exits.h"
@@ -125,7 +125,8 @@ static void device_in(struct guest *guest, struct devices *d, uint16_t port, uin
 }
 
 /* Answers how the guest ends, if it does. */
-static const char *device_out(struct guest *guest, struct devices *d, uint16_t port, const uint8_t *data, unsigned size) {
+static const char *device_out(struct guest *guest, struct devices *d, uint16_t port, const uint8_t *data,
+                              unsigned size) {
     static const char off[] = "", reset[] = "it resets itself";
     if (port >= SERIAL && port < SERIAL + 8) serial_out(guest, d, port - SERIAL, data[0]);
     else if (port == PM_EVENT + 2 && size >= 2) d->pm_enable = (uint16_t)(data[0] | data[1] << 8);
@@ -141,7 +142,8 @@ static const char *port_exit(struct vcpu *vcpu) {
     struct devices *d = &devices[vcpu->guest - guests];
     uint8_t *data = (uint8_t *)run + run->io.data_offset;
     const char *end = NULL;
-    if (run->io.port == HVPM_PORT && run->io.direction == KVM_EXIT_IO_OUT && run->io.size == 4) return hypercall(vcpu), end;
+    if (run->io.port == HVPM_PORT && run->io.direction == KVM_EXIT_IO_OUT && run->io.size == 4)
+        return hypercall(vcpu), end;
     pthread_mutex_lock(&d->lock);
     for (uint32_t i = 0; i < run->io.count && !end; i++, data += run->io.size) {
         if (run->io.direction == KVM_EXIT_IO_IN) device_in(vcpu->guest, d, run->io.port, data, run->io.size);
@@ -151,7 +153,8 @@ static const char *port_exit(struct vcpu *vcpu) {
     return end;
 }
 
-/* Where KVM runs a guest itself these exits are all that there are. NULL, or how the guest ends: "" is well. */
+/* Where KVM runs a guest itself these exits are all that there are.
+ * NULL, or how the guest ends: "" is well. */
 static const char *serve_exit(struct vcpu *vcpu) {
     static _Thread_local char why[64];
     struct kvm_run *run = vcpu->run;
@@ -162,7 +165,9 @@ static const char *serve_exit(struct vcpu *vcpu) {
         run->msr.error = !identity_rdmsr(vcpu, run->msr.index, &value);
         run->msr.data = value;
         return NULL;
-    case KVM_EXIT_X86_WRMSR: run->msr.error = !identity_wrmsr(vcpu, run->msr.index, run->msr.data); return NULL;
+    case KVM_EXIT_X86_WRMSR:
+        run->msr.error = !identity_wrmsr(vcpu, run->msr.index, run->msr.data);
+        return NULL;
     case KVM_EXIT_MMIO:
         if (!run->mmio.is_write) memset(run->mmio.data, 0xFF, sizeof run->mmio.data);
         return NULL;
@@ -204,33 +209,39 @@ static void seal(uint8_t *bytes, size_t size, size_t sum_at) {
 
 static void make_table(uint8_t *at, const char *name, uint8_t revision, uint32_t size) {
     memcpy(at, name, 4), hvpm_put(at + 4, size, 4), at[8] = revision;
-    memcpy(at + 10, "HVPM  HVPMVMM ", 14), hvpm_put(at + 24, 1, 4), memcpy(at + 28, "HVPM", 4), hvpm_put(at + 32, 1, 4);
+    memcpy(at + 10, "HVPM  HVPMVMM ", 14), hvpm_put(at + 24, 1, 4), memcpy(at + 28, "HVPM", 4),
+        hvpm_put(at + 32, 1, 4);
     seal(at, size, 9);
 }
 
-/* ACPI: where the processors and the power registers are, how to power off, and VMBus, whose table is a file. */
+/* ACPI: where the processors and the power registers are, how to power off, and
+ * VMBus, whose table is a file. */
 static void load_acpi(const struct guest *guest) {
+    /* Name (_S5, Package () {5, 5, 0, 0}) */
     static const uint8_t s5[] = {0x08, '_',  'S',  '5',  '_',  0x12, 0x08,
-                                 0x04, 0x0A, 0x05, 0x0A, 0x05, 0x00, 0x00}; /* Name (_S5, Package () {5, 5, 0, 0}) */
-    const uint64_t xsdt = ACPI + 0x100, fadt = ACPI + 0x200, facs = ACPI + 0x400, madt = ACPI + 0x500, dsdt = ACPI + 0x800,
-                   ssdt = ACPI + 0x1000;
+                                 0x04, 0x0A, 0x05, 0x0A, 0x05, 0x00, 0x00};
+    const uint64_t xsdt = ACPI + 0x100, fadt = ACPI + 0x200, facs = ACPI + 0x400, madt = ACPI + 0x500,
+                   dsdt = ACPI + 0x800, ssdt = ACPI + 0x1000;
     uint8_t *ram = guest->ram, *r = ram + ACPI, *f = ram + fadt, *m = ram + madt + 36;
     load(options.acpi, ram + ssdt, 0x8000);
     memcpy(ram + dsdt + 36, s5, sizeof s5);
     make_table(ram + dsdt, "DSDT", 2, 36 + sizeof s5);
-    hvpm_put(f + 36, facs, 4), hvpm_put(f + 40, dsdt, 4), hvpm_put(f + 46, 9, 2), hvpm_put(f + 56, PM_EVENT, 4),
-        hvpm_put(f + 64, PM_CONTROL, 4);
+    hvpm_put(f + 36, facs, 4), hvpm_put(f + 40, dsdt, 4), hvpm_put(f + 46, 9, 2),
+        hvpm_put(f + 56, PM_EVENT, 4), hvpm_put(f + 64, PM_CONTROL, 4);
     f[88] = 4, f[89] = 2, hvpm_put(f + 96, 0xFFF, 2), hvpm_put(f + 98, 0xFFF, 2), hvpm_put(f + 112, 0x75, 4),
     hvpm_put(f + 140, dsdt, 8);
     make_table(f, "FACP", 5, 268);
     memcpy(ram + facs, "FACS", 4), hvpm_put(ram + facs + 4, 64, 4), ram[facs + 32] = 2;
     hvpm_put(m, 0xFEE00000, 4), hvpm_put(m + 4, 1, 4), m += 8;
-    for (unsigned vp = 0; vp < guest->vps; vp++, m += 8) m[1] = 8, m[2] = (uint8_t)vp, m[3] = (uint8_t)vp, m[4] = 1;
+    for (unsigned vp = 0; vp < guest->vps; vp++, m += 8)
+        m[1] = 8, m[2] = (uint8_t)vp, m[3] = (uint8_t)vp, m[4] = 1;
     m[0] = 1, m[1] = 12, m[2] = (uint8_t)guest->vps, hvpm_put(m + 4, 0xFEC00000, 4), m += 12;
     make_table(ram + madt, "APIC", 3, (uint32_t)(m - (ram + madt)));
-    hvpm_put(ram + xsdt + 36, fadt, 8), hvpm_put(ram + xsdt + 44, madt, 8), hvpm_put(ram + xsdt + 52, ssdt, 8);
+    hvpm_put(ram + xsdt + 36, fadt, 8), hvpm_put(ram + xsdt + 44, madt, 8),
+        hvpm_put(ram + xsdt + 52, ssdt, 8);
     make_table(ram + xsdt, "XSDT", 1, 60);
-    memcpy(r, "RSD PTR ", 8), memcpy(r + 9, "HVPM  ", 6), r[15] = 2, hvpm_put(r + 20, 36, 4), hvpm_put(r + 24, xsdt, 8);
+    memcpy(r, "RSD PTR ", 8), memcpy(r + 9, "HVPM  ", 6), r[15] = 2, hvpm_put(r + 20, 36, 4),
+        hvpm_put(r + 24, xsdt, 8);
     seal(r, 20, 8), seal(r, 36, 32);
 }
 
@@ -245,8 +256,8 @@ static uint64_t load_elf(const struct guest *guest, const uint8_t *image) {
     return hvpm_number(image + 24);
 }
 
-/* A bzImage with all that Linux's 64-bit boot protocol asks for (Documentation/x86/boot.rst), or an ELF file alone. Answers where
- * the guest begins. */
+/* A bzImage with all that Linux's 64-bit boot protocol asks for (Documentation/x86/boot.rst), or an ELF file
+ * alone. Answers where the guest begins. */
 static uint64_t load_kernel(const struct guest *guest) {
     static uint8_t image[64 << 20];
     const size_t size = load(options.kernel, image, sizeof image),
@@ -275,14 +286,18 @@ static void make_tables(uint8_t *ram) {
     hvpm_put(ram + TABLES, (TABLES + 0x1000) | 3, 8);
     for (uint64_t g = 0; g < 4; g++) {
         hvpm_put(ram + TABLES + 0x1000 + 8 * g, (TABLES + 0x2000 + 0x1000 * g) | 3, 8);
-        for (uint64_t i = 0; i < 512; i++) hvpm_put(ram + TABLES + 0x2000 + 0x1000 * g + 8 * i, (g << 30 | i << 21) | 0x83, 8);
+        for (uint64_t i = 0; i < 512; i++)
+            hvpm_put(ram + TABLES + 0x2000 + 0x1000 * g + 8 * i, (g << 30 | i << 21) | 0x83, 8);
     }
-    hvpm_put(ram + GDT + 16, UINT64_C(0x00AF9B000000FFFF), 8), hvpm_put(ram + GDT + 24, UINT64_C(0x00CF93000000FFFF), 8);
+    hvpm_put(ram + GDT + 16, UINT64_C(0x00AF9B000000FFFF), 8),
+        hvpm_put(ram + GDT + 24, UINT64_C(0x00CF93000000FFFF), 8);
 }
 
 static void start_at(const struct vcpu *vcpu, uint64_t entry) {
-    const struct kvm_segment code = {.limit = 0xFFFFFFFF, .selector = 16, .type = 11, .present = 1, .s = 1, .l = 1, .g = 1};
-    const struct kvm_segment data = {.limit = 0xFFFFFFFF, .selector = 24, .type = 3, .present = 1, .s = 1, .db = 1, .g = 1};
+    const struct kvm_segment code = {
+        .limit = 0xFFFFFFFF, .selector = 16, .type = 11, .present = 1, .s = 1, .l = 1, .g = 1};
+    const struct kvm_segment data = {
+        .limit = 0xFFFFFFFF, .selector = 24, .type = 3, .present = 1, .s = 1, .db = 1, .g = 1};
     struct kvm_regs r = {.rip = entry, .rsi = PARAMS, .rsp = 0x7000, .rflags = 2};
     struct kvm_sregs s;
     ASK(vcpu->fd, KVM_GET_SREGS, &s);
@@ -306,16 +321,19 @@ static void make_vm(struct guest *guest) {
     ASK(vm, KVM_CREATE_IRQCHIP, 0);
     ASK(vm, KVM_CREATE_PIT2, &pit);
     guest->ram_size = RAM_SIZE;
-    guest->ram = mmap(NULL, RAM_SIZE, PROT_READ | PROT_WRITE, MAP_PRIVATE | MAP_ANONYMOUS | MAP_NORESERVE, -1, 0);
+    guest->ram =
+        mmap(NULL, RAM_SIZE, PROT_READ | PROT_WRITE, MAP_PRIVATE | MAP_ANONYMOUS | MAP_NORESERVE, -1, 0);
     if (guest->ram == MAP_FAILED) die("%s", strerror(errno));
-    struct kvm_userspace_memory_region region = {.memory_size = RAM_SIZE, .userspace_addr = (uint64_t)(uintptr_t)guest->ram};
+    struct kvm_userspace_memory_region region = {.memory_size = RAM_SIZE,
+                                                 .userspace_addr = (uint64_t)(uintptr_t)guest->ram};
     ASK(vm, KVM_SET_USER_MEMORY_REGION, &region);
     /* Hyper-V's MSRs come to this program, whatever KVM itself would make of them. */
     static uint8_t none[0x200 / 8];
     struct kvm_enable_cap cap = {.cap = KVM_CAP_X86_USER_SPACE_MSR, .args = {KVM_MSR_EXIT_REASON_FILTER}};
     struct kvm_msr_filter filter = {
         .flags = KVM_MSR_FILTER_DEFAULT_ALLOW,
-        .ranges = {{.flags = KVM_MSR_FILTER_READ | KVM_MSR_FILTER_WRITE, .base = 0x40000000, .nmsrs = 0x200, .bitmap = none}}};
+        .ranges = {{.flags = KVM_MSR_FILTER_READ | KVM_MSR_FILTER_WRITE, .base = 0x40000000, .nmsrs = 0x200,
+                    .bitmap = none}}};
     ASK(vm, KVM_ENABLE_CAP, &cap);
     ASK(vm, KVM_X86_SET_MSR_FILTER, &filter);
 }
@@ -330,8 +348,8 @@ static struct kvm_cpuid2 *make_cpuid(struct guest *guest) {
     for (uint32_t i = 0; i < cpuid->nent; i++)
         if (cpuid->entries[i].function >> 8 != 0x400000) cpuid->entries[kept++] = cpuid->entries[i];
     for (uint32_t index = 0x40000000; identity_cpuid(guest, index, leaf); index++)
-        cpuid->entries[kept++] =
-            (struct kvm_cpuid_entry2){.function = index, .eax = leaf[0], .ebx = leaf[1], .ecx = leaf[2], .edx = leaf[3]};
+        cpuid->entries[kept++] = (struct kvm_cpuid_entry2){
+            .function = index, .eax = leaf[0], .ebx = leaf[1], .ecx = leaf[2], .edx = leaf[3]};
     cpuid->nent = kept;
     return cpuid;
 }
@@ -339,11 +357,13 @@ static struct kvm_cpuid2 *make_cpuid(struct guest *guest) {
 static void make_vcpu(struct vcpu *vcpu, struct kvm_cpuid2 *cpuid) {
     const uint32_t vp = vcpu->pages.of.vp;
     vcpu->fd = ASK(vcpu->guest->control, KVM_CREATE_VCPU, vp);
-    vcpu->run = mmap(NULL, (size_t)ASK(kvm, KVM_GET_VCPU_MMAP_SIZE, 0), PROT_READ | PROT_WRITE, MAP_SHARED, vcpu->fd, 0);
+    vcpu->run = mmap(NULL, (size_t)ASK(kvm, KVM_GET_VCPU_MMAP_SIZE, 0), PROT_READ | PROT_WRITE, MAP_SHARED,
+                     vcpu->fd, 0);
     if (vcpu->run == MAP_FAILED) die("%s", strerror(errno));
     for (uint32_t i = 0; i < cpuid->nent; i++) {
         struct kvm_cpuid_entry2 *e = &cpuid->entries[i];
-        if (e->function == 1) e->ecx |= 1u << 31, e->ebx = (e->ebx & 0xFFFF) | vp << 24 | vcpu->guest->vps << 16;
+        if (e->function == 1)
+            e->ecx |= 1u << 31, e->ebx = (e->ebx & 0xFFFF) | vp << 24 | vcpu->guest->vps << 16;
         if (e->function == 0xB || e->function == 0x1F) e->edx = vp;
     }
     ASK(vcpu->fd, KVM_SET_CPUID2, cpuid);

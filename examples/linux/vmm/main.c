@@ -1,6 +1,6 @@
 /*
- * The VMM: boots the machine, makes the children, starts their processors, and ends with status 0 where all of them did what
- * was asked.
+ * The VMM: boots the machine, makes the children, starts their processors, and ends with status 0 where all
+ * of them did what was asked.
  */
 #include "core.h"
 #include <getopt.h>
@@ -12,16 +12,17 @@
 #include <unistd.h>
 
 static const char usage[] =
-    "usage: vmm --engine kvm|tcg --kernel FILE [--initrd FILE --acpi FILE --append WORDS] [--qemu FILE --roms FOLDER]\n"
+    "usage: vmm --engine kvm|tcg --kernel FILE [--initrd FILE --acpi FILE --append WORDS]"
+    " [--qemu FILE --roms FOLDER]\n"
     "           [--vps N] [--children N] [--beats N] [--offers N] [--delay MILLISECONDS] [--seconds N]\n"
     "           [--root | --reload | --restart]\n"
     "Writes the files audit and events.hv into the working directory, and a log to standard output.\n";
 
 struct options options = {.vps = 1, .children = 1, .beats = 3};
 
-/* The root's mask has what its children are given, and all that a root does (docs/POLICY.md, "Privileges"). Bit 44,
- * CpuManagement, makes a Linux the root. Its pages are then its page frames: 65,536 of them are 256 MiB, and its pool pays for
- * one processor. */
+/* The root's mask has what its children are given, and all that a root does (docs/POLICY.md, "Privileges").
+ * Bit 44, CpuManagement, makes a Linux the root. Its pages are then its page frames: 65,536 of them are 256
+ * MiB, and its pool pays for one processor. */
 static const hvpm_config with_children = {.mask = 0xf700000064, .pages = 4096, .pool = 64, .vps = 1};
 static const hvpm_config linux_as_root = {.mask = 0x10f700000064, .pages = 65536, .pool = 4, .vps = 1};
 
@@ -53,15 +54,21 @@ void guest_ended(struct guest *guest, const char *how) {
 
 static const struct engine *read_options(int argc, char **argv, unsigned *seconds) {
     static const struct option long_options[] = {
-        {"engine", 1, NULL, 'e'},   {"kernel", 1, NULL, 'k'}, {"initrd", 1, NULL, 'i'},  {"acpi", 1, NULL, 'a'},
-        {"qemu", 1, NULL, 'q'},     {"roms", 1, NULL, 'm'},   {"append", 1, NULL, 'w'},  {"vps", 1, NULL, 'v'},
-        {"children", 1, NULL, 'c'}, {"beats", 1, NULL, 'b'},  {"offers", 1, NULL, 'o'},  {"seconds", 1, NULL, 's'},
-        {"root", 0, NULL, 'r'},     {"reload", 0, NULL, 'l'}, {"restart", 0, NULL, 't'},
-        {"delay", 1, NULL, 'd'},    {NULL, 0, NULL, 0}};
+        {"engine", 1, NULL, 'e'}, {"kernel", 1, NULL, 'k'}, {"initrd", 1, NULL, 'i'},
+        {"acpi", 1, NULL, 'a'},   {"qemu", 1, NULL, 'q'},   {"roms", 1, NULL, 'm'},
+        {"append", 1, NULL, 'w'}, {"vps", 1, NULL, 'v'},    {"children", 1, NULL, 'c'},
+        {"beats", 1, NULL, 'b'},  {"offers", 1, NULL, 'o'}, {"seconds", 1, NULL, 's'},
+        {"root", 0, NULL, 'r'},   {"reload", 0, NULL, 'l'}, {"restart", 0, NULL, 't'},
+        {"delay", 1, NULL, 'd'},  {NULL, 0, NULL, 0}};
     const struct engine *engine = NULL;
-    options.append = "console=ttyS0 panic=-1", options.initrd = options.acpi = options.qemu = options.roms = "";
+    options.append = "console=ttyS0 panic=-1",
+    options.initrd = options.acpi = options.qemu = options.roms = "";
     for (int c; (c = getopt_long(argc, argv, "", long_options, NULL)) != -1;) switch (c) {
-        case 'e': engine = strcmp(optarg, "kvm") == 0 ? &kvm_engine : strcmp(optarg, "tcg") == 0 ? &tcg_engine : NULL; break;
+        case 'e':
+            engine = strcmp(optarg, "kvm") == 0   ? &kvm_engine
+                     : strcmp(optarg, "tcg") == 0 ? &tcg_engine
+                                                  : NULL;
+            break;
         case 'k': options.kernel = optarg; break;
         case 'i': options.initrd = optarg; break;
         case 'a': options.acpi = optarg; break;
@@ -80,11 +87,13 @@ static const struct engine *read_options(int argc, char **argv, unsigned *second
         default: die("%s", usage);
         }
     if (!engine || !options.kernel || optind != argc) die("%s", usage);
-    if (options.vps == 0 || options.vps > MAX_VPS || options.children == 0 || options.children >= MAX_GUESTS) die("%s", usage);
+    if (options.vps == 0 || options.vps > MAX_VPS || options.children == 0 || options.children >= MAX_GUESTS)
+        die("%s", usage);
     return engine;
 }
 
-/* A root that is a Linux: its first processor is there, and it makes the others by HvCreateVp as it starts them. */
+/* A root that is a Linux: its first processor is there, and it makes the others by
+ * HvCreateVp as it starts them. */
 static void make_root(void) {
     guests[0].vps = options.vps, guests[0].hypercall_page = ROOT_HYPERCALL_PAGE | 1;
     for (unsigned vp = 0; vp < options.vps; vp++)
@@ -105,7 +114,8 @@ int main(int argc, char **argv) {
     core_boot(options.root ? &linux_as_root : &with_children);
     guests[0].id = 1, guests[0].vps = 1;
     if (options.root) make_root();
-    for (unsigned i = 1; !options.root && i <= options.children; i++) guests[i].vps = options.vps, vmbus_add(&guests[i]);
+    for (unsigned i = 1; !options.root && i <= options.children; i++)
+        guests[i].vps = options.vps, vmbus_add(&guests[i]);
     if (!options.root) vmbus_start();
     struct guest *const first = options.root ? guests : guests + 1;
     running = options.root ? 1 : options.children;
@@ -118,6 +128,7 @@ int main(int argc, char **argv) {
     const bool is_done = (options.root ? root_is_done() : vmbus_is_done()) && !failed;
     const uint64_t events = core_end();
     record_end(events);
-    note("%" PRIu64 " events; %s", events, is_done ? "all was done that was asked for" : "NOT all was done that was asked for");
+    note("%" PRIu64 " events; %s", events,
+         is_done ? "all was done that was asked for" : "NOT all was done that was asked for");
     return is_done ? 0 : 1;
 }

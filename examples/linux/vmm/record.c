@@ -1,9 +1,8 @@
 /*
- * The record of a run. The linker leads each event of the library here (--wrap), so that no caller has to think of it: its line
- * of the audit goes to `audit`, and the event as a line of a script to `events.hv`, both in the order of events. `hvpm run
- * events.hv
- * --serial` prints that audit, byte for byte. The rest of this file is the log, in which guests, core and VMM stand in one
- * order.
+ * The record of a run. The linker leads each event of the library here (--wrap), so that no caller has to
+ * think of it: its line of the audit goes to `audit`, and the event as a line of a script to `events.hv`,
+ * both in the order of events. `hvpm run events.hv --serial` prints that audit, byte for byte. The rest of
+ * this file is the log, in which guests, core and VMM stand in one order.
  */
 #include "core.h"
 #include <inttypes.h>
@@ -72,31 +71,33 @@ static void keep_audit(const hvpm_reply *reply, const uint8_t *line) {
     if (shown++ == SHOWN) note("all further events stand in the audit alone");
 }
 
-static uint32_t keep(uint32_t status, hvpm_caller by, enum hvpm_access access, uint32_t number, uint64_t value,
-                     const hvpm_reply *reply, const uint8_t *line) {
+static uint32_t keep(uint32_t status, hvpm_caller by, enum hvpm_access access, uint32_t number,
+                     uint64_t value, const hvpm_reply *reply, const uint8_t *line) {
     char text[HVPM_EVENT_LINE];
     size_t len;
     if (status != HVPM_STATUS_OK) return status;
-    if (hvpm_access_line(by, access, number, value, text, sizeof text, &len) != HVPM_STATUS_OK) die("no memory for the record");
+    if (hvpm_access_line(by, access, number, value, text, sizeof text, &len) != HVPM_STATUS_OK)
+        die("no memory for the record");
     fwrite(text, 1, len, script);
     keep_audit(reply, line);
     return status;
 }
 
 uint32_t __wrap_hv_embed_boot(hvpm_machine *machine, const hvpm_config *config) {
-    fprintf(script, "boot %" PRIu32 " %" PRIu32 " %" PRIu32 " 0x%" PRIx64 " %" PRIu32 "\n", config->pages, config->pool,
-            config->vps, config->mask, UINT32_MAX);
+    fprintf(script, "boot %" PRIu32 " %" PRIu32 " %" PRIu32 " 0x%" PRIx64 " %" PRIu32 "\n", config->pages,
+            config->pool, config->vps, config->mask, UINT32_MAX);
     return __real_hv_embed_boot(machine, config);
 }
 
 /* A caller that wants no line has no room for one. */
-#define NEEDS_LINE                                                                                                             \
-    uint8_t own[HVPM_LINE];                                                                                                    \
+#define NEEDS_LINE                                                                                           \
+    uint8_t own[HVPM_LINE];                                                                                  \
     if (size == 0) line = own, size = sizeof own
 
 /* A script has a rep call as one line: the elements after its first have none. */
-uint32_t __wrap_hv_embed_hypercall(hvpm_machine *machine, hvpm_caller by, const hvpm_registers *registers, const uint8_t *input,
-                                   size_t len, hvpm_reply *reply, uint8_t *line, size_t size) {
+uint32_t __wrap_hv_embed_hypercall(hvpm_machine *machine, hvpm_caller by, const hvpm_registers *registers,
+                                   const uint8_t *input, size_t len, hvpm_reply *reply, uint8_t *line,
+                                   size_t size) {
     static char text[HVPM_CALL_LINE];
     static bool goes_on;
     size_t text_len;
@@ -104,7 +105,8 @@ uint32_t __wrap_hv_embed_hypercall(hvpm_machine *machine, hvpm_caller by, const 
     const uint32_t status = __real_hv_embed_hypercall(machine, by, registers, input, len, reply, line, size);
     if (status != HVPM_STATUS_OK) return status;
     while (len > 0 && input[len - 1] == 0) len--; /* bytes that are missing read as zero */
-    if (!goes_on && hvpm_hypercall_line(by, registers, input, len, text, sizeof text, &text_len) != HVPM_STATUS_OK)
+    if (!goes_on &&
+        hvpm_hypercall_line(by, registers, input, len, text, sizeof text, &text_len) != HVPM_STATUS_OK)
         die("no memory for the record");
     if (!goes_on) fwrite(text, 1, text_len, script);
     goes_on = reply->kind == HVPM_REPLY_MORE;
@@ -112,47 +114,53 @@ uint32_t __wrap_hv_embed_hypercall(hvpm_machine *machine, hvpm_caller by, const 
     return status;
 }
 
-uint32_t __wrap_hv_embed_read_msr(hvpm_machine *machine, hvpm_caller by, uint32_t msr, hvpm_reply *reply, uint8_t *line,
-                                  size_t size) {
+uint32_t __wrap_hv_embed_read_msr(hvpm_machine *machine, hvpm_caller by, uint32_t msr, hvpm_reply *reply,
+                                  uint8_t *line, size_t size) {
     NEEDS_LINE;
-    return keep(__real_hv_embed_read_msr(machine, by, msr, reply, line, size), by, HVPM_READ_MSR, msr, 0, reply, line);
+    return keep(__real_hv_embed_read_msr(machine, by, msr, reply, line, size), by, HVPM_READ_MSR, msr, 0,
+                reply, line);
 }
 
-uint32_t __wrap_hv_embed_write_msr(hvpm_machine *machine, hvpm_caller by, uint32_t msr, uint64_t value, hvpm_reply *reply,
+uint32_t __wrap_hv_embed_write_msr(hvpm_machine *machine, hvpm_caller by, uint32_t msr, uint64_t value,
+                                   hvpm_reply *reply, uint8_t *line, size_t size) {
+    NEEDS_LINE;
+    return keep(__real_hv_embed_write_msr(machine, by, msr, value, reply, line, size), by, HVPM_WRITE_MSR,
+                msr, value, reply, line);
+}
+
+uint32_t __wrap_hv_embed_read_slot(hvpm_machine *machine, hvpm_caller by, uint8_t sint, hvpm_reply *reply,
                                    uint8_t *line, size_t size) {
     NEEDS_LINE;
-    return keep(__real_hv_embed_write_msr(machine, by, msr, value, reply, line, size), by, HVPM_WRITE_MSR, msr, value, reply,
-                line);
+    return keep(__real_hv_embed_read_slot(machine, by, sint, reply, line, size), by, HVPM_READ_SLOT, sint, 0,
+                reply, line);
 }
 
-uint32_t __wrap_hv_embed_read_slot(hvpm_machine *machine, hvpm_caller by, uint8_t sint, hvpm_reply *reply, uint8_t *line,
-                                   size_t size) {
-    NEEDS_LINE;
-    return keep(__real_hv_embed_read_slot(machine, by, sint, reply, line, size), by, HVPM_READ_SLOT, sint, 0, reply, line);
-}
-
-uint32_t __wrap_hv_embed_clear_slot(hvpm_machine *machine, hvpm_caller by, uint8_t sint, hvpm_reply *reply, uint8_t *line,
-                                    size_t size) {
-    NEEDS_LINE;
-    return keep(__real_hv_embed_clear_slot(machine, by, sint, reply, line, size), by, HVPM_CLEAR_SLOT, sint, 0, reply, line);
-}
-
-uint32_t __wrap_hv_embed_read_flags(hvpm_machine *machine, hvpm_caller by, uint8_t sint, hvpm_reply *reply, uint8_t *line,
-                                    size_t size) {
-    NEEDS_LINE;
-    return keep(__real_hv_embed_read_flags(machine, by, sint, reply, line, size), by, HVPM_READ_FLAGS, sint, 0, reply, line);
-}
-
-uint32_t __wrap_hv_embed_clear_flag(hvpm_machine *machine, hvpm_caller by, uint8_t sint, uint16_t flag, hvpm_reply *reply,
+uint32_t __wrap_hv_embed_clear_slot(hvpm_machine *machine, hvpm_caller by, uint8_t sint, hvpm_reply *reply,
                                     uint8_t *line, size_t size) {
     NEEDS_LINE;
-    return keep(__real_hv_embed_clear_flag(machine, by, sint, flag, reply, line, size), by, HVPM_CLEAR_FLAG, sint, flag, reply,
-                line);
+    return keep(__real_hv_embed_clear_slot(machine, by, sint, reply, line, size), by, HVPM_CLEAR_SLOT, sint,
+                0, reply, line);
 }
 
-uint32_t __wrap_hv_embed_take_interrupt(hvpm_machine *machine, hvpm_caller by, hvpm_reply *reply, uint8_t *line, size_t size) {
+uint32_t __wrap_hv_embed_read_flags(hvpm_machine *machine, hvpm_caller by, uint8_t sint, hvpm_reply *reply,
+                                    uint8_t *line, size_t size) {
     NEEDS_LINE;
-    return keep(__real_hv_embed_take_interrupt(machine, by, reply, line, size), by, HVPM_TAKE_INTERRUPT, 0, 0, reply, line);
+    return keep(__real_hv_embed_read_flags(machine, by, sint, reply, line, size), by, HVPM_READ_FLAGS, sint,
+                0, reply, line);
+}
+
+uint32_t __wrap_hv_embed_clear_flag(hvpm_machine *machine, hvpm_caller by, uint8_t sint, uint16_t flag,
+                                    hvpm_reply *reply, uint8_t *line, size_t size) {
+    NEEDS_LINE;
+    return keep(__real_hv_embed_clear_flag(machine, by, sint, flag, reply, line, size), by, HVPM_CLEAR_FLAG,
+                sint, flag, reply, line);
+}
+
+uint32_t __wrap_hv_embed_take_interrupt(hvpm_machine *machine, hvpm_caller by, hvpm_reply *reply,
+                                        uint8_t *line, size_t size) {
+    NEEDS_LINE;
+    return keep(__real_hv_embed_take_interrupt(machine, by, reply, line, size), by, HVPM_TAKE_INTERRUPT, 0, 0,
+                reply, line);
 }
 
 void record_start(void) {

@@ -1,7 +1,7 @@
 /*
- * The engine for a machine without VMX and SVM: QEMU's TCG runs the processors in a process of its own, and hands their exits
- * over by sockets (tcg/hvpm.c is the other end). The guest's memory is shared, so that a processor and this VMM race for its
- * pages as they would under KVM.
+ * The engine for a machine without VMX and SVM: QEMU's TCG runs the processors in a process of its own, and
+ * hands their exits over by sockets (tcg/hvpm.c is the other end). The guest's memory is shared, so that a
+ * processor and this VMM race for its pages as they would under KVM.
  */
 #include "core.h"
 #include "../tcg/exits.h"
@@ -26,7 +26,8 @@ struct process {
 
 static pthread_mutex_t reset_lock = PTHREAD_MUTEX_INITIALIZER;
 
-/* QEMU says that it reset the machine before it hands over another exit. Whichever processor has that, the reset comes first. */
+/* QEMU says that it reset the machine before it hands over another exit.
+ * Whichever processor has that, the reset comes first. */
 static void reset_first(struct guest *guest) {
     struct hvpm_exit exit;
     pthread_mutex_lock(&reset_lock);
@@ -57,7 +58,8 @@ static void *serve_exits(void *of) {
 
 static void interrupt(struct vcpu *vcpu, uint8_t vector) {
     const struct hvpm_interrupt of = {vcpu->pages.of.vp, vector};
-    (void)!send(vcpu->guest->control, &of, sizeof of, MSG_NOSIGNAL); /* QEMU may be gone: then its exits end, too */
+    /* QEMU may be gone: then its exits end, too */
+    (void)!send(vcpu->guest->control, &of, sizeof of, MSG_NOSIGNAL);
 }
 
 /* QEMU writes it as it enters the guest: it keeps translations of code that it has to know of. */
@@ -83,14 +85,16 @@ static _Noreturn void become_qemu(const struct guest *guest, const int ends[], i
     char sockets[16], vps[16], ram[96], acpi[4096];
     snprintf(sockets, sizeof sockets, "%d", FIRST);
     snprintf(vps, sizeof vps, "%u", options.vps), snprintf(acpi, sizeof acpi, "file=%s", options.acpi);
-    snprintf(ram, sizeof ram, "memory-backend-file,id=ram,size=%d,share=on,mem-path=/proc/self/fd/%d", RAM_SIZE, MEMORY);
+    snprintf(ram, sizeof ram, "memory-backend-file,id=ram,size=%d,share=on,mem-path=/proc/self/fd/%d",
+             RAM_SIZE, MEMORY);
     for (unsigned i = 0; i <= guest->vps; i++) dup2(ends[i], FIRST + (int)i);
     dup2(memory, MEMORY), dup2(open("/dev/null", O_RDONLY), 0), dup2(output, 1), dup2(output, 2);
     setenv(HVPM_SOCKETS, sockets, 1);
-    execl(options.qemu, options.qemu, "-accel", "tcg,thread=multi", "-M", "pc,memory-backend=ram", "-object", ram, "-m", "256",
-          "-cpu", "qemu64", "-smp", vps, "-nodefaults", "-display", "none", "-vga", "none", "-serial", "stdio", "-L",
-          options.roms, "-bios", "bios-256k.bin", "-acpitable", acpi, "-kernel", options.kernel, "-initrd", options.initrd,
-          "-append", options.append, options.restart ? NULL : "-no-reboot", NULL);
+    execl(options.qemu, options.qemu, "-accel", "tcg,thread=multi", "-M", "pc,memory-backend=ram", "-object",
+          ram, "-m", "256", "-cpu", "qemu64", "-smp", vps, "-nodefaults", "-display", "none", "-vga", "none",
+          "-serial", "stdio", "-L", options.roms, "-bios", "bios-256k.bin", "-acpitable", acpi, "-kernel",
+          options.kernel, "-initrd", options.initrd, "-append", options.append,
+          options.restart ? NULL : "-no-reboot", NULL);
     fprintf(stderr, "%s: %s\n", options.qemu, strerror(errno));
     _exit(1);
 }
@@ -98,7 +102,8 @@ static _Noreturn void become_qemu(const struct guest *guest, const int ends[], i
 static void start(struct guest *guest) {
     int ends[MAX_VPS + 1], output[2];
     const int memory = memfd_create("guest", MFD_CLOEXEC);
-    if (memory < 0 || ftruncate(memory, RAM_SIZE) != 0 || pipe2(output, O_CLOEXEC) != 0) die("%s", strerror(errno));
+    if (memory < 0 || ftruncate(memory, RAM_SIZE) != 0 || pipe2(output, O_CLOEXEC) != 0)
+        die("%s", strerror(errno));
     guest->ram_size = RAM_SIZE;
     guest->ram = mmap(NULL, RAM_SIZE, PROT_READ | PROT_WRITE, MAP_SHARED, memory, 0);
     if (guest->ram == MAP_FAILED) die("%s", strerror(errno));

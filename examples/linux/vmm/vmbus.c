@@ -1,7 +1,8 @@
 /*
- * The root partition, where it isn't a Linux: it makes the children with their ports and connections, and is the host's side of
- * VMBus: version, offers, GPADLs, channels, and the rings of two integration services, heartbeat and shutdown. Its processor is
- * a processor like any other: it has a message page and an event flags page, and its interrupts wake a thread.
+ * The root partition, where it isn't a Linux: it makes the children with their ports and connections, and is
+ * the host's side of VMBus: version, offers, GPADLs, channels, and the rings of two integration services,
+ * heartbeat and shutdown. Its processor is a processor like any other: it has a message page and an event
+ * flags page, and its interrupts wake a thread.
  */
 #include "core.h"
 #include <errno.h>
@@ -13,27 +14,36 @@
 #include <unistd.h>
 
 /* The types of VMBus's messages that this host knows, and the names of all. */
-enum { OFFER = 1, REQUESTOFFERS = 3, ALLOFFERS = 4, OPEN = 5, OPEN_RESULT = 6, CLOSE = 7, GPADL_HEADER = 8, GPADL_CREATED = 10 };
-enum { GPADL_TEARDOWN = 11, GPADL_TORNDOWN = 12, CONTACT = 14, VERSION = 15, UNLOAD = 16, UNLOADED = 17, NAMES = 18 };
+enum {
+    OFFER = 1, REQUESTOFFERS = 3, ALLOFFERS = 4, OPEN = 5, OPEN_RESULT = 6, CLOSE = 7, GPADL_HEADER = 8,
+    GPADL_CREATED = 10
+};
+enum {
+    GPADL_TEARDOWN = 11, GPADL_TORNDOWN = 12, CONTACT = 14, VERSION = 15, UNLOAD = 16, UNLOADED = 17,
+    NAMES = 18
+};
 static const char *const names[NAMES] = {
-    "?", "OFFERCHANNEL", "RESCIND", "REQUESTOFFERS", "ALLOFFERS_DELIVERED", "OPENCHANNEL", "OPENCHANNEL_RESULT", "CLOSECHANNEL",
-    "GPADL_HEADER", "GPADL_BODY", "GPADL_CREATED", "GPADL_TEARDOWN", "GPADL_TORNDOWN", "RELID_RELEASED", "INITIATE_CONTACT",
-    "VERSION_RESPONSE", "UNLOAD", "UNLOAD_RESPONSE"};
+    "?", "OFFERCHANNEL", "RESCIND", "REQUESTOFFERS", "ALLOFFERS_DELIVERED", "OPENCHANNEL",
+    "OPENCHANNEL_RESULT", "CLOSECHANNEL", "GPADL_HEADER", "GPADL_BODY", "GPADL_CREATED", "GPADL_TEARDOWN",
+    "GPADL_TORNDOWN", "RELID_RELEASED", "INITIATE_CONTACT", "VERSION_RESPONSE", "UNLOAD", "UNLOAD_RESPONSE"};
 enum { VERSION_5_2 = 0x50002 };
 
-/* The root's SINTs. The child's is 2, which Linux turns on at each processor, and all comes to processor 0, which it names. */
+/* The root's SINTs. The child's is 2, which Linux turns on at each processor, and all comes to
+ * processor 0, which it names. */
 enum { SINT_MESSAGES = 2, SINT_EVENTS = 3, VECTOR = 0x30, CHILD_SINT = 2 };
 
-/* Ports and connections: a child's have small numbers, and the root's of child N are these and N times 0x100. */
+/* Ports and connections: a child's have small numbers, and the root's of child N
+ * are these and N times 0x100. */
 enum { MESSAGES_OLD = 1, MESSAGES = 4, TO_CHILD = 2, SIGNAL_CHILD = 3, EVENT = 0x10 };
-/* PostMessages, SignalEvents, AccessVpIndex, AccessHypercallMsrs and AccessSynicRegs. A new partition lacks AccessHypercallMsrs,
- * and Linux then doesn't take the hypervisor for Hyper-V. */
+/* PostMessages, SignalEvents, AccessVpIndex, AccessHypercallMsrs and AccessSynicRegs.
+ * A new partition lacks AccessHypercallMsrs, and Linux then doesn't take the hypervisor for Hyper-V. */
 #define CHILD_MASK UINT64_C(0x3000000064)
 
 enum { HEARTBEAT = 1, SHUTDOWN = 2, CHANNELS = 3, OUTBOX = 512 };
 
 struct channel {
-    uint32_t gpadl, pages, down; /* the ring that the guest writes ends at page `down`, and there the other begins */
+    /* the ring that the guest writes ends at page `down`, and there the other begins */
+    uint32_t gpadl, pages, down;
     uint64_t pfn[64];
     bool open, agreed;
 };
@@ -43,13 +53,15 @@ static struct bus {
     struct channel channels[CHANNELS];
     unsigned contacts; /* versions that were accepted: one in each life of the guest's hv_vmbus */
     unsigned beats, stalls;
-    uint64_t first_event, last_event; /* the machine's count of events at the first heartbeat and after the last */
+    uint64_t first_event, last_event; /* the machine's count of events at the first heartbeat
+                                         and after the last */
     bool was_asked;                   /* to shut down or to restart */
     uint8_t outbox[OUTBOX][256];      /* messages that wait for room: byte 0 is their length */
     unsigned sent, posted;
 } buses[MAX_GUESTS];
 
-static pthread_mutex_t bus_lock = PTHREAD_MUTEX_INITIALIZER; /* of all buses; the machine's lock is taken inside it */
+/* of all buses; the machine's lock is taken inside it */
+static pthread_mutex_t bus_lock = PTHREAD_MUTEX_INITIALIZER;
 
 /* ---- the root's processor ---- */
 
@@ -88,23 +100,26 @@ static void must_serve(const char *what, uint32_t status) {
         die("%s is denied by rule P%" PRIu32 ", with status 0x%" PRIx64, what, reply.rule, reply.result);
 }
 
-static void port(uint64_t of, uint32_t id, uint64_t peer, uint32_t type, uint32_t sint, uint16_t base, uint16_t count,
-                 uint32_t connection) {
-    const hvpm_port made = {
-        .partition = of, .id = id, .peer = peer, .type = type, .sint = sint, .vp = 0, .base_flag = base, .flag_count = count};
-    const hvpm_connection to = {.partition = peer, .id = connection, .port_partition = of, .port = id, .type = type};
+static void port(uint64_t of, uint32_t id, uint64_t peer, uint32_t type, uint32_t sint, uint16_t base,
+                 uint16_t count, uint32_t connection) {
+    const hvpm_port made = {.partition = of, .id = id, .peer = peer, .type = type, .sint = sint, .vp = 0,
+                            .base_flag = base, .flag_count = count};
+    const hvpm_connection to = {
+        .partition = peer, .id = connection, .port_partition = of, .port = id, .type = type};
     CALL(hvpm_create_port, &made);
     CALL(hvpm_connect_port, &to);
 }
 
-/* Makes a child: its mask, its pool, its processors; and each port that VMBus needs, with the connection to it. */
+/* Makes a child: its mask, its pool, its processors; and each port that VMBus
+ * needs, with the connection to it. */
 void vmbus_add(struct guest *guest) {
     const unsigned n = (unsigned)(guest - guests), count = 8 + 4 * guest->vps;
     uint64_t pages[8 + 4 * MAX_VPS];
     CALL(hvpm_create_partition, 0, &guest->id);
     CALL(hvpm_set_partition_property, guest->id, HVPM_PRIVILEGE_FLAGS, CHILD_MASK);
     for (unsigned i = 0; i < count; i++) pages[i] = 64 * n + 64 + i;
-    for (unsigned at = 0; at < count; at++) CALL(hvpm_deposit_memory, guest->id, pages, (uint16_t)count, (uint16_t)at);
+    for (unsigned at = 0; at < count; at++)
+        CALL(hvpm_deposit_memory, guest->id, pages, (uint16_t)count, (uint16_t)at);
     CALL(hvpm_initialize_partition, guest->id);
     for (uint32_t vp = 0; vp < guest->vps; vp++) {
         CALL(hvpm_create_vp, guest->id, vp);
@@ -117,18 +132,22 @@ void vmbus_add(struct guest *guest) {
     port(guest->id, TO_CHILD, 1, HVPM_PORT_MESSAGES, CHILD_SINT, 0, 0, 0x100 * n + TO_CHILD);
     port(guest->id, SIGNAL_CHILD, 1, HVPM_PORT_EVENTS, CHILD_SINT, 0, 2048, 0x100 * n + SIGNAL_CHILD);
     for (uint16_t id = 1; id < CHANNELS; id++) /* flag 8 * N + ID of the root is channel ID of child N */
-        port(1, 0x100 * n + EVENT + id, guest->id, HVPM_PORT_EVENTS, SINT_EVENTS, (uint16_t)(8 * n + id), 1, EVENT + id);
+        port(1, 0x100 * n + EVENT + id, guest->id, HVPM_PORT_EVENTS, SINT_EVENTS, (uint16_t)(8 * n + id), 1,
+             EVENT + id);
     buses[n].guest = guest;
 }
 
 /* ---- messages ---- */
 
-/* Posts what waits, until the port has no room. The effect that frees a slot there comes to vmbus_has_room. */
+/* Posts what waits, until the port has no room.
+ * The effect that frees a slot there comes to vmbus_has_room. */
 static void post_waiting(struct bus *bus) {
     const uint32_t connection = 0x100 * (uint32_t)(bus - buses) + TO_CHILD;
     for (; bus->posted != bus->sent; bus->posted++) {
         const uint8_t *message = bus->outbox[bus->posted % OUTBOX];
-        core_leave(hvpm_post_message(core_enter(), ROOT, connection, 1, message + 1, message[0], &reply, NULL, 0), &reply);
+        core_leave(
+            hvpm_post_message(core_enter(), ROOT, connection, 1, message + 1, message[0], &reply, NULL, 0),
+            &reply);
         if (reply.result == HV_STATUS_INSUFFICIENT_BUFFERS) return;
         if (reply.kind != HVPM_REPLY_SERVED) die("HvPostMessage is denied by rule P%" PRIu32, reply.rule);
     }
@@ -144,8 +163,9 @@ static void post(struct bus *bus, const uint8_t *payload, uint8_t len) {
     post_waiting(bus);
 }
 
-static const char *const types[CHANNELS] = {[HEARTBEAT] = "\x39\x4f\x16\x57\x15\x91\x78\x4e\xab\x55\x38\x2f\x3b\xd5\x42\x2d",
-                                            [SHUTDOWN] = "\x31\x60\x0b\x0e\x13\x52\x34\x49\x81\x8b\x38\xd9\x0c\xed\x39\xdb"};
+static const char *const types[CHANNELS] = {
+    [HEARTBEAT] = "\x39\x4f\x16\x57\x15\x91\x78\x4e\xab\x55\x38\x2f\x3b\xd5\x42\x2d",
+    [SHUTDOWN] = "\x31\x60\x0b\x0e\x13\x52\x34\x49\x81\x8b\x38\xd9\x0c\xed\x39\xdb"};
 
 /* Offers a channel: its class, its instance, its id, and the connection by which the guest signals it. */
 static void offer(struct bus *bus, uint32_t id, const char *class) {
@@ -156,11 +176,14 @@ static void offer(struct bus *bus, uint32_t id, const char *class) {
     post(bus, m, sizeof m);
 }
 
-static uint32_t le32(const uint8_t *at) { return (uint32_t)(at[0] | at[1] << 8 | at[2] << 16) | (uint32_t)at[3] << 24; }
+static uint32_t le32(const uint8_t *at) {
+    return (uint32_t)(at[0] | at[1] << 8 | at[2] << 16) | (uint32_t)at[3] << 24;
+}
 
 /* ---- channels: two rings in pages of the guest, each with a page of indexes before its bytes ---- */
 
-/* A guest may write anything there. Its pages were looked at when it named them, and each place is taken modulo the ring. */
+/* A guest may write anything there. Its pages were looked at when it named them, and each
+ * place is taken modulo the ring. */
 static uint8_t *ring_at(struct bus *bus, const struct channel *c, uint32_t page, uint32_t at) {
     return bus->guest->ram + c->pfn[page + at / PAGE] * PAGE + at % PAGE;
 }
@@ -185,13 +208,16 @@ static void send(struct bus *bus, uint32_t id, const uint8_t *data, uint32_t len
 /* Takes the next packet of the ring that the guest writes. Answers its length, 0 where there is none. */
 static uint32_t receive(struct bus *bus, uint32_t id, uint8_t data[PAGE]) {
     struct channel *c = &bus->channels[id];
-    const uint32_t size = (c->down - 1) * PAGE, to = __atomic_load_n(index_at(bus, c, 0, 0), __ATOMIC_SEQ_CST);
+    const uint32_t size = (c->down - 1) * PAGE,
+                   to = __atomic_load_n(index_at(bus, c, 0, 0), __ATOMIC_SEQ_CST);
     const uint32_t from = *index_at(bus, c, 0, 4);
     uint8_t head[8];
     if (from == to) return 0;
     for (uint32_t i = 0; i < sizeof head; i++) head[i] = *ring_at(bus, c, 0, PAGE + (from + i) % size);
-    const uint32_t start = 8 * (le32(head) >> 16), end = 8 * (le32(head + 4) & 0xFFFF), len = end > start ? end - start : 0;
-    for (uint32_t i = 0; i < len && i < PAGE; i++) data[i] = *ring_at(bus, c, 0, PAGE + (from + start + i) % size);
+    const uint32_t start = 8 * (le32(head) >> 16), end = 8 * (le32(head + 4) & 0xFFFF),
+                   len = end > start ? end - start : 0;
+    for (uint32_t i = 0; i < len && i < PAGE; i++)
+        data[i] = *ring_at(bus, c, 0, PAGE + (from + start + i) % size);
     __atomic_store_n(index_at(bus, c, 0, 4), (from + end + 8) % size, __ATOMIC_SEQ_CST);
     return len < PAGE ? len : PAGE;
 }
@@ -236,10 +262,13 @@ static void serve_channel(struct bus *bus, uint32_t id) {
             bus->channels[id].agreed = true;
             if (id == HEARTBEAT) bus->first_event = count_events(), bus->beats = 0, beat(bus);
         } else if (type == BEAT) {
-            if (bus->beats <= 5 || bus->beats % 10000 == 0) note("partition %u answers heartbeat %u", n, bus->beats);
+            if (bus->beats <= 5 || bus->beats % 10000 == 0)
+                note("partition %u answers heartbeat %u", n, bus->beats);
             if (bus->beats < options.beats) beat(bus);
             else bus->last_event = count_events();
-        } else note("partition %u: channel %" PRIu32 " answers %u with status 0x%" PRIx32, n, id, type, le32(data + 20));
+        } else
+            note("partition %u: channel %" PRIu32 " answers %u with status 0x%" PRIx32, n, id, type,
+                 le32(data + 20));
     }
 }
 
@@ -274,7 +303,8 @@ static void add_gpadl(struct bus *bus, const uint8_t *m, uint32_t len) {
     c->pages = count;
 }
 
-static void answer(struct bus *bus, uint8_t type, uint32_t first, uint32_t second, uint32_t third, uint8_t len) {
+static void answer(struct bus *bus, uint8_t type, uint32_t first, uint32_t second, uint32_t third,
+                   uint8_t len) {
     uint8_t m[20] = {type};
     hvpm_put(m + 8, first, 4), hvpm_put(m + 12, second, 4), hvpm_put(m + 16, third, 4);
     post(bus, m, len);
@@ -287,7 +317,8 @@ static void serve_message(struct bus *bus, const uint8_t *m, uint32_t len) {
     switch (type) {
     case CONTACT: {
         const bool is_known = id <= VERSION_5_2; /* 5.3 is refused, so that the guest comes again with 5.2 */
-        note("    version %" PRIu32 ".%" PRIu32 ": %s", id >> 16, id & 0xFFFF, is_known ? "accepted" : "refused");
+        note("    version %" PRIu32 ".%" PRIu32 ": %s", id >> 16, id & 0xFFFF,
+             is_known ? "accepted" : "refused");
         bus->contacts += is_known;
         answer(bus, VERSION, is_known, id >= 0x50000 ? MESSAGES : MESSAGES_OLD, 0, 16);
         break;
@@ -323,8 +354,8 @@ void vmbus_reset(struct guest *guest) {
     pthread_mutex_unlock(&bus_lock);
 }
 
-/* The root's processor waits for an interrupt, and serves what its pages have. A second without one is a stall of the
- * heartbeat. */
+/* The root's processor waits for an interrupt, and serves what its pages have.
+ * A second without one is a stall of the heartbeat. */
 static void *root_thread(void *unused) {
     uint8_t message[256];
     for (;;) {
@@ -344,7 +375,8 @@ static void *root_thread(void *unused) {
                 if (flags >> id & 1) serve_channel(bus, id);
             post_waiting(bus);
             if (is_idle && bus->last_event == 0 && bus->beats > 0 && !bus->guest->ended)
-                note("stall %u of partition %" PRIu64 " at heartbeat %u", ++bus->stalls, bus->guest->id, bus->beats);
+                note("stall %u of partition %" PRIu64 " at heartbeat %u", ++bus->stalls, bus->guest->id,
+                     bus->beats);
             if (is_idle) ask_to_go(bus);
         }
         pthread_mutex_unlock(&bus_lock);
@@ -373,10 +405,14 @@ bool vmbus_is_done(void) {
     for (struct bus *bus = buses; bus < buses + MAX_GUESTS; bus++) {
         if (!bus->guest) continue;
         const uint64_t events = bus->last_event - bus->first_event, beats = bus->beats > 0 ? bus->beats : 1;
-        note("partition %" PRIu64 ": version 5.2 in %u of %u lives, %u of %u heartbeats, %.2f events for each, %u stalls",
-             bus->guest->id, bus->contacts, lives, bus->beats, options.beats, (double)events / (double)beats, bus->stalls);
-        is_done &= bus->contacts == lives && bus->beats >= options.beats && bus->last_event != 0 && bus->stalls == 0;
-        /* Where heartbeats are all that happens: a signal, its flag and its vector, there and back, and little else. */
+        note("partition %" PRIu64
+             ": version 5.2 in %u of %u lives, %u of %u heartbeats, %.2f events for each, %u stalls",
+             bus->guest->id, bus->contacts, lives, bus->beats, options.beats, (double)events / (double)beats,
+             bus->stalls);
+        is_done &=
+            bus->contacts == lives && bus->beats >= options.beats && bus->last_event != 0 && bus->stalls == 0;
+        /* Where heartbeats are all that happens: a signal, its flag and its vector,
+         * there and back, and little else. */
         if (options.children == 1 && beats >= 100) is_done &= events <= 8 * beats;
     }
     return is_done;

@@ -1,5 +1,5 @@
-//! The 21 hypercalls by their fields, as methods of [`Machine`]. Names, blocks and what the machine refuses are
-//! those of docs/POLICY.md.
+//! The 21 hypercalls by their fields, as methods of [`Machine`]. Names, blocks and what the machine refuses
+//! are those of docs/POLICY.md.
 
 use crate::{Caller, Machine, Refused, Registers, Reply};
 
@@ -99,8 +99,8 @@ pub(crate) fn number(bytes: &[u8]) -> Option<u64> {
 
 const PAGE: usize = 4096;
 
-/// A call with its input list. No list stands in a guest's memory: both addresses are 0, where a page begins, so
-/// that P6 is met by each list for which a page has room.
+/// A call with its input list. No list stands in a guest's memory: both addresses are 0, where a page begins,
+/// so that P6 is met by each list for which a page has room.
 #[derive(Debug, PartialEq, Eq)]
 struct Call {
     registers: Registers,
@@ -218,9 +218,9 @@ fn connect_port(connection: &Connection) -> Call {
         .put(32, &(connection.kind as u32).to_le_bytes())
 }
 
-/// The hypercalls by their fields, for a caller that is part of the host: a root that makes partitions, ports and
-/// processors. Each takes one event, as [`Machine::hypercall`] does. The four rep calls take the element at
-/// `start`; they begin with 0, and go on with the index in [`Answer::More`](crate::Answer::More).
+/// The hypercalls by their fields, for a caller that is part of the host: a root that makes partitions, ports
+/// and processors. Each takes one event, as [`Machine::hypercall`] does. The four rep calls take the element
+/// at `start`; they begin with 0, and go on with the index in [`Answer::More`](crate::Answer::More).
 impl Machine {
     fn take_call(&mut self, by: Caller, call: Call) -> Result<Reply, Refused> {
         self.hypercall(by, call.registers, &call.input)
@@ -298,7 +298,8 @@ impl Machine {
         self.take_call(by, deposit_memory(partition, pages, start))
     }
 
-    /// HvWithdrawMemory, a rep call: its output is the page that goes from the partition's pool to the caller.
+    /// HvWithdrawMemory, a rep call: its output is the page that goes from the
+    /// partition's pool to the caller.
     pub fn withdraw_memory(
         &mut self,
         by: Caller,
@@ -360,8 +361,8 @@ impl Machine {
         self.take_call(by, Call::fast(0x5B, partition, connection.into()))
     }
 
-    /// HvPostMessage, by a connection of the caller, of a message type and a payload. P7 refuses one of more than
-    /// 240 bytes.
+    /// HvPostMessage, by a connection of the caller, of a message type and a payload. P7 refuses one of more
+    /// than 240 bytes.
     pub fn post_message(
         &mut self,
         by: Caller,

@@ -2,8 +2,9 @@
 
 use crate::{Caller, Reply, raw};
 
-/// What an event changed of messages, event flags, pending vectors and pages, at whatever processor and partition. What it doesn't
-/// name is as it was before the event; the vector that [`crate::Machine::take_interrupt`] takes is in its output.
+/// What an event changed of messages, event flags, pending vectors and pages, at whatever processor and
+/// partition. What it doesn't name is as it was before the event; the vector that
+/// [`crate::Machine::take_interrupt`] takes is in its output.
 #[derive(Clone, Copy, Debug, PartialEq, Eq)]
 pub enum Effect {
     /// No message, flag, vector or page. So it is with each event that is refused.
@@ -48,8 +49,8 @@ pub struct Synic {
     pub flag: Option<FlagChange>,
     /// The vectors that SINTs raised: vector v is bit v % 64 of word v / 64.
     pub raised: [u64; 4],
-    /// The id of the processor's port by which the message came that left its slot. The port, if it is still there, has room for
-    /// one more.
+    /// The id of the processor's port by which the message came that left its slot. The port, if it is still
+    /// there, has room for one more.
     pub freed: Option<u32>,
 }
 

@@ -1,4 +1,5 @@
-//! Bulqizet's machine from Rust, over the static library `libhv_embed.a`: what `include/hvpm.h` says, in safe types.
+//! Bulqizet's machine from Rust, over the static library `libhv_embed.a`: what
+//! `include/hvpm.h` says, in safe types.
 //!
 //! ```
 //! let config = hvpm::Config { mask: 0xf7_0000_0044, pages: 32, pool: 12, vps: 1 };
@@ -132,7 +133,16 @@ pub struct Reply {
 impl Reply {
     fn new() -> Reply {
         let effect = raw::Effect::default();
-        let raw = raw::Reply { kind: 0, rule: 0, result: 0, next: 0, output_len: 0, line_len: 0, output: [0; 256], effect };
+        let raw = raw::Reply {
+            kind: 0,
+            rule: 0,
+            result: 0,
+            next: 0,
+            output_len: 0,
+            line_len: 0,
+            output: [0; 256],
+            effect,
+        };
         Reply { raw, line: [0; raw::LINE] }
     }
 
@@ -177,9 +187,9 @@ pub struct Machine {
     handle: raw::Handle,
 }
 
-// SAFETY: the library keeps nothing of the thread that calls it. That a handle may go to another thread is proved of its type,
-// and each function here borrows the machine for itself alone, or looks at it by a `&Machine`, which stays with one thread: there
-// is no `Sync`.
+// SAFETY: the library keeps nothing of the thread that calls it. That a handle may go to another thread is
+// proved of its type, and each function here borrows the machine for itself alone, or looks at it by a
+// `&Machine`, which stays with one thread: there is no `Sync`.
 unsafe impl Send for Machine {}
 
 fn done(status: u32) -> Result<(), Refused> {
@@ -199,7 +209,8 @@ fn done(status: u32) -> Result<(), Refused> {
 impl Machine {
     /// Boots a machine: the root partition of the configuration, whose id is 1.
     pub fn boot(config: Config) -> Result<Machine, Refused> {
-        let mut machine = Machine { handle: raw::Handle { live: false, events: 0, at: std::ptr::null_mut() } };
+        let mut machine =
+            Machine { handle: raw::Handle { live: false, events: 0, at: std::ptr::null_mut() } };
         let Config { mask, pages, pool, vps } = config;
         // SAFETY: the handle is an empty one, and both structs have the layout of the header.
         done(unsafe { raw::hv_embed_boot(&mut machine.handle, &raw::Config { mask, pages, pool, vps }) })?;
@@ -225,17 +236,27 @@ impl Machine {
     /// Takes one hypercall, or one element of a rep call, with the bytes of its input list.
     pub fn hypercall(&mut self, by: Caller, call: Registers, input: &[u8]) -> Result<Reply, Refused> {
         let registers = raw::Registers { rcx: call.rcx, rdx: call.rdx, r8: call.r8 };
-        // SAFETY: the handle is a live one that only the library wrote, and borrowed for this call, as the reply, its line and the
-        // input are; each has the length that is given. So it is below.
+        // SAFETY: the handle is a live one that only the library wrote, and borrowed for this call, as the
+        // reply, its line and the input are; each has the length that is given. So it is below.
         self.take(|machine, reply, line, size| unsafe {
-            raw::hv_embed_hypercall(machine, by.raw(), &registers, input.as_ptr(), input.len(), reply, line, size)
+            raw::hv_embed_hypercall(
+                machine,
+                by.raw(),
+                &registers,
+                input.as_ptr(),
+                input.len(),
+                reply,
+                line,
+                size,
+            )
         })
     }
 
-    /// Takes one hypercall, and of a rep call the elements after it, too, each as an event of its own: up to the last, or to one
-    /// that a rule refuses, or to one whose effect is neither [`Effect::Nothing`] nor [`Effect::Page`], or until fewer than 16 bytes of
-    /// `outputs` are left. Where the reply is [`Answer::More`], the call goes on with [`Registers::at_element`]. The reply's effect is
-    /// that of the last element that was taken.
+    /// Takes one hypercall, and of a rep call the elements after it, too, each as an event of its own: up to
+    /// the last, or to one that a rule refuses, or to one whose effect is neither [`Effect::Nothing`] nor
+    /// [`Effect::Page`], or until fewer than 16 bytes of `outputs` are left. Where the reply is
+    /// [`Answer::More`], the call goes on with [`Registers::at_element`]. The reply's effect is that of the
+    /// last element that was taken.
     pub fn run<'o>(
         &mut self,
         by: Caller,
@@ -265,7 +286,9 @@ impl Machine {
 
     /// Reads a model-specific register, 8 bytes.
     pub fn read_msr(&mut self, by: Caller, msr: u32) -> Result<Reply, Refused> {
-        self.take(|machine, reply, line, size| unsafe { raw::hv_embed_read_msr(machine, by.raw(), msr, reply, line, size) })
+        self.take(|machine, reply, line, size| unsafe {
+            raw::hv_embed_read_msr(machine, by.raw(), msr, reply, line, size)
+        })
     }
 
     /// Reads one as a number.
@@ -282,17 +305,23 @@ impl Machine {
 
     /// Reads the message slot of a SINT, 256 bytes.
     pub fn read_slot(&mut self, by: Caller, sint: u8) -> Result<Reply, Refused> {
-        self.take(|machine, reply, line, size| unsafe { raw::hv_embed_read_slot(machine, by.raw(), sint, reply, line, size) })
+        self.take(|machine, reply, line, size| unsafe {
+            raw::hv_embed_read_slot(machine, by.raw(), sint, reply, line, size)
+        })
     }
 
     /// Removes the message that a SINT shows.
     pub fn clear_slot(&mut self, by: Caller, sint: u8) -> Result<Reply, Refused> {
-        self.take(|machine, reply, line, size| unsafe { raw::hv_embed_clear_slot(machine, by.raw(), sint, reply, line, size) })
+        self.take(|machine, reply, line, size| unsafe {
+            raw::hv_embed_clear_slot(machine, by.raw(), sint, reply, line, size)
+        })
     }
 
     /// Reads the event flags of a SINT, 256 bytes.
     pub fn read_flags(&mut self, by: Caller, sint: u8) -> Result<Reply, Refused> {
-        self.take(|machine, reply, line, size| unsafe { raw::hv_embed_read_flags(machine, by.raw(), sint, reply, line, size) })
+        self.take(|machine, reply, line, size| unsafe {
+            raw::hv_embed_read_flags(machine, by.raw(), sint, reply, line, size)
+        })
     }
 
     /// Clears an event flag of a SINT.
@@ -304,7 +333,9 @@ impl Machine {
 
     /// Takes the highest pending vector, one byte; 0 where none is pending.
     pub fn take_interrupt(&mut self, by: Caller) -> Result<Reply, Refused> {
-        self.take(|machine, reply, line, size| unsafe { raw::hv_embed_take_interrupt(machine, by.raw(), reply, line, size) })
+        self.take(|machine, reply, line, size| unsafe {
+            raw::hv_embed_take_interrupt(machine, by.raw(), reply, line, size)
+        })
     }
 }
 

@@ -53,18 +53,19 @@ pub(crate) fn text(mut call: impl FnMut(*mut u8, usize, *mut usize) -> u32) -> R
     Ok(String::from_utf8(text).expect("a text is ASCII"))
 }
 
-/// The first line of a script: the boot, and how many events its run keeps. It ends with a line feed, and so do the
-/// others.
+/// The first line of a script: the boot, and how many events its run keeps. It ends with a line feed, and so
+/// do the others.
 pub fn boot_line(config: Config, limit: u32) -> String {
     let Config { mask, pages, pool, vps } = config;
     format!("boot {pages} {pool} {vps} {mask:#x} {limit}\n")
 }
 
-/// The line of a hypercall with the first 4,096 bytes of its input. A rep call is one line, recorded with its first
-/// element: its run goes on to the last.
+/// The line of a hypercall with the first 4,096 bytes of its input. A rep call is one line, recorded with its
+/// first element: its run goes on to the last.
 pub fn hypercall_line(by: Caller, call: Registers, input: &[u8]) -> Result<String, Refused> {
     let registers = raw::Registers { rcx: call.rcx, rdx: call.rdx, r8: call.r8 };
-    // SAFETY: all that is pointed to is borrowed for this call, and has the length that is given. So it is below.
+    // SAFETY: all that is pointed to is borrowed for this call, and has the length that is given.
+    // So it is below.
     text(|at, size, len| unsafe {
         raw::hv_embed_hypercall_line(by.raw(), &registers, input.as_ptr(), input.len(), at, size, len)
     })

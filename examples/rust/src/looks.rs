@@ -60,9 +60,11 @@ fn port_type(number: u32) -> PortType {
 }
 
 impl Machine {
-    // What `call` looks at with the handle and a place for what it shows. There is none where the status says so.
+    // What `call` looks at with the handle and a place for what it shows.
+    // There is none where the status says so.
     fn look<T>(&self, mut shown: T, call: impl FnOnce(*mut raw::Handle, *mut T) -> u32) -> Option<T> {
-        // The handle is written by no look. Another thread has no part in it, since `&Machine` stays with this one.
+        // The handle is written by no look. Another thread has no part in it, since
+        // `&Machine` stays with this one.
         match call((&raw const self.handle).cast_mut(), &mut shown) {
             0 => Some(shown),
             10 => None,
@@ -71,28 +73,29 @@ impl Machine {
         }
     }
 
-    /// The message slot of a SINT of a processor: what [`Machine::read_slot`] would put out. `None` where there is no
-    /// such processor or SINT.
+    /// The message slot of a SINT of a processor: what [`Machine::read_slot`] would put out. `None` where
+    /// there is no such processor or SINT.
     pub fn peek_slot(&self, of: Caller, sint: u8) -> Option<[u8; 256]> {
-        // SAFETY: the handle is a live one that only the library wrote, and the place is borrowed for this call. So
-        // it is below.
+        // SAFETY: the handle is a live one that only the library wrote, and the place is borrowed for this
+        // call. So it is below.
         self.look([0; 256], |machine, out| unsafe { raw::hv_embed_peek_slot(machine, of.raw(), sint, out) })
     }
 
-    /// The event flags of a SINT of a processor: what [`Machine::read_flags`] would put out. `None` where there is no
-    /// such processor or SINT.
+    /// The event flags of a SINT of a processor: what [`Machine::read_flags`] would put out. `None` where
+    /// there is no such processor or SINT.
     pub fn peek_flags(&self, of: Caller, sint: u8) -> Option<[u8; 256]> {
         self.look([0; 256], |machine, out| unsafe { raw::hv_embed_peek_flags(machine, of.raw(), sint, out) })
     }
 
-    /// A model-specific register of a processor: what [`Machine::read_msr`] would put out. `None` where there is no
-    /// such processor or register.
+    /// A model-specific register of a processor: what [`Machine::read_msr`] would put out. `None` where there
+    /// is no such processor or register.
     pub fn peek_msr(&self, of: Caller, msr: u32) -> Option<u64> {
         self.look(0, |machine, value| unsafe { raw::hv_embed_peek_msr(machine, of.raw(), msr, value) })
     }
 
-    /// The interrupt vectors that are pending at a processor: vector V is bit V % 64 of word V / 64. The highest is the
-    /// one that [`Machine::take_interrupt`] would put out. `None` where there is no such processor.
+    /// The interrupt vectors that are pending at a processor: vector V is bit V % 64 of word V / 64. The
+    /// highest is the one that [`Machine::take_interrupt`] would put out. `None` where there is no such
+    /// processor.
     pub fn peek_pending(&self, of: Caller) -> Option<[u64; 4]> {
         self.look([0; 4], |machine, out| unsafe { raw::hv_embed_peek_pending(machine, of.raw(), out) })
     }
@@ -152,12 +155,11 @@ impl Machine {
         })
     }
 
-    /// The child of a partition after `previous`, by rising id; 0 is before all. `None` where there is no such
-    /// child, or no such partition.
+    /// The child of a partition after `previous`, by rising id; 0 is before all. `None` where there is no
+    /// such child, or no such partition.
     pub fn child_after(&self, parent: u64, previous: u64) -> Option<u64> {
-        let child = self.look(0, |machine, child| unsafe {
-            raw::hv_embed_child_after(machine, parent, previous, child)
-        });
+        let child = self
+            .look(0, |machine, child| unsafe { raw::hv_embed_child_after(machine, parent, previous, child) });
         child.filter(|child| *child != 0)
     }
 
@@ -166,8 +168,8 @@ impl Machine {
         self.look(0, |machine, owner| unsafe { raw::hv_embed_page_owner(machine, page, owner) })
     }
 
-    /// EAX, EBX, ECX and EDX of CPUID leaf 0x40000003 for a guest: the low and the high half of its partition's
-    /// privilege mask, and zeros. `None` where there is no such partition.
+    /// EAX, EBX, ECX and EDX of CPUID leaf 0x40000003 for a guest: the low and the high half of its
+    /// partition's privilege mask, and zeros. `None` where there is no such partition.
     pub fn features(&self, partition: u64) -> Option<[u32; 4]> {
         self.look([0; 4], |machine, out| unsafe { raw::hv_embed_features(machine, partition, out) })
     }

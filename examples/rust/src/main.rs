@@ -1,5 +1,6 @@
-//! A hypervisor's exit loop in small: two virtual processors, each in a thread, whose exits stand in a table, and one machine
-//! behind a lock. One processor posts a message, which wakes the other from HLT. It prints the audit and what guests are given.
+//! A hypervisor's exit loop in small: two virtual processors, each in a thread, whose exits stand in a table,
+//! and one machine behind a lock. One processor posts a message, which wakes the other from HLT. It prints
+//! the audit and what guests are given.
 
 use hvpm::{Answer, Caller, Config, Connection, Effect, Machine, Port, PortType, Refused, Registers, Reply};
 use std::error::Error;
@@ -41,8 +42,9 @@ fn number(reply: &Reply) -> u64 {
 }
 
 impl Host {
-    /// Injects the vectors that an event raised at the processor that its effect names, which is rarely the caller. The effect
-    /// names messages and flags, too: `include/hvpm_pages.h` says what a VMM does with them.
+    /// Injects the vectors that an event raised at the processor that its effect names, which is rarely the
+    /// caller. The effect names messages and flags, too: `include/hvpm_pages.h` says what a VMM does with
+    /// them.
     fn after(&mut self, reply: &Reply) -> Result<(), Refused> {
         print!("{}", reply.line());
         let Effect::Synic(synic) = reply.effect() else { return Ok(()) };
@@ -55,7 +57,8 @@ impl Host {
         Ok(())
     }
 
-    /// Drives a call to its last element, or to one that is denied. The outputs of all elements are for the guest's memory at R8.
+    /// Drives a call to its last element, or to one that is denied.
+    /// The outputs of all elements are for the guest's memory at R8.
     fn hypercall(&mut self, by: Caller, call: Registers, input: &[u8]) -> Result<(u64, Vec<u8>), Refused> {
         let mut output = Vec::new();
         let mut element = call;
@@ -101,7 +104,8 @@ const EXITS: [(Exit, Entry); 6] = [
 ];
 
 /// A post by connection 1: a message of type 7.
-const POST: [(Exit, Entry); 1] = [(Exit::Hypercall(0x5C, 0, b"\x01\0\0\0\0\0\0\0\x07\0\0\0\x05\0\0\0hello"), Entry::Result(0))];
+const POST: [(Exit, Entry); 1] =
+    [(Exit::Hypercall(0x5C, 0, b"\x01\0\0\0\0\0\0\0\x07\0\0\0\x05\0\0\0hello"), Entry::Result(0))];
 const HALT: [(Exit, Entry); 1] = [(Exit::Halt, Entry::Vector(0x30))];
 
 fn run(host: &Mutex<Host>, wake: &Condvar, vp: u32, exits: [&[(Exit, Entry)]; 2]) -> Result<(), Refused> {
@@ -124,7 +128,16 @@ fn run(host: &Mutex<Host>, wake: &Condvar, vp: u32, exits: [&[(Exit, Entry)]; 2]
 fn boot(config: Config) -> Result<Machine, Refused> {
     let mut machine = Machine::boot(config)?;
     let [root, receiver] = [0, 1].map(|vp| Caller { partition: 1, vp });
-    let port = Port { partition: 1, id: 1, peer: 1, kind: PortType::Messages, sint: 2, vp: 1, base_flag: 0, flag_count: 0 };
+    let port = Port {
+        partition: 1,
+        id: 1,
+        peer: 1,
+        kind: PortType::Messages,
+        sint: 2,
+        vp: 1,
+        base_flag: 0,
+        flag_count: 0,
+    };
     let connection = Connection { partition: 1, id: 1, port_partition: 1, port: 1, kind: PortType::Messages };
     assert_eq!(machine.create_port(root, &port)?.answer(), Answer::Served);
     assert_eq!(machine.connect_port(root, &connection)?.answer(), Answer::Served);

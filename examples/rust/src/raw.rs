@@ -1,5 +1,5 @@
-//! The library's functions and structs, written by hand from `include/hvpm.h`, with which the layout of each is compared below.
-//! `tests/embed/compare` compares the fields and the functions, with their types.
+//! The library's functions and structs, written by hand from `include/hvpm.h`, with which the layout of each
+//! is compared below. `tests/embed/compare` compares the fields and the functions, with their types.
 
 use std::mem::{offset_of, size_of};
 
@@ -106,19 +106,24 @@ pub struct Connection {
     pub port_type: u32,
 }
 
-const _: () = assert!(size_of::<Handle>() == 24 && offset_of!(Handle, events) == 8 && offset_of!(Handle, at) == 16);
-const _: () = assert!(size_of::<Config>() == 24 && offset_of!(Config, pages) == 8 && offset_of!(Config, vps) == 16);
+const _: () =
+    assert!(size_of::<Handle>() == 24 && offset_of!(Handle, events) == 8 && offset_of!(Handle, at) == 16);
+const _: () =
+    assert!(size_of::<Config>() == 24 && offset_of!(Config, pages) == 8 && offset_of!(Config, vps) == 16);
 const _: () = assert!(size_of::<Caller>() == 16 && offset_of!(Caller, vp) == 8);
 const _: () = assert!(size_of::<Registers>() == 24 && offset_of!(Registers, r8) == 16);
 const _: () = assert!(size_of::<RunDone>() == 8 && offset_of!(RunDone, output_len) == 4);
 const _: () = assert!(size_of::<Partition>() == 64 && offset_of!(Partition, life) == 40);
 const _: () = assert!(offset_of!(Partition, connections) == 56);
-const _: () = assert!(size_of::<Port>() == 40 && offset_of!(Port, peer) == 16 && offset_of!(Port, flag_count) == 38);
+const _: () =
+    assert!(size_of::<Port>() == 40 && offset_of!(Port, peer) == 16 && offset_of!(Port, flag_count) == 38);
 const _: () = assert!(size_of::<Connection>() == 32 && offset_of!(Connection, port_partition) == 16);
 const _: () = assert!(offset_of!(Connection, port_type) == 28);
-const _: () = assert!(size_of::<Reply>() == 360 && offset_of!(Reply, result) == 8 && offset_of!(Reply, output) == 28);
+const _: () =
+    assert!(size_of::<Reply>() == 360 && offset_of!(Reply, result) == 8 && offset_of!(Reply, output) == 28);
 const _: () = assert!(offset_of!(Reply, effect) == 288);
-const _: () = assert!(size_of::<Effect>() == 72 && offset_of!(Effect, raised) == 24 && offset_of!(Effect, port) == 64);
+const _: () =
+    assert!(size_of::<Effect>() == 72 && offset_of!(Effect, raised) == 24 && offset_of!(Effect, port) == 64);
 
 pub const LINE: usize = 768;
 
@@ -145,7 +150,14 @@ unsafe extern "C" {
         outputs_size: usize,
         done: *mut RunDone,
     ) -> u32;
-    pub fn hv_embed_read_msr(machine: *mut Handle, by: Caller, msr: u32, reply: *mut Reply, line: *mut u8, size: usize) -> u32;
+    pub fn hv_embed_read_msr(
+        machine: *mut Handle,
+        by: Caller,
+        msr: u32,
+        reply: *mut Reply,
+        line: *mut u8,
+        size: usize,
+    ) -> u32;
     pub fn hv_embed_write_msr(
         machine: *mut Handle,
         by: Caller,
@@ -155,9 +167,30 @@ unsafe extern "C" {
         line: *mut u8,
         size: usize,
     ) -> u32;
-    pub fn hv_embed_read_slot(machine: *mut Handle, by: Caller, sint: u8, reply: *mut Reply, line: *mut u8, size: usize) -> u32;
-    pub fn hv_embed_clear_slot(machine: *mut Handle, by: Caller, sint: u8, reply: *mut Reply, line: *mut u8, size: usize) -> u32;
-    pub fn hv_embed_read_flags(machine: *mut Handle, by: Caller, sint: u8, reply: *mut Reply, line: *mut u8, size: usize) -> u32;
+    pub fn hv_embed_read_slot(
+        machine: *mut Handle,
+        by: Caller,
+        sint: u8,
+        reply: *mut Reply,
+        line: *mut u8,
+        size: usize,
+    ) -> u32;
+    pub fn hv_embed_clear_slot(
+        machine: *mut Handle,
+        by: Caller,
+        sint: u8,
+        reply: *mut Reply,
+        line: *mut u8,
+        size: usize,
+    ) -> u32;
+    pub fn hv_embed_read_flags(
+        machine: *mut Handle,
+        by: Caller,
+        sint: u8,
+        reply: *mut Reply,
+        line: *mut u8,
+        size: usize,
+    ) -> u32;
     pub fn hv_embed_clear_flag(
         machine: *mut Handle,
         by: Caller,
@@ -167,7 +200,13 @@ unsafe extern "C" {
         line: *mut u8,
         size: usize,
     ) -> u32;
-    pub fn hv_embed_take_interrupt(machine: *mut Handle, by: Caller, reply: *mut Reply, line: *mut u8, size: usize) -> u32;
+    pub fn hv_embed_take_interrupt(
+        machine: *mut Handle,
+        by: Caller,
+        reply: *mut Reply,
+        line: *mut u8,
+        size: usize,
+    ) -> u32;
     pub fn hv_embed_destroy(machine: *mut Handle);
     pub fn hv_embed_peek_slot(machine: *mut Handle, of: Caller, sint: u8, out: *mut [u8; 256]) -> u32;
     pub fn hv_embed_peek_flags(machine: *mut Handle, of: Caller, sint: u8, out: *mut [u8; 256]) -> u32;
@@ -175,7 +214,12 @@ unsafe extern "C" {
     pub fn hv_embed_peek_pending(machine: *mut Handle, of: Caller, out: *mut [u64; 4]) -> u32;
     pub fn hv_embed_peek_partition(machine: *mut Handle, id: u64, out: *mut Partition) -> u32;
     pub fn hv_embed_peek_port(machine: *mut Handle, partition: u64, id: u32, out: *mut Port) -> u32;
-    pub fn hv_embed_peek_connection(machine: *mut Handle, partition: u64, id: u32, out: *mut Connection) -> u32;
+    pub fn hv_embed_peek_connection(
+        machine: *mut Handle,
+        partition: u64,
+        id: u32,
+        out: *mut Connection,
+    ) -> u32;
     pub fn hv_embed_child_after(machine: *mut Handle, parent: u64, previous: u64, child: *mut u64) -> u32;
     pub fn hv_embed_page_owner(machine: *mut Handle, page: u64, owner: *mut u64) -> u32;
     pub fn hv_embed_features(machine: *mut Handle, partition: u64, out: *mut [u32; 4]) -> u32;

@@ -1,7 +1,8 @@
 //! The effect of each event, as docs/POLICY.md says what the event changes.
 
 use hvpm::{
-    Answer, Caller, Config, Connection, Effect, FlagChange, Machine, Port, PortType, Refused, Registers, Reply, Synic,
+    Answer, Caller, Config, Connection, Effect, FlagChange, Machine, Port, PortType, Refused, Registers,
+    Reply, Synic,
 };
 
 const ROOT: Caller = Caller { partition: 1, vp: 0 };
@@ -24,8 +25,8 @@ fn at_guest(shown: u16, vector: Option<u8>) -> Synic {
     Synic { at: GUEST, shown, waiting: 0, flag: None, raised, freed: None }
 }
 
-/// Partition 2 has 12 pages, processor 0, and the ports 5 for messages at SINT 2 and 7 for the flags from 8 on of SINT 3, to which
-/// the root has connections 1 and 2. SINT 2 raises 0x82, and SINT 3 0x33.
+/// Partition 2 has 12 pages, processor 0, and the ports 5 for messages at SINT 2 and 7 for the flags from 8
+/// on of SINT 3, to which the root has connections 1 and 2. SINT 2 raises 0x82, and SINT 3 0x33.
 fn set_up() -> Result<Machine, Refused> {
     let mut machine = Machine::boot(Config { mask: 0xf7_0000_0044, pages: 64, pool: 16, vps: 1 })?;
     let pages: Vec<u64> = (20..32).collect();
@@ -36,7 +37,16 @@ fn set_up() -> Result<Machine, Refused> {
         has(machine.deposit_memory(ROOT, 2, &pages, at), Effect::Page { page, partition: 2, pooled: true });
     }
     has(machine.create_vp(ROOT, 2, 0), Effect::Processor(GUEST));
-    let port = |id, kind, sint, base_flag, flag_count| Port { partition: 2, id, peer: 1, kind, sint, vp: 0, base_flag, flag_count };
+    let port = |id, kind, sint, base_flag, flag_count| Port {
+        partition: 2,
+        id,
+        peer: 1,
+        kind,
+        sint,
+        vp: 0,
+        base_flag,
+        flag_count,
+    };
     let connection = |id, port, kind| Connection { partition: 1, id, port_partition: 2, port, kind };
     has(machine.create_port(ROOT, &port(5, PortType::Messages, 2, 0, 0)), Effect::Nothing);
     has(machine.create_port(ROOT, &port(7, PortType::Events, 3, 8, 4)), Effect::Nothing);
@@ -66,7 +76,10 @@ fn messages_are_shown_wait_and_go() -> Result<(), Refused> {
 fn flags_are_set_and_cleared() -> Result<(), Refused> {
     let mut machine = set_up()?;
     let flag = |is_set| Some(FlagChange { sint: 3, flag: 10, is_set });
-    has(machine.signal_event(ROOT, 2, 2), Effect::Synic(Synic { flag: flag(true), ..at_guest(0, Some(0x33)) }));
+    has(
+        machine.signal_event(ROOT, 2, 2),
+        Effect::Synic(Synic { flag: flag(true), ..at_guest(0, Some(0x33)) }),
+    );
     has(machine.signal_event(ROOT, 2, 2), Effect::Nothing);
     has(machine.clear_flag(GUEST, 3, 10), Effect::Synic(Synic { flag: flag(false), ..at_guest(0, None) }));
     Ok(())

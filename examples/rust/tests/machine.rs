@@ -181,8 +181,14 @@ fn looks_are_no_events() {
     let slot = machine.peek_slot(ROOT, 2).expect("the slot is there");
     let flags = machine.peek_flags(ROOT, 3).expect("the flags are there");
     assert_eq!((machine.peek_slot(ROOT, 16), machine.peek_flags(nobody, 3)), (None, None));
-    assert_eq!((machine.peek_msr(ROOT, 0x4000_0092), machine.peek_msr(ROOT, 0x4000_0000)), (Some(0x32), None));
-    assert_eq!((machine.peek_pending(ROOT), machine.peek_pending(nobody)), (Some([3 << 0x32, 0, 0, 0]), None));
+    assert_eq!(
+        (machine.peek_msr(ROOT, 0x4000_0092), machine.peek_msr(ROOT, 0x4000_0000)),
+        (Some(0x32), None)
+    );
+    assert_eq!(
+        (machine.peek_pending(ROOT), machine.peek_pending(nobody)),
+        (Some([3 << 0x32, 0, 0, 0]), None)
+    );
     let root = machine.partition(1).expect("the root is there");
     assert_eq!((root.life, root.mask, root.parent, root.depth), (Life::Active, CONFIG.mask, None, 0));
     assert_eq!((root.pooled, root.in_use, root.children), (12, 8, 0));
@@ -195,8 +201,12 @@ fn looks_are_no_events() {
     assert_eq!((connection.port_partition, connection.port, connection.kind), (1, 2, PortType::Messages));
     assert_eq!((machine.port(2, 3), machine.connection(1, 4)), (None, None));
     assert_eq!((machine.features(1), machine.features(2)), (Some([0x44, 0xf7, 0, 0]), None));
-    assert_eq!((is_msr(0x4000_0092), is_msr(0x4000_0000), is_call(0x96), is_call(0x97)), (true, false, true, false));
-    let table = "partition 1 parent - Active mask 000000f700000044 loose 20 pooled 12 inuse 8 vps 1 ports 2 connections 2\n\
+    assert_eq!(
+        (is_msr(0x4000_0092), is_msr(0x4000_0000), is_call(0x96), is_call(0x97)),
+        (true, false, true, false)
+    );
+    let table = "partition 1 parent - Active mask 000000f700000044 loose 20 pooled 12 inuse 8 \
+                 vps 1 ports 2 connections 2\n\
                  pages 32\n";
     assert_eq!(machine.table(), Ok(table.into()));
     assert_eq!(machine.events(), 11);
@@ -210,7 +220,10 @@ fn events_are_lines_of_a_script() {
     let by = Caller { partition: 2, vp: 1 };
     let call = Registers { rcx: 6 << 32 | 0x48, rdx: 0x3000, r8: 0 };
     assert_eq!(boot_line(CONFIG, 1000), "boot 32 12 1 0xf700000044 1000\n");
-    assert_eq!(hypercall_line(by, call, &[2, 0, 0xAB]), Ok("2.1 call 0x600000048 0x3000 0x0 0200ab\n".into()));
+    assert_eq!(
+        hypercall_line(by, call, &[2, 0, 0xAB]),
+        Ok("2.1 call 0x600000048 0x3000 0x0 0200ab\n".into())
+    );
     assert_eq!(hypercall_line(ROOT, call, &[]), Ok("1.0 call 0x600000048 0x3000 0x0 -\n".into()));
     assert_eq!(hypercall_line(ROOT, call, &[7; 4097]), hypercall_line(ROOT, call, &[7; 4096]));
     let accesses = [

@@ -1,9 +1,9 @@
-//! The typed calls on a machine, by the audit's lines and by what they put out. The audits are those of a script
-//! and of the typed calls in C, typed by hand.
+//! The typed calls on a machine, by the audit's lines and by what they put out. The audits are those of a
+//! script and of the typed calls in C, typed by hand.
 
 use hvpm::{
-    Answer, Balance, Caller, Config, Connection, Machine, Output, Port, PortType, Property, Refused, Reply,
-    ANY_VP, SELF,
+    ANY_VP, Answer, Balance, Caller, Config, Connection, Machine, Output, Port, PortType, Property, Refused,
+    Reply, SELF,
 };
 
 const ROOT: Caller = Caller { partition: 1, vp: 0 };
