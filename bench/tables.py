@@ -3,15 +3,17 @@
 
     bench/tables.py [NAME [OUTPUT]]
 
-NAME is one of largest, threads, pools, embed, registers and messages. bench/NAME.sh runs, and what it prints becomes the table.
-With OUTPUT, a file with what bench/NAME.sh printed before, nothing runs. Without a word all six run.
+NAME is one of largest, threads, pools, embed, registers and messages. bench/NAME.sh runs, and what it prints
+becomes the table. With OUTPUT, a file with what bench/NAME.sh printed before, nothing runs. Without a word
+all six run.
 
     bench/tables.py build
 
-times a new clone of the repository: compiling and running the program unproved, proving it, and the gate. That takes hours.
+times a new clone of the repository: compiling and running the program unproved, proving it, and the gate.
+That takes hours.
 
-A first line names the machine and the toolchain. A cell that the output has no figure for is -. The status is 1 where a benchmark
-fails, and 2 where the words are wrong.
+A first line names the machine and the toolchain. A cell that the output has no figure for is -. The status is
+1 where a benchmark fails, and 2 where the words are wrong.
 """
 import os
 import pathlib
