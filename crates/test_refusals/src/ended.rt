@@ -44,7 +44,7 @@ pub(crate) enum Fault {
     Write,
     #[error("the machine doesn't boot")]
     Boot,
-    #[error("another reason than want of memory")]
+    #[error("another reason than lack of memory")]
     Reason,
     #[error("refused again, with memory")]
     Again,
