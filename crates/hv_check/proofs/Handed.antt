@@ -4,7 +4,7 @@ use Rattle.std.specs.Prelude.{All, reverse}
 use Rattle.std.proofs.lemmas.List.Elements.{All-nil, All-push}
 use Rattle.std.specs.declared.alloc.Global.{Global}
 use Rattle.hv_phases.specs.Lines.{asked_by}
-use Rattle.hv_phases.proofs.Request.{asked_by-append}
+use Rattle.hv_phases.proofs.Asked.{asked_by-append}
 use Rattle.hv_policy.specs.declared.event.Caller.{Caller}
 use Rattle.hv_script.specs.declared.line.Line.{Line}
 use Rattle.hv_check.specs.Replay.{todo_of}

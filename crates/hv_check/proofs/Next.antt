@@ -6,7 +6,7 @@ use Rattle.std.proofs.lemmas.Bool.{false≢true}
 use Rattle.std.specs.declared.alloc.Global.{Global}
 use Rattle.hv_history.specs.declared.entry.Entry.{Entry}
 use Rattle.hv_phases.specs.Lines.{AreRun, asked_by}
-use Rattle.hv_phases.proofs.Request.{asked_by-append, asked_by_other, asked_by_own}
+use Rattle.hv_phases.proofs.Asked.{asked_by-append, asked_by_other, asked_by_own}
 use Rattle.hv_policy.specs.declared.event.Caller.{Caller}
 use Rattle.hv_script.specs.declared.line.Line.{Line}
 use Rattle.hv_shared.proofs.Callers.{is_itself, same_caller}

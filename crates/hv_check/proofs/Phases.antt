@@ -6,7 +6,7 @@ use Rattle.std.proofs.lemmas.List.Elements.{All-append, All-cons, All-head, All-
 use Rattle.std.specs.declared.alloc.Global.{Global}
 use Rattle.hv_history.specs.declared.entry.Entry.{Entry}
 use Rattle.hv_phases.specs.Lines.{AreApart, ArePhased, AreRun, HasCut, asked_by}
-use Rattle.hv_phases.proofs.Request.{asked_by-append}
+use Rattle.hv_phases.proofs.Asked.{asked_by-append}
 use Rattle.hv_policy.specs.declared.event.Caller.{Caller}
 use Rattle.hv_script.specs.declared.line.Line.{Line}
 use Rattle.hv_shared.proofs.Callers.{is_another, is_itself, same_caller}

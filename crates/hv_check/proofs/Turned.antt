@@ -10,7 +10,7 @@ use Rattle.std.proofs.lemmas.Bool.{false≢true}
 use Rattle.std.proofs.lemmas.List.{drop_all, length-drop, length-take-le, take-append-drop}
 use Rattle.std.specs.declared.alloc.Global.{Global}
 use Rattle.hv_phases.specs.Lines.{asked_by}
-use Rattle.hv_phases.proofs.Request.{asked_by_other, asked_by_own}
+use Rattle.hv_phases.proofs.Asked.{asked_by_other, asked_by_own}
 use Rattle.hv_policy.specs.declared.event.Action.{Action}
 use Rattle.hv_policy.specs.declared.event.Action.TheVariants as action
 use Rattle.hv_policy.specs.declared.event.Caller.{Caller}
