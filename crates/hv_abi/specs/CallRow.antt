@@ -55,10 +55,10 @@ kind_of code = find (λ kind. (row_of kind).code == code) ALL_CALLS
 abbrev pub fits_registers : CallRow → Bool
 fits_registers row = not row.rep && nat_le row.input 16 && (row.output == 0)
 
--- how many bytes the input list has
+-- the length of the input list in bytes
 abbrev pub input_len : CallRow → ℕ → ℕ
 input_len row reps = row.input + row.input_element * reps
 
--- how many bytes the output list has
+-- the length of the output list in bytes
 abbrev pub output_len : CallRow → ℕ → ℕ
 output_len row reps = row.output + row.output_element * reps

@@ -1,4 +1,4 @@
--- When a frame is that of a call, and what is wrong with it first.
+-- When a frame is that of a call, and its first fault if it is not.
 use Rattle.std.specs.Prelude.{◌≡◌, ℕ, ◌+◌, ◌%◌, ◌==◌, ◌&&◌, ◌||◌, Bool, true, not, if◌then◌else◌, nat_le}
 use Rattle.std.specs.Prelude.{nat_lt, List, ◌++◌, Option, Some, None}
 use Rattle.std.specs.Int.{w64, to_le_bytes}
@@ -32,11 +32,12 @@ is_input_valid row rcx =
     is_reserved_zero rcx && (not (is_fast rcx) || row.fast) && are_reps_valid row.rep (bits rcx 32 12)
     (bits rcx 48 12)
 
--- whether a list may stand at an address: at a multiple of 8 and within one page, or anywhere if it is empty
+-- whether a list may be at an address: at a multiple of 8 and within one page, or anywhere if it is empty
 abbrev pub is_placed : ℕ → ℕ → Bool
 is_placed address len = (len == 0) || ((address % 8 == 0) && nat_le (address % PAGE_SIZE + len) PAGE_SIZE)
 
--- whether the lists of a frame are placed well: input at RDX, output at R8, and no list if it is fast
+-- whether the lists of a frame may be at their addresses: input at RDX, output at R8. A fast call has no
+-- lists
 abbrev pub are_lists_placed : {A : Type 0} → CallRow → Frame A → Bool
 are_lists_placed row frame =
     is_fast frame.rcx || (is_placed frame.rdx (input_len row (bits frame.rcx 32 12)) && is_placed frame.r8
@@ -51,14 +52,14 @@ pub record IsShape {A : Type 0} (frame : Frame A) (shape : Shape) : Type 0 where
   pub valid : is_input_valid (row_of shape.kind) frame.rcx ≡ true
   pub placed : are_lists_placed (row_of shape.kind) frame ≡ true
 
--- what is wrong first with a frame of this call, or of no call
+-- the first fault of a frame of this call, or of no call
 abbrev pub fault_at : {A : Type 0} → Frame A → Option CallKind → Option AbiFault
 fault_at frame None = Some UnknownCode
 fault_at frame (Some kind) =
     if not (is_input_valid (row_of kind) frame.rcx) then Some Input
     else if not (are_lists_placed (row_of kind) frame) then Some Alignment else None
 
--- what is wrong with a frame first, if anything is
+-- the first fault of a frame, if it has one
 abbrev pub first_fault : {A : Type 0} → Frame A → Option AbiFault
 first_fault frame = fault_at frame (call_of frame)
 

@@ -8,7 +8,7 @@ abbrev pub is_reserved_zero : ℕ → Bool
 is_reserved_zero rcx = (bits rcx 17 10 == 0) && (bits rcx 27 5 == 0) && (bits rcx 44 4 == 0) &&
     (bits rcx 60 4 == 0)
 
--- what an input value says: bits 15:0 call code, 16 fast, 43:32 rep count, 59:48 rep start index
+-- the fields of an input value: bits 15:0 call code, 16 fast, 43:32 rep count, 59:48 rep start index
 abbrev pub input_value : ℕ → InputValue
 input_value rcx = record {
   call = bits rcx 0 16;

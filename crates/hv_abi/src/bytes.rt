@@ -19,15 +19,16 @@ impl<A: Allocator> Model for Bytes<A> {
 }
 
 impl<A: Allocator> Bytes<A> {
-    /// These bytes, in the vector's memory.
+    /// Takes a vector's bytes, in the vector's memory.
     pub fn from_vec(bytes: Vec<u8, A>) -> Bytes<A>
         ensures { result ≡ bytes.items }
     {
         Bytes { bytes }
     }
 
-    /// Takes these bytes in place of its own, in the memory that it has where that is enough. Where the host
-    /// has no more it has none.
+    /// Replaces the bytes, in the memory already allocated if that is enough.
+    ///
+    /// If the host is out of memory, the list is empty.
     pub fn refill(&mut self, bytes: &[u8]) -> Result<(), AllocError>
         ensures ok { OnOk result (self.new ≡ bytes.now) }
         ensures err { OnErr result (self.new ≡ []) }
@@ -40,12 +41,12 @@ impl<A: Allocator> Bytes<A> {
         self.bytes.extend_from_slice(bytes)
     }
 
-    /// How many bytes it has memory for.
+    /// Returns the number of bytes that the allocated memory holds.
     pub fn capacity(&self) -> usize {
         self.bytes.capacity()
     }
 
-    /// The bytes as a vector, in the memory that they have.
+    /// Returns the bytes as a vector, in the memory that they have.
     pub fn into_vec(self) -> Vec<u8, A>
         ensures { result.items ≡ self }
     {
@@ -53,7 +54,7 @@ impl<A: Allocator> Bytes<A> {
         bytes
     }
 
-    /// The bytes that are there.
+    /// Returns the bytes.
     pub fn as_slice(&self) -> &[u8]
         ensures { result.now ≡ self.now }
     {
@@ -62,7 +63,7 @@ impl<A: Allocator> Bytes<A> {
 }
 
 impl<A: Allocator + Clone> Bytes<A> {
-    /// A second list of the same bytes, on the same allocator.
+    /// Copies the list, on the same allocator.
     pub fn copy(&self) -> Result<Bytes<A>, AllocError>
         ensures { IfOk result (λ b. b ≡ self.now) }
     {

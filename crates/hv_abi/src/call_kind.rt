@@ -1,4 +1,4 @@
-// Which call it is.
+// The calls of the profile, without their parameters.
 ghost use Rattle.std.specs.Prelude.{◌≡◌};
 ghost use Rattle.hv_abi.specs.CallRow.{row_of, kind_of, fits_registers, input_len, output_len};
 
@@ -36,7 +36,7 @@ pub enum CallKind {
     ConnectPort,
 }
 
-/// Every call of the profile, by rising code.
+/// Every call of the profile, sorted by code.
 pub const ALL_CALLS: [CallKind; 21] = [
     CallKind::CreatePartition,
     CallKind::InitializePartition,
@@ -62,14 +62,14 @@ pub const ALL_CALLS: [CallKind; 21] = [
 ];
 
 impl CallKind {
-    /// The call with this code, or `None` where the profile has none.
+    /// Returns the call with this code, or `None` if the profile has none.
     // Inlined: calls for the own id in bench/embed.sh.
     #[inline(always)]
     pub fn of(code: u16) -> Option<CallKind>
         ensures kind { result ≡ kind_of code }
         ensures every { (call : CallKind) → (row_of call).code ≡ code → result ≡ Some call }
     {
-        // A jump by the code, and no search through the table, which the contract holds it to.
+        // A jump on the code, not a search of the table. The contract says that both agree.
         match code {
             0x40 => Some(CallKind::CreatePartition),
             0x41 => Some(CallKind::InitializePartition),
@@ -96,7 +96,7 @@ impl CallKind {
         }
     }
 
-    /// The call's row in the table.
+    /// Returns the call's row in the table.
     pub fn row(self) -> CallRow
         ensures { result ≡ row_of self }
     {
@@ -125,19 +125,19 @@ impl CallKind {
         }
     }
 
-    /// The call code, bits 15:0 of an input value.
+    /// Returns the call code, bits 15:0 of an input value.
     pub fn code(self) -> u16
         ensures { result ≡ (row_of self).code }
     {
         self.row().code
     }
 
-    /// Whether it is a rep call, one element of whose lists is served at a time.
+    /// Returns whether this is a rep call, which is served one element of its lists at a time.
     pub fn is_rep(self) -> bool
         ensures { result ≡ (row_of self).rep }
     {
-        // Said of the calls themselves, and not read in the table, which the contract holds it to: where this
-        // is inlined a table of all calls would be, too.
+        // A match on the calls, not a look-up in the table: inlining this would inline a table of all calls,
+        // too. The contract says that both agree.
         match self {
             CallKind::DepositMemory
             | CallKind::WithdrawMemory
@@ -147,7 +147,7 @@ impl CallKind {
         }
     }
 
-    /// Whether it accepts the fast bit, with its input in RDX and R8.
+    /// Returns whether the call accepts the fast bit, with its input in RDX and R8.
     pub fn accepts_fast(self) -> bool
         ensures row { result ≡ (row_of self).fast }
         ensures rule { result ≡ fits_registers (row_of self) }
@@ -155,14 +155,14 @@ impl CallKind {
         self.row().fast
     }
 
-    /// How many bytes the input list has, header and elements. A simple call's rep count is 0.
+    /// Returns the length of the input list in bytes, header and elements. A simple call's rep count is 0.
     pub fn input_len(self, reps: u16) -> u32
         ensures { result ≡ input_len (row_of self) reps }
     {
         self.row().input_len(reps)
     }
 
-    /// How many bytes the output list has. A simple call's rep count is 0.
+    /// Returns the length of the output list in bytes. A simple call's rep count is 0.
     pub fn output_len(self, reps: u16) -> u32
         ensures { result ≡ output_len (row_of self) reps }
     {

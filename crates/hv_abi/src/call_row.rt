@@ -9,7 +9,7 @@ use crate::input_value::InputValue;
 pub struct CallRow {
     /// The call code, bits 15:0 of the input value.
     pub code: u16,
-    /// Whether it is a rep call, one element of whose lists is served at a time.
+    /// Whether it is a rep call, which is served one element of its lists at a time.
     pub rep: bool,
     /// Whether it accepts the fast bit: a simple call with at most 16 bytes of input and no output.
     pub fast: bool,
@@ -23,28 +23,29 @@ pub struct CallRow {
     pub output_element: u16,
 }
 
-// What is promised here holds for any row, and so rests on none that the table has.
+// These contracts hold for any row, and so depend on no row of the table.
 impl CallRow {
     ghost use Rattle.hv_abi.specs.CallRow.{input_len, output_len};
     ghost use Rattle.hv_abi.specs.Check.{is_input_valid};
 
-    /// How many bytes the input list has, header and elements. A simple call's rep count is 0.
+    /// Returns the length of the input list in bytes, header and elements. A simple call's rep count is 0.
     pub fn input_len(self, reps: u16) -> u32
         ensures { result ≡ input_len self reps }
     {
         u32::from(self.input) + u32::from(self.input_element) * u32::from(reps)
     }
 
-    /// How many bytes the output list has. A simple call's rep count is 0.
+    /// Returns the length of the output list in bytes. A simple call's rep count is 0.
     pub fn output_len(self, reps: u16) -> u32
         ensures { result ≡ output_len self reps }
     {
         u32::from(self.output) + u32::from(self.output_element) * u32::from(reps)
     }
 
-    /// Whether a call with this row takes the input value: no reserved bit is set, the fast bit is set
-    /// only where the row accepts it, a simple call has neither rep count nor start index, and a rep
-    /// call starts below its count.
+    /// Returns whether a call with this row takes the input value.
+    ///
+    /// It does if no reserved bit is set, the fast bit is set only where the row accepts it, a simple call
+    /// has neither rep count nor start index, and a rep call starts below its count.
     pub fn takes(self, rcx: u64) -> bool
         ensures { result ≡ is_input_valid self rcx }
     {
@@ -147,7 +148,7 @@ pub const GET_NEXT_CHILD_PARTITION: CallRow = CallRow {
     output_element: 0,
 };
 
-/// HvDepositMemory. Input: a partition's id, then a page number an element. Output: none.
+/// HvDepositMemory. Input: a partition's id, then a page number per element. Output: none.
 pub const DEPOSIT_MEMORY: CallRow = CallRow {
     code: 0x48,
     rep: true,
@@ -158,7 +159,7 @@ pub const DEPOSIT_MEMORY: CallRow = CallRow {
     output_element: 0,
 };
 
-/// HvWithdrawMemory. Input: a partition's id. Output: a page number an element.
+/// HvWithdrawMemory. Input: a partition's id. Output: a page number per element.
 pub const WITHDRAW_MEMORY: CallRow = CallRow {
     code: 0x49,
     rep: true,
@@ -202,8 +203,8 @@ pub const DELETE_VP: CallRow = CallRow {
     output_element: 0,
 };
 
-/// HvGetVpRegisters. Input: a partition's id and a VP index, then a register name an element. Output: 16
-/// bytes of value an element.
+/// HvGetVpRegisters. Input: a partition's id and a VP index, then a register name per element. Output: 16
+/// bytes of value per element.
 pub const GET_VP_REGISTERS: CallRow = CallRow {
     code: 0x50,
     rep: true,
@@ -214,8 +215,8 @@ pub const GET_VP_REGISTERS: CallRow = CallRow {
     output_element: 16,
 };
 
-/// HvSetVpRegisters. Input: a partition's id and a VP index, then a register name and its 16 bytes of
-/// value an element. Output: none.
+/// HvSetVpRegisters. Input: a partition's id and a VP index, then a register name and its 16 bytes of value
+/// per element. Output: none.
 pub const SET_VP_REGISTERS: CallRow = CallRow {
     code: 0x51,
     rep: true,

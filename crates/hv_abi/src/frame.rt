@@ -11,18 +11,18 @@ use crate::input_value::InputValue;
 use hv_defs::PAGE_SIZE;
 use std::alloc::{AllocError, Allocator};
 
-/// What a guest hands over with one hypercall: three registers and the bytes of its input list (TLFS 4.0,
+/// What a guest passes with one hypercall: three registers and the bytes of its input list (TLFS 4.0,
 /// "Hypercall Interface").
 #[derive(Drop)]
 pub struct Frame<A: Allocator> {
     /// The input value.
     pub rcx: u64,
-    /// The guest physical address of the input list; of a fast call the first 8 bytes of input.
+    /// The guest physical address of the input list; for a fast call, the first 8 bytes of input.
     pub rdx: u64,
-    /// The guest physical address of the output list; of a fast call the second 8 bytes of input.
+    /// The guest physical address of the output list; for a fast call, the second 8 bytes of input.
     pub r8: u64,
-    /// The bytes at the input list's address. Those that are missing at the end read as zero, and those
-    /// of a fast call aren't read.
+    /// The bytes at the input list's address. Bytes missing at the end read as zero. A fast call ignores
+    /// these bytes.
     pub input: Bytes<A>,
 }
 
@@ -30,15 +30,15 @@ pub struct Frame<A: Allocator> {
 #[derive(Clone, Copy, PartialEq, Eq, Debug)]
 pub struct Shape {
     pub kind: CallKind,
-    /// Whether the input stands in RDX and R8.
+    /// Whether the input is in RDX and R8.
     pub fast: bool,
-    /// The rep count, from 1 to 4,095, and 0 for a simple call.
+    /// The rep count, from 1 to 4,095, or 0 for a simple call.
     pub reps: u16,
-    /// The rep start index, below the rep count, and 0 for a simple call.
+    /// The rep start index, below the rep count, or 0 for a simple call.
     pub start: u16,
 }
 
-/// What is wrong with a frame first. The faults are looked for in the order of the variants.
+/// The first fault of a frame. The faults are checked in the order of the variants.
 #[derive(Clone, Copy, PartialEq, Eq, Debug)]
 pub enum AbiFault {
     /// Rule P4: no call of the profile has this code.
@@ -46,8 +46,8 @@ pub enum AbiFault {
     /// Rule P5: a reserved bit is set, the fast bit is set on a call that doesn't accept it, a simple call
     /// has a rep count or start index, or a rep call has no reps or starts at or past their count.
     Input,
-    /// Rule P6: the call isn't fast, and a list that isn't empty stands at an address that is no multiple
-    /// of 8, or crosses a page.
+    /// Rule P6: the call is not fast, and a list that is not empty has an address that is not a multiple of
+    /// 8, or crosses a page.
     Alignment,
 }
 
@@ -55,7 +55,7 @@ impl<A: Allocator> Frame<A> {
     ghost use Rattle.hv_defs.specs.declared.sizes.TheConstants.{REPS_END};
     ghost use Rattle.hv_abi.specs.Check.{IsShape, are_lists_placed, call_of, first_fault, input_of};
 
-    /// Accepts a frame of a call, or names its first fault.
+    /// Checks that the frame is that of a call, and returns its shape, or its first fault.
     pub fn check(&self) -> Result<Shape, AbiFault>
         ensures shape { IfOk result (IsShape self.now) }
         ensures only { (s : Shape) → IsShape self.now s → result ≡ Ok s }
@@ -64,7 +64,7 @@ impl<A: Allocator> Frame<A> {
         self.check_as(CallKind::of(InputValue::read(self.rcx).call))
     }
 
-    /// The same where the call that the frame names, if it names one, is known.
+    /// Does what [`Frame::check`] does, given the call that the frame names, if it names one.
     // Inlined: calls for the own id in bench/embed.sh.
     #[inline(always)]
     pub fn check_as(&self, named: Option<CallKind>) -> Result<Shape, AbiFault>
@@ -97,7 +97,7 @@ impl<A: Allocator> Frame<A> {
         })
     }
 
-    // Whether the lists of a call with this row may stand at their addresses.
+    // Returns whether the lists of a call with this row may be at their addresses.
     // Inlined: calls for the own id in bench/embed.sh.
     #[inline(always)]
     fn places_lists(&self, row: CallRow) -> bool
@@ -107,8 +107,10 @@ impl<A: Allocator> Frame<A> {
         fast || may_stand(self.rdx, row.input_len(reps)) && may_stand(self.r8, row.output_len(reps))
     }
 
-    /// The input's byte at a place counted from 0, or 0 past its end. The input of a fast frame is RDX
-    /// and then R8, little-endian. The shape is to be this frame's, from [`Frame::check`].
+    /// Returns the input's byte at an offset, or 0 past the input's end.
+    ///
+    /// The input of a fast frame is RDX and then R8, little-endian. The shape must be this frame's, from
+    /// [`Frame::check`].
     pub fn byte(&self, shape: &Shape, at: usize) -> u8
         ensures { result ≡ slice_index (input_of self.now shape.now.fast) at }
     {
@@ -122,7 +124,7 @@ impl<A: Allocator> Frame<A> {
         }
     }
 
-    /// The same frame with another rep start index, below 4,096.
+    /// Returns the frame with another rep start index, below 4,096.
     pub fn with_start(self, start: u16) -> Frame<A>
         requires { start < REPS_END }
         ensures frame { result ≡ record self { rcx = restarted self.rcx start } }
@@ -141,7 +143,7 @@ impl<A: Allocator> Frame<A> {
 const LOW_48_BITS: u64 = 0xFFFF_FFFF_FFFF;
 
 impl<A: Allocator + Clone> Frame<A> {
-    /// A second frame that is equal, on the same allocator.
+    /// Copies the frame, on the same allocator.
     pub fn copy(&self) -> Result<Frame<A>, AllocError>
         ensures { IfOk result (λ f. f ≡ self.now) }
     {
@@ -155,7 +157,7 @@ impl<A: Allocator + Clone> Frame<A> {
     }
 }
 
-// Whether a list of `len` bytes may stand at an address: anywhere if it is empty.
+// Returns whether a list of `len` bytes may be at an address. An empty list may be anywhere.
 fn may_stand(address: u64, len: u32) -> bool
     ensures { result ≡ is_placed address len }
 {

@@ -2,12 +2,12 @@
 ghost use Rattle.std.specs.Prelude.{◌≡◌, ◌<◌};
 ghost use Rattle.hv_defs.specs.Bits.{bits as bits_of};
 
-/// The input value of a hypercall, which stands in RCX (TLFS 4.0, "Hypercall Inputs").
+/// The input value of a hypercall, in RCX (TLFS 4.0, "Hypercall Inputs").
 #[derive(Clone, Copy, PartialEq, Eq, Debug)]
 pub struct InputValue {
     /// The call code, bits 15:0.
     pub call: u16,
-    /// Whether the input stands in RDX and R8, bit 16.
+    /// Whether the input is in RDX and R8, bit 16.
     pub fast: bool,
     /// The rep count, bits 43:32.
     pub reps: u16,
@@ -37,7 +37,7 @@ impl InputValue {
     }
 }
 
-// The number in `count` bits of `value`, from bit `low` up.
+// Returns the number in `count` bits of `value`, from bit `low` up.
 fn bits(value: u64, low: u32, count: u32) -> u64
     requires low { low < 64 }
     requires count { count < 64 }

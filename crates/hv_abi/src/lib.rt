@@ -1,9 +1,9 @@
 //! The binary interface of hypercalls (TLFS 4.0, "Hypercall Interface"): input and result values, status
 //! values, the calls' codes and list lengths, and frames.
 //!
-//! A frame is what a guest hands over with one hypercall. [`Frame::check`] accepts exactly the frames
-//! whose input value and list addresses are those of a call, and names the first fault of every other.
-//! No call here takes memory but [`Frame::copy`] and [`Bytes::copy`].
+//! A frame is what a guest passes with one hypercall. [`Frame::check`] accepts exactly the frames whose input
+//! value and list addresses are those of a call, and names the first fault of every other frame. Only
+//! [`Frame::copy`], [`Bytes::copy`] and [`Bytes::refill`] allocate memory.
 #![tactic(auto)]
 
 mod bytes;

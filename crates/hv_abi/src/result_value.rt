@@ -7,9 +7,10 @@ ghost use Rattle.hv_abi.specs.Status.{status_code};
 use crate::status::Status;
 use std::marker::Model;
 
-/// The result value of a hypercall, which stands in RAX (TLFS 4.0, "Hypercall Outputs"): the status in
-/// bits 15:0, the reps completed in bits 43:32, counted from the first element of the list, and all
-/// other bits zero.
+/// The result value of a hypercall, in RAX (TLFS 4.0, "Hypercall Outputs").
+///
+/// Bits 15:0 hold the status, and bits 43:32 the reps completed, counted from the first element of the list.
+/// All other bits are zero.
 #[derive(Clone, Copy, PartialEq, Eq, Debug)]
 pub struct ResultValue {
     bits: u64,
@@ -26,8 +27,8 @@ impl Model for ResultValue {
 }
 
 impl ResultValue {
-    /// The result value of a call. `reps` is how many reps are completed, below 4,096, and 0 for a simple
-    /// call.
+    /// Returns the result value of a call. `reps` is the number of reps completed, below 4,096, or 0 for a
+    /// simple call.
     pub fn new(status: Status, reps: u16) -> ResultValue
         requires { reps < REPS_END }
         ensures { result ≡ result_value (status_code status) reps }
@@ -37,7 +38,7 @@ impl ResultValue {
         }
     }
 
-    /// The value as it stands in RAX.
+    /// Returns the value that RAX holds.
     pub fn bits(self) -> u64
         ensures { result ≡ self }
     {

@@ -2,7 +2,7 @@
 ghost use Rattle.std.specs.Prelude.{◌≡◌};
 ghost use Rattle.hv_abi.specs.Status.{status_code, status_name};
 
-/// What a hypercall answers, HV_STATUS (TLFS 4.0, "Hypercall Status Codes").
+/// The status of a hypercall, HV_STATUS (TLFS 4.0, "Hypercall Status Codes").
 #[derive(Clone, Copy, PartialEq, Eq, Debug)]
 pub enum Status {
     Success = 0x0,
@@ -27,14 +27,14 @@ pub enum Status {
 }
 
 impl Status {
-    /// The status's number, which stands in bits 15:0 of a result value.
+    /// Returns the status's number, bits 15:0 of a result value.
     pub fn code(self) -> u16
         ensures { result ≡ status_code self }
     {
         self as u16
     }
 
-    /// The TLFS's name without its prefix `HV_STATUS_`, as `SUCCESS`.
+    /// Returns the TLFS's name without its prefix `HV_STATUS_`, such as `SUCCESS`.
     pub fn name(self) -> &'static str
         ensures { result.now ≡ status_name self }
     {

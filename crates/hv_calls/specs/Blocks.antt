@@ -1,6 +1,6 @@
--- The blocks: where each call's parameters stand in its input, and which are malformed by themselves. A field
--- is written as its offset and its size in bytes, little-endian; `element` is the place at which a rep call's
--- element begins. Bytes that no field covers aren't read.
+-- The blocks: where each call's parameters are in its input, and which are malformed by themselves. A field
+-- is written as its offset and its size in bytes, little-endian; `element` is the offset of a rep call's
+-- element. Bytes that no field covers are not read.
 use Rattle.std.specs.Prelude.{ℕ, ◌+◌, ◌==◌, ◌&&◌, nat_le, nat_lt, Bool, true, if◌then◌else◌, List}
 use Rattle.hv_abi.specs.declared.call_kind.CallKind.{CallKind}
 use Rattle.hv_abi.specs.declared.call_kind.CallKind.TheVariants as kind
@@ -26,11 +26,11 @@ use Rattle.hv_calls.specs.declared.call.Call.TheVariants.{SignalEvent, CreatePor
 abbrev pub port_kind : ℕ → PortKind
 port_kind type = if type == 2 then Event else Message
 
--- where a port with this TargetVp aims: all ones is any processor, every other number the index of one
+-- the aim of a port with this TargetVp: all ones is any processor, every other number the index of one
 abbrev pub port_aim : ℕ → Aim
 port_aim target = if target == ANY_VP then Any else One target
 
--- of a call: the call with the parameters that stand in a block, and whether each is well formed by itself
+-- a call's block: the call with the parameters in a block, and whether each is well formed by itself
 pub record Block : Type 0 where
   pub call : List ℕ → ℕ → Call
   pub fits : List ℕ → ℕ → Bool

@@ -1,4 +1,4 @@
--- Which call it is.
+-- The kind of a call.
 use Rattle.hv_abi.specs.declared.call_kind.CallKind.{CallKind}
 use Rattle.hv_abi.specs.declared.call_kind.CallKind.TheVariants as kind
 use Rattle.hv_calls.specs.declared.call.Call.{Call}

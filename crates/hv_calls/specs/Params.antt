@@ -10,7 +10,7 @@ use Rattle.hv_calls.specs.WellFormed.{are_well_formed}
 use Rattle.hv_calls.specs.declared.call.Call.{Call}
 use Rattle.hv_calls.specs.declared.decoding.Malformed.{Malformed}
 
--- the place of the element at a start index: elements stand one after another behind the header
+-- the offset of the element at a start index. Elements follow the header, one after another
 abbrev pub element_at : CallKind → ℕ → ℕ
 element_at kind start = (row_of kind).input + start * (row_of kind).input_element
 
@@ -19,7 +19,7 @@ abbrev pub parameters : {A : Type 0} → CallKind → Frame A → Call
 parameters kind frame = call_in kind (input_of frame (is_fast frame.rcx))
     (element_at kind (bits frame.rcx 48 12))
 
--- whether they are
+-- whether these parameters are well formed
 abbrev pub are_parameters_valid : {A : Type 0} → CallKind → Frame A → Bool
 are_parameters_valid kind frame =
     are_well_formed kind (input_of frame (is_fast frame.rcx)) (element_at kind (bits frame.rcx 48 12))
@@ -29,7 +29,7 @@ pub record Params {A : Type 0} (frame : Frame A) (kind : CallKind) (c : Call) : 
   pub call : c ≡ parameters kind frame
   pub valid : are_parameters_valid kind frame ≡ true
 
--- the call of this kind that stands in a block, if its parameters are well formed
+-- the call of this kind in a block, if its parameters are well formed
 abbrev pub decoded : CallKind → List ℕ → ℕ → Result Call Malformed
 decoded kind block element = if are_well_formed kind block element then Ok (call_in kind block element) else
     Err record {}

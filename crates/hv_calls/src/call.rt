@@ -5,15 +5,16 @@ use crate::payload::Payload;
 use hv_abi::CallKind;
 use hv_defs::{Aim, PortKind};
 
-/// A hypercall with its parameters, under the TLFS's name without its prefix `Hv`. Of a rep call it holds the
-/// header and the element at the frame's rep start index.
+/// A hypercall with its parameters, under the TLFS's name without its prefix `Hv`.
 ///
-/// A `partition` is the id of the partition that the call is about, and may be all ones, for the
-/// caller's own.
+/// For a rep call, it holds the header and the element at the frame's rep start index.
+///
+/// A `partition` is the id of the partition that the call is about. All ones means the caller's own
+/// partition.
 #[derive(Drop)]
 pub enum Call<'f> {
     CreatePartition {
-        /// Of any value, with no effect.
+        /// Flags of any value, with no effect.
         flags: u64,
     },
     InitializePartition {
@@ -38,12 +39,12 @@ pub enum Call<'f> {
     GetNextChildPartition {
         /// The parent's id.
         partition: u64,
-        /// The child after which the next one is asked for, 0 for the first.
+        /// The child before the one that the call asks for, or 0 to ask for the first.
         previous: u64,
     },
     DepositMemory {
         partition: u64,
-        /// The number of the page, which need not be one that boot gave.
+        /// The page's number, which need not be one that boot gave.
         page: u64,
     },
     WithdrawMemory {
@@ -84,7 +85,7 @@ pub enum Call<'f> {
     PostMessage {
         connection: u32,
         message_type: u32,
-        /// It stays where the frame holds it.
+        /// The payload, which stays in the frame.
         payload: Payload<'f>,
     },
     SignalEvent {
@@ -100,10 +101,10 @@ pub enum Call<'f> {
         peer: u64,
         kind: PortKind,
         sint: u32,
-        /// The processor at which it aims.
+        /// The processor that the port aims at.
         vp: Aim,
-        /// The first of an event port's flags, and their count. A message port has none, whatever
-        /// stands here.
+        /// The first of an event port's flags, and their count. A message port has none, whatever these
+        /// values are.
         base: u16,
         count: u16,
     },
@@ -121,7 +122,7 @@ pub enum Call<'f> {
 impl<'f> Call<'f> {
     ghost use Rattle.hv_calls.specs.Call.{kind_of_call};
 
-    /// Which call it is.
+    /// Returns which call this is, without its parameters.
     pub fn kind(&self) -> CallKind
         ensures { result ≡ kind_of_call self.now }
     {

@@ -1,4 +1,4 @@
-// From a frame to its call.
+// Decoding a frame into its call.
 ghost use Rattle.std.specs.Prelude.{◌≡◌, ◌+◌, ◌*◌, ◌^◌, ◌<◌, Ok, false, IfOk, IfErr, Some, None};
 ghost use Rattle.std.specs.Prelude.{if◌then◌else◌};
 ghost use Rattle.hv_abi.specs.Check.{IsShape, input_of};
@@ -23,9 +23,10 @@ use std::alloc::Allocator;
 #[derive(Clone, Copy, PartialEq, Eq, Debug)]
 pub struct Malformed;
 
-/// The call that a frame holds, with its parameters, or Malformed where one of them is so by itself.
-/// Bytes that the frame lacks at its end read as zero. The shape is to be this frame's, from
-/// [`Frame::check`].
+/// Decodes the call that a frame holds, with its parameters.
+///
+/// The error is [`Malformed`] if a parameter is malformed by itself. Bytes missing at the frame's end read as
+/// zero. The shape must be this frame's, from [`Frame::check`].
 // Inlined: calls for the own id in bench/embed.sh.
 #[inline(always)]
 pub fn decode<'f, A: Allocator>(frame: &'f Frame<A>, shape: &Shape) -> Result<Call<'f>, Malformed>
@@ -38,7 +39,7 @@ pub fn decode<'f, A: Allocator>(frame: &'f Frame<A>, shape: &Shape) -> Result<Ca
     decode_named(frame, shape)
 }
 
-// The place of the element at a start index, of a call with this row.
+// Returns the offset of the element at a start index, for a call with this row.
 fn element_at(row: CallRow, start: u16) -> usize
     ensures place { result ≡ row.input + start * row.input_element }
     ensures near { result < 2 ^ 32 }
@@ -46,7 +47,7 @@ fn element_at(row: CallRow, start: u16) -> usize
     usize::from(row.input) + usize::from(start) * usize::from(row.input_element)
 }
 
-// The call of a frame, by the decoder of its own call.
+// Decodes the call of a frame, by the decoder of that call.
 // Inlined: calls for the own id in bench/embed.sh.
 #[inline(always)]
 fn decode_named<'f, A: Allocator>(frame: &'f Frame<A>, shape: &Shape) -> Result<Call<'f>, Malformed>
@@ -276,21 +277,21 @@ fn connect_port<A: Allocator>(frame: &Frame<A>, shape: &Shape) -> Result<Call<'s
     })
 }
 
-// Whether a number is the id of a port or of a connection.
+// Returns whether a number is the id of a port or of a connection.
 fn is_id(number: u32) -> bool
     ensures { result ≡ fits_id number }
 {
     number <= MAX_PORT_ID
 }
 
-// Whether a number is a MessageType that a guest may post.
+// Returns whether a number is a MessageType that a guest may post.
 fn is_message_type(number: u32) -> bool
     ensures { result ≡ fits_message number }
 {
     (1..=MAX_MESSAGE_TYPE).contains(&number)
 }
 
-// What a port of this PortType takes, or `None` where the profile has no such port.
+// Returns what a port of this PortType takes, or `None` if the profile has no such port.
 fn port_kind(number: u32) -> Option<PortKind>
     ensures { result ≡ (if is_port_type number then Some (kind_of_port number) else None) }
 {
@@ -303,7 +304,7 @@ fn port_kind(number: u32) -> Option<PortKind>
     }
 }
 
-// Where a port with this TargetVp aims.
+// Returns the aim of a port with this TargetVp.
 fn port_aim(target: u32) -> Aim
     ensures { result ≡ aim_of_port target }
 {
@@ -314,7 +315,7 @@ fn port_aim(target: u32) -> Aim
     }
 }
 
-// Whether a port of this PortType may have these flags.
+// Returns whether a port of this PortType may have these flags.
 fn are_flags(port_type: u32, base: u16, count: u16) -> bool
     ensures { result ≡ fit_flags port_type base count }
 {

@@ -1,4 +1,4 @@
-// The fields of a call's input, which are little-endian. Those past its end read as zero.
+// The fields of a call's input, which are little-endian. Bytes past the input's end read as zero.
 ghost use Rattle.std.specs.Prelude.{◌≡◌, ◌+◌, ◌*◌, ◌/◌, ◌%◌, ◌^◌, ◌<◌, ◌≤◌, ◌++◌};
 ghost use Rattle.std.specs.Int.{w64, to_le_bytes};
 ghost use Rattle.hv_abi.specs.Check.{input_of};
@@ -8,7 +8,7 @@ use byteorder::{ByteOrder, LittleEndian};
 use hv_abi::{Frame, Shape};
 use std::alloc::Allocator;
 
-// The 8 bytes at a place as a number.
+// Reads the 8 bytes at an offset as a number.
 pub fn u64_at<A: Allocator>(frame: &Frame<A>, shape: &Shape, at: usize) -> u64
     requires { at < 2 ^ 33 }
     ensures { result ≡ field (input_of frame.now shape.now.fast) at 8 }
@@ -23,7 +23,7 @@ pub fn u64_at<A: Allocator>(frame: &Frame<A>, shape: &Shape, at: usize) -> u64
     LittleEndian::read_u64(&input[at..at + 8])
 }
 
-// The 4 bytes at a place as a number.
+// Reads the 4 bytes at an offset as a number.
 pub fn u32_at<A: Allocator>(frame: &Frame<A>, shape: &Shape, at: usize) -> u32
     requires { at < 2 ^ 33 }
     ensures { result ≡ field (input_of frame.now shape.now.fast) at 4 }
@@ -38,7 +38,7 @@ pub fn u32_at<A: Allocator>(frame: &Frame<A>, shape: &Shape, at: usize) -> u32
     LittleEndian::read_u32(&input[at..at + 4])
 }
 
-// The 2 bytes at a place as a number.
+// Reads the 2 bytes at an offset as a number.
 pub fn u16_at<A: Allocator>(frame: &Frame<A>, shape: &Shape, at: usize) -> u16
     requires { at < 2 ^ 33 }
     ensures { result ≡ field (input_of frame.now shape.now.fast) at 2 }
@@ -53,7 +53,7 @@ pub fn u16_at<A: Allocator>(frame: &Frame<A>, shape: &Shape, at: usize) -> u16
     LittleEndian::read_u16(&input[at..at + 2])
 }
 
-// The first 4 bytes as a number. Those of a fast call are RDX's.
+// Reads the first 4 bytes as a number. For a fast call, they are in RDX.
 pub fn first_u32<A: Allocator>(frame: &Frame<A>, shape: &Shape) -> u32
     ensures { result ≡ field (input_of frame.now shape.now.fast) 0 4 }
 {
@@ -63,7 +63,7 @@ pub fn first_u32<A: Allocator>(frame: &Frame<A>, shape: &Shape) -> u32
     (frame.rdx % 0x1_0000_0000) as u32
 }
 
-// The 2 bytes after them as a number, alike.
+// Reads the 2 bytes after the first 4 as a number. For a fast call, they are in RDX.
 pub fn second_u16<A: Allocator>(frame: &Frame<A>, shape: &Shape) -> u16
     ensures { result ≡ field (input_of frame.now shape.now.fast) 4 2 }
 {
@@ -73,7 +73,7 @@ pub fn second_u16<A: Allocator>(frame: &Frame<A>, shape: &Shape) -> u16
     (frame.rdx / 0x1_0000_0000 % 0x1_0000) as u16
 }
 
-// The 4 bytes at 0, at 8 and at 12 as numbers, looked for once in a list that has them all.
+// Reads the 4 bytes at each of the offsets 0, 8 and 12 as numbers, with one look-up if the list has them all.
 pub fn head_u32s<A: Allocator>(frame: &Frame<A>, shape: &Shape) -> (u32, u32, u32)
     ensures first { result.0 ≡ field (input_of frame.now shape.now.fast) 0 4 }
     ensures second { result.1 ≡ field (input_of frame.now shape.now.fast) 8 4 }
@@ -94,8 +94,8 @@ pub fn head_u32s<A: Allocator>(frame: &Frame<A>, shape: &Shape) -> (u32, u32, u3
     )
 }
 
-// The number of so many bytes at a place of RDX and then R8, by shifts. No field of a fast call stands in
-// both of them.
+// Reads `size` bytes at an offset of RDX and then R8 as a number, by shifts. No field of a fast call spans
+// both registers.
 fn fast_number(rdx: u64, r8: u64, at: usize, size: usize) -> u64
     requires place { at < 2 ^ 33 }
     requires few { size ≤ 8 }
@@ -111,7 +111,7 @@ fn fast_number(rdx: u64, r8: u64, at: usize, size: usize) -> u64
     last_number(&both(rdx, r8), at, size)
 }
 
-// The bytes of two numbers.
+// Returns the bytes of two numbers.
 fn both(first: u64, second: u64) -> [u8; 16]
     ensures { result ≡ to_le_bytes w64 first ++ to_le_bytes w64 second }
 {
@@ -121,7 +121,7 @@ fn both(first: u64, second: u64) -> [u8; 16]
     bytes
 }
 
-// The number of so many bytes of a number from a place on.
+// Returns the number in `size` bytes of `number`, from byte `at` on.
 fn low_bytes(number: u64, at: usize, size: usize) -> u64
     requires { at + size ≤ 8 }
     ensures { result ≡ number / 256 ^ at % 256 ^ size }
@@ -135,8 +135,9 @@ fn low_bytes(number: u64, at: usize, size: usize) -> u64
     (number >> (8 * at as u32)) % (1 << (8 * size as u32))
 }
 
-// The number of so many bytes at a place of a list, where those past its end are 0. From the last on that is
-// there, in a register: bytes that are written to memory and read as a number are waited for.
+// Reads `size` bytes at an offset of a list as a number, where bytes past the list's end are 0. It starts at
+// the last of them that the list has, and builds the number in a register: writing bytes to memory and
+// reading them back as a number would stall.
 fn last_number(input: &[u8], at: usize, size: usize) -> u64
     requires { size ≤ 8 }
     ensures number { result ≡ field input.now at size }

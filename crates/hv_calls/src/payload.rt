@@ -8,7 +8,7 @@ use hv_abi::{Frame, Shape};
 use std::alloc::Allocator;
 use std::marker::Model;
 
-/// The bytes of a message, at most 240, where its frame holds them.
+/// The bytes of a message, at most 240, borrowed from its frame.
 #[derive(Drop)]
 pub struct Payload<'f> {
     // The input from the payload's first byte on, which may end before the payload does.
@@ -28,7 +28,7 @@ impl<'f> Model for Payload<'f> {
 }
 
 impl<'f> Payload<'f> {
-    // The bytes of a call's input from a place on, where those past the input's end are zero.
+    // Returns the bytes of a call's input from an offset on, where bytes past the input's end are zero.
     pub(crate) fn read<A: Allocator>(
         frame: &'f Frame<A>,
         shape: &Shape,
@@ -45,7 +45,7 @@ impl<'f> Payload<'f> {
         }
     }
 
-    /// A copy of the bytes.
+    /// Returns a copy of the bytes.
     pub fn to_array(&self) -> ArrayVec<u8, 240>
         ensures { result.items ≡ self.now }
     {
@@ -67,7 +67,7 @@ impl<'f> Payload<'f> {
     }
 }
 
-// The input from a place on that is past the registers of a fast call.
+// Returns the input from an offset on, which is past the registers of a fast call.
 fn rest<'f, A: Allocator>(frame: &'f Frame<A>, shape: &Shape, at: usize) -> &'f [u8]
     requires { 16 ≤ at }
     ensures { result.now ≡ drop at (input_of frame.now shape.now.fast) }

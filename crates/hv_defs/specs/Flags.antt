@@ -14,7 +14,7 @@ pair_cmp a b = ordering_then (nat_cmp a.0 b.0) (nat_cmp a.1 b.1)
 abbrev pub FlagSet : Type 0
 FlagSet = set.FinSet pair_cmp
 
--- they are stored as a set of pairs of numbers
+-- the stored form of these flags: a set of pairs of numbers
 abbrev pub flags_code : Coded FlagSet
 flags_code = set.code (coded× coded_ℕ coded_ℕ)
 

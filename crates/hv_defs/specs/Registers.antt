@@ -12,11 +12,11 @@ use Rattle.hv_defs.specs.declared.registers.Takes.{Takes}
 use Rattle.hv_defs.specs.declared.registers.Takes.TheVariants.{Nothing, Any, SintValue, EndOfMessage}
 use Rattle.hv_defs.specs.declared.registers.TheConstants.{REGISTERS, SCONTROL, SIEFP, SIMP, VP_INDEX}
 
--- each register's value, by its name, in a processor that was just made
+-- the registers of a new processor with this index, by name
 abbrev pub start_registers : ℕ → FinMap nat_cmp ℕ
 start_registers index = insert (from_entries (map (λ r. (r.name, r.start)) REGISTERS)) VP_INDEX index
 
--- the row of a register, if one has the name
+-- the row of the register with this name, if there is one
 unfoldable pub row_of : ℕ → Option RegisterRow
 row_of name = find (λ row. row.name == name) REGISTERS
 
@@ -24,27 +24,27 @@ row_of name = find (λ row. row.name == name) REGISTERS
 abbrev pub has_msr : ℕ → RegisterRow → Bool
 has_msr msr row = option_map_or (λ number. number == msr) row.msr false
 
--- the name of a model-specific register in a call, if it is one
+-- the name in a call of the model-specific register with this number, if there is one
 unfoldable pub name_of_msr : ℕ → Option ℕ
 name_of_msr msr = option_map (λ row. row.name) (find (has_msr msr) REGISTERS)
 
--- a vector from 16 up in bits 7:0, or the mask bit 16
+-- a value of a SINT's register: a vector of at least 16 in bits 7:0, or the mask bit 16
 abbrev pub is_sint_value : ℕ → Bool
 is_sint_value value = nat_le 16 (bits value 0 8) || (bits value 16 1 == 1)
 
--- what a register keeps of a value that is written, or why it doesn't take it
+-- what a register keeps of a written value, or why it does not take the value
 abbrev pub take : Takes → ℕ → Result ℕ RegFault
 take Nothing value = Err ReadOnly
 take Any value = Ok value
 take SintValue value = cond (is_sint_value value) (Ok value) (Err Value)
 take EndOfMessage value = Ok 0
 
--- the same of the register of a row, if there is one
+-- what the register with this row keeps of a written value. Without a row, the register is unknown
 abbrev pub kept : Option RegisterRow → ℕ → Result ℕ RegFault
 kept None value = Err Unknown
 kept (Some row) value = take row.takes value
 
--- the registers after a write of which this is kept
+-- the registers after a write, given what the named register keeps of the value
 abbrev pub after_write : FinMap nat_cmp ℕ → ℕ → Result ℕ RegFault → FinMap nat_cmp ℕ
 after_write registers name (Ok value) = insert registers name value
 after_write registers name (Err fault) = registers

@@ -3,11 +3,11 @@ use Rattle.std.specs.Prelude.{ℕ, ◌-◌, Bool, if◌then◌else◌, List, ◌
 use Rattle.std.specs.Int.{w32, w64, to_le_bytes}
 use Rattle.hv_defs.specs.declared.sizes.TheConstants.{MAX_PAYLOAD}
 
--- so many zeros
+-- a list of this many zeros
 abbrev pub zeros : ℕ → List ℕ
 zeros n = replicate n 0
 
--- a slot that shows a message: type, payload size, flags with bit 0 where another message stands at the SINT,
+-- a slot that shows a message: type, payload size, flags with bit 0 set if another message is at the SINT,
 -- two zeros, port id, and the payload with zeros after it
 abbrev pub message_bytes : ℕ → ℕ → List ℕ → Bool → List ℕ
 message_bytes type port payload pending =

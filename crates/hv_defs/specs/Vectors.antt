@@ -11,7 +11,7 @@ use Rattle.hv_defs.specs.declared.registers.TheConstants.{SINT0}
 abbrev pub VectorSet : Type 0
 VectorSet = set.FinSet nat_cmp
 
--- it is stored as a set of numbers
+-- the stored form of these vectors: a set of numbers
 abbrev pub vectors_code : Coded VectorSet
 vectors_code = set.code coded_ℕ
 
@@ -20,7 +20,7 @@ unfoldable pub highest_below : ℕ → VectorSet → Option ℕ
 highest_below zero numbers = None
 highest_below (suc n) numbers = cond (set.contains numbers n) (Some n) (highest_below n numbers)
 
--- the highest of the vectors
+-- the highest of the vectors, if there is one
 abbrev pub highest : VectorSet → Option ℕ
 highest vectors = highest_below 256 vectors
 
@@ -34,6 +34,6 @@ abbrev pub with_vector : VectorSet → Option ℕ → VectorSet
 with_vector vectors None = vectors
 with_vector vectors (Some value) = cond (bits value 16 1 == 1) vectors (set.insert vectors (bits value 0 8))
 
--- the vectors once a SINT of a processor with these registers raised its own
+-- the vectors after a SINT of a processor with these registers raised its own
 abbrev pub raised : FinMap nat_cmp ℕ → ℕ → VectorSet → VectorSet
 raised registers sint vectors = with_vector vectors (get registers (SINT0 + sint))

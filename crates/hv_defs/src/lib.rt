@@ -1,11 +1,10 @@
-//! The words that several crates of the partition manager name alike: life states, kinds of ports and
-//! where they aim, the sizes and charges of the profile, and the registers of a virtual processor.
+//! The words that several crates of the partition manager share: life states, kinds of ports and their aims,
+//! the sizes and charges of the profile, and the registers of a virtual processor.
 //!
-//! The definitions of `specs/` that more than one crate cites stand here too: a little-endian field of
-//! a block of bytes, bits of a register value, the registers with which a processor starts, and what
-//! they keep of a value that is written; the bytes of a message slot and of a SINT's event flags, when
-//! a processor takes messages and flags, which vector a SINT raises, and the highest of those that are
-//! pending. The crate has no logic.
+//! `specs/` has the definitions that more than one crate cites: a little-endian field of a block of bytes,
+//! bits of a register value, the registers of a new processor, and what a register keeps of a written value;
+//! the bytes of a message slot and of a SINT's event flags, when a processor takes messages and flags, which
+//! vector a SINT raises, and the highest pending vector. The crate has no logic.
 #![tactic(auto)]
 
 mod aim;

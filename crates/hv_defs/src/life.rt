@@ -6,7 +6,7 @@
 /// A partition that isn't `Active` has no children, virtual processors, ports or connections.
 #[derive(Clone, Copy, PartialEq, Eq, Debug)]
 pub enum Life {
-    /// Made, and not yet initialized: its properties may be set.
+    /// Created, and not yet initialized: its properties may be set.
     Created,
     /// Initialized: it may have virtual processors, ports, connections and children.
     Active,

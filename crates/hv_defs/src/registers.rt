@@ -5,16 +5,16 @@
 pub enum Takes {
     /// None: it is read only.
     Nothing,
-    /// Any, and it keeps all 64 bits.
+    /// Any value; the register keeps all 64 bits.
     Any,
-    /// A vector from 16 up in bits 7:0, or any vector where bit 16, the mask bit, is set. It keeps all
-    /// 64 bits.
+    /// A vector of at least 16 in bits 7:0, or any vector if bit 16, the mask bit, is set. The register keeps
+    /// all 64 bits.
     SintValue,
-    /// Any, and it keeps none: it reads as 0.
+    /// Any value; the register keeps no bits, and reads as 0.
     EndOfMessage,
 }
 
-/// Why a register isn't read or written. The faults are looked for in the order of the variants.
+/// Why a register is not read or written. The faults are checked in the order of the variants.
 #[derive(Clone, Copy, PartialEq, Eq, Debug)]
 pub enum RegFault {
     /// No register has the name, or the number as a model-specific register.
@@ -25,8 +25,8 @@ pub enum RegFault {
     Value,
 }
 
-/// A register of a virtual processor: its names, who may access it, what it takes, and the value with
-/// which every processor starts.
+/// A register of a virtual processor: its names, who may access it, what it takes, and its value in every new
+/// processor.
 #[derive(Clone, Copy, PartialEq, Eq, Debug)]
 pub struct RegisterRow {
     /// The register's name in a call, HV_REGISTER_NAME.
@@ -44,13 +44,13 @@ pub struct RegisterRow {
 /// The name of the register that reads as its processor's index, in place of a start value.
 pub const VP_INDEX: u32 = 0x0009_0003;
 
-/// The name of the register that turns a processor's synthetic interrupt controller on, by bit 0.
+/// The name of the register whose bit 0 turns on a processor's synthetic interrupt controller.
 pub const SCONTROL: u32 = 0x000A_0010;
 
-/// The name of the register that turns a processor's event flags on, by bit 0.
+/// The name of the register whose bit 0 turns on a processor's event flags.
 pub const SIEFP: u32 = 0x000A_0012;
 
-/// The name of the register that turns a processor's messages on, by bit 0.
+/// The name of the register whose bit 0 turns on a processor's messages.
 pub const SIMP: u32 = 0x000A_0013;
 
 /// The name of the register whose write ends a message.
@@ -65,8 +65,7 @@ const SYNIC: u64 = 1 << 2;
 // The privilege AccessVpIndex.
 const INDEX: u64 = 1 << 6;
 
-/// The registers by rising name (TLFS 4.0, "Virtual Processor Register Formats"). All others are left
-/// out.
+/// The registers, sorted by name (TLFS 4.0, "Virtual Processor Register Formats"). All others are left out.
 pub const REGISTERS: [RegisterRow; 40] = [
     // RAX
     RegisterRow {

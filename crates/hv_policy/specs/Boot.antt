@@ -1,4 +1,4 @@
--- The state that boot gives.
+-- The state after boot.
 use Rattle.std.specs.Prelude.{ℕ, [], map, nat_lt, None}
 use Rattle.std.specs.List.{range_with_len}
 use Rattle.std.specs.FinMap as map
@@ -22,11 +22,11 @@ root_row mask = record {
   weight = CPU_WEIGHT_START;
 }
 
--- a virtual processor that was just made: start registers, no flags, no pending vectors
+-- a new virtual processor: start registers, no flags, no pending vectors
 abbrev pub start_vp : ℕ → VpRow
 start_vp index = record { registers = start_registers index; flags = set.empty; pending = set.empty }
 
--- the first `pool` pages are pooled at the root, the others are its loose pages
+-- the first `pool` pages are the root's pool; the others are its loose pages
 abbrev pub boot_page : ℕ → ℕ → PageRow
 boot_page pool page = record { owner = ROOT_ID; pooled = nat_lt page pool }
 

@@ -5,7 +5,7 @@ use Rattle.hv_policy.specs.declared.config.BootRefused.{BootRefused}
 use Rattle.hv_policy.specs.declared.config.BootRefused.TheVariants.{Pages, Pool, Vps, Memory}
 use Rattle.hv_policy.specs.declared.config.Config.{Config}
 
--- what is wrong with a configuration first, if anything is
+-- the first fault of a configuration, if it has one
 abbrev pub boot_fault : Config → Option BootRefused
 boot_fault config =
     if (config.pages == 0) || nat_lt MAX_PAGES config.pages then Some Pages
@@ -14,7 +14,7 @@ boot_fault config =
     Some Vps
     else None
 
--- a configuration is refused for its first fault, and one without a fault for lack of memory alone
+-- boot refuses a configuration for its first fault, and one without a fault only for lack of memory
 abbrev pub IsBootRefusal : Config → BootRefused → Type 0
 IsBootRefusal config Pages = boot_fault config ≡ Some Pages
 IsBootRefusal config Pool = boot_fault config ≡ Some Pool

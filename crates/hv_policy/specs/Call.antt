@@ -33,7 +33,7 @@ action_of access.TakeInterrupt = TakeInterrupt
 abbrev pub call_event : {A : Type 0} → Caller → Frame A → Event A
 call_event by frame = record { by = by; what = Hypercall frame }
 
--- the call of a frame with its parameters, if a call has its code
+-- the call of a frame with its parameters, if the profile has a call with its code
 abbrev pub called : {A : Type 0} → Frame A → Option Call
 called frame = option_map (λ kind. parameters kind frame) (call_of frame)
 
@@ -47,7 +47,7 @@ pub record IsCall {A : Type 0} (frame : Frame A) (shape : Shape) (call : Call) :
 abbrev pub is_last : {A : Type 0} → CallKind → Frame A → Bool
 is_last kind frame = not (row_of kind).rep || nat_le (bits frame.rcx 32 12) (bits frame.rcx 48 12 + 1)
 
--- whether serving an event may need memory of the host: some calls alone do
+-- whether serving an event may need memory of the host. Only some calls do
 abbrev pub action_takes_memory : {A : Type 0} → Action A → Bool
 action_takes_memory (Hypercall frame) = option_map_or takes_memory (call_of frame) false
 action_takes_memory what = false

@@ -29,7 +29,7 @@ use Rattle.hv_policy.specs.declared.property.Property.{Property}
 use Rattle.hv_policy.specs.declared.property.Property.TheVariants.{PrivilegeFlags, CpuReserve, CpuCap}
 use Rattle.hv_policy.specs.declared.property.Property.TheVariants.{CpuWeight}
 
--- the mask of a partition's row, and no privilege where there is none
+-- the mask of a partition's row, or no privileges without a row
 abbrev pub mask_of : Option PartRow → Privileges
 mask_of row = option_map_or (λ row. row.mask) row (of 0)
 
@@ -53,11 +53,12 @@ changed_at rows key change (Some row) = insert rows key (change row)
 abbrev pub with_row : FinMap nat_cmp PartRow → ℕ → (PartRow → PartRow) → FinMap nat_cmp PartRow
 with_row part id change = changed_at part id change (get part id)
 
--- the rows by (partition, number) of all other partitions
+-- the rows of all other partitions, by (partition, number)
 abbrev pub rows_but : {X : Type 0} → ℕ → FinMap pair_cmp X → FinMap pair_cmp X
 rows_but id rows = retain_keys rows (λ key. not (key.0 == id))
 
--- a processor's row once a value was written to the register with this name, if it took it
+-- a processor's row after a write to the register with this name, unchanged if the register does not take the
+-- value
 abbrev pub written : ℕ → ℕ → VpRow → VpRow
 written name value row = record row {
   registers = register.after_write row.registers name
@@ -68,41 +69,41 @@ written name value row = record row {
 abbrev pub with_vp : FinMap pair_cmp VpRow → ℕ × ℕ → (VpRow → VpRow) → FinMap pair_cmp VpRow
 with_vp vps key change = changed_at vps key change (get vps key)
 
--- the first flag of a port, or the count of its flags, of which a message port has none
+-- the first flag of a port, or the count of its flags. A message port has no flags
 abbrev pub flags_of : PortKind → ℕ → ℕ
 flags_of port_type.Message number = 0
 flags_of port_type.Event number = number
 
--- when a port was made, and 0 where there is none
+-- the birth of a port, or 0 without a port
 abbrev pub born_of : Option PortRow → ℕ
 born_of row = option_map_or (λ row. row.born) row 0
 
--- a page that is a loose page of `new_owner` if `id` held it, and else as it was
+-- a page after `new_owner` inherits from `id`: a loose page of `new_owner` if `id` owned it, else unchanged
 abbrev pub inherited : ℕ → ℕ → PageRow → PageRow
 inherited id new_owner row = if row.owner == id then record { owner = new_owner; pooled = false } else row
 
--- the pages once one of them is a loose page of `id`
+-- the pages after one of them becomes a loose page of `id`
 abbrev pub withdrawn : ℕ → Option ℕ → FinMap nat_cmp PageRow → FinMap nat_cmp PageRow
 withdrawn id None pages = pages
 withdrawn id (Some page) pages = insert pages page (record { owner = id; pooled = false })
 
--- the row with a property of this code changed
+-- the row with a new value of a property, unchanged for an unknown property
 abbrev pub given : Option Property → ℕ → PartRow → PartRow
 given None value row = row
 given (Some property) value row = with_property property value row
 
--- a processor's row once a SINT raised its vector, where it did
+-- a processor's row after a SINT raised its vector, if it did
 abbrev pub row_raised : Bool → ℕ → VpRow → VpRow
 row_raised did sint row = record row {
   pending = cond did (vectors.raised row.registers sint row.pending)
       row.pending;
 }
 
--- a partition's row with its mask restricted to a value, which gives no bit that it hasn't got
+-- a partition's row with its mask restricted to a value, which adds no bit
 abbrev pub narrowed_row : Privileges → PartRow → PartRow
 narrowed_row value row = record row { mask = restrict row.mask value }
 
--- the partitions with each mask in the subtree of one of them restricted to a value
+-- the partitions with every mask in the subtree of `top` restricted to a value
 abbrev pub narrowed : Flat → ℕ → Privileges → FinMap nat_cmp PartRow
 narrowed f top value =
     from_entries (map (λ e. (e.0, if is_in_subtree f top e.0 then narrowed_row value e.1 else e.1))
@@ -116,51 +117,51 @@ is_mask (Some CpuReserve) = false
 is_mask (Some CpuCap) = false
 is_mask (Some CpuWeight) = false
 
--- whether a new value of a property narrows a subtree: a mask does, that of a partition which is Active
+-- whether a new value of a property narrows a subtree: the property is the mask, and the partition is Active
 abbrev pub narrows : Option Property → Flat → ℕ → Bool
 narrows property f id = is_mask property && is_running f id
 
--- the partitions once a property of one of them was set: its row gets the value, or the value narrows its
+-- the partitions after a property of one of them is set: its row gets the value, or the value narrows its
 -- subtree
 abbrev pub property_set : Flat → ℕ → Option Property → ℕ → FinMap nat_cmp PartRow
 property_set f id property value =
     if narrows property f id then narrowed f id (of value) else with_row f.part id (given property value)
 
--- Show at a place: where none is shown and one waits, the oldest is shown and the SINT raises its vector
+-- Show at a place: if no message is shown and one waits, the oldest is shown and the SINT raises its vector
 abbrev pub show : Place → Flat → Flat
 show place f = record f {
   mail = mail.shown_next place f.mail;
   vp = with_vp f.vp (place.part, place.vp) (row_raised (mail.has_next place f.mail) place.sint);
 }
 
--- Show at each of the first so many SINTs of a processor
+-- Show at each SINT of a processor below a bound
 unfoldable pub show_each : ℕ → ℕ → ℕ → Flat → Flat
 show_each part vp zero f = f
 show_each part vp (suc sint) f = show (record { part = part; vp = vp; sint = sint })
     (show_each part vp sint f)
 
--- a message ends: where the processor takes messages, Show at each of its SINTs
+-- the end of a message: if the processor takes messages, Show at each of its SINTs
 abbrev pub end_message : ℕ → ℕ → Flat → Flat
 end_message part vp f = cond (on_vp f (part, vp) is_ready_for_messages) (show_each part vp SINTS f) f
 
 abbrev pub end_if : Bool → ℕ → ℕ → Flat → Flat
 end_if is part vp f = cond is (end_message part vp f) f
 
--- a value is written to a register of a processor; the write of EOM ends a message
+-- a write to a register of a processor. The write of EOM ends a message
 abbrev pub write_register : ℕ → ℕ → ℕ → ℕ → Flat → Flat
 write_register part vp name value f = end_if (name == EOM) part vp
     (record f { vp = with_vp f.vp (part, vp) (written name value) })
 
--- the same for a model-specific register, by the name that it has
+-- a write to a model-specific register of a processor, by the register's name in a call
 abbrev pub write_msr : ℕ → ℕ → Option ℕ → ℕ → Flat → Flat
 write_msr part vp None value f = f
 write_msr part vp (Some name) value f = write_register part vp name value f
 
--- a message is posted: it goes last, and then Show at its place
+-- the posting of a message: it goes last, and then Show at its place
 abbrev pub post : MailRow → Flat → Flat
 post row f = show (mail.place_of row) (record f { mail = f.mail ++ row ∷ [] })
 
--- through a connection, to the port's SINT of the processor that takes it
+-- the posting of a message through a connection, to the port's SINT of the processor that takes it
 abbrev pub post_at : ResolvedPort → Option ℕ → ℕ → List ℕ → Flat → Flat
 post_at aim None type payload f = f
 post_at aim (Some vp) type payload f =
@@ -179,13 +180,14 @@ abbrev pub post_to : Option ResolvedPort → ℕ → List ℕ → Flat → Flat
 post_to None type payload f = f
 post_to (Some aim) type payload f = post_at aim (message_taker f aim) type payload f
 
--- a processor's row once a flag of a SINT was set, which raises the SINT's vector where it was clear
+-- a processor's row after a flag of a SINT is set. The SINT raises its vector if the flag was clear
 abbrev pub row_signalled : ℕ → ℕ → VpRow → VpRow
 row_signalled sint flag row =
     row_raised (not (set.contains row.flags (sint, flag))) sint
     (record row { flags = set.insert row.flags (sint, flag) })
 
--- a flag is set through a connection, counted from the first of its port, at the processor that takes it
+-- the setting of a flag through a connection, at the processor that takes it. The flag counts from the port's
+-- first flag
 abbrev pub signal_at : ResolvedPort → Option ℕ → ℕ → Flat → Flat
 signal_at aim None flag f = f
 signal_at aim (Some vp) flag f =

@@ -17,14 +17,14 @@ pub use Rattle.hv_policy.specs.Change.{show, signal_at, signal_to, with_row, wit
 pub use Rattle.hv_policy.specs.Change.{write_register, written}
 unfoldable pub use Rattle.hv_policy.specs.Change.{show_each}
 
--- what a call changes, about its target, beside the count of served events
+-- the effect of a call with this caller and target, without the count of served events
 abbrev pub call_effect : Call → Flat → ℕ → ℕ → Flat
 call_effect call = (policy_of call).effect
 
 abbrev pub served_effect : Flat → ℕ → Option Call → Flat
 served_effect f caller call = option_map_or (λ call. call_effect call f caller (target_of call caller)) call f
 
--- what an access changes is at the calling processor
+-- the effect of an action. An access changes only what is at the calling processor
 abbrev pub action_effect : {A : Type 0} → Flat → Caller → Action A → Flat
 action_effect f by (Hypercall frame) = served_effect f by.part (called frame)
 action_effect f by access = (access_policy access).effect f by
@@ -33,6 +33,6 @@ action_effect f by access = (access_policy access).effect f by
 abbrev pub counted : Flat → Flat
 counted f = record f { served = f.served + 1 }
 
--- what a served event leaves: its own changes, and 1 more served event
+-- the state after a served event: its own changes, and 1 more served event
 abbrev pub effect : {A : Type 0} → Flat → Event A → Flat
 effect f event = counted (action_effect f event.by event.what)

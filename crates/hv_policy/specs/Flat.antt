@@ -1,4 +1,4 @@
--- The flat state: finite maps of rows, without trees, queues or sizes kept.
+-- The flat state: finite maps of rows, without trees, queues or stored sizes.
 use Rattle.std.specs.Prelude.{ℕ, Bool, List, Option}
 use Rattle.std.specs.Ordering.{nat_cmp}
 use Rattle.std.specs.FinMap.{FinMap}
@@ -18,20 +18,19 @@ pub record PartRow : Type 0 where
   pub cap : ℕ
   pub weight : ℕ
 
--- a page: the partition that holds it, and whether it is pooled there or loose
+-- a page: the partition that owns it, and whether it is pooled there or loose
 pub record PageRow : Type 0 where
   pub owner : ℕ
   pub pooled : Bool
 
--- a virtual processor: its registers by name, the event flags that are set, as (SINT, flag), and the
--- vectors that are pending
+-- a virtual processor: its registers by name, the set event flags, as (SINT, flag), and the pending vectors
 pub record VpRow : Type 0 where
   pub registers : FinMap nat_cmp ℕ
   pub flags : FlagSet
   pub pending : VectorSet
 
--- a port: what it takes, the partition that may connect, the SINT it aims at and at which processor, the
--- first of its event flags and their count, and the count of served events that its making gave
+-- a port: what it takes, the partition that may connect, its SINT and its aim, the first of its event flags
+-- and their count, and its birth: the count of served events, its creation included
 pub record PortRow : Type 0 where
   pub kind : PortKind
   pub peer : ℕ
@@ -41,16 +40,16 @@ pub record PortRow : Type 0 where
   pub count : ℕ
   pub born : ℕ
 
--- a connection: the partition and id of its port, and the port's birth and kind when it was made. The kind is
--- kept, and no rule reads it
+-- a connection: the partition and id of its port, and the port's birth and kind when the connection was made.
+-- No rule reads the kind
 pub record ConnRow : Type 0 where
   pub part : ℕ
   pub port : ℕ
   pub kind : PortKind
   pub born : ℕ
 
--- a message that stands at a SINT of a processor: the port and birth through which it came, its type and
--- payload, and whether it is shown in the slot or waits
+-- a message at a SINT of a processor: the port and birth through which it came, its type and payload, and
+-- whether it is shown in the slot or waits
 pub record MailRow : Type 0 where
   pub part : ℕ
   pub vp : ℕ
@@ -61,9 +60,8 @@ pub record MailRow : Type 0 where
   pub payload : List ℕ
   pub shown : Bool
 
--- partitions by id, pages by number, processors by (partition, index), ports by (partition, id),
--- connections by (partition, id), messages in order of posting, the id that the next partition gets, and
--- how many events were served
+-- the state: partitions by id, pages by number, processors by (partition, index), ports and connections by
+-- (partition, id), messages in order of posting, the id of the next partition, and the count of served events
 pub record Flat : Type 0 where
   pub part : FinMap nat_cmp PartRow
   pub page : FinMap nat_cmp PageRow

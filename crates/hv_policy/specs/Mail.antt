@@ -1,4 +1,4 @@
--- The messages of the flat state: one list in the order of posting, and what stands at a place.
+-- The messages of the flat state: one list in order of posting, and the messages at each place.
 use Rattle.std.specs.Prelude.{ℕ, ◌==◌, ◌&&◌, not, Bool, true, false, if◌then◌else◌, nat_lt, length, List, []}
 use Rattle.std.specs.Prelude.{◌∷◌, Option, None, Some, count_by, find}
 use Rattle.std.specs.List.{filter, list_any}
@@ -6,7 +6,7 @@ use Rattle.hv_defs.specs.Slot.{zeros, message_bytes}
 use Rattle.hv_policy.specs.declared.event.Caller.{Caller}
 use Rattle.hv_policy.specs.Flat.{MailRow}
 
--- a place where messages stand: a SINT of a processor of a partition
+-- a place of messages: a SINT of a processor of a partition
 pub record Place : Type 0 where
   pub part : ℕ
   pub vp : ℕ
@@ -38,7 +38,7 @@ with_first_shown place [] = []
 with_first_shown place (row ∷ mail) = if stands_at place row then as_shown row ∷ mail else row ∷
     with_first_shown place mail
 
--- where none is shown at a place, the first there is
+-- the messages with the first at a place shown, if none is shown there
 abbrev pub shown_next : Place → List MailRow → List MailRow
 shown_next place mail = if list_any is_shown (mail_at place mail) then mail else with_first_shown place mail
 
@@ -46,11 +46,11 @@ abbrev pub is_some_row : List MailRow → Bool
 is_some_row [] = false
 is_some_row (row ∷ rows) = true
 
--- whether that makes one shown: none is shown there, and one waits
+-- whether `shown_next` shows a message: none is shown at the place, and one waits
 abbrev pub has_next : Place → List MailRow → Bool
 has_next place mail = not (list_any is_shown (mail_at place mail)) && is_some_row (mail_at place mail)
 
--- the messages without the one that is shown at a place
+-- the messages without the one shown at a place
 abbrev pub cleared : Place → List MailRow → List MailRow
 cleared place mail = filter (λ row. not (stands_at place row && row.shown)) mail
 
@@ -62,14 +62,15 @@ mail_but id mail = filter (λ row. not (row.part == id)) mail
 abbrev pub mail_but_at : ℕ → ℕ → List MailRow → List MailRow
 mail_but_at id vp mail = filter (λ row. not (row.part == id && row.vp == vp)) mail
 
--- whether a message came through this port of this birth, and how many did that are kept, shown or waiting
+-- whether a message came through the port with this birth, and the number of kept messages that did, shown or
+-- waiting
 abbrev pub came_through : ℕ → ℕ → ℕ → MailRow → Bool
 came_through part port born row = (row.part == part) && ((row.port == port) && (row.born == born))
 
 abbrev pub kept_of : ℕ → ℕ → ℕ → List MailRow → ℕ
 kept_of part port born mail = count_by (came_through part port born) mail
 
--- the message that a place shows, and whether another stands there
+-- the message that a place shows, and whether another one is there
 abbrev pub shown_at : Place → List MailRow → Option MailRow
 shown_at place mail = find is_shown (mail_at place mail)
 
@@ -80,6 +81,6 @@ abbrev pub row_bytes : Option MailRow → Bool → List ℕ
 row_bytes None pending = zeros 256
 row_bytes (Some row) pending = message_bytes row.type row.port row.payload pending
 
--- what a slot reads as: 256 zeros where nothing is shown
+-- the bytes of a slot: 256 zeros if it shows no message
 abbrev pub slot_at : Place → List MailRow → List ℕ
 slot_at place mail = row_bytes (shown_at place mail) (is_pending_at place mail)

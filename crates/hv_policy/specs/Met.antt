@@ -1,4 +1,4 @@
--- The tests that rules ask. Each fails where what it is about isn't there.
+-- The tests of the rules. Each fails if its object does not exist.
 use Rattle.std.specs.Prelude.{ℕ, ◌+◌, ◌==◌, ◌&&◌, ◌||◌, not, nat_le, nat_lt, Bool, true, false, is_ok}
 use Rattle.std.specs.Prelude.{is_some, Option, None, Some}
 use Rattle.std.specs.FinMap.{get, contains_key}
@@ -62,15 +62,15 @@ is_in f id states = on_part f id (λ row. is_among row.life states)
 abbrev pub is_childless : Flat → ℕ → Bool
 is_childless f id = on_part f id (λ row. child_count f id == 0)
 
--- a child of it is no deeper than partitions may be
+-- a child of it would not be too deep
 abbrev pub is_depth_left : Flat → ℕ → Bool
 is_depth_left f id = on_part f id (λ row. nat_le (depth f id + 1) MAX_DEPTH)
 
--- its pool has so many pages available
+-- its pool has enough available pages for a charge
 abbrev pub has_available : Flat → ℕ → ℕ → Bool
 has_available f id charge = nat_le charge (available f id)
 
--- a new processor may have this index, which is below the most and free
+-- a new processor may have this index: it is below the limit and free
 abbrev pub is_vp_free : Flat → ℕ → ℕ → Bool
 is_vp_free f id vp = nat_lt vp MAX_VPS && not (contains_key f.vp (id, vp))
 
@@ -78,7 +78,7 @@ is_vp_free f id vp = nat_lt vp MAX_VPS && not (contains_key f.vp (id, vp))
 abbrev pub is_loose : ℕ → Option PageRow → Bool
 is_loose id page = option_map_or (λ page. (page.owner == id) && not page.pooled) page false
 
--- a caller may give this value to a property: a mask lies within its own
+-- a caller may give this value to a property. A mask must lie within the caller's own
 abbrev pub may_give : Option Property → ℕ → Flat → ℕ → Bool
 may_give None value f caller = false
 may_give (Some PrivilegeFlags) value f caller = has_privilege f caller (of value)
@@ -86,25 +86,25 @@ may_give (Some CpuReserve) value f caller = true
 may_give (Some CpuCap) value f caller = true
 may_give (Some CpuWeight) value f caller = true
 
--- and the value is in the property's range
+-- a value is in the property's range
 abbrev pub is_in_range : Option Property → ℕ → Bool
 is_in_range property value = option_map_or (λ property. takes_value property value) property false
 
--- a partition may access the register with this row: its mask has the register's privilege. One that there
--- isn't needs none
+-- a partition may access the register with this row: its mask has the register's privilege. An unknown
+-- register needs none
 abbrev pub may_access : Flat → ℕ → Option RegisterRow → Bool
 may_access f id None = true
 may_access f id (Some row) = has_privilege f id (of row.privilege)
 
--- the model-specific register that has this name in a call, if it is one
+-- a partition may access the model-specific register with this name in a call, if there is one
 abbrev pub may_access_msr : Flat → ℕ → Option ℕ → Bool
 may_access_msr f id name = option_map_or (λ name. may_access f id (register.row_of name)) name false
 
--- and that register takes a value
+-- that register takes a value
 abbrev pub takes_msr : Option ℕ → ℕ → Bool
 takes_msr name value = option_map_or (λ name. is_ok (register.kept (register.row_of name) value)) name false
 
--- a test of the port with this key
+-- the port with this key exists and passes a test
 abbrev pub on_port : Flat → ℕ × ℕ → (PortRow → Bool) → Bool
 on_port f key test = option_map_or test (get f.port key) false
 
@@ -114,26 +114,25 @@ is_kind Message Message = true
 is_kind Event Event = true
 is_kind kind other = false
 
--- where a connection leads: the port takes messages, or it has an event flag of this number
+-- the port of a resolved connection takes messages, or has an event flag with this number
 abbrev pub is_for_messages : ResolvedPort → Bool
 is_for_messages aim = is_kind aim.port.kind Message
 
 abbrev pub has_flag : ℕ → ResolvedPort → Bool
 has_flag flag aim = is_kind aim.port.kind Event && nat_lt flag aim.port.count
 
--- the processor at which the port aims is there, if it aims at one
+-- the processor that the port aims at exists, if it aims at one
 abbrev pub is_aimed_at_vp : Flat → ResolvedPort → Bool
 is_aimed_at_vp f aim = has_target f aim.conn.part aim.port.vp
 
--- a processor takes a message, or an event flag, that comes that way: the one at which the port aims is
--- ready, and for any some processor of its partition
+-- a processor takes a message, or an event flag, from a resolved connection: the one that the port aims at is
+-- ready, or for `Any` some processor of its partition
 abbrev pub has_message_taker : Flat → ResolvedPort → Bool
 has_message_taker f aim = is_some (message_taker f aim)
 
 abbrev pub has_flag_taker : Flat → ResolvedPort → Bool
 has_flag_taker f aim = is_some (flag_taker f aim)
 
--- fewer than the most messages of the port and its birth are kept, of all that are, at whichever processor
--- they stand
+-- the kept messages of the port and its birth, at all processors together, are fewer than the limit
 abbrev pub has_message_room : Flat → ResolvedPort → Bool
 has_message_room f aim = nat_lt (kept_of aim.conn.part aim.conn.port aim.conn.born f.mail) MAX_MESSAGES

@@ -17,6 +17,7 @@ charge_of call = (needs_of call).charge
 abbrev pub target_of : Call → ℕ → ℕ
 target_of call caller = target_at (needs_of call).named caller
 
--- whether serving a call may need memory of the host, of which the call in an empty block tells
+-- whether serving a call may need memory of the host. No parameter matters, so the call in an empty block
+-- decides
 abbrev pub takes_memory : CallKind → Bool
 takes_memory kind = (policy_of (call_in kind [] 0)).memory

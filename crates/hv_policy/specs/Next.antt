@@ -1,4 +1,4 @@
--- How a rep call goes on.
+-- How a rep call continues.
 use Rattle.std.specs.Prelude.{ℕ, ◌≡◌, ◌+◌, ◌<◌}
 use Rattle.hv_defs.specs.Bits.{bits}
 use Rattle.hv_defs.specs.declared.sizes.TheConstants.{REPS_END}
@@ -7,12 +7,12 @@ use Rattle.hv_policy.specs.declared.event.Action.TheVariants.{Hypercall}
 use Rattle.hv_policy.specs.declared.reply.Reply.{Reply}
 use Rattle.hv_policy.specs.declared.reply.Reply.TheVariants.{More}
 
--- only a call goes on, and then with the element after its start index
+-- the next element of an action: only a call has one, the element after its start index
 abbrev pub IsNextOf : {A : Type 0} → Action A → ℕ → Type 0
 IsNextOf (Hypercall frame) next = (next ≡ bits frame.rcx 48 12 + 1) × (next < REPS_END)
 IsNextOf access next = ⊥
 
--- where a reply says that the call goes on, it says with which element
+-- a reply that says that its call continues names the next element
 abbrev pub GoesOn : {A : Type 0} → Action A → Reply → Type 0
 GoesOn what (More next output) = IsNextOf what next
 GoesOn what reply = Unit {0}

@@ -1,4 +1,4 @@
--- The properties of a partition: their codes and ranges, and where they stand in a partition's row.
+-- The properties of a partition: their codes and ranges, and where they are in a partition's row.
 use Rattle.std.specs.Prelude.{ℕ, ◌==◌, ◌&&◌, nat_le, Bool, true, [], ◌∷◌, Option, find}
 use Rattle.hv_defs.specs.declared.sizes.TheConstants.{MAX_CPU_CAP, MAX_CPU_RESERVE, MAX_CPU_WEIGHT}
 use Rattle.hv_defs.specs.declared.sizes.TheConstants.{MIN_CPU_WEIGHT}
@@ -20,7 +20,7 @@ abbrev pub property_of : ℕ → Option Property
 property_of code = find (λ property. property_code property == code)
     (PrivilegeFlags ∷ CpuReserve ∷ CpuCap ∷ CpuWeight ∷ [])
 
--- whether a value is in a property's range. What a mask may be is rule P18's
+-- whether a value is in a property's range. Rule P18 says what a mask may be
 abbrev pub takes_value : Property → ℕ → Bool
 takes_value PrivilegeFlags value = true
 takes_value CpuReserve value = nat_le value MAX_CPU_RESERVE
@@ -34,7 +34,7 @@ property_value CpuReserve row = row.reserve
 property_value CpuCap row = row.cap
 property_value CpuWeight row = row.weight
 
--- the row with another value of it
+-- the row with another value of the property
 abbrev pub with_property : Property → ℕ → PartRow → PartRow
 with_property PrivilegeFlags value row = record row { mask = of value }
 with_property CpuReserve value row = record row { reserve = value }

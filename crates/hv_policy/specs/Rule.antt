@@ -20,7 +20,7 @@ use Rattle.hv_policy.specs.declared.rule.Rule.TheVariants.{PeerExists, Connectio
 use Rattle.hv_policy.specs.declared.rule.Rule.TheVariants.{VpExists, PropertyRange, Operand, VpReady}
 use Rattle.hv_policy.specs.declared.rule.Rule.TheVariants.{PortRoom, Pages, MsrKnown, MsrPrivilege, MsrWrite}
 
--- a rule's number and name, and the status with which a call is refused by it, if calls are asked it
+-- a rule's number and name, and the status of a call that it refuses, if it applies to calls
 pub record RuleRow : Type 0 where
   pub number : ℕ
   pub name : List ℕ
@@ -65,7 +65,7 @@ rule_number rule = (rule_row rule).number
 abbrev pub rule_name : Rule → List ℕ
 rule_name rule = (rule_row rule).name
 
--- the status with which this call is refused by it: the table's, but for a withdrawal that lacks pages
+-- the status of this call if the rule refuses it: the table's, except for a withdrawal that lacks pages
 abbrev pub pages_status : Option CallKind → Status
 pages_status (Some WithdrawMemory) = NoResources
 pages_status call = InsufficientMemory

@@ -1,5 +1,4 @@
--- The rules that are asked of an event, in order, each beside what it asks. The tests that have names stand
--- in `Met`.
+-- The rules that apply to an event, in order, each with its test. The tests that have names are in `Met`.
 use Rattle.std.specs.Prelude.{ℕ, ◌≡◌, true, false, List, [], ◌∷◌, ◌++◌, Option, None, Some}
 use Rattle.std.specs.FinMap.{contains_key}
 use Rattle.hv_abi.specs.CallRow.{row_of}
@@ -23,14 +22,14 @@ use Rattle.hv_policy.specs.declared.rule.Rule.TheVariants.{Privilege, TargetExis
 use Rattle.hv_policy.specs.calls.{access_policy, policy_of}
 pub use Rattle.hv_policy.specs.Ask.{AreMet, Ask, first_unmet, rules_of}
 
--- P1 to P3, which every event is asked
+-- P1 to P3, which apply to every event
 abbrev pub caller_asks : Flat → Caller → List Ask
 caller_asks f by =
     (CallerExists, contains_key f.part by.part)
     ∷ (CallerActive, is_running f by.part)
     ∷ (CallerVpExists, contains_key f.vp (by.part, by.vp)) ∷ []
 
--- P4 to P7, which a call is asked of its frame alone. P4 is met where a call has the code
+-- P4 to P7, which look at a call's frame alone. P4 holds, because a call has the code
 abbrev pub frame_asks : {A : Type 0} → CallKind → Frame A → List Ask
 frame_asks kind frame =
     (CallCode, true)
@@ -38,48 +37,48 @@ frame_asks kind frame =
     ∷ (Alignment, are_lists_placed (row_of kind) frame)
     ∷ (Parameters, are_parameters_valid kind frame) ∷ []
 
--- P8 to P10: whether the caller may make the call, and about its target
+-- P8 to P10, which look at the caller's privilege and at the target
 abbrev pub target_asks : Flat → ℕ → Call → List Ask
 target_asks f caller call =
     (Privilege, has_privilege f caller (needs_of call).privilege)
     ∷ (TargetExists, contains_key f.part (target_of call caller))
     ∷ (TargetScope, is_kin (needs_of call).kin f caller (target_of call caller)) ∷ []
 
--- P11 to P24 of a call. The table of calls has the states that the target may be in, and the pages that
+-- P11 to P24 for a call. The table of calls has the states that its target may be in, and the pages that
 -- serving it uses
 abbrev pub call_asks : Flat → ℕ → ℕ → States → ℕ → Call → List Ask
 call_asks f caller target states charge call = (policy_of call).asks f caller target states charge
 
--- the same of a call, by its row of the table of calls
+-- P11 to P24 for a call, with the target, states and charge of its row in the table of calls
 abbrev pub further_asks : Flat → ℕ → Call → List Ask
 further_asks f caller call = call_asks f caller (target_of call caller) (needs_of call).states
     (charge_of call) call
 
--- a hypercall: where no call has the code P4 alone, which isn't met
+-- the rules that apply to a hypercall. If no call has the code, P4 alone applies, and fails
 abbrev pub hypercall_asks : {A : Type 0} → Flat → ℕ → Frame A → Option CallKind → List Ask
 hypercall_asks f caller frame None = (CallCode, false) ∷ []
 hypercall_asks f caller frame (Some kind) =
     frame_asks kind frame ++ (target_asks f caller (parameters kind frame) ++ further_asks f caller
     (parameters kind frame))
 
--- what an event is asked beyond P3
+-- the rules that apply to an event beyond P3
 abbrev pub action_asks : {A : Type 0} → Flat → ℕ → Action A → List Ask
 action_asks f caller (Hypercall frame) = hypercall_asks f caller frame (call_of frame)
 action_asks f caller access = (access_policy access).asks f caller
 
--- all that an event is asked
+-- all rules that apply to an event
 abbrev pub asks : {A : Type 0} → Flat → Event A → List Ask
 asks f event = caller_asks f event.by ++ action_asks f event.by.part event.what
 
--- the rules that it is asked; no more than the event decides which
+-- these rules without their tests. The event alone decides which rules apply
 abbrev pub asked : {A : Type 0} → Flat → Event A → List Rule
 asked f event = rules_of (asks f event)
 
--- the first of them that isn't met, if there is one
+-- the first of them that fails, if there is one
 abbrev pub unmet : {A : Type 0} → Flat → Event A → Option Rule
 unmet f event = first_unmet (asks f event)
 
--- the caller of a call is Active, and each rule from P8 on is met for it
+-- the precondition of serving a call: its caller is Active, and every rule from P8 on holds
 pub record IsAllowed (f : Flat) (caller : ℕ) (call : Call) : Type 0 where
   pub active : is_running f caller ≡ true
   pub target : AreMet (target_asks f caller call)

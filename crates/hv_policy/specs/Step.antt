@@ -23,7 +23,7 @@ abbrev pub denied_with : {A : Type 0} → Frame A → Rule → Option Status →
 denied_with frame rule None = Fault rule
 denied_with frame rule (Some status) = Denied rule status (refused_reps frame.rcx)
 
--- the reply to an event that a rule refuses: a call is denied with the rule's status, an access has a fault
+-- the reply to an event that a rule refuses: a call is denied with the rule's status, an access faults
 abbrev pub refusal : {A : Type 0} → Action A → Rule → Reply
 refusal (Hypercall frame) rule = denied_with frame rule (rule_status rule (call_of frame))
 refusal access rule = Fault rule
@@ -32,11 +32,11 @@ abbrev pub step_by : {A : Type 0} → Flat → Event A → Option Rule → Flat 
 step_by f event None = (effect f event, answer f event)
 step_by f event (Some rule) = (f, refusal event.what rule)
 
--- one event: served where all its rules are met, else refused by the first unmet one, with nothing changed
+-- one event: it is served if all its rules hold, else the first that fails refuses it, and nothing changes
 abbrev pub step : {A : Type 0} → Flat → Event A → Flat × Reply
 step f event = step_by f event (unmet f event)
 
--- the rule of a refusal is one that is asked, whatever the state
+-- a rule applies to an event in every state, as the rule of a refusal does
 abbrev pub IsAsked : {A : Type 0} → Event A → Rule → Type 0
 IsAsked event rule = (f : Flat) → Contains (asked f event) rule
 
@@ -51,6 +51,6 @@ run_from f [] = (f, [])
 run_from f (event ∷ events) =
     ((run_from (step f event).0 events).0, (step f event).1 ∷ (run_from (step f event).0 events).1)
 
--- the events one after another from boot, with the list of replies
+-- the state after a list of events from boot, and the list of their replies
 abbrev pub run : {A : Type 0} → Config → List (Event A) → Flat × List Reply
 run config events = run_from (boot config) events

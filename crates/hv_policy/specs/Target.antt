@@ -1,4 +1,4 @@
--- The target of a call: which partition an id means, and in which life states it may be.
+-- The target of a call: the partition that an id means, and the life states that it may be in.
 use Rattle.std.specs.Prelude.{ℕ, ◌==◌, Bool, true, false, if◌then◌else◌, Option, None, Some}
 use Rattle.hv_defs.specs.declared.life.Life.{Life}
 use Rattle.hv_defs.specs.declared.life.Life.TheVariants as life
@@ -20,7 +20,7 @@ is_among life.Created states.CreatedOrFinalized = true
 is_among life.Finalized states.CreatedOrFinalized = true
 is_among life states = false
 
--- the life states in which a property may be set: before the partition runs, and while it does
+-- the life states in which a property may be set: before the partition runs, and while it runs
 abbrev pub states_to_set : Option Property → States
 states_to_set None = states.Created
 states_to_set (Some PrivilegeFlags) = states.CreatedOrActive

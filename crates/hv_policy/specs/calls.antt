@@ -1,4 +1,4 @@
--- The policy of each call and of each access: a file for a group, a record for each.
+-- The policy of each call and of each access: a file per group, with a record per call or access.
 use Rattle.hv_calls.specs.declared.call.Call.{Call}
 use Rattle.hv_calls.specs.declared.call.Call.TheVariants.{CreatePartition, InitializePartition}
 use Rattle.hv_calls.specs.declared.call.Call.TheVariants.{FinalizePartition, DeletePartition}

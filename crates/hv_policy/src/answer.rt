@@ -1,4 +1,4 @@
-// What a hypercall is answered, in the room that it needs.
+// The reply to a hypercall, in the space that it needs.
 ghost use Rattle.std.specs.Prelude.{◌≡◌, ◌+◌, ◌≤◌, ◌++◌, [], length, take};
 ghost use Rattle.std.specs.Int.{w64, to_le_bytes};
 ghost use Rattle.hv_policy.specs.Parts.{reply_of};
@@ -8,23 +8,23 @@ use crate::rule::Rule;
 use hv_abi::Status;
 use std::marker::Model;
 
-/// What an event is answered, but for its output.
+/// The reply to an event, without its output.
 #[derive(Clone, Copy, PartialEq, Eq, Debug)]
 pub enum Answer {
     /// The event is done.
     Served,
-    /// The element is done, and the call goes on with the element `next`.
+    /// The element is done, and the call continues with the element `next`.
     More {
         next: u16,
     },
-    /// A hypercall that this rule, the first unmet one, refuses.
+    /// The hypercall is refused: `rule` is the first rule that it breaks.
     Denied {
         rule: Rule,
         status: Status,
-        /// How many elements of a rep call were done before, as its result value counts them.
+        /// The number of elements of a rep call that were done before, as its result value counts them.
         reps: u16,
     },
-    /// An access that this rule, the first unmet one, refuses.
+    /// The access is refused: `rule` is the first rule that it breaks.
     Fault {
         rule: Rule,
     },
@@ -34,10 +34,10 @@ pub enum Answer {
 /// bytes.
 #[derive(Debug, Drop)]
 pub struct CallOutput {
-    // The two numbers don't stand side by side: a copy would read them at once where each was written by
-    // itself, for which a processor waits.
+    // The two numbers are not adjacent. A copy would read both at once after two separate writes, and the
+    // processor would stall.
     first: u64,
-    // How many bytes there are.
+    // The number of bytes.
     len: usize,
     second: u64,
 }
@@ -54,7 +54,7 @@ impl Model for CallOutput {
 }
 
 impl CallOutput {
-    /// No bytes.
+    /// Returns an output of no bytes.
     pub fn new() -> CallOutput
         ensures { result ≡ [] }
     {
@@ -65,7 +65,7 @@ impl CallOutput {
         }
     }
 
-    /// Adds a number as 8 bytes, the lowest first.
+    /// Appends a number as 8 bytes, the lowest first.
     pub fn push_number(&mut self, number: u64)
         requires { length self.old + 8 ≤ 16 }
         ensures { self.new ≡ self.old ++ to_le_bytes w64 number }
@@ -79,7 +79,7 @@ impl CallOutput {
         }
     }
 
-    /// The bytes with what stands after them, and how many they are.
+    /// Returns a buffer that begins with the bytes, and the number of them.
     pub fn to_bytes(&self) -> ([u8; 16], usize)
         ensures bytes { take result.1 result.0 ≡ self.now }
         ensures most { result.1 ≤ 16 }
@@ -91,7 +91,7 @@ impl CallOutput {
     }
 }
 
-/// What a hypercall is answered. It is a [`Reply`] without the room for the output of an access.
+/// The reply to a hypercall: a [`Reply`] without the space for the output of an access.
 #[derive(Debug, Drop)]
 pub struct CallReply {
     pub(crate) answer: Answer,
@@ -108,8 +108,7 @@ impl Model for CallReply {
 }
 
 impl CallReply {
-    /// The reply in two parts: the answer, and the output's bytes with what stands after them, and how
-    /// many they are.
+    /// Returns the answer, a buffer that begins with the output's bytes, and the number of these bytes.
     pub fn parts(&self) -> (Answer, [u8; 16], usize)
         ensures reply { reply_of result.0 (take result.2 result.1) ≡ self.now }
         ensures most { result.2 ≤ 16 }
@@ -118,7 +117,7 @@ impl CallReply {
         (self.answer, bytes, len)
     }
 
-    /// The same reply.
+    /// Converts to a [`Reply`].
     pub fn to_reply(&self) -> Reply
         ensures { result ≡ self.now }
     {

@@ -10,8 +10,10 @@ use hv_abi::{AbiFault, CallKind, Frame, Shape};
 use hv_calls::{Call, Malformed, decode};
 use std::alloc::Allocator;
 
-/// P4 to P7: the call that a frame holds, and what its input value says; else the first of them that
-/// isn't met. The call that the frame names, if it names one, is known.
+/// Checks P4 to P7, and returns what the frame's input value says and the call that the frame holds.
+///
+/// The error is the first of these rules that fails. `named` is the call that the frame names, if it names
+/// one.
 // Inlined: calls for the own id in bench/embed.sh.
 #[inline(always)]
 pub fn ask_frame<A: Allocator>(

@@ -1,21 +1,21 @@
-// What boot is given, and why it refuses that.
+// The configuration of a boot, and why boot refuses one.
 
 use hv_privs::Privileges;
 
-/// What the root partition is given at boot.
+/// The configuration of the root partition at boot.
 #[derive(Clone, Copy, PartialEq, Eq, Debug)]
 pub struct Config {
-    /// How many pages there are, 1 to 65,536. Their numbers count from 0.
+    /// The number of pages, 1 to 65,536. Pages are numbered from 0.
     pub pages: u32,
-    /// How many of them, from page 0 on, are the root's pool. The others are its loose pages.
+    /// The number of pages in the root's pool, from page 0 on. The others are its loose pages.
     pub pool: u32,
-    /// How many virtual processors the root has, 1 to 64. Their indexes count from 0.
+    /// The number of the root's virtual processors, 1 to 64. Their indexes start at 0.
     pub vps: u32,
     /// The root's privilege mask.
     pub mask: Privileges,
 }
 
-/// Why a configuration was refused, in the order in which the causes are looked for.
+/// Why boot refuses a configuration. The causes are checked in the order of the variants.
 #[derive(Clone, Copy, PartialEq, Eq, Debug)]
 pub enum BootRefused {
     /// No pages, or more than 65,536.
@@ -24,6 +24,6 @@ pub enum BootRefused {
     Pool,
     /// No virtual processors, more than 64, or more than the pool pays for at 4 pages each.
     Vps,
-    /// The host has no memory.
+    /// The host is out of memory.
     Memory,
 }

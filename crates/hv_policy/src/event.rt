@@ -1,4 +1,4 @@
-// What happens, one at a time.
+// Events: who acts, and what it asks for.
 ghost use Rattle.std.specs.Prelude.{◌≡◌, IfErr, IfOk};
 ghost use Rattle.hv_policy.specs.Call.{action_of};
 ghost use Rattle.hv_policy.specs.declared.event.Action.TheVariants.{Hypercall};
@@ -6,8 +6,9 @@ ghost use Rattle.hv_policy.specs.declared.event.Action.TheVariants.{Hypercall};
 use hv_abi::Frame;
 use std::alloc::{AllocError, Allocator};
 
-/// The virtual processor that asks: its partition's id, and its index there. Where one is named, it is
-/// `by`; `caller` is the id of its partition alone.
+/// The virtual processor that issues an event: its partition's id, and its index there.
+///
+/// A variable of this type is named `by`; one named `caller` is the id of the partition alone.
 #[derive(Clone, Copy, PartialEq, Eq, Debug)]
 pub struct Caller {
     pub part: u64,
@@ -31,11 +32,11 @@ pub enum Action<A: Allocator> {
     ReadFlags(u8),
     /// Clears an event flag of a SINT of its own: the SINT, then the flag's number.
     ClearFlag(u8, u16),
-    /// Takes the highest of the interrupt vectors that are pending.
+    /// Takes the highest pending interrupt vector.
     TakeInterrupt,
 }
 
-/// What a virtual processor does by itself, without a hypercall: an [`Action`] but for the first of them.
+/// What a virtual processor does without a hypercall: any [`Action`] but the first.
 #[derive(Clone, Copy, PartialEq, Eq, Debug)]
 pub enum Access {
     ReadMsr(u32),
@@ -55,7 +56,7 @@ pub struct Event<A: Allocator> {
 }
 
 impl<A: Allocator> Action<A> {
-    /// The access that it is, or else the frame of the hypercall.
+    /// Returns the access, or the frame of the hypercall as the error.
     pub fn as_access(&self) -> Result<Access, &Frame<A>>
         ensures access { IfOk result (λ access. action_of access ≡ self.now) }
         ensures call { IfErr result (λ frame. Hypercall frame.now ≡ self.now) }
@@ -74,7 +75,7 @@ impl<A: Allocator> Action<A> {
 }
 
 impl<A: Allocator + Clone> Action<A> {
-    /// A second action that is equal, on the same allocator.
+    /// Copies the action, on the same allocator.
     pub fn copy(&self) -> Result<Action<A>, AllocError>
         ensures { IfOk result (λ a. a ≡ self.now) }
     {
@@ -92,7 +93,7 @@ impl<A: Allocator + Clone> Action<A> {
 }
 
 impl<A: Allocator + Clone> Event<A> {
-    /// A second event that is equal, on the same allocator.
+    /// Copies the event, on the same allocator.
     pub fn copy(&self) -> Result<Event<A>, AllocError>
         ensures { IfOk result (λ e. e ≡ self.now) }
     {

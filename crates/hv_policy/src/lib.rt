@@ -1,16 +1,17 @@
 //! The flat policy: what an event is, the rules P1 to P27, and the model of the whole partition manager.
 //!
-//! The model stands in `specs/`. It sees the state as flat maps of rows, without trees, queues or sizes
-//! kept, and `Flat` is that state. `specs/calls` has the policy of each call and of each access, one
-//! record with what it needs, the rules that it is asked, its output and what it changes. `asks` lists
-//! all rules that an event is asked, each beside whether it is met, `unmet` is the first that isn't,
-//! `effect` and `answer` say what a served event changes and answers, and `step` puts them together.
-//! Call groups of the TLFS 4.0: "Partition Management", "Virtual Processor Management", "Inter-Partition
+//! The model is in `specs/`. It sees the state, `Flat`, as flat maps of rows, without trees, queues or stored
+//! sizes. `specs/calls` has one record per call and per access: what it needs, the rules that apply to it,
+//! its output and what it changes. `asks` lists all rules that apply to an event, each with whether it holds.
+//! `unmet` is the first rule that fails. `effect` and `answer` define what a served event changes and
+//! replies, and `step` combines them.
+//!
+//! Chapters of the TLFS 4.0: "Partition Management", "Virtual Processor Management", "Inter-Partition
 //! Communication". The order of the rules, the privilege that each call needs and the charges are this
 //! project's own.
 //!
-//! The code of this crate is the vocabulary that the model speaks of, the tables' look-ups, the rules
-//! that look at a frame alone, and the replies and result values.
+//! The code of this crate is the vocabulary of the model, the tables' look-ups, the rules that look at a
+//! frame alone, and the replies and result values.
 #![tactic(auto)]
 
 mod answer;

@@ -22,10 +22,10 @@ pub enum Kin {
     Child,
 }
 
-/// In which life states the target of a call may be.
+/// The life states that the target of a call may be in.
 #[derive(Clone, Copy, PartialEq, Eq, Debug)]
 pub enum States {
-    /// In each: P12 isn't asked.
+    /// Any state: P12 does not apply.
     Any,
     Created,
     Active,
@@ -34,7 +34,7 @@ pub enum States {
 }
 
 impl States {
-    /// Whether a target in this life state is allowed.
+    /// Returns whether a target in this life state is allowed.
     pub fn allow(self, life: Life) -> bool
         ensures { result ≡ is_among life self }
     {
@@ -51,21 +51,22 @@ impl States {
 /// What a call needs of its caller and its target, and what it costs. This is this project's own.
 #[derive(Clone, Copy, PartialEq, Eq, Debug)]
 pub struct Need {
-    /// The privilege that the caller's mask needs.
+    /// The privilege that the caller's mask must have.
     pub privilege: Privileges,
     /// Which partitions may be the target.
     pub kin: Kin,
-    /// The id that the call's input names first, or `None` where the target is the caller. `SELF_ID` means
-    /// the caller.
+    /// The id that the call's input names first, or `None` if the target is the caller. `SELF_ID` means the
+    /// caller.
     pub named: Option<u64>,
-    /// The life states in which the target may be.
+    /// The life states that the target may be in.
     pub states: States,
-    /// The pages of the target's pool that serving the call uses.
+    /// The number of pages of the target's pool that serving the call uses.
     pub charge: u64,
 }
 
-/// The row of a call in the table of needs. One cell looks at the call's parameters: the life states in
-/// which a property may be set.
+/// Returns the row of a call in the table of needs.
+///
+/// One cell depends on the call's parameters: the life states in which a property may be set.
 // Inlined: calls for the own id in bench/embed.sh.
 #[inline(always)]
 pub fn needs(call: &Call) -> Need
@@ -125,8 +126,8 @@ pub fn needs(call: &Call) -> Need
     }
 }
 
-// The life states in which a property may be set: before the partition runs, and while it does. A code
-// that no property has is refused by P11 before they matter.
+// Returns the life states in which a property may be set: before the partition runs, and while it runs. P11
+// refuses a code that no property has before the states matter.
 fn states_to_set(property: Option<Property>) -> States
     ensures { result ≡ states_to_set_of property }
 {
@@ -139,7 +140,7 @@ fn states_to_set(property: Option<Property>) -> States
     }
 }
 
-// A call about its caller, in whatever life state.
+// Returns the need of a call about its caller, in any life state.
 fn of_caller(privilege: Privileges, charge: u64) -> Need
     ensures { result ≡ needs_with privilege kin.Caller None states.Any charge }
 {
@@ -152,7 +153,8 @@ fn of_caller(privilege: Privileges, charge: u64) -> Need
     }
 }
 
-// A call about a child of its caller. Each of them needs CREATE_PARTITIONS, and none uses pages.
+// Returns the need of a call about a child of its caller. Every such call needs CREATE_PARTITIONS, and none
+// uses pages.
 fn of_child(partition: u64, states: States) -> Need
     ensures { result ≡ needs_with privilege.CREATE_PARTITIONS kin.Child (Some partition) states 0 }
 {
@@ -165,7 +167,7 @@ fn of_child(partition: u64, states: States) -> Need
     }
 }
 
-// A call about its caller or a child of it.
+// Returns the need of a call about its caller or a child of its caller.
 fn of_either(partition: u64, privilege: Privileges, states: States, charge: u64) -> Need
     ensures { result ≡ needs_with privilege kin.CallerOrChild (Some partition) states charge }
 {
@@ -178,7 +180,7 @@ fn of_either(partition: u64, privilege: Privileges, states: States, charge: u64)
     }
 }
 
-// One about the pool of pages of such a target.
+// Returns the need of a call about the pool of its caller or of a child of its caller.
 fn of_pool(partition: u64, states: States, charge: u64) -> Need
     ensures { result ≡ needs_with privilege.ACCESS_MEMORY_POOL kin.CallerOrChild (Some partition) states
         charge }
@@ -186,7 +188,7 @@ fn of_pool(partition: u64, states: States, charge: u64) -> Need
     of_either(partition, Privileges::ACCESS_MEMORY_POOL, states, charge)
 }
 
-// One about such a target that is Active.
+// Returns the need of a call about its caller or a child of its caller, where the target must be Active.
 fn of_running(partition: u64, privilege: Privileges, charge: u64) -> Need
     ensures { result ≡ needs_with privilege kin.CallerOrChild (Some partition) states.Active charge }
 {

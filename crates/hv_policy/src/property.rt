@@ -19,7 +19,7 @@ pub enum Property {
 }
 
 impl Property {
-    /// The property with this code, or `None` where the profile has none.
+    /// Returns the property with this code, or `None` if the profile has none.
     pub fn of(code: u32) -> Option<Property>
         ensures { result ≡ property_of code }
     {
@@ -36,14 +36,14 @@ impl Property {
         }
     }
 
-    /// The property code.
+    /// Returns the property code.
     pub fn code(self) -> u32
         ensures { result ≡ property_code self }
     {
         self as u32
     }
 
-    /// Whether a value is in the property's range.
+    /// Returns whether a value is in the property's range.
     pub fn takes(self, value: u64) -> bool
         ensures { result ≡ takes_value self value }
     {

@@ -1,4 +1,4 @@
-// What an event is answered.
+// The reply to an event.
 ghost use Rattle.std.specs.Prelude.{◌≡◌, ◌+◌, ◌≤◌, ◌++◌, [], length};
 ghost use Rattle.hv_policy.specs.Parts.{reply_of};
 
@@ -23,7 +23,7 @@ impl Model for Output {
 }
 
 impl Output {
-    /// No bytes.
+    /// Returns an output of no bytes.
     pub fn new() -> Output
         ensures { result ≡ [] }
     {
@@ -32,7 +32,7 @@ impl Output {
         }
     }
 
-    /// Adds bytes behind those that are there. All of them together are at most 256.
+    /// Appends bytes. An output has at most 256 bytes in all.
     pub fn extend_from_slice(&mut self, bytes: &[u8])
         requires { length self.old + length bytes.now ≤ 256 }
         ensures { self.new ≡ self.old ++ bytes.now }
@@ -49,7 +49,7 @@ impl Output {
         self.bytes.clear();
     }
 
-    /// The bytes.
+    /// Returns the bytes.
     pub fn as_slice(&self) -> &[u8]
         ensures bytes { result.now ≡ self.now }
         ensures most { length self.now ≤ 256 }
@@ -58,31 +58,32 @@ impl Output {
     }
 }
 
-/// What an event is answered.
+/// The reply to an event.
 #[derive(Debug, Drop)]
 pub enum Reply {
-    /// The event is done; of a rep call, with its last element. The bytes are those of its own element.
+    /// The event is done. For a rep call, its last element is done, and the output is that of this element
+    /// alone.
     Served(Output),
-    /// The element is done, and the call goes on with the element `next`.
+    /// The element is done, and the call continues with the element `next`.
     More {
         next: u16,
         output: Output,
     },
-    /// A hypercall that this rule, the first unmet one, refuses; nothing changed.
+    /// The hypercall is refused, and nothing changed: `rule` is the first rule that it breaks.
     Denied {
         rule: Rule,
         status: Status,
-        /// How many elements of a rep call were done before, as its result value counts them.
+        /// The number of elements of a rep call that were done before, as its result value counts them.
         reps: u16,
     },
-    /// An access that this rule, the first unmet one, refuses; nothing changed.
+    /// The access is refused, and nothing changed: `rule` is the first rule that it breaks.
     Fault {
         rule: Rule,
     },
 }
 
 impl Reply {
-    /// The reply of these parts. Only what is served puts something out.
+    /// Joins an answer and an output into a reply. Only a served event has output.
     pub fn of(answer: Answer, output: &[u8]) -> Reply
         requires { length output.now ≤ 256 }
         ensures { result ≡ reply_of answer output.now }
@@ -97,7 +98,7 @@ impl Reply {
         }
     }
 
-    /// The reply in two parts.
+    /// Splits the reply into its answer and its output.
     pub fn parts(&self) -> (Answer, &[u8])
         ensures reply { reply_of result.0 result.1.now ≡ self.now }
         ensures most { length result.1.now ≤ 256 }

@@ -1,4 +1,4 @@
-// What a call is answered: its reply where a rule refuses it, and its result value.
+// The reply to a call, and its result value.
 ghost use Rattle.std.specs.Prelude.{◌≡◌, ◌<◌, [], ℕ, List, Some};
 ghost use Rattle.hv_defs.specs.declared.sizes.TheConstants.{REPS_END};
 ghost use Rattle.hv_abi.specs.Check.{IsShape, call_of};
@@ -16,8 +16,9 @@ use crate::rule::Rule;
 use hv_abi::{CallKind, Frame, InputValue, ResultValue, Shape, Status};
 use std::alloc::Allocator;
 
-/// The result value of a hypercall and its reply, as it stands in RAX: the status, and the reps completed,
-/// counted from the first element of the list.
+/// Returns the result value of a hypercall with this reply, as RAX holds it.
+///
+/// It has the status and the reps completed, counted from the first element of the list.
 pub fn result_of<A: Allocator>(frame: &Frame<A>, reply: &Reply) -> ResultValue
     requires { HasResult reply.now }
     ensures { result ≡ result_value_of frame.now reply.now }
@@ -25,8 +26,9 @@ pub fn result_of<A: Allocator>(frame: &Frame<A>, reply: &Reply) -> ResultValue
     result_value::<A>(frame.rcx, reply.parts().0)
 }
 
-/// The result value of a hypercall with this input value that was answered so. What it put out doesn't
-/// matter. A fault, which is no answer to a hypercall, has 0.
+/// Returns the result value of a hypercall with input value `rcx` and this answer.
+///
+/// The output does not matter. A fault is no answer to a hypercall, and has the result value 0.
 pub fn result_value<A: Allocator>(rcx: u64, answer: Answer) -> ResultValue
     requires { next_in (reply_of answer []) < REPS_END }
     ensures { (frame : CallFrame A) (output : List ℕ) → frame.rcx ≡ rcx
@@ -40,7 +42,8 @@ pub fn result_value<A: Allocator>(rcx: u64, answer: Answer) -> ResultValue
     }
 }
 
-/// The reply to an element that is served: more are to come, or it is the last, as a simple call is.
+/// Returns the reply to a served element, which says whether more follow. A simple call is its own last
+/// element.
 pub fn served_reply<A: Allocator>(frame: &Frame<A>, shape: Shape, output: CallOutput) -> CallReply
     requires shape { IsShape frame.now shape }
     requires named { call_of frame.now ≡ Some shape.kind }
@@ -56,7 +59,7 @@ pub fn served_reply<A: Allocator>(frame: &Frame<A>, shape: Shape, output: CallOu
     CallReply { answer, output }
 }
 
-/// The reply to a call that this rule refuses.
+/// Returns the reply to a call that this rule refuses.
 pub fn refused_reply<A: Allocator>(frame: &Frame<A>, rule: Rule) -> CallReply
     ensures { result ≡ refusal (Hypercall frame.now) rule }
 {
@@ -76,7 +79,7 @@ pub fn refused_reply<A: Allocator>(frame: &Frame<A>, rule: Rule) -> CallReply
     }
 }
 
-// The call that an input value names, if there is one with its code.
+// Returns the call with the code of an input value, if there is one.
 // Inlined: calls for the own id in bench/embed.sh.
 #[inline(always)]
 fn kind_of(rcx: u64) -> Option<CallKind>
@@ -85,8 +88,8 @@ fn kind_of(rcx: u64) -> Option<CallKind>
     CallKind::of(InputValue::read(rcx).call)
 }
 
-/// The reps completed of a call with this input value that was refused: its start index where P4 and P5
-/// are met, else 0.
+/// Returns the reps completed of a refused call with this input value: its start index if P4 and P5 hold,
+/// else 0.
 pub fn refused_reps(rcx: u64) -> u16
     ensures value { result ≡ refused_reps_of rcx }
     ensures fits { result < REPS_END }
@@ -97,8 +100,8 @@ pub fn refused_reps(rcx: u64) -> u16
     }
 }
 
-/// The reps completed of a call with this input value whose last element was served: all of them, and
-/// none of a simple call.
+/// Returns the reps completed of a call with this input value whose last element was served: all of them, or
+/// 0 for a simple call.
 pub fn completed_reps(rcx: u64) -> u16
     ensures value { result ≡ completed_reps_of rcx }
     ensures fits { result < REPS_END }

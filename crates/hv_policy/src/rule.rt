@@ -4,20 +4,22 @@ ghost use Rattle.hv_policy.specs.Rule.{rule_number, rule_name, rule_status, page
 
 use hv_abi::{CallKind, Status};
 
-/// A rule of the policy, P1 to P27. The first rule that is asked of an event and isn't met decides its
-/// answer. Which rules there are and their order is this project's own.
+/// A rule of the policy, P1 to P27.
+///
+/// Of the rules that apply to an event, the first that fails decides its answer. The rules and their order
+/// are this project's own.
 #[derive(Clone, Copy, PartialEq, Eq, Debug)]
 pub enum Rule {
-    /// P1: the caller's partition is there.
+    /// P1: the caller's partition exists.
     CallerExists = 1,
     /// P2: the caller's partition is Active.
     CallerActive = 2,
-    /// P3: the caller's virtual processor is there.
+    /// P3: the caller's virtual processor exists.
     CallerVpExists = 3,
     /// P4: the call code is one of the 21.
     CallCode = 4,
-    /// P5: reserved bits are zero; the fast bit stands only where it is accepted; a simple call has
-    /// no rep count and start; a rep call has a count of at least 1 and starts below it.
+    /// P5: reserved bits are zero; the fast bit is set only where it is accepted; a simple call has neither
+    /// rep count nor start; a rep call has a count of at least 1 and starts below it.
     InputValue = 5,
     /// P6: unless the call is fast, the address of each list that isn't empty is a multiple of 8,
     /// and the whole list stays in one page.
@@ -26,7 +28,7 @@ pub enum Rule {
     Parameters = 7,
     /// P8: the caller's mask has the call's privilege.
     Privilege = 8,
-    /// P9: the target partition is there.
+    /// P9: the target partition exists.
     TargetExists = 9,
     /// P10: the target is the caller or a child of the caller, as the call allows.
     TargetScope = 10,
@@ -38,18 +40,17 @@ pub enum Rule {
     NoChildren = 13,
     /// P14: the new partition's depth is at most 7.
     Depth = 14,
-    /// P15: the other named partition is there, or the previous child is 0 or a child of the
-    /// target.
+    /// P15: the other named partition exists, or the previous child is 0 or a child of the target.
     PeerExists = 15,
-    /// P16: the connection id is there; on connecting it is free.
+    /// P16: the connection id exists; on connecting, it is free.
     Connection = 16,
-    /// P17: the port id is there; on making a port it is free; on posting and signalling the port
-    /// is there with the birth that the connection keeps.
+    /// P17: the port id exists; on creating a port, it is free; on posting and signalling, the port exists
+    /// with the birth that the connection keeps.
     Port = 17,
     /// P18: the port's peer is the connecting partition; the new mask lies within the caller's; the
     /// caller has the register's privilege.
     Entitlement = 18,
-    /// P19: the virtual processor is there; on making one its index is at most 63 and free.
+    /// P19: the virtual processor exists; on creating one, its index is at most 63 and free.
     VpExists = 19,
     /// P20: the property value is in range.
     PropertyRange = 20,
@@ -66,19 +67,19 @@ pub enum Rule {
     MsrKnown = 25,
     /// P26: the caller has the MSR's privilege.
     MsrPrivilege = 26,
-    /// P27: writing: the MSR is writable and takes this value.
+    /// P27: on writing, the MSR is writable and takes this value.
     MsrWrite = 27,
 }
 
 impl Rule {
-    /// The rule's number, 1 to 27.
+    /// Returns the rule's number, 1 to 27.
     pub fn number(self) -> u8
         ensures { result ≡ rule_number self }
     {
         self as u8
     }
 
-    /// The rule's name, as `P1`.
+    /// Returns the rule's name, such as `P1`.
     pub fn name(self) -> &'static str
         ensures { result.now ≡ rule_name self }
     {
@@ -113,8 +114,10 @@ impl Rule {
         }
     }
 
-    /// The status with which a hypercall is refused by this rule, or `None` where only other events are
-    /// asked it. The call matters for P24 alone.
+    /// Returns the status of a hypercall that this rule refuses, or `None` if the rule applies only to other
+    /// events.
+    ///
+    /// The call matters for P24 alone.
     pub fn status(self, call: Option<CallKind>) -> Option<Status>
         ensures { result ≡ rule_status self call }
     {
@@ -143,7 +146,7 @@ impl Rule {
     }
 }
 
-// The status where pages are missing.
+// Returns the status of a call that lacks pages.
 fn pages_status(call: Option<CallKind>) -> Status
     ensures { result ≡ pages_status_of call }
 {

@@ -1,5 +1,5 @@
--- A privilege mask, seen as its 64 bits. A privilege is the mask of its bit alone: a definition names it by
--- its constant, as `CREATE_PARTITIONS` of `Rattle.hv_privs.specs.declared.TheConstants.Privileges`.
+-- A privilege mask, seen as its 64 bits. A privilege is the mask of its bit alone. A definition names it by
+-- its constant, such as `CREATE_PARTITIONS` of `Rattle.hv_privs.specs.declared.TheConstants.Privileges`.
 use Rattle.std.specs.Prelude.{ℕ, Bool, ◌==◌, IsBitSet, bit_and}
 use Rattle.hv_privs.specs.declared.Privileges.{Privileges}
 
@@ -15,11 +15,11 @@ of bits = record { 0 = bits }
 abbrev pub HasBit : Privileges → ℕ → Type 0
 HasBit mask k = IsBitSet (bits_of mask) k
 
--- each bit of the one mask is set in the other
+-- every bit of the one mask is set in the other
 abbrev pub IsSubset : Privileges → Privileges → Type 0
 IsSubset part whole = (k : ℕ) → HasBit part k → HasBit whole k
 
--- the same as a test, which computes: the mask has each bit of the other
+-- a test that computes: the mask has every bit of the other
 abbrev pub contains : Privileges → Privileges → Bool
 contains mask other = bit_and (bits_of mask) (bits_of other) == bits_of other
 

@@ -1,18 +1,18 @@
 //! A partition's privileges: the mask of 64 bits that says what the partition may ask of the hypervisor.
 //!
-//! The bits and their names are those of HV_PARTITION_PRIVILEGE_MASK (TLFS 4.0, "Partition Privilege
-//! Flags", in the call group on partition properties). Which hypercall or register needs which privilege
-//! is not said here.
+//! The bits and their names are those of HV_PARTITION_PRIVILEGE_MASK (TLFS 4.0, "Partition Privilege Flags",
+//! in the chapter on partition properties). This crate does not say which hypercall or register needs which
+//! privilege.
 //!
-//! Every function takes every mask, and keeps the bits that have no name. A comparison or an intersection
-//! is stated twice: as a test or a mask that computes, and bit by bit.
+//! Every function takes every mask, and keeps the bits that have no name. A comparison or an intersection is
+//! specified twice: as a test or a mask that computes, and bit by bit.
 #![tactic(auto)]
 
 ghost use Rattle.std.specs.Prelude.{⊤, ℕ, ◌≡◌, ◌↔◌, IsTrue, [], ◌∷◌, codes};
 
 use bitflags::{Flag, Flags, bitflag_items};
 
-/// A set of privileges. Only the named bits give any right; a mask holds the others as they came.
+/// A set of privileges. Only the named bits grant a right; a mask keeps the others unchanged.
 #[derive(Clone, Copy, PartialEq, Eq, Debug)]
 pub struct Privileges(u64);
 
@@ -31,8 +31,10 @@ bitflag_items! {
 }
 
 impl Privileges {
-    /// What a new partition can have of its creator's privileges: enough to use its own processors, to
-    /// post messages and to signal events, and no more. This project's own choice.
+    /// The most privileges that a new partition can have of its creator's.
+    ///
+    /// They are enough to use its own processors, to post messages and to signal events, and no more. This
+    /// choice is this project's own.
     pub const NEW_PARTITION: Privileges = Privileges(
         Self::ACCESS_SYNIC_REGS.0
             | Self::ACCESS_VP_INDEX.0
@@ -41,27 +43,27 @@ impl Privileges {
     );
 }
 
-// The number by which scripts and tables know that mask.
+// The number of this mask in scripts and tables.
 const _: () = prove!(Privileges::NEW_PARTITION.0 == 0x0000_0030_0000_0044);
 
 impl Privileges {
     ghost use Rattle.hv_privs.specs.Privileges.{bits_of, of, HasBit, IsSubset, contains, restrict};
 
-    /// The mask with exactly these bits, named or not.
+    /// Returns the mask with exactly these bits, named or not.
     pub fn of(bits: u64) -> Privileges
         ensures { result ≡ of bits }
     {
         Privileges::from_bits_retain(bits)
     }
 
-    /// The mask as the 64 bits of a property or a register.
+    /// Returns the mask as the 64 bits of a property or a register.
     pub fn bits(self) -> u64
         ensures { result ≡ bits_of self }
     {
         Flags::bits(&self)
     }
 
-    /// Whether each bit of `other` is set here too.
+    /// Returns whether every bit of `other` is also set in this mask.
     pub fn contains(self, other: Privileges) -> bool
         ensures test { result ≡ contains self other }
         ensures bits { IsTrue result ↔ IsSubset other self }
@@ -69,7 +71,7 @@ impl Privileges {
         Flags::contains(&self, other)
     }
 
-    /// Whether each bit that is set here is set in `other` too.
+    /// Returns whether every bit of this mask is also set in `other`.
     pub fn is_within(self, other: Privileges) -> bool
         ensures test { result ≡ contains other self }
         ensures bits { IsTrue result ↔ IsSubset self other }
@@ -77,7 +79,7 @@ impl Privileges {
         other.contains(self)
     }
 
-    /// The bits that are set both here and in `to`.
+    /// Returns the bits that are set both in this mask and in `to`.
     pub fn restrict(self, to: Privileges) -> Privileges
         ensures mask { result ≡ restrict self to }
         ensures bits { (k : ℕ) → HasBit result k ↔ (HasBit self k × HasBit to k) }

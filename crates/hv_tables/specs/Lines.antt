@@ -51,8 +51,8 @@ lives states = filter (λ life. is_among life states) (Created ∷ Active ∷ Fi
 abbrev pub need_line : Call → ℕ × Kin × List Life
 need_line call = (bits_of (needs_of call).privilege, (needs_of call).kin, lives (needs_of call).states)
 
--- the numbers of the further rules, in whatever state and of whatever caller, the charge in pages, and
--- whether it may need memory of the host
+-- the numbers of a call's further rules in a state and for a caller, its charge in pages, and whether it may
+-- need memory of the host
 abbrev pub rules_line : Flat → ℕ → Call → List ℕ × ℕ × Bool
 rules_line f caller call = (
   map rule_number (rules_of (further_asks f caller call)),
@@ -60,11 +60,11 @@ rules_line f caller call = (
   takes_memory (kind_of_call call),
 )
 
--- the numbers of the rules that an access is asked beside its caller's
+-- the numbers of the rules that apply to an access beyond those of its caller
 abbrev pub asked_line : Flat → ℕ → Action (Unit {0}) → List ℕ
 asked_line f caller access = map rule_number (rules_of (action_asks f caller access))
 
--- and whether they are met, as where the SINT and the flag that it names are there
+-- whether these rules hold, as they do if the SINT and the flag that it names exist
 abbrev pub subject_line : Flat → ℕ → Action (Unit {0}) → Bool
 subject_line f caller access = is_none (first_unmet (action_asks f caller access))
 
@@ -86,19 +86,19 @@ access_line name = option_map (λ row. (row.msr, row.privilege, row.takes))
 abbrev pub bare_frame : ℕ → ℕ → ℕ → Frame (Unit {0})
 bare_frame rcx rdx r8 = record { rcx = rcx; rdx = rdx; r8 = r8; input = [] }
 
--- what is wrong with it first, by its registers
+-- the first fault of the frame with these registers, if it has one
 abbrev pub fault_line : ℕ → ℕ → ℕ → Option AbiFault
 fault_line rcx rdx r8 = first_fault (bare_frame rcx rdx r8)
 
--- the bytes of its input, if its registers are fast
+-- the input bytes of that frame, given whether it is fast
 abbrev pub input_line : ℕ → ℕ → Bool → List ℕ
 input_line rdx r8 fast = input_of (bare_frame 0 rdx r8) fast
 
--- the bytes of a SINT's event flags, where these, as (SINT, flag), are set
+-- the bytes of a SINT's event flags if these flags, as (SINT, flag), are set
 abbrev pub flags_line : List (ℕ × ℕ) → ℕ → List ℕ
 flags_line flags sint = flag_bytes (from_list flags) sint
 
--- a state of these partitions alone, by id, parent, life state and mask
+-- a state with these partitions alone, by id, parent, life state and mask
 abbrev pub family : List (ℕ × Option ℕ × Life × ℕ) → Flat
 family rows = record {
   part = from_entries (map (λ (id, parent, life, mask).
@@ -112,15 +112,15 @@ family rows = record {
   served = 0;
 }
 
--- the masks of these partitions, in their order, once one of them was given a mask
+-- the masks of these partitions, in their order, after one of them is given a mask
 unfoldable pub masks_line : List (ℕ × Option ℕ × Life × ℕ) → ℕ → ℕ → List ℕ
 masks_line rows target mask =
     map (λ row. bits_of (mask_of (get (property_set (family rows) target (Some PrivilegeFlags) mask) row.0)))
     rows
 
--- processors by partition, index, SCONTROL, SIEFP and SIMP: of partition 2 the first takes neither messages
--- nor event flags, then one event flags, one messages, and two both; of partition 3 there is one, whose
--- SCONTROL has bit 0 clear
+-- processors by partition, index, SCONTROL, SIEFP and SIMP. In partition 2, the first takes neither messages
+-- nor event flags, the next takes event flags, the next messages, and the last two both. Partition 3 has one,
+-- whose SCONTROL has bit 0 clear
 abbrev pub staff : List (ℕ × ℕ × ℕ × ℕ × ℕ)
 staff =
     (1, 0, 1, 1, 1) ∷ (2, 0, 0, 1, 1) ∷ (2, 1, 1, 1, 0) ∷ (2, 4, 1, 0x3000, 0x3001) ∷ (2, 5, 1, 1, 1) ∷
@@ -139,11 +139,11 @@ vp_with scontrol siefp simp =
 abbrev pub vps_of : List (ℕ × ℕ × ℕ × ℕ × ℕ) → List ((ℕ × ℕ) × VpRow)
 vps_of rows = map (λ (part, vp, scontrol, siefp, simp). ((part, vp), vp_with scontrol siefp simp)) rows
 
--- a state of these processors alone
+-- a state with these processors alone
 abbrev pub staffed : List (ℕ × ℕ × ℕ × ℕ × ℕ) → Flat
 staffed rows = record (family []) { vp = from_entries (vps_of rows) }
 
--- the processors that take a message and an event flag which come to a port of a partition with this aim
+-- the processors that take a message and an event flag for a port of a partition with this aim
 unfoldable pub takers_line : List (ℕ × ℕ × ℕ × ℕ × ℕ) → ℕ → Aim → Option ℕ × Option ℕ
 takers_line rows id aim = (
   select_vp is_ready_for_messages (staffed rows) id aim,
@@ -151,6 +151,6 @@ takers_line rows id aim = (
       (staffed rows) id aim,
 )
 
--- and whether P19 is met for that aim
+-- whether P19 holds for that aim
 unfoldable pub is_target_line : List (ℕ × ℕ × ℕ × ℕ × ℕ) → ℕ → Aim → Bool
 is_target_line rows id aim = has_target (staffed rows) id aim

@@ -8,7 +8,7 @@ ghost use Rattle.hv_policy.specs.declared.event.Action.TheVariants.{ReadMsr, Wri
 ghost use Rattle.hv_policy.specs.declared.event.Action.TheVariants.{ReadFlags, ClearFlag, TakeInterrupt};
 ghost use Rattle.hv_tables.specs.Lines.{asked_line, subject_line};
 
-/// The rules of each access beside P1 to P3, by their numbers.
+/// The rules that apply to each access beyond P1 to P3, by number.
 pub fn each_access_has_its_rules()
     ensures read_msr { (f : Flat) (caller msr : ℕ) → asked_line f caller (ReadMsr msr) ≡ 25 ∷ 26 ∷ [] }
     ensures write_msr { (f : Flat) (caller msr value : ℕ) → asked_line f caller (WriteMsr msr value) ≡ 25
@@ -21,7 +21,7 @@ pub fn each_access_has_its_rules()
     ensures take_interrupt { (f : Flat) (caller : ℕ) → asked_line f caller TakeInterrupt ≡ [] }
 {}
 
-/// The last SINT and flag that an access may name, and those behind them, which rule P21 refuses.
+/// The last SINT and flag that an access may name, and the next ones, which rule P21 refuses.
 pub fn each_access_has_its_edges()
     ensures read_slot { (f : Flat) (caller : ℕ) → subject_line f caller (ReadSlot 15) ≡ true }
     ensures read_slot_beyond { (f : Flat) (caller : ℕ) → subject_line f caller (ReadSlot 16) ≡ false }
@@ -36,7 +36,7 @@ pub fn each_access_has_its_edges()
         ≡ false }
 {}
 
-/// The register of each MSR, by its name in a call, and the numbers beside them, which are no MSR.
+/// The register of each MSR, by its name in a call, and the neighboring numbers, which are no MSRs.
 #[tactic(auto, unfolding(hv_defs::specs::Registers::name_of_msr))]
 pub fn each_msr_has_its_register()
     ensures hypercall_page { name_of_msr 0x40000001 ≡ None }

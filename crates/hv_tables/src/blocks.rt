@@ -1,4 +1,4 @@
-// The blocks: where the parameters of each call stand in its input, and when rule P7 refuses one.
+// The blocks: where the parameters of each call are in its input, and when rule P7 refuses one.
 ghost use Rattle.std.specs.Prelude.{◌≡◌, ℕ, ◌+◌, ◌*◌, ◌==◌, ◌&&◌, nat_le, true, false, List, [], ◌∷◌};
 ghost use Rattle.hv_abi.specs.declared.call_kind.CallKind.TheVariants as kind;
 ghost use Rattle.hv_calls.specs.Blocks.{call_in, port_aim, port_kind};
@@ -9,7 +9,7 @@ ghost use Rattle.hv_calls.specs.declared.call.Call.TheVariants as call;
 ghost use Rattle.hv_defs.specs.Field.{field};
 ghost use Rattle.hv_defs.specs.declared.port_kind.PortKind.TheVariants as port;
 
-/// The place and size of each call's parameters.
+/// The offset and size of each call's parameters.
 pub fn each_block_has_its_fields()
     ensures create_partition { (block : List ℕ) (element : ℕ) → call_in kind.CreatePartition block element
         ≡ call.CreatePartition (field block 0 8) }
@@ -62,8 +62,10 @@ pub fn each_block_has_its_fields()
         (port_kind (field block 32 4)) }
 {}
 
-/// Numbers are little-endian, bytes that are missing at the end read as zero, and the elements of a rep
-/// call stand one after another behind the header.
+/// The bytes of each number and the offset of each element.
+///
+/// Numbers are little-endian, and bytes missing at the end read as zero. The elements of a rep call follow
+/// the header, one after another.
 pub fn each_field_has_its_bytes()
     ensures little_endian { field (0 ∷ 0x78 ∷ 0x56 ∷ 0x34 ∷ 0x12 ∷ 0 ∷ []) 1 4 ≡ 0x12345678 }
     ensures cut { field (0x78 ∷ 0x56 ∷ []) 0 8 ≡ 0x5678 }
@@ -74,7 +76,7 @@ pub fn each_field_has_its_bytes()
     ensures set_vp_registers { (start : ℕ) → element_at kind.SetVpRegisters start ≡ 16 + start * 32 }
 {}
 
-/// The parameters of each call that rule P7 looks at.
+/// The parameters of each call that rule P7 checks.
 pub fn each_call_has_its_checks()
     ensures create_partition { (block : List ℕ) (element : ℕ)
         → are_well_formed kind.CreatePartition block element ≡ true }
@@ -119,7 +121,7 @@ pub fn each_call_has_its_checks()
         ≡ (is_id (field block 8 4) && is_id (field block 24 4) && is_port_type (field block 32 4)) }
 {}
 
-/// The edges of what rule P7 takes: ids of ports and connections, port types, flags and message types.
+/// The edges of what rule P7 accepts: ids of ports and connections, port types, flags and message types.
 pub fn each_check_has_its_edges()
     ensures highest_id { is_id 0x00FFFFFF ≡ true }
     ensures above_ids { is_id 0x01000000 ≡ false }

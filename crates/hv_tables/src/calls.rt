@@ -1,4 +1,4 @@
-// The table of calls. A call's privilege is a power of 2, by its bit.
+// The table of calls. A call's privilege is written as a power of 2, by its bit.
 ghost use Rattle.std.specs.Prelude.{◌≡◌, ℕ, ◌+◌, ◌*◌, ◌^◌, ◌==◌, ◌||◌, true, false, List, [], ◌∷◌, length};
 ghost use Rattle.std.specs.Prelude.{None};
 ghost use Rattle.hv_abi.specs.CallRow.{kind_of, row_of};
@@ -18,7 +18,7 @@ ghost use Rattle.hv_policy.specs.calls.{policy_of};
 ghost use Rattle.hv_policy.specs.declared.need.Kin.TheVariants as kin;
 ghost use Rattle.hv_tables.specs.Lines.{frame_line, list_line, need_line, rules_line};
 
-/// How many calls the profile has, and that the codes beside them are no call's.
+/// The number of calls in the profile, and the neighboring codes, which no call has.
 pub fn the_profile_has_its_calls()
     ensures profile { length ALL_CALLS ≡ 21 }
     ensures before { kind_of 0x3F ≡ None }
@@ -155,8 +155,9 @@ pub fn each_kin_has_its_partitions()
     ensures child { (f : Flat) (caller id : ℕ) → is_kin kin.Child f caller id ≡ is_child f caller id }
 {}
 
-/// The further rules of each call by their numbers, whatever its parameters, its caller and the state;
-/// its charge in pages, and whether it may need memory of the host.
+/// The further rules of each call by number, its charge in pages, and whether it may need memory of the host.
+///
+/// These rules do not depend on the call's parameters, its caller or the state.
 pub fn each_call_has_its_rules()
     ensures create_partition { (f : Flat) (caller flags : ℕ)
         → rules_line f caller (call.CreatePartition flags) ≡ (14 ∷ 24 ∷ [], 2, true) }
@@ -209,8 +210,8 @@ pub fn each_call_has_its_rules()
         ≡ (12 ∷ 15 ∷ 16 ∷ 17 ∷ 18 ∷ 21 ∷ 24 ∷ [], 1, true) }
 {}
 
-/// The target of each call: the caller, or the partition that a parameter names, where all ones is the
-/// caller's own id.
+/// The target of each call: the caller, or the partition that a parameter names. All ones is the caller's own
+/// id.
 pub fn each_call_has_its_target()
     ensures all_ones { (caller : ℕ) → resolved_id caller 18446744073709551615 ≡ caller }
     ensures another_id { (caller id : ℕ) → ¬ (id ≡ 18446744073709551615) → resolved_id caller id ≡ id }

@@ -23,8 +23,8 @@ pub fn each_input_value_has_its_parts()
     ensures list { input_line 0x1817161514131211 0x2827262524232221 false ≡ [] }
 {}
 
-/// What is wrong first with a frame, by RCX, RDX and R8: the call code, then the input value, then the
-/// lists' places.
+/// The first fault of a frame, by RCX, RDX and R8: the call code, then the input value, then the lists'
+/// addresses.
 pub fn each_frame_has_its_fault()
     ensures plain { fault_line 0x46 0 0 ≡ None }
     ensures empty_list_anywhere { fault_line 0x46 3 0 ≡ None }
@@ -58,7 +58,7 @@ pub fn each_frame_has_its_fault()
     ensures not_fast_of_256_bytes { fault_line 0x1005C 0 0 ≡ Some Input }
 {}
 
-/// The result value: the status, and the reps done from bit 32 up.
+/// The result value: the status, and the reps completed from bit 32 up.
 pub fn each_result_has_its_value()
     ensures success { result_value 0 0 ≡ 0 }
     ensures reps_done { result_value 0 3 ≡ 0x0000000300000000 }

@@ -1,11 +1,11 @@
-//! The tables of the policy, a second time: each value as a literal, typed from the policy in words,
-//! `docs/POLICY.md`, and not from the definitions. Beside the tables stand worked frames, what is wrong
-//! with an input value or an address, and worked pages, the bytes that slots and event flags show.
+//! A second copy of the policy's tables. Each value is a literal, typed from the policy in words,
+//! `docs/POLICY.md`, and not from the definitions. The crate also has worked frames, with the faults of input
+//! values and addresses, and worked pages, with the bytes that slots and event flags show.
 //!
-//! The crate has no code. Code and definition that read one constant or one table can be wrong together,
-//! and no proof sees it. Here each function's contract says of a table, line by line, what the
-//! definitions and constants that the other crates' contracts cite make of it, and the prover computes
-//! that. `specs/` says which definitions make a line.
+//! The crate has no code. Code and definitions that read one constant or one table can be wrong together, and
+//! no proof notices. Here each function's contract states a table, line by line. The prover computes these
+//! lines from the definitions and constants that the other crates' contracts cite. `specs/` says which
+//! definitions make a line.
 #![tactic(auto)]
 
 mod accesses;

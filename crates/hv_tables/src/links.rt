@@ -1,4 +1,4 @@
-// Ports and connections: which types are the same, where a port aims, and what it keeps of its flags.
+// Ports and connections: which types are equal, where a port aims, and what it keeps of its flags.
 ghost use Rattle.std.specs.Prelude.{◌≡◌, ℕ, true, false, None, Some};
 ghost use Rattle.hv_calls.specs.Blocks.{port_aim};
 ghost use Rattle.hv_defs.specs.declared.aim.Aim.TheVariants.{One, Any};
@@ -16,7 +16,7 @@ pub fn each_port_has_its_type()
     ensures event { is_kind Event Event ≡ true }
 {}
 
-/// A message port keeps 0 for the first of its flags and for their count, an event port what it is given.
+/// The first flag and the flag count that a port keeps: 0 for a message port, as given for an event port.
 pub fn each_port_keeps_its_flags()
     ensures message { (number : ℕ) → flags_of Message number ≡ 0 }
     ensures event { (number : ℕ) → flags_of Event number ≡ number }
@@ -32,9 +32,10 @@ pub fn each_target_has_its_aim()
     ensures any_at_each { (vp : ℕ) → aims_at Any vp ≡ true }
 {}
 
-/// The processor of a port's partition that takes a message, and the one that takes an event flag, by the
-/// partition, index, SCONTROL, SIEFP and SIMP of each processor that there is: of partition 2 processor 0
-/// takes neither, 1 event flags, 4 messages, 5 and 6 both.
+/// The processor of a port's partition that takes a message, and the one that takes an event flag.
+///
+/// They depend on the partition, index, SCONTROL, SIEFP and SIMP of each existing processor. In partition 2,
+/// processor 0 takes neither, 1 takes event flags, 4 takes messages, and 5 and 6 take both.
 pub fn each_aim_has_its_takers()
     ensures any { takers_line staff 2 Any ≡ (Some 4, Some 1) }
     ensures any_without_processors { takers_line staff 4 Any ≡ (None, None) }
@@ -47,7 +48,7 @@ pub fn each_aim_has_its_takers()
     ensures of_another_partition { takers_line staff 3 (One 6) ≡ (None, None) }
 {}
 
-/// P19 of a port's aim: whether the one processor is there, and met for any.
+/// P19 for a port's aim: it holds if the one processor exists, and always for any processor.
 pub fn each_aim_has_its_target()
     ensures there { is_target_line staff 2 (One 0) ≡ true }
     ensures not_there { is_target_line staff 2 (One 2) ≡ false }

@@ -9,8 +9,10 @@ ghost use Rattle.hv_defs.specs.Vectors.{VectorSet, raised};
 ghost use Rattle.hv_policy.specs.Mail.{Place, slot_at};
 ghost use Rattle.hv_tables.specs.Lines.{flags_line};
 
-/// The 256 bytes of a slot: the type, the size of the payload, whether another message waits, two zeros,
-/// the port's id and the payload, with zeros after it. An empty slot has zeros alone.
+/// The 256 bytes of a slot, or all zeros for an empty slot.
+///
+/// They are the type, the size of the payload, whether another message waits, two zeros, the port's id and
+/// the payload, with zeros after it.
 pub fn each_slot_has_its_bytes()
     ensures waiting { message_bytes 0x81020304 0x00C0FFEE (0xAB ∷ 0x10 ∷ 0xFF ∷ []) true ≡ 0x04 ∷ 0x03
         ∷ 0x02 ∷ 0x81 ∷ 3 ∷ 1 ∷ 0 ∷ 0 ∷ 0xEE ∷ 0xFF ∷ 0xC0 ∷ 0 ∷ 0 ∷ 0 ∷ 0 ∷ 0 ∷ 0xAB ∷ 0x10 ∷ 0xFF
@@ -45,8 +47,8 @@ pub fn each_sint_raises_its_vector()
         ≡ None → raised registers 15 vectors ≡ vectors }
 {}
 
-/// A processor takes messages where bit 0 of SCONTROL and of SIMP are set, and event flags where bit 0 of
-/// SCONTROL and of SIEFP are.
+/// A processor takes messages if bit 0 of both SCONTROL and SIMP is set, and event flags if bit 0 of both
+/// SCONTROL and SIEFP is.
 pub fn each_page_is_on_by_its_bit()
     ensures messages { (registers : FinMap nat_cmp ℕ) → get registers 0x000A0010 ≡ Some 1
         → get registers 0x000A0013 ≡ Some 0x1001 → takes_messages registers ≡ true }

@@ -9,7 +9,7 @@ ghost use Rattle.hv_policy.specs.Property.{property_code, property_of, takes_val
 ghost use Rattle.hv_policy.specs.declared.property.Property.TheVariants as property;
 ghost use Rattle.hv_tables.specs.Lines.{masks_line};
 
-/// The code of each property, and that the codes beside them are no property's.
+/// The code of each property, and the neighboring codes, which no property has.
 pub fn each_property_has_its_code()
     ensures privilege_flags { property_code property.PrivilegeFlags ≡ 0x00010000 }
     ensures cpu_reserve { property_code property.CpuReserve ≡ 0x00020001 }
@@ -27,7 +27,7 @@ pub fn each_property_has_its_code()
     ensures all_ones { property_of 0xFFFFFFFF ≡ None }
 {}
 
-/// The values that are in each property's range, at its edges. A mask has no range.
+/// The values at the edges of each property's range. A mask has no range.
 pub fn each_property_has_its_range()
     ensures privilege_flags { (value : ℕ) → takes_value property.PrivilegeFlags value ≡ true }
     ensures lowest_reserve { takes_value property.CpuReserve 0 ≡ true }
@@ -57,8 +57,10 @@ pub fn each_property_has_its_start()
         } }
 {}
 
-/// What a mask that is given makes of the masks of partitions, each with its id, parent, life state and
-/// mask: that of a partition which is Active narrows its whole subtree, and one that is Created gets it.
+/// The masks of partitions after one of them is given a mask.
+///
+/// Each partition has its id, parent, life state and mask. A mask given to an Active partition narrows its
+/// whole subtree; a Created partition gets the mask.
 pub fn each_mask_given_has_its_masks()
     ensures to_a_running_tenant { masks_line ((1, None, Active, 0x000001F700000044)
         ∷ (2, Some 1, Active, 0x000000F700000044) ∷ (3, Some 2, Created, 0x0000003000000044)

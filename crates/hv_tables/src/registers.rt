@@ -8,8 +8,8 @@ ghost use Rattle.hv_defs.specs.declared.registers.TheConstants.{EOM, REGISTERS, 
 ghost use Rattle.hv_defs.specs.declared.registers.TheConstants.{VP_INDEX};
 ghost use Rattle.hv_tables.specs.Lines.{access_line};
 
-/// What each register holds in a processor of this index that was just made. The table has 40 of them,
-/// and no others.
+/// The value of each register in a new processor with this index. The table has these 40 registers, and no
+/// others.
 #[tactic(auto, using(crate::proofs::Starts::found_at_start))]
 pub fn each_register_has_its_start()
     ensures vp_index_name { VP_INDEX ≡ 0x00090003 }
@@ -107,7 +107,7 @@ pub fn each_register_has_its_access()
     ensures no_register { access_line 0x000A0015 ≡ None }
 {}
 
-/// What is kept of a value that is written, at the edges.
+/// What a register keeps of a written value, at the edges.
 pub fn each_register_takes_its_values()
     ensures nothing { (value : ℕ) → take Nothing value ≡ Err ReadOnly }
     ensures any { (value : ℕ) → take Any value ≡ Ok value }

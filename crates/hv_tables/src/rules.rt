@@ -5,7 +5,7 @@ ghost use Rattle.hv_abi.specs.declared.call_kind.CallKind.TheVariants as kind;
 ghost use Rattle.hv_policy.specs.declared.rule.Rule.TheVariants as rule;
 ghost use Rattle.hv_tables.specs.Lines.{rule_line};
 
-/// Each rule's number, name and status, which depends on the call for P24 alone.
+/// Each rule's number, name and status. The status depends on the call for P24 alone.
 pub fn each_rule_has_its_line()
     ensures p1 { (call : Option CallKind) → rule_line rule.CallerExists call ≡ (1, codes "P1", Some 0xD) }
     ensures p2 { (call : Option CallKind) → rule_line rule.CallerActive call ≡ (2, codes "P2", Some 0x7) }

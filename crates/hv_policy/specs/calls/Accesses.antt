@@ -1,4 +1,4 @@
--- The accesses of a processor to what is its own.
+-- The accesses of a processor to its own MSRs, slots, event flags and interrupts.
 use Rattle.std.specs.Prelude.{ℕ, ◌&&◌, is_some, nat_lt, [], ◌∷◌}
 use Rattle.std.specs.FinMap.{get}
 use Rattle.std.specs.FinSet as set
@@ -13,7 +13,7 @@ use Rattle.hv_policy.specs.Policy.{AccessPolicy}
 use Rattle.hv_policy.specs.Reading.{flags_at, msr_of, vector_of}
 use Rattle.hv_policy.specs.declared.rule.Rule.TheVariants.{MsrKnown, MsrPrivilege, MsrWrite, Operand}
 
--- The value of a model-specific register.
+-- Reads a model-specific register.
 abbrev pub read_msr : ℕ → AccessPolicy
 read_msr msr = record {
   asks = λ f caller. (MsrKnown, is_some (name_of_msr msr)) ∷
@@ -22,7 +22,7 @@ read_msr msr = record {
   effect = λ f by. f;
 }
 
--- A model-specific register gets a value.
+-- Writes a model-specific register.
 abbrev pub write_msr_to : ℕ → ℕ → AccessPolicy
 write_msr_to msr value = record {
   asks = λ f caller.
@@ -32,7 +32,7 @@ write_msr_to msr value = record {
   effect = λ f by. write_msr by.part by.vp (name_of_msr msr) value f;
 }
 
--- What the slot of a SINT reads as.
+-- Reads the message slot of a SINT.
 abbrev pub read_slot : ℕ → AccessPolicy
 read_slot sint = record {
   asks = λ f caller. (Operand, nat_lt sint SINTS) ∷ [];
@@ -40,7 +40,7 @@ read_slot sint = record {
   effect = λ f by. f;
 }
 
--- The message that a SINT shows goes, and none is shown in its place.
+-- Removes the message that a SINT shows. None is shown in its place.
 abbrev pub clear_slot : ℕ → AccessPolicy
 clear_slot sint = record {
   asks = λ f caller. (Operand, nat_lt sint SINTS) ∷ [];
@@ -48,7 +48,7 @@ clear_slot sint = record {
   effect = λ f by. record f { mail = cleared (place_at by sint) f.mail };
 }
 
--- The event flags of a SINT.
+-- Reads the event flags of a SINT.
 abbrev pub read_flags : ℕ → AccessPolicy
 read_flags sint = record {
   asks = λ f caller. (Operand, nat_lt sint SINTS) ∷ [];
@@ -56,7 +56,7 @@ read_flags sint = record {
   effect = λ f by. f;
 }
 
--- An event flag of a SINT is clear.
+-- Clears an event flag of a SINT.
 abbrev pub clear_flag : ℕ → ℕ → AccessPolicy
 clear_flag sint flag = record {
   asks = λ f caller. (Operand, nat_lt sint SINTS && nat_lt flag EVENT_FLAGS) ∷ [];
@@ -67,7 +67,7 @@ clear_flag sint flag = record {
   };
 }
 
--- The highest of the pending vectors, which isn't pending any more.
+-- Takes the highest pending vector, which is not pending afterwards.
 abbrev pub take_interrupt : AccessPolicy
 take_interrupt = record {
   asks = λ f caller. [];
@@ -79,6 +79,6 @@ take_interrupt = record {
       };
 }
 
--- A hypercall, of which its own call tells.
+-- A hypercall is no access. Its policy is that of its call.
 abbrev pub no_access : AccessPolicy
 no_access = record { asks = λ f caller. []; output = λ f by. []; effect = λ f by. f }

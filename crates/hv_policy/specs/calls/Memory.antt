@@ -13,7 +13,7 @@ use Rattle.hv_policy.specs.declared.need.States.TheVariants as states
 use Rattle.hv_policy.specs.declared.rule.Rule.TheVariants.{Pages, Operand, TargetState}
 use Rattle.hv_privs.specs.declared.TheConstants.Privileges as privilege
 
--- HvDepositMemory: a loose page of the caller goes into the target's pool.
+-- HvDepositMemory: moves a loose page of the caller into the target's pool.
 abbrev pub deposit_memory : ℕ → ℕ → CallPolicy
 deposit_memory partition page = record {
   row = DEPOSIT_MEMORY;
@@ -27,8 +27,8 @@ deposit_memory partition page = record {
   };
 }
 
--- HvWithdrawMemory: the lowest page of the target's pool is a loose page of the caller. Where none is
--- available the status of P24 is the withdrawal's own, NO_RESOURCES.
+-- HvWithdrawMemory: makes the lowest page of the target's pool a loose page of the caller. If no page is
+-- available, P24 has the withdrawal's own status, NO_RESOURCES.
 abbrev pub withdraw_memory : ℕ → CallPolicy
 withdraw_memory partition = record {
   row = WITHDRAW_MEMORY;
@@ -39,7 +39,8 @@ withdraw_memory partition = record {
   effect = λ f caller target. record f { page = withdrawn caller (lowest_pooled f target) f.page };
 }
 
--- HvGetMemoryBalance: how many pages of the target's pool are available, and how many are in use.
+-- HvGetMemoryBalance: returns the number of pages of the target's pool that are available, and of those in
+-- use.
 abbrev pub get_memory_balance : ℕ → CallPolicy
 get_memory_balance partition = record {
   row = GET_MEMORY_BALANCE;

@@ -13,7 +13,7 @@ use Rattle.hv_policy.specs.declared.rule.Rule.TheVariants.{Connection, Port, Por
 use Rattle.hv_policy.specs.declared.rule.Rule.TheVariants.{VpReady}
 use Rattle.hv_privs.specs.declared.TheConstants.Privileges as privilege
 
--- HvPostMessage: a message goes through a connection of the caller to the SINT at which the port aims.
+-- HvPostMessage: posts a message through a connection of the caller, to the SINT that the port aims at.
 abbrev pub post_message : ℕ → ℕ → List ℕ → CallPolicy
 post_message connection message_type payload = record {
   row = POST_MESSAGE;
@@ -30,7 +30,7 @@ post_message connection message_type payload = record {
   effect = λ f caller target. post_to (aim_of f (target, connection)) message_type payload f;
 }
 
--- HvSignalEvent: an event flag of the port is set through a connection of the caller.
+-- HvSignalEvent: sets an event flag of the port through a connection of the caller.
 abbrev pub signal_event : ℕ → ℕ → CallPolicy
 signal_event connection flag = record {
   row = SIGNAL_EVENT;

@@ -1,4 +1,4 @@
--- Making and ending partitions, and their ids.
+-- Creating and ending partitions, and reading their ids.
 use Rattle.std.specs.Prelude.{ℕ, ◌+◌, ◌==◌, ◌||◌, true, false, [], ◌∷◌, map, None, Some}
 use Rattle.std.specs.FinMap.{entries, from_entries, get, insert, remove}
 use Rattle.std.specs.Int.{w64, to_le_bytes}
@@ -17,7 +17,7 @@ use Rattle.hv_policy.specs.declared.need.States.TheVariants as states
 use Rattle.hv_policy.specs.declared.rule.Rule.TheVariants.{Depth, NoChildren, PeerExists, Pages, TargetState}
 use Rattle.hv_privs.specs.declared.TheConstants.Privileges as privilege
 
--- HvCreatePartition: the caller gets a child with the next id.
+-- HvCreatePartition: creates a child of the caller, with the next id.
 abbrev pub create_partition : ℕ → CallPolicy
 create_partition flags = record {
   row = CREATE_PARTITION;
@@ -33,7 +33,7 @@ create_partition flags = record {
       };
 }
 
--- HvInitializePartition: the target runs.
+-- HvInitializePartition: makes the target Active.
 abbrev pub initialize_partition : ℕ → CallPolicy
 initialize_partition partition = record {
   row = INITIALIZE_PARTITION;
@@ -46,7 +46,8 @@ initialize_partition partition = record {
   };
 }
 
--- HvFinalizePartition: the target ends, and its processors, ports, connections and messages go.
+-- HvFinalizePartition: makes the target Finalized, and removes its processors, ports, connections and
+-- messages.
 abbrev pub finalize_partition : ℕ → CallPolicy
 finalize_partition partition = record {
   row = FINALIZE_PARTITION;
@@ -64,7 +65,7 @@ finalize_partition partition = record {
   };
 }
 
--- HvDeletePartition: the target goes, and the caller gets its pages.
+-- HvDeletePartition: removes the target, and gives its pages to the caller.
 abbrev pub delete_partition : ℕ → CallPolicy
 delete_partition partition = record {
   row = DELETE_PARTITION;
@@ -78,7 +79,7 @@ delete_partition partition = record {
   };
 }
 
--- HvGetPartitionId: the caller's own id.
+-- HvGetPartitionId: returns the caller's own id.
 abbrev pub get_partition_id : CallPolicy
 get_partition_id = record {
   row = GET_PARTITION_ID;
@@ -89,7 +90,8 @@ get_partition_id = record {
   effect = λ f caller target. f;
 }
 
--- HvGetNextChildPartition: the least id above another among the target's children, and 0 where there is none.
+-- HvGetNextChildPartition: returns the lowest id above another among the target's children, or 0 if there is
+-- none.
 abbrev pub get_next_child_partition : ℕ → ℕ → CallPolicy
 get_next_child_partition partition previous = record {
   row = GET_NEXT_CHILD_PARTITION;

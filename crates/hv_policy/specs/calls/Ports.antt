@@ -17,7 +17,7 @@ use Rattle.hv_policy.specs.declared.rule.Rule.TheVariants.{Connection, PeerExist
 use Rattle.hv_policy.specs.declared.rule.Rule.TheVariants.{Operand, TargetState, VpExists}
 use Rattle.hv_privs.specs.declared.TheConstants.Privileges as privilege
 
--- HvDeletePort: the target's port goes. Connections to it and messages through it stay.
+-- HvDeletePort: removes a port of the target. Connections to it and messages through it stay.
 abbrev pub delete_port : ℕ → ℕ → CallPolicy
 delete_port partition port = record {
   row = DELETE_PORT;
@@ -29,7 +29,7 @@ delete_port partition port = record {
   effect = λ f caller target. record f { port = remove f.port (target, port) };
 }
 
--- HvDisconnectPort: the target's connection goes.
+-- HvDisconnectPort: removes a connection of the target.
 abbrev pub disconnect_port : ℕ → ℕ → CallPolicy
 disconnect_port partition connection = record {
   row = DISCONNECT_PORT;
@@ -41,7 +41,7 @@ disconnect_port partition connection = record {
   effect = λ f caller target. record f { conn = remove f.conn (target, connection) };
 }
 
--- HvCreatePort: the target gets a port, to which the peer may connect.
+-- HvCreatePort: creates a port of the target, to which the peer may connect.
 abbrev pub create_port : ℕ → ℕ → ℕ → PortKind → ℕ → Aim → ℕ → ℕ → CallPolicy
 create_port partition port peer port_kind sint vp base count = record {
   row = CREATE_PORT;
@@ -65,7 +65,7 @@ create_port partition port peer port_kind sint vp base count = record {
   };
 }
 
--- HvConnectPort: the target gets a connection to a port whose peer it is.
+-- HvConnectPort: creates a connection of the target, to a port whose peer it is.
 abbrev pub connect_port : ℕ → ℕ → ℕ → ℕ → PortKind → CallPolicy
 connect_port partition connection port_partition port port_kind = record {
   row = CONNECT_PORT;

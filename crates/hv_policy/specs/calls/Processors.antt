@@ -17,7 +17,7 @@ use Rattle.hv_policy.specs.declared.need.States.TheVariants as states
 use Rattle.hv_policy.specs.declared.rule.Rule.TheVariants.{Pages, Entitlement, Operand, TargetState, VpExists}
 use Rattle.hv_privs.specs.declared.TheConstants.Privileges as privilege
 
--- HvCreateVp: the target gets a processor with this index.
+-- HvCreateVp: creates a processor of the target, with this index.
 abbrev pub create_vp : ℕ → ℕ → CallPolicy
 create_vp partition vp = record {
   row = CREATE_VP;
@@ -30,7 +30,7 @@ create_vp partition vp = record {
   effect = λ f caller target. record f { vp = insert f.vp (target, vp) (start_vp vp) };
 }
 
--- HvDeleteVp: the processor goes, and its messages with it.
+-- HvDeleteVp: removes the processor and its messages.
 abbrev pub delete_vp : ℕ → ℕ → CallPolicy
 delete_vp partition vp = record {
   row = DELETE_VP;
@@ -42,7 +42,7 @@ delete_vp partition vp = record {
   effect = λ f caller target. record f { vp = remove f.vp (target, vp); mail = mail_but_at target vp f.mail };
 }
 
--- HvGetVpRegisters: the value of a register of the processor, in 16 bytes.
+-- HvGetVpRegisters: returns the value of a register of the processor, in 16 bytes.
 abbrev pub get_vp_registers : ℕ → ℕ → ℕ → CallPolicy
 get_vp_registers partition vp name = record {
   row = GET_VP_REGISTERS;
@@ -55,7 +55,7 @@ get_vp_registers partition vp name = record {
   effect = λ f caller target. f;
 }
 
--- HvSetVpRegisters: a register of the processor gets a value.
+-- HvSetVpRegisters: writes a register of the processor.
 abbrev pub set_vp_registers : ℕ → ℕ → ℕ → ℕ → CallPolicy
 set_vp_registers partition vp name value = record {
   row = SET_VP_REGISTERS;

@@ -15,7 +15,7 @@ use Rattle.hv_policy.specs.declared.rule.Rule.TheVariants.{PropertyKnown, Proper
 use Rattle.hv_policy.specs.declared.rule.Rule.TheVariants.{TargetState}
 use Rattle.hv_privs.specs.declared.TheConstants.Privileges as privilege
 
--- HvGetPartitionProperty: the value of the target's property with this code.
+-- HvGetPartitionProperty: returns the value of the target's property with this code.
 abbrev pub get_partition_property : ℕ → ℕ → CallPolicy
 get_partition_property partition code = record {
   row = GET_PARTITION_PROPERTY;
@@ -26,8 +26,7 @@ get_partition_property partition code = record {
   effect = λ f caller target. f;
 }
 
--- HvSetPartitionProperty: the target's property gets a value, and a mask of one that is Active narrows its
--- subtree.
+-- HvSetPartitionProperty: sets a property of the target. The mask of an Active target narrows its subtree.
 abbrev pub set_partition_property : ℕ → ℕ → ℕ → CallPolicy
 set_partition_property partition code value = record {
   row = SET_PARTITION_PROPERTY;
