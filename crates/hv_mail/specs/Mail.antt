@@ -1,4 +1,4 @@
--- What contracts see of a mailbox.
+-- A mailbox as contracts see it.
 use Rattle.std.specs.Prelude.{ℕ, zero, suc, ◌+◌, ◌==◌, ◌&&◌, Bool, true, false, if◌then◌else◌, List, [], ◌∷◌}
 use Rattle.std.specs.Prelude.{◌++◌, Option, None, Some, count_by, refl}
 use Rattle.std.specs.Coded.{Coded, code_by, coded×, coded_ℕ, coded_bool, coded_list, coded_option}
@@ -8,17 +8,16 @@ use Rattle.std.specs.FinMap as map
 use Rattle.hv_mail.specs.Message.{message_code}
 use Rattle.hv_mail.specs.declared.message.Message.{Message}
 
--- what stands at one SINT: the message that its slot shows, if it shows one, and those that wait, the oldest
--- first
+-- the messages at one SINT: the one that its slot shows, if any, and those that wait, the oldest first
 pub record SintMail : Type 0 where
   pub slot : Option Message
   pub waiting : List Message
 
--- nothing
+-- no messages
 abbrev pub no_mail : SintMail
 no_mail = record { slot = None; waiting = [] }
 
--- Show: where none is shown, the oldest that waits is
+-- Show: if none is shown, the oldest that waits becomes shown
 abbrev pub show_next : Option Message → List Message → SintMail
 show_next (Some message) waiting = record { slot = Some message; waiting = waiting }
 show_next None [] = no_mail
@@ -28,25 +27,25 @@ show_next None (oldest ∷ waiting) = record { slot = Some oldest; waiting = wai
 abbrev pub with_next : SintMail → SintMail
 with_next mail = show_next mail.slot mail.waiting
 
--- whether Show makes one shown
+-- whether Show makes a message shown
 abbrev pub is_next : Option Message → List Message → Bool
 is_next (Some message) waiting = false
 is_next None [] = false
 is_next None (oldest ∷ waiting) = true
 
--- and at a SINT
+-- whether Show at a SINT makes one shown
 abbrev pub has_next : SintMail → Bool
 has_next mail = is_next mail.slot mail.waiting
 
--- a message more, behind all others
+-- the messages with one more, behind all others
 abbrev pub with_last : SintMail → Message → SintMail
 with_last mail message = record mail { waiting = mail.waiting ++ message ∷ [] }
 
--- and then Show
+-- the messages with one more, and then Show
 abbrev pub posted : SintMail → Message → SintMail
 posted mail message = with_next (with_last mail message)
 
--- the shown message goes
+-- the messages without the shown one
 abbrev pub cleared : SintMail → SintMail
 cleared mail = record mail { slot = None }
 
@@ -54,7 +53,7 @@ cleared mail = record mail { slot = None }
 abbrev pub is_of : ℕ → ℕ → Message → Bool
 is_of port born message = (message.port == port) && (message.born == born)
 
--- how many did of the message that is shown, and of all at a SINT
+-- the number of messages of a port and birth: of the shown one, and of all at a SINT
 abbrev pub count_shown : ℕ → ℕ → Option Message → ℕ
 count_shown port born None = 0
 count_shown port born (Some message) = if is_of port born message then 1 else 0
@@ -62,38 +61,38 @@ count_shown port born (Some message) = if is_of port born message then 1 else 0
 abbrev pub count_at : ℕ → ℕ → SintMail → ℕ
 count_at port born mail = count_shown port born mail.slot + count_by (is_of port born) mail.waiting
 
--- the mail of a processor by SINT, with no row for a SINT where nothing stands
+-- the mail of a processor by SINT, with no row for a SINT without messages
 abbrev pub Mail : Type 0
 Mail = map.FinMap nat_cmp SintMail
 
--- what a row has, and nothing where there is none
+-- the messages of a row, or none if there is no row
 abbrev pub mail_or_none : Option SintMail → SintMail
 mail_or_none None = no_mail
 mail_or_none (Some mail) = mail
 
--- what stands at a SINT
+-- the messages at a SINT
 abbrev pub at : Mail → ℕ → SintMail
 at mail sint = mail_or_none (map.get mail sint)
 
--- the mail with this row, or without one where it has nothing
+-- the mail with this row, or without a row if the row has no messages
 abbrev pub with_row : Mail → ℕ → Option Message → List Message → Mail
 with_row mail sint None [] = map.remove mail sint
 with_row mail sint slot waiting = map.insert mail sint (record { slot = slot; waiting = waiting })
 
--- the mail with this at a SINT
+-- the mail with these messages at a SINT
 abbrev pub with_at : Mail → ℕ → SintMail → Mail
 with_at mail sint there = with_row mail sint there.slot there.waiting
 
--- Show at each of the first so many SINTs
+-- Show at each SINT below a number
 unfoldable pub all_next : ℕ → Mail → Mail
 all_next zero mail = mail
 all_next (suc sint) mail = with_at (all_next sint mail) sint (with_next (at (all_next sint mail) sint))
 
--- how many messages of a port and birth a processor has
+-- the number of messages of a port and birth at a processor
 abbrev pub count_of : ℕ → ℕ → Mail → ℕ
 count_of port born mail = sum_by (λ e. count_at port born e.1) (map.entries mail)
 
--- the mail, and whether each SINT can take one message more without memory
+-- the mail, and whether each SINT can take one more message without memory
 pub record MailboxState : Type 0 where
   pub mail : Mail
   pub room : Bool

@@ -1,4 +1,4 @@
--- What contracts see of one SINT's queue, and of all sixteen.
+-- One SINT's queue, and all sixteen, as contracts see them.
 use Rattle.std.specs.Prelude.{◌≡◌, ℕ, suc, ◌<◌, ◌==◌, ◌||◌, ◌&&◌, not, Bool, true, false, List, [], ◌∷◌, Some}
 use Rattle.std.specs.Prelude.{None, length, refl}
 use Rattle.std.specs.Coded.{Coded, code_by, coded×, coded_bool}
@@ -9,7 +9,7 @@ use Rattle.hv_defs.specs.declared.sizes.TheConstants.{SINTS}
 use Rattle.hv_mail.specs.Mail.{Mail, SintMail, sint_mail_code, no_mail, at, with_at}
 use Rattle.hv_mail.specs.declared.message.Message.{Message}
 
--- what stands there, and whether one message more has its memory
+-- the messages of a queue, and whether it has memory for one more
 pub record QueueState : Type 0 where
   pub mail : SintMail
   pub room : Bool
@@ -19,13 +19,13 @@ abbrev pub queue_code : Coded QueueState
 queue_code = code_by (SintMail × Bool) (coded× sint_mail_code coded_bool) (λ q. (q.mail, q.room))
     (λ t. record { mail = t.0; room = t.1 }) (λ _. refl)
 
--- what stands at a SINT with these messages, the oldest first, of which the first may be shown
+-- the messages at a SINT from a list, the oldest first, whose first one may be shown
 abbrev pub standing : Bool → List Message → SintMail
 standing true (first ∷ waiting) = record { slot = Some first; waiting = waiting }
 standing true [] = no_mail
 standing false waiting = record { slot = None; waiting = waiting }
 
--- the mail of queues whose first one is that of this SINT
+-- the mail of some queues, the first of which is that of this SINT
 abbrev pub mail_from : ℕ → List QueueState → Mail
 mail_from sint [] = map.empty
 mail_from sint (queue ∷ queues) = with_at (mail_from (suc sint) queues) sint queue.mail
@@ -38,11 +38,11 @@ is_roomy queues = not (length queues == 0) && list_all (λ q. q.room) queues
 abbrev pub is_whole : List QueueState → Bool
 is_whole queues = (length queues == 0) || (length queues == SINTS)
 
--- nothing stands at a SINT whose bit is 0
+-- a SINT whose bit is 0 has no messages
 abbrev pub AreQuiet : ℕ → Mail → Type 0
 AreQuiet busy mail = (sint : ℕ) → sint < SINTS → bit_at busy sint ≡ 0 → at mail sint ≡ no_mail
 
--- the queues of a mailbox, with what is noted of them: that each has room, and which SINTs may have a message
+-- the invariant of a mailbox: its queues, and its notes that each has room and which SINTs may have a message
 pub record AreQueues (queues : List QueueState) (roomy : Bool) (busy : ℕ) : Type 0 where
   pub whole : is_whole queues ≡ true
   pub room : roomy ≡ true → is_roomy queues ≡ true

@@ -1,4 +1,4 @@
--- What a message slot reads as.
+-- The bytes of a message slot.
 use Rattle.std.specs.Prelude.{ℕ, Bool, true, false, List, [], ◌∷◌, Option, None, Some}
 use Rattle.hv_defs.specs.Slot.{zeros, message_bytes}
 use Rattle.hv_mail.specs.Mail.{SintMail}
@@ -9,11 +9,11 @@ abbrev pub is_some_of : {X : Type 0} → List X → Bool
 is_some_of [] = false
 is_some_of (x ∷ xs) = true
 
--- the bytes of the message that is shown, and 256 zeros where none is
+-- the bytes of the shown message, or 256 zeros if there is none
 abbrev pub bytes_of : Option Message → Bool → List ℕ
 bytes_of None pending = zeros 256
 bytes_of (Some m) pending = message_bytes m.kind m.port m.payload.items pending
 
--- and of what stands at a SINT: another message is pending where one waits
+-- the slot's bytes for the messages at a SINT; another message is pending if one waits
 abbrev pub slot_bytes : SintMail → List ℕ
 slot_bytes mail = bytes_of mail.slot (is_some_of mail.waiting)

@@ -20,6 +20,6 @@ keys_where R key test zero = set.empty
 keys_where R key test (suc n) = cond (test n) (set.insert (keys_where R key test n) (key n))
     (keys_where R key test n)
 
--- the set whose number k is in where bit k of the words is 1
+-- the numbers k for which bit k of the words is 1
 unfoldable pub numbers_of : List ℕ → VectorSet
 numbers_of words = keys_where nat_cmp (λ k. k) (has_bit words) (64 * length words)

@@ -8,11 +8,12 @@ use crate::words::{clear_bit, copy_words, set_bit};
 use hv_defs::EVENT_FLAGS;
 use std::marker::Model;
 
-// Words of a SINT's flags.
+// The number of words of a SINT's flags.
 const FLAG_WORDS: usize = EVENT_FLAGS as usize / 64;
 
-/// The event flags at the 16 SINTs of a virtual processor, 2,048 at each (TLFS 4.0, "Event Flags"). It
-/// takes 4 KB in place.
+/// The event flags at the 16 SINTs of a virtual processor, 2,048 at each (TLFS 4.0, "Event Flags").
+///
+/// They take 4 KB in place.
 #[derive(Drop)]
 pub struct Flags {
     // Flag f of SINT s is bit 2,048 s + f, and bit k is bit k % 64 of word k / 64.
@@ -31,14 +32,14 @@ impl Model for Flags {
 }
 
 impl Flags {
-    /// No flag is set.
+    /// Creates the flags with none set.
     pub fn new() -> Flags
         ensures { result ≡ set.empty }
     {
         Flags { words: [0; 512] }
     }
 
-    /// Sets a flag below 2,048 of a SINT below 16. True where it was clear.
+    /// Sets a flag below 2,048 of a SINT below 16. Returns `true` if it was clear.
     pub fn set(&mut self, sint: u8, flag: u16) -> bool
         requires sint { sint < SINTS }
         requires flag { flag < EVENT_FLAGS }
@@ -70,7 +71,7 @@ impl Flags {
     }
 }
 
-// Where the bit of a flag stands.
+// The number of a flag's bit.
 fn place(sint: u8, flag: u16) -> usize
     requires sint { sint < SINTS }
     requires flag { flag < EVENT_FLAGS }

@@ -1,4 +1,4 @@
-// The messages of one processor: a queue for each SINT, made when room for the first message is.
+// The messages of one processor: a queue for each SINT, created with the room for the first message.
 ghost use Rattle.std.specs.Prelude.{◌≡◌, ◌<◌, ◌≤◌, ◌==◌, ◌^◌, ℕ, true, IfOk, IsOk, OnOk, length};
 ghost use Rattle.std.specs.Int.{bit_at};
 ghost use Rattle.std.specs.List.{list_all, sum_by};
@@ -15,14 +15,14 @@ use hv_defs::SINTS;
 use std::alloc::{AllocError, Allocator};
 use std::marker::Model;
 
-/// The messages at the 16 SINTs of a virtual processor: one shown at each, and others waiting, in
-/// memory of an allocator `A`.
+/// The messages at the 16 SINTs of a virtual processor, in memory of an allocator `A`.
 ///
-/// No memory is taken before the first message. A mailbox that is dropped gives its memory back.
+/// Each SINT shows at most one message, and the others wait. A mailbox takes no memory before the first
+/// message. Dropping a mailbox gives its memory back.
 #[derive(Drop)]
 pub struct Mailbox<A: Allocator> {
     queues: Vec<SintQueue<A>, A>,
-    // Where it is set, each SINT is known to have room, and the queues need not be asked.
+    // If set, each SINT is known to have room, and the queues need not be checked.
     roomy: bool,
     // Bit n is 1 where SINT n may have a message. No other SINT has one.
     busy: u16,
@@ -42,7 +42,7 @@ impl<A: Allocator> Model for Mailbox<A> {
 }
 
 impl<A: Allocator> Mailbox<A> {
-    /// No message, and no memory for any.
+    /// Creates a mailbox without messages, and without memory for any.
     pub fn new(alloc: A) -> Mailbox<A>
         ensures { result ≡ no_messages }
     {
@@ -53,16 +53,16 @@ impl<A: Allocator> Mailbox<A> {
         }
     }
 
-    /// Whether there is room for one message more at each SINT.
+    /// Returns `true` if there is room for one more message at each SINT.
     pub fn has_room(&self) -> bool
         ensures { result ≡ self.now.room }
     {
         self.roomy || (!self.queues.is_empty() && are_roomy(&self.queues))
     }
 
-    /// Makes room for one message more at each SINT. Room that is there already always suffices.
+    /// Makes room for one more message at each SINT. Existing room always suffices.
     ///
-    /// `Err` where there is no memory for it, or where 2^59 messages wait at a SINT. No message is lost
+    /// Returns `Err` if there is no memory for it, or if 2^59 messages wait at a SINT. No message is lost
     /// then either.
     pub fn reserve_one(&mut self) -> Result<(), AllocError>
     where
@@ -83,8 +83,9 @@ impl<A: Allocator> Mailbox<A> {
         Ok(())
     }
 
-    /// Adds a message behind those that stand at a SINT below 16, and shows it where none does. It must
-    /// find room. True where a message became shown.
+    /// Adds a message behind all others at a SINT below 16. Returns `true` if a message became shown.
+    ///
+    /// If the SINT shows no message, it shows the oldest. There must be room for the message.
     pub fn post(&mut self, sint: u8, message: Message) -> bool
         requires sint { sint < SINTS }
         requires room { self.old.room ≡ true }
@@ -98,9 +99,10 @@ impl<A: Allocator> Mailbox<A> {
         shown
     }
 
-    /// The 256 bytes of the message slot of a SINT below 16, which are zeros where it shows no message:
-    /// the type in 4 bytes, the payload's size, a byte that is 1 where another message waits and 0
-    /// otherwise, two zeros, the port's id in 8, and the payload with zeros after it. Numbers are
+    /// The 256 bytes of the message slot of a SINT below 16, or zeros if it shows no message.
+    ///
+    /// In order: the type in 4 bytes, the payload's size, a byte that is 1 if another message waits and 0
+    /// otherwise, two zeros, the port's id in 8 bytes, and the payload with zeros after it. Numbers are
     /// little-endian.
     pub fn slot(&self, sint: u8) -> [u8; 256]
         requires { sint < SINTS }
@@ -114,7 +116,7 @@ impl<A: Allocator> Mailbox<A> {
         }
     }
 
-    /// Removes the message that a SINT below 16 shows, if it shows one. None is shown in its place.
+    /// Removes the message that a SINT below 16 shows, if any. No other message takes its place.
     pub fn clear(&mut self, sint: u8)
         requires { sint < SINTS }
         ensures mail { self.new.mail ≡ with_at self.old.mail sint (cleared (at self.old.mail sint)) }
@@ -130,8 +132,9 @@ impl<A: Allocator> Mailbox<A> {
         }
     }
 
-    /// At each SINT that shows none, shows the oldest message that waits there. Bit n of the answer is 1
-    /// where a message became shown at SINT n.
+    /// Shows the oldest waiting message at each SINT that shows none.
+    ///
+    /// Bit n of the result is 1 if a message became shown at SINT n.
     pub fn advance_all(&mut self) -> u16
         ensures mail { self.new.mail ≡ all_next SINTS self.old.mail }
         ensures shown { (sint : ℕ) → sint < SINTS → (bit_at result sint == 1) ≡ has_next
@@ -147,7 +150,7 @@ impl<A: Allocator> Mailbox<A> {
         shown
     }
 
-    // Shows the oldest message that waits at a SINT, where one waits and none is shown. Says whether one
+    // Shows the oldest waiting message at a SINT, if one waits and none is shown. Returns `true` if one
     // became shown.
     fn advance(&mut self, sint: u8) -> bool
         requires { sint < SINTS }
@@ -168,8 +171,9 @@ impl<A: Allocator> Mailbox<A> {
         }
     }
 
-    /// How many messages there are, shown or waiting, that came through this port of this birth. The
-    /// time is proportional to the number of all messages.
+    /// The number of messages, shown or waiting, that came through this port of this birth.
+    ///
+    /// The time is proportional to the number of all messages.
     pub fn of_port(&self, port: u32, born: u64) -> usize
         ensures { result ≡ count_of port born self.now.mail }
     {
@@ -177,8 +181,7 @@ impl<A: Allocator> Mailbox<A> {
     }
 }
 
-// How many messages of a port and birth there are in 16 queues at most, of which the busy ones alone
-// are looked at.
+// The number of messages of a port and birth in at most 16 queues. Only the busy queues are examined.
 fn count_each<A: Allocator>(queues: &[SintQueue<A>], busy: u16, port: u32, born: u64) -> usize
     requires few { length queues.now ≤ SINTS }
     requires quiet { AreQuiet busy (mail_from 0 queues.now) }
@@ -200,7 +203,7 @@ fn are_roomy<A: Allocator>(queues: &[SintQueue<A>]) -> bool
     queues.iter().all(|queue| queue.has_room())
 }
 
-// A queue for each SINT, with nothing in it and room for one message.
+// Creates a queue for each SINT, without messages and with room for one.
 fn quiet_queues<A: Allocator + Clone>(alloc: A) -> Result<Vec<SintQueue<A>, A>, AllocError>
     ensures count { IfOk result (λ queues. length queues.items ≡ SINTS) }
     ensures quiet { IfOk result (λ queues. mail_from 0 queues.items ≡ map.empty) }

@@ -9,7 +9,7 @@ use arrayvec::ArrayVec;
 pub struct Message {
     /// The id of the port.
     pub port: u32,
-    /// That port's birth, which tells it from one that had the same id before.
+    /// That port's birth, which tells it from an earlier port with the same id.
     pub born: u64,
     /// The message's type.
     pub kind: u32,

@@ -1,4 +1,4 @@
-// The vectors that wait for their processor.
+// The pending vectors of a processor.
 ghost use Rattle.std.specs.Prelude.{◌≡◌};
 ghost use Rattle.std.specs.FinSet as set;
 ghost use Rattle.hv_defs.specs.Vectors.{highest, without};
@@ -7,7 +7,7 @@ ghost use Rattle.hv_mail.specs.Words.{numbers_of};
 use crate::words::{clear_bit, highest_bit, set_bit};
 use std::marker::Model;
 
-/// The interrupt vectors that wait for a virtual processor, a set of numbers from 0 to 255.
+/// The pending interrupt vectors of a virtual processor, a set of numbers from 0 to 255.
 #[derive(Drop)]
 pub struct Pending {
     words: [u64; 4],
@@ -25,7 +25,7 @@ impl Model for Pending {
 }
 
 impl Pending {
-    /// No vector waits.
+    /// Creates the empty set of vectors.
     pub fn new() -> Pending
         ensures { result ≡ set.empty }
     {

@@ -1,4 +1,4 @@
-// What stands at one SINT: a ring of messages, of which the first may be shown.
+// The queue of one SINT: a ring of messages, the first of which may be shown.
 ghost use Rattle.std.specs.Prelude.{◌≡◌, ◌≤◌, ◌^◌, true, IfOk, OnOk};
 ghost use Rattle.hv_mail.specs.Mail.{no_mail, with_next, has_next, with_last, posted, cleared, count_at};
 ghost use Rattle.hv_mail.specs.Slot.{is_some_of, slot_bytes};
@@ -16,7 +16,7 @@ const MOST: usize = 1 << 59;
 pub(crate) struct SintQueue<A: Allocator> {
     // The oldest is first.
     messages: VecDeque<Message, A>,
-    // Whether the first is shown, and then there is one. The others wait.
+    // Whether there is a first message and it is shown. The others wait.
     is_shown: bool,
 }
 
@@ -40,7 +40,7 @@ impl<A: Allocator> Model for SintQueue<A> {
 }
 
 impl<A: Allocator> SintQueue<A> {
-    // No message, and room for one that is shown and one that waits, which is all that most SINTs ever need.
+    // Creates an empty queue with room for one shown and one waiting message. Most SINTs never need more.
     pub(crate) fn new(alloc: A) -> Result<SintQueue<A>, AllocError>
         ensures mail { IfOk result (λ q. q.mail ≡ no_mail) }
         ensures room { IfOk result (λ q. q.room ≡ true) }
@@ -51,7 +51,7 @@ impl<A: Allocator> SintQueue<A> {
         })
     }
 
-    // Makes room for one message more.
+    // Makes room for one more message.
     pub(crate) fn reserve_one(&mut self) -> Result<(), AllocError>
         ensures ok { OnOk result (self.new.room ≡ true) }
         ensures mail { self.new.mail ≡ self.old.mail }
@@ -68,7 +68,7 @@ impl<A: Allocator> SintQueue<A> {
         self.messages.len() < self.messages.capacity() && self.messages.len() < MOST
     }
 
-    // The message goes last, and then the next is shown. Says whether one became shown.
+    // Adds a message last, and then shows the next. Returns `true` if one became shown.
     pub(crate) fn post(&mut self, message: Message) -> bool
         requires { self.old.room ≡ true }
         ensures mail { self.new.mail ≡ posted self.old.mail message }
@@ -78,7 +78,7 @@ impl<A: Allocator> SintQueue<A> {
         self.advance()
     }
 
-    // Where none is shown, the oldest that waits is. Says whether one became shown.
+    // Shows the oldest waiting message if none is shown. Returns `true` if one became shown.
     pub(crate) fn advance(&mut self) -> bool
         ensures mail { self.new.mail ≡ with_next self.old.mail }
         ensures shown { result ≡ has_next self.old.mail }
@@ -91,7 +91,7 @@ impl<A: Allocator> SintQueue<A> {
         true
     }
 
-    // The shown message goes.
+    // Removes the shown message.
     pub(crate) fn clear(&mut self)
         ensures mail { self.new.mail ≡ cleared self.old.mail }
         ensures kept { self.old.room ≡ true → self.new.room ≡ true }
@@ -109,7 +109,7 @@ impl<A: Allocator> SintQueue<A> {
         self.messages.len() > usize::from(self.is_shown)
     }
 
-    // How many messages of a port and birth stand here.
+    // The number of messages of a port and birth in this queue.
     pub(crate) fn count_of(&self, port: u32, born: u64) -> usize
         ensures count { result ≡ count_at port born self.now.mail }
         ensures small { result ≤ 2 ^ 59 }
@@ -117,7 +117,7 @@ impl<A: Allocator> SintQueue<A> {
         self.messages.iter().filter(|m| m.is_of(port, born)).count()
     }
 
-    // The bytes that the slot reads as.
+    // The bytes of the slot.
     pub(crate) fn slot(&self) -> [u8; 256]
         ensures { result ≡ slot_bytes self.now.mail }
     {

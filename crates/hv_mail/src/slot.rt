@@ -1,4 +1,4 @@
-// The bytes that a slot reads as.
+// The bytes of a message slot.
 ghost use Rattle.std.specs.Prelude.{◌≡◌, Some, if◌then◌else◌};
 ghost use Rattle.hv_mail.specs.Slot.{bytes_of};
 

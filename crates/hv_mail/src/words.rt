@@ -4,7 +4,7 @@ ghost use Rattle.std.specs.Prelude.{length, map, IfSome, IsNone};
 ghost use Rattle.std.specs.List.{range_with_len};
 ghost use Rattle.hv_mail.specs.Words.{has_bit, byte_of};
 
-// Sets the bit, and says whether it was clear.
+// Sets the bit. Returns `true` if it was clear.
 #[tactic(auto, using(crate::proofs::WordBits::bit_set, crate::proofs::WordBits::clear_tested))]
 pub(crate) fn set_bit(words: &mut [u64], at: usize) -> bool
     requires { at / 64 < length words.old }
@@ -47,7 +47,7 @@ pub(crate) fn highest_bit(words: &[u64]) -> Option<usize>
     None
 }
 
-// Writes whole words as bytes, the lowest of a word first, from word `first` on.
+// Copies whole words, from word `first` on, into bytes, the lowest byte of a word first.
 pub(crate) fn copy_words(words: &[u64], first: usize, bytes: &mut [u8])
     requires whole { length bytes.old % 8 ≡ 0 }
     requires within { 8 * first + length bytes.old ≤ 8 * length words.now }

@@ -33,7 +33,7 @@ abbrev pub program_line : App
 program_line = with_subcommand (with_subcommand (with_subcommand (with_subcommand (with_subcommand bare_line
     run_line.top) check_line.top) explain_line.top) serve_line.top) draw_line.top
 
--- what is asked for: a command, with the names of its files and its flags
+-- a request: a command, with the names of its files and its flags
 pub data Asked : Type 0 where
   Run : (script : Text) (serial table : Bool) → Asked
   Check : (script audit : Text) (prefix rules : Bool) → Asked
@@ -41,7 +41,7 @@ pub data Asked : Type 0 where
   Serve : Asked
   Draw : (script : Text) → Asked
 
--- what a command asks for
+-- the request of a command
 abbrev pub asked_for : Command → Asked
 asked_for (command.Run options) = Run options.script.now options.serial options.table
 asked_for (command.Check script audit prefix rules) = Check script.now audit.now prefix rules
@@ -95,6 +95,6 @@ entered_by words = subcommand_of program_line words
 abbrev pub asked_by : List Text → Option Asked
 asked_by words = asked_by_entered (entered_by words)
 
--- the kinds of clap's error at the words, and none where it takes them
+-- the kinds of clap's error for the words, or none if it accepts them
 unfoldable pub program_faults : List Text → Kinds
 program_faults words = fault_of program_line words

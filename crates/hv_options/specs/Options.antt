@@ -36,7 +36,7 @@ bare_line = on_top (λ s. record s { has_version = true; subcommand_required = t
 abbrev pub command_line : App
 command_line = with_subcommand bare_line run_line.top
 
--- clap's matches of `run`, where the words enter it
+-- clap's matches of `run`, if the words enter it
 unfoldable pub run_matches : List Text → Option (List Row)
 run_matches words = option_map (λ entered. entered.1) (subcommand_of command_line words)
 
@@ -61,7 +61,7 @@ said_by_matches m =
 abbrev pub said_by : List Text → Option (Text × Bool × Bool)
 said_by words = option_and_then said_by_rows (run_matches words)
 
--- the kinds of clap's error at the words, and none where it takes them
+-- the kinds of clap's error for the words, or none if it accepts them
 unfoldable pub faults_of : List Text → Kinds
 faults_of words = fault_of command_line words
 
@@ -76,7 +76,7 @@ abbrev pub is_request_alone : Kinds → Bool
 is_request_alone [] = false
 is_request_alone (kind ∷ more) = list_all is_request (kind ∷ more)
 
--- what a refusal says of these kinds: help or the version was asked for, or it was not that alone
+-- a refusal explains these kinds: `Help` if help or the version was asked for, `Words` if not only that
 abbrev pub Explains : Kinds → Usage → Type 0
 Explains kinds (Help text) = list_any is_request kinds ≡ true
 Explains kinds (Words text) = is_request_alone kinds ≡ false

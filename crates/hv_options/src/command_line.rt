@@ -1,4 +1,4 @@
-// The command line, and what its words ask for.
+// The command line, and the options that its words ask for.
 ghost use Rattle.std.specs.Prelude.{◌≡◌, [], Bool, List, ℕ, Some, true, false, codes, map, IfOk, IfErr, OnOk};
 ghost use Rattle.clap.specs.Words.{HasKind, Kinds, app_of, found_of, kind_of, rows_of, rule_of};
 ghost use Rattle.clap.specs.declared.builder.command.Command.TheViews.{out-Command as fields_of};
@@ -14,8 +14,9 @@ use std::convert::AsStr;
 // What `--version` shows after the program's name.
 pub(crate) const VERSION: &str = "0.1.0";
 
-/// Reads the words of the command line, of which the first is the program's name, as in `env::args`.
-/// `--serial` and `--table` may be given or not.
+/// Reads the words of the command line, the first of which is the program's name, as in `env::args`.
+///
+/// `--serial` and `--table` are optional.
 pub fn options<'a, S: AsStr>(alloc: Global, words: &'a [S]) -> Result<Options<'a>, Usage>
     ensures said { IfOk result (λ o. said_by (map S.text words.entry.now)
         ≡ Some (o.script.now, o.serial, o.table)) }
@@ -98,7 +99,7 @@ pub(crate) fn flag<'a>(alloc: Global, name: &'a str, help: &'a str) -> Arg<'a>
         .help(help)
 }
 
-// What the matches say, where clap took the words.
+// Reads the options from the matches of words that clap accepted.
 fn read<'a>(alloc: Global, matches: &ArgMatches<'a>) -> Result<Options<'a>, Usage>
     ensures said { IfOk result (λ o. said_by_matches matches.now ≡ Some (o.script.now, o.serial, o.table)) }
     ensures refused { IfErr result (Explains []) }
@@ -121,7 +122,7 @@ fn read<'a>(alloc: Global, matches: &ArgMatches<'a>) -> Result<Options<'a>, Usag
     })
 }
 
-// Whether a flag was given: its value is `true` then.
+// Returns `true` if a flag was given: its value is `true` then.
 pub(crate) fn is_given(matches: &ArgMatches<'_>, name: &str) -> bool
     ensures { result ≡ is_given name.now (rows_of (found_of matches.now)) }
 {
@@ -131,7 +132,7 @@ pub(crate) fn is_given(matches: &ArgMatches<'_>, name: &str) -> bool
     }
 }
 
-// A refusal of clap's, with its text, which is shown and no mistake where it is help or the version.
+// Turns an error of clap's, with its text, into a refusal. Help and the version are shown and are no mistake.
 pub(crate) fn refusal(alloc: Global, error: &ClapError) -> Usage
     ensures explains { (kinds : Kinds) → HasKind kinds error.now → Explains kinds result }
     ensures memory { kind_of error.now ≡ ErrorKind.OutOfMemory → result ≡ Usage.Memory }
@@ -147,7 +148,7 @@ pub(crate) fn refusal(alloc: Global, error: &ClapError) -> Usage
     }
 }
 
-// Whether clap's error of this kind is no mistake, and its text is what was asked for.
+// Returns `true` if an error of this kind is no mistake: its text is what the words ask for.
 fn is_request(kind: ErrorKind) -> bool
     ensures { result ≡ is_request kind }
 {

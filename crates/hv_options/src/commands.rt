@@ -1,4 +1,4 @@
-// The command line of the whole program, and what its words ask for.
+// The command line of the whole program, and the command that its words ask for.
 ghost use Rattle.std.specs.Prelude.{◌≡◌, [], Some, false, map, IfOk, IfErr, OnOk, option_map};
 ghost use Rattle.clap.specs.Words.{app_of, first_of, found_of, rows_of, rule_of};
 ghost use Rattle.clap.specs.declared.builder.command.Command.TheViews.{out-Command as fields_of};
@@ -13,8 +13,10 @@ use clap::{Arg, ArgMatches, Command as Line};
 use std::alloc::{AllocError, Global};
 use std::convert::AsStr;
 
-/// Reads the words of the program's command line, of which the first is the program's name, as in
-/// `env::args`. Whether two of the files are standard input isn't asked.
+/// Reads the words of the program's command line, the first of which is the program's name, as in
+/// `env::args`.
+///
+/// It doesn't check whether two of the files are standard input.
 pub fn command<'a, S: AsStr>(alloc: Global, words: &'a [S]) -> Result<Command<'a>, Usage>
     ensures said { IfOk result (λ c. asked_by (map S.text words.entry.now) ≡ Some (asked_for c)) }
     ensures faultless { OnOk result (program_faults (map S.text words.entry.now) ≡ []) }
@@ -99,7 +101,7 @@ fn audit_argument<'a>(alloc: Global, required: bool, help: &'a str) -> Arg<'a>
     Arg::new(alloc, "AUDIT").required(required).help(help)
 }
 
-// What the matches ask for, where clap took the words.
+// Reads the command from the matches of words that clap accepted.
 fn read<'a>(alloc: Global, matches: &ArgMatches<'a>) -> Result<Command<'a>, Usage>
     ensures said { IfOk result (λ c. asked_by_matches matches.now ≡ Some (asked_for c)) }
     ensures refused { IfErr result (Explains []) }
@@ -115,7 +117,7 @@ fn read<'a>(alloc: Global, matches: &ArgMatches<'a>) -> Result<Command<'a>, Usag
     }
 }
 
-// What the matches of the subcommand of this name ask for.
+// Reads the command from the matches of the subcommand of this name.
 fn read_named<'a>(name: &str, own: &ArgMatches<'a>) -> Option<Command<'a>>
     ensures { option_map asked_for result ≡ asked_by_rows name.now (rows_of (found_of own.now)) }
 {
@@ -177,7 +179,7 @@ fn read_draw<'a>(own: &ArgMatches<'a>) -> Option<Command<'a>>
     Some(Command::Draw { script })
 }
 
-// The value of an argument, where it has one.
+// The value of an argument, if it has one.
 fn value_in<'a>(own: &ArgMatches<'a>, name: &str) -> Option<&'a str>
     ensures { option_map (λ value. value.now) result ≡ first_of name.now (rows_of (found_of own.now)) }
 {

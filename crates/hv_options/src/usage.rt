@@ -1,11 +1,11 @@
-// What the words of the command line come to.
+// The results of reading the command line.
 ghost use Rattle.std.specs.Prelude.{[]};
 ghost use Rattle.hv_options.specs.Options.{Explains};
 
 use std::alloc::{AllocError, Global};
 use thiserror::Error;
 
-/// What the words of the command line ask for.
+/// The options that the words of the command line ask for.
 #[derive(Clone, Copy, Debug)]
 pub struct Options<'a> {
     /// The word that names the script: the path of its file, or `-` for standard input.
@@ -16,13 +16,14 @@ pub struct Options<'a> {
     pub table: bool,
 }
 
-/// What the words of the command line ask for, of all that the program does. The name of a script or an audit
-/// is the path of its file, or `-` for standard input.
+/// The command that the words of the command line ask for, of all that the program has.
+///
+/// The name of a script or an audit is the path of its file, or `-` for standard input.
 #[derive(Clone, Copy, Debug)]
 pub enum Command<'a> {
     /// `run SCRIPT [--serial] [--table]`: runs a script, and prints its audit.
     Run(Options<'a>),
-    /// `check SCRIPT AUDIT [--prefix] [--no-rules]`: tells whether a run of the script may write the audit.
+    /// `check SCRIPT AUDIT [--prefix] [--no-rules]`: checks whether a run of the script may write the audit.
     Check {
         script: &'a str,
         audit: &'a str,
@@ -31,8 +32,8 @@ pub enum Command<'a> {
         /// Whether the names of rules are compared.
         rules: bool,
     },
-    /// `explain SCRIPT [AUDIT]`: tells the events of a script in words, in the order of an audit if one is
-    /// named.
+    /// `explain SCRIPT [AUDIT]`: describes the events of a script in words, in the order of an audit if one
+    /// is named.
     Explain {
         script: &'a str,
         audit: Option<&'a str>,
@@ -54,7 +55,7 @@ pub enum Usage {
     /// The words are wrong. The text is whole lines for standard error.
     #[error("{0}")]
     Words(String),
-    /// There is no memory.
+    /// Out of memory.
     #[error("memory")]
     Memory,
 }
@@ -71,8 +72,9 @@ impl From<AllocError> for Usage {
 }
 
 impl Usage {
-    /// A refusal of the program's own, with a text that ends its line. It is `Words`, or `Memory` where there
-    /// is none for the text.
+    /// Creates a refusal of the program's own, with a text that ends its line.
+    ///
+    /// It is `Words`, or `Memory` if there is no memory for the text.
     pub fn mistake(alloc: Global, text: &str) -> Usage
         ensures { Explains [] result }
     {

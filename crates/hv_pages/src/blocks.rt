@@ -1,4 +1,4 @@
-// Runs of pages in blocks. A run that comes or goes moves the runs of one block. A block that fills up
+// Runs of pages in blocks. Inserting or removing a run moves the runs of one block. A block that fills up
 // becomes two, and two neighbors that fit in half a block become one.
 ghost use Rattle.std.specs.Prelude.{◌≡◌, ℕ, ◌+◌, ◌-◌, ◌*◌, ◌^◌, ◌<◌, ◌≤◌, ◌++◌, ◌∷◌, [], ◌↔◌};
 ghost use Rattle.std.specs.Prelude.{length, take, drop, All, vec_len, slice_index_or, slice_set};
@@ -17,21 +17,21 @@ use crate::runs::Run;
 use arrayvec::ArrayVec;
 use std::alloc::{AllocError, Allocator};
 
-// The most runs of a block, and half of them.
+// The most runs of a block, and half of that.
 const FULL: usize = 256;
 
 const HALF: usize = 128;
 
 type Block = ArrayVec<Run, FULL>;
 
-// Where a run stands: in which block, and where in the block.
+// The position of a run: its block, and its position in the block.
 #[derive(Clone, Copy, Drop)]
 pub(crate) struct Place {
     pub(crate) block: usize,
     pub(crate) at: usize,
 }
 
-// The room is how many more runs are sure to find a place.
+// Blocks of runs. The room is the number of further runs that are sure to find a place.
 // proof: it is a field, since no contract of `Vec` says that 128 times a capacity fits a `usize`.
 #[derive(Drop)]
 pub(crate) struct Blocks<A: Allocator> {
@@ -39,7 +39,7 @@ pub(crate) struct Blocks<A: Allocator> {
     pub(crate) room: usize,
 }
 
-// Puts a run into a block that is not full.
+// Inserts a run into a block that is not full.
 fn insert_into<A: Allocator>(blocks: &mut Vec<Block, A>, block: usize, at: usize, run: Run)
     requires block { block < vec_len blocks.old }
     requires at { (b : ABlock) → at ≤ length (slice_index_or blocks.old.items block b).items }
@@ -52,8 +52,8 @@ fn insert_into<A: Allocator>(blocks: &mut Vec<Block, A>, block: usize, at: usize
     blocks[block].insert(at, run);
 }
 
-// Puts a block in at a place. The blocks from there on turn by one place, which the compiler makes one move
-// of memory. Of `Vec::insert` it would make a loop.
+// Inserts a block at a place. The blocks from there on rotate by one place, which the compiler makes one move
+// of memory. It would make a loop of `Vec::insert`.
 fn insert_block<A: Allocator>(blocks: &mut Vec<Block, A>, at: usize, block: Block)
     requires room { vec_len blocks.old < vec_capacity blocks.old }
     requires within { at ≤ vec_len blocks.old }
@@ -65,7 +65,7 @@ fn insert_block<A: Allocator>(blocks: &mut Vec<Block, A>, at: usize, block: Bloc
     blocks[at..].rotate_right(1);
 }
 
-// Makes two blocks of a full one.
+// Splits a full block into two.
 fn split<A: Allocator>(blocks: &mut Vec<Block, A>, at: usize)
     requires at { at < vec_len blocks.old }
     requires full { (b : ABlock) → length (slice_index_or blocks.old.items at b).items ≡ 256 }
@@ -85,7 +85,7 @@ fn split<A: Allocator>(blocks: &mut Vec<Block, A>, at: usize)
     insert_block(blocks, at + 1, lower);
 }
 
-// Makes one block of two neighbors that fit in half a block.
+// Joins two neighbors that fit in half a block.
 fn join<A: Allocator>(blocks: &mut Vec<Block, A>, at: usize)
     requires next { at + 1 < vec_len blocks.old }
     requires few { (b : ABlock) → length (slice_index_or blocks.old.items at b).items
@@ -105,7 +105,7 @@ fn join<A: Allocator>(blocks: &mut Vec<Block, A>, at: usize)
     };
 }
 
-// How many runs begin above the page.
+// The number of runs that begin above the page.
 fn search(runs: &[Run], page: u32) -> usize
     ensures bound { result ≤ length runs.now }
     ensures above { (r : ARun) → 1 ≤ result → page < (slice_index_or runs.now (result - 1) r).first }
@@ -123,7 +123,7 @@ fn search(runs: &[Run], page: u32) -> usize
     low
 }
 
-// How many blocks have only runs that begin above the page.
+// The number of blocks whose runs all begin above the page.
 fn search_blocks(blocks: &[Block], page: u32) -> usize
     requires { (k : ℕ) (b : ABlock) → k < length blocks.now
         → 1 ≤ length (slice_index_or blocks.now k b).items }
@@ -211,7 +211,7 @@ impl<A: Allocator> Blocks<A> {
         }
     }
 
-    // The place of the run behind, or the end.
+    // The place of the next run, or the end.
     pub(crate) fn next(&self, place: Place) -> Place
         requires blocks { AreBlocks self.now }
         requires place { HasRun self.now place }
@@ -231,7 +231,7 @@ impl<A: Allocator> Blocks<A> {
         }
     }
 
-    // The place of the last run, or `None` where there is no run.
+    // The place of the last run, or `None` if there is no run.
     pub(crate) fn last(&self) -> Option<Place>
         requires blocks { AreBlocks self.now }
         ensures none { IsNone result ↔ (length (runs_in self.now) ≡ 0) }
@@ -248,7 +248,7 @@ impl<A: Allocator> Blocks<A> {
         })
     }
 
-    // How many runs there are.
+    // The number of runs.
     pub(crate) fn count(&self) -> u64
         requires { length (runs_in self.now) ≤ 2 ^ 32 }
         ensures { result ≡ length (runs_in self.now) }
@@ -261,7 +261,7 @@ impl<A: Allocator> Blocks<A> {
         count
     }
 
-    // Writes another run at a place.
+    // Replaces the run at a place.
     pub(crate) fn set(&mut self, place: Place, run: Run)
         requires blocks { AreBlocks self.old }
         requires place { HasRun self.old place }
@@ -310,8 +310,8 @@ impl<A: Allocator> Blocks<A> {
         Ok(())
     }
 
-    // Takes out the run at a place. A block that has no other run goes, and a block that has become small
-    // joins a neighbor, so that few runs never take many blocks.
+    // Removes the run at a place. A block without other runs goes, and a block that has become small joins a
+    // neighbor, so that few runs never take many blocks.
     pub(crate) fn remove(&mut self, place: Place)
         requires blocks { AreBlocks self.old }
         requires place { HasRun self.old place }
@@ -327,7 +327,7 @@ impl<A: Allocator> Blocks<A> {
         }
     }
 
-    // Takes out a block of one run.
+    // Removes a block of one run.
     fn remove_block(&mut self, block: usize)
         requires blocks { AreBlocks self.old }
         requires block { block < vec_len self.old.blocks }
@@ -343,7 +343,7 @@ impl<A: Allocator> Blocks<A> {
         }
     }
 
-    // Takes a run out of a block that has others. The block and a neighbor may fit in half a block then.
+    // Removes a run from a block that has others. The block and a neighbor may then fit in half a block.
     fn remove_in(&mut self, block: usize, at: usize)
         requires blocks { AreBlocks self.old }
         requires block { block < vec_len self.old.blocks }
@@ -399,7 +399,7 @@ impl<A: Allocator> Blocks<A> {
         self.room = self.room.saturating_add(HALF);
     }
 
-    // Puts a run in at a place, before the one that stands there.
+    // Inserts a run at a place, before the run that is there.
     pub(crate) fn insert(&mut self, place: Place, run: Run)
         requires blocks { AreBlocks self.old }
         requires room { 1 ≤ self.old.room }
@@ -421,7 +421,7 @@ impl<A: Allocator> Blocks<A> {
         }
     }
 
-    // Puts a run into a block. A full block becomes two first.
+    // Inserts a run into a block. A full block is split first.
     fn insert_in(&mut self, block: usize, at: usize, run: Run)
         requires blocks { AreBlocks self.old }
         requires room { 1 ≤ self.old.room }

@@ -25,7 +25,7 @@ kind_of-number Event = refl
 abbrev pub kind_code : Coded PortKind
 kind_code = code_by ℕ coded_ℕ kind_number kind_of kind_of-number
 
--- its aim as the index of the one processor, and as none for any
+-- an aim is stored as the index of its processor, or as none for any processor
 abbrev pub index_of : Aim → Option ℕ
 index_of (One index) = Some index
 index_of Any = None

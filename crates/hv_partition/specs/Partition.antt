@@ -1,4 +1,4 @@
--- What contracts see of a partition.
+-- A partition as contracts see it.
 use Rattle.std.specs.Prelude.{◌≡◌, ℕ, ◌+◌, ◌-◌, ◌*◌, zero, suc, refl}
 use Rattle.std.specs.Coded.{Coded, code_by, coded×, coded_ℕ}
 use Rattle.std.specs.FinMap as map
@@ -117,7 +117,7 @@ with_vp_of p index vp = record p { vps = with_vp p.vps index vp }
 abbrev pub no_pages : PagesAndRoom
 no_pages = record { pages = set.empty; room = 0 }
 
--- a partition as it starts, without pages and processors, ports and connections
+-- a new partition, without pages, processors, ports and connections
 abbrev pub new_partition : Life → Privileges → PartitionState
 new_partition life mask = record {
   life = life;
@@ -132,17 +132,17 @@ new_partition life mask = record {
   conns = table.no_rows;
 }
 
--- the pooled pages that so many children and its processors, ports and connections use
+-- the number of pooled pages that this many children and its processors, ports and connections use
 abbrev pub in_use : ℕ → PartitionState → ℕ
 in_use children p =
     PARTITION_CHARGE * children + VP_CHARGE * map.len p.vps.vps + PORT_CHARGE * map.len p.ports.rows +
     CONNECTION_CHARGE * map.len p.conns.rows
 
--- the pooled pages that it may still use
+-- the number of pooled pages that it may still use
 abbrev pub available : ℕ → PartitionState → ℕ
 available children p = set.len p.pooled.pages - in_use children p
 
--- the partition once it is finalized: its processors, ports and connections go, and its pages stay
+-- the partition after it is finalized: without processors, ports and connections, with its pages
 abbrev pub finalized : PartitionState → PartitionState
 finalized p = record p {
   life = Finalized;

@@ -5,6 +5,6 @@
 pub enum PageKind {
     /// The partition's own memory.
     Loose,
-    /// Its pool: these pay for its children, processors, ports and connections.
+    /// The partition's pool, which pays for its children, processors, ports and connections.
     Pooled,
 }

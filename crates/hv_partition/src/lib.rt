@@ -1,14 +1,12 @@
-//! One partition: its life state, its privileges, its CPU properties, its pages, its processors, its ports
-//! and its connections.
+//! One partition: its life state, privileges, CPU properties, pages, processors, ports and connections.
 //!
-//! The call groups of the TLFS 4.0 are "Partition Management" and "Inter-Partition Communication". Each
-//! function says what it changes, and that all else stays the same. Which partition may ask for a change, and
-//! when, is not said here.
+//! The chapters of the TLFS 4.0 are "Partition Management" and "Inter-Partition Communication". Each function
+//! says what it changes, and leaves everything else as it was. Which partition may ask for a change, and
+//! when, is not checked here.
 //!
-//! Contracts see a partition as the record of these parts (`PartitionState` in `specs/`), its processors as a
-//! map by index, its ports and its connections as maps by id. Memory is asked for in `new`, in `reserve`, in
-//! `reserve_vp`, in `reserve_port` and in `reserve_conn` alone, and a call that is refused it changes
-//! nothing.
+//! Contracts see a partition as the record of these parts (`PartitionState` in `specs/`): its processors as a
+//! map by index, and its ports and connections as maps by id. Only `new`, `reserve`, `reserve_vp`,
+//! `reserve_port` and `reserve_conn` ask for memory. A call that is refused memory changes nothing.
 #![tactic(auto)]
 
 mod kind;

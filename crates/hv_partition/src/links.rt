@@ -7,34 +7,35 @@ use crate::Partition;
 use hv_ports::{Conn, Port};
 use std::alloc::{AllocError, Allocator};
 
-// The ports. What a call needs of them, and what it promises of them, is what their table asks and promises.
+// The ports. Each call requires and promises what the port table's call does.
 impl<A: Allocator> Partition<A> {
-    /// The port with this id, or `None` where the partition has none.
+    /// The port with this id, or `None` if the partition has none.
     pub fn port(&self, id: u32) -> Option<Port>
         ensures { result ≡ map.get self.now.ports.rows id }
     {
         self.parts.ports.find(id)
     }
 
-    /// The port at a place, with its id, where the ports stand by rising ids from place 0 on. `None` where
-    /// there are no more.
+    /// The port at a place, with its id, or `None` if there are no more.
+    ///
+    /// The ports are in order of rising id, from place 0 on.
     pub fn port_at(&self, place: u32) -> Option<(u32, Port)>
         ensures { result ≡ slice_get (map.entries self.now.ports.rows) place }
     {
         self.parts.ports.at(place)
     }
 
-    /// How many ports the partition has.
+    /// The number of the partition's ports.
     pub fn port_count(&self) -> u32
         ensures { result ≡ map.len self.now.ports.rows }
     {
         self.parts.ports.count()
     }
 
-    /// Makes room for one port more. Room that is there already always suffices.
+    /// Makes room for one more port. Existing room always suffices.
     ///
-    /// `Err` where there is no memory for it, or where the partition has 2^32 - 1 ports, and then the
-    /// partition is as it was.
+    /// Returns `Err` if there is no memory for it, or if the partition has 2^32 - 1 ports. The partition is
+    /// then as it was.
     pub fn reserve_port(&mut self) -> Result<(), AllocError>
         ensures ok { OnOk result (1 ≤ self.new.ports.room) }
         ensures enough { 1 ≤ self.old.ports.room → IsOk result }
@@ -48,7 +49,7 @@ impl<A: Allocator> Partition<A> {
         self.parts.ports.reserve_one()
     }
 
-    /// Adds a port with an id that is free. It must find room.
+    /// Adds a port with an id that is free. There must be room for it.
     pub fn add_port(&mut self, id: u32, port: Port)
         requires room { 1 ≤ self.old.ports.room }
         requires free { map.contains_key self.old.ports.rows id ≡ false }
@@ -70,35 +71,35 @@ impl<A: Allocator> Partition<A> {
     }
 }
 
-// The connections. What a call needs of them, and what it promises of them, is what their table asks and
-// promises.
+// The connections. Each call requires and promises what the connection table's call does.
 impl<A: Allocator> Partition<A> {
-    /// The connection with this id, or `None` where the partition has none.
+    /// The connection with this id, or `None` if the partition has none.
     pub fn conn(&self, id: u32) -> Option<Conn>
         ensures { result ≡ map.get self.now.conns.rows id }
     {
         self.parts.conns.find(id)
     }
 
-    /// The connection at a place, with its id, where the connections stand by rising ids from place 0 on.
-    /// `None` where there are no more.
+    /// The connection at a place, with its id, or `None` if there are no more.
+    ///
+    /// The connections are in order of rising id, from place 0 on.
     pub fn conn_at(&self, place: u32) -> Option<(u32, Conn)>
         ensures { result ≡ slice_get (map.entries self.now.conns.rows) place }
     {
         self.parts.conns.at(place)
     }
 
-    /// How many connections the partition has.
+    /// The number of the partition's connections.
     pub fn conn_count(&self) -> u32
         ensures { result ≡ map.len self.now.conns.rows }
     {
         self.parts.conns.count()
     }
 
-    /// Makes room for one connection more. Room that is there already always suffices.
+    /// Makes room for one more connection. Existing room always suffices.
     ///
-    /// `Err` where there is no memory for it, or where the partition has 2^32 - 1 connections, and then the
-    /// partition is as it was.
+    /// Returns `Err` if there is no memory for it, or if the partition has 2^32 - 1 connections. The
+    /// partition is then as it was.
     pub fn reserve_conn(&mut self) -> Result<(), AllocError>
         ensures ok { OnOk result (1 ≤ self.new.conns.room) }
         ensures enough { 1 ≤ self.old.conns.room → IsOk result }
@@ -112,7 +113,7 @@ impl<A: Allocator> Partition<A> {
         self.parts.conns.reserve_one()
     }
 
-    /// Adds a connection with an id that is free. It must find room.
+    /// Adds a connection with an id that is free. There must be room for it.
     pub fn add_conn(&mut self, id: u32, conn: Conn)
         requires room { 1 ≤ self.old.conns.room }
         requires free { map.contains_key self.old.conns.rows id ≡ false }

@@ -27,14 +27,14 @@ use std::marker::Model;
 /// A partition, in memory of an allocator `A`.
 ///
 /// Its pages are loose, or pooled for the hypervisor's own use. Each of its processors has an index, and each
-/// of its ports and connections an id. A partition that is dropped gives its memory back.
+/// of its ports and connections has an id. Dropping a partition gives its memory back.
 #[derive(Drop)]
 pub struct Partition<A: Allocator> {
-    // In a block of their own, so that a partition is small where it is moved, as with a map that grows.
+    // Boxed, so that a partition is small to move, as when a map grows.
     pub(crate) parts: Box<Parts<A>, A>,
 }
 
-// What a partition has.
+// The parts of a partition.
 #[derive(Drop)]
 pub(crate) struct Parts<A: Allocator> {
     life: Life,
@@ -71,10 +71,10 @@ impl<A: Allocator> Model for Partition<A> {
 }
 
 impl<A: Allocator + Clone> Partition<A> {
-    /// A partition with no pages, processors, ports and connections, and with the CPU properties of the
-    /// start.
+    /// Creates a partition without pages, processors, ports and connections, and with the initial CPU
+    /// properties.
     ///
-    /// `Err` where there is no memory for it, or the allocator can't be cloned.
+    /// Returns `Err` if there is no memory for it, or if the allocator can't be cloned.
     pub fn new(alloc: A, life: Life, mask: Privileges) -> Result<Partition<A>, AllocError>
         ensures { IfOk result (λ p. p ≡ new_partition life mask) }
     {
@@ -113,21 +113,21 @@ impl<A: Allocator> Partition<A> {
         self.parts.mask
     }
 
-    /// The CPU reserve, of 65,536.
+    /// The CPU reserve, out of 65,536.
     pub fn cpu_reserve(&self) -> u64
         ensures { result ≡ self.now.reserve }
     {
         self.parts.reserve
     }
 
-    /// The CPU cap, of 65,536.
+    /// The CPU cap, out of 65,536.
     pub fn cpu_cap(&self) -> u64
         ensures { result ≡ self.now.cap }
     {
         self.parts.cap
     }
 
-    /// The CPU weight, of 1 to 10,000.
+    /// The CPU weight, from 1 to 10,000.
     pub fn cpu_weight(&self) -> u64
         ensures { result ≡ self.now.weight }
     {
@@ -158,28 +158,28 @@ impl<A: Allocator> Partition<A> {
         self.parts.mask = mask;
     }
 
-    /// Writes the CPU reserve. Any number is taken.
+    /// Writes the CPU reserve. It accepts any number.
     pub fn set_cpu_reserve(&mut self, reserve: u64)
         ensures { self.new ≡ record self.old { reserve = reserve } }
     {
         self.parts.reserve = reserve;
     }
 
-    /// Writes the CPU cap. Any number is taken.
+    /// Writes the CPU cap. It accepts any number.
     pub fn set_cpu_cap(&mut self, cap: u64)
         ensures { self.new ≡ record self.old { cap = cap } }
     {
         self.parts.cap = cap;
     }
 
-    /// Writes the CPU weight. Any number is taken.
+    /// Writes the CPU weight. It accepts any number.
     pub fn set_cpu_weight(&mut self, weight: u64)
         ensures { self.new ≡ record self.old { weight = weight } }
     {
         self.parts.weight = weight;
     }
 
-    /// Finalizes the partition: its processors, ports and connections go, and its pages stay.
+    /// Finalizes the partition: removes its processors, ports and connections, and keeps its pages.
     pub fn finalize(&mut self)
         ensures { self.new ≡ finalized self.old }
     {
@@ -189,8 +189,9 @@ impl<A: Allocator> Partition<A> {
         self.parts.conns.clear();
     }
 
-    /// How many pooled pages so many children and its processors, ports and connections use. The charges are
-    /// this project's own.
+    /// The number of pooled pages that `children` children and its processors, ports and connections use.
+    ///
+    /// The charges are this project's own.
     pub fn in_use(&self, children: u32) -> u64
         ensures { result ≡ in_use children self.now }
     {
@@ -200,8 +201,9 @@ impl<A: Allocator> Partition<A> {
             + CONNECTION_CHARGE * u64::from(self.conn_count())
     }
 
-    /// How many pooled pages may still be used, beside what so many children and its processors, ports and
-    /// connections use.
+    /// The number of pooled pages that are still available.
+    ///
+    /// The other pooled pages are in use by `children` children and its processors, ports and connections.
     pub fn available(&self, children: u32) -> u64
         requires { in_use children self.now ≤ set.len self.now.pooled.pages }
         ensures { result ≡ available children self.now }
@@ -210,16 +212,16 @@ impl<A: Allocator> Partition<A> {
     }
 }
 
-// The processors. What a call needs of them, and what it promises of them, is what `Vps` asks and promises.
+// The processors. Each call requires and promises what the call of `Vps` does.
 impl<A: Allocator> Partition<A> {
-    /// The processor with this index, or `None` where the partition has none.
+    /// The processor with this index, or `None` if the partition has none.
     pub fn vp(&self, index: u32) -> Option<&Vp<A>>
         ensures { option_copied result ≡ map.get self.now.vps.vps index }
     {
         self.parts.vps.get(index)
     }
 
-    /// The processor with this index, to be changed.
+    /// Returns a mutable reference to the processor with this index.
     pub fn vp_mut(&mut self, index: u32) -> Option<&mut Vp<A>>
         ensures* writes_back { sem 𝓛 (LendsIf (the_row A.row A.Allocator) (vp_row A.row A.Allocator)
             self.entry result
@@ -229,32 +231,33 @@ impl<A: Allocator> Partition<A> {
         self.parts.vps.get_mut(index)
     }
 
-    /// The lowest index of a processor that is ready for what a port of this kind takes, if one is.
+    /// The lowest index of a processor that is ready for what a port of this kind takes, if there is one.
     pub fn lowest_ready_vp(&self, kind: PortKind) -> Option<u32>
         ensures { result ≡ lowest (is_ready kind) self.now.vps.vps }
     {
         self.parts.vps.lowest_ready_vp(kind)
     }
 
-    /// Whether all its processors together have fewer messages than so many, shown or waiting, that came
-    /// through this port of this birth.
+    /// Returns `true` if its processors together have fewer than `most` messages of this port and birth.
+    ///
+    /// Both shown and waiting messages count.
     pub fn keep_fewer(&self, port: u32, born: u64, most: usize) -> bool
         ensures { result ≡ nat_lt (kept_by_all port born self.now.vps.vps) most }
     {
         self.parts.vps.keep_fewer(port, born, most)
     }
 
-    /// How many processors the partition has.
+    /// The number of the partition's processors.
     pub fn vp_count(&self) -> u32
         ensures { result ≡ map.len self.now.vps.vps }
     {
         self.parts.vps.count()
     }
 
-    /// Makes room for one processor more.
+    /// Makes room for one more processor. Existing room always suffices.
     ///
-    /// `Err` where there is no memory for it, or where the partition has 2^32 - 1 processors, and then the
-    /// partition is as it was. Room that is there already always suffices.
+    /// Returns `Err` if there is no memory for it, or if the partition has 2^32 - 1 processors. The partition
+    /// is then as it was.
     pub fn reserve_vp(&mut self) -> Result<(), AllocError>
         ensures ok { OnOk result (1 ≤ self.new.vps.room) }
         ensures enough { 1 ≤ self.old.vps.room → IsOk result }
@@ -268,7 +271,7 @@ impl<A: Allocator> Partition<A> {
         self.parts.vps.reserve_one()
     }
 
-    /// Adds a processor with an index that is free. It must find room.
+    /// Adds a processor with an index that is free. There must be room for it.
     pub fn add_vp(&mut self, index: u32, vp: Vp<A>)
         requires room { 1 ≤ self.old.vps.room }
         requires free { map.contains_key self.old.vps.vps index ≡ false }
@@ -279,7 +282,7 @@ impl<A: Allocator> Partition<A> {
         self.parts.vps.put(index, vp);
     }
 
-    /// Removes the processor with this index, and says whether there was one.
+    /// Removes the processor with this index. Returns `true` if there was one.
     pub fn remove_vp(&mut self, index: u32) -> bool
         ensures held { result ≡ map.contains_key self.old.vps.vps index }
         ensures vps { self.new.vps.vps ≡ map.remove self.old.vps.vps index }
@@ -290,12 +293,11 @@ impl<A: Allocator> Partition<A> {
     }
 }
 
-// The pages. What a call needs of a set, and what it promises of it, is what `PageSet` asks and promises.
+// The pages. Each call requires and promises what the call of `PageSet` does.
 impl<A: Allocator> Partition<A> {
-    /// Makes room for at least `more` changes of the pages of a kind.
+    /// Makes room for at least `more` changes of the pages of a kind. Existing room always suffices.
     ///
-    /// `Err` where there is no memory for it, and then the partition is as it was. Room that is there already
-    /// always suffices.
+    /// Returns `Err` if there is no memory for it. The partition is then as it was.
     pub fn reserve(&mut self, kind: PageKind, more: usize) -> Result<(), AllocError>
         ensures ok { OnOk result (more ≤ (pages_in kind self.new).room) }
         ensures enough { more ≤ (pages_in kind self.old).room → IsOk result }
@@ -312,7 +314,7 @@ impl<A: Allocator> Partition<A> {
         }
     }
 
-    /// Puts in a page of a kind that is not among them. The page must find room.
+    /// Inserts a page of a kind that is not among them. There must be room for it.
     pub fn put(&mut self, kind: PageKind, page: u32)
         requires room { 1 ≤ (pages_in kind self.old).room }
         requires new { set.contains (pages_in kind self.old).pages page ≡ false }
@@ -326,9 +328,9 @@ impl<A: Allocator> Partition<A> {
         }
     }
 
-    /// Puts in so many pages of a kind from a first one on, of which none is among them. It takes no memory.
+    /// Inserts `length` pages of a kind from `start` on, none of which is among them. It takes no memory.
     ///
-    /// They must find room for one change, however many they are.
+    /// There must be room for one change, however many pages they are.
     pub fn put_run(&mut self, kind: PageKind, start: u32, length: u64)
         requires room { 1 ≤ (pages_in kind self.old).room }
         requires some { 1 ≤ length }
@@ -349,7 +351,9 @@ impl<A: Allocator> Partition<A> {
         }
     }
 
-    /// Takes a page out of those of a kind, and says whether it was among them. It asks for room.
+    /// Removes a page from those of a kind. Returns `true` if it was among them.
+    ///
+    /// There must be room for one change.
     pub fn take(&mut self, kind: PageKind, page: u32) -> bool
         requires { 1 ≤ (pages_in kind self.old).room }
         ensures held { result ≡ set.contains (pages_in kind self.old).pages page }
@@ -363,7 +367,8 @@ impl<A: Allocator> Partition<A> {
         }
     }
 
-    /// Takes out the lowest page of a kind, or answers `None` where there are none. It takes constant time.
+    /// Removes and returns the lowest page of a kind, or returns `None` if there are none. It takes constant
+    /// time.
     pub fn take_lowest(&mut self, kind: PageKind) -> Option<u32>
         ensures none { IsNone result ↔ ((pages_in kind self.old).pages ≡ set.empty) }
         ensures empty { IfNone result ((pages_in kind self.new).pages ≡ (pages_in kind self.old).pages) }
@@ -379,10 +384,10 @@ impl<A: Allocator> Partition<A> {
         }
     }
 
-    /// Takes over all pages of a partition that is gone, loose and pooled, as loose pages, and gives that
-    /// partition's memory back.
+    /// Takes over all pages of a partition that is gone, and gives that partition's memory back.
     ///
-    /// Each of its runs of pages must find room, and costs as much as one `put`.
+    /// Its loose and its pooled pages become loose pages. There must be room for each of its runs of pages,
+    /// and each costs as much as one `put`.
     pub fn take_over(&mut self, gone: Partition<A>)
         requires room { runs_of gone.loose.pages + runs_of gone.pooled.pages ≤ self.old.loose.room }
         requires loose { IsDisjoint self.old.loose.pages gone.loose.pages }
@@ -399,7 +404,7 @@ impl<A: Allocator> Partition<A> {
     }
 }
 
-// Takes over the pages of two sets that share none with each other.
+// Takes over the pages of two sets that share no page with each other.
 fn absorb_both<A: Allocator>(all: &mut PageSet<A>, one: PageSet<A>, other: PageSet<A>)
     requires room { runs_of one.pages + runs_of other.pages ≤ all.old.room }
     requires one { IsDisjoint all.old.pages one.pages }

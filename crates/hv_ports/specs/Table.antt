@@ -6,7 +6,7 @@ use Rattle.std.specs.List.{AllPairs}
 use Rattle.std.specs.Ordering.{nat_cmp}
 use Rattle.hv_ports.specs.declared.table.TheConstants.{MOST}
 
--- each row by its id, and for how many more there is room
+-- each row by its id, and how many more rows there is room for
 pub record TableState (R : Type 0) : Type 0 where
   pub rows : map.FinMap nat_cmp R
   pub room : ℕ
@@ -21,7 +21,7 @@ table_code {R} row =
 abbrev pub no_rows : {R : Type 0} → TableState R
 no_rows = record { rows = map.empty; room = 0 }
 
--- the table once all rows are removed, with the room that they leave
+-- the table after all rows are removed, with the room that they leave
 abbrev pub cleared : {R : Type 0} → TableState R → TableState R
 cleared t = record { rows = map.empty; room = t.room + map.len t.rows }
 
@@ -29,7 +29,7 @@ cleared t = record { rows = map.empty; room = t.room + map.len t.rows }
 abbrev pub IsRising : {R : Type 0} → List (ℕ × R) → Type 0
 IsRising slots = AllPairs (λ slot later. slot.0 < later.0) slots
 
--- slots, each an id with its row: the ids rise, and there are no more than the most
+-- the invariant of the slots, each an id with its row: the ids rise, and there are at most `MOST`
 pub record AreSlots {R : Type 0} (slots : List (ℕ × R)) : Type 0 where
   pub rising : IsRising slots
   pub few : length slots ≤ MOST
@@ -38,6 +38,6 @@ pub record AreSlots {R : Type 0} (slots : List (ℕ × R)) : Type 0 where
 unfoldable pub rows_of : {R : Type 0} → List (ℕ × R) → map.FinMap nat_cmp R
 rows_of slots = map.from_entries slots
 
--- what is seen of a list of slots in a vector with this capacity: there is never room for more than the most
+-- the view of a list of slots in a vector with this capacity; there is never room for more than `MOST` in all
 abbrev pub seen_of : {R : Type 0} → List (ℕ × R) → ℕ → TableState R
 seen_of slots capacity = record { rows = rows_of slots; room = min capacity MOST - length slots }

@@ -1,10 +1,11 @@
 //! The tables of a partition's ports and connections (TLFS 4.0, "Inter-Partition Communication").
 //!
-//! Ids are chosen by callers and scattered, and a partition may have thousands of ports, so a look-up
-//! is a binary search, after one look at where the id stands if ids follow each other. Room is made
-//! first, by `reserve_one`, which is the one call that can need memory; what follows needs room and
-//! cannot fail. Contracts see a table as the finite map from id to row, together with its room: for how
-//! many more rows there is memory. How the rows are kept is not promised.
+//! Callers choose the ids, which are scattered, and a partition may have thousands of ports. So a look-up is
+//! a binary search, after one look at the place where the id is if ids follow each other. `reserve_one` makes
+//! room first, and is the only call that can need memory. The calls after it need room and cannot fail.
+//!
+//! Contracts see a table as the finite map from id to row, together with its room: the number of further rows
+//! for which there is memory. How the rows are kept is not promised.
 #![tactic(auto)]
 
 mod ports;

@@ -2,8 +2,8 @@
 use crate::table::Table;
 use hv_defs::{Aim, PortKind};
 
-/// A port (TLFS 4.0, "Inter-Partition Communication"): where the messages or the event flags of another
-/// partition arrive.
+/// A port: where the messages or event flags of another partition arrive (TLFS 4.0, "Inter-Partition
+/// Communication").
 #[derive(Clone, Copy, PartialEq, Eq, Debug)]
 pub struct Port {
     /// What it takes.
@@ -14,16 +14,16 @@ pub struct Port {
     pub sint: u32,
     /// The processor that it aims at, or any.
     pub vp: Aim,
-    /// The first of an event port's flags, and 0 for a message port.
+    /// The first flag of an event port, and 0 for a message port.
     pub base: u16,
-    /// How many flags an event port has, and 0 for a message port.
+    /// The number of flags of an event port, and 0 for a message port.
     pub count: u16,
-    /// The count of served events that its own making gave. So it tells a port from one that had the
-    /// same id before.
+    /// The count of served events at its creation, that event included. It tells a port from an earlier one
+    /// with the same id.
     pub born: u64,
 }
 
-/// A connection (TLFS 4.0, "Inter-Partition Communication"): a partition's way to a port.
+/// A connection: a partition's way to a port (TLFS 4.0, "Inter-Partition Communication").
 #[derive(Clone, Copy, PartialEq, Eq, Debug)]
 pub struct Conn {
     /// The id of the partition that has the port.

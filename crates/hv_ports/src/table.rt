@@ -14,7 +14,7 @@ const MOST: usize = 0xFFFF_FFFF;
 
 /// Rows by their ids, in memory of an allocator `A`.
 ///
-/// The room of a table is how many more rows it has memory for. A table that is dropped gives its
+/// The room of a table is the number of further rows that it has memory for. Dropping a table gives its
 /// memory back.
 #[derive(Drop)]
 pub struct Table<R: Copy, A: Allocator> {
@@ -35,7 +35,7 @@ impl<R: Copy, A: Allocator> Model for Table<R, A> {
 }
 
 impl<R: Copy, A: Allocator> Table<R, A> {
-    /// No rows, and no memory for any.
+    /// Creates a table without rows, and without memory for any.
     #[tactic(auto, unfolding(crate::specs::Table::rows_of))]
     pub fn new(alloc: A) -> Table<R, A>
         ensures { result ≡ no_rows }
@@ -45,7 +45,9 @@ impl<R: Copy, A: Allocator> Table<R, A> {
         }
     }
 
-    /// The row with this id. The time is proportional to the logarithm of the count at most.
+    /// The row with this id.
+    ///
+    /// The time is at most proportional to the logarithm of the count.
     pub fn find(&self, id: u32) -> Option<R>
         ensures { result ≡ map.get self.now.rows id }
     {
@@ -55,8 +57,9 @@ impl<R: Copy, A: Allocator> Table<R, A> {
         }
     }
 
-    /// The row at a place, with its id, where the rows stand by rising ids from place 0 on. `None` where
-    /// there are no more.
+    /// The row at a place, with its id, or `None` if there are no more.
+    ///
+    /// The rows are in order of rising id, from place 0 on.
     pub fn at(&self, place: u32) -> Option<(u32, R)>
         ensures { result ≡ slice_get (map.entries self.now.rows) place }
     {
@@ -68,24 +71,24 @@ impl<R: Copy, A: Allocator> Table<R, A> {
         }
     }
 
-    /// How many rows there are.
+    /// The number of rows.
     pub fn count(&self) -> u32
         ensures { result ≡ map.len self.now.rows }
     {
         self.slots.len() as u32
     }
 
-    /// Whether there is room for a row more.
+    /// Returns `true` if there is room for one more row.
     pub fn has_room(&self) -> bool
         ensures { IsTrue result ↔ 1 ≤ self.now.room }
     {
         self.slots.len() < self.slots.capacity().min(MOST)
     }
 
-    /// Makes room for one row more. Room that is there already always suffices.
+    /// Makes room for one more row. Existing room always suffices.
     ///
-    /// `Err` where there is no memory for it, or where there are 2^32 - 1 rows already, and then
-    /// nothing has changed.
+    /// Returns `Err` if there is no memory for it, or if there are 2^32 - 1 rows already. Nothing has changed
+    /// then.
     pub fn reserve_one(&mut self) -> Result<(), AllocError>
         ensures room { OnOk result (1 ≤ self.new.room) }
         ensures enough { 1 ≤ self.old.room → IsOk result }
@@ -99,7 +102,9 @@ impl<R: Copy, A: Allocator> Table<R, A> {
         self.slots.reserve(1)
     }
 
-    /// Adds a row with an id that is free. It must find room. It moves each row with a higher id.
+    /// Adds a row with an id that is free. There must be room for it.
+    ///
+    /// It moves each row with a higher id.
     pub fn insert(&mut self, id: u32, row: R)
         requires room { 1 ≤ self.old.room }
         requires free { map.contains_key self.old.rows id ≡ false }
@@ -130,8 +135,8 @@ impl<R: Copy, A: Allocator> Table<R, A> {
     }
 }
 
-// The place of the row with this id, or where it would go. It is looked for first at the last place at which
-// it may stand, since each id is higher than the one before.
+// The place of the row with this id, or where it would go. Looks first at the last place where the row may
+// be, since each id is higher than the one before.
 fn place_of<R: Copy>(slots: &[(u32, R)], id: u32) -> Result<usize, usize>
     requires { IsRising slots.now }
     ensures within { IsSearchInRange result (length slots.now) }
@@ -147,7 +152,7 @@ fn place_of<R: Copy>(slots: &[(u32, R)], id: u32) -> Result<usize, usize>
     search(slots, id)
 }
 
-// The same wherever it stands.
+// Finds the place by a binary search, wherever it is.
 fn search<R: Copy>(slots: &[(u32, R)], id: u32) -> Result<usize, usize>
     requires { IsRising slots.now }
     ensures within { IsSearchInRange result (length slots.now) }

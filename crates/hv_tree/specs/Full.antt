@@ -3,7 +3,7 @@ use Rattle.std.specs.Prelude.{◌≡◌, ℕ, true, ◌<◌, ◌^◌, length, Op
 use Rattle.hv_tree.specs.Nest.{Line, AreDistinct, IsNest, look}
 use Rattle.hv_tree.specs.Rows.{Row, children_in}
 
--- the entries with one more, if its content is there
+-- the entries and one more, if it has a content
 abbrev pub add : {T : Type 0} → ℕ → Option ℕ → Option T → List (ℕ × Row T) → List (ℕ × Row T)
 add q p None es = es
 add q p (Some c) es = (q, (p, c)) ∷ es
@@ -22,7 +22,7 @@ IsFilled (Some r) = is_some r.1 ≡ true
 abbrev pub IsWhole : {T : Type 0} → List (Line T) → Type 0
 IsWhole es = (x : ℕ) → IsFilled (look x es)
 
--- what a tree keeps: its rows, and how many there are
+-- the invariant of a tree's rows and of their number
 pub record IsSound {T : Type 0} (es : List (Line T)) (count : ℕ) : Type 0 where
   pub distinct : AreDistinct es
   pub nest : IsNest es

@@ -15,14 +15,15 @@ parents m = get nat_eq m
 abbrev pub IsIndexOf : {C : Type 0} → List (ℕ × (Option ℕ × C)) → (ℕ → Option ℕ) → Type 0
 IsIndexOf es up = (q : ℕ) → up q ≡ option_and_then (λ r. r.0) (look q es)
 
--- rows that the calls on a tree may rest on: an index of just their parents, and children that rise
+-- what calls on a tree may assume of its rows: an index of exactly their parents, and children in rising
+-- order
 pub record IsLaid {T : Type 0} (es : List (Line T)) (up : ℕ → Option ℕ) : Type 0 where
   pub distinct : AreDistinct es
   pub indexed : IsIndexOf es up
   pub rising : (q : ℕ) → IsNonDecreasing (children_in q es)
   pub fits : length es < 2 ^ 63
 
--- what a tree keeps: sound rows, an index of just their parents, and children that rise
+-- the invariant of a tree: sound rows, an index of exactly their parents, and children in rising order
 pub record IsKept {T : Type 0} (es : List (Line T)) (count : ℕ) (up : ℕ → Option ℕ) : Type 0 where
   pub sound : IsSound es count
   pub indexed : IsIndexOf es up

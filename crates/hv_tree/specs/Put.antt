@@ -1,4 +1,4 @@
--- A tree with a part put in where a way leads.
+-- A tree with one part replaced at the end of a way.
 use Rattle.std.specs.Prelude.{◌≡◌, ℕ, List, [], ◌∷◌, Option, None, Some, slice_get, Box}
 use Rattle.std.specs.Option.{option_map, option_and_then}
 use Rattle.std.specs.Vec.{with_item}
@@ -29,11 +29,11 @@ module _ {T A : Type 0} where
   put_in n i k (Some b) = roll-Node T A (record (out-Node T A n)
       { children = with_item (out-Node T A n).children i (with_value b k) })
 
-  -- n with k as the child at i, where there is one
+  -- n with k as the child at i, if there is one
   abbrev pub put_child : Node T A → ℕ → Branch T A → Node T A
   put_child n i k = put_in n i k (slice_get (out-Node T A n).children.items i)
 
-  -- where the way leads
+  -- the node to which the way leads, if there is one
   abbrev pub reach : List ℕ → Branch T A → Option (Node T A)
   reach [] b = Some (node_of b)
   reach (i ∷ is) b = option_and_then (reach is) (child_of (node_of b) i)
@@ -42,7 +42,7 @@ module _ {T A : Type 0} where
   below b f None = b
   below b f (Some k) = f k
 
-  -- b with n put in where the way leads
+  -- b with n in place of the node to which the way leads
   abbrev pub put_far : List ℕ → Branch T A → Node T A → Branch T A
   put_far [] b n = put_node b n
   put_far (i ∷ is) b n = put_node b (put_child (node_of b) i
@@ -53,7 +53,7 @@ module _ {T A : Type 0} where
   put_content_in is b c None = b
   put_content_in is b c (Some n) = put_far is b (put_content n c)
 
-  -- b with the content c where the way leads
+  -- b with the content c at the node to which the way leads
   abbrev pub put_content_far : List ℕ → Branch T A → T → Branch T A
   put_content_far is b c = put_content_in is b c (reach is b)
 

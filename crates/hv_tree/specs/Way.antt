@@ -1,4 +1,4 @@
--- The way down to a node, as an index of parents tells it.
+-- The way down to a node, derived from an index of parents.
 use Rattle.std.specs.List.{remove}
 use Rattle.std.specs.Option.{unwrap_or}
 use Rattle.std.specs.Prelude.{◌≡◌, ℕ, zero, suc, ◌+◌, ◌<◌, ◌≤◌, ◌==◌, cond, length, List, [], ◌∷◌, ◌++◌}
@@ -10,12 +10,12 @@ use Rattle.hv_tree.specs.Nest.{IsFound}
 use Rattle.hv_tree.specs.Lines.{lines, node_lines}
 use Rattle.hv_tree.specs.Put.{node_of, child_of, content_of, reach}
 
--- the id that is so many steps above at, where above an id without a parent is that id
+-- the id n steps above at, where an id without a parent counts as its own parent
 unfoldable pub above : (ℕ → Option ℕ) → ℕ → ℕ → ℕ
 above up zero at = at
 above up (suc n) at = above up n (unwrap_or (up at) at)
 
--- so many ids on the way down to at, which is the last
+-- the last n ids on the way down to at, which is the last of them
 unfoldable pub line : (ℕ → Option ℕ) → ℕ → ℕ → List ℕ
 line up zero at = []
 line up (suc n) at = line up n (unwrap_or (up at) at) ++ at ∷ []
@@ -24,7 +24,7 @@ abbrev pub depth_from : (ℕ → ℕ) → Option ℕ → ℕ
 depth_from f None = 0
 depth_from f (Some p) = f p + 1
 
--- how many ids are above at, of so many at most
+-- the number of ids above at, counted up to n
 unfoldable pub depth : (ℕ → Option ℕ) → ℕ → ℕ → ℕ
 depth up zero at = 0
 depth up (suc n) at = depth_from (depth up n) (up at)
@@ -56,7 +56,7 @@ module _ {T A : Type 0} where
   IsRising n = (i j : ℕ) (d : Box (Branch T A) A) → i < j → j < length (children_of n) → id_of
       (get_or (children_of n) i d).value < id_of (get_or (children_of n) j d).value
 
-  -- the children of each node below rise
+  -- the ids of the children rise at each node of b
   abbrev pub AreRising : Branch T A → Type 0
   AreRising b = (is : List ℕ) (n : Node T A) → reach is b ≡ Some n → IsRising n
 

@@ -1,4 +1,4 @@
-//! What changes the nodes of a tree. The parent is lent by the way down to it.
+//! Operations that change the nodes of a tree. Each one borrows its node through the way down to it.
 ghost use Rattle.std.specs.Prelude.{◌≡◌, ◌≢◌, ◌↔◌, ◌<◌, ◌≤◌, ℕ, ◌==◌, cond, length, true, false, None, Some};
 ghost use Rattle.std.specs.Prelude.{IfSome, IfNone, IfErr, OnOk, OnErr};
 ghost use Rattle.std.specs.List.Sorted.{IsNonDecreasing};
@@ -37,7 +37,7 @@ pub(crate) fn reserve<T, A: Allocator>(
     Ok(())
 }
 
-/// Puts a node among the children of `parent` and into the index, or hands it back where memory is short.
+/// Inserts a node among the children of `parent` and into the index. Out of memory, it hands the node back.
 pub(crate) fn graft<T, A: Allocator>(
     root: &mut Branch<T, A>,
     index: &mut Index<A>,
@@ -73,8 +73,9 @@ pub(crate) fn graft<T, A: Allocator>(
     }
 }
 
-/// Takes the node with the id out, which is a child of `parent`, if it has no children, and gives its
-/// content.
+/// Removes the node with the id, a child of `parent`, and returns its content.
+///
+/// Returns `None` if the node has children.
 pub(crate) fn prune<T: Drop, A: Allocator>(
     root: &mut Branch<T, A>,
     index: &Index<A>,
@@ -95,7 +96,9 @@ pub(crate) fn prune<T: Drop, A: Allocator>(
     node.take_leaf(id)
 }
 
-/// Edits the content of each node from the one with the id down. `false` where there is none.
+/// Edits the content of the node with the id and of every node below it.
+///
+/// Returns `false` if no node has the id.
 pub(crate) fn edit_below<T, A: Allocator, E: Edit<T>>(
     root: &mut Branch<T, A>,
     index: &Index<A>,

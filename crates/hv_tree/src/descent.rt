@@ -1,7 +1,7 @@
 //! The way down to a node from a `&mut`.
 //!
-//! No proof of a recursion that returns a `&mut` is made today. So each type here goes down so many steps, by
-//! the one before it.
+//! The prover doesn't prove recursions that return a `&mut`. So each type here goes down a bounded number of
+//! steps, by means of the type before it.
 ghost use Rattle.std.specs.Prelude.{◌≡◌, ◌≤◌, ◌+◌, ℕ};
 ghost use Rattle.std.specs.Borrow.{LendsIf, sem};
 ghost use Rattle.std.specs.Option.{option_copied_mut};
@@ -15,12 +15,12 @@ use crate::index::{Index, above};
 use crate::node::{Branch, Node};
 use std::alloc::Allocator;
 
-/// Goes down to a node.
+/// A descent to a node, of a bounded number of steps.
 pub(crate) trait Toward {
-    // How many steps it can go.
+    // The most steps that it can go.
     ghost most: { ℕ };
 
-    /// The node with the id, which is so many steps down.
+    /// Returns the node with the id, which is `steps` steps down.
     fn toward<'n, T, A: Allocator>(
         branch: &'n mut Branch<T, A>,
         index: &Index<A>,
@@ -36,7 +36,7 @@ pub(crate) trait Toward {
             ≡ reach (places (line (parents index.now) steps id) branch.old) branch.old };
 }
 
-/// Goes no step.
+/// A descent of no steps.
 pub(crate) struct Stay;
 
 impl Toward for Stay {
@@ -52,7 +52,7 @@ impl Toward for Stay {
     }
 }
 
-/// Goes as far as another, a step, and as far again.
+/// Two descents by `D`, with one step between them.
 pub(crate) struct Twice<D: Toward>(D);
 
 impl<D: Toward> Toward for Twice<D> {
@@ -76,7 +76,8 @@ impl<D: Toward> Toward for Twice<D> {
     }
 }
 
-// The parent of the node with the id, where it is so many steps down. For no step any id will do.
+// Returns the parent of the node with the id, for a descent of `steps` steps to that parent. A descent of no
+// steps works with any id.
 fn parent_at<A: Allocator>(index: &Index<A>, id: u64, steps: u64) -> u64
     ensures { line (parents index.now) steps result
         ≡ line (parents index.now) steps (above (parents index.now) 1 id) }
@@ -104,5 +105,5 @@ fn step_toward<'n, T, A: Allocator>(
 
 type Twice7<D> = Twice<Twice<Twice<Twice<Twice<Twice<Twice<D>>>>>>>;
 
-/// Goes 2⁶³ - 1 steps, which no tree has.
+/// A descent of up to 2⁶³ - 1 steps. No tree is that deep.
 pub(crate) type Down = Twice7<Twice7<Twice7<Twice7<Twice7<Twice7<Twice7<Twice7<Twice7<Stay>>>>>>>>>;

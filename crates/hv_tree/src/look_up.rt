@@ -1,4 +1,4 @@
-//! Which node has an id.
+//! Look-ups of a node by its id.
 ghost use Rattle.std.specs.Prelude.{◌≡◌, IfSome, IfNone, true, false};
 ghost use Rattle.std.specs.Borrow.{LendsIf, sem};
 ghost use Rattle.hv_tree.specs.contracts.node.Branch.{the_row as branch_row};
@@ -15,7 +15,7 @@ use crate::index::{Index, MOST, parent_in};
 use crate::node::{Branch, Node};
 use std::alloc::Allocator;
 
-/// Whether a node has the id.
+/// Returns `true` if a node has the id.
 pub(crate) fn is_there<T, A: Allocator>(root: &Branch<T, A>, index: &Index<A>, id: u64) -> bool
     requires { IsLaid (lines root.now) (parents index.now) }
     ensures { result ≡ has_row id (lines root.now) }
@@ -23,7 +23,7 @@ pub(crate) fn is_there<T, A: Allocator>(root: &Branch<T, A>, index: &Index<A>, i
     id == root.node.id || parent_in(index, id).is_some()
 }
 
-/// How many nodes are above the one with the id.
+/// The number of nodes above the one with the id.
 pub(crate) fn depth_in<T, A: Allocator>(
     root: &Branch<T, A>,
     index: &Index<A>,
@@ -65,7 +65,7 @@ pub(crate) fn seek<'t, T, A: Allocator>(
     Some(&child.node)
 }
 
-/// The node with the id, to be changed.
+/// Returns a mutable reference to the node with the id.
 pub(crate) fn seek_mut<'t, T, A: Allocator>(
     root: &'t mut Branch<T, A>,
     index: &Index<A>,
@@ -82,7 +82,7 @@ pub(crate) fn seek_mut<'t, T, A: Allocator>(
     Down::toward(root, index, id, steps)
 }
 
-/// The content of the node with the id, to be changed.
+/// Returns a mutable reference to the content of the node with the id.
 pub(crate) fn content_at<'t, T, A: Allocator>(
     root: &'t mut Branch<T, A>,
     index: &Index<A>,

@@ -16,16 +16,16 @@ ghost use Rattle.hv_tree.specs.Way.{id_of, children_of, place_by, IsRising, IsSh
 use crate::edit::Edit;
 use std::alloc::{AllocError, Allocator};
 
-/// A node with all that is below it, as its parent owns it.
+/// A node with all nodes below it, as its parent owns it.
 ///
-/// It is a type of its own since what a `&mut` to a `Node` lends can't be a `&mut` to a `Node`.
+/// It is a separate type because what a `&mut` to a `Node` lends can't be a `&mut` to a `Node`.
 #[derive(Drop)]
 #[cycle(tree)]
 pub(crate) struct Branch<T, A: Allocator> {
     pub(crate) node: Node<T, A>,
 }
 
-/// A node, and through its children all that is below it.
+/// A node, which owns all nodes below it through its children.
 #[derive(Drop)]
 #[cycle(tree)]
 pub(crate) struct Node<T, A: Allocator> {
@@ -97,7 +97,7 @@ impl<T, A: Allocator> Node<T, A> {
         Some(child)
     }
 
-    /// Adds the ids of this node and of all below it.
+    /// Appends the ids of this node and of all nodes below it.
     pub(crate) fn push_ids(&self, ids: &mut Vec<u64, A>) -> Result<(), AllocError>
         ensures { OnOk result (ids.new.items ≡ ids.old.items ++ map (λ e. e.0) (node_lines self.now)) }
     {
@@ -119,7 +119,7 @@ impl<T, A: Allocator> Node<T, A> {
         edit.edit(&mut self.content);
     }
 
-    /// Takes the child with the id out, if it has no children, and gives its content.
+    /// Removes the child with the id, if it has no children, and returns its content.
     pub(crate) fn take_leaf(&mut self, id: u64) -> Option<T>
     where
         T: Drop,
@@ -151,7 +151,7 @@ impl<T, A: Allocator> Node<T, A> {
     }
 }
 
-/// Where the first child with a higher id is, or would be.
+/// The place of the first child with a higher id, or where it would be.
 pub(crate) fn first_above<T, A: Allocator>(children: &[Box<Branch<T, A>, A>], id: u64) -> usize
     requires { IsNonDecreasingBy (λ k. id_of k.value) children.now }
     ensures bound { result ≤ length children.now }

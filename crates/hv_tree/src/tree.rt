@@ -21,16 +21,16 @@ use indexmap::IndexMap;
 use std::alloc::{AllocError, AllocFailed, Allocator};
 use std::marker::Model;
 
-/// A tree whose nodes have ids of their own, each with a content. One node, the root, has no parent.
+/// A tree whose nodes each have a unique id and a content. One node, the root, has no parent.
 ///
-/// Each node owns its children in boxes, by rising id. Beside them an index names each node's parent, and
-/// tells the way down to a node.
+/// Each node owns its children in boxes, by rising id. Beside them, an index names each node's parent, and so
+/// gives the way down to a node.
 #[derive(Drop)]
 pub struct IdTree<T, A: Allocator> {
     root: Branch<T, A>,
     // The parent of each node but the root.
     index: Index<A>,
-    // How many nodes there are.
+    // The number of nodes.
     count: u64,
     alloc: A,
 }
@@ -55,7 +55,7 @@ impl<T, A: Allocator> Model for IdTree<T, A> {
 }
 
 impl<T, A: Allocator> IdTree<T, A> {
-    /// Whether a node has the id.
+    /// Returns `true` if a node has the id.
     pub fn contains(&self, id: u64) -> bool
         ensures value { result ≡ map.contains_key self.now id }
         ensures none { result ≡ false → children self.now id ≡ [] }
@@ -74,7 +74,7 @@ impl<T, A: Allocator> IdTree<T, A> {
         }
     }
 
-    /// The id of a node's parent. There is none for the root, and none where no node has the id.
+    /// The id of a node's parent, or `None` for the root and if no node has the id.
     pub fn parent_of(&self, id: u64) -> Option<u64>
         ensures value { result ≡ parent self.now id }
         ensures tree { IsTree self.now }
@@ -82,7 +82,7 @@ impl<T, A: Allocator> IdTree<T, A> {
         parent_in(&self.index, id)
     }
 
-    /// How many nodes are above a node: 0 for the root, and `None` where no node has the id.
+    /// The number of nodes above a node: 0 for the root, and `None` if no node has the id.
     pub fn depth_of(&self, id: u64) -> Option<u64>
         ensures found { is_some result ≡ map.contains_key self.now id }
         ensures depth { IfSome result (HasDepth self.now id) }
@@ -91,7 +91,7 @@ impl<T, A: Allocator> IdTree<T, A> {
         depth_in(&self.root, &self.index, id)
     }
 
-    /// How many children a node has, or `None` where no node has the id.
+    /// The number of a node's children, or `None` if no node has the id.
     pub fn children_of(&self, id: u64) -> Option<u32>
         ensures value { result
             ≡ option_map (λ _. length (children self.now id)) (map.get self.now id) }
@@ -105,7 +105,8 @@ impl<T, A: Allocator> IdTree<T, A> {
     }
 
     /// The least id above `previous` among the children of `parent`.
-    /// From 0, each answer passed back in turn, it walks over all children but one with the id 0.
+    ///
+    /// Repeated calls from 0, each with the last result, visit every child except one with the id 0.
     pub fn child_after(&self, parent: u64, previous: u64) -> Option<u64>
         ensures value { IsLeastAbove previous (children self.now parent) result }
         ensures tree { IsTree self.now }
@@ -116,8 +117,9 @@ impl<T, A: Allocator> IdTree<T, A> {
         node.child_after(previous)
     }
 
-    /// Makes room for one more child of `parent`. The next insert there needs memory for the node
-    /// and for its place in the index alone.
+    /// Makes room for one more child of `parent`.
+    ///
+    /// The next insert there needs memory only for the node and for its place in the index.
     pub fn reserve_child(&mut self, parent: u64) -> Result<(), ReserveRefused>
         ensures rows { self.new ≡ self.old }
         ensures no_parent { (result ≡ Err ReserveRefused.NoParent)
@@ -140,7 +142,7 @@ impl<T, A: Allocator + Clone> IdTree<T, A> {
 }
 
 impl<T: Drop, A: Allocator> IdTree<T, A> {
-    /// The content of a node, to be changed in place. It takes no memory.
+    /// Returns a mutable reference to the content of a node. It takes no memory.
     pub fn get_mut(&mut self, id: u64) -> Option<&mut T>
         ensures* writes_back { sem 𝓛 (LendsIf (the_row T.row A.row A.Allocator) T.row self.entry result
             (λ w. change self.old id (λ _. w)) self.old) }
@@ -149,8 +151,9 @@ impl<T: Drop, A: Allocator> IdTree<T, A> {
         content_at(&mut self.root, &self.index, id)
     }
 
-    /// Edits the content of a node, and of each node below it. It takes no memory.
-    /// `false` where no node has the id.
+    /// Edits the content of a node and of each node below it. It takes no memory.
+    ///
+    /// Returns `false` if no node has the id.
     pub fn update_subtree<E: Edit<T>>(&mut self, id: u64, edit: &E) -> bool
         ensures found { result ≡ map.contains_key self.old id }
         ensures edited { (q : ℕ) → IsInSubtree self.old id q → map.get self.new q
@@ -164,8 +167,9 @@ impl<T: Drop, A: Allocator> IdTree<T, A> {
         edit_below(&mut self.root, &self.index, id, edit)
     }
 
-    /// Takes a node out that has a parent and no children, and hands back its content. It takes no memory.
-    /// `None` where no node has the id, for the root, and for a node with children.
+    /// Removes a node that has a parent and no children, and returns its content. It takes no memory.
+    ///
+    /// Returns `None` if no node has the id, for the root, and for a node with children.
     pub fn remove_leaf(&mut self, id: u64) -> Option<T>
         ensures leaf { is_some result ≡ is_leaf self.old id }
         ensures content { IfSome result (λ c. content self.old id ≡ Some c) }
@@ -181,7 +185,7 @@ impl<T: Drop, A: Allocator> IdTree<T, A> {
 }
 
 impl<T: Drop, A: Allocator + Copy> IdTree<T, A> {
-    /// A tree of one node, or the content again where memory is short.
+    /// Creates a tree of one node. Out of memory, it hands the content back.
     pub fn new(alloc: A, id: u64, content: T) -> Result<IdTree<T, A>, T>
         ensures ok { IfOk result (λ t. t ≡ map.insert map.empty id (None, content)) }
         ensures err { IfErr result (λ c. c ≡ content) }
@@ -196,7 +200,7 @@ impl<T: Drop, A: Allocator + Copy> IdTree<T, A> {
 }
 
 impl<T, A: Allocator> IdTree<T, A> {
-    // Hands the content on where a node may be put below the parent with this id.
+    // Returns the content if a node with this id may be inserted below the parent.
     fn admit(&self, parent: u64, id: u64, content: T) -> Result<T, InsertRefused<T>>
         ensures content { IfOk result (λ c. c ≡ content) }
         ensures has_parent { OnOk result (map.contains_key self.now parent ≡ true) }
@@ -214,7 +218,7 @@ impl<T, A: Allocator> IdTree<T, A> {
 }
 
 impl<T: Drop, A: Allocator + Clone> IdTree<T, A> {
-    /// Puts a new node below `parent`, or hands its content back and leaves the tree as it was.
+    /// Inserts a new node below `parent`, or hands its content back and leaves the tree as it was.
     pub fn insert_child(&mut self, parent: u64, id: u64, content: T) -> Result<(), InsertRefused<T>>
         requires { length (children self.old parent) < u32.MAX }
         ensures ok { OnOk result (self.new ≡ map.insert self.old id (Some parent, content)) }
@@ -240,7 +244,7 @@ impl<T: Drop, A: Allocator + Clone> IdTree<T, A> {
     }
 }
 
-// A node with nothing below it, or its content again.
+// Creates a node with no nodes below it, or hands its content back.
 fn make<T: Drop, A: Allocator + Clone>(
     alloc: &A,
     id: u64,

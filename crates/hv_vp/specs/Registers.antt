@@ -1,4 +1,4 @@
--- What reads and writes of registers answer, and the table of registers by places.
+-- The answers to reads and writes of registers, and the table of registers by place.
 use Rattle.std.specs.Prelude.{ℕ, ◌==◌, List, map, Option, None, Some, Result, Ok, Err}
 use Rattle.std.specs.List.{zip, position_from}
 use lib.ListN.{get_or}
@@ -30,7 +30,7 @@ abbrev pub read_of_msr : FinMap nat_cmp ℕ → Option ℕ → Result ℕ RegFau
 read_of_msr registers None = Err Unknown
 read_of_msr registers (Some name) = read_of registers name
 
--- what a model-specific register keeps of a value that is written, or why it doesn't take it
+-- the value that a model-specific register keeps after a write, or why it refuses the value
 abbrev pub kept_msr : Option ℕ → ℕ → Result ℕ RegFault
 kept_msr None value = Err Unknown
 kept_msr (Some name) value = kept (row_of name) value
@@ -43,7 +43,7 @@ place_of name = position_from (λ row. row.name == name) 0 REGISTERS
 unfoldable pub msr_place : ℕ → Option ℕ
 msr_place msr = position_from (has_msr msr) 0 REGISTERS
 
--- which values the register at a place takes, and none past the end
+-- the values that the register at a place takes; past the end it takes nothing
 unfoldable pub takes_at : ℕ → Takes
 takes_at place = (get_or REGISTERS place (record {
   name = 0;

@@ -32,7 +32,7 @@ vp_code =
     (λ t. record { registers = t.0; mail = t.1.0; flags = t.1.1.0; pending = t.1.1.1.0; room = t.1.1.1.1 })
     (λ _. refl)
 
--- a processor that was just made
+-- a new processor
 abbrev pub new_vp : ℕ → VpState
 new_vp index = record {
   registers = start_registers index;
@@ -43,57 +43,58 @@ new_vp index = record {
   room = false;
 }
 
--- once a SINT raised its vector, where it did
+-- the processor after a SINT raised its vector, if it did
 abbrev pub raised_if : Bool → ℕ → VpState → VpState
 raised_if did sint v = record v { pending = cond did (raised v.registers sint v.pending) v.pending }
 
--- Show at a SINT: where none is shown and one waits, the oldest is shown and the SINT raises its vector
+-- Show at a SINT: if none is shown and one waits, the oldest is shown and the SINT raises its vector
 abbrev pub shown : ℕ → VpState → VpState
 shown sint v = raised_if (has_next (at v.mail sint)) sint
     (record v { mail = with_at v.mail sint (with_next (at v.mail sint)) })
 
--- Show at each of the first so many SINTs
+-- Show at each SINT below a number
 unfoldable pub shown_each : ℕ → VpState → VpState
 shown_each zero v = v
 shown_each (suc sint) v = shown sint (shown_each sint v)
 
--- a message ends: where it takes messages, Show at each SINT
+-- a message ends: if the processor takes messages, Show at each SINT
 abbrev pub ended : VpState → VpState
 ended v = cond (takes_messages v.registers) (shown_each SINTS v) v
 
 abbrev pub ended_if : Bool → VpState → VpState
 ended_if is v = cond is (ended v) v
 
--- once a value was written to the register with this name, if it took it; the write of EOM ends a message
+-- the processor after a write to the register with this name, if the register takes the value; a write of EOM
+-- ends a message
 abbrev pub written : ℕ → ℕ → VpState → VpState
 written name value v = ended_if (name == EOM) (record v
     { registers = after_write v.registers name (kept (row_of name) value) })
 
--- once a value was written to a model-specific register, by the name that it has in a call
+-- the processor after a write to a model-specific register, by the name that it has in a call
 abbrev pub written_msr : Option ℕ → ℕ → VpState → VpState
 written_msr None value v = v
 written_msr (Some name) value v = written name value v
 
--- once a message was posted: it goes last at its SINT, and then Show there
+-- the processor after a post: the message goes last at its SINT, and then Show there
 abbrev pub posted : ℕ → Message → VpState → VpState
 posted sint message v =
     raised_if (has_next (with_last (at v.mail sint) message)) sint
     (record v { mail = with_at v.mail sint (mail.posted (at v.mail sint) message); room = false })
 
--- once the message that a SINT shows is removed
+-- the processor after the message that a SINT shows is removed
 abbrev pub slot_cleared : ℕ → VpState → VpState
 slot_cleared sint v = record v { mail = with_at v.mail sint (mail.cleared (at v.mail sint)) }
 
--- once a flag of a SINT was set; where it was clear, the SINT raises its vector
+-- the processor after a flag of a SINT is set; if the flag was clear, the SINT raises its vector
 abbrev pub signalled : ℕ → ℕ → VpState → VpState
 signalled sint flag v =
     raised_if (not (set.contains v.flags (sint, flag))) sint
     (record v { flags = set.insert v.flags (sint, flag) })
 
--- once a flag of a SINT was cleared
+-- the processor after a flag of a SINT is cleared
 abbrev pub flag_cleared : ℕ → ℕ → VpState → VpState
 flag_cleared sint flag v = record v { flags = set.remove v.flags (sint, flag) }
 
--- once the highest pending vector was taken
+-- the processor after its highest pending vector is taken
 abbrev pub interrupted : VpState → VpState
 interrupted v = record v { pending = without v.pending (highest v.pending) }

@@ -14,7 +14,7 @@ use Rattle.hv_vp.specs.Vp.{VpState, vp_code}
 use Rattle.hv_vp.specs.declared.vps.Slot.{Slot}
 use Rattle.hv_vp.specs.declared.vps.TheConstants.{MOST}
 
--- each processor by its index, and for how many more there is room
+-- each processor by its index, and how many more there is room for
 pub record VpsState : Type 0 where
   pub vps : map.FinMap nat_cmp VpState
   pub room : ℕ
@@ -32,7 +32,7 @@ entries_of slots = list_map (λ slot. (slot.index, slot.vp)) slots
 unfoldable pub vps_of : {A : Type 0} → List (Slot A) → map.FinMap nat_cmp VpState
 vps_of slots = map.from_entries (entries_of slots)
 
--- what is seen of a list of slots in a vector with this capacity: there is never room for more than the most
+-- the view of a list of slots in a vector with this capacity; there is never room for more than `MOST` in all
 abbrev pub seen_of : {A : Type 0} → List (Slot A) → ℕ → VpsState
 seen_of slots capacity = record { vps = vps_of slots; room = min capacity MOST - length slots }
 
@@ -40,7 +40,7 @@ seen_of slots capacity = record { vps = vps_of slots; room = min capacity MOST -
 abbrev pub AreDistinct : {A : Type 0} → List (Slot A) → Type 0
 AreDistinct slots = IsDistinct nat_eq (list_map (λ slot. slot.index) slots)
 
--- and there are no more of them than the most
+-- the invariant of the slots: distinct indexes, and at most `MOST` slots
 pub record AreSlots {A : Type 0} (slots : List (Slot A)) : Type 0 where
   pub distinct : AreDistinct slots
   pub few : length slots ≤ MOST
@@ -58,7 +58,7 @@ is_ready Event v = takes_flags v.registers
 abbrev pub lowest : (VpState → Bool) → map.FinMap nat_cmp VpState → Option ℕ
 lowest test vps = option_map (λ e. e.0) (find (λ e. test e.1) (map.entries vps))
 
--- how many messages of a port and birth all of them have
+-- the number of messages of a port and birth at all processors together
 abbrev pub kept_by_all : ℕ → ℕ → map.FinMap nat_cmp VpState → ℕ
 kept_by_all port born vps = sum_by (λ e. count_of port born e.1.mail) (map.entries vps)
 
@@ -66,6 +66,6 @@ kept_by_all port born vps = sum_by (λ e. count_of port born e.1.mail) (map.entr
 abbrev pub no_vps : VpsState
 no_vps = record { vps = map.empty; room = 0 }
 
--- the processors once all are removed, with the room that they leave
+-- the processors after all are removed, with the room that they leave
 abbrev pub cleared : VpsState → VpsState
 cleared v = record { vps = map.empty; room = v.room + map.len v.vps }

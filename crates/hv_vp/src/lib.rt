@@ -1,14 +1,15 @@
-//! A virtual processor: its registers, by name and by model-specific register, the messages and event
-//! flags at its SINTs, and the interrupt vectors that wait for it; and the processors of a partition,
-//! by their indexes. The call groups of the TLFS 4.0 are "Virtual Processor Management" and
-//! "Inter-Partition Communication".
+//! A virtual processor: its registers by name and by MSR number, the messages and event flags at its SINTs,
+//! and its pending interrupt vectors; and the processors of a partition, by index.
 //!
-//! Contracts see a processor as the record of these parts (`VpState` in `specs/`), its registers as a
-//! finite map from name to value, of which `hv_defs` has the table, and the others as `hv_mail` has
-//! them. A register that isn't written tells why by [`RegFault`], and the processor is unchanged.
-//! Memory is asked for in `Vp::new`, in `Vp::reserve_message` and in `Vps::reserve_one` alone. Who may
-//! access a register or send a message is not asked here, nor whether the processor is ready for it,
-//! which two functions tell.
+//! The chapters of the TLFS 4.0 are "Virtual Processor Management" and "Inter-Partition Communication".
+//!
+//! Contracts see a processor as the record of these parts (`VpState` in `specs/`): its registers as a finite
+//! map from name to value, by the table of `hv_defs`, and the other parts as `hv_mail` has them. A write that
+//! a register refuses tells why by [`RegFault`], and leaves the processor unchanged. Only `Vp::new`,
+//! `Vp::reserve_message` and `Vps::reserve_one` ask for memory.
+//!
+//! Nothing here checks who may access a register or send a message, or whether the processor is ready for it.
+//! Two functions tell whether it is.
 #![tactic(auto)]
 
 mod registers;

@@ -38,7 +38,7 @@ impl Registers {
         Registers { values }
     }
 
-    /// The value of a register, or `None` where none has the name.
+    /// The value of a register, or `None` if no register has the name.
     pub fn read(&self, name: u32) -> Option<u64>
         ensures { result ≡ map.get self.now name }
     {

@@ -15,11 +15,10 @@ use hv_mail::Message;
 use std::alloc::{AllocError, Allocator};
 
 impl<A: Allocator> Vp<A> {
-    /// Reserves room for one message, which the next `post` uses up. Where room is reserved already,
-    /// nothing changes.
+    /// Reserves room for one message, which the next `post` uses up.
     ///
-    /// `Err` where there is no memory for it, or where 2^59 messages wait at a SINT, and then nothing
-    /// has changed.
+    /// If room is reserved already, nothing changes. Returns `Err` if there is no memory for it, or if 2^59
+    /// messages wait at a SINT. Nothing has changed then.
     pub fn reserve_message(&mut self) -> Result<(), AllocError>
     where
         A: Clone,
@@ -32,9 +31,10 @@ impl<A: Allocator> Vp<A> {
         Ok(())
     }
 
-    /// Adds a message behind those that stand at a SINT below 16, and uses up the room that is
-    /// reserved. Where the SINT shows none, the oldest is shown, and the SINT raises its vector (TLFS
-    /// 4.0, "Messages"). Whether the processor takes messages is not asked.
+    /// Adds a message behind all others at a SINT below 16, and uses up the reserved room.
+    ///
+    /// If the SINT shows no message, it shows the oldest and raises its vector (TLFS 4.0, "Messages").
+    /// Whether the processor takes messages is not checked.
     pub fn post(&mut self, sint: u8, message: Message)
         requires sint { sint < SINTS }
         requires room { self.old.room ≡ true }
@@ -46,8 +46,10 @@ impl<A: Allocator> Vp<A> {
         }
     }
 
-    /// Sets an event flag below 2,048 of a SINT below 16. Where it was clear, the SINT raises its
-    /// vector (TLFS 4.0, "Event Flags"). Whether the processor takes event flags is not asked.
+    /// Sets an event flag below 2,048 of a SINT below 16.
+    ///
+    /// If the flag was clear, the SINT raises its vector (TLFS 4.0, "Event Flags"). Whether the processor
+    /// takes event flags is not checked.
     pub fn signal(&mut self, sint: u8, flag: u16)
         requires sint { sint < SINTS }
         requires flag { flag < EVENT_FLAGS }
@@ -58,8 +60,10 @@ impl<A: Allocator> Vp<A> {
         }
     }
 
-    /// The 256 bytes of the message slot of a SINT below 16, which are zeros where it shows no message
-    /// (TLFS 4.0, "Messages"). [`hv_mail::Mailbox::slot`] says how they are laid out.
+    /// The 256 bytes of the message slot of a SINT below 16, or zeros if it shows no message (TLFS 4.0,
+    /// "Messages").
+    ///
+    /// [`hv_mail::Mailbox::slot`] describes their layout.
     pub fn slot(&self, sint: u8) -> [u8; 256]
         requires { sint < SINTS }
         ensures { result ≡ slot_bytes (at self.now.mail sint) }
@@ -76,7 +80,7 @@ impl<A: Allocator> Vp<A> {
         self.flags.read(sint)
     }
 
-    /// Removes the message that a SINT below 16 shows, if it shows one. None is shown in its place.
+    /// Removes the message that a SINT below 16 shows, if any. No other message takes its place.
     pub fn clear_slot(&mut self, sint: u8)
         requires { sint < SINTS }
         ensures { self.new ≡ slot_cleared sint self.old }
@@ -93,14 +97,14 @@ impl<A: Allocator> Vp<A> {
         self.flags.clear(sint, flag);
     }
 
-    /// The vectors that are pending, as bits: vector v is where bit v % 64 of word v / 64 is 1.
+    /// The pending vectors as bits: vector v is pending if bit v % 64 of word v / 64 is 1.
     pub fn pending(&self) -> [u64; 4]
         ensures { numbers_of result ≡ self.now.pending }
     {
         self.pending.words()
     }
 
-    /// Removes the highest of the vectors that wait and returns it, or returns `None` where none waits.
+    /// Removes and returns the highest pending vector, or returns `None` if none is pending.
     pub fn take_interrupt(&mut self) -> Option<u8>
         ensures vector { result ≡ highest self.old.pending }
         ensures state { self.new ≡ interrupted self.old }
@@ -108,16 +112,17 @@ impl<A: Allocator> Vp<A> {
         self.pending.take_highest()
     }
 
-    /// How many messages it has, shown or waiting, that came through this port of this birth. The time
-    /// is proportional to the number of all its messages.
+    /// The number of its messages, shown or waiting, that came through this port of this birth.
+    ///
+    /// The time is proportional to the number of all its messages.
     pub fn of_port(&self, port: u32, born: u64) -> usize
         ensures { result ≡ count_of port born self.now.mail }
     {
         self.mailbox.of_port(port, born)
     }
 
-    // Where it takes messages, each SINT shows its next one, and each at which one became shown raises its
-    // vector, in their order.
+    // If the processor takes messages, shows the next message of each SINT. Each SINT at which one became
+    // shown raises its vector, in SINT order.
     pub(crate) fn end_message(&mut self)
         ensures { self.new ≡ ended self.old }
     {

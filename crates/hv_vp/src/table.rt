@@ -18,13 +18,13 @@ pub fn start_values() -> [u64; 40]
     REGISTERS.map(|row| row.start)
 }
 
-// The place of SINT 0, behind which those of the other SINTs and of their controller's registers stand.
+// The place of SINT 0. The other SINTs and the registers of their controller follow it.
 const SINT0_PLACE: usize = 19;
 
 const _: () = prove!(REGISTERS[SINT0_PLACE].name == SINT0);
 
-// The place of a register in the table. Where it stands if there is one is known by its name, and the table
-// tells whether it does.
+// The place of a register in the table. The name tells where the register would be, and the table tells
+// whether it is there.
 pub fn place_of(name: u32) -> Option<usize>
     ensures place { result ≡ place_of name }
     ensures within { IfSome result (λ place. place < 40) }
@@ -37,7 +37,7 @@ pub fn place_of(name: u32) -> Option<usize>
     scan(name)
 }
 
-// A place at which a register with this name would stand.
+// A place at which a register with this name would be.
 fn likely_place(name: u32) -> usize
     ensures { result < 40 }
 {
@@ -51,7 +51,7 @@ fn likely_place(name: u32) -> usize
     if place < 40 { place } else { 0 }
 }
 
-// The place of a register in the table, wherever it stands.
+// The place of a register, found by a scan of the table.
 #[tactic(auto, unfolding(crate::specs::Registers::place_of))]
 fn scan(name: u32) -> Option<usize>
     ensures place { result ≡ place_of name }
@@ -70,8 +70,9 @@ pub fn takes_at(place: usize) -> Takes
     rows[place].takes
 }
 
-/// The bits of a partition's privilege mask that an access to the register with this name needs, if
-/// there is one. The name is an HV_REGISTER_NAME.
+/// The privilege bits that an access to the register with this name needs, if there is one.
+///
+/// The bits are those of a partition's privilege mask. The name is an HV_REGISTER_NAME.
 pub fn privilege_of(name: u32) -> Option<u64>
     ensures { result ≡ option_map (λ row. row.privilege) (row_of name) }
 {
@@ -84,7 +85,7 @@ pub fn privilege_of(name: u32) -> Option<u64>
     }
 }
 
-/// What the register with this name keeps of a value that is written, or why it doesn't take it.
+/// The value that the register with this name keeps after a write, or why it refuses the value.
 pub fn kept(name: u32, value: u64) -> Result<u64, RegFault>
     ensures { result ≡ kept (row_of name) value }
 {
@@ -94,7 +95,7 @@ pub fn kept(name: u32, value: u64) -> Result<u64, RegFault>
     }
 }
 
-// What is kept of a value that is written.
+// The value that is kept after a write, or why there is none.
 pub fn take(takes: Takes, value: u64) -> Result<u64, RegFault>
     ensures { result ≡ take takes value }
 {
@@ -114,7 +115,7 @@ fn is_sint_value(value: u64) -> bool
     value & 0xff >= 16 || value >> 16 & 1 == 1
 }
 
-/// The name of a model-specific register in a call, HV_REGISTER_NAME, if there is one with this number.
+/// The HV_REGISTER_NAME of the model-specific register with this number, if there is one.
 pub fn name_of_msr(msr: u32) -> Option<u32>
     ensures { result ≡ name_of_msr msr }
 {
@@ -127,15 +128,15 @@ pub fn name_of_msr(msr: u32) -> Option<u32>
     }
 }
 
-// The model-specific registers of SINT 0 and of the SINTs' controller, whose rows stand behind those of the
-// SINTs.
+// The model-specific registers of SINT 0 and of the SINTs' controller. The controller's rows follow those of
+// the SINTs.
 const SINT0_MSR: u32 = 0x4000_0090;
 
 const SCONTROL_MSR: u32 = 0x4000_0080;
 
 const SCONTROL_PLACE: usize = SINT0_PLACE + 16;
 
-// The place of a model-specific register in the table, looked for first where it would stand.
+// The place of a model-specific register in the table. Looks first where the register would be.
 fn msr_place(msr: u32) -> Option<usize>
     ensures place { result ≡ msr_place msr }
     ensures within { IfSome result (λ place. place < 40) }
@@ -148,7 +149,7 @@ fn msr_place(msr: u32) -> Option<usize>
     scan_msr(msr)
 }
 
-// A place at which a model-specific register with this number would stand.
+// A place at which a model-specific register with this number would be.
 fn likely_msr_place(msr: u32) -> usize
     ensures { result < 40 }
 {
@@ -162,7 +163,7 @@ fn likely_msr_place(msr: u32) -> usize
     if place < 40 { place } else { 0 }
 }
 
-// The place of a model-specific register in the table, wherever it stands.
+// The place of a model-specific register, found by a scan of the table.
 #[tactic(auto, unfolding(crate::specs::Registers::msr_place))]
 fn scan_msr(msr: u32) -> Option<usize>
     ensures place { result ≡ msr_place msr }

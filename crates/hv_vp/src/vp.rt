@@ -12,20 +12,19 @@ use hv_mail::{Flags, Mailbox, Pending};
 use std::alloc::{AllocError, Allocator};
 use std::marker::Model;
 
-/// A virtual processor: its registers, the messages and event flags at its 16 SINTs, and the interrupt
-/// vectors that wait for it (TLFS 4.0, "Virtual Processor Management" and "Synthetic Interrupt
-/// Controller").
+/// A virtual processor: its registers, the messages and event flags at its 16 SINTs, and its pending
+/// interrupt vectors (TLFS 4.0, "Virtual Processor Management" and "Synthetic Interrupt Controller").
 ///
-/// It takes 4 KB of its allocator for the event flags when it is made, and memory for messages when
-/// room for one is reserved.
+/// Creating it takes 4 KB of its allocator for the event flags. Reserving room for a message takes memory for
+/// messages.
 #[derive(Drop)]
 pub struct Vp<A: Allocator> {
     pub(crate) registers: Registers,
     pub(crate) mailbox: Mailbox<A>,
-    // Their 4 KB stand apart, so that a processor is cheap to move.
+    // Their 4 KB are boxed, so that a processor is cheap to move.
     pub(crate) flags: Box<Flags, A>,
     pub(crate) pending: Pending,
-    // Whether room for a message is reserved, and then the mailbox has it.
+    // Whether room for a message is reserved. If it is, the mailbox has it.
     pub(crate) room: bool,
 }
 
@@ -49,7 +48,7 @@ impl<A: Allocator> Model for Vp<A> {
 }
 
 impl<A: Allocator> Vp<A> {
-    /// A processor with this index that was just made, or out of memory for its event flags.
+    /// Creates a processor with this index, or fails when out of memory for its event flags.
     pub fn new(alloc: A, index: u32) -> Result<Vp<A>, AllocError>
     where
         A: Clone,
@@ -74,9 +73,9 @@ impl<A: Allocator> Vp<A> {
 
     /// Writes the register with this name. A fault changes nothing.
     ///
-    /// A write of EOM ends a message: where the processor takes messages, each SINT from 0 to 15 that
-    /// shows none shows the oldest that waits there, and raises its vector if one became shown (TLFS
-    /// 4.0, "Synthetic Interrupt Controller").
+    /// A write of EOM ends a message. If the processor takes messages, each SINT from 0 to 15 that shows none
+    /// then shows its oldest waiting message, and raises its vector if one became shown (TLFS 4.0, "Synthetic
+    /// Interrupt Controller").
     pub fn write_reg(&mut self, name: u32, value: u64) -> Result<(), RegFault>
         ensures answer { result ≡ answer (kept (row_of name) value) }
         ensures state { self.new ≡ written name value self.old }

@@ -47,7 +47,7 @@ impl<A: Allocator> Model for Vps<A> {
 }
 
 impl<A: Allocator> Vps<A> {
-    /// No processors, and no memory for any.
+    /// Creates a set of no processors, without memory for any.
     pub fn new(alloc: A) -> Vps<A>
         ensures { result ≡ no_vps }
     {
@@ -66,7 +66,7 @@ impl<A: Allocator> Vps<A> {
         }
     }
 
-    /// The processor with this index, to be changed.
+    /// Returns a mutable reference to the processor with this index.
     pub fn get_mut(&mut self, index: u32) -> Option<&mut Vp<A>>
         ensures* writes_back { sem 𝓛 (LendsIf (the_row A.row A.Allocator)
             (vp_row A.row A.Allocator) self.entry result
@@ -79,32 +79,33 @@ impl<A: Allocator> Vps<A> {
         }
     }
 
-    /// How many there are.
+    /// The number of processors.
     pub fn count(&self) -> u32
         ensures { result ≡ map.len self.now.vps }
     {
         self.slots.len() as u32
     }
 
-    /// The lowest index of a processor that is ready for what a port of this kind takes, if one is.
+    /// The lowest index of a processor that is ready for what a port of this kind takes, if there is one.
     pub fn lowest_ready_vp(&self, kind: PortKind) -> Option<u32>
         ensures { result ≡ lowest (is_ready kind) self.now.vps }
     {
         lowest_of(self.slots.as_slice(), kind)
     }
 
-    /// Whether all processors together have fewer messages than so many, shown or waiting, that came through
-    /// this port of this birth.
+    /// Returns `true` if all processors together have fewer than `most` messages of this port and birth.
+    ///
+    /// Both shown and waiting messages count.
     pub fn keep_fewer(&self, port: u32, born: u64, most: usize) -> bool
         ensures { result ≡ nat_lt (kept_by_all port born self.now.vps) most }
     {
         keep_fewer(self.slots.as_slice(), port, born, most)
     }
 
-    /// Makes room for one processor more. Room that is there already always suffices.
+    /// Makes room for one more processor. Existing room always suffices.
     ///
-    /// `Err` where there is no memory for it, or where there are 2^32 - 1 processors already, and then
-    /// nothing has changed.
+    /// Returns `Err` if there is no memory for it, or if there are 2^32 - 1 processors already. Nothing has
+    /// changed then.
     pub fn reserve_one(&mut self) -> Result<(), AllocError>
         ensures room { OnOk result (1 ≤ self.new.room) }
         ensures enough { 1 ≤ self.old.room → IsOk result }
@@ -118,7 +119,7 @@ impl<A: Allocator> Vps<A> {
         self.slots.reserve(1)
     }
 
-    /// Adds a processor with an index that is free. It must find room.
+    /// Adds a processor with an index that is free. There must be room for it.
     pub fn put(&mut self, index: u32, vp: Vp<A>)
         requires room { 1 ≤ self.old.room }
         requires free { map.contains_key self.old.vps index ≡ false }
@@ -128,7 +129,7 @@ impl<A: Allocator> Vps<A> {
         self.slots.push(Slot { index, vp }).unwrap();
     }
 
-    /// Removes the processor with this index, and says whether there was one.
+    /// Removes the processor with this index. Returns `true` if there was one.
     pub fn remove(&mut self, index: u32) -> bool
         ensures held { result ≡ map.contains_key self.old.vps index }
         ensures vps { self.new.vps ≡ map.remove self.old.vps index }
@@ -141,7 +142,7 @@ impl<A: Allocator> Vps<A> {
         true
     }
 
-    /// Removes all. The room that they leave is kept.
+    /// Removes all processors. The room that they leave is kept.
     pub fn clear(&mut self)
         ensures { self.new ≡ cleared self.old }
     {
@@ -149,8 +150,8 @@ impl<A: Allocator> Vps<A> {
     }
 }
 
-// The place of a processor. That with an index is looked for there first, where it is if all were made in the
-// order of their indexes and none was removed.
+// The place of a processor. Looks first at the place with the number of the index. The processor is there if
+// all were made in the order of their indexes and none was removed.
 fn place_of<A: Allocator>(slots: &[Slot<A>], index: u32) -> Option<usize>
     requires { AreDistinct slots.now }
     ensures place { result ≡ position_from (λ slot. slot.index == index) 0 slots.now }
@@ -175,7 +176,7 @@ fn lowest_of<A: Allocator>(slots: &[Slot<A>], kind: PortKind) -> Option<u32>
         .min()
 }
 
-// Whether the processors have fewer messages of a port and birth than so many, counted no further than that.
+// Returns `true` if the processors have fewer than `most` messages of a port and birth. It counts no further.
 fn keep_fewer<A: Allocator>(slots: &[Slot<A>], port: u32, born: u64, most: usize) -> bool
     ensures { result ≡ nat_lt (sum_by (λ slot. count_of port born slot.vp.mail) slots.now) most }
 {

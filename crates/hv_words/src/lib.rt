@@ -1,9 +1,9 @@
-//! The names of what events are about, and their text: calls and accesses with their fields, a sentence for
-//! each rule, registers, privileges, properties, and the outputs of calls and accesses.
+//! The names and texts of events: calls and accesses with their fields, a sentence for each rule, registers,
+//! privileges, properties, and the outputs of calls and accesses.
 //!
 //! Calls, MSRs and privileges have the names of the TLFS 4.0. The sentences and the order of the fields are
-//! this project's own; `docs/PROGRAM.md` describes the form. [`Words`] is the buffer in which a text is put
-//! together. It never has a line feed.
+//! this project's own; `docs/PROGRAM.md` describes the form. [`Words`] is the buffer that a text is built in.
+//! It never has a line feed.
 #![tactic(auto)]
 
 mod calls;

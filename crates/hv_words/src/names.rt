@@ -31,8 +31,7 @@ pub fn call_name(call: CallKind) -> &'static str {
     }
 }
 
-/// The TLFS's name of the privilege that is this bit of a mask, or `None` where no call and no register
-/// needs it.
+/// The TLFS's name of the privilege at this bit of a mask, or `None` if no call and no register needs it.
 pub fn privilege_name(bit: u32) -> Option<&'static str> {
     match bit {
         2 => Some("AccessSynicRegs"),
@@ -67,7 +66,7 @@ pub fn life_name(life: Life) -> &'static str {
     }
 }
 
-/// What a port takes.
+/// What a port of this kind takes.
 pub fn kind_name(kind: PortKind) -> &'static str {
     match kind {
         PortKind::Message => "messages",

@@ -1,4 +1,4 @@
-// What calls and accesses put out.
+// The outputs of calls and accesses.
 
 use crate::calls::push_value;
 use crate::words::Words;
@@ -8,7 +8,7 @@ use hv_policy::Access;
 // The most flags that are listed.
 const MOST_FLAGS: usize = 16;
 
-/// Adds what a call that was served put out, behind a comma.
+/// Adds the output of a served call, after a comma.
 pub fn push_call_output(words: &mut Words, call: &Call<'_>, output: &[u8]) {
     let first = number_at(output, 0, 8);
     match call {
@@ -47,7 +47,7 @@ fn push_child(words: &mut Words, child: u64) {
     }
 }
 
-/// Adds what an access that was served put out, behind a comma.
+/// Adds the output of a served access, after a comma.
 pub fn push_access_output(words: &mut Words, access: Access, output: &[u8]) {
     match access {
         Access::ReadMsr(_) => words.hex(", value ", number_at(output, 0, 8)),
@@ -77,7 +77,7 @@ fn push_slot(words: &mut Words, slot: &[u8]) {
     }
 }
 
-// The flags that are set, the first of them by number.
+// The flags that are set. The first of them are listed by number.
 fn push_flags(words: &mut Words, flags: &[u8]) {
     let mut count: usize = 0;
     for at in 0..flags.len().min(256) {
@@ -109,7 +109,7 @@ fn push_vector(words: &mut Words, vector: u64) {
     }
 }
 
-// The number in so many bytes, at most 8, from a place on, the lowest first. Those past the end are 0.
+// The little-endian number in `size` bytes, at most 8, from `at` on. Bytes past the end are 0.
 fn number_at(bytes: &[u8], at: usize, size: usize) -> u64 {
     let mut number: u64 = 0;
     for k in 0..size {

@@ -3,8 +3,9 @@
 use crate::words::Words;
 use hv_vp::name_of_msr;
 
-/// The name of the register with this number in a call, HV_REGISTER_NAME, or `None` where there is none. As
-/// an MSR it has the prefix `HV_X64_MSR_`.
+/// The name of the register with this number in a call, HV_REGISTER_NAME, or `None` if there is none.
+///
+/// As an MSR it has the prefix `HV_X64_MSR_`.
 pub fn register_name(name: u32) -> Option<&'static str> {
     match name {
         0x0002_0000..=0x0002_0011 => general_name(name),
@@ -65,7 +66,7 @@ fn sint_name(name: u32) -> Option<&'static str> {
     }
 }
 
-/// Adds a register by its name and, in brackets, its number; one that isn't known has the number alone.
+/// Adds a register by its name, with its number in parentheses. An unknown register has its number alone.
 pub fn push_register(words: &mut Words, name: u32) {
     match register_name(name) {
         Some(known) => {
@@ -77,7 +78,7 @@ pub fn push_register(words: &mut Words, name: u32) {
     }
 }
 
-/// Adds an MSR by its name and, in brackets, its number; one that isn't known has the number alone.
+/// Adds an MSR by its name, with its number in parentheses. An unknown MSR has its number alone.
 pub fn push_msr(words: &mut Words, msr: u32) {
     let known = match name_of_msr(msr) {
         Some(name) => register_name(name),

@@ -1,8 +1,8 @@
-// What it means that a rule fails.
+// The meaning of each failed rule.
 
 use hv_policy::Rule;
 
-/// What it means that a rule fails, in one sentence without its period.
+/// The meaning of a failed rule, in one sentence without its period.
 pub fn sentence(rule: Rule) -> &'static str {
     match rule {
         Rule::CallerExists => "the caller's partition doesn't exist",

@@ -7,8 +7,9 @@ use hv_defs::SELF_ID;
 use itoa::Buffer;
 use std::marker::Model;
 
-/// A text that is put together, without a line feed. It takes no memory. Bytes past 2,048 are left out; the
-/// text of an event has fewer.
+/// A buffer in which a text is built, without a line feed. It takes no memory.
+///
+/// Bytes past 2,048 are left out. The text of an event has fewer.
 #[derive(Drop)]
 pub struct Words {
     bytes: ArrayVec<u8, 2048>,
@@ -26,7 +27,7 @@ impl Model for Words {
 }
 
 impl Words {
-    /// No text.
+    /// Creates the empty text.
     pub fn new() -> Words
         ensures { result ≡ [] }
     {
@@ -88,7 +89,7 @@ impl Words {
         }
     }
 
-    /// Adds a text and how many bytes there are, and then each in two hexadecimal digits behind a space.
+    /// Adds a text, the number of bytes, and then each byte as two hexadecimal digits after a space.
     pub fn bytes(&mut self, before: &str, bytes: &[u8]) {
         self.decimal(before, bytes.len() as u64);
         self.text(if bytes.len() == 1 { " byte" } else { " bytes" });
