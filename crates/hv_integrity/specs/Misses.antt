@@ -19,13 +19,13 @@ use Rattle.hv_policy.specs.declared.event.Action.TheVariants.{Hypercall}
 use Rattle.hv_policy.specs.declared.event.Event.{Event}
 use Rattle.hv_integrity.specs.Same.{HasSame}
 
--- a partition is no end of a connection
+-- a connection, if there is one, does not lead to a partition
 abbrev pub IsNoEnd : ℕ → Option ConnRow → Type 0
 IsNoEnd id conn = (row : ConnRow) → conn ≡ Some row → id == row.part ≡ false
 
--- a call isn't about a partition: not about its target, nor the one that it makes, nor the one to which it
--- sends, nor the subtree that it narrows, nor the caller whose pages it moves. Calls that only read are about
--- none
+-- a call is not about a partition: the partition is not its target, the one that it creates, the one to which
+-- it sends, in the subtree that it narrows, or the caller whose pages it moves. A call that only reads is
+-- about no partition
 abbrev pub Misses : Call → ℕ → Flat → ℕ → Type 0
 Misses (CreatePartition flags) caller f id = id == f.next ≡ false
 Misses (GetPartitionProperty partition code) caller f id = Unit {0}
@@ -52,13 +52,13 @@ abbrev pub CallMisses : Option Call → ℕ → Flat → ℕ → Type 0
 CallMisses None caller f id = Unit {0}
 CallMisses (Some call) caller f id = Misses call caller f id
 
--- an access is about its caller
+-- an action is not about a partition. An access is about its caller
 abbrev pub ActionMisses : {A : Type 0} → Action A → ℕ → Flat → ℕ → Type 0
 ActionMisses (Hypercall frame) caller f id = CallMisses (called frame) caller f id
 ActionMisses access caller f id = id == caller ≡ false
 
--- an event that leads from `f` to `g` leaves as it was each partition that it isn't about; one that is
--- refused is about none
+-- an event that leads from `f` to `g` leaves unchanged every partition that it is not about. A refused event
+-- is about none
 abbrev pub LeavesOthers : {A : Type 0} → Event A → Flat → Flat → Type 0
 LeavesOthers event f g = (id : ℕ) → (unmet f event ≡ None → ActionMisses event.what event.by.part f id) →
     HasSame id f g

@@ -1,4 +1,4 @@
--- What a flat state has of one partition, and which partitions are a caller's relatives.
+-- What one partition has in a flat state, and the relatives of a caller.
 use Rattle.std.specs.Prelude.{◌≡◌, ℕ, ◌≤◌, ◌==◌, ◌&&◌, ◌⊎◌, ◌++◌, if◌then◌else◌, length, map, Bool, true}
 use Rattle.std.specs.Prelude.{false, List, Option, None, Some}
 use Rattle.std.specs.FinMap.{get}
@@ -15,7 +15,7 @@ use Rattle.hv_privs.specs.declared.Privileges.{Privileges}
 abbrev pub is_relative : Flat → ℕ → ℕ → Bool
 is_relative f caller id = is_kin CallerOrChild f caller id
 
--- a page's row where this partition holds the page
+-- a page's row, if this partition holds the page
 abbrev pub held_by : ℕ → Option PageRow → Option PageRow
 held_by id None = None
 held_by id (Some row) = if row.owner == id then Some row else None
@@ -24,8 +24,8 @@ held_by id (Some row) = if row.owner == id then Some row else None
 abbrev pub place : ℕ → ℕ → ℕ → Place
 place part vp sint = record { part = part; vp = vp; sint = sint }
 
--- two states have the same of a partition: its row, its pages, processors, ports and connections, and the
--- messages at each of its SINTs
+-- two states are equal in all that a partition has: its row, its pages, processors, ports and connections,
+-- and the messages at each of its SINTs
 pub record HasSame (id : ℕ) (f g : Flat) : Type 0 where
   pub part : get f.part id ≡ get g.part id
   pub pages : (page : ℕ) → held_by id (get f.page page) ≡ held_by id (get g.page page)
@@ -50,8 +50,8 @@ abbrev pub has_vector : Option VpRow → ℕ → Bool
 has_vector None vector = false
 has_vector (Some row) vector = set.contains row.pending vector
 
--- the same of a partition, but for what stands at one place: its messages, its event flags and its
--- processor's pending vectors
+-- two states are equal in all that a partition has, except what is at one place: its messages, its event
+-- flags and its processor's pending vectors
 pub record HasSameBut (at : Place) (id : ℕ) (f g : Flat) : Type 0 where
   pub part : get f.part id ≡ get g.part id
   pub pages : (page : ℕ) → held_by id (get f.page page) ≡ held_by id (get g.page page)
@@ -66,7 +66,7 @@ pub record HasSameBut (at : Place) (id : ℕ) (f g : Flat) : Type 0 where
   pub mail : (vp sint : ℕ) → is_place at (place id vp sint) ≡ false
       → mail_at (place id vp sint) f.mail ≡ mail_at (place id vp sint) g.mail
 
--- the same of a partition, but that its mask may be restricted to a value
+-- two states are equal in all that a partition has, except that its mask may be restricted to a value
 pub record HasSameButMask (value : Privileges) (id : ℕ) (f g : Flat) : Type 0 where
   pub part : (get f.part id ≡ get g.part id)
       ⊎ (option_map (narrowed_row value) (get f.part id) ≡ get g.part id)
@@ -76,12 +76,12 @@ pub record HasSameButMask (value : Privileges) (id : ℕ) (f g : Flat) : Type 0 
   pub conns : (connection : ℕ) → get f.conn (id, connection) ≡ get g.conn (id, connection)
   pub mail : (vp sint : ℕ) → mail_at (place id vp sint) f.mail ≡ mail_at (place id vp sint) g.mail
 
--- messages, whether they are shown or not
+-- the messages, each marked as shown, to compare them whether they are shown or not
 abbrev pub all_shown : List MailRow → List MailRow
 all_shown mail = map as_shown mail
 
--- Nothing that stands at a place goes: a message may come, behind all others, and those that stood there
--- stand there still, one of them shown perhaps; flags stay set, and vectors stay pending.
+-- A place only gains. At most one message is added, behind all others. The earlier messages remain, and one
+-- of them may become shown. Flags stay set, and vectors stay pending.
 pub record OnlyGains (at : Place) (f g : Flat) : Type 0 where
   pub more : List MailRow
   pub one : length more ≤ 1

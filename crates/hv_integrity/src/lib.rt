@@ -1,8 +1,10 @@
-//! What a partition's processor can change, and what it can learn: no more than of its own partition and that
-//! one's children, but for what it sends through a connection and the port that it names.
+//! Integrity and confidentiality of one event: what a processor can change, and what it can learn.
 //!
-//! The crate has no code. Each function's contract here is a theorem about the definitions of `hv_policy`. No
-//! premise asks that a state is lawful.
+//! Both are limited to its own partition and that partition's children, except for what it sends through a
+//! connection and the port that it names.
+//!
+//! The crate has no code. Each function's contract is a theorem about the definitions of `hv_policy`. No
+//! theorem assumes that a state is lawful.
 #![tactic(auto)]
 
 ghost use Rattle.std.specs.Prelude.{◌≡◌, ℕ, List};
@@ -13,23 +15,31 @@ ghost use Rattle.hv_integrity.specs.Agreed.{Agrees, LowEquivalent, AgreesOnActio
 ghost use Rattle.hv_integrity.specs.Integrity.{Integrity};
 ghost use Rattle.hv_integrity.specs.Unrelated.{AreUnrelated};
 
-/// An event changes nothing of a partition that is neither its caller nor a child of it, before or after: but
-/// for a post or a signal, which may add to what stands at the SINT at which its connection's port aims, of
-/// the processor that takes it, and takes nothing away there; and for a mask given to a child that is Active,
-/// to which the masks of all that stand below that child are restricted too.
+/// An event leaves unchanged every partition that is neither its caller nor the caller's child, before or
+/// after.
+///
+/// There are two exceptions:
+///
+/// - A post or a signal may add to the SINT at which its connection's port aims, at the processor that takes
+///   it. It removes nothing there.
+/// - A mask that is given to an Active child also restricts the masks of all descendants of that child.
 pub fn each_event_is_confined<A>()
     ensures { (f : Flat) (e : Event A) → Integrity e f (step f e).0 }
 {}
 
-/// The reply to an event depends on nothing but the next id, which partitions there are and their parents,
-/// what the caller and its children have, and for three calls the port that they name. Of a post and a signal
-/// it depends on the processor at which the port aims too, and on all of its partition where it aims at any.
+/// The reply to an event depends only on this part of the state:
+///
+/// - the next id, and which partitions exist and their parents;
+/// - what the caller and its children have;
+/// - for three calls, the port that they name;
+/// - for a post and a signal, also the processor at which that port aims, or all processors of its partition
+///   if it aims at any.
 pub fn each_reply_is_of_what_relatives_have<A>()
     ensures { (f g : Flat) (e : Event A) → LowEquivalent e f g → (step f e).1 ≡ (step g e).1 }
 {}
 
-/// What unrelated partitions do doesn't show: after any number of unrelated events a partition and its
-/// children have what they had, and the reply to an event is the same as before them.
+/// Events of unrelated partitions do not show. After any number of them, a partition and its children have
+/// what they had, and the reply to an event is what it was before them.
 pub fn unrelated_events_do_not_show<A>()
     ensures kept { (f : Flat) (others : List (Event A)) (id : ℕ) → AreUnrelated others id f
         → Agrees id f (run_from f others).0 }

@@ -1,4 +1,4 @@
--- What holds of every state of the flat model.
+-- The invariant of the flat model: what holds in every reachable state.
 use Rattle.std.specs.Prelude.{◌≡◌, ℕ, ◌+◌, ◌≤◌, ◌<◌, ◌==◌, ◌&&◌, ◌||◌, not, Bool, true, false, nat_le, nat_lt}
 use Rattle.std.specs.Prelude.{List, Option, None, Some}
 use Rattle.std.specs.List.{AllByRecursion, filter}
@@ -11,20 +11,19 @@ use Rattle.hv_policy.specs.Flat.{Flat, MailRow, PartRow, PageRow, PortRow}
 use Rattle.hv_policy.specs.Met.{is_running}
 use Rattle.hv_privs.specs.Privileges.{IsSubset}
 
--- what holds of a port once so many events were served
+-- the invariant of a port after this many served events
 pub record IsPort (served : ℕ) (port : PortRow) : Type 0 where
-  -- it aims at a SINT that there is, and its flags are flags of that SINT
+  -- its SINT exists, and its event flags lie within that SINT
   pub sint : port.sint < SINTS
   pub flags : port.base + port.count ≤ EVENT_FLAGS
-  -- its birth is past
+  -- its birth is at most the count of served events
   pub born : port.born ≤ served
 
--- a message stands where a port of a partition aims: at that SINT of the one processor, or of any processor
--- there
+-- whether a message is where a port of the partition aims: at the port's SINT, at its one processor or at any
 abbrev pub stands_where : ℕ → Aim → ℕ → MailRow → Bool
 stands_where part aim sint row = (row.part == part) && (aims_at aim row.vp && (row.sint == sint))
 
--- the messages that do
+-- the messages that are where the port aims
 abbrev pub mail_where : ℕ → Aim → ℕ → List MailRow → List MailRow
 mail_where part aim sint mail = filter (stands_where part aim sint) mail
 
@@ -32,30 +31,31 @@ abbrev pub is_aimed : MailRow → Option PortRow → Bool
 is_aimed row None = true
 is_aimed row (Some port) = not (port.born == row.born) || (aims_at port.vp row.vp && (row.sint == port.sint))
 
--- a message came through a port whose birth is past, and as long as that port is there it stands where the
--- port aims
+-- whether a message's birth is past and, while the port of that birth exists, the message is where the port
+-- aims
 abbrev pub is_placed : Flat → MailRow → Bool
 is_placed f row = nat_le row.born f.served && is_aimed row (get f.port (row.part, row.port))
 
--- of a state with so many pages
+-- the invariant of a state with this many boot pages
 pub record StateInvariant (pages : ℕ) (f : Flat) : Type 0 where
-  -- ids rise: a partition's is below the next one, and above its parent's
+  -- ids increase: a partition's id is below the next id and above its parent's id
   pub below : (id : ℕ) (row : PartRow) → get f.part id ≡ Some row → id < f.next
   pub above : (id parent : ℕ) (row : PartRow) → get f.part id ≡ Some row → row.parent ≡ Some parent → parent <
       id
   -- a partition uses no more pages than its pool has
   pub within : (id : ℕ) → in_use f id ≤ pooled_count f id
-  -- what isn't there and Active uses none: it has no children, processors, ports or connections
+  -- a partition that does not exist or is not Active uses no pages: it has no children, processors, ports or
+  -- connections
   pub idle : (id : ℕ) → is_running f id ≡ false → in_use f id ≡ 0
   -- no partition has a privilege that its parent lacks
   pub masks : (id parent : ℕ) (child above : PartRow) → get f.part id ≡ Some child → child.parent ≡ Some
       parent
       → get f.part parent ≡ Some above → IsSubset child.mask above.mask
-  -- each boot page has a row, and no other page; the partition that holds it is there
+  -- exactly the boot pages have rows, and the owner of each page exists
   pub paged : (page : ℕ) → contains_key f.page page ≡ nat_lt page pages
   pub owned : (page : ℕ) (row : PageRow) → get f.page page ≡ Some row → contains_key f.part row.owner ≡ true
-  -- each partition but the root took a served event to make
+  -- each partition except the root took a served event to create
   pub few : f.next ≤ f.served + 2
-  -- ports, and the messages that came through them
+  -- each port meets its invariant, and each message is placed
   pub ports : (key : ℕ × ℕ) (port : PortRow) → get f.port key ≡ Some port → IsPort f.served port
   pub placed : AllByRecursion (λ row. is_placed f row ≡ true) f.mail

@@ -1,7 +1,7 @@
-//! The laws of the flat model: what holds of every state that it reaches from boot.
+//! The invariant of the flat model: what holds in every state that is reachable from boot.
 //!
-//! The crate has no code. `StateInvariant` in `specs/` says what holds, and each function's contract here is
-//! a theorem about the definitions of `hv_policy`.
+//! The crate has no code. `StateInvariant` in `specs/` is the invariant, and a state is lawful if it holds.
+//! Each function's contract is a theorem about the definitions of `hv_policy`.
 #![tactic(auto)]
 
 ghost use Rattle.std.specs.Prelude.{◌≡◌, ◌+◌, ◌≤◌, ◌↔◌, ℕ, Some, true, List, None, length};
@@ -26,8 +26,8 @@ ghost use Rattle.hv_policy.specs.BootFault.{boot_fault};
 ghost use Rattle.hv_privs.specs.Privileges.{IsSubset};
 ghost use Rattle.hv_invariants.specs.StateInvariant.{StateInvariant, mail_where};
 
-/// The state that boot gives is lawful, one event leaves a lawful state lawful, and so is each state that
-/// events lead to.
+/// Every state of a run from boot is lawful. Boot gives a lawful state, and an event, served or refused,
+/// leaves a lawful state lawful.
 pub fn every_state_is_lawful<A>()
     ensures booted { (config : Config) → boot_fault config ≡ None
         → StateInvariant config.pages (boot config) }
@@ -39,8 +39,8 @@ pub fn every_state_is_lawful<A>()
         → StateInvariant config.pages (run config events).0 }
 {}
 
-/// In a lawful state each processor, port and connection is of a partition that is there and Active, and
-/// so is each parent.
+/// In a lawful state, every processor, port and connection belongs to a partition that exists and is Active.
+/// Every parent exists and is Active.
 pub fn each_row_is_of_a_running_partition()
     ensures vps { (pages : ℕ) (f : Flat) → StateInvariant pages f → (key : ℕ × ℕ) (row : VpRow) → get f.vp key
         ≡ Some row → is_running f key.0 ≡ true }
@@ -52,31 +52,30 @@ pub fn each_row_is_of_a_running_partition()
         → get f.part id ≡ Some row → row.parent ≡ Some parent → is_running f parent ≡ true }
 {}
 
-/// In a lawful state all messages of a port that is there stand where it aims, so that those that stand
-/// there are all that it has: at its SINT of the processor at which it aims, and of all processors of its
-/// partition where it aims at any.
+/// In a lawful state, every message of an existing port is where the port aims. The messages there are
+/// therefore all of the port's messages. They are at its SINT, at its one processor, or at all processors of
+/// its partition if it aims at any.
 pub fn each_message_is_counted_where_its_port_aims()
     ensures kept { (pages : ℕ) (f : Flat) → StateInvariant pages f → (part port born : ℕ) (row : PortRow)
         → get f.port (part, port) ≡ Some row → row.born ≡ born → kept_of part port born f.mail
         ≡ kept_of part port born (mail_where part row.vp row.sint f.mail) }
 {}
 
-/// A partition that is Active gets no privilege that it hasn't got: what was taken from it stays taken.
+/// An Active partition gains no privilege. A privilege that was taken from it stays taken.
 pub fn a_running_partition_gets_no_privilege<A>()
     ensures { (pages : ℕ) (f : Flat) (e : Event A) → StateInvariant pages f → (id : ℕ) (old new : PartRow)
         → get f.part id ≡ Some old → is_active old.life ≡ true → get (step f e).0.part id ≡ Some new
         → IsSubset new.mask old.mask }
 {}
 
-/// In a lawful state the test of a subtree is met by a partition just where a chain of parents leads from it
-/// to the top.
+/// In a lawful state, a partition is in a subtree exactly if a chain of parents leads to the top.
 pub fn each_partition_of_a_subtree_leads_up_to_its_top()
     ensures { (pages : ℕ) (f : Flat) → StateInvariant pages f → (top id : ℕ) → (is_in_subtree f top id ≡ true)
         ↔ IsInSubtree f top id }
 {}
 
-/// The order of messages counts at each place alone: two states that differ in nothing but the order
-/// across places give the same replies to the same events, and stay such states.
+/// The order of messages matters only within a place. Two states that differ only in the order across places
+/// give the same replies to the same events, and continue to differ only in that order.
 pub fn order_across_places_does_not_count<A>()
     ensures steps { (f g : Flat) (e : Event A) → IsSame f g → ((step f e).1 ≡ (step g e).1)
         × IsSame (step f e).0 (step g e).0 }
@@ -86,26 +85,26 @@ pub fn order_across_places_does_not_count<A>()
     ensures lawful { (pages : ℕ) (f g : Flat) → IsSame f g → StateInvariant pages f → StateInvariant pages g }
 {}
 
-/// No more events of a run are served than there are.
+/// A run serves at most as many events as it has.
 pub fn no_more_events_are_served_than_there_are<A>()
     ensures runs { (config : Config) (events : List (Event A))
         → (run config events).0.served ≤ length events }
 {}
 
-/// A run has at most one partition more than it has events: each but the root took an event.
+/// A run has at most one partition more than it has events. Each partition except the root took an event to
+/// create.
 pub fn each_partition_but_the_root_took_an_event<A>()
     ensures { (config : Config) (events : List (Event A))
         → len (run config events).0.part ≤ length events + 1 }
 {}
 
-/// Which rules are asked, and in which order, the event alone decides: whatever the state, they are the
-/// same.
+/// The event alone decides which rules apply, and in which order. The state plays no part.
 pub fn the_event_decides_what_is_asked<A>()
     ensures { (f g : Flat) (e : Event A) → asked f e ≡ asked g e }
 {}
 
-/// A refusal names a rule that its event is asked, each reply to a hypercall has a result value, and a
-/// call goes on with the element after the one that was served.
+/// A refusal names a rule that applies to its event. Every reply to a hypercall has a result value, and a
+/// call continues with the element after the one that was served.
 pub fn each_reply_fits_its_event<A>()
     ensures asked { (f : Flat) (e : Event A) → NamesAsked e (step f e).1 }
     ensures result { (f : Flat) (by : Caller) (frame : Frame A)

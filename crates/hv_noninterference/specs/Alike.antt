@@ -1,5 +1,5 @@
--- What two flat states have alike of some partitions, births aside: of a birth it counts alone whether it is
--- that of the port that is there now.
+-- Low equivalence for a run: what two flat states have in common for a set of partitions. Births may differ,
+-- as long as they agree on whether a birth is that of the existing port.
 use Rattle.std.specs.Prelude.{◌≡◌, ℕ, ◌==◌, ◌≤◌, cond, Bool, true, false, map, Some}
 use Rattle.std.specs.FinMap.{get}
 use Rattle.std.specs.List.{AllByRecursion}
@@ -9,11 +9,11 @@ use Rattle.hv_policy.specs.Mail.{mail_at}
 use Rattle.hv_policy.specs.Met.{is_child, on_port}
 use Rattle.hv_integrity.specs.Same.{held_by, place}
 
--- the port with this key is there, with this birth
+-- whether the port with this key exists and has this birth
 abbrev pub is_born : Flat → ℕ × ℕ → ℕ → Bool
 is_born f key born = on_port f key (λ row. row.born == born)
 
--- what is kept of a birth: 1 where it is that of the port that is there
+-- the mark of a birth: 1 if it is the existing port's, and 0 otherwise
 abbrev pub mark : Bool → ℕ
 mark true = 1
 mark false = 0
@@ -22,18 +22,18 @@ mark false = 0
 abbrev pub unborn : PortRow → PortRow
 unborn row = record row { born = 0 }
 
--- a connection with the mark of its birth, where it leads to a member, and without it elsewhere
+-- a connection with the mark in place of its birth if it leads to a member, and 0 otherwise
 abbrev pub marked_conn : (ℕ → Bool) → Flat → ConnRow → ConnRow
 marked_conn members f row = record row {
   born = cond (members row.part)
       (mark (is_born f (row.part, row.port) row.born)) 0;
 }
 
--- a message with the mark of its birth
+-- a message with the mark in place of its birth
 abbrev pub marked : Flat → MailRow → MailRow
 marked f row = record row { born = mark (is_born f (row.part, row.port) row.born) }
 
--- two states have the same of a partition, births aside
+-- two states are equal in all that a partition has, up to births
 pub record HasAlike (members : ℕ → Bool) (id : ℕ) (f g : Flat) : Type 0 where
   pub part : get f.part id ≡ get g.part id
   pub pages : (page : ℕ) → held_by id (get f.page page) ≡ held_by id (get g.page page)
@@ -45,7 +45,7 @@ pub record HasAlike (members : ℕ → Bool) (id : ℕ) (f g : Flat) : Type 0 wh
   pub mail : (vp sint : ℕ) → map (marked f) (mail_at (place id vp sint) f.mail) ≡ map (marked g)
       (mail_at (place id vp sint) g.mail)
 
--- and of each member
+-- low equivalence: two states are equal, up to births, in all that each member has
 abbrev pub AreLowEquivalent : (ℕ → Bool) → Flat → Flat → Type 0
 AreLowEquivalent members f g = (id : ℕ) → members id ≡ true → HasAlike members id f g
 
@@ -54,11 +54,11 @@ abbrev pub AreClosed : (ℕ → Bool) → Flat → Type 0
 AreClosed members f = (parent id : ℕ) → members parent ≡ true → is_child f parent id ≡ true → members id ≡
     true
 
--- the births that connections keep are past
+-- every birth that a connection keeps is past
 abbrev pub AreConnsPast : Flat → Type 0
 AreConnsPast f = (key : ℕ × ℕ) (row : ConnRow) → get f.conn key ≡ Some row → row.born ≤ f.served
 
--- and those of ports and messages too
+-- the births of all ports, connections and messages are past
 pub record ArePast (f : Flat) : Type 0 where
   pub ports : (key : ℕ × ℕ) (row : PortRow) → get f.port key ≡ Some row → row.born ≤ f.served
   pub conns : (key : ℕ × ℕ) (row : ConnRow) → get f.conn key ≡ Some row → row.born ≤ f.served

@@ -1,4 +1,4 @@
--- What an event of a member looks at outside of the members, in two states.
+-- Allowed flows: what an event of a member looks at outside the members, in two states.
 use Rattle.std.specs.Prelude.{◌≡◌, ℕ, Bool, true, false, Option, None, Some}
 use Rattle.std.specs.FinMap.{contains_key, get}
 use Rattle.std.specs.Option.{option_map}
@@ -16,9 +16,9 @@ use Rattle.hv_policy.specs.declared.event.Action.TheVariants.{Hypercall}
 use Rattle.hv_privs.specs.declared.TheConstants.Privileges as privilege
 use Rattle.hv_noninterference.specs.Alike.{unborn}
 
--- through a connection: whether the port stands with the birth that the connection keeps, what it takes,
--- whether the processor at which it aims is there, whether one takes what comes, and whether there is room
--- for one more message
+-- two states agree on the end of a connection: on whether the port has the birth that the connection keeps,
+-- what it takes, whether the processor at which it aims exists, whether a processor takes what arrives, and
+-- whether there is room for one more message
 pub record EndsAlike (key : ℕ × ℕ) (f g : Flat) : Type 0 where
   pub stands : on_aim f key is_same_birth ≡ on_aim g key is_same_birth
   pub aimed : on_aim f key (is_aimed_at_vp f) ≡ on_aim g key (is_aimed_at_vp g)
@@ -29,18 +29,19 @@ pub record EndsAlike (key : ℕ × ℕ) (f g : Flat) : Type 0 where
   pub room : on_aim f key is_same_birth ≡ true → on_aim f key (has_message_room f) ≡ on_aim g key
       (has_message_room g)
 
--- a connection that leads to no member
+-- two states agree on the end of a connection if it leads to no member
 abbrev pub OutsideAlike : (ℕ → Bool) → ℕ × ℕ → Flat → Flat → Type 0
 OutsideAlike members key f g = (conn : ConnRow) → get f.conn key ≡ Some conn → members conn.part ≡ false →
     EndsAlike key f g
 
--- who is no member is there in both or in neither
+-- a partition that is no member exists in both states or in neither
 abbrev pub IsThereAlike : (ℕ → Bool) → ℕ → Flat → Flat → Type 0
 IsThereAlike members id f g = members id ≡ false → contains_key f.part id ≡ contains_key g.part id
 
--- what a call looks at: HvCreatePartition the next id, and whether its caller is too deep; a post and a
--- signal the end of a connection that leads out; every other call whether the partitions that it names are
--- there, and HvConnectPort the port that it names
+-- two states agree on what a call looks at outside the members. HvCreatePartition looks at the next id and at
+-- whether its caller is too deep. A post and a signal look at the end of a connection that leads outside.
+-- Every other call looks at whether the partitions that it names exist, and HvConnectPort also at the port
+-- that it names
 abbrev pub LooksAlike : (ℕ → Bool) → Call → ℕ → Flat → Flat → Type 0
 LooksAlike members (CreatePartition flags) caller f g = (f.next ≡ g.next) ×
     (is_depth_left f caller ≡ is_depth_left g caller)
@@ -58,7 +59,7 @@ LooksAlike members (ConnectPort partition connection port_partition port port_ki
     ≡ option_map unborn (get g.port (resolved_id caller port_partition, port)))
 LooksAlike members call caller f g = IsThereAlike members (target_of call caller) f g
 
--- the caller of a call looks only where it has the call's privilege, and an access looks at nothing
+-- a call looks outside only if its caller has the call's privilege. An access looks at nothing
 abbrev pub CallLooksAlike : (ℕ → Bool) → Option Call → ℕ → Flat → Flat → Type 0
 CallLooksAlike members None caller f g = Unit {0}
 CallLooksAlike members (Some call) caller f g = has_privilege f caller (needs_of call).privilege ≡ true →
@@ -68,7 +69,7 @@ abbrev pub ActionLooksAlike : {A : Type 0} → (ℕ → Bool) → Action A → �
 ActionLooksAlike members (Hypercall frame) caller f g = CallLooksAlike members (called frame) caller f g
 ActionLooksAlike members access caller f g = Unit {0}
 
--- a partition has none of the privileges by which others can be looked up
+-- a partition has none of the privileges that allow it to look up others
 pub record LooksUpNothing (f : Flat) (id : ℕ) : Type 0 where
   pub partitions : has_privilege f id privilege.CREATE_PARTITIONS ≡ false
   pub pools : has_privilege f id privilege.ACCESS_MEMORY_POOL ≡ false

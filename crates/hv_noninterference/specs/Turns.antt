@@ -23,13 +23,13 @@ use Rattle.hv_policy.specs.declared.reply.Reply.{Reply}
 use Rattle.hv_noninterference.specs.Alike.{AreLowEquivalent, AreClosed}
 use Rattle.hv_noninterference.specs.Looks.{ActionLooksAlike}
 
--- an event comes in the one run, in the other one, or in both
+-- a turn: an event that comes in the first run, in the second, or in both
 pub data Turn (A : Type 0) : Type 0 where
   Here : (event : Event A) → Turn A
   There : (event : Event A) → Turn A
   Both : (event : Event A) → Turn A
 
--- the events of the one run, and of the other
+-- the events of the first run, and those of the second
 abbrev pub events_here : {A : Type 0} → List (Turn A) → List (Event A)
 events_here [] = []
 events_here (Here event ∷ turns) = event ∷ events_here turns
@@ -42,7 +42,7 @@ events_there (Here event ∷ turns) = events_there turns
 events_there (There event ∷ turns) = event ∷ events_there turns
 events_there (Both event ∷ turns) = event ∷ events_there turns
 
--- the replies to events by members, of the replies to events
+-- the replies to members' events, selected from all replies
 abbrev pub own_replies : {A : Type 0} → (ℕ → Bool) → List (Event A) → List Reply → List Reply
 own_replies members [] replies = []
 own_replies members (event ∷ events) [] = []
@@ -50,14 +50,14 @@ own_replies members (event ∷ events) (reply ∷ replies) =
     if members event.by.part then reply ∷ own_replies members events replies else own_replies members events
     replies
 
--- two connections lead to one port
+-- two connections, if both exist, lead to the same port
 abbrev pub LeadsAlike : Option ConnRow → Option ConnRow → Type 0
 LeadsAlike c d = (conn other : ConnRow) → c ≡ Some conn → d ≡ Some other → (conn.part ≡ other.part) ×
     (conn.port ≡ other.port)
 
--- what a call does to members alike in two states in which it is served: a new partition gets the same id and
--- mask; a post and a signal go to the same port; a property is a member's, or a mask narrows the same
--- members; and of every other call the target is a member
+-- a call does the same to members in two states in which it is served. A new partition gets the same id and
+-- mask. A post and a signal go to the same port. A property is set on a member, or a mask narrows the same
+-- members. Every other call's target is a member
 abbrev pub DoesAlike : (ℕ → Bool) → Call → ℕ → Flat → Flat → Type 0
 DoesAlike members (CreatePartition flags) caller f g =
     (f.next ≡ g.next) × (mask_of (get f.part caller) ≡ mask_of (get g.part caller))
@@ -78,27 +78,28 @@ abbrev pub CallDoesAlike : (ℕ → Bool) → Option Call → ℕ → Flat → F
 CallDoesAlike members None caller f g = ⊥
 CallDoesAlike members (Some call) caller f g = DoesAlike members call caller f g
 
--- what another's access does is about none of them
+-- an action does the same to members in two states. An access of another partition does nothing to members
 abbrev pub ActionDoesAlike : {A : Type 0} → (ℕ → Bool) → Action A → ℕ → Flat → Flat → Type 0
 ActionDoesAlike members (Hypercall frame) caller f g = CallDoesAlike members (called frame) caller f g
 ActionDoesAlike members access caller f g = ⊥
 
--- what another does to members: its event is served in both, and does the same to them
+-- an event of another partition is served in both states, and does the same to members
 abbrev pub IsDoneAlike : {A : Type 0} → (ℕ → Bool) → Event A → Flat → Flat → Type 0
 IsDoneAlike members event f g = (unmet f event ≡ None) × (unmet g event ≡ None) × ActionDoesAlike members
     event.what event.by.part f g
 
--- an event in both runs: by a member, of which something is known, or by another, which does the same to
--- members
+-- an event that comes in both runs: a member's, for which the given proposition holds, or another's, which
+-- does the same to members
 abbrev pub ComesAlike : {A : Type 0} → Bool → Type 0 → (ℕ → Bool) → Event A → Flat → Flat → Type 0
 ComesAlike true known members event f g = known
 ComesAlike false known members event f g = IsDoneAlike members event f g
 
--- an event that comes in one run alone is another's and leaves to members what they had
+-- an event that comes in only one run is another's, and leaves a state that is low-equivalent for the members
 abbrev pub IsBeside : {A : Type 0} → (ℕ → Bool) → Event A → Flat → Type 0
 IsBeside members event f = (members event.by.part ≡ false) × AreLowEquivalent members f (step f event).0
 
--- turn by turn: an event in one run alone is beside the members, and of one in both something is known
+-- turn by turn: an event in only one run is beside the members, and the given relation holds for an event in
+-- both
 abbrev pub AreTurns : {A : Type 0} → (Event A → Flat → Flat → Type 0) → (ℕ → Bool) → List (Turn A) → Flat →
     Flat → Type 0
 AreTurns known members [] f g = Unit {0}
@@ -109,8 +110,8 @@ AreTurns known members (There event ∷ turns) f g = IsBeside members event g ×
 AreTurns known members (Both event ∷ turns) f g = known event f g × AreTurns known members turns
     (step f event).0 (step g event).0
 
--- an event in both runs, in which members' children are members: by a member, which sees alike what it looks
--- at outside; or by another, which does the same to members
+-- an event that comes in both runs, while members' children are members: a member's, which sees the same
+-- outside the members; or another's, which does the same to members
 abbrev pub IsMatched : {A : Type 0} → (ℕ → Bool) → Event A → Flat → Flat → Type 0
 IsMatched members event f g =
     AreClosed members f × AreClosed members g
@@ -120,14 +121,14 @@ IsMatched members event f g =
 abbrev pub AreMatched : {A : Type 0} → (ℕ → Bool) → List (Turn A) → Flat → Flat → Type 0
 AreMatched members turns f g = AreTurns (IsMatched members) members turns f g
 
--- members get the same replies in both runs, and have the same at their ends
+-- members get the same replies in both runs, and the final states are low-equivalent for them
 abbrev pub AreAnsweredAlike : {A : Type 0} → (ℕ → Bool) → List (Turn A) → Flat → Flat → Type 0
 AreAnsweredAlike members turns f g =
     (own_replies members (events_here turns) (run_from f (events_here turns)).1
     ≡ own_replies members (events_there turns) (run_from g (events_there turns)).1)
     × AreLowEquivalent members (run_from f (events_here turns)).0 (run_from g (events_there turns)).0
 
--- the events of members, and the turns of a run beside one in which they alone come
+-- the members' events, and the turns that pair a run with the run of these events alone
 abbrev pub own_events : {A : Type 0} → (ℕ → Bool) → List (Event A) → List (Event A)
 own_events members events = filter (λ event. members event.by.part) events
 

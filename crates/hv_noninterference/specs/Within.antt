@@ -1,4 +1,4 @@
--- Members that name members alone.
+-- Members whose calls name only members.
 use Rattle.std.specs.Prelude.{◌≡◌, ℕ, Bool, true, List, Option, None, Some}
 use Rattle.std.specs.FinMap.{get}
 use Rattle.hv_calls.specs.declared.call.Call.{Call}
@@ -18,9 +18,9 @@ use Rattle.hv_noninterference.specs.Turns.{AreTurns, ComesAlike, Turn}
 abbrev pub LeadsWithin : (ℕ → Bool) → Option ConnRow → Type 0
 LeadsWithin members conn = (row : ConnRow) → conn ≡ Some row → members row.part ≡ true
 
--- each partition that a call names is a member: its target, a port's peer, the partition of a port to which
--- it connects, and through a connection the port's partition. HvCreatePartition names none, and its next id
--- is one of both states, as its caller's depth is
+-- every partition that a call names is a member: its target, a port's peer, the partition of the port to
+-- connect to, and the partition at the end of a connection. HvCreatePartition names none, but both states
+-- have the same next id and agree on whether its caller is too deep
 abbrev pub StaysWithin : (ℕ → Bool) → Call → ℕ → Flat → Flat → Type 0
 StaysWithin members (CreatePartition flags) caller f g = (f.next ≡ g.next) ×
     (is_depth_left f caller ≡ is_depth_left g caller)
@@ -38,13 +38,13 @@ abbrev pub CallStaysWithin : (ℕ → Bool) → Option Call → ℕ → Flat →
 CallStaysWithin members None caller f g = Unit {0}
 CallStaysWithin members (Some call) caller f g = StaysWithin members call caller f g
 
--- an access names none
+-- every partition that an action names is a member. An access names none
 abbrev pub ActionStaysWithin : {A : Type 0} → (ℕ → Bool) → Action A → ℕ → Flat → Flat → Type 0
 ActionStaysWithin members (Hypercall frame) caller f g = CallStaysWithin members (called frame) caller f g
 ActionStaysWithin members access caller f g = Unit {0}
 
--- an event in both runs, in which members' children are members: by a member, which names members alone; or
--- by another, which does the same to members
+-- an event that comes in both runs, while members' children are members: a member's, which names only
+-- members; or another's, which does the same to members
 abbrev pub IsWithin : {A : Type 0} → (ℕ → Bool) → Event A → Flat → Flat → Type 0
 IsWithin members event f g =
     AreClosed members f × AreClosed members g

@@ -1,9 +1,11 @@
-//! What the partitions of a set see over a whole run: what they do themselves, what is done to them, and of
-//! others no more than a few of their events look at.
+//! Noninterference over a whole run: what the partitions of a set can see.
 //!
-//! The crate has no code. Each function's contract here is a theorem about the definitions of `hv_policy`.
-//! Members are the partitions of the set. Two runs stand side by side, turn by turn: an event comes in one of
-//! them, or in both. A birth counts only as far as it is that of the port that is there.
+//! They see what they do, what is done to them, and of other partitions only what a few of their events look
+//! at.
+//!
+//! The crate has no code. Each function's contract is a theorem about the definitions of `hv_policy`. The
+//! partitions of the set are its members. Two runs are compared turn by turn: an event comes in one of them,
+//! or in both. A birth counts only as far as it is that of the existing port.
 #![tactic(auto)]
 
 ghost use Rattle.std.specs.Prelude.{◌≡◌, ℕ, Bool, true, List, None, Some};
@@ -25,25 +27,27 @@ ghost use Rattle.hv_noninterference.specs.Turns.{AreAnsweredAlike, AreMatched, I
 ghost use Rattle.hv_noninterference.specs.Turns.{own_replies, turns_of};
 ghost use Rattle.hv_noninterference.specs.Within.{AreWithin};
 
-/// An event leaves as it was each partition that it isn't about: that is neither its target nor made by it,
-/// nor where it sends to, nor in the subtree that it narrows, nor the caller where it moves the caller's
-/// pages. Two states that have the same of members are alike for them.
+/// An event leaves unchanged every partition that it is not about. It is about its target, the partition that
+/// it creates or to which it sends, the subtree that it narrows, and its caller if it moves the caller's
+/// pages. Two states that are equal in all that members have are low-equivalent for the members.
 pub fn each_event_is_of_what_it_is_about<A>()
     ensures rows { (f : Flat) (e : Event A) → LeavesOthers e f (step f e).0 }
     ensures alike { (members : ℕ → Bool) (f g : Flat) → ((id : ℕ) → members id ≡ true → HasSame id f g)
         → AreLowEquivalent members f g }
 {}
 
-/// Two runs in which members do the same and the same is done to them, and in which members see alike what
-/// their events look at outside, answer members alike and leave to them alike, whatever others do in each.
+/// Two runs that are matched for the members give them the same replies and low-equivalent final states.
+/// Matched means that members do the same, that the same is done to them, and that they see the same where
+/// their events look outside. Whatever else others do in each run does not matter.
 pub fn replies_are_of_what_members_do_and_is_done_to_them<A>()
     ensures { (members : ℕ → Bool) (turns : List (Turn A)) (f g : Flat) → IsReached A f
         → IsReached A g → AreLowEquivalent members f g → AreMatched members turns f g
         → AreAnsweredAlike members turns f g }
 {}
 
-/// Leaving out others' events changes no reply to a member, from any moment of a run on, where none of them
-/// does anything to a member and members see alike what their events look at outside.
+/// Removing the events of others from a run changes no reply to a member. This holds from any point of the
+/// run on, if none of these events does anything to a member and members see the same where their events look
+/// outside.
 pub fn events_of_others_do_not_show<A>()
     ensures { (members : ℕ → Bool) (events : List (Event A)) (f : Flat) → IsReached A f
         → AreMatched members (turns_of members events) f f
@@ -51,8 +55,8 @@ pub fn events_of_others_do_not_show<A>()
         × AreLowEquivalent members (run_from f events).0 (run_from f (own_events members events)).0 }
 {}
 
-/// Members whose calls name members alone, and whose connections lead to members, look at nothing outside:
-/// where the same is done to them they are answered alike, whatever others do. Only a member that makes a
+/// Members look at nothing outside if their calls name only members and their connections lead to members. If
+/// the same is done to them, they get the same replies, whatever others do. Only a member that creates a
 /// partition sees the next id.
 pub fn a_closed_set_looks_at_nothing_outside<A>()
     ensures { (members : ℕ → Bool) (turns : List (Turn A)) (f g : Flat) → IsReached A f
@@ -60,10 +64,10 @@ pub fn a_closed_set_looks_at_nothing_outside<A>()
         → AreAnsweredAlike members turns f g }
 {}
 
-/// The replies to a tenant that has none of the privileges for partitions, pools, ports and connections, as
-/// with the start mask, depend on its own events, on what is done to it, and of each post and signal of its
-/// own on the end of the connection. It is Active and has no children in the states in which the runs begin,
-/// and no more is asked.
+/// A tenant's replies depend on its own events, what is done to it, and the ends of its connections. Only the
+/// end that a post or a signal of its own uses counts. A tenant has none of the privileges for partitions,
+/// pools, ports and connections, as with the start mask. It is Active and has no children in the states in
+/// which the runs begin. Nothing else is required.
 pub fn a_tenant_sees_no_more_than_the_ends_of_its_connections<A>()
     ensures { (tenant : ℕ) (turns : List (Turn A)) (f g : Flat) → IsReached A f → IsReached A g
         → IsTenant f tenant → IsTenant g tenant → AreLowEquivalent (only tenant) f g → AreTenantTurns tenant
@@ -71,8 +75,8 @@ pub fn a_tenant_sees_no_more_than_the_ends_of_its_connections<A>()
         → AreAnsweredAlike (only tenant) turns f g }
 {}
 
-/// A member that has none of these privileges looks at nothing outside but through its connections, whatever
-/// it calls; and a mask within the one that a new partition gets has none of them.
+/// A member without the privileges of `LooksUpNothing` looks outside only through its connections, whatever
+/// it calls. A mask within the one that a new partition gets has none of these privileges.
 pub fn nothing_is_looked_up_without_privileges()
     ensures looks { (members : ℕ → Bool) (f g : Flat) (caller : ℕ) → members caller ≡ true → LooksUpNothing f
         caller
@@ -81,8 +85,8 @@ pub fn nothing_is_looked_up_without_privileges()
         → IsSubset row.mask privilege.NEW_PARTITION → LooksUpNothing f id }
 {}
 
-/// A partition keeps its depth as long as it is there: so whether it is too deep to make another one is
-/// settled when it is made.
+/// A partition keeps its depth as long as it exists. Whether it is too deep to create another partition is
+/// therefore settled when it is created.
 pub fn a_partition_keeps_its_depth<A>()
     ensures { (pages : ℕ) (f : Flat) (e : Event A) → StateInvariant pages f → (id : ℕ) → contains_key f.part
         id ≡ true

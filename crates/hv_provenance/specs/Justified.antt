@@ -1,4 +1,4 @@
--- Where ports, connections, messages and event flags come from.
+-- Provenance of ports, connections, messages and event flags.
 use Rattle.std.specs.Prelude.{◌≡◌, ℕ, zero, suc, ◌+◌, ◌<◌, Bool, take, List, [], ◌∷◌, Some}
 use Rattle.std.specs.FinMap.{get}
 use Rattle.std.specs.FinSet as set
@@ -15,21 +15,21 @@ use Rattle.hv_policy.specs.declared.event.Event.{Event}
 use Rattle.hv_provenance.specs.Operation.{Operation, DidAt, MakesPort, DeletesPort, Connects, Disconnects}
 use Rattle.hv_provenance.specs.Operation.{Posts, Signals, DeletesVp, Finalizes, ClearsFlag, served_to}
 
--- no entry after that of number `from` and before that of number `to` did this
+-- no entry strictly between numbers `from` and `to` did this operation
 abbrev pub HasNot : List Operation → ℕ → ℕ → Operation → Type 0
 HasNot operations from to operation = (n : ℕ) → from < n → n < to → DidAt operations n operation → ⊥
 
--- and none after that of number `from`
+-- no entry after number `from` did this operation
 abbrev pub HasNotSince : List Operation → ℕ → Operation → Type 0
 HasNotSince operations from operation = (n : ℕ) → from < n → DidAt operations n operation → ⊥
 
--- the state in which the event of the entry of a number came, which those before it left
+-- the state before the entry of a number, which the earlier entries leave
 abbrev pub state_before : {A : Type 0} → Config → List (Event A) → ℕ → Flat
 state_before config events zero = boot config
 state_before config events (suc before) = (run config (take before events)).0
 
--- a port, by (partition, id), was made by an entry: with it the served events were as many as the port's
--- birth. Nothing has ended the port since
+-- an entry created the port with this key, (partition, id), and nothing has ended the port since. The count
+-- of served events, that entry included, is the port's birth
 pub record WasMade (operations : List Operation) (key : ℕ × ℕ) (port : PortRow) : Type 0 where
   pub at : ℕ
   pub base : ℕ
@@ -39,8 +39,8 @@ pub record WasMade (operations : List Operation) (key : ℕ × ℕ) (port : Port
   pub kept : HasNotSince operations at (DeletesPort key.0 key.1)
   pub alive : HasNotSince operations at (Finalizes key.0)
 
--- a connection, by (partition, id), was made by an entry after the birth that it keeps, and nothing has ended
--- it since
+-- an entry created the connection with this key, (partition, id), after the birth that the connection keeps,
+-- and nothing has ended it since
 pub record WasConnected (operations : List Operation) (key : ℕ × ℕ) (conn : ConnRow) : Type 0 where
   pub at : ℕ
   pub connected : DidAt operations at (Connects key.0 key.1 conn.part conn.port)
@@ -48,8 +48,9 @@ pub record WasConnected (operations : List Operation) (key : ℕ × ℕ) (conn :
   pub kept : HasNotSince operations at (Disconnects key.0 key.1)
   pub alive : HasNotSince operations at (Finalizes key.0)
 
--- a port of a partition, which an entry made for the sender and gave its birth, and a connection of the
--- sender to it, which was made later, both stood until the entry of number k: nothing ended either in between
+-- a port and a connection to it both existed until the entry of number k. An entry created the port for the
+-- sender and gave it its birth, a later entry connected the sender to it, and nothing ended either before
+-- entry k
 pub record HasWay (operations : List Operation) (k id port born : ℕ) (kind : PortKind) (sint : ℕ) (aim : Aim)
     (base sender connection : ℕ) : Type 0 where
   pub from : ℕ
@@ -64,10 +65,10 @@ pub record HasWay (operations : List Operation) (k id port born : ℕ) (kind : P
   pub conn_kept : HasNot operations at k (Disconnects sender connection)
   pub conn_alive : HasNot operations at k (Finalizes sender)
 
--- a message was posted by the entry of number k, through a connection of the sender to the message port of
--- its birth, which aims at the SINT where the message stands. The processor where it stands is the one that
--- took it, in the state in which the event came: the one at which the port aims, which was ready for
--- messages, or for any the lowest that was. And since then neither this processor nor its partition has ended
+-- the entry of number k posted a message, through a connection of the sender to the message port of its
+-- birth, which aims at the message's SINT. The message is at the processor that took it in the state before
+-- that entry: the one at which the port aims, which was ready for messages, or for any the lowest that was
+-- ready. Neither this processor nor its partition has ended since
 pub record WasPosted (states : ℕ → Flat) (operations : List Operation) (row : MailRow) (k : ℕ) : Type 0 where
   pub aim : Aim
   pub base : ℕ
@@ -80,17 +81,17 @@ pub record WasPosted (states : ℕ → Flat) (operations : List Operation) (row 
   pub kept : HasNotSince operations k (DeletesVp row.part row.vp)
   pub alive : HasNotSince operations k (Finalizes row.part)
 
--- each message was posted, each later than the one before it, and the first later than a number: so no post
--- stands twice, and none overtakes
+-- each message was posted later than the one before it, and the first later than a given entry. So no post
+-- yields two messages, and no message overtakes another
 abbrev pub WerePosted : (ℕ → Flat) → List Operation → ℕ → List MailRow → Type 0
 WerePosted states operations before [] = Unit {0}
 WerePosted states operations before (row ∷ mail) =
     (k : ℕ) × (before < k) × WasPosted states operations row k × WerePosted states operations k mail
 
--- a flag of a SINT of a processor was set by the entry of number k, through a connection of the sender to an
--- event port that aims at the SINT. The processor is the one that took it, in the state in which the event
--- came: the one at which the port aims, which was ready for event flags, or for any the lowest that was. And
--- since then neither the processor nor the partition has ended, and the processor hasn't cleared the flag
+-- the entry of number k set a flag of a processor's SINT, through a connection of the sender to an event port
+-- that aims at the SINT. The processor is the one that took it in the state before that entry: the one at
+-- which the port aims, which was ready for event flags, or for any the lowest that was ready. Neither the
+-- processor nor its partition has ended since, and the processor has not cleared the flag
 pub record WasSignalled (states : ℕ → Flat) (operations : List Operation) (id vp sint flag : ℕ) : Type 0 where
   pub k : ℕ
   pub port : ℕ
@@ -108,15 +109,15 @@ pub record WasSignalled (states : ℕ → Flat) (operations : List Operation) (i
   pub alive : HasNotSince operations k (Finalizes id)
   pub set : HasNotSince operations k (ClearsFlag id vp sint flag)
 
--- a connection that keeps the birth of the port to which it leads is of that port's peer
+-- every connection that keeps the birth of the port to which it leads belongs to that port's peer
 abbrev pub AreOfPeers : Flat → Type 0
 AreOfPeers f = (key : ℕ × ℕ) (conn : ConnRow) (port : PortRow) → get f.conn key ≡ Some conn
     → get f.port (conn.part, conn.port) ≡ Some port → port.born ≡ conn.born → port.peer ≡ key.0
 
--- whether a flag of a SINT is set, of the processor with this row
+-- whether an event flag of a SINT is set, at the processor with this row
 abbrev pub has_flag : ℕ → ℕ → VpRow → Bool
 has_flag sint flag row = set.contains row.flags (sint, flag)
 
--- and of a processor
+-- whether an event flag of a processor's SINT is set
 abbrev pub is_flag_set : Flat → ℕ → ℕ → ℕ → ℕ → Bool
 is_flag_set f id vp sint flag = on_vp f (id, vp) (has_flag sint flag)

@@ -18,13 +18,13 @@ use Rattle.hv_policy.specs.declared.event.Event.{Event}
 use Rattle.hv_policy.specs.declared.reply.Reply.{Reply}
 use Rattle.hv_policy.specs.declared.reply.Reply.TheVariants.{Served, More, Denied, Fault}
 
--- What an entry did, with each partition by its id: HvCreatePort makes a port of a partition, for a peer and
--- for what it takes, with its SINT, the processor at which it aims, or any, and the first of its flags;
--- HvDeletePort deletes it; HvConnectPort makes a connection of a partition to a port, HvDisconnectPort
--- deletes it; HvPostMessage posts a message through a connection of a partition, HvSignalEvent sets the flag
--- with a number through one; HvDeleteVp deletes a processor of a partition, HvFinalizePartition ends a
--- partition; a processor clears a flag of its own. An event that is served may do none of these, and one that
--- is refused does nothing.
+-- What an entry did, with each partition by its id. HvCreatePort creates a port of a partition, for a peer,
+-- with what it takes, its SINT, the processor at which it aims, or any, and the first of its flags;
+-- HvDeletePort deletes it. HvConnectPort creates a connection of a partition to a port; HvDisconnectPort
+-- deletes it. HvPostMessage posts a message through a connection of a partition; HvSignalEvent sets the flag
+-- with a number through one. HvDeleteVp deletes a processor of a partition; HvFinalizePartition ends a
+-- partition. A processor clears a flag of its own. A served event may do none of these, and a refused one
+-- does nothing.
 pub data Operation : Type 0 where
   MakesPort : (id port peer : ℕ) (kind : PortKind) (sint : ℕ) (aim : Aim) (base : ℕ) → Operation
   DeletesPort : (id port : ℕ) → Operation
@@ -38,7 +38,7 @@ pub data Operation : Type 0 where
   DoesElse : Operation
   IsRefused : Operation
 
--- of a call by a processor of a partition
+-- the operation of a call by a processor of a partition
 abbrev pub call_operation : Call → ℕ → Operation
 call_operation (CreatePort partition port peer port_kind sint vp base count) caller =
     MakesPort (resolved_id caller partition) port (resolved_id caller peer) port_kind sint vp base
@@ -62,33 +62,33 @@ action_deed by (Hypercall frame) = called_deed (called frame) by.part
 action_deed by (ClearFlag sint flag) = ClearsFlag by.part by.vp sint flag
 action_deed by access = DoesElse
 
--- of an event that is served
+-- the operation of a served event
 abbrev pub served_deed : {A : Type 0} → Event A → Operation
 served_deed event = action_deed event.by event.what
 
--- of an event with this reply
+-- the operation of an event with this reply
 abbrev pub operation_of : {A : Type 0} → Event A → Reply → Operation
 operation_of event (Served output) = served_deed event
 operation_of event (More next output) = served_deed event
 operation_of event (Denied rule status reps) = IsRefused
 operation_of event (Fault rule) = IsRefused
 
--- what the entries of a history did, one after another: the history is the events with their replies
+-- the operations of a history's entries, in order. The history is the events with their replies
 abbrev pub operations_of : {A : Type 0} → List (Event A) → List Reply → List Operation
 operations_of [] replies = []
 operations_of (event ∷ events) [] = []
 operations_of (event ∷ events) (reply ∷ replies) = operation_of event reply ∷ operations_of events replies
 
--- what the entry of this number did, counted from 1 as the audit counts its lines
+-- the operation of the entry of this number. Numbers start at 1, as the audit's lines do
 abbrev pub operation_at : List Operation → ℕ → Option Operation
 operation_at operations zero = None
 operation_at operations (suc before) = slice_get operations before
 
--- the entry of this number did that
+-- the entry of this number did this operation
 pub record DidAt (operations : List Operation) (number : ℕ) (operation : Operation) : Type 0 where
   pub is : operation_at operations number ≡ Some operation
 
--- whether an entry's event was served, and how many were of the first so many entries
+-- whether an entry's event was served, and how many events were served up to a number
 abbrev pub was_served : Operation → Bool
 was_served IsRefused = false
 was_served operation = true

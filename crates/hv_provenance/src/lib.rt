@@ -1,9 +1,9 @@
-//! Where ports, connections, messages and event flags come from: what a history has of each that is there.
+//! Provenance: which history entries account for each port, connection, message and event flag.
 //!
 //! The crate has no code. `WasMade`, `WasConnected`, `WasPosted` and `WasSignalled` in `specs/` say which
-//! entries of a history account for a row, and each function's contract here is a theorem about the runs of
-//! the model, from any configuration. A history is a list of events with their replies, refused ones too, and
-//! entries are numbered from 1, as the audit's lines are.
+//! entries of a history account for a row. Each function's contract is a theorem about the runs of the model,
+//! from any configuration. A history is a list of events with their replies, refused events included. Entries
+//! are numbered from 1, as the audit's lines are.
 #![tactic(auto)]
 
 ghost use Rattle.std.specs.Prelude.{◌≡◌, ℕ, List, Some, true, length};
@@ -17,9 +17,9 @@ ghost use Rattle.hv_provenance.specs.Operation.{operations_of, served_to};
 ghost use Rattle.hv_provenance.specs.Justified.{AreOfPeers, WasConnected, WasMade, WasSignalled, WerePosted};
 ghost use Rattle.hv_provenance.specs.Justified.{is_flag_set, state_before};
 
-/// In every state of a run each port that is there was made by the entry with which the served events were as
-/// many as its birth says, and each connection by an entry after the birth that it keeps; nothing has ended
-/// either since.
+/// In every state of a run, an entry created each port and connection, and nothing has ended it since. At a
+/// port's entry, the count of served events is the port's birth. A connection's entry comes after the birth
+/// that the connection keeps.
 pub fn every_port_and_connection_has_its_making<A>()
     ensures entries { (config : Config) (events : List (Event A))
         → length (operations_of events (run config events).1) ≡ length events }
@@ -34,17 +34,17 @@ pub fn every_port_and_connection_has_its_making<A>()
         → WasConnected (operations_of events (run config events).1) key conn }
 {}
 
-/// In every state of a run a connection that keeps the birth of the port to which it leads is of that port's
-/// peer: so what comes to a port comes from the partition for which the port was made.
+/// In every state of a run, a connection that keeps the birth of its port belongs to that port's peer. What
+/// arrives at a port therefore comes from the partition for which the port was created.
 pub fn each_connection_is_of_its_ports_peer<A>()
     ensures { (config : Config) (events : List (Event A)) → AreOfPeers (run config events).0 }
 {}
 
-/// In every state of a run each message was posted, by the partition for which the port of its birth was made
-/// and through a connection to that port while both stood, to the processor that took it then: the one at
-/// which the port aims, or the lowest that was ready for messages where it aims at any. That processor has
-/// stood since. The messages of a place stand in the order in which they were posted, each of a post of its
-/// own; and so do all messages.
+/// In every state of a run, each message was posted through a connection to the port of its birth. The sender
+/// is the partition for which that port was created, and both the port and the connection existed then. The
+/// message went to the processor that took it: the one at which the port aims, or the lowest that was ready
+/// for messages if the port aims at any. That processor has existed since. The messages of a place are in the
+/// order in which they were posted, each from a post of its own, and so are all messages.
 pub fn every_message_was_posted<A>()
     ensures all { (config : Config) (events : List (Event A))
         → WerePosted (state_before config events) (operations_of events (run config events).1) 0
@@ -54,9 +54,10 @@ pub fn every_message_was_posted<A>()
         (mail_at place (run config events).0.mail) }
 {}
 
-/// In every state of a run each event flag that is set was signalled, by the partition for which an event
-/// port was made and through a connection to that port while both stood, to the processor that took it then;
-/// and since then that one has stood and hasn't cleared it.
+/// In every state of a run, each set event flag was signalled through a connection to an event port. The
+/// sender is the partition for which that port was created, and both the port and the connection existed
+/// then. The flag is at the processor that took the signal. That processor has existed since, and has not
+/// cleared the flag.
 pub fn every_flag_was_signalled<A>()
     ensures flags { (config : Config) (events : List (Event A)) (id vp sint flag : ℕ)
         → is_flag_set (run config events).0 id vp sint flag ≡ true

@@ -1,4 +1,4 @@
-// The files that the words name. A name is a path, or `-` for standard input.
+// The files that the command line names. A name is a path, or `-` for standard input.
 
 use hv_run::{Exit, Failure, read_script, tell, unread};
 use std::alloc::Global;
@@ -7,13 +7,13 @@ use std::io;
 use std::io::{ErrorKind, Read, Write};
 use std::rt::Files;
 
-// The most bytes of an audit, which are over a million of the longest lines.
+// The most bytes that an audit may have: over a million of the longest lines.
 const MOST_AUDIT: u64 = 1_073_741_824;
 
-// What is told where both files are standard input.
+// The error if both files are standard input.
 const BOTH: &str = "error: SCRIPT and AUDIT can't both be standard input\n";
 
-/// The bytes of the script of this name.
+/// Returns the bytes of the script with this name.
 pub fn read_named<R: Files + Input + AllocGlobal>(rt: &R, name: &str) -> Result<Vec<u8>, Failure> {
     if name == "-" {
         return read_script(rt.alloc(), rt.reader());
@@ -24,8 +24,10 @@ pub fn read_named<R: Files + Input + AllocGlobal>(rt: &R, name: &str) -> Result<
     }
 }
 
-/// The bytes of the script and of the audit of these names, of which one at most is standard input. Why they
-/// can't be read goes to `err`: of the script, where neither can.
+/// Returns the bytes of the script and of the audit with these names.
+///
+/// At most one of them may be standard input. If one cannot be read, the reason is written to `err`. If
+/// neither can, the script's reason is.
 pub fn read_both<R: Files + Input + AllocGlobal, E: Write>(
     rt: &R,
     script: &str,
@@ -44,7 +46,7 @@ pub fn read_both<R: Files + Input + AllocGlobal, E: Write>(
     Ok((script, audit))
 }
 
-// The bytes of the audit of this name. Why they can't be read goes to `err`.
+// Returns the bytes of the audit with this name. If they cannot be read, the reason is written to `err`.
 fn read_audit<R: Files + Input + AllocGlobal, E: Write>(
     rt: &R,
     name: &str,
@@ -66,7 +68,7 @@ fn read_audit<R: Files + Input + AllocGlobal, E: Write>(
     }
 }
 
-// All bytes of an audit, and of one that is too long one more than it may have.
+// Reads all bytes of an audit, or one byte more than the most if it is too long.
 fn read_all<R: Read + Drop>(alloc: Global, reader: R) -> io::Result<Vec<u8>> {
     let mut audit = Vec::new(alloc);
     reader.take(MOST_AUDIT + 1).read_to_end(&mut audit)?;

@@ -1,11 +1,11 @@
-//! The program `hvpm`: runs scripts of hypercalls and accesses on the partition manager, and tells what
+//! The program `hvpm`: runs scripts of hypercalls and accesses on the partition manager, and reports what
 //! happened.
 //!
-//! [`hv_options::command`] reads the words of the command line. Each command has its crate, whose entry takes
-//! the bytes of its files and two writers: `hv_run` runs a script and prints its audit, `hv_check` compares
-//! an audit with a script, `hv_explain` and `hv_follow` tell the events in words, `hv_serve` answers line by
-//! line, and `hv_draw` draws the state at the end. What stands here only fetches words and files, and gives
-//! back the exit status.
+//! [`hv_options::command`] parses the command line. Each command has its own crate, with an entry point that
+//! takes the bytes of its files and two writers: `hv_run` runs a script and prints its audit, `hv_check`
+//! compares an audit with a script, `hv_explain` and `hv_follow` describe the events in words, `hv_serve`
+//! answers line by line, and `hv_draw` draws the final state. This crate only reads the command line and the
+//! files, and returns the exit status.
 #![tactic(auto)]
 
 mod files;
@@ -25,7 +25,7 @@ use std::rt::{Env, Files};
 use std::sync::Wait;
 use std::thread::Threads;
 
-// How many bytes of the output are gathered, 16 times a block in which an audit comes.
+// The size of the output buffer in bytes, 16 times that of a block of an audit.
 const GATHERED: usize = 32_768;
 
 fn main(rt: HostRuntime) -> ExitCode {
@@ -52,7 +52,7 @@ fn start<R: Env + Files + Input + AllocGlobal + Threads + Wait + Sync, W: Write,
     }
 }
 
-// The words of the command line, of which the first is the program's name.
+// Returns the words of the command line. The first is the program's name.
 fn read_words<R: Env + AllocGlobal>(rt: &R) -> Result<Vec<String>, Usage> {
     match env::args(rt) {
         Ok(words) => words.collect(rt.alloc()).map_err(|_| Usage::Memory),
@@ -61,7 +61,7 @@ fn read_words<R: Env + AllocGlobal>(rt: &R) -> Result<Vec<String>, Usage> {
     }
 }
 
-// Does what the words ask for.
+// Performs the command.
 fn perform<R: Files + Input + AllocGlobal + Threads + Wait + Sync, W: Write, E: Write>(
     rt: &R,
     command: &Command<'_>,
@@ -85,7 +85,7 @@ fn perform<R: Files + Input + AllocGlobal + Threads + Wait + Sync, W: Write, E: 
     }
 }
 
-// Runs the script of this name.
+// Runs the script with this name.
 fn run_named<R: Files + Input + AllocGlobal + Threads + Wait + Sync, W: Write, E: Write>(
     rt: &R,
     options: &Options<'_>,
@@ -98,7 +98,7 @@ fn run_named<R: Files + Input + AllocGlobal + Threads + Wait + Sync, W: Write, E
     }
 }
 
-// Compares the audit of one name with the script of another.
+// Compares an audit with a script, each given by its name.
 fn check_named<R: Files + Input + AllocGlobal, W: Write, E: Write>(
     rt: &R,
     script: &str,
@@ -114,7 +114,7 @@ fn check_named<R: Files + Input + AllocGlobal, W: Write, E: Write>(
     }
 }
 
-// Tells the events of the audit of one name, of the script of another, in words.
+// Describes in words the events of an audit of a script, each given by its name.
 fn follow_named<R: Files + Input + AllocGlobal, W: Write, E: Write>(
     rt: &R,
     script: &str,
@@ -128,7 +128,7 @@ fn follow_named<R: Files + Input + AllocGlobal, W: Write, E: Write>(
     }
 }
 
-// Tells the events of the script of this name in words.
+// Describes in words the events of the script with this name.
 fn explain_named<R: Files + Input + AllocGlobal, W: Write, E: Write>(
     rt: &R,
     script: &str,
@@ -141,7 +141,7 @@ fn explain_named<R: Files + Input + AllocGlobal, W: Write, E: Write>(
     }
 }
 
-// Draws the script of this name.
+// Draws the final state of the script with this name.
 fn draw_named<R: Files + Input + AllocGlobal, W: Write, E: Write>(
     rt: &R,
     script: &str,

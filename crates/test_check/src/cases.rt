@@ -6,7 +6,7 @@ use std::alloc::Global;
 use std::process::Abort;
 use std::test::Fail;
 
-// Two processors in each phase. No partition 2 is there.
+// Two processors in each phase. Partition 2 does not exist.
 const SCRIPT: &str = "boot 32 12 2 0x000000f700000044 5
 1.0 call 0x46 0 0 -
 1.0 interrupt
@@ -82,7 +82,7 @@ events 5
         Exit::Script,
         "line 2: wanted number 2, found 3\n",
     ),
-    // A processor of the second phase before the first is over.
+    // A processor of the second phase before the first phase is over.
     (
         false,
         true,
@@ -92,7 +92,7 @@ events 5
         Exit::Script,
         "line 2: 1.1 has nothing left to do in this phase\n",
     ),
-    // A line that isn't an event's.
+    // A line that is no event.
     (
         false,
         true,
@@ -110,7 +110,7 @@ events 5
         Exit::Script,
         "line 1: wanted a line feed, found the end\n",
     ),
-    // The end before 1.0 is done.
+    // The end before 1.0 has finished.
     (
         false,
         true,
@@ -140,7 +140,7 @@ events 2
     (true, true, "", Exit::Done, "legal, 0 events\n"),
 ];
 
-// What stands behind the events.
+// The lines after the events.
 const LAST_LINES: [(&str, Exit, &str); 6] = [
     ("events 5\n", Exit::Done, "legal, 5 events\n"),
     ("", Exit::Script, "line 6: wanted events 5, found the end\n"),
@@ -166,7 +166,7 @@ const LAST_LINES: [(&str, Exit, &str); 6] = [
     ),
 ];
 
-// Without the names of rules, and audits that end early.
+// Audits compared without the names of rules, and audits that end early.
 const FLAGS: [Case; 9] = [
     (
         false,
@@ -250,7 +250,7 @@ fn text_of(bytes: &[u8]) -> &str {
     str::from_utf8(bytes).unwrap_or("no UTF-8 text")
 }
 
-// Checks an audit, and looks at the exit status and at both texts.
+// Checks an audit, and compares the exit status and both texts.
 fn assert_answer(rt: &impl Abort, alloc: Global, script: &str, case: &Case, line: &str) {
     let (prefix, rules, audit, exit, text) = case;
     let mut out: Vec<u8> = Vec::new(alloc);
@@ -300,7 +300,7 @@ fn last_lines(rt: HostRuntime) -> Result<(), Fail> {
     Ok(())
 }
 
-// A rep call of three pages, where the script's limit is two events.
+// A rep call of three pages, in a script with a limit of two events.
 const ELEMENTS: &str = "boot 32 12 1 0x000000f700000044 2
 1.0 call 0x300000048 0 0 01000000000000000c000000000000000d000000000000000e00000000000000
 ";
@@ -343,7 +343,7 @@ fn elements(rt: HostRuntime) {
     }
 }
 
-// What is wrong with a script is told as `run` tells it.
+// The error in a script is reported as `run` reports it.
 #[test]
 fn scripts(rt: HostRuntime) {
     for (script, line) in [

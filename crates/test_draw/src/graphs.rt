@@ -1,4 +1,4 @@
-// Graphs of small scripts, typed by hand, and what is told where there is none.
+// Graphs of small scripts, typed by hand, and the error if there is no graph.
 
 use hv_draw::draw_text;
 use hv_run::Exit;
@@ -8,9 +8,9 @@ use std::io::{ErrorKind, Write};
 use std::process::Abort;
 
 // Partition 2 below the root, with a processor and 8 pages. Port 5 of the root takes messages for SINT 2 of
-// processor 0, and keeps two. Port 6 takes event flags 8 to 15 for SINT 3 of any processor, of which its
-// second and its fifth are set. Port 9 takes messages for SINT 4: one was cleared, another waits, and the
-// port is deleted. Vectors 0x30 and 0x33 are pending.
+// processor 0, and keeps two. Port 6 takes event flags 8 to 15 for SINT 3 of any processor; the second and
+// the fifth of these are set. Port 9 takes messages for SINT 4: one was cleared, another waits, and the port
+// is deleted. Vectors 0x30 and 0x33 are pending.
 const LIFE: &[u8] = b"\
 boot 64 32 1 0x000000f700000044 100\n\
 1.0 call 0x40 0 0 -\n\
@@ -118,7 +118,7 @@ fn text_of(bytes: &[u8]) -> &str {
     str::from_utf8(bytes).unwrap_or("no UTF-8 text")
 }
 
-// Draws a script, and compares what comes.
+// Draws a script, and compares the output.
 fn assert_draws(
     rt: &impl Abort,
     alloc: Global,

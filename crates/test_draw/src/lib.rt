@@ -1,4 +1,4 @@
-//! The graph of a script's end, as `hvpm draw` writes it. Tests only.
+//! The graph of a script's final state, as `hvpm draw` writes it. Tests only.
 #![tactic(auto)]
 
 #[cfg(test)]

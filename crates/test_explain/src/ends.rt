@@ -1,4 +1,4 @@
-// What ends an explanation other than well: the exit status, and what is written till then.
+// Explanations that fail: the exit status, and what is written until then.
 
 use hv_explain::explain_text;
 use hv_run::Exit;
@@ -8,7 +8,7 @@ use std::io::{ErrorKind, Write};
 use std::process::Abort;
 use std::test::Fail;
 
-// Explains a script, and compares the exit status and what is written.
+// Explains a script, and compares the exit status and the text.
 fn expect(rt: &impl Abort, alloc: Global, script: &str, exit: Exit, lines: &str, told: &str) {
     let mut out = Vec::new(alloc);
     let mut err = Vec::new(alloc);
@@ -47,7 +47,7 @@ fn ends(rt: HostRuntime) -> Result<(), Fail> {
     Ok(())
 }
 
-// A writer that takes no more after some writes.
+// A writer that fails after some writes.
 #[derive(Drop)]
 struct Failing {
     writes: usize,

@@ -1,5 +1,5 @@
 //! Explains the script of standard input, which meets every rule, every call and every access. `stdout` has
-//! the text that is wanted, line by line. The tests are of what ends an explanation otherwise.
+//! the expected text, line by line. The tests cover explanations that fail.
 #![tactic(auto)]
 
 #[cfg(test)]

@@ -1,4 +1,4 @@
-// Blocks at the edge of what is well formed, and an element within its list.
+// Blocks at the edge of well-formedness, and an element within its list.
 
 use crate::calls::{BY_0, Call, frame};
 use hv_abi::Frame;
@@ -83,7 +83,7 @@ fn parameters_are_refused_by_themselves(rt: HostRuntime) -> Result<(), Fail> {
     Ok(())
 }
 
-// Pages 12, 13 and 14 for partition 2, from the second one on.
+// Pages 12, 13 and 14 for partition 2, starting at the second one.
 const DEPOSIT: Call<'static> = Call {
     rcx: 0x1_0003_0000_0048,
     input: &[

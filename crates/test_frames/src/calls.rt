@@ -1,4 +1,4 @@
-// Calls by processors, and what a machine answers.
+// Calls by processors, and a machine's answers.
 
 use hv_abi::{Bytes, Frame};
 use hv_machine::{Action, BootRefused, Caller, Config, Event, Machine, Reply, Rule};
@@ -30,7 +30,7 @@ pub(crate) const BY_0: Call<'static> = Call {
     input: NONE,
 };
 
-// Makes partition 2.
+// Creates partition 2.
 pub(crate) const CREATE: Call<'static> = Call { rcx: 0x40, ..BY_0 };
 
 pub(crate) const INITIALIZE: Call<'static> = Call {
@@ -51,7 +51,7 @@ const PAGES: &[u8] = &[
     0, 15, 0, 0, 0, 0, 0, 0, 0, 16, 0, 0, 0, 0, 0, 0, 0, 17, 0, 0, 0, 0, 0, 0, 0,
 ];
 
-// Makes processor 0 of partition 2.
+// Creates processor 0 of partition 2.
 pub(crate) const CREATE_VP: Call<'static> = Call {
     rcx: 0x1004e,
     rdx: 2,
@@ -103,7 +103,7 @@ fn event(alloc: Global, call: Call<'_>) -> Result<Event<Global>, AllocError> {
     Ok(Event { by, what })
 }
 
-// A root with so many processors.
+// A machine whose root has this many processors.
 pub(crate) fn boot(alloc: Global, vps: u32) -> Result<Machine<Global>, BootRefused> {
     let config = Config {
         pages: 32,
@@ -114,7 +114,7 @@ pub(crate) fn boot(alloc: Global, vps: u32) -> Result<Machine<Global>, BootRefus
     Machine::boot(alloc, config)
 }
 
-// What a reply says: the next element, or the rule that refuses and how many elements were done before.
+// What a reply says: the next element, or the rule that refuses and the number of elements done before.
 #[derive(Clone, Copy, PartialEq, Eq)]
 pub(crate) enum Told {
     Served,
@@ -143,7 +143,7 @@ pub(crate) fn step(
     Ok(said_by(&reply))
 }
 
-// Steps a call of at most eight elements on to its last one, or to one that is denied.
+// Steps a call of at most eight elements until its last one, or until one is denied.
 pub(crate) fn drive(
     rt: &impl Abort,
     alloc: Global,
@@ -174,7 +174,7 @@ pub(crate) fn make_ready(rt: &impl Abort, machine: &mut Machine<Global>) -> Resu
     Ok(())
 }
 
-// Makes the root's child 2, and then the call.
+// Creates the root's child 2, and then makes the call.
 fn step_second(
     rt: &impl Abort,
     alloc: Global,

@@ -1,4 +1,4 @@
-// Input values with each of their bits changed, as `check`, `decode` and `step` answer them.
+// Input values with each of their bits changed, and the answers of `check`, `decode` and `step`.
 
 use crate::calls::{
     BY_0, CONNECTION, CREATE, CREATE_VP, Call, DELETE_PORT, DEPOSIT, INITIALIZE, PORT, Told, boot,
@@ -11,12 +11,12 @@ use std::alloc::{AllocError, Global};
 use std::process::Abort;
 use std::test::Fail;
 
-// A call that is driven to its end, what it is answered in the end, and a letter for each bit of its input
-// value, from the lowest on: what the call is answered where that bit is changed.
+// A call that is driven to its end, its last answer, and a letter for each bit of its input value, lowest
+// first: the answer to the call with that bit changed.
 type Turn = (Call<'static>, Told, &'static str);
 
-// What a letter stands for. A denial counts the elements before the start index, but not where the input
-// value itself is refused.
+// The answer that a letter stands for. A denial counts the elements before the start index, but not if the
+// input value itself is refused.
 fn told_by(letter: u8, rcx: u64) -> Told {
     let start = ((rcx >> 48) % 4096) as u16;
     match letter {
@@ -38,7 +38,7 @@ fn told_by(letter: u8, rcx: u64) -> Told {
 
 // With a bit changed, 0x46 and 0x40 ask for partition 0, or for a list of no elements.
 const FIRST: &[Turn] = &[
-    // An unknown code comes before all else that is wrong.
+    // An unknown code takes precedence over every other fault.
     (
         Call {
             rcx: 0x1_0000_7fff,
@@ -52,8 +52,8 @@ const FIRST: &[Turn] = &[
         Told::Served,
         "ttttuuuuuuuuuuuuiiiiiiiiiiiiiiiiiiiiiiiiiiiiiiiiiiiiiiiiiiiiiiii",
     ),
-    // A deposit that starts behind its three elements. With more of them, or from an earlier one on, it is
-    // for partition 0.
+    // A deposit that starts after its three elements. With more elements, or an earlier start, it is for
+    // partition 0.
     (
         Call {
             rcx: 0x3_0003_0000_0048,
@@ -67,8 +67,8 @@ const FIRST: &[Turn] = &[
         Told::Served,
         "tttiiuuuuuuuuuuuiiiiiiiiiiiiiiiiiiiiiiiiiiiiiiiiiiiiiiiiiiiiiiii",
     ),
-    // Page 12 twice. A list of 259 pages fits a page, and one of 515 doesn't. Of one page the first is the
-    // last. Partition 2 has no page to give back.
+    // Page 12 twice. A list of 259 pages fits in a page, and one of 515 does not. If there is one page, the
+    // first is the last. Partition 2 has no page to return.
     (
         Call {
             rcx: 0x3_0000_0048,
@@ -81,7 +81,7 @@ const FIRST: &[Turn] = &[
         Told::Denied(Rule::Operand, 2),
         "giuiiuuuuuuuuuuuiiiiiiiiiiiiiiiimsmmmmmmmaaaiiiimsiiiiiiiiiiiiii",
     ),
-    // Partition 2 is Created: it may be finalized, and gets no processor.
+    // Partition 2 is Created: it can be finalized, and gets no processor.
     (
         Call {
             rcx: 0x4a,
@@ -93,14 +93,14 @@ const FIRST: &[Turn] = &[
     ),
 ];
 
-// A message port and a connection to it. Where a fast call isn't fast, its RDX is no address of a list.
+// A message port and a connection to it. If a fast call is not fast, its RDX is no address of a list.
 const SETUP: &[Turn] = &[
     (
         CREATE,
         Told::Served,
         "tttiiuuuuuuuuuuuiiiiiiiiiiiiiiiiiiiiiiiiiiiiiiiiiiiiiiiiiiiiiiii",
     ),
-    // Partition 2 is Created, and may be deleted.
+    // Partition 2 is Created, and can be deleted.
     (
         INITIALIZE,
         Told::Served,
@@ -128,7 +128,8 @@ const SETUP: &[Turn] = &[
     ),
 ];
 
-// The port is made again. The connection doesn't lead to the new one, neither for a message nor for a flag.
+// The port is created again. The connection does not lead to the new one, neither for a message nor for a
+// flag.
 const MADE_AGAIN: &[Turn] = &[
     (
         DELETE_PORT,
@@ -171,7 +172,7 @@ const MADE_AGAIN: &[Turn] = &[
     ),
 ];
 
-// A message with a byte too many, and one with as many as there may be. The port takes no flags.
+// A message with one byte too many, and one with the most bytes. The port takes no flags.
 const POSTS: &[Turn] = &[
     (
         Call {
@@ -193,7 +194,7 @@ const POSTS: &[Turn] = &[
     ),
 ];
 
-// The turns that come before, whether processor 0 of partition 2 then takes messages, and the turns.
+// The turns before, whether processor 0 of partition 2 then takes messages, and the turns.
 type Run = (&'static [Turn], bool, &'static [Turn]);
 
 const RUNS: [Run; 4] = [
@@ -203,7 +204,7 @@ const RUNS: [Run; 4] = [
     (SETUP, true, POSTS),
 ];
 
-// What `check` and `decode` make of a frame: the letter of a fault, or one for a call with its code.
+// The result of `check` and `decode` for a frame: the letter of a fault, or one for a call with its code.
 fn letter_of(frame: &Frame<Global>) -> u8 {
     match frame.check() {
         Err(AbiFault::UnknownCode) => b'u',
@@ -246,7 +247,7 @@ fn take(
     Ok(())
 }
 
-// Makes what comes before some turns, and the first so many of them.
+// Takes the turns that come before a run, and the first `made` turns of the run.
 fn begin(
     rt: &impl Abort,
     alloc: Global,
@@ -262,7 +263,7 @@ fn begin(
     take(rt, alloc, machine, &turns[..made.min(turns.len())])
 }
 
-// What a call is answered in the place of a turn.
+// The answer to a call in place of a turn.
 fn step_at(
     rt: &impl Abort,
     alloc: Global,
@@ -293,7 +294,7 @@ fn assert_step(
     Ok(())
 }
 
-// The call of a turn in its place, with each bit of its input value changed.
+// Makes the call of a turn in its place, with each bit of its input value changed.
 fn assert_bits(
     rt: &impl Abort,
     alloc: Global,

@@ -1,5 +1,5 @@
-// Hostile frames: inputs cut short, and input values with a bit flipped. Each is answered, and a refusal
-// names a rule that the call is asked.
+// Hostile frames: inputs cut short, and input values with a bit flipped. Each gets an answer, and a refusal
+// names a rule that applies to the call.
 
 use crate::calls::{BY_0, Call, Told, answer, frame};
 use hv_abi::{CallKind, Frame};
@@ -8,7 +8,7 @@ use std::alloc::{AllocError, Global};
 use std::process::Abort;
 use std::test::Fail;
 
-// Calls once the root has the child 2: the input value, RDX and the input. No call has the last one's code.
+// Calls after the root has the child 2: the input value, RDX and the input. No call has the last one's code.
 const CALLS: [(u64, u64, &[u8]); 22] = [
     (0x40, 0, &[0; 8]),
     (0x10041, 2, &[]),
@@ -77,7 +77,7 @@ const CALLS: [(u64, u64, &[u8]); 22] = [
     (0x7fff, 0, &[]),
 ];
 
-// By call code, the numbers of the rules that are asked beyond P10. Every other code is refused by P4.
+// The numbers of the rules beyond P10 that apply to each call, by its code. P4 refuses every other code.
 const FURTHER: [(u64, &[u8]); 21] = [
     (0x40, &[14, 24]),
     (0x41, &[12]),
@@ -102,7 +102,7 @@ const FURTHER: [(u64, &[u8]); 21] = [
     (0x96, &[12, 15, 16, 17, 18, 21, 24]),
 ];
 
-// Whether a call with this input value is asked the rule of this number.
+// Whether the rule of this number applies to a call with this input value.
 fn is_asked(rcx: u64, number: u8) -> bool {
     for (code, further) in FURTHER.iter() {
         if rcx & 0xffff == *code {
@@ -112,7 +112,7 @@ fn is_asked(rcx: u64, number: u8) -> bool {
     number <= 4
 }
 
-// Whether a call with this input value is served, or refused by a rule that it is asked.
+// Whether a call with this input value is served, or refused by a rule that applies to it.
 fn is_answer(rcx: u64, told: Told) -> bool {
     match told {
         Told::Served | Told::More(_) => true,
@@ -127,7 +127,7 @@ fn assert_answer(rt: &impl Abort, alloc: Global, call: Call<'_>) -> Result<(), F
     Ok(())
 }
 
-// Its input cut after each byte, and its input value with each bit flipped.
+// Makes the call with its input cut after each byte, and with each bit of its input value flipped.
 fn assert_each(rt: &impl Abort, alloc: Global, call: Call<'_>) -> Result<(), Fail> {
     for end in 0..call.input.len() + 1 {
         let input = &call.input[..end];
@@ -179,7 +179,7 @@ const INPUT_VALUES: [(u64, CallKind); 21] = [
     (0x96, CallKind::ConnectPort),
 ];
 
-// A block that each call takes, with a byte that isn't zero in most of its fields.
+// A block that each call accepts, with a byte that is not zero in most of its fields.
 const ANY_BLOCK: [u8; 80] = [
     0x07, 0, 0, 0, 0x08, 0, 0, 0, 0x06, 0, 0, 0, 0x05, 0, 0, 0, 0x08, 0x07, 0x06, 0x05, 0x04, 0x03,
     0x02, 0x01, 0x02, 0, 0, 0, 0, 0, 0, 0, 0x01, 0, 0, 0, 0x03, 0, 0, 0, 0x04, 0, 0x05, 0, 0, 0, 0,
@@ -187,8 +187,8 @@ const ANY_BLOCK: [u8; 80] = [
     0, 0, 0, 0,
 ];
 
-// Whether a block of this call that is cut to so many bytes may be malformed: zeros can be, in some
-// parameters.
+// Whether a block of this call that is cut to this many bytes may be malformed: in some parameters, zeros
+// are.
 fn may_be_malformed(kind: CallKind, len: usize) -> bool {
     len < 43
         && matches!(
@@ -197,7 +197,7 @@ fn may_be_malformed(kind: CallKind, len: usize) -> bool {
         )
 }
 
-// Whether the frame is decoded to a call of this kind, or may be malformed.
+// Whether the frame decodes to a call of this kind, or may be malformed.
 fn is_decoded(frame: &Frame<Global>, kind: CallKind, len: usize) -> bool {
     let Ok(shape) = frame.check() else {
         return false;
@@ -208,8 +208,8 @@ fn is_decoded(frame: &Frame<Global>, kind: CallKind, len: usize) -> bool {
     }
 }
 
-// Whatever bytes are missing, a block is decoded to a call of its frame's kind, or is malformed as a
-// parameter's zeros can be.
+// Whatever bytes are missing, a block decodes to a call of its frame's kind, or is malformed as zeros in a
+// parameter can be.
 fn assert_decoded(
     rt: &impl Abort,
     alloc: Global,

@@ -1,5 +1,5 @@
-// Ids that are none, the caller's own, a child's, the one that stands for the caller, and the last below it,
-// in each field of a block that has an id.
+// Ids of each kind, in each field of a block that has an id: 0, the caller's own, a child's, the id that
+// stands for the caller, and the last id below that.
 
 use crate::calls::{BY_0, Call, Told, answer};
 use std::alloc::{AllocError, Global};
@@ -8,8 +8,8 @@ use std::test::Fail;
 
 const IDS: [u64; 5] = [0, 1, 2, 0xFFFF_FFFF_FFFF_FFFF, 0xFFFF_FFFF_FFFF_FFFE];
 
-// A call of the root, which has the child 2 that isn't initialized: what stands in its block before an id and
-// behind it. Then by the id the number of the rule that refuses, or 0 where the call is served.
+// A call of the root, which has the child 2 in state Created: the block before an id and after it. Then, by
+// the id, the number of the rule that refuses, or 0 if the call is served.
 const CALLS: [(u64, &[u8], &[u8], [u8; 5]); 20] = [
     (0x41, &[], &[], [9, 10, 0, 10, 9]),
     (0x42, &[], &[], [9, 10, 0, 10, 9]),
@@ -23,13 +23,13 @@ const CALLS: [(u64, &[u8], &[u8], [u8; 5]); 20] = [
         [9, 10, 0, 10, 9],
     ),
     (0x47, &[], &[], [9, 0, 0, 0, 9]),
-    // The child before: 0 is none, and the id that stands for the caller is a child's like any other.
+    // The previous child: 0 means none, and the id that stands for the caller is an id like any other.
     (0x47, &[1, 0, 0, 0, 0, 0, 0, 0], &[], [0, 15, 0, 15, 15]),
-    // Page 12, and then a page of whoever it is, which the child hasn't.
+    // Page 12, and then a page of the partition itself, which the child lacks.
     (0x1_0000_0048, &[], &[12], [9, 0, 0, 0, 9]),
     (0x1_0000_0049, &[], &[], [9, 0, 24, 0, 9]),
     (0x4A, &[], &[], [9, 0, 0, 0, 9]),
-    // Processor 1 is made, and processor 0 is deleted, read, and written: RAX.
+    // Processor 1 is created, and processor 0 is deleted, read and written: RAX.
     (0x4E, &[], &[1], [9, 0, 12, 0, 9]),
     (0x4F, &[], &[], [9, 0, 12, 0, 9]),
     (
@@ -44,7 +44,7 @@ const CALLS: [(u64, &[u8], &[u8], [u8; 5]); 20] = [
         &[0, 0, 0, 0, 0, 0, 0, 0, 0, 0, 2],
         [9, 0, 12, 0, 9],
     ),
-    // Port 5 and connection 7 are nowhere.
+    // Port 5 and connection 7 do not exist.
     (0x58, &[], &[5], [9, 17, 12, 17, 9]),
     (0x5B, &[], &[7], [9, 16, 12, 16, 9]),
     // A message port 5 at SINT 2 of processor 0, for the root.
@@ -56,7 +56,7 @@ const CALLS: [(u64, &[u8], &[u8], [u8; 5]); 20] = [
         ],
         [9, 0, 12, 0, 9],
     ),
-    // The same of the root, for whoever it is.
+    // Such a port of the root, for each of the ids.
     (
         0x95,
         &[1, 0, 0, 0, 0, 0, 0, 0, 5, 0, 0, 0, 0, 0, 0, 0],
@@ -72,7 +72,7 @@ const CALLS: [(u64, &[u8], &[u8], [u8; 5]); 20] = [
         ],
         [9, 17, 12, 17, 9],
     ),
-    // Connection 7 of the root, to port 5 of whoever it is.
+    // Connection 7 of the root, to port 5 of each of the ids.
     (
         0x96,
         &[1, 0, 0, 0, 0, 0, 0, 0, 7, 0, 0, 0, 0, 0, 0, 0],
@@ -81,7 +81,7 @@ const CALLS: [(u64, &[u8], &[u8], [u8; 5]); 20] = [
     ),
 ];
 
-// The number of the rule that refuses, or 0 where the call is served. None is asked for more elements.
+// The number of the rule that refuses, or 0 if the call is served. No call has a further element.
 fn refused_by(told: Told) -> Option<u8> {
     match told {
         Told::Served => Some(0),

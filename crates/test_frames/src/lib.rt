@@ -1,5 +1,5 @@
-//! Hostile frames, made by the whole machine and decoded one by one, ids of all kinds in each field that has
-//! one, and calls stepped element by element. Tests only.
+//! Hostile frames, served by the whole machine and decoded one by one, ids of all kinds in each field that
+//! has one, and calls stepped element by element. Tests only.
 #![tactic(auto)]
 
 #[cfg(test)]

@@ -9,7 +9,7 @@ use std::alloc::Global;
 use std::process::Abort;
 use std::test::Fail;
 
-// Makes the calls one after another, and compares what each is answered.
+// Makes the calls one after another, and compares the answers.
 fn run(
     rt: &impl Abort,
     alloc: Global,
@@ -23,8 +23,8 @@ fn run(
     Ok(())
 }
 
-// Forty reads of registers of processor 0 of partition 1, of which the first four are RAX, from the first
-// element on.
+// Forty reads of registers of processor 0 of partition 1, starting at the first element. The first four are
+// RAX.
 const READ: Call<'static> = Call {
     vp: 1,
     rcx: 0x28_0000_0050,
@@ -73,8 +73,8 @@ fn read_on(rt: &impl Abort, alloc: Global, machine: &mut Machine<Global>) -> Res
     run(rt, alloc, machine, &DELETED)
 }
 
-// The processor of a rep call that goes on is deleted by another: the next element is denied, and counts
-// those before it.
+// Another processor deletes the one whose rep call continues. The next element is denied, and counts those
+// before it.
 #[test]
 fn a_deleted_processor_reads_no_further(rt: HostRuntime) -> Result<(), Fail> {
     let mut machine = boot(rt.alloc(), 2)?;
@@ -91,7 +91,7 @@ const CONNECTED: [(Call<'static>, Told); 3] = [
 
 const MADE_AGAIN: [(Call<'static>, Told); 2] = [(DELETE_PORT, Told::Served), (PORT, Told::Served)];
 
-// The births of port 5 of partition 2, and of the port to which the root's connection 7 goes.
+// The births of port 5 of partition 2, and of the port to which the root's connection 7 leads.
 fn births(machine: &Machine<Global>) -> Option<[u64; 2]> {
     let port = machine.tree().get(2)?.port(5)?;
     let connection = machine.tree().get(1)?.conn(7)?;
@@ -136,8 +136,8 @@ fn make_twice(rt: &impl Abort, alloc: Global, machine: &mut Machine<Global>) -> 
     Ok(())
 }
 
-// A port's birth is the count of served events after its making, and a connection keeps that of the port
-// that it was made to, also where another port has the id by then.
+// A port's birth is the count of served events after its creation. A connection keeps the birth of the port
+// to which it was made, even if another port has the id later.
 #[test]
 fn a_connection_keeps_the_birth_of_its_port(rt: HostRuntime) -> Result<(), Fail> {
     let mut machine = boot(rt.alloc(), 2)?;

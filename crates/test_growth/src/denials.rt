@@ -1,5 +1,5 @@
-// Steps of a machine with no memory to be had: a rule refuses as ever, and nothing but what is served then
-// needs memory. Beside it stands a machine that has memory, with the history of its events.
+// Steps of a machine that gets no memory. Rules refuse as ever, and only a served event needs memory. Beside
+// it, a machine with memory records the history of its events.
 
 use crate::partitions::look;
 use crate::rationed::Heap;
@@ -12,7 +12,7 @@ use std::alloc::AllocError;
 use std::process::Abort;
 use std::test::Fail;
 
-// Whether both have the same partition with this id, or both have none.
+// Whether both machines have the same partition with this id, or neither has one.
 fn has_alike(machine: &Machine<&Heap>, due: &Machine<&Heap>, id: u64) -> bool {
     let are_below = machine.tree().parent_of(id) == due.tree().parent_of(id);
     match (machine.tree().get(id), due.tree().get(id)) {
@@ -22,7 +22,7 @@ fn has_alike(machine: &Machine<&Heap>, due: &Machine<&Heap>, id: u64) -> bool {
     }
 }
 
-// Whether both served as many events, and have the same partitions.
+// Whether both machines have served the same number of events and have the same partitions.
 fn are_alike(machine: &Machine<&Heap>, due: &Machine<&Heap>) -> Result<bool, AllocError> {
     let (ids, due_ids) = (machine.tree().ids()?, due.tree().ids()?);
     let mut are_alike = ids.as_slice() == due_ids.as_slice();
@@ -33,8 +33,8 @@ fn are_alike(machine: &Machine<&Heap>, due: &Machine<&Heap>) -> Result<bool, All
     Ok(are_alike && counts == (due.served(), due.next_id()))
 }
 
-// Makes a step with no block, and where the host refuses it, as it must where it needs memory, again with
-// all. In between the machine is as it is due. Answers the reply, if all is so.
+// Steps with no block and, if the host refuses, as it must if the step needs memory, again with all. In
+// between, the machine must be unchanged. Returns the reply if all of that holds.
 fn step<'h>(
     heap: &Heap,
     machine: &mut Machine<&'h Heap>,
@@ -55,7 +55,7 @@ fn step<'h>(
     }
 }
 
-// Makes a step, and lets the event happen where there is memory. Whether it is told alike, and changes alike.
+// Steps, and applies the event to the machine with memory. Returns whether the replies and the changes agree.
 fn is_answered<'h>(
     heap: &Heap,
     machine: &mut Machine<&'h Heap>,

@@ -1,4 +1,4 @@
-// Calls, copies of what is handed in, and the history's room for it.
+// Calls, copies of events, and room for entries in the history.
 
 use crate::rationed::Heap;
 use crate::trial::{Answer, Told, Trial, answer_of, attempt};
@@ -34,7 +34,7 @@ pub(crate) fn call<'h>(
     Ok(Event { by: ROOT, what })
 }
 
-// Which copy is made of an event.
+// The copy that is made of an event.
 #[derive(Clone, Copy)]
 pub(crate) enum Copied {
     Bytes,
@@ -43,7 +43,7 @@ pub(crate) enum Copied {
     Event,
 }
 
-// What is copied: a call that differs from others in all that it has.
+// The event that is copied: a call that differs from others in everything that it has.
 const BY: Caller = Caller { part: 2, vp: 3 };
 
 const INPUT: [u8; 3] = [7, 8, 9];
@@ -78,7 +78,7 @@ fn is_event(event: &Event<&Heap>) -> bool {
     event.by == BY && is_action(&event.what)
 }
 
-// A copy is served where it has the values of what it was made of.
+// A copy is served if it has the values of its original.
 #[derive(Drop)]
 struct Copies<'h> {
     event: Event<&'h Heap>,
@@ -124,7 +124,7 @@ pub(crate) fn copy(heap: &Heap, copied: Copied, blocks: u64) -> Result<Told, All
     Ok(attempt(heap, &mut Copies { event, copied }, blocks))
 }
 
-// One entry, and room is wanted for a hundred more.
+// One entry, and a request for room for a hundred more.
 #[derive(Drop)]
 struct Entries<'h> {
     history: History<&'h Heap>,

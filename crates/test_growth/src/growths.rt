@@ -1,5 +1,5 @@
-// The calls that may take memory, and how many blocks each takes from where its trial begins. Each trial
-// compares the values that show: before the call, after a refusal, and once the call was served.
+// The calls that may take memory, and how many blocks each takes from the beginning of its trial. Each trial
+// compares the visible values before the call, after a refusal, and after the call was served.
 
 use crate::events::Copied;
 use crate::partitions::Room;
@@ -27,14 +27,14 @@ enum Growth {
     Partition,
     Room(Room),
     Root,
-    // The root of the tree has so many children.
+    // The root of the tree has this many children.
     Tree(Wanted, u64),
     Copy(Copied),
     Entries,
     Whole(Whole),
 }
 
-// Makes the call with so many blocks, and where it is refused then again with all.
+// Makes the call with this many blocks and, if it is refused, again with all.
 fn ask(heap: &Heap, growth: Growth, blocks: u64) -> Result<Told, AllocError> {
     match growth {
         Growth::Pages => pages::reserve(heap, blocks),
@@ -55,7 +55,7 @@ fn ask(heap: &Heap, growth: Growth, blocks: u64) -> Result<Told, AllocError> {
     }
 }
 
-// With so many blocks the call isn't refused, and with each lower number it is.
+// The call is not refused with this many blocks, and is refused with each lower number.
 fn assert_blocks(
     rt: &impl Abort,
     heap: &Heap,

@@ -1,6 +1,5 @@
-//! Each growth refused in turn: every call that may take memory is refused its first block, then its second,
-//! and so on until it succeeds. After each refusal the call is made again with memory, and is served. Tests
-//! only.
+//! Fault injection: every call that may take memory is refused its first block, then its second, and so on
+//! until it succeeds. After each refusal, the call is made again with memory, and is served. Tests only.
 #![tactic(auto)]
 
 #[cfg(test)]

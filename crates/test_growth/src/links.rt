@@ -56,7 +56,7 @@ struct Full<'r, 'h, R: Copy> {
     last: (u32, R),
 }
 
-// Whether the table has just these rows.
+// Whether the table has exactly these rows.
 fn has<R: Copy + PartialEq>(table: &Table<R, &Heap>, rows: &[(u32, R)]) -> bool {
     for (id, row) in rows {
         if table.find(*id) != Some(*row) {
@@ -83,7 +83,7 @@ impl<'r, 'h, R: Copy + PartialEq> Trial for Full<'r, 'h, R> {
         has(&self.table, self.rows) && !self.table.has_room()
     }
 
-    // The last row comes and goes.
+    // The last row is inserted and removed.
     fn is_after(&mut self) -> bool {
         let is_in = insert(&mut self.table, self.last);
         let removed = self.table.remove(self.last.0);

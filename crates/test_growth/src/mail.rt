@@ -28,7 +28,7 @@ fn are_zeros(bytes: &[u8]) -> bool {
     true
 }
 
-// Whether a slot shows the message with this byte, and that so many others wait, none or more.
+// Whether a slot shows the message with this byte, with `waits` as its flag for waiting messages.
 fn shows(slot: &[u8; 256], byte: u8, waits: u8) -> bool {
     let head = [1, 0, 0, 0, 1, waits, 0, 0, 5, 0, 0, 0, 0, 0, 0, 0, byte];
     &slot[..17] == head.as_slice() && are_zeros(&slot[17..])
@@ -63,7 +63,7 @@ pub(crate) fn reserve(heap: &Heap, blocks: u64) -> Told {
     attempt(heap, &mut Empty { mailbox }, blocks)
 }
 
-// Messages 2 and 3 fill the ring of SINT 2, and 3 stands in it before 2, where 1 stood.
+// Messages 2 and 3 fill the ring of SINT 2. In memory 3 comes before 2, in the place of message 1.
 #[derive(Drop)]
 struct Full<'h> {
     mailbox: Mailbox<&'h Heap>,
@@ -88,7 +88,7 @@ impl<'h> Trial for Full<'h> {
     }
 }
 
-// The shown message goes. Whether this one is shown then.
+// Clears the shown message. Returns whether this one is shown then.
 fn show_next(mailbox: &mut Mailbox<&Heap>, byte: u8, waits: u8) -> bool {
     mailbox.clear(2);
     mailbox.advance_all() == 1 << 2 && shows(&mailbox.slot(2), byte, waits)
@@ -139,7 +139,8 @@ impl<'h> Trial for Making<'h> {
     }
 }
 
-// Its index, the controller's register, that of SINT 0, and then what arrives.
+// Whether a processor is new: its index, the controller's register and that of SINT 0, and nothing has
+// arrived.
 fn is_new(vp: &mut Vp<&Heap>) -> bool {
     let registers = [
         vp.read_msr(0x4000_0002),
@@ -173,7 +174,7 @@ impl<'h> Trial for Ready<'h> {
     }
 
     fn is_after(&mut self) -> bool {
-        // The room is there where there is no block.
+        // There is room even without a block.
         self.heap.ration(0);
         let has_room = self.vp.reserve_message().is_ok();
         self.heap.lift();

@@ -5,7 +5,7 @@ use crate::trial::{Answer, Told, Trial, answer_of, attempt};
 use hv_pages::PageSet;
 use std::alloc::AllocError;
 
-// Whether the set has just these pages, of which no two are equal.
+// Whether the set has exactly these pages, all of them distinct.
 fn has(set: &PageSet<&Heap>, pages: &[u32]) -> bool {
     for page in pages {
         if !set.holds(*page) {
@@ -23,7 +23,7 @@ fn put(set: &mut PageSet<&Heap>, page: u32) -> bool {
     true
 }
 
-// Pages 3 and 5, and room for more changes is wanted than there is.
+// Pages 3 and 5, and a request for room for more changes than there is.
 #[derive(Drop)]
 struct Grown<'h> {
     set: PageSet<&'h Heap>,
@@ -45,7 +45,7 @@ impl<'h> Trial for Grown<'h> {
     }
 }
 
-// The lowest page goes and comes again, and one that isn't there doesn't go.
+// The lowest page is taken and put back, and a page that is not in the set is not taken.
 fn goes_on(set: &mut PageSet<&Heap>) -> bool {
     if set.room() < 1 || set.take(9) {
         return false;
@@ -65,7 +65,7 @@ pub(crate) fn reserve(heap: &Heap, blocks: u64) -> Result<Told, AllocError> {
     Ok(attempt(heap, &mut Grown { set, room, wanted }, blocks))
 }
 
-// Puts a run into an empty set with room for one change, where there are so many blocks.
+// Inserts a run into an empty set with room for one change, with this many blocks.
 fn run_of<'h>(heap: &'h Heap, blocks: u64) -> Result<PageSet<&'h Heap>, AllocError> {
     let mut set = PageSet::new(heap);
     set.reserve(1)?;

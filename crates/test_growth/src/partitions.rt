@@ -15,8 +15,8 @@ fn new_partition(heap: &Heap) -> Result<Partition<&Heap>, AllocError> {
     Partition::new(heap, Life::Active, Privileges::of(0xF7_0000_0044))
 }
 
-// What shows of a partition: its life state, mask and CPU weight, the lowest page of each kind, and how many
-// pages of each kind, processors, ports and connections it has.
+// What is visible of a partition: its life, mask and CPU weight, the lowest page of each kind, and the
+// numbers of its pages of each kind, processors, ports and connections.
 #[derive(Clone, Copy, PartialEq, Eq)]
 pub(crate) struct Seen {
     life: Life,
@@ -98,8 +98,8 @@ pub(crate) enum Room {
     Connections,
 }
 
-// A partition with no room for a processor, a port or a connection more. Of its pages more changes are wanted
-// than there is room for.
+// A partition with no room for another processor, port or connection, and a request for room for more changes
+// of its pages than there is.
 #[derive(Drop)]
 struct Full<'h> {
     heap: &'h Heap,
@@ -155,7 +155,7 @@ fn with_counts(vps: u32, ports: u32, conns: u32) -> Seen {
     }
 }
 
-// One more comes in, for which there is room and no block.
+// Adds one more, for which there is room but no block.
 fn add_last<'h>(
     heap: &'h Heap,
     made: &mut Partition<&'h Heap>,
@@ -187,7 +187,7 @@ fn has_links(made: &Partition<&Heap>) -> bool {
     true
 }
 
-// Whether the processors from 0 to 3 are there, each with its index.
+// Whether processors 0 to 3 exist, each with its index.
 fn has_processors(made: &Partition<&Heap>) -> bool {
     for index in 0..4u32 {
         let Some(vp) = made.vp(index) else {

@@ -1,20 +1,21 @@
-// An allocator that gives so many blocks and then refuses each further one.
+// An allocator that gives a number of blocks and then refuses every further one.
 
 use std::alloc::{AllocError, Allocator, Global};
 use std::cell::Cell;
 
-/// What the tests take their blocks from.
+/// The allocator from which the tests take their blocks.
 pub type Heap = Rationed<Global>;
 
-/// Another allocator's blocks, so many of them. A block that is given back doesn't count again, and to grow
-/// one is to take a new one.
+/// Limits another allocator to a number of blocks.
+///
+/// A block that is given back does not count again, and growing a block takes a new one.
 pub struct Rationed<B: Allocator> {
     inner: B,
     left: Cell<u64>,
 }
 
 impl<B: Allocator> Rationed<B> {
-    /// One with no ration, so that it refuses nothing that the other gives.
+    /// Creates an allocator without a limit: it refuses nothing that the other gives.
     pub fn new(inner: B) -> Rationed<B> {
         Rationed {
             inner,
@@ -22,17 +23,17 @@ impl<B: Allocator> Rationed<B> {
         }
     }
 
-    /// From now on it gives so many blocks, and no more.
+    /// Limits the allocator to this many further blocks.
     pub fn ration(&self, blocks: u64) {
         self.left.set(blocks);
     }
 
-    /// From now on it refuses nothing that the other gives.
+    /// Lifts the limit, so that the allocator refuses nothing that the other gives.
     pub fn lift(&self) {
         self.left.set(u64::MAX);
     }
 
-    /// The other allocator.
+    /// Returns the other allocator.
     pub fn inner(&self) -> B
     where
         B: Copy,
@@ -47,7 +48,7 @@ impl<B: Allocator> Drop for Rationed<B> {
     }
 }
 
-// Counts a block down, and says whether there was one left.
+// Takes one block from the ration, and returns whether one was left.
 fn spend(left: &Cell<u64>) -> bool {
     match left.get().checked_sub(1) {
         Some(fewer) => {

@@ -1,4 +1,4 @@
-// Events of a script that are let happen with few blocks.
+// Events of a script, applied with few blocks.
 
 use crate::rationed::Heap;
 use crate::rows::Row;
@@ -18,8 +18,8 @@ fn is_last(kept: &Kept<&Heap>, (number, reply): &(u64, Reply)) -> bool {
     is_told(&history.entry(length - 1), reply)
 }
 
-// Lets an event happen with so many blocks, and where it is refused its copy with all. In between all is as
-// before. Answers whether it was refused.
+// Applies an event with this many blocks and, if it is refused, its copy with all. In between, everything is
+// as before. Returns whether the event was refused.
 fn apply_again<'h>(
     rt: &impl Abort,
     heap: &Heap,
@@ -57,8 +57,8 @@ fn apply<'h>(
     Ok(apply_again(rt, heap, kept, both, blocks, &before)?)
 }
 
-// Lets all events happen, the one at a place with so many blocks. Either way the whole script is told as it
-// must be.
+// Applies all events, the one at a place with this many blocks. Either way, the whole script has the expected
+// texts.
 fn apply_all<'h>(
     rt: &impl Abort,
     heap: &Heap,
@@ -92,7 +92,7 @@ fn is_refused<'h>(
     apply_all(rt, heap, &mut kept, events, row, at)
 }
 
-// With as many blocks as its row says no event is refused, and with each lower number it is.
+// No event is refused with as many blocks as its row says, and each is refused with every lower number.
 pub(crate) fn assert_refusals<'h>(
     rt: &impl Abort,
     heap: &'h Heap,

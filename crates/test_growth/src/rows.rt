@@ -1,4 +1,4 @@
-// Scripts in which each event is refused its first block, then its second, and so on until it happens.
+// Scripts in which each event is refused its first block, then its second, and so on until it succeeds.
 
 use crate::denials::assert_denials;
 use crate::rationed::{Heap, Rationed};
@@ -7,16 +7,15 @@ use crate::texts::read;
 use std::process::Abort;
 use std::test::Fail;
 
-// A script of events, each element of a rep call for itself, with what its audit says and the table at its
-// end.
+// A script of events, where each element of a rep call is one, with its audit and the table at its end.
 #[derive(Clone, Copy)]
 pub(crate) struct Row {
     script: &'static [u8],
     pub(crate) audit: &'static str,
     pub(crate) table: &'static str,
-    // By the event, how many blocks it takes, its history's included.
+    // The number of blocks that each event takes, including those of its history.
     pub(crate) blocks: &'static [u64],
-    // The places of the events that take some for the machine itself.
+    // The places of the events that take blocks for the machine itself.
     pub(crate) wants: &'static [usize],
 }
 
@@ -61,7 +60,7 @@ pages 32
     wants: &[0],
 };
 
-// Four partitions are made, and for a fifth the pool is too small.
+// Four partitions are created, and the pool is too small for a fifth.
 const MADE: Row = Row {
     script: b"\
 boot 32 12 1 0x000000f700000044 1000
@@ -91,8 +90,8 @@ pages 32
     wants: &[0, 1, 2, 3],
 };
 
-// Two pages are deposited, and a page that is gone already is denied. The partition is deleted, and its
-// pages are loose again.
+// Two pages are deposited, and a page that is already gone is denied. The partition is deleted, and its pages
+// are loose again.
 const DEPOSITED: Row = Row {
     script: b"\
 boot 32 12 1 0x000000f700000044 1000
@@ -124,7 +123,7 @@ pages 32
     wants: &[0, 1],
 };
 
-// A page is deposited and withdrawn, and a second isn't there.
+// A page is deposited and withdrawn, and there is no second.
 const WITHDRAWN: Row = Row {
     script: b"\
 boot 32 12 1 0x000000f700000044 1000
@@ -149,8 +148,8 @@ pages 32
     wants: &[0, 1],
 };
 
-// All pages are pooled, so that the first page that is withdrawn needs memory. It goes to a partition that is
-// deleted, and comes back where it was.
+// All pages are pooled, so the first page that is withdrawn needs memory. It goes to a partition that is then
+// deleted, and returns to where it was.
 const POOLED: Row = Row {
     script: b"\
 boot 12 12 1 0x000000f700000044 1000
@@ -176,7 +175,7 @@ pages 12
     wants: &[0, 1, 2],
 };
 
-// A partition gets all that it needs to make a partition of its own, which is nothing to the root.
+// A partition gets all that it needs to create a partition of its own, which is no kin of the root.
 const GRANDCHILD: Row = Row {
     script: b"\
 boot 32 12 1 0x000000f700000044 1000
@@ -220,7 +219,8 @@ pages 32
     wants: &[0, 3, 9, 10],
 };
 
-// A message port and a connection to it are made, and the port is made again: the connection leads to none.
+// A message port and a connection to it are created, and the port is created again. The connection leads to
+// no port.
 const REMADE: Row = Row {
     script: b"\
 boot 32 12 1 0x000000f700000044 1000

@@ -1,4 +1,4 @@
-// Elements of a rep call that happen one after another, until there is no memory for the next.
+// Elements of a rep call, one after another, until there is no memory for the next.
 
 use crate::events::{ROOT, call, frame};
 use crate::rationed::{Heap, Rationed};
@@ -13,8 +13,8 @@ use std::alloc::AllocError;
 use std::process::Abort;
 use std::test::Fail;
 
-// A partition is made, the root asks who it is, and deposits three pages. The history grows for the fifth
-// event, which is the third page.
+// A partition is created, and the root asks for its own id and deposits three pages. The history grows for
+// the fifth event, which is the third page.
 const AUDIT: &str = "1 1.0 call 0000000000000040 ok 0000000000000000 0200000000000000
 2 1.0 call 0000000000000046 ok 0000000000000000 0100000000000000
 3 1.0 call 0000000300000048 more 0000000100000000 -
@@ -35,12 +35,12 @@ const DEPOSITED: [u8; 32] = [
     0,
 ];
 
-// The deposit from one of its elements on.
+// The deposit, starting at one of its elements.
 fn deposit(heap: &Heap, start: u32) -> Result<Frame<&Heap>, AllocError> {
     frame(heap, u64::from(start) << 48 | 0x3_0000_0048, &DEPOSITED)
 }
 
-// Whether just so many pages went, and the audit has the first two events and one for each of them.
+// Whether exactly this many pages moved, and the audit has the first two events and one for each page.
 fn has_gone(heap: &Heap, kept: &Kept<&Heap>, events: u32) -> Result<bool, PrintFault> {
     let mut told: Vec<u8> = Vec::new(heap.inner());
     audit(&mut told, kept)?;
@@ -59,8 +59,8 @@ fn has_gone(heap: &Heap, kept: &Kept<&Heap>, events: u32) -> Result<bool, PrintF
     Ok(is_cut && length == 2 + events as usize && pages == [20u64.saturating_sub(gone), gone])
 }
 
-// Runs the deposit with so many blocks, and where an element is refused goes on from it with all. Answers how
-// many elements happened before, if one was.
+// Runs the deposit with this many blocks and, if an element is refused, continues from it with all. Returns
+// the number of elements before the refused one, if there was one.
 fn run_on<'h>(
     rt: &impl Abort,
     heap: &'h Heap,
@@ -88,7 +88,7 @@ fn refusal_of(last: &Result<Reply, HostRefused>) -> Option<HostRefused> {
     }
 }
 
-// Whether it is served and puts nothing out.
+// Whether the last element is served and has no output.
 fn is_served(last: &Result<Reply, HostRefused>) -> bool {
     match last {
         Ok(Reply::Served(output)) => output.as_slice().is_empty(),
@@ -121,7 +121,7 @@ fn refused_after(rt: &impl Abort, heap: &Heap, blocks: u64) -> Result<Option<u32
     run_all(rt, heap, &mut kept, blocks)
 }
 
-// Each element may take blocks of its own. Where the third is refused, it leaves the two entries before it.
+// Each element may take blocks of its own. If the third is refused, the two entries before it remain.
 #[test]
 fn a_third_element_is_refused(rt: HostRuntime) -> Result<(), Fail> {
     let heap = Rationed::new(rt.alloc());

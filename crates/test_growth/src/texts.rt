@@ -1,4 +1,4 @@
-// Scripts that are read, and what is told of a run.
+// Scripts that are read, and the texts of a run.
 
 use crate::rationed::Heap;
 use hv_history::{EntryRef, Kept};
@@ -23,7 +23,7 @@ fn events_of<'h>(
     Ok(events)
 }
 
-// What a script boots, the most events that are kept, and its events.
+// Returns a script's boot configuration, the most events that its history may hold, and its events.
 pub(crate) fn read<'h>(
     heap: &'h Heap,
     text: &[u8],
@@ -36,7 +36,7 @@ pub(crate) fn read<'h>(
     Ok((config, limit, events_of(heap.inner(), lines)?))
 }
 
-// What shows of a machine with its history, in memory of another allocator.
+// What is visible of a machine with its history, in another allocator's memory.
 #[derive(Drop)]
 pub(crate) struct Texts {
     audit: Vec<u8>,
@@ -57,7 +57,7 @@ pub(crate) fn texts_of(alloc: Global, kept: &Kept<&Heap>) -> Result<Texts, Print
     Ok(texts)
 }
 
-// Whether just that shows.
+// Whether exactly that is visible.
 pub(crate) fn has_texts(alloc: Global, kept: &Kept<&Heap>, texts: &Texts) -> bool {
     let machine = kept.machine();
     let are_counts = machine.served() == texts.served && machine.next_id() == texts.next_id;
@@ -65,7 +65,7 @@ pub(crate) fn has_texts(alloc: Global, kept: &Kept<&Heap>, texts: &Texts) -> boo
     are_counts && is_audit && has_table(alloc, kept, texts.table.as_slice())
 }
 
-// Whether the audit, or the table, is written there, and is this text.
+// Whether the audit, or below the table, can be written and is this text.
 pub(crate) fn has_audit(alloc: Global, kept: &Kept<&Heap>, text: &[u8]) -> bool {
     let mut out: Vec<u8> = Vec::new(alloc);
     audit(&mut out, kept).is_ok() && out.as_slice() == text

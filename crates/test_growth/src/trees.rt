@@ -9,13 +9,13 @@ use std::alloc::AllocError;
 
 type Tree<'h> = IdTree<u64, &'h Heap>;
 
-// What the node with this id has. The root is 1.
+// The content of the node with this id. The root is 1.
 fn content_of(id: u64) -> u64 {
     !id
 }
 
-// Whether the tree has just the ids from 1 to the one before `next`, each with its content. All but 1 stand
-// below 1.
+// Whether the tree has exactly the ids from 1 to the one before `next`, each with its content. All but 1 are
+// children of 1.
 fn has_all(tree: &Tree<'_>, next: u64) -> bool {
     let Ok(ids) = tree.ids() else {
         return false;
@@ -70,7 +70,7 @@ pub(crate) fn make(heap: &Heap, blocks: u64) -> Told {
     attempt(heap, &mut Making { heap, made: None }, blocks)
 }
 
-// Whether a node has so few children that it may have one more.
+// Whether a node can have one more child.
 fn has_few(tree: &Tree<'_>, id: u64) -> bool
     ensures { IsTrue result → length (children tree.now id) < u32.MAX }
 {
@@ -99,7 +99,7 @@ fn reserve(tree: &mut Tree<'_>) -> Answer {
     }
 }
 
-// What a tree is asked for.
+// The request to a tree.
 #[derive(Clone, Copy)]
 pub(crate) enum Wanted {
     // Room for a child of 2.
@@ -144,7 +144,7 @@ impl<'h> Trial for Grown<'h> {
     }
 }
 
-// A child comes below 2 with one block, that of its node, which no contract shows.
+// Inserts a child of 2 with one block, that of its node, which no contract shows.
 fn has_room(heap: &Heap, tree: &mut Tree<'_>, id: u64) -> bool {
     let are_all = has_all(tree, id);
     heap.ration(1);
@@ -154,7 +154,7 @@ fn has_room(heap: &Heap, tree: &mut Tree<'_>, id: u64) -> bool {
     are_all && answer == Answer::Served && is_below
 }
 
-// Asks for it where the root has so many children.
+// Makes the request to a tree whose root has this many children.
 pub(crate) fn ask(
     heap: &Heap,
     wanted: Wanted,

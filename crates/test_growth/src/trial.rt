@@ -1,14 +1,14 @@
-// A call that is made with few blocks, and where it is refused then again with all.
+// A call that is made with few blocks and, if it is refused, again with all.
 
 use crate::rationed::Heap;
 use std::alloc::AllocError;
 
-// How a call is answered.
+// The answer to a call.
 #[derive(Clone, Copy, PartialEq, Eq)]
 pub(crate) enum Answer {
     Served,
     Memory,
-    // As it may never be.
+    // An answer that must never come.
     Wrong,
 }
 
@@ -23,23 +23,24 @@ pub(crate) fn answer_of(told: Result<(), AllocError>) -> Answer {
 pub(crate) trait Trial {
     fn call(&mut self) -> Answer;
 
-    // Whether all has the values that it has before the call.
+    // Whether everything has the values that it has before the call.
     fn is_before(&mut self) -> bool;
 
-    // Whether all has the values that it must have once the call was served, and does what it must then.
+    // Whether everything has the expected values after the served call, and then works.
     fn is_after(&mut self) -> bool;
 }
 
-// What a trial came to.
+// The outcome of a trial.
 #[derive(Clone, Copy, PartialEq, Eq)]
 pub(crate) struct Told {
-    // Whether the call was refused its memory.
+    // Whether the call was refused memory.
     pub(crate) refused: bool,
-    // Whether it was served in the end, and all was as it must be before, after the refusal and after that.
+    // Whether the call was served in the end, and everything was as expected before it, after the refusal and
+    // at the end.
     pub(crate) is_right: bool,
 }
 
-// Makes the call again with memory. Whether it is served, and all was as before.
+// Makes the call again with memory. Returns whether everything was as before, and the call is served.
 fn is_served_again<T: Trial>(trial: &mut T) -> bool {
     trial.is_before() && trial.call() == Answer::Served
 }

@@ -1,4 +1,4 @@
-// What is booted, read and printed.
+// Machines that are booted, scripts that are read and tables that are printed.
 
 use crate::rationed::Heap;
 use crate::texts::has_table;
@@ -22,7 +22,7 @@ partition 1 parent - Active mask 000000f700000044 loose 20 pooled 12 inuse 4 vps
 pages 32
 ";
 
-// A machine that keeps 1,000 events.
+// A machine whose history may hold 1,000 events.
 pub(crate) fn boot(heap: &Heap) -> Result<Kept<&Heap>, BootRefused> {
     Kept::boot(heap, config(), 1000)
 }
@@ -74,7 +74,7 @@ impl<'h> Trial for Booting<'h> {
     }
 }
 
-// Nothing was served, and the root is alone.
+// Whether no event was served and the root is the only partition.
 fn is_booted(machine: &Machine<&Heap>) -> bool {
     let tree = machine.tree();
     let is_alone = tree.contains(1) && tree.parent_of(1) == None && tree.children_of(1) == Some(0);
@@ -172,7 +172,7 @@ fn is_access(line: &Line<&Heap>) -> bool {
     line.phase == 1 && line.by == Caller { part: 2, vp: 1 } && is_read
 }
 
-// A machine to which nothing happened.
+// A machine to which nothing has happened.
 #[derive(Drop)]
 struct Printing<'h> {
     heap: &'h Heap,
@@ -199,7 +199,7 @@ impl<'h> Trial for Printing<'h> {
     }
 }
 
-// What is made whole, or told.
+// The thing that is made, read or printed.
 #[derive(Clone, Copy)]
 pub(crate) enum Whole {
     Machine,

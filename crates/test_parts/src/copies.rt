@@ -1,11 +1,11 @@
-// An event is copied whole, with its action, its frame and its input list, and a list is a vector again.
+// A copy of an event has its action, its frame and its input list. An input list becomes a vector again.
 
 use hv_abi::{Bytes, Frame};
 use hv_policy::{Action, Caller, Event};
 use std::alloc::{AllocError, Global};
 use std::test::Fail;
 
-// Between them the first two registers have each bit set once, and the third has all.
+// Each bit is set in exactly one of the first two registers. The third register has all bits set.
 const RCX: u64 = 0xFEDC_BA98_7654_3210;
 
 const RDX: u64 = 0x0123_4567_89AB_CDEF;
@@ -48,7 +48,7 @@ fn is_whole(event: &Event<Global>) -> bool {
         && frame.input.as_slice() == INPUT.as_slice()
 }
 
-// The copy is whole, and what it was made of stays so.
+// The copy is complete, and the original is unchanged.
 #[test]
 fn an_event_is_copied(rt: HostRuntime) -> Result<(), Fail> {
     let event = event(rt.alloc())?;

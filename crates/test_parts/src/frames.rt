@@ -4,7 +4,7 @@ use hv_abi::{Bytes, Frame};
 use std::alloc::{AllocError, Global};
 use std::test::Fail;
 
-// HvDeletePort, and as a fast call.
+// HvDeletePort, with a list and as a fast call.
 const LISTED: u64 = 0x58;
 
 const FAST: u64 = 0x1_0058;
@@ -14,7 +14,7 @@ const LIST: [u8; 18] = [
     0xFF, 0x80,
 ];
 
-// The bytes of RDX and of R8, the lowest first.
+// The bytes of RDX and of R8, lowest first.
 const REGISTERS: [u8; 16] = [
     0x08, 0x34, 0x56, 0x78, 0x9A, 0xBC, 0xDE, 0xF0, 0xEF, 0xCD, 0xAB, 0x89, 0x67, 0x45, 0x23, 0x01,
 ];
@@ -29,7 +29,7 @@ fn frame(alloc: Global, rcx: u64) -> Result<Frame<Global>, AllocError> {
     })
 }
 
-// Whether these are the bytes of the input, and zeros follow.
+// Whether the input has these bytes, followed by zeros.
 fn has_bytes(frame: &Frame<Global>, bytes: &[u8]) -> bool {
     let Ok(shape) = frame.check() else {
         return false;

@@ -1,8 +1,8 @@
-// A root with 300 children, each with 10 children of its own: made in no order, looked at, and taken out
+// A root with 300 children, each with 10 children of its own: inserted out of order, inspected, and removed
 // leaf by leaf.
 //
-// The root is 1, its children 2 to 301, and the ten below the n-th of them 302 + 10 n to 311 + 10 n. Each
-// content is its node's id with all bits turned.
+// The root is 1, its children are 2 to 301, and the ten children of the n-th of them are 302 + 10 n to 311 +
+// 10 n. The content of each node is its id with all bits flipped.
 
 use crate::tree::has_few;
 use hv_tree::IdTree;
@@ -50,8 +50,8 @@ fn look_at_ids(rt: &impl Abort, tree: &IdTree<u64, Global>) -> Result<(), Fail> 
     Ok(())
 }
 
-// Where a node stands: its parent, its depth, and its first child after this id; then how many children
-// it has.
+// The position of a node: its parent, its depth, and its first child after this id; then its number of
+// children.
 fn place_of(tree: &IdTree<u64, Global>, id: u64, after: u64) -> ([Option<u64>; 3], Option<u32>) {
     let ids = [
         tree.parent_of(id),
@@ -93,7 +93,7 @@ fn look_at_leaves(rt: &impl Abort, tree: &IdTree<u64, Global>) {
     }
 }
 
-// A node goes when the last below it is gone.
+// Removes each node once the last one below it is gone.
 fn fell(rt: &impl Abort, tree: &mut IdTree<u64, Global>) {
     for at in 0..3000u64 {
         let (above, leaf) = (2 + at / 10, 302 + at);

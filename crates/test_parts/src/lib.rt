@@ -1,5 +1,5 @@
-//! The public calls of the parts that no other crate makes, each run once with values from outside, and three
-//! trees. Tests only.
+//! Public functions that no other crate calls, each run once with values from outside, and three trees. Tests
+//! only.
 #![tactic(auto)]
 
 #[cfg(test)]

@@ -18,7 +18,7 @@ fn message(kind: u32) -> Message {
     }
 }
 
-// Posts a message at each of the SINTs, and answers whether each is shown as it must be.
+// Posts a message at each of the SINTs, and returns whether each is shown as expected.
 fn post_all(mailbox: &mut Mailbox<Global>, posts: &[(u8, u32, bool)]) -> Result<bool, AllocError> {
     let mut are_right = true;
     for (sint, kind, shown) in posts {
@@ -44,8 +44,8 @@ fn clear_all(mailbox: &mut Mailbox<Global>) {
     }
 }
 
-// The type, the payload's size, whether another waits, and the port, each of them little-endian, and then
-// the payload.
+// The type, the payload's size, whether another message waits, and the port, each little-endian, and then the
+// payload.
 const SHOWN_AT_2: [u8; 18] = [
     0x78, 0x56, 0x34, 0x12, 2, 0, 0, 0, 0x21, 0x43, 0x65, 0, 0, 0, 0, 0, 0xA5, 0xC3,
 ];

@@ -4,7 +4,7 @@ use hv_pages::PageSet;
 use std::alloc::{AllocError, Global};
 use std::test::Fail;
 
-// Puts pages in, and answers whether there was room for each, and none was held.
+// Inserts pages, and returns whether there was room for each and none was in the set.
 fn put_all(set: &mut PageSet<Global>, pages: &[u32]) -> bool {
     for page in pages {
         if set.room() < 1 || set.holds(*page) {
@@ -15,7 +15,7 @@ fn put_all(set: &mut PageSet<Global>, pages: &[u32]) -> bool {
     true
 }
 
-// Whether the set gives just these pages, the lowest first.
+// Whether the set yields exactly these pages, lowest first.
 fn gives(set: &mut PageSet<Global>, pages: &[u32]) -> bool {
     for page in pages {
         if set.take_lowest() != Some(*page) {
@@ -46,7 +46,7 @@ fn pages_join_and_part(rt: HostRuntime) -> Result<(), Fail> {
     Ok(())
 }
 
-// Of two pages the lowest goes and comes again.
+// The lower of two pages is taken and put back.
 fn take_and_put(set: &mut PageSet<Global>) -> Result<bool, AllocError> {
     set.reserve(2)?;
     let put = put_all(set, &[5, 3]);
@@ -66,7 +66,7 @@ fn a_page_goes_and_comes_again(rt: HostRuntime) -> Result<(), Fail> {
     Ok(())
 }
 
-// Runs of pages: the first page, and how many they are.
+// Runs of pages: the first page, and the number of pages.
 const RUNS: [(u32, u64); 4] = [
     (0, 65_536),
     (7, 1),
@@ -74,7 +74,7 @@ const RUNS: [(u32, u64); 4] = [
     (0, 0x1_0000_0000),
 ];
 
-// Puts a run into an empty set, with room for one change. Another set takes it over and gives its lowest
+// Inserts a run into an empty set, with room for one change. Another set takes it over and yields its lowest
 // page.
 fn put_run(alloc: Global, start: u32, length: u64) -> Result<bool, AllocError> {
     if length < 1 || length > 0x1_0000_0000 - u64::from(start) {
@@ -115,9 +115,9 @@ enum Change {
     Take,
 }
 
-// 601 pages that lie apart come, in several blocks. Then most go, and others come and join what is left. Each
-// row: the change, `from` and `every` of the pages that are `from` more than a multiple of `every`, and
-// `step`: pages take turns in the order of its multiples.
+// 601 isolated pages are inserted, in several blocks. Then most are removed, and others are inserted and join
+// the rest. Each row has the change; `from` and `every`, which select the pages that are `from` more than a
+// multiple of `every`; and `step`: the pages come in the order of its multiples.
 const PASSES: [(Change, u32, u32, u32); 6] = [
     (Change::Put, 0, 2, 7),
     (Change::Take, 0, 4, 5),
@@ -127,7 +127,7 @@ const PASSES: [(Change, u32, u32, u32); 6] = [
     (Change::Put, 3, 6, 1200),
 ];
 
-// A page comes or goes, and the plain set says whether it was there.
+// Inserts or removes a page. The plain set says whether it was there.
 fn make_change(
     set: &mut PageSet<Global>,
     held: &mut [bool],
@@ -171,7 +171,7 @@ fn run_pass(
     Ok(true)
 }
 
-// Whether the set has just the pages of the plain set.
+// Whether the set has exactly the pages of the plain set.
 fn agrees(set: &PageSet<Global>, held: &[bool]) -> bool {
     let mut count = 0_u64;
     for page in 0..PAGES {
@@ -186,7 +186,7 @@ fn agrees(set: &PageSet<Global>, held: &[bool]) -> bool {
     set.count() == count
 }
 
-// Whether the set gives the pages of the plain set, the lowest first.
+// Whether the set yields the pages of the plain set, lowest first.
 fn empties(set: &mut PageSet<Global>, held: &[bool]) -> bool {
     for page in 0..PAGES {
         let is_held = held.get(page as usize) == Some(&true);

@@ -1,9 +1,9 @@
-// Two twin subtrees of 300 nodes below a root, seven deep below their tops: an edit of one changes its own
-// contents and nothing else, and all are taken out leaf by leaf.
+// Two equal subtrees of 300 nodes below a root, each with seven levels below its top. An edit of one changes
+// only its own contents, and all nodes are removed leaf by leaf.
 //
-// The root is 1. Even ids from 2 to 600 are the one twin's, odd ones from 3 to 601 the other's. The tops are
-// 2 and 3, the next 43 of a twin stand below its top, and each other one below the 43rd before it. Each
-// content is its node's id with all bits turned.
+// The root is 1. The even ids from 2 to 600 form one subtree, the odd ids from 3 to 601 the other. The tops
+// are 2 and 3. The next 43 nodes of a subtree are children of its top, and each later node is a child of the
+// 43rd node before it. The content of each node is its id with all bits flipped.
 ghost use Rattle.std.specs.Prelude.{◌<◌, IsTrue, bit_and, length};
 ghost use Rattle.hv_tree.specs.Rows.{children};
 
@@ -12,7 +12,7 @@ use std::alloc::{AllocError, Global};
 use std::process::Abort;
 use std::test::Fail;
 
-// Leaves the bits of a content that the mask has.
+// Keeps the bits of a content that the mask has.
 struct Narrow {
     mask: u64,
 }
@@ -35,7 +35,7 @@ fn above(id: u64) -> u64 {
     }
 }
 
-// Whether a node, if it is there, has so few children that it may have one more.
+// Whether a node, if it exists, can have one more child.
 pub(crate) fn has_few(tree: &IdTree<u64, Global>, id: u64) -> bool
     ensures { IsTrue result → length (children tree.now id) < u32.MAX }
 {
@@ -74,7 +74,7 @@ fn are_numbered(tree: &IdTree<u64, Global>) -> Result<bool, AllocError> {
     Ok(wanted == 602)
 }
 
-// What can't be done hands back what it was given.
+// A refused insertion returns its content.
 fn is_refused(rt: &impl Abort, tree: &mut IdTree<u64, Global>) -> bool {
     let taken = insert(rt, tree, 1, 2);
     let lone = insert(rt, tree, 602, 700);
@@ -83,7 +83,7 @@ fn is_refused(rt: &impl Abort, tree: &mut IdTree<u64, Global>) -> bool {
         && tree.reserve_child(602) == Err(ReserveRefused::NoParent)
 }
 
-// The last content that was looked at to be changed is edited with the others.
+// The content that was last borrowed to be changed is edited with the others.
 fn edit(tree: &mut IdTree<u64, Global>) -> bool {
     if let Some(content) = tree.get_mut(600) {
         *content = !600;
@@ -96,7 +96,7 @@ fn edit(tree: &mut IdTree<u64, Global>) -> bool {
     told == [true, true, false]
 }
 
-// What a node has after the edit. 9 and those below it are 86 apart.
+// The content of a node after the edit. Node 9 and those below it are 86 apart.
 fn content_of(id: u64) -> u64 {
     if id % 2 == 0 {
         !id & 0xFFFF
@@ -107,7 +107,7 @@ fn content_of(id: u64) -> u64 {
     }
 }
 
-// Whether each node stands where it was made, with its content after the edit.
+// Whether each node is where it was inserted, with its content after the edit.
 fn all_stand(tree: &IdTree<u64, Global>) -> bool {
     for id in 2..602u64 {
         let content = tree.get(id).copied();
@@ -118,7 +118,7 @@ fn all_stand(tree: &IdTree<u64, Global>) -> bool {
     tree.get(1).copied() == Some(!1) && tree.parent_of(1) == None && tree.depth_of(600) == Some(8)
 }
 
-// Whether each node gives its content back as soon as it is a leaf, the last one first.
+// Whether each node returns its content as soon as it is a leaf, last node first.
 fn is_felled(tree: &mut IdTree<u64, Global>) -> bool {
     for id in (2..602u64).rev() {
         let taken = [tree.remove_leaf(above(id)), tree.remove_leaf(id)];

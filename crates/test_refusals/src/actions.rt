@@ -1,4 +1,4 @@
-// What the processors ask for, and what they must have.
+// The actions of the processors, and what they must have.
 
 use crate::ended::{Fault, must};
 use hv_abi::{Bytes, Frame};
@@ -24,7 +24,7 @@ pub(crate) fn two_actions(alloc: Global) -> Result<Vec<Action<Global>>, Fault> {
     Ok(actions)
 }
 
-// Whether they are those two.
+// Whether the actions are these two.
 pub(crate) fn are_the_two(actions: &[Action<Global>]) -> bool {
     match actions {
         [Action::Hypercall(frame), Action::ReadMsr(0x4000_0084)] => {
@@ -35,13 +35,13 @@ pub(crate) fn are_the_two(actions: &[Action<Global>]) -> bool {
     }
 }
 
-// Makes a partition.
+// Creates a partition.
 pub(crate) fn create(alloc: Global) -> Result<Action<Global>, Fault> {
     let input = vec![in alloc; 0u8; 8]?;
     Ok(Action::Hypercall(call(0x40, input)))
 }
 
-// How many elements `forty_reads` asks for.
+// The number of elements of `forty_reads`.
 pub(crate) const FORTY: u16 = 40;
 
 // Reads RAX of processor 1 of the root forty times.
@@ -55,7 +55,7 @@ pub(crate) fn forty_reads(alloc: Global) -> Result<Frame<Global>, Fault> {
     Ok(call(0x28_0000_0050, input))
 }
 
-// The pass has so many receipts, and these more.
+// Checks that the pass has this many receipts, and `more` besides.
 pub(crate) fn must_have<L: Ledger>(
     pass: &Pass<L>,
     receipts: usize,
@@ -65,18 +65,18 @@ pub(crate) fn must_have<L: Ledger>(
     must(gained == Some(usize::from(more)), Fault::Receipts)
 }
 
-// There is room for a receipt.
+// Checks that there is room for a receipt.
 pub(crate) fn must_have_room<L: Ledger>(pass: &Pass<L>) -> Result<(), Fault> {
     must(pass.room() > 0, Fault::Room)
 }
 
-// The reply has this answer and this output.
+// Checks that the reply has this answer and this output.
 pub(crate) fn must_be(reply: &Reply, answer: Answer, output: &[u8]) -> Result<(), Fault> {
     let (told, bytes) = reply.parts();
     must(told == answer && bytes == output, Fault::Reply)
 }
 
-// The receipt at a place has this answer and this output. Answers its number.
+// Checks that the receipt at a place has this answer and this output. Returns its number.
 pub(crate) fn told_at<L: Ledger>(
     pass: &Pass<L>,
     place: usize,

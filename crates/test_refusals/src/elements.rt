@@ -1,4 +1,5 @@
-// A call of forty elements, for 16 of which the lock is taken once, and room for the receipts of many more.
+// A call of forty elements, with one critical section for each 16 of them, and room for the receipts of many
+// more.
 
 use crate::actions::{FORTY, forty_reads, must_have_room, told_at};
 use crate::ended::{Fault, Refusal, Side, must};
@@ -11,15 +12,15 @@ use std::alloc::Global;
 use std::sync::Wait;
 use std::sync::ledger::Ledger;
 
-// How many holds forty elements take, and how many elements one of them has.
+// The number of holds of forty elements, and the number of elements in one of them.
 const HOLDS: u64 = 3;
 
 const IN_A_HOLD: u16 = 16;
 
-// What an element reads: RAX, which nobody wrote, and zeros.
+// The output of an element: RAX, which has never been written, and zeros.
 const READ: [u8; 16] = [0; 16];
 
-// All forty elements were served.
+// Whether all forty elements were served.
 fn is_whole(told: &Result<(ResultValue, Reply), DriveRefused>) -> bool {
     match told {
         Ok((value, Reply::Served(output))) => {
@@ -29,8 +30,8 @@ fn is_whole(told: &Result<(ResultValue, Reply), DriveRefused>) -> bool {
     }
 }
 
-// Behind its receipt of a partition that was made, the pass has those of so many elements. They are the fifth
-// event and the ones behind it.
+// Checks that the pass has the receipts of this many elements, after the one of the partition that was
+// created. They start at the fifth event.
 fn must_tell_reads<L: Ledger>(pass: &Pass<L>, elements: u16) -> Result<(), Fault> {
     must(
         pass.receipts().len() == 1 + usize::from(elements),
@@ -50,8 +51,8 @@ fn must_tell_reads<L: Ledger>(pass: &Pass<L>, elements: u16) -> Result<(), Fault
     Ok(())
 }
 
-// On which side of the gate an element was refused. The room for a hold is made before the gate, so that an
-// element in the middle of one is refused behind it.
+// The side of the gate on which an element was refused. Room for a hold is made before the gate, so an
+// element in the middle of a hold is refused behind it.
 fn refused_at<L: Ledger>(gate: &Count, pass: &Pass<L>, element: u16) -> Result<Side, Fault> {
     let side = gate.side_after(u64::from(element / IN_A_HOLD))?;
     match side {
@@ -61,7 +62,7 @@ fn refused_at<L: Ledger>(gate: &Count, pass: &Pass<L>, element: u16) -> Result<S
     Ok(side)
 }
 
-// The elements of the call from this one on.
+// The rest of the call, starting at this element.
 fn rest_from(alloc: Global, element: u16) -> Result<Frame<Global>, Fault> {
     if element >= FORTY {
         return Err(Fault::Element);
@@ -69,8 +70,8 @@ fn rest_from(alloc: Global, element: u16) -> Result<Frame<Global>, Fault> {
     Ok(forty_reads(alloc)?.with_start(element))
 }
 
-// Drives the call to its end. If an element is refused, the ones before it have their receipts, and it goes
-// on with that one.
+// Drives the call to its end. If an element is refused, the ones before it have their receipts, and the call
+// continues with the refused one.
 pub(crate) fn try_drive<L: Ledger, R: Wait>(
     rt: &R,
     alloc: Global,
@@ -116,7 +117,7 @@ fn has_made_room<L: Ledger>(pass: &mut Pass<L>) -> bool {
     pass.reserve(MANY).is_ok() && pass.room() >= MANY
 }
 
-// Makes room for many receipts. If there is no memory for it, the forty-one receipts stay, and it is made
+// Makes room for many receipts. If there is no memory for it, the forty-one receipts remain, and room is made
 // again.
 pub(crate) fn try_reserve<L: Ledger>(pass: &mut Pass<L>) -> Result<Option<Refusal>, Fault> {
     must(pass.room() < MANY, Fault::Room)?;

@@ -1,11 +1,11 @@
-// What the trials end with: which of them was refused, or what wasn't as it must be.
+// The outcome of the trials: the one that was refused, or what is not as expected.
 
 use hv_history::Kept;
 use hv_machine::BootRefused;
 use std::alloc::{AllocError, AllocFailed, Global};
 use thiserror::Error;
 
-// Where a hold was refused: the gate was told of it or not.
+// Whether a hold was refused before the gate was entered, or behind it.
 #[derive(Clone, Copy, PartialEq, Eq, Debug, Error)]
 pub(crate) enum Side {
     #[error("before the gate")]
@@ -14,7 +14,7 @@ pub(crate) enum Side {
     Behind,
 }
 
-// What was refused, and was then made again with memory.
+// The call that was refused, and was then made again with memory.
 #[derive(Clone, Copy, PartialEq, Eq, Debug, Error)]
 pub(crate) enum Refusal {
     #[error("new: the machine came back")]
@@ -35,7 +35,7 @@ pub(crate) enum Refusal {
     Words,
 }
 
-// What isn't as it must be.
+// The expectation that does not hold.
 #[derive(Clone, Copy, PartialEq, Eq, Debug, Error)]
 pub(crate) enum Fault {
     #[error("memory")]
@@ -77,7 +77,7 @@ pub(crate) enum Fault {
 }
 
 impl Fault {
-    // The exit status: 3 for a out of memory where there is no trial, and else 1.
+    // The exit status: 3 for out of memory outside a trial, and 1 otherwise.
     pub(crate) fn status(self) -> u8 {
         if self == Fault::Memory { 3 } else { 1 }
     }
@@ -104,14 +104,14 @@ impl From<BootRefused> for Fault {
     }
 }
 
-// The machine with its history after all trials, and which of them was refused.
+// The machine with its history after all trials, and the one that was refused.
 #[derive(Drop)]
 pub(crate) struct Ended {
     pub(crate) kept: Kept<Global>,
     pub(crate) refusal: Option<Refusal>,
 }
 
-// This fault, if something doesn't hold.
+// Returns this fault if something does not hold.
 pub(crate) fn must(holds: bool, fault: Fault) -> Result<(), Fault> {
     if holds { Ok(()) } else { Err(fault) }
 }

@@ -6,7 +6,7 @@ use hv_threads::Gate;
 use std::sync::Wait;
 use std::sync::atomic::{AtomicU64, Ordering};
 
-// Counts how often it was entered and left.
+// Counts how often it is entered and left.
 #[derive(Drop)]
 pub(crate) struct Count {
     entered: AtomicU64,
@@ -21,19 +21,19 @@ impl Count {
         }
     }
 
-    // Of how many holds it was told, of both ends of each.
+    // Returns the number of holds, if it was both entered and left for each.
     fn holds(&self) -> Result<u64, Fault> {
         let entered = self.entered.load(Ordering::SeqCst);
         must(self.left.load(Ordering::SeqCst) == entered, Fault::Holds)?;
         Ok(entered)
     }
 
-    // It was told of so many.
+    // Checks that there were this many holds.
     pub(crate) fn must_have(&self, holds: u64) -> Result<(), Fault> {
         must(self.holds()? == holds, Fault::Holds)
     }
 
-    // On which side of it a hold was refused, where it was told of so many others.
+    // The side of the gate on which a hold was refused, given the number of other holds.
     pub(crate) fn side_after(&self, others: u64) -> Result<Side, Fault> {
         match self.holds()?.checked_sub(others) {
             Some(0) => Ok(Side::Before),

@@ -1,12 +1,11 @@
-//! Out of memory where it is the process's own, so that no allocator that refuses can be handed in: at a new
-//! lock, at a phase of two threads, at calls, at room for receipts, and at the words of a command line. A
-//! program of tests, which takes a few milliseconds.
+//! A test program for out of memory in the process's own allocator, where no allocator that refuses can be
+//! passed in: at a new lock, at a phase of two threads, at calls, at room for receipts, and at the words of a
+//! command line. It takes a few milliseconds.
 //!
-//! `.ci/growth` runs it again and again, and another block of its memory is refused each time. A trial that
-//! is refused looks at all that must be as it was, and goes on with memory, so that what stands at the end
-//! is the same, whatever was refused. Printed are the refusal, if a trial saw one, how many events
-//! happened, and the table. The status is 3 where a block was refused that isn't a trial's, and 1 where
-//! something isn't as it must be.
+//! `.ci/growth` runs it again and again, and each time another block of its memory is refused. A trial that
+//! is refused checks that nothing has changed, and continues with memory, so the final state does not depend
+//! on the refusal. The output is the refusal, if a trial saw one, the number of events, and the table. The
+//! status is 3 if a block outside a trial was refused, and 1 if something is not as expected.
 #![tactic(auto)]
 
 mod actions;

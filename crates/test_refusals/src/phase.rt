@@ -11,7 +11,7 @@ use std::sync::Wait;
 use std::sync::ledger::Ledger;
 use std::thread::Threads;
 
-// Where a work was stopped: the place of its pass, and how many of its actions came to their end.
+// Where a work was stopped: the place of its pass, and the number of its actions that reached their end.
 #[derive(Clone, Copy)]
 struct Stop {
     place: usize,
@@ -31,9 +31,9 @@ pub(crate) fn works_of<L: Ledger>(
     Ok(works)
 }
 
-// Lets the works be done in threads. Nobody has a receipt before, and everybody has two then. If there is no
-// memory for the phase, all work comes back as it was, and is done in another one. If there is none for an
-// event, its work is stopped, and the other comes to its end.
+// Performs the works in threads. No pass has a receipt before, and each has two after. If there is no memory
+// for the phase, all work is returned unchanged and performed in another phase. If there is none for an
+// event, its work is stopped, and the other reaches its end.
 pub(crate) fn try_phase<L: Ledger + Send + Sync, R: Threads + Wait + Sync>(
     rt: &R,
     alloc: Global,
@@ -68,12 +68,12 @@ fn begin_again<L: Ledger + Send + Sync, R: Threads + Wait + Sync>(
     }
 }
 
-// The phase is that of processors 2 and 3.
+// Whether the pass is the one of its place: processor 2 is first, and processor 3 second.
 fn is_at<L: Ledger>(pass: &Pass<L>, place: usize) -> bool {
     pass.caller().vp == if place == 0 { 2 } else { 3 }
 }
 
-// Both works are as they were, in their order.
+// Checks that both works are unchanged, in their order.
 fn are_untouched<L: Ledger>(works: &[Work<L>]) -> Result<(), Fault> {
     must(works.len() == 2, Fault::Works)?;
     for (place, work) in works.iter().enumerate() {
@@ -84,7 +84,7 @@ fn are_untouched<L: Ledger>(works: &[Work<L>]) -> Result<(), Fault> {
     Ok(())
 }
 
-// How far a work came, which has a receipt of each action that came to its end.
+// Whether a work was stopped. Each action that reached its end has a receipt.
 fn is_stopped<L: Ledger>(done: &Done<L>) -> Result<bool, Fault> {
     must(
         done.pass.receipts().len() as u64 == done.done,
@@ -128,7 +128,7 @@ fn passes_of<L: Ledger>(alloc: Global, dones: Vec<Done<L>>) -> Result<Vec<Pass<L
     Ok(passes)
 }
 
-// Lets the work that was stopped, if one was, come to its end.
+// Brings the work that was stopped, if one was, to its end.
 fn go_on<L: Ledger, R: Wait>(
     rt: &R,
     alloc: Global,
@@ -175,8 +175,8 @@ fn finish<L: Ledger, R: Wait>(
     Ok(Refusal::Work)
 }
 
-// Each of the two processors was told its partition's id, and then what the register has. Theirs are the last
-// four events.
+// Checks that each of the two processors got its partition's id, and then the register's value. Their events
+// are the last four.
 pub(crate) fn must_be_told<L: Ledger>(passes: &[Pass<L>]) -> Result<(), Fault> {
     must(passes.len() == 2, Fault::Passes)?;
     for (place, pass) in passes.iter().enumerate() {

@@ -11,8 +11,8 @@ use std::alloc::Global;
 use std::sync::Wait;
 use std::sync::ledger::Ledger;
 
-// Makes a partition, or asks for one. If there is no memory, it leaves no receipt, and is made again. Answers
-// the reply, and on which side of the gate it was refused, if it was.
+// Creates a partition, or requests one. If there is no memory, the call leaves no receipt and is made again.
+// Returns the reply and, if the call was refused, the side of the gate.
 fn make<L: Ledger, R: Wait>(
     rt: &R,
     alloc: Global,
@@ -37,7 +37,8 @@ fn make<L: Ledger, R: Wait>(
     }
 }
 
-// On which side of the gate the call was refused, for lack of memory. Before it room for a receipt is made.
+// The side of the gate on which the call was refused for lack of memory. Before the gate, room for a receipt
+// is made.
 fn refused_at<L: Ledger>(gate: &Count, pass: &Pass<L>, why: HostRefused) -> Result<Side, Fault> {
     must(why == HostRefused::Memory, Fault::Reason)?;
     let side = gate.side_after(0)?;
@@ -59,7 +60,7 @@ fn make_again<L: Ledger, R: Wait>(
     }
 }
 
-// Makes a partition.
+// Creates a partition.
 pub(crate) fn try_call<L: Ledger, R: Wait>(
     rt: &R,
     alloc: Global,
@@ -73,19 +74,19 @@ pub(crate) fn try_call<L: Ledger, R: Wait>(
     Ok(side.map(Refusal::Call))
 }
 
-// How often a call is denied until there is room for another receipt and another entry of it.
+// The number of denials until there is room for another receipt and another entry.
 const TIMES: u32 = 2;
 
-// How it is denied.
+// The answer that denies it.
 const DENIED: Answer = Answer::Denied {
     rule: Rule::Pages,
     status: Status::InsufficientMemory,
     reps: 0,
 };
 
-// Asks for another partition, for which there are no pages. The machine itself wants no memory for that. So
-// once there is room for its receipt and its entry, the call is refused for want of its copy alone, before
-// the gate.
+// Requests another partition, for which there are no pages. The machine itself needs no memory for that. Once
+// there is room for its receipt and its entry, the call can only be refused for lack of memory for its copy,
+// before the gate.
 pub(crate) fn try_denials<L: Ledger, R: Wait>(
     rt: &R,
     alloc: Global,
@@ -105,7 +106,7 @@ pub(crate) fn try_denials<L: Ledger, R: Wait>(
     Ok(refusal.or(side).map(Refusal::Denial))
 }
 
-// The second to the fourth event were denied.
+// Checks that the second to the fourth event were denied.
 fn are_denied<L: Ledger>(pass: &Pass<L>) -> Result<(), Fault> {
     for (place, number) in [2, 3, 4].iter().enumerate() {
         must(

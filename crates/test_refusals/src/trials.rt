@@ -42,8 +42,8 @@ pub(crate) fn try_all<R: Threads + Wait + Sync>(rt: &R, alloc: Global) -> Result
     })
 }
 
-// Boots a machine and makes all trials. If there is no memory for a lock round it, it comes back as it was,
-// and goes into another.
+// Boots a machine and makes all trials. If there is no memory for a lock around it, the machine is returned
+// unchanged, and goes into another lock.
 fn try_locks<R: Threads + Wait + Sync>(rt: &R, alloc: Global) -> Result<Ended, Fault> {
     let kept = Kept::boot(alloc, config(), LIMIT)?;
     match in_a_lock(rt, alloc, kept)? {
@@ -78,7 +78,7 @@ fn in_another_lock<R: Threads + Wait + Sync>(
     }
 }
 
-// Makes all trials in a lock round this machine, which comes back if there is no memory for a lock.
+// Makes all trials in a lock around this machine, which is returned if there is no memory for a lock.
 fn in_a_lock<R: Threads + Wait + Sync>(
     rt: &R,
     alloc: Global,
@@ -109,7 +109,7 @@ fn in_lock_of<L: Ledger + Send + Sync, R: Threads + Wait + Sync>(
     }
 }
 
-// Calls of processors 0 and 1, then a phase of processors 2 and 3, who have no receipts before, and the
+// Calls of processors 0 and 1, then a phase of processors 2 and 3, which have no receipts before, and the
 // settlement of all.
 fn try_in<L: Ledger + Send + Sync, R: Threads + Wait + Sync>(
     rt: &R,

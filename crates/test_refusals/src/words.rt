@@ -4,14 +4,14 @@ use crate::ended::{Fault, Refusal, must};
 use hv_options::{Options, Usage, options};
 use std::alloc::Global;
 
-// What words come to.
+// The expected result of words.
 #[derive(Clone, Copy)]
 enum Due {
     // A serial run of the script a.hv.
     Run,
-    // A text that was asked for.
+    // A text that was requested.
     Shown(&'static str),
-    // A text that says what is wrong.
+    // A text that describes a mistake.
     Wrong(&'static str),
 }
 
@@ -41,7 +41,7 @@ fn is_due(told: &Result<Options<'_>, Usage>, due: Due) -> bool {
     }
 }
 
-// Reads the words, and where there is no memory for that reads them again. Answers whether there was none.
+// Reads the words and, if there is no memory for that, reads them again. Returns whether there was none.
 fn read(alloc: Global, words: &[&str], due: Due) -> Result<bool, Fault> {
     let told = options(alloc, words);
     let is_refused = matches!(told, Err(Usage::Memory));
@@ -53,7 +53,7 @@ fn read(alloc: Global, words: &[&str], due: Due) -> Result<bool, Fault> {
     Ok(is_refused)
 }
 
-// Reads all of them.
+// Reads all command lines.
 pub(crate) fn try_words(alloc: Global) -> Result<Option<Refusal>, Fault> {
     let mut refusal = None;
     for (words, due) in WORDS {

@@ -42,7 +42,8 @@ fn line_ends(rt: HostRuntime) {
     );
 }
 
-// A line that is longer than a script is refused, and the next one is served. One that is as long is read.
+// A line that is longer than the longest script is refused, and the next one is served. A line of that length
+// is read.
 #[test]
 fn long_lines(rt: HostRuntime) -> Result<(), Fail> {
     let alloc = rt.alloc();
@@ -86,8 +87,7 @@ impl Read for Pieces<'_> {
     }
 }
 
-// An interrupted read is tried again. What was read when another error came is answered but for the last
-// line.
+// An interrupted read is retried. What was read before another error is answered, except the last line.
 #[test]
 fn failed_input(rt: HostRuntime) {
     let alloc = rt.alloc();
@@ -124,7 +124,7 @@ impl Write for Failing {
     }
 }
 
-// An answer that can't be written ends the session.
+// An answer that cannot be written ends the session.
 #[test]
 fn failed_output(rt: HostRuntime) {
     for writes in 0..4 {
@@ -135,7 +135,7 @@ fn failed_output(rt: HostRuntime) {
     }
 }
 
-// A fault is told by the text that a run of a script has for it.
+// A fault has the text that a run of a script has for it.
 #[test]
 fn fault_texts(rt: HostRuntime) {
     for kind in [

@@ -1,4 +1,4 @@
-//! Sessions as they are typed, and what each line is answered. Tests only.
+//! Sessions as they are typed, and the answer to each line. Tests only.
 #![tactic(auto)]
 
 #[cfg(test)]

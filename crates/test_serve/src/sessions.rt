@@ -1,4 +1,4 @@
-// Sessions line by line: what stands in the answers, and that each is flushed before the next line is read.
+// Sessions line by line: the text of each answer, and that each is flushed before the next line is read.
 
 use hv_run::Exit;
 use hv_serve::serve;
@@ -7,7 +7,7 @@ use std::io;
 use std::io::{ErrorKind, Write};
 use std::process::Abort;
 
-/// A writer that notes how much it had at each flush.
+/// A writer that records its length at each flush.
 #[derive(Drop)]
 pub struct Flushed {
     pub bytes: Vec<u8>,
@@ -40,12 +40,12 @@ impl Write for Flushed {
     }
 }
 
-/// The text of what was written.
+/// Returns the text that was written.
 pub fn text_of(bytes: &[u8]) -> &str {
     str::from_utf8(bytes).unwrap_or("no UTF-8 text")
 }
 
-// How much had been written at a flush, counted from 0.
+// The number of bytes written before a flush, counted from 0.
 fn mark(out: &Flushed, at: usize) -> usize {
     match out.marks.get(at) {
         Some(len) => *len,
@@ -53,7 +53,7 @@ fn mark(out: &Flushed, at: usize) -> usize {
     }
 }
 
-// What was written from the flush before one on up to it.
+// The bytes written between the previous flush and this one.
 fn answer_at(out: &Flushed, at: usize) -> &str {
     let from = if at == 0 { 0 } else { mark(out, at - 1) };
     text_between(&out.bytes, from, mark(out, at))
@@ -67,8 +67,8 @@ fn text_between(bytes: &[u8], from: usize, to: usize) -> &str {
     }
 }
 
-// Serves these lines, each with its answer. Behind the last line feed stands an empty line, which has none,
-// and then comes the count.
+// Serves these lines, each with its answer. After the last line feed comes an empty line, which has no
+// answer, and then the count.
 fn assert_served(rt: &impl Abort, alloc: Global, lines: &[(&str, &str)], end: &str) {
     let mut text: Vec<u8> = Vec::new(alloc);
     for (line, _) in lines {
@@ -133,8 +133,7 @@ fn lines_and_faults(rt: HostRuntime) {
     assert_served(&rt, rt.alloc(), &lines, "events 3\n");
 }
 
-// A rep call is driven to its end, and a line of the audit tells of each element. The table shows what it
-// did.
+// A rep call is driven to its end, and the audit has a line for each element. The table shows its effect.
 #[test]
 fn rep_calls(rt: HostRuntime) {
     let lines = [
@@ -163,7 +162,8 @@ pages 32
     assert_served(&rt, rt.alloc(), &lines, "events 4\n");
 }
 
-// Where the history is full, the elements that happened are told, and then why no more did. Serving goes on.
+// If the history is full, the answer has the elements that happened, and then why no more did. The session
+// continues.
 #[test]
 fn full_history(rt: HostRuntime) {
     let lines = [

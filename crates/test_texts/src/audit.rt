@@ -1,4 +1,4 @@
-// The lines of the audit, by events that differ in each bit, and writers that fail on the way.
+// The lines of the audit, for events that differ in each bit, and writers that fail midway.
 
 use crate::writers::text_of;
 use hv_abi::{Bytes, Frame};
@@ -12,7 +12,7 @@ use std::io::{ErrorKind, Write};
 use std::process::Abort;
 use std::test::Fail;
 
-// No partition has this processor, so that each event of it is refused.
+// A processor of no partition, so each event of it is refused.
 const STRANGER: Caller = Caller {
     part: 0xfedc_ba98_7654_3210,
     vp: 0xefcd_ab89,
@@ -68,7 +68,7 @@ fn happens(kept: &mut Kept<Global>, by: Caller, what: Action<Global>) -> Result<
     Ok(())
 }
 
-// What the processor that no partition has asks for.
+// Events of the processor of no partition.
 fn refused_events(kept: &mut Kept<Global>, alloc: Global) -> Result<(), Fail> {
     happens(kept, STRANGER, call(0x0f1e_2d3c_4b5a_6978, alloc))?;
     happens(kept, STRANGER, call(0x0abc_0fff_0000_0048, alloc))?;
@@ -82,7 +82,7 @@ fn refused_events(kept: &mut Kept<Global>, alloc: Global) -> Result<(), Fail> {
     happens(kept, STRANGER, Action::TakeInterrupt)
 }
 
-// What processor 0 of the root asks for.
+// Events of processor 0 of the root.
 fn roots_events(kept: &mut Kept<Global>, alloc: Global) -> Result<(), Fail> {
     let write = Action::WriteMsr(0x4000_0083, 0x0f1e_2d3c_4b5a_6978);
     happens(kept, ROOT, write)?;
@@ -114,13 +114,13 @@ fn lines(rt: HostRuntime) -> Result<(), Fail> {
     Ok(())
 }
 
-// A writer that takes a few bytes at a time, and so many in all.
+// A writer that takes a few bytes at a time, and a limited number in all.
 #[derive(Drop)]
 struct Short {
     taken: Vec<u8>,
     step: usize,
     left: usize,
-    // Whether it then takes 0 bytes in place of an error.
+    // Whether it then takes 0 bytes instead of returning an error.
     takes_none: bool,
 }
 
@@ -145,7 +145,7 @@ impl Write for Short {
     }
 }
 
-// Asserts that of a text just the first bytes went out, and that the fault tells how many.
+// Asserts that only the first bytes of a text were written, and that the fault says how many.
 fn assert_cut(rt: &impl Abort, told: Result<(), PrintFault>, out: &Short, text: &str, left: usize) {
     let wanted = if left < text.len() {
         Err(PrintFault::Write {
@@ -161,7 +161,7 @@ fn assert_cut(rt: &impl Abort, told: Result<(), PrintFault>, out: &Short, text: 
 
 const TWO_LINES: &str = "1 18364758544493064720.4023233417 interrupt fault P1\nevents 1\n";
 
-// Both are written to writers that fail after each number of bytes.
+// Writes the audit and the table to writers that fail after each number of bytes.
 fn assert_cuts(rt: &impl Abort, kept: &Kept<Global>, alloc: Global, step: usize) {
     for left in 0..130 {
         for takes_none in [false, true] {

@@ -1,4 +1,4 @@
-// A script cut after each byte: what it says then, or what is wrong with it first.
+// A script cut after each byte: its output, or the first thing that is wrong with it.
 
 use crate::writers::{SERIAL, text_of};
 use hv_run::{Exit, run_text};
@@ -13,14 +13,14 @@ const SCRIPT: &[u8] = b"boot 32 12 1 0x000000f700000044 1000
 1.0 call 0x0001000300000048 0 0 02000000000000000c000000000000000d000000000000000e00000000000000
 1.0 rdmsr 0x40000001";
 
-// What is told of the scripts of `from` to `to` bytes, or of each second one of them.
+// The output for the scripts of `from` to `to` bytes, or for every second one of them.
 #[derive(Clone, Copy)]
 struct Cut {
     from: usize,
     to: usize,
     step: usize,
     exit: Exit,
-    // The first so many of the audit's lines, and then these.
+    // This many of the audit's first lines, followed by `last`.
     lines: usize,
     last: &'static str,
     err: &'static str,
@@ -56,7 +56,7 @@ const LINES: [&str; 3] = [
     "3 1.0 call 0002000300000048 ok 0000000300000000 -\n",
 ];
 
-// The first line, and the one that makes a partition.
+// The first line, and the line that creates a partition.
 fn first_cuts() -> [Cut; 10] {
     [
         fault(0, 0, 1, "hvpm: line 0: no boot\n"),
@@ -72,7 +72,7 @@ fn first_cuts() -> [Cut; 10] {
     ]
 }
 
-// The rep call: a page that is missing at the end reads as page 0, which is pooled.
+// The rep call. A page that is missing at the end reads as page 0, which is pooled.
 fn rep_cuts() -> [Cut; 6] {
     [
         fault(65, 89, 1, "hvpm: line 3: word count\n"),
@@ -115,7 +115,7 @@ fn last_cuts() -> [Cut; 13] {
     ]
 }
 
-// Runs the first bytes of the script, and compares what is told.
+// Runs the first bytes of the script, and compares the output.
 fn assert_cut(
     rt: &(impl Abort + Threads + Wait + Sync),
     alloc: Global,
@@ -138,7 +138,7 @@ fn assert_cut(
     Ok(())
 }
 
-// How many scripts these are.
+// Asserts each of the cuts, and returns the number of scripts.
 fn assert_cuts(
     rt: &(impl Abort + Threads + Wait + Sync),
     alloc: Global,

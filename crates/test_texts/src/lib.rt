@@ -1,4 +1,4 @@
-//! What is read and what is shown: the bytes and lines of a script, the words of a command line, the
+//! Texts that are read and written: the bytes and lines of a script, the words of a command line, and the
 //! lines of the audit and of standard error. Tests only.
 #![tactic(auto)]
 

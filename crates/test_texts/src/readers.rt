@@ -1,4 +1,4 @@
-// Scripts as they are read: all bytes or none are run.
+// Scripts as they are read: either all bytes are run or none.
 
 use crate::writers::{SERIAL, text_of};
 use hv_run::{Exit, read_script, run_text, tell};
@@ -10,7 +10,7 @@ use std::sync::Wait;
 use std::test::Fail;
 use std::thread::Threads;
 
-// What reading and running comes to: the exit status, the output, and the line on standard error.
+// The result of reading and running: the exit status, the output, and the line on standard error.
 type Shown<'a> = (Exit, &'a str, &'a str);
 
 const ONE_EVENT: &[u8] = b"boot 32 12 1 0x000000f700000044 9\n1.0 call 0x46 0 0 -\n";
@@ -33,7 +33,7 @@ fn assert_read<R: Read + Drop>(
     assert_eq!(rt; (exit, text_of(&out), text_of(&err)), wanted);
 }
 
-// A script that is too long isn't cut and run, though what it begins with could be.
+// A script that is too long is refused and not cut, even if its beginning could be run.
 #[test]
 fn lengths(rt: HostRuntime) -> Result<(), Fail> {
     let alloc = rt.alloc();

@@ -1,4 +1,4 @@
-// Whole scripts of a few lines, run with `--table`: what they print, and what is wrong with one.
+// Whole scripts of a few lines, run with `--table`: their output, and the error of one that is wrong.
 
 use crate::writers::text_of;
 use hv_options::Options;
@@ -47,7 +47,7 @@ pages 32
 ",
         "hvpm: history full\n",
     ),
-    // After a fault neither is printed.
+    // After a fault, neither is printed.
     (
         "boot 32 12 1 0x000000f700000044 1000
 1.0 call 0x46 0 0

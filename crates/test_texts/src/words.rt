@@ -1,4 +1,5 @@
-// What words ask for, and what is shown where they ask for no run: help, the version, or the mistake.
+// What the command line asks for, and the text that is shown if it asks for no run: help, the version, or the
+// mistake.
 
 use hv_options::{Usage, options};
 

@@ -1,4 +1,4 @@
-// What is told on standard output and standard error, where writes fail too.
+// The text on standard output and standard error, also if writes fail.
 
 use hv_options::{Options, Usage};
 use hv_run::{Exit, Failure, run_text, tell, tell_usage};
@@ -10,14 +10,14 @@ use std::sync::Wait;
 use std::test::Fail;
 use std::thread::Threads;
 
-/// What the command line says where a script is run.
+/// The command line that runs a script.
 pub const SERIAL: Options<'static> = Options {
     script: "first.hv",
     serial: true,
     table: false,
 };
 
-/// The text of what was written.
+/// Returns the text that was written.
 pub fn text_of(bytes: &[u8]) -> &str {
     str::from_utf8(bytes).unwrap_or("no UTF-8 text")
 }
@@ -30,7 +30,7 @@ const STEP: usize = 16;
 struct Failing {
     writes: usize,
     flushes: bool,
-    // Whether it takes 0 bytes in place of an error.
+    // Whether it takes 0 bytes instead of returning an error.
     takes_none: bool,
 }
 
@@ -66,7 +66,7 @@ const ONE_EVENT: &[u8] = b"boot 32 12 1 0 9\n1.0 call 1 0 0 -\n";
 
 const FULL: &[u8] = b"boot 32 12 1 0 0\n1.0 call 1 0 0 -\n";
 
-// Runs a script on a writer that fails, and looks at the line on standard error.
+// Runs a script on a writer that fails, and checks the line on standard error.
 fn assert_fails(
     rt: &(impl Abort + Threads + Wait + Sync),
     alloc: Global,
@@ -125,7 +125,7 @@ fn assert_told(rt: &impl Abort, alloc: Global, usage: Usage, wanted: (Exit, &str
     assert_eq!(rt; (exit, text_of(&out), text_of(&err)), wanted);
 }
 
-// Help goes to standard output and a mistake to standard error, whole.
+// Help goes to standard output and a mistake to standard error, both complete.
 #[test]
 fn usage_is_told(rt: HostRuntime) -> Result<(), Fail> {
     let alloc = rt.alloc();
@@ -142,7 +142,7 @@ fn usage_is_told(rt: HostRuntime) -> Result<(), Fail> {
     Ok(())
 }
 
-// Help that can't be written is a failed write.
+// Help that cannot be written is a failed write.
 #[test]
 fn unwritten_help(rt: HostRuntime) -> Result<(), Fail> {
     let help = Usage::Help(String::from_str(rt.alloc(), "help\n")?);
@@ -152,7 +152,7 @@ fn unwritten_help(rt: HostRuntime) -> Result<(), Fail> {
     Ok(())
 }
 
-// What a settlement finds wrong, which no script brings about, is told in one line.
+// An error of a settlement, which no script causes, is one line.
 #[test]
 fn settlements_are_told(rt: HostRuntime) {
     for (failure, line) in [

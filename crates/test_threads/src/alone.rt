@@ -47,7 +47,7 @@ fn assert_asked(rt: &impl Abort, told: Result<(u64, Reply), HostRefused>, number
     }
 }
 
-// A history takes as many events as its limit says, and the next one changes nothing.
+// A history holds as many events as its limit says, and the next event changes nothing.
 #[test]
 fn fills(rt: HostRuntime) -> Result<(), Fail> {
     let alloc = rt.alloc();
@@ -63,7 +63,7 @@ fn fills(rt: HostRuntime) -> Result<(), Fail> {
     Ok(())
 }
 
-// A new pass has no room, and once it was made, there is as much as was asked for.
+// A new pass has no room. After room is made, it has as much as was requested.
 fn make_room<L: Ledger>(rt: &impl Abort, pass: &mut Pass<L>) -> Result<(), Fail> {
     assert_eq!(rt; pass.room(), 0);
     pass.reserve(16)?;

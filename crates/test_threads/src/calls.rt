@@ -1,4 +1,4 @@
-// What the tests begin with: calls of the root's processors 0 and 1, and passes for the two.
+// Fixtures of the tests: calls of the root's processors 0 and 1, and passes for the two.
 ghost use Rattle.std.specs.Prelude.{◌≡◌, ◌<◌, [], IfOk, vec_len};
 
 use hv_abi::{Bytes, Frame};
@@ -34,7 +34,7 @@ pub(crate) fn call(rcx: u64, input: Vec<u8>) -> Frame<Global> {
     }
 }
 
-// A number and then these, 8 bytes each, as a list of a call has them.
+// A number and then these, 8 bytes each, as in the list of a call.
 pub(crate) fn numbers(alloc: Global, first: u64, more: Range<u64>) -> Result<Vec<u8>, Fail> {
     let mut input = Vec::new(alloc);
     input.extend_from_slice(&first.to_le_bytes())?;
@@ -44,7 +44,7 @@ pub(crate) fn numbers(alloc: Global, first: u64, more: Range<u64>) -> Result<Vec
     Ok(input)
 }
 
-// Reads RAX of a processor so many times.
+// Reads RAX of a processor this many times.
 pub(crate) fn reads(alloc: Global, part: u64, vp: u32, times: u16) -> Result<Frame<Global>, Fail> {
     let vp = u64::from(vp);
     let mut input = numbers(alloc, part, vp..vp + 1)?;
@@ -91,7 +91,7 @@ pub(crate) fn boot(alloc: Global, config: Config, limit: u32) -> Result<Kept<Glo
     Ok(kept)
 }
 
-// A lock round such a machine, and the passes of its processors, that of processor 0 first.
+// A lock around such a machine, and the passes of its processors, that of processor 0 first.
 pub(crate) fn open<L: Ledger>(
     rt: &impl Abort,
     alloc: Global,
@@ -104,7 +104,7 @@ pub(crate) fn open<L: Ledger>(
     open_for(rt, alloc, blank, config, limit, [root(0), root(1)])
 }
 
-// A lock round such a machine, and the passes of two processors.
+// A lock around such a machine, and the passes of two processors.
 pub(crate) fn open_for<L: Ledger>(
     rt: &impl Abort,
     alloc: Global,
@@ -123,7 +123,7 @@ pub(crate) fn open_for<L: Ledger>(
     Ok((shared, first, second))
 }
 
-// A lock round a machine to which nothing happened, and a pass for each processor.
+// A lock around a machine to which nothing has happened, and a pass for each processor.
 pub(crate) fn lock<L: Ledger>(
     rt: &impl Abort,
     kept: Kept<Global>,
@@ -148,7 +148,7 @@ pub(crate) fn last_of<L: Ledger>(rt: &impl Abort, passes: &mut Vec<Pass<L>>) -> 
     }
 }
 
-// What a processor with one action has to do.
+// The work of a processor with one action.
 pub(crate) fn work<L: Ledger>(
     alloc: Global,
     pass: Pass<L>,
@@ -180,7 +180,7 @@ pub(crate) fn both<L: Ledger>(
     pair(alloc, first, second)
 }
 
-// Does the works, each of which comes to its end, and gives the passes back.
+// Performs the works, each of which reaches its end, and returns the passes.
 pub(crate) fn phase<L: Ledger + Send + Sync, R: Abort + Threads + Wait + Sync, G: Gate>(
     rt: &R,
     alloc: Global,
@@ -199,7 +199,7 @@ fn assert_finished<L: Ledger>(rt: &impl Abort, done: &Done<L>) {
     assert_eq!(rt; done.done, 1);
 }
 
-// The passes after a phase in which each processor came to the end of its one action.
+// The passes after a phase in which each processor reaches the end of its one action.
 fn passes_of<L: Ledger>(
     rt: &impl Abort,
     alloc: Global,
@@ -225,12 +225,12 @@ pub(crate) fn settled<L: Ledger>(
     }
 }
 
-// The history has so many events.
+// Asserts that the history has this many events.
 pub(crate) fn assert_events(rt: &impl Abort, kept: &Kept<Global>, events: usize) {
     assert_eq!(rt; kept.history().len(), events);
 }
 
-// The pages that are pooled in a partition.
+// Returns the pages that are pooled in a partition.
 fn pooled_in<'k>(rt: &impl Abort, kept: &'k Kept<Global>, part: u64) -> &'k PageSet<Global> {
     match kept.machine().tree().get(part) {
         Some(child) => child.pages(PageKind::Pooled),
@@ -238,7 +238,7 @@ fn pooled_in<'k>(rt: &impl Abort, kept: &'k Kept<Global>, part: u64) -> &'k Page
     }
 }
 
-// Just these pages are pooled in a partition.
+// Asserts that exactly these pages are pooled in a partition.
 pub(crate) fn assert_pooled(rt: &impl Abort, kept: &Kept<Global>, part: u64, pages: Range<u32>) {
     let pooled = pooled_in(rt, kept, part);
     assert_eq!(rt; pooled.count(), pages.len() as u64);

@@ -18,17 +18,17 @@ use std::test::Fail;
 use std::thread::Threads;
 use std::time::Clock;
 
-// The deletion came behind sixteen elements of the other processor's call.
+// Asserts that the deletion came after sixteen elements of the other processor's call.
 fn assert_deleted(rt: &impl Abort, receipts: &Receipts) {
     assert_eq!(rt; receipts.len(), 1);
     assert_eq!(rt; receipts.number(0), 17);
     assert_eq!(rt; receipts.get(0).entry.answer, Answer::Served);
 }
 
-// What the element with the start index 16 asked for.
+// The request of the element with the start index 16.
 const SEVENTEENTH: u64 = 0x0010_0028_0000_0050;
 
-// Sixteen elements were read, and the next was denied, as the processor is gone.
+// Asserts that sixteen elements were read and the next was denied, since the processor is gone.
 fn assert_stopped(rt: &impl Abort, receipts: &Receipts) {
     assert_eq!(rt; receipts.len(), 17);
     assert_eq!(rt; receipts.get(15).entry.answer, Answer::More { next: 16 });
@@ -48,7 +48,7 @@ fn assert_stopped(rt: &impl Abort, receipts: &Receipts) {
     assert_eq!(rt; last.number, 18);
 }
 
-// The result value of the whole call, by its last element.
+// The result value of the whole call, from its last element.
 fn assert_result(rt: &impl Abort, alloc: Global) {
     let denied = Reply::Denied {
         rule: Rule::CallerVpExists,
@@ -59,7 +59,7 @@ fn assert_result(rt: &impl Abort, alloc: Global) {
     assert_eq!(rt; value.bits(), 0x0000_0010_0000_000e);
 }
 
-// Processor 0 deleted processor 1, which was stopped.
+// Asserts that processor 0 deleted processor 1, which was stopped.
 fn assert_passes<L: Ledger>(rt: &impl Abort, passes: &[Pass<L>]) {
     assert_eq!(rt; passes.len(), 2);
     assert_eq!(rt; passes[1].caller(), root(1));
@@ -87,7 +87,7 @@ fn deleted_as<L: Ledger + Send + Sync, R: Abort + Clock + Threads + Wait + Sync>
     Ok(())
 }
 
-// The rules are asked anew at each element: a rep call of a processor that is deleted between two holds
+// The rules are checked again for each element. A rep call of a processor that is deleted between two holds
 // ends with the next element.
 #[test]
 fn processor_deleted(rt: HostRuntime) -> Result<(), Fail> {

@@ -1,4 +1,4 @@
-// A partition that ends while its processor makes a rep call.
+// A partition that ends during a rep call of its processor.
 ghost use Rattle.std.specs.Prelude.{◌≡◌};
 
 use crate::calls::{assert_events, call, fast, numbers, open_for, reads, root, settled, small};
@@ -12,7 +12,7 @@ use std::sync::Wait;
 use std::sync::ledger::{Blank, Ledger};
 use std::test::Fail;
 
-// A call of the root is served to its end, with this result value.
+// Serves a call of the root to its end, with this result value.
 fn serve<L: Ledger, R: Abort + Wait>(
     rt: &R,
     shared: &Shared<L>,
@@ -33,7 +33,7 @@ fn privileges(alloc: Global) -> Result<Frame<Global>, Fail> {
     Ok(call(0x45, input))
 }
 
-// Makes partition 2, which may do what the root may, and its processor 0.
+// Creates partition 2, which has all privileges of the root, and its processor 0.
 fn make_second<L: Ledger, R: Abort + Wait>(
     rt: &R,
     alloc: Global,
@@ -48,7 +48,7 @@ fn make_second<L: Ledger, R: Abort + Wait>(
     serve(rt, shared, root, fast(alloc, 0x1_004e, 2, 0), 0)
 }
 
-// Four reads of RAX of processor 0 of the partition itself, from an element on.
+// Four reads of RAX of processor 0 of the partition itself, starting at an element.
 fn four_reads(alloc: Global, start: u16) -> Result<Frame<Global>, Fail> {
     Ok(reads(alloc, u64::MAX, 0, 4)?.with_start(start % 4))
 }
@@ -88,7 +88,7 @@ fn deny_third<L: Ledger, R: Abort + Wait>(
     Ok(())
 }
 
-// The root finalizes partition 2 and deletes it. The call goes on after neither.
+// The root finalizes partition 2 and deletes it. The call continues after neither.
 fn end_second<L: Ledger, R: Abort + Wait>(
     rt: &R,
     alloc: Global,
@@ -120,7 +120,7 @@ fn ends_as<L: Ledger, R: Abort + Wait>(rt: &R, alloc: Global, blank: Blank) -> R
     Ok(())
 }
 
-// A rep call's next element is denied where the caller's partition was finalized, and by another rule where
+// A rep call's next element is denied after the caller's partition was finalized, and by another rule after
 // it is gone.
 #[test]
 fn partition_ends(rt: HostRuntime) -> Result<(), Fail> {

@@ -1,4 +1,4 @@
-// Processors that are at work at the same time, in a phase and in a script.
+// Processors that work at the same time, in a phase and in a script.
 ghost use Rattle.std.specs.Prelude.{◌≡◌};
 
 use crate::calls::{
@@ -73,7 +73,7 @@ fn assert_full(rt: &impl Abort, exit: Exit, out: &[u8], err: &[u8]) {
     assert!(rt; out == OF_ZERO || out == OF_ONE);
 }
 
-// Both processors ask at once, and the history has room for one of them.
+// Both processors ask at once, and the history has room for one event.
 #[test]
 fn scripts_fill(rt: HostRuntime) -> Result<(), Fail> {
     let alloc = rt.alloc();
@@ -134,7 +134,7 @@ fn phases_overlap(rt: HostRuntime) -> Result<(), Fail> {
     Ok(())
 }
 
-// The lock is free when a gate is told that a hold is over.
+// The lock is free when a gate's `leave` is called.
 #[test]
 fn leaves_the_lock_first(rt: HostRuntime) -> Result<(), Fail> {
     let gate = Handover::new(&rt);
@@ -149,7 +149,7 @@ fn leaves_the_lock_first(rt: HostRuntime) -> Result<(), Fail> {
     Ok(())
 }
 
-// Accesses take the lock in another function than hypercalls.
+// Accesses take the lock in a different function from hypercalls.
 #[test]
 fn an_access_leaves_the_lock_first(rt: HostRuntime) -> Result<(), Fail> {
     let gate = Handover::new(&rt);
@@ -164,7 +164,7 @@ fn an_access_leaves_the_lock_first(rt: HostRuntime) -> Result<(), Fail> {
     Ok(())
 }
 
-// As many processors as a script's phase may have.
+// The most processors that a phase of a script may have.
 const MOST: u32 = 64;
 
 fn all_callers(alloc: Global) -> Result<Vec<Caller>, AllocError> {
@@ -208,7 +208,7 @@ fn ask_all<L: Ledger + Send + Sync, R: Abort + Clock + Threads + Wait + Sync>(
     Ok(())
 }
 
-// Each processor of a phase has a thread of its own: all of them stand at the gate at once.
+// Each processor of a phase has its own thread: all of them wait at the gate at once.
 #[test]
 fn a_phase_has_a_thread_for_each(rt: HostRuntime) -> Result<(), Fail> {
     ask_all::<Brand, HostRuntime>(&rt, rt.alloc(), Blank::new(64))

@@ -1,5 +1,4 @@
-// Gates: some at which the root's processors wait for one another, for a while, and one that notes its
-// turns.
+// Gates: some make the root's processors wait for one another, up to a timeout, and one records its turns.
 
 use hv_policy::Caller;
 use hv_threads::Gate;
@@ -9,13 +8,13 @@ use std::sync::atomic::{AtomicBool, AtomicU64, Ordering};
 use std::thread;
 use std::time::{Clock, Duration};
 
-// How often a thread looks for what it waits for, and the pause after each look.
+// The most looks of a thread that waits, and the pause after each look.
 const MOST_LOOKS: u32 = 10_000;
 
 const PAUSE_MILLIS: u64 = 1;
 
-// Waits until the flag is raised. After ten seconds or so it goes on, and notes that it was late. Where
-// another was, it waits no longer.
+// Waits until the flag is raised. After about ten seconds, it gives up and records that it was late. If
+// another thread was late, it does not wait.
 fn wait_for(clock: &impl Clock, flag: &AtomicBool, late: &AtomicBool) {
     for _ in 0..MOST_LOOKS {
         if flag.load(Ordering::SeqCst) || late.load(Ordering::SeqCst) {
@@ -26,7 +25,7 @@ fn wait_for(clock: &impl Clock, flag: &AtomicBool, late: &AtomicBool) {
     late.store(true, Ordering::SeqCst);
 }
 
-// Lets neither processor begin its first event before the other is there, too.
+// Lets neither processor begin its first event before the other has arrived.
 #[derive(Drop)]
 pub(crate) struct Meeting<'a, C: Clock + Sync> {
     clock: &'a C,
@@ -45,7 +44,7 @@ impl<'a, C: Clock + Sync> Meeting<'a, C> {
         }
     }
 
-    // Each processor came in time.
+    // Asserts that each processor arrived in time.
     pub(crate) fn assert_in_time(&self, rt: &impl Abort) {
         assert!(rt; !self.late.load(Ordering::SeqCst));
     }
@@ -67,7 +66,7 @@ impl<'a, C: Clock + Sync> Gate for Meeting<'a, C> {
     fn leave<R: Wait>(&self, _rt: &R, _by: Caller, _turn: u64) {}
 }
 
-// Lets no processor begin its first event before all of them are there.
+// Lets no processor begin its first event before all of them have arrived.
 #[derive(Drop)]
 pub(crate) struct Crowd<'a, C: Clock + Sync> {
     clock: &'a C,
@@ -86,7 +85,7 @@ impl<'a, C: Clock + Sync> Crowd<'a, C> {
         }
     }
 
-    // Each processor came in time.
+    // Asserts that each processor arrived in time.
     pub(crate) fn assert_in_time(&self, rt: &impl Abort) {
         assert!(rt; !self.late.load(Ordering::SeqCst));
     }
@@ -111,8 +110,8 @@ impl<'a, C: Clock + Sync> Gate for Crowd<'a, C> {
     fn leave<R: Wait>(&self, _rt: &R, _by: Caller, _turn: u64) {}
 }
 
-// Holds processor 0 back until processor 1 comes to its turn 16, and then processor 1 until processor 0
-// has a receipt.
+// Delays processor 0 until processor 1 reaches its turn 16, and then processor 1 until processor 0 has a
+// receipt.
 #[derive(Drop)]
 pub(crate) struct Halt<'a, C: Clock + Sync> {
     clock: &'a C,
@@ -131,7 +130,7 @@ impl<'a, C: Clock + Sync> Halt<'a, C> {
         }
     }
 
-    // Each processor came so far in time.
+    // Asserts that each processor came so far in time.
     pub(crate) fn assert_in_time(&self, rt: &impl Abort) {
         assert!(rt; !self.late.load(Ordering::SeqCst));
     }
@@ -154,8 +153,8 @@ impl<'a, C: Clock + Sync> Gate for Halt<'a, C> {
     }
 }
 
-// Holds processor 0 back after its hold until processor 1 had one, too. Processor 1 begins its own no sooner.
-// So each comes in time only where the lock is free when `leave` is called.
+// Delays processor 0 after its hold until processor 1 has had one. Processor 1 does not begin its own hold
+// before that. So each arrives in time only if the lock is free when `leave` is called.
 #[derive(Drop)]
 pub(crate) struct Handover<'a, C: Clock + Sync> {
     clock: &'a C,
@@ -174,7 +173,7 @@ impl<'a, C: Clock + Sync> Handover<'a, C> {
         }
     }
 
-    // Each processor came in time.
+    // Asserts that each processor arrived in time.
     pub(crate) fn assert_in_time(&self, rt: &impl Abort) {
         assert!(rt; !self.late.load(Ordering::SeqCst));
     }
@@ -197,11 +196,11 @@ impl<'a, C: Clock + Sync> Gate for Handover<'a, C> {
     }
 }
 
-// Lets the processors' holds take turns, that of processor 0 first.
+// Makes the processors' holds alternate, starting with processor 0.
 #[derive(Drop)]
 pub(crate) struct Alternation<'a, C: Clock + Sync> {
     clock: &'a C,
-    // How many holds are over.
+    // The number of holds that are over.
     over: AtomicU64,
     late: AtomicBool,
 }
@@ -215,7 +214,7 @@ impl<'a, C: Clock + Sync> Alternation<'a, C> {
         }
     }
 
-    // Each processor came in time.
+    // Asserts that each processor arrived in time.
     pub(crate) fn assert_in_time(&self, rt: &impl Abort) {
         assert!(rt; !self.late.load(Ordering::SeqCst));
     }
@@ -238,7 +237,7 @@ impl<'a, C: Clock + Sync> Gate for Alternation<'a, C> {
     }
 }
 
-// Notes the turns that it is told, each with one more than itself in two decimal digits, the latest last.
+// Records the turns of its calls, each plus one as two decimal digits, latest last.
 #[derive(Drop)]
 pub(crate) struct Notes {
     entered: AtomicU64,
@@ -253,7 +252,7 @@ impl Notes {
         }
     }
 
-    // It was told of these holds, of both ends of each.
+    // Asserts that it was called for both ends of each of these holds.
     pub(crate) fn assert_told(&self, rt: &impl Abort, turns: u64) {
         assert_eq!(rt; self.entered.load(Ordering::SeqCst), turns);
         assert_eq!(rt; self.left.load(Ordering::SeqCst), turns);

@@ -1,4 +1,4 @@
-// Rep calls of one processor alone and of two, which go on by sixteen elements at a time.
+// Rep calls of one processor alone and of two, which continue by sixteen elements at a time.
 ghost use Rattle.std.specs.Prelude.{◌≡◌};
 
 use crate::calls::{assert_events, both, forty_reads, open, phase, root, settled, small};
@@ -16,10 +16,10 @@ use std::test::Fail;
 use std::thread::Threads;
 use std::time::Clock;
 
-// Turns 0, 16 and 32, as the gate notes them.
+// Turns 0, 16 and 32, as the gate records them.
 const THREE_HOLDS: u64 = 1_17_33;
 
-// The forty elements have the numbers 1 to 40, and each but the last says which is the next.
+// Asserts that the forty elements have the numbers 1 to 40, and that each but the last names the next.
 fn assert_forty(rt: &impl Abort, receipts: &Receipts) {
     assert_eq!(rt; receipts.len(), 40);
     for at in 0..receipts.len() {
@@ -35,7 +35,7 @@ fn assert_forty(rt: &impl Abort, receipts: &Receipts) {
     }
 }
 
-// Reads forty times, and all is served.
+// Reads forty times, and asserts that all is served.
 fn read_forty<L: Ledger, R: Abort + Wait>(
     rt: &R,
     shared: &Shared<L>,
@@ -72,7 +72,7 @@ fn reads_alone(rt: HostRuntime) -> Result<(), Fail> {
     reads_alone_as::<Brand, HostRuntime>(&rt, rt.alloc(), Blank::new(2))
 }
 
-// Whose the event at a place is, counted from 0, where two calls of forty elements take turns.
+// The processor of the event at a place, counted from 0, if two calls of forty elements take turns.
 fn processor_at(at: usize) -> u32 {
     if at < 64 {
         (at / 16 % 2) as u32
@@ -108,7 +108,7 @@ fn takes_turns_as<L: Ledger + Send + Sync, R: Abort + Clock + Threads + Wait + S
     Ok(())
 }
 
-// The calls of two processors take turns hold by hold, and nobody comes between the elements of a hold.
+// The calls of two processors take turns hold by hold, and no event comes between the elements of a hold.
 #[test]
 fn takes_turns(rt: HostRuntime) -> Result<(), Fail> {
     takes_turns_as::<Brand, HostRuntime>(&rt, rt.alloc(), Blank::new(2))

@@ -1,5 +1,5 @@
-//! Processors that share one history: phases in threads and their settlement, rep calls that go on hold
-//! by hold, gates, and what the host refuses. Tests only.
+//! Processors that share one history: phases in threads and their settlement, rep calls that continue hold by
+//! hold, gates, and refusals by the host. Tests only.
 #![tactic(auto)]
 
 #[cfg(test)]

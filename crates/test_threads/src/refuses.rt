@@ -1,4 +1,4 @@
-// What the host refuses, since the history is full.
+// Refusals by the host because the history is full.
 ghost use Rattle.std.specs.Prelude.{◌≡◌};
 
 use crate::calls::{
@@ -16,7 +16,7 @@ use std::sync::Wait;
 use std::sync::ledger::{Blank, Ledger};
 use std::test::Fail;
 
-// The host refused the twenty-first element, since the history was full.
+// Asserts that the host refused the twenty-first element because the history was full.
 fn assert_refused(rt: &impl Abort, answer: Result<(ResultValue, Reply), DriveRefused>) {
     let wanted = DriveRefused {
         why: HostRefused::HistoryFull,
@@ -28,18 +28,18 @@ fn assert_refused(rt: &impl Abort, answer: Result<(ResultValue, Reply), DriveRef
     }
 }
 
-// There is one for each of twenty elements.
+// Asserts that there is one receipt for each of twenty elements.
 fn assert_receipts(rt: &impl Abort, receipts: &Receipts) {
     assert_eq!(rt; receipts.len(), 20);
     assert_eq!(rt; receipts.get(19).entry.answer, Answer::More { next: 20 });
 }
 
-// Turns 0 and 16, and turns 0, 16 and 20, as the gate notes them.
+// Turns 0 and 16, and turns 0, 16 and 20, as the gate records them.
 const TWO_HOLDS: u64 = 1_17;
 
 const TWO_HOLDS_AND_A_CALL: u64 = 1_17_21;
 
-// Reads forty times, of which the history has room for twenty.
+// Reads forty times, while the history has room for twenty.
 fn read_twenty<L: Ledger, R: Abort + Wait>(
     rt: &R,
     shared: &Shared<L>,
@@ -52,7 +52,7 @@ fn read_twenty<L: Ledger, R: Abort + Wait>(
     assert_receipts(rt, pass.receipts());
 }
 
-// One more call, which the history has no room for.
+// Makes one more call, for which the history has no room.
 fn ask_once<L: Ledger, R: Abort + Wait>(
     rt: &R,
     shared: &Shared<L>,
@@ -79,14 +79,14 @@ fn refuses_as<L: Ledger, R: Abort + Wait>(rt: &R, alloc: Global, blank: Blank) -
     Ok(())
 }
 
-// The elements before the first that the history has no room for are served and have their receipts. The
-// gate is told when a hold ends also where the host refuses an event in it.
+// The elements for which the history has room are served and have their receipts. The gate's `leave` is
+// called even if the host refuses an event in a hold.
 #[test]
 fn refuses(rt: HostRuntime) -> Result<(), Fail> {
     refuses_as::<Brand, HostRuntime>(&rt, rt.alloc(), Blank::new(2))
 }
 
-// Partition 2 is made, and gets two of three pages. The history has no room for the third.
+// Partition 2 is created, and gets two of three pages. The history has no room for the third.
 fn fill<L: Ledger, R: Abort + Wait>(
     rt: &R,
     alloc: Global,
@@ -120,7 +120,7 @@ fn fills_as<L: Ledger, R: Abort + Wait>(rt: &R, alloc: Global, blank: Blank) -> 
     Ok(())
 }
 
-// A call that makes and one that gives pages fill the history in mid-call.
+// A call that creates a partition and one that deposits pages fill the history in mid-call.
 #[test]
 fn fills(rt: HostRuntime) -> Result<(), Fail> {
     fills_as::<Brand, HostRuntime>(&rt, rt.alloc(), Blank::new(2))

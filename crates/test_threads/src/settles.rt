@@ -1,5 +1,5 @@
-// Deposits of two processors at the same time, and the settlement of what they were told, with all passes
-// and without one.
+// Deposits of two processors at the same time, and the settlement of their receipts, with all passes and
+// without one.
 ghost use Rattle.std.specs.Prelude.{◌≡◌};
 
 use crate::calls::{
@@ -24,7 +24,7 @@ const DEPOSIT: u64 = 0x48;
 
 const TEN_DEPOSITS: u64 = 0xa_0000_0048;
 
-// Makes partitions 2 and 3.
+// Creates partitions 2 and 3.
 fn make_two<L: Ledger, R: Abort + Wait>(
     rt: &R,
     alloc: Global,
@@ -44,7 +44,7 @@ fn deposits(alloc: Global, part: u64, pages: Range<u64>) -> Result<Frame<Global>
     Ok(call(TEN_DEPOSITS, numbers(alloc, part, pages)?))
 }
 
-// Each processor has ten pages to deposit, the first into partition 2, the second into 3.
+// Each processor has ten pages to deposit, the first into partition 2, the second into partition 3.
 fn works_of<L: Ledger>(
     alloc: Global,
     first: Pass<L>,
@@ -55,7 +55,7 @@ fn works_of<L: Ledger>(
     both(alloc, (first, low), (second, high))
 }
 
-// Makes partitions 2 and 3, and lets each of the root's processors deposit ten pages into one of them.
+// Creates partitions 2 and 3, and makes each of the root's processors deposit ten pages into one of them.
 fn fill<L: Ledger + Send + Sync, R: Abort + Threads + Wait + Sync>(
     rt: &R,
     alloc: Global,
@@ -75,13 +75,13 @@ fn fill<L: Ledger + Send + Sync, R: Abort + Threads + Wait + Sync>(
     Ok((shared, passes))
 }
 
-// An event is a call with this code, and was served.
+// Asserts that an event is a call with this code, and was served.
 fn assert_served(rt: &impl Abort, entry: EntryRef<'_>, code: u64) {
     assert!(rt; matches!(entry.asked, Request::Hypercall { rcx, .. } if rcx & 0xffff == code));
     assert!(rt; matches!(entry.answer, Answer::Served | Answer::More { .. }));
 }
 
-// The history has two partitions made and then 20 deposits, and all were served.
+// Asserts that the history has the creation of two partitions and then 20 deposits, and that all were served.
 fn assert_filled(rt: &impl Abort, kept: &Kept<Global>) {
     let history = kept.history();
     assert_eq!(rt; history.len(), 22);
@@ -111,7 +111,7 @@ fn settles(rt: HostRuntime) -> Result<(), Fail> {
     settles_as::<Brand, HostRuntime>(&rt, rt.alloc(), Blank::new(2))
 }
 
-// The settlement tells that events are no one's, and hands the history back.
+// Asserts that the settlement reports events of no pass, and returns the history.
 fn assert_missing(rt: &impl Abort, told: Result<Kept<Global>, SettleRefused>) {
     match told {
         Ok(_) => panic!(rt; "the events of a processor are no one's"),
@@ -136,7 +136,7 @@ fn misses_as<L: Ledger + Send + Sync, R: Abort + Threads + Wait + Sync>(
     Ok(())
 }
 
-// Without the pass of a processor its events are missing, and the history comes back whole.
+// Without the pass of a processor, its events are missing, and the history is returned complete.
 #[test]
 fn misses_a_pass(rt: HostRuntime) -> Result<(), Fail> {
     misses_as::<Brand, HostRuntime>(&rt, rt.alloc(), Blank::new(2))
