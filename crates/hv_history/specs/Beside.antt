@@ -8,15 +8,16 @@ use Rattle.hv_history.specs.Kept.{Kept}
 use Rattle.hv_history.specs.Row.{events_of}
 use Rattle.hv_history.specs.declared.entry.Entry.{Entry}
 
--- the replies that entries have for members
+-- the replies to the events of members
 abbrev pub replies_to : {A : Type 0} → (ℕ → Bool) → List (Entry A) → List Reply
 replies_to members [] = []
 replies_to members (entry ∷ entries) =
     if members entry.event.by.part then entry.reply ∷ replies_to members entries else replies_to members
     entries
 
--- Two histories, each from some entry on: what came before left members alike, and then, turn by turn,
--- members do the same, the same is done to them, and they see alike what their events look at outside.
+-- Two histories run side by side for members, each from some entry on. The states before that are alike for
+-- them. Then, turn by turn, members act alike and are acted on alike, and their events see alike what they
+-- look at outside.
 pub record AreSideBySide {A : Type 0} (members : ℕ → Bool) (here there : Kept A) : Type 0 where
   pub before : List (Entry A)
   pub after : List (Entry A)

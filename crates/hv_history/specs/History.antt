@@ -11,11 +11,12 @@ use Rattle.hv_history.specs.declared.row.TheConstants.{MOST_OUTPUT}
 abbrev pub entries : {A : Type 0} → History A → List (Entry A)
 entries h = entries_of h.heads.items h.outputs.items h.rows.items
 
--- the event and the reply that are borrowed
+-- the borrowed event with its reply
 abbrev pub entry_by : {A : Type 0} → EntryRef → Entry A
 entry_by e = entry_from e.by e.asked e.input.now e.answer e.output.now
 
--- for how many more events there is room: each takes a row, a head and at most 256 bytes of output
+-- the number of further events for which there is room: each takes a row, a head and at most 256 bytes of
+-- output
 abbrev pub room_of : {A : Type 0} → History A → ℕ
 room_of h = min (min (vec_capacity h.rows - vec_len h.rows) (vec_capacity h.heads - vec_len h.heads))
     ((vec_capacity h.outputs - vec_len h.outputs) / MOST_OUTPUT)

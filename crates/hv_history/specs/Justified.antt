@@ -1,4 +1,4 @@
--- What in a history accounts for all that stands in its machine.
+-- Provenance: the entries of a history that account for what its machine has.
 use Rattle.std.specs.Prelude.{◌≡◌, ℕ, true, false, List, Some}
 use Rattle.std.specs.FinMap.{get}
 use Rattle.std.specs.Option.{option_map_or}
@@ -13,19 +13,19 @@ use Rattle.hv_tree.specs.Rows.{Rows}
 use Rattle.hv_history.specs.Row.{events_of, replies_of}
 use Rattle.hv_history.specs.declared.entry.Entry.{Entry}
 
--- what each entry did, one after another
+-- the operation of each entry, in order
 abbrev pub operations_in : {A : Type 0} → List (Entry A) → List Operation
 operations_in history = operations_of (events_of history) (replies_of history)
 
--- the state in which the event of the entry of a number came
+-- the state before the event of the entry with a number
 abbrev pub states_in : {A : Type 0} → Config → List (Entry A) → ℕ → Flat
 states_in config history = state_before config (events_of history)
 
--- Each port and each connection has the entry that made it and none since that ended it, and a connection
--- that keeps its port's birth is of that port's peer. Each message at a SINT, the slot's and those that wait,
--- has the entry that posted it, by the partition for which its port was made, a later one than the message
--- before it; and each event flag that is set has the entry that set it, by such a partition, and none since
--- that cleared it. Either stands at the processor that took it in the state in which that entry's event came.
+-- Each port and each connection has the entry that made it, and no later entry ended it. A connection that
+-- keeps its port's birth is of that port's peer. Each message at a SINT, shown or waiting, has the entry that
+-- posted it, later than that of the message before it. Each event flag that is set has the entry that set it,
+-- and no later entry cleared it. The partition for which the port was made posted or signalled it. The
+-- message or flag is at the processor that took it in the state before that entry's event.
 pub record IsJustified (states : ℕ → Flat) (operations : List Operation) (rows : Rows PartitionState) : Type 0
   where
     pub ports : (id number : ℕ) (port : PortRow) → port_row number (get rows id) ≡ Some port

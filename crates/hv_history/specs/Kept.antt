@@ -1,4 +1,4 @@
--- What is kept of a machine, and that it is a run.
+-- A machine with its history, and the invariant that the history is a run.
 use Rattle.std.specs.Prelude.{ℕ, ◌≡◌, ◌≤◌, List, [], ◌∷◌, ◌++◌, length, None}
 use Rattle.hv_abi.specs.declared.frame.Frame.{Frame}
 use Rattle.hv_policy.specs.BootFault.{boot_fault}
@@ -16,18 +16,18 @@ use Rattle.hv_history.specs.Justified.{IsJustified, operations_in, states_in}
 use Rattle.hv_history.specs.Row.{events_of, replies_of}
 use Rattle.hv_history.specs.declared.entry.Entry.{Entry}
 
--- what boot was given, how many events there may be, the events with their replies, and the machine
+-- the configuration at boot, the most events there may be, the events with their replies, and the machine
 pub record Kept (A : Type 0) : Type 0 where
   pub config : Config
   pub limit : ℕ
   pub history : List (Entry A)
   pub machine : State
 
--- The history is a run of the flat machine, from a configuration that boots: the machine stands for the state
--- in which the run of the events ends, each reply is the run's, and there are no more of them than the limit.
--- In the machine each page of the configuration stands in one page set of one partition and no other page in
--- any, what a partition uses is within its pool, and it has no privilege that its parent lacks; and the
--- history accounts for each port, connection, message and event flag.
+-- Invariant: the history is a run of the flat machine from a configuration that boots. The machine stands for
+-- the state in which the run ends, each reply is the run's, and there are at most as many events as the
+-- limit. Each page of the configuration is in one page set of one partition, and no other page is in any. A
+-- partition uses no more than its pool, and has no privilege that its parent lacks. The history accounts for
+-- each port, connection, message and event flag.
 pub record IsRun {A : Type 0} (k : Kept A) : Type 0 where
   pub machine : IsFlat k.machine (run k.config (events_of k.history)).0
   pub replies : replies_of k.history ≡ (run k.config (events_of k.history)).1
@@ -37,14 +37,15 @@ pub record IsRun {A : Type 0} (k : Kept A) : Type 0 where
   pub sound : IsSound k.machine
   pub justified : IsJustified (states_in k.config k.history) (operations_in k.history) k.machine.rows
 
--- an event more at the end, with its reply; what boot was given and the limit are the same
+-- the history has gained one event at its end, with its reply; configuration and limit are unchanged
 pub record HasGained {A : Type 0} (event : Event A) (reply : Reply) (old new : Kept A) : Type 0 where
   pub history : new.history ≡ old.history ++ record { event = event; reply = reply } ∷ []
   pub config : new.config ≡ old.config
   pub limit : new.limit ≡ old.limit
 
--- an event more at the end, with this reply: a refusal by a rule names one that is asked, a reply to a
--- hypercall has a result value, and a call goes on with the element after the one that was served
+-- The history has gained one event at its end, with this reply. A reply that names a rule names one that
+-- applies, a reply to a hypercall has a result value, and a call continues with the element after the one
+-- that was served.
 pub record IsTaken {A : Type 0} (event : Event A) (reply : Reply) (old new : Kept A) : Type 0 where
   pub gained : HasGained event reply old new
   pub asked : NamesAsked event reply

@@ -1,4 +1,4 @@
--- What is kept of an event and of its reply, and what it stands for.
+-- The packed form of an event with its reply, and the entry that it stands for.
 use Rattle.std.specs.Prelude.{ℕ, ◌+◌, ◌-◌, ◌≤◌, ◌<◌, List, [], length, map, take, drop, slice_index_or}
 use Rattle.std.specs.List.{All}
 use Rattle.hv_defs.specs.declared.sizes.TheConstants.{REPS_END}
@@ -42,7 +42,7 @@ with_rcx action.TakeInterrupt rcx = action.TakeInterrupt
 abbrev pub asking : {A : Type 0} → Event A → ℕ → Event A
 asking event rcx = record { by = event.by; what = with_rcx event.what rcx }
 
--- what was asked for, with these bytes as the input list of a call
+-- the action of a request, with these bytes as the input list of a call
 abbrev pub action_of : {A : Type 0} → Request → List ℕ → Action A
 action_of (asked.Hypercall rcx rdx r8) input = action.Hypercall
     (record { rcx = rcx; rdx = rdx; r8 = r8; input = input })
@@ -61,7 +61,7 @@ entry_from by asked input answer output = record {
   reply = reply_of answer output;
 }
 
--- the head at a place; a row names a place at which there is one
+-- the head at a place; every place that a row names has one
 abbrev pub head_at : {A : Type 0} → List (Event A) → ℕ → Event A
 head_at heads at = slice_index_or heads at (record
     { by = record { part = 0; vp = 0 }; what = action.TakeInterrupt })
@@ -71,11 +71,11 @@ abbrev pub last_row : List Row → Row
 last_row rows = slice_index_or rows (length rows - 1)
     (record { rcx = 0; head = 0; output = 0; output_len = 0; answer = answer.Served })
 
--- so many of the bytes, from a place on
+-- `len` bytes from a place on
 abbrev pub bytes_at : List ℕ → ℕ → ℕ → List ℕ
 bytes_at bytes start len = take len (drop start bytes)
 
--- the event and the reply of a row, whose head is among the heads, and whose output is among the bytes
+-- the entry of a row, with its head among the heads and its output among the bytes
 abbrev pub entry_of : {A : Type 0} → List (Event A) → List ℕ → Row → Entry A
 entry_of heads outputs row = record {
   event = asking (head_at heads row.head) row.rcx;
@@ -92,8 +92,8 @@ events_of entries = map (λ entry. entry.event) entries
 abbrev pub replies_of : {A : Type 0} → List (Entry A) → List Reply
 replies_of entries = map (λ entry. entry.reply) entries
 
--- the row's head is one of so many, its output stands within so many bytes and is no longer than an output
--- may be, and where its call goes on, the next element has an index
+-- invariant of a row: its head exists, its output is within the bytes and no longer than an output may be,
+-- and if its call continues, the next element has an index
 pub record IsPlaced (heads outputs : ℕ) (row : Row) : Type 0 where
   pub head : row.head < heads
   pub output : row.output + row.output_len ≤ outputs

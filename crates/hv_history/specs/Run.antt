@@ -14,11 +14,11 @@ use Rattle.hv_policy.specs.declared.reply.Reply.TheVariants.{Served, More, Denie
 use Rattle.hv_history.specs.Kept.{Kept}
 use Rattle.hv_history.specs.declared.entry.Entry.{Entry}
 
--- the element for which a frame asks
+-- the start index of a frame
 abbrev pub start_of : {A : Type 0} → Frame A → ℕ
 start_of frame = (input_value frame.rcx).start
 
--- the same call, from another element on
+-- the call of a frame, from another element on
 abbrev pub restart : {A : Type 0} → Frame A → ℕ → Frame A
 restart frame next = record frame { rcx = restarted frame.rcx next }
 
@@ -26,32 +26,31 @@ restart frame next = record frame { rcx = restarted frame.rcx next }
 abbrev pub element : {A : Type 0} → Caller → Frame A → Event A
 element by frame = record { by = by; what = Hypercall frame }
 
--- whether a call goes on after this reply
+-- the call continues after this reply
 abbrev pub IsMore : Reply → Type 0
 IsMore (More next output) = Unit {0}
 IsMore (Served output) = ⊥
 IsMore (Denied rule status reps) = ⊥
 IsMore (Fault rule) = ⊥
 
--- the reply says that the call goes on, with the element at this index
+-- the reply says that the call continues with the element at this index
 abbrev pub GoesOnAt : ℕ → Reply → Type 0
 GoesOnAt start (More next output) = (next ≡ start) × (start < REPS_END)
 GoesOnAt start (Served output) = ⊥
 GoesOnAt start (Denied rule status reps) = ⊥
 GoesOnAt start (Fault rule) = ⊥
 
--- One entry for each element of a call: the first asks for the one at the frame's start index, and each later
--- one for the one after that of the entry before it. All are answered that the call goes on with the next
--- element, and `now` is the frame that asks for it.
+-- One entry for each element of a call. The first asks for the element at the frame's start index, and each
+-- later one for the next element. Each reply says that the call continues with the next element, and `now` is
+-- the frame that asks for it.
 abbrev pub AreElements : {A : Type 0} → Caller → Frame A → List (Entry A) → Frame A → Type 0
 AreElements by frame [] now = now ≡ frame
 AreElements by frame (e ∷ es) now =
     (e.event ≡ element by frame) × GoesOnAt (start_of frame + 1) e.reply × AreElements by
     (restart frame (start_of frame + 1)) es now
 
--- The history has so many elements of a call more, from this frame on, in order: all but the last are
--- answered that the call goes on, and the last, that of the frame `last`, has this reply. They are as many as
--- there may be, or the call ended.
+-- The history has gained `events` elements of a call, in order, from this frame on. The call continues after
+-- each but the last, which has the frame `last` and this reply. There are `most` of them, or the call ended.
 pub record HasRun {A : Type 0} (by : Caller) (frame : Frame A) (reply : Reply) (events most : ℕ)
     (old new : Kept A) : Type 0 where
   pub before : List (Entry A)
@@ -68,8 +67,8 @@ pub record HasRun {A : Type 0} (by : Caller) (frame : Frame A) (reply : Reply) (
   pub result : HasResult reply
   pub next : GoesOn (Hypercall last) reply
 
--- The history has so many elements of a call more, from this frame on, in order, all of which are answered
--- that the call goes on. They are fewer than there may be.
+-- The history has gained `events` elements of a call, in order, from this frame on, fewer than `most`. The
+-- call continues after each.
 pub record HasStopped {A : Type 0} (by : Caller) (frame : Frame A) (events most : ℕ) (old new : Kept A) : Type
     0 where
   pub before : List (Entry A)

@@ -4,14 +4,14 @@ ghost use Rattle.std.specs.Prelude.{◌≡◌, ◌↔◌, IsTrue};
 use hv_machine::{Action, Answer, Caller, Event, Reply};
 use std::alloc::Allocator;
 
-/// One event with its reply, as contracts see what happened.
+/// An event with its reply, as contracts see it.
 #[derive(Drop)]
 pub struct Entry<A: Allocator> {
     pub event: Event<A>,
     pub reply: Reply,
 }
 
-/// What an event asked for, but for the bytes of a call's input list.
+/// The request of an event, without the bytes of a call's input list.
 #[derive(Clone, Copy, PartialEq, Eq, Debug)]
 pub enum Request {
     /// A simple hypercall, or the element of a rep hypercall at its start index: the registers of its frame.
@@ -35,7 +35,7 @@ pub enum Request {
 impl Request {
     ghost use Rattle.hv_history.specs.Row.{action_of, with_rcx};
 
-    // What an action asks for, with this RCX where it is a call, and the bytes of its input list. An access
+    // Returns an action's request, with this RCX if it is a call, and the bytes of its input list. An access
     // has none.
     pub(crate) fn of<A: Allocator>(what: &Action<A>, rcx: u64) -> (Request, &[u8])
         ensures { action_of result.0 result.1.now ≡ with_rcx what.now rcx }
@@ -69,7 +69,7 @@ pub struct EntryRef<'h> {
     /// The bytes of the input list of a call. An access has none.
     pub input: &'h [u8],
     pub answer: Answer,
-    /// The bytes that the event put out, at most 256.
+    /// The output of the event, at most 256 bytes.
     pub output: &'h [u8],
 }
 
@@ -78,14 +78,14 @@ impl<'h> EntryRef<'h> {
     ghost use Rattle.hv_history.specs.Row.{action_of};
     ghost use Rattle.hv_policy.specs.Parts.{reply_of};
 
-    /// Whether both are the same event with the same reply.
+    /// Returns `true` if both are the same event with the same reply.
     pub fn is_same<A: Allocator>(&self, other: &EntryRef<'_>) -> bool
         ensures { IsTrue result ↔ (entry_by {A = A} self.now ≡ entry_by other.now) }
     {
         self.by == other.by && self.asks_the_same::<A>(other) && self.is_answered_the_same(other)
     }
 
-    // Whether both ask for the same. Only a hypercall has an input list.
+    // Returns `true` if both requests are equal. Only a hypercall has an input list.
     fn asks_the_same<A: Allocator>(&self, other: &EntryRef<'_>) -> bool
         ensures { IsTrue result ↔ (action_of {A = A} self.now.asked self.now.input.now
             ≡ action_of other.now.asked other.now.input.now) }
@@ -102,7 +102,7 @@ impl<'h> EntryRef<'h> {
         }
     }
 
-    // Whether both are answered the same. Only what is served puts something out.
+    // Returns `true` if both replies are equal. Only a served event has output.
     fn is_answered_the_same(&self, other: &EntryRef<'_>) -> bool
         ensures { IsTrue result ↔ (reply_of self.now.answer self.now.output.now
             ≡ reply_of other.now.answer other.now.output.now) }

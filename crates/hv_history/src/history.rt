@@ -1,4 +1,4 @@
-// What happened.
+// The history: events with their replies.
 ghost use Rattle.std.specs.Prelude.{◌≡◌, ◌+◌, ◌<◌, ◌≤◌, ◌++◌, [], ◌∷◌, ℕ, List, IsTrue, OnOk, Some};
 ghost use Rattle.std.specs.Prelude.{length, slice_get, vec_len, vec_capacity};
 ghost use Rattle.hv_abi.specs.declared.frame.Frame.{Frame as CallFrame};
@@ -18,7 +18,7 @@ use std::alloc::{AllocError, Allocator};
 use std::mem;
 
 impl<A: Allocator + Copy> History<A> {
-    /// No events.
+    /// Creates a history without events.
     pub fn new(alloc: A) -> History<A>
         ensures { entries result ≡ [] }
     {
@@ -31,7 +31,7 @@ impl<A: Allocator + Copy> History<A> {
 }
 
 impl<A: Allocator> History<A> {
-    /// How many events happened.
+    /// The number of events.
     pub fn len(&self) -> usize
         ensures { result ≡ length (entries self.now) }
     {
@@ -57,7 +57,7 @@ impl<A: Allocator> History<A> {
         }
     }
 
-    /// For how many more events there is room, whatever they are.
+    /// The number of further events for which there is room, whatever they are.
     pub fn room(&self) -> usize
         ensures { result ≡ room_of self.now }
     {
@@ -67,12 +67,12 @@ impl<A: Allocator> History<A> {
         rows.min(heads).min(outputs)
     }
 
-    /// Makes room for so many more events, whatever they are.
+    /// Makes room for `more` further events, whatever they are.
     pub fn reserve(&mut self, more: usize) -> Result<(), AllocError>
         ensures same { entries self.new ≡ entries self.old }
         ensures room { OnOk result (more ≤ room_of self.new) }
     {
-        // No host has memory for more bytes than a number counts.
+        // No host has more bytes of memory than a `usize` counts.
         let Some(bytes) = more.checked_mul(MOST_OUTPUT) else {
             return Err(AllocError);
         };
@@ -81,8 +81,7 @@ impl<A: Allocator> History<A> {
         self.outputs.reserve(bytes)
     }
 
-    /// Adds an event, for which there is room, with its reply. The reply comes as its answer and what it
-    /// puts out.
+    /// Adds an event, for which there is room, with its reply. The reply comes as its answer and its output.
     pub fn push(&mut self, event: Event<A>, answer: Answer, output: &[u8])
         requires room { 1 ≤ room_of self.old }
         requires most { length output.now ≤ MOST_OUTPUT }
@@ -96,8 +95,8 @@ impl<A: Allocator> History<A> {
         self.push_row(head, rcx, answer, output);
     }
 
-    // The place of a head for an event: the last one, where the event differs from it in RCX alone and is let
-    // go, or else its own.
+    // Returns the place of an event's head. If the event differs from the last head in RCX alone, that head
+    // serves, and the event is dropped. Otherwise the event becomes a head.
     fn place(&mut self, event: Event<A>) -> usize
         requires { vec_len self.old.heads < vec_capacity self.old.heads }
         ensures rows { self.new.rows ≡ self.old.rows }
@@ -117,7 +116,7 @@ impl<A: Allocator> History<A> {
         self.heads.len() - 1
     }
 
-    // Adds a row with a head that is there. There is room for it and for its output.
+    // Adds a row, whose head exists. There is room for the row and its output.
     fn push_row(&mut self, head: usize, rcx: u64, answer: Answer, output: &[u8])
         requires rows { vec_len self.old.rows < vec_capacity self.old.rows }
         requires outputs { vec_len self.old.outputs + MOST_OUTPUT ≤ vec_capacity self.old.outputs }
@@ -145,7 +144,7 @@ impl<A: Allocator> History<A> {
         });
     }
 
-    // Has the last event's head ask for another element of its call.
+    // Makes the last event's head ask for another element of its call.
     pub(crate) fn restart(&mut self, start: u16)
         requires some { 0 < length (entries self.old) }
         requires index { start < REPS_END }
@@ -174,7 +173,7 @@ impl<A: Allocator> History<A> {
         &self.heads[row.head]
     }
 
-    // Adds the event that stands in the last event's head with its reply, for which there is room.
+    // Adds the event in the last event's head with its reply. There is room for it.
     pub(crate) fn push_head(&mut self, answer: Answer, output: &[u8])
         requires some { 0 < length (entries self.old) }
         requires room { 1 ≤ room_of self.old }
@@ -217,7 +216,7 @@ fn are_alike<A: Allocator>(head: &Event<A>, event: &Event<A>) -> bool
     }
 }
 
-// The event of a head, a call, with this RCX but for the element that it asks for.
+// Returns the head's event, a call, with this RCX and this start index.
 fn at_element<A: Allocator>(head: Event<A>, rcx: u64, start: u16) -> Event<A>
     requires { start < REPS_END }
     ensures call { (frame : CallFrame A) → (asking head rcx).what ≡ Hypercall frame

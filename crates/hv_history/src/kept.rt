@@ -22,17 +22,18 @@ use hv_machine::{Answer, BootRefused, Config, Event, Machine, Reply, Rule};
 use std::alloc::Allocator;
 use std::marker::Model;
 
-/// Why the host couldn't let an event happen, in the order in which the causes are looked for. Nothing
-/// changed.
+/// Why the host refused an event. Nothing changed.
+///
+/// The variants have the order in which the host checks them.
 #[derive(Clone, Copy, PartialEq, Eq, Debug)]
 pub enum HostRefused {
-    /// The history is as long as its limit. No rule was asked.
+    /// The history has reached its limit. No rule was checked.
     HistoryFull,
-    /// The host has no memory for it.
+    /// The host has no memory for the event.
     Memory,
 }
 
-/// A machine, with the events that made it what it is and their replies.
+/// A machine, with the events that led to its state and their replies.
 #[derive(Drop)]
 pub struct Kept<A: Allocator> {
     config: Config,
@@ -67,7 +68,7 @@ impl<A: Allocator> Model for Kept<A> {
 }
 
 impl<A: Allocator + Copy> Kept<A> {
-    /// Boots a machine, to which nothing happened yet. It will take at most `limit` events.
+    /// Boots a machine without events. It takes at most `limit` events.
     pub fn boot(alloc: A, config: Config, limit: u32) -> Result<Kept<A>, BootRefused>
         ensures refused { IfErr result (IsBootRefusal config) }
         ensures accepted { IfOk result (λ k. boot_fault config ≡ None) }
@@ -87,24 +88,25 @@ impl<A: Allocator + Copy> Kept<A> {
 }
 
 impl<A: Allocator + Clone> Kept<A> {
-    /// Lets an event happen, and answers its number and its reply. Numbers count from 1, in the order in
-    /// which events happen. An event that the host refuses is let go.
+    /// Applies an event, and returns its number and its reply.
+    ///
+    /// Numbers count from 1, in the order in which events happen. An event that the host refuses is dropped.
     // Inlined: calls for the own id in bench/largest.sh.
     #[inline(always)]
     pub fn apply(&mut self, event: Event<A>) -> Result<(u64, Reply), HostRefused>
-        // The history has the event with its reply more, and is a run still, so that the reply and the
-        // new state are those of the flat step. The number is its place.
+        // The history gains the event with its reply, and is still a run. So the reply and the new state are
+        // those of the flat step. The number is the event's place.
         ensures applied { IfOk result (λ r. HasGained event r.1 self.old self.new) }
         ensures number { IfOk result (λ r. r.0 ≡ length self.new.history) }
         ensures run { IsRun self.new }
 
-        // A full history takes no event, before any rule. Else the host needs memory, for the machine or
-        // for the history.
+        // The host refuses every event of a full history, before any rule is checked. Any other refusal is
+        // for lack of memory, for the machine or for the history.
         ensures full { IsErrOf result HostRefused.HistoryFull ↔ (length self.old.history ≡ self.old.limit) }
         ensures refused { OnErr result (self.new ≡ self.old) }
 
-        // A refusal by a rule names one that is asked, a reply to a hypercall has a result value, and a
-        // call goes on with the element after the one that was served.
+        // A reply that names a rule names one that applies. The reply to a hypercall has a result value. A
+        // call continues with the element after the one that was served.
         ensures asked { IfOk result (λ r. NamesAsked event r.1) }
         ensures result { (frame : Frame A) → event.what ≡ Hypercall frame
             → IfOk result (λ r. HasResult r.1) }
@@ -124,7 +126,7 @@ impl<A: Allocator + Clone> Kept<A> {
         Ok((self.history.len() as u64, reply))
     }
 
-    // Lets the element of the last event's call with this start index happen, as `apply` does.
+    // Applies the element of the last event's call with this start index, as `apply` does.
     pub(crate) fn apply_next(&mut self, start: u16) -> Result<Reply, HostRefused>
         requires some { 0 < length self.old.history }
         requires index { start < REPS_END }
@@ -152,8 +154,9 @@ impl<A: Allocator + Clone> Kept<A> {
 }
 
 impl<A: Allocator> Kept<A> {
-    /// What happened, in its order. It is a run of the policy with the replies of that run, from a
-    /// configuration that boots.
+    /// The events with their replies, in order.
+    ///
+    /// They are a run of the policy from a configuration that boots, with the replies of that run.
     pub fn history(&self) -> &History<A>
         ensures list { entries result.now ≡ self.now.history }
         ensures run { IsRun self.now }
@@ -161,10 +164,11 @@ impl<A: Allocator> Kept<A> {
         &self.history
     }
 
-    /// The machine that the history made. Each page has one owner, what is in use is within its pool, and
-    /// each mask within the parent's. Each message that stands in it was posted by an entry of the history,
-    /// each event flag that is set was signalled by one, and each port and connection was made by one. The
-    /// message or the flag stands at the processor that took it then.
+    /// The machine that the history made.
+    ///
+    /// Each page has one owner. The pages in use are within the pool, and each mask is within the parent's.
+    /// An entry of the history posted each message, signalled each event flag that is set, and made each port
+    /// and connection. A message or flag is at the processor that took it then.
     pub fn machine(&self) -> &Machine<A>
         ensures machine { result.now ≡ self.now.machine }
         ensures run { IsRun self.now }
@@ -176,21 +180,21 @@ impl<A: Allocator> Kept<A> {
         &self.machine
     }
 
-    /// What boot was given.
+    /// The configuration that boot was given.
     pub fn config(&self) -> Config
         ensures { result ≡ self.now.config }
     {
         self.config
     }
 
-    /// How many events the history may have.
+    /// The most events that the history may have.
     pub fn limit(&self) -> u32
         ensures { result ≡ self.now.limit }
     {
         self.limit
     }
 
-    /// Whether the history has no room for another event.
+    /// Returns `true` if the history has no room for another event.
     pub fn is_full(&self) -> bool
         ensures { IsTrue result ↔ (length self.now.history ≡ self.now.limit) }
     {
@@ -198,7 +202,7 @@ impl<A: Allocator> Kept<A> {
     }
 }
 
-/// How an access is answered of which this became.
+/// Returns the answer to an access with this outcome.
 pub fn answer_of(became: Result<(), Rule>) -> Answer
     ensures reply { (output : List ℕ) → reply_of result output ≡ access_reply became output }
     ensures index { next_in (reply_of result []) < REPS_END }

@@ -1,9 +1,9 @@
-//! What happened, and the machine that it made.
+//! A machine with the history of its events.
 //!
-//! A [`Kept`] has a machine with the list of the events that it took since boot and their replies, at
-//! most as many as its limit. `IsRun` in `specs/` says what holds of each: the history is a run of the
-//! flat policy, and the machine stands for the state in which that run ends. The history, its limit and
-//! its numbers are this project's own.
+//! A [`Kept`] has a machine, and the events that it took since boot, with their replies. There are at most as
+//! many events as its limit. `IsRun` in `specs/` states the invariant: the history is a run of the flat
+//! policy, and the machine stands for the state in which that run ends. The history, its limit and its
+//! numbers are this project's own.
 #![tactic(auto)]
 
 mod beside;

@@ -1,14 +1,14 @@
-// What is kept of events and of their replies.
+// The packed form of events and of their replies.
 ghost use Rattle.std.specs.Prelude.{vec_len};
 ghost use Rattle.hv_history.specs.Row.{ArePlaced};
 
 use hv_machine::{Answer, Event};
 use std::alloc::Allocator;
 
-// The most bytes that an event puts out, which are those of a message slot.
+// The most bytes of an event's output: those of a message slot.
 pub(crate) const MOST_OUTPUT: usize = 256;
 
-// What an event was, but for what it shares with others, and its reply.
+// An event with its reply, without what it shares with other events.
 #[derive(Clone, Copy)]
 pub(crate) struct Row {
     // RCX of a call, else 0.
@@ -21,14 +21,16 @@ pub(crate) struct Row {
     pub(crate) answer: Answer,
 }
 
-/// Events with their replies, in the order in which they happened. An event that differs from the one
-/// before it in RCX alone, as the elements of a rep call do, takes no memory for its input.
+/// Events with their replies, in the order in which they happened.
+///
+/// An event that differs from the one before it in RCX alone takes no memory for its input. The elements of a
+/// rep call are such events.
 #[derive(Drop)]
 pub struct History<A: Allocator> {
     pub(crate) rows: Vec<Row, A>,
-    // The events that the rows name, each as it came first. Its RCX is that of no row.
+    // The events that the rows name, each as it came first. No row uses the RCX of its head.
     pub(crate) heads: Vec<Event<A>, A>,
-    // The bytes that the events put out, one after the other.
+    // The outputs of the events, one after another.
     pub(crate) outputs: Vec<u8, A>,
     ghost placed: { ArePlaced (vec_len heads) (vec_len outputs) rows.items },
 }

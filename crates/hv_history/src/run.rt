@@ -10,19 +10,20 @@ use hv_abi::Frame;
 use hv_machine::{Action, Answer, Caller, Event, Reply};
 use std::alloc::Allocator;
 
-/// What became of several elements of one call.
+/// The outcome of several elements of one call.
 #[derive(Drop)]
 pub struct RunDone {
-    /// How many happened.
+    /// The number of elements that happened.
     pub events: u32,
     /// The reply to the last of them, or why the host refused the next one.
     pub last: Result<Reply, HostRefused>,
 }
 
 impl<A: Allocator + Clone> Kept<A> {
-    /// Lets the elements of a call happen from the frame's start index on, each as [`Kept::apply`] would.
-    /// It stops after `most` of them, after one that is answered otherwise than that the call goes on, or
-    /// where the host refuses one.
+    /// Applies the elements of a call from the frame's start index on, each as [`Kept::apply`] does.
+    ///
+    /// It stops after `most` elements, after a reply that ends the call, or at an element that the host
+    /// refuses.
     // Inlined: calls for the own id in bench/largest.sh.
     #[inline(always)]
     pub fn apply_run(&mut self, by: Caller, frame: Frame<A>, most: u32) -> RunDone
@@ -33,7 +34,7 @@ impl<A: Allocator + Clone> Kept<A> {
         // Each reply is that of the run.
         ensures run { IsRun self.new }
 
-        // The host refuses an element for a full history where there is one, and else for lack of memory.
+        // The host refuses an element because the history is full, and otherwise for lack of memory.
         ensures full { IfErr result.last (λ why. (why ≡ HostRefused.HistoryFull)
             ↔ (length self.new.history ≡ self.new.limit)) }
     {
@@ -78,7 +79,7 @@ impl<A: Allocator + Clone> Kept<A> {
     }
 }
 
-/// The element with which a call goes on after this answer.
+/// Returns the element with which a call continues after this answer, if it does.
 pub fn next_of(answer: Answer) -> Option<u16>
     ensures some { IfSome result (λ next. (output : List ℕ) → reply_of answer output ≡ More next output) }
     ensures none { IfNone result ((output : List ℕ) → IsMore (reply_of answer output) → ⊥) }

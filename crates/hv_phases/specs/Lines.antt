@@ -1,4 +1,4 @@
--- What the lines of a script come to.
+-- The history of a run of a script's lines.
 use Rattle.std.specs.Prelude.{ℕ, ◌≡◌, ◌+◌, ◌<◌, List, [], ◌∷◌, ◌++◌, length, map, filter, All}
 use Rattle.std.specs.declared.alloc.Global.{Global}
 use Rattle.hv_history.specs.declared.entry.Entry.{Entry}
@@ -8,20 +8,20 @@ use Rattle.hv_script.specs.declared.line.Line.{Line}
 use Rattle.hv_shared.specs.ByCaller.{is_caller, receipts_by}
 use Rattle.hv_threads.specs.Perform.{AreWhole, IsWhole}
 
--- what the lines of this processor ask for, in order
+-- the actions that the lines of this processor ask for, in order
 abbrev pub asked_by : Caller → List (Line Global) → List (Action Global)
 asked_by by lines = map (λ line. line.action) (filter (λ line. is_caller by line.by) lines)
 
--- what each processor did, in the history's order, is what its lines ask for, in their order, each of them to
--- its end; and one that no line names did nothing
+-- In the history's order, each processor performed what its lines ask for, in their order and to its end. A
+-- processor that no line names did nothing.
 abbrev pub AreRun : List (Line Global) → List (Entry Global) → Type 0
 AreRun lines history = (by : Caller) → AreWhole by (asked_by by lines) (receipts_by by 1 history)
 
--- each of these lines stands in an earlier phase than each of those
+-- each of these lines is in an earlier phase than each of those
 abbrev pub AreApart : List (Line Global) → List (Line Global) → Type 0
 AreApart before after = All (λ line. All (λ next. line.phase < next.phase) after) before
 
--- the history is what the lines before did, then what the lines after did
+-- the history has the events of the lines before, then those of the lines after
 pub record HasCut (before after : List (Line Global)) (history : List (Entry Global)) : Type 0 where
   pub own : List (Entry Global)
   pub rest : List (Entry Global)
@@ -29,14 +29,13 @@ pub record HasCut (before after : List (Line Global)) (history : List (Entry Glo
   pub before_run : AreRun before own
   pub after_run : AreRun after rest
 
--- wherever one phase ends and another begins, all that was done in the phases before stands before all that
--- was done after
+-- wherever one phase ends and another begins, all events of the phases before come before all events after
 abbrev pub ArePhased : List (Line Global) → List (Entry Global) → Type 0
 ArePhased lines history = (before after : List (Line Global)) → lines ≡ before ++ after → AreApart before
     after → HasCut before after history
 
--- The entries of these lines, from number n on, those of each behind those of the line before it: all by the
--- line's processor, and what the line asks for, to its end.
+-- The entries of these lines from number n on, line by line. The entries of a line are all by its processor,
+-- and perform what the line asks for to its end.
 abbrev pub AreInOrder : ℕ → List (Line Global) → List (Entry Global) → Type 0
 AreInOrder n [] entries = entries ≡ []
 AreInOrder n (line ∷ lines) entries =

@@ -20,18 +20,18 @@ use Rattle.hv_threads.specs.declared.phase.Work.{Work}
 use Rattle.indexmap.specs.IndexMap.{IndexMap, get}
 use Rattle.indexmap.specs.IndexSet.{IndexSet, contains}
 
--- each processor stands there once, and so does each that a line names
+-- the callers all differ, and include each processor that a line names
 pub record AreCallersOf (lines : List (Line Global)) (callers : List Caller) : Type 0 where
   pub different : AreDifferent callers
   pub named : All (λ line. Contains callers line.by) lines
 
--- this caller is there, once, beside those that were there
+-- this caller is in the list, beside those that were, and the callers still differ
 pub record HasCaller (by : Caller) (old new : List Caller) : Type 0 where
   pub different : AreDifferent old → AreDifferent new
   pub there : Contains new by
   pub kept : (c : Caller) → Contains old c → Contains new c
 
--- the key of a processor, and whether two are one
+-- the key of a processor, and whether two keys are equal
 abbrev pub key_of : Caller → ℕ × ℕ
 key_of by = (by.part, by.vp)
 
@@ -51,18 +51,18 @@ pub record HaveRun (lines : List (Line Global)) (passes : List PassValue) : Type
   pub callers : AreCallersOf lines (map (λ pass. pass.caller) passes)
   pub run : All (HasRun lines) passes
 
--- the receipts of the pass are those of what its processor did by this history
+-- the pass's receipts are those of its processor's events in this history
 abbrev pub IsToldOf : List (Entry Global) → PassValue → Type 0
 IsToldOf history pass = pass.receipts ≡ receipts_by pass.caller 1 history
 
--- the passes have the receipts of a history in which the entries of each of these lines stand behind those of
--- the line before it
+-- the passes have the receipts of a history in which the entries of each line come after those of the line
+-- before it
 pub record HaveRunInOrder (lines : List (Line Global)) (passes : List PassValue) : Type 0 where
   pub history : List (Entry Global)
   pub order : AreInOrder 1 lines history
   pub told : All (IsToldOf history) passes
 
--- the number of the last event after these receipts, if they have the numbers behind this one, in turn
+-- the number of the last event after these receipts, if their numbers follow this one in turn
 abbrev pub last_in_turn : ℕ → List Receipt → Option ℕ
 last_in_turn last [] = Some last
 last_in_turn last (r ∷ receipts) = if r.number == last + 1 then last_in_turn (last + 1) receipts else None
@@ -73,7 +73,7 @@ pub record IsReady {L : Type 0} (ran : List (Line Global)) (member : PassEntry L
   pub asked : member.asked.items ≡ []
   pub going : member.stopped ≡ false
 
--- a phase that has ended: its lines, and the highest number of a receipt until its end
+-- a phase that has ended: its lines, and the highest receipt number at its end
 pub record Past : Type 0 where
   pub lines : List (Line Global)
   pub last : ℕ
@@ -83,16 +83,16 @@ abbrev pub lines_in : List Past → List (Line Global)
 lines_in [] = []
 lines_in (phase ∷ past) = phase.lines ++ lines_in past
 
--- the highest number until the end of these phases, where this one is the highest before them
+-- the highest receipt number at the end of these phases, where this one is the highest before them
 abbrev pub last_in : ℕ → List Past → ℕ
 last_in last [] = last
 last_in last (phase ∷ past) = last_in phase.last past
 
--- these lines stand in one phase
+-- these lines are of one phase
 abbrev pub AreOfOne : List (Line Global) → Type 0
 AreOfOne lines = (phase : ℕ) × All (λ line. line.phase ≡ phase) lines
 
--- the lines of each stand in one phase, and the highest number never falls
+-- the lines of each are of one phase, and the highest number never falls
 abbrev pub ArePast : ℕ → List Past → Type 0
 ArePast last [] = ⊤
 ArePast last (phase ∷ past) = AreOfOne phase.lines × (last ≤ phase.last) × ArePast phase.last past
@@ -101,7 +101,7 @@ ArePast last (phase ∷ past) = AreOfOne phase.lines × (last ≤ phase.last) ×
 abbrev pub IsWithin : ℕ → ℕ → Receipt → Type 0
 IsWithin low high r = (low < r.number) × (r.number ≤ high)
 
--- the receipts of a processor in these phases: of each what its lines ask for, behind the last receipt of the
+-- a processor's receipts in these phases: in each, what its lines ask for, after the last receipt of the
 -- phases before it
 abbrev pub AreBehind : Caller → ℕ → List Past → List Receipt → Type 0
 AreBehind by last [] receipts = receipts ≡ []
@@ -110,11 +110,11 @@ AreBehind by last (phase ∷ past) receipts =
     (asked_by by phase.lines) own × All (IsWithin last phase.last) own
     × AreBehind by phase.last past rest
 
--- the pass's processor has run these phases, each behind the one before it
+-- the pass's processor has run these phases, each after the one before it
 abbrev pub HasRunPhases : List Past → PassValue → Type 0
 HasRunPhases past pass = AreBehind pass.caller 0 past pass.receipts
 
--- the passes have run these lines phase by phase, each phase behind the one before it
+-- the passes have run these lines phase by phase, each phase after the one before it
 pub record HaveRunPhases (lines : List (Line Global)) (passes : List PassValue) : Type 0 where
   pub past : List Past
   pub lines_are : lines_in past ≡ lines
@@ -140,18 +140,18 @@ pub record IsWorkOf {L : Type 0} (past : List Past) (taken : List (Line Global))
     pub run : HasRunPhases past work.pass
     pub asked : work.actions.items ≡ asked_by work.pass.caller taken
 
--- each receipt that these passes gained, each behind so many, has a number above `last` and not above `now`
+-- each receipt of these passes beyond its count has a number above `last` and not above `now`
 pub record HaveGained {L : Type 0} (counts : List ℕ) (last now : ℕ) (dones : List (Done L)) : Type 0 where
   pub rises : last ≤ now
   pub each : (i : ℕ) (d : Done L) → i < length dones → All (IsWithin last now)
       (drop (slice_index_or counts i 0) (slice_index_or dones i d).pass.receipts)
 
--- what each processor holds, by its key
+-- the entry of each processor, by its key
 abbrev pub PassMap : Type 0 → Type 0 → Type 0
 PassMap L S = IndexMap (ℕ × ℕ) (PassEntry L) S
 
 module _ {L S : Type 0} where
-  -- what a processor holds
+  -- the entry of a processor
   abbrev pub member_of : Caller → PassMap L S → Option (PassEntry L)
   member_of by pass_map = get is_key pass_map (key_of by)
 
@@ -161,14 +161,14 @@ module _ {L S : Type 0} where
   abbrev pub HaveMembers : List Caller → PassMap L S → Type 0
   HaveMembers callers pass_map = (c : Caller) → Contains callers c → IsThere pass_map c
 
-  -- each holds the pass of its processor, and this is so of it
+  -- each entry has the pass of its processor, and this property
   abbrev pub Each : (PassEntry L → Type 0) → PassMap L S → Type 0
   Each P pass_map = (c : Caller) (m : PassEntry L) → member_of c pass_map ≡ Some m → (m.pass.caller ≡ c) × P m
 
   abbrev pub AreKeyed : PassMap L S → Type 0
   AreKeyed pass_map = (c : Caller) (m : PassEntry L) → member_of c pass_map ≡ Some m → m.pass.caller ≡ c
 
-  -- the pass joined, with nothing to do
+  -- the pass was added, with nothing to do
   pub record HasJoined (pass : PassValue) (stopped : Bool) (old new : PassMap L S) : Type 0 where
     pub member : PassEntry L
     pub here : member_of pass.caller new ≡ Some member
@@ -177,7 +177,7 @@ module _ {L S : Type 0} where
     pub stopped_is : member.stopped ≡ stopped
     pub others : (c : Caller) → (c ≡ pass.caller → ⊥) → member_of c new ≡ member_of c old
 
-  -- somebody in the crew holds the pass
+  -- some processor has the pass
   pub record IsHeld (pass_map : PassMap L S) (pass : PassValue) : Type 0 where
     pub by : Caller
     pub member : PassEntry L
@@ -190,7 +190,7 @@ module _ {L S : Type 0} where
         (λ pass. pass.caller) passes ≡ order
     pub each : All (IsHeld pass_map) passes
 
-  -- whoever was there is there
+  -- each processor that had an entry has one
   abbrev pub StayThere : PassMap L S → PassMap L S → Type 0
   StayThere old new = (c : Caller) → IsThere old c → IsThere new c
 
@@ -205,31 +205,31 @@ module _ {L S : Type 0} where
     pub each : Each (IsReady lines) new
     pub there : StayThere old new
 
-  -- the crew has the receipts of a history in which the entries of each of these lines stand behind those of
-  -- the line before it
+  -- the passes have the receipts of a history in which the entries of each line come after those of the line
+  -- before it
   pub record HasRunInOrder (lines : List (Line Global)) (pass_map : PassMap L S) : Type 0 where
     pub history : List (Entry Global)
     pub order : AreInOrder 1 lines history
     pub told : Each (λ member. IsToldOf history member.pass) pass_map
 
-  -- the crew has such receipts of these lines, and the last event has this number, unless a receipt wasn't in
-  -- its turn
+  -- if every receipt came in its turn, the passes have run these lines in order, and the last event has this
+  -- number
   abbrev pub IsTurn : List (Line Global) → Option ℕ → PassMap L S → Type 0
   IsTurn lines turn pass_map = IfSome turn (λ last. (run : HasRunInOrder lines pass_map) ×
       (length run.history ≡ last))
 
-  -- what a line's processor did stands behind what was done before
+  -- the events of the line's processor come after all events before
   abbrev pub KeepsOrder : Line Global → Option ℕ → Option ℕ → PassMap L S → PassMap L S → Type 0
   KeepsOrder line turn_old turn_new old new =
       (ran : List (Line Global)) → IsThere old line.by → Each (IsReady ran) old → IsTurn ran turn_old old →
       IsTurn (ran ++ line ∷ []) turn_new new
 
-  -- who isn't among these has nothing to do
+  -- only these processors have something to do
   abbrev pub AreBusy : List Caller → PassMap L S → Type 0
   AreBusy members pass_map = (c : Caller) (m : PassEntry L) → member_of c pass_map ≡ Some m → Contains members
       c ⊎ (m.asked.items ≡ [])
 
-  -- the crew has run these lines phase by phase, each phase behind the one before it
+  -- the passes have run these lines phase by phase, each phase after the one before it
   pub record HasRunAllPhases (lines : List (Line Global)) (pass_map : PassMap L S) : Type 0 where
     pub past : List Past
     pub lines_are : lines_in past ≡ lines
@@ -244,8 +244,8 @@ module _ {L S : Type 0} where
     pub busy : AreBusy members_old old → AreBusy members_new new
     pub there : StayThere old new
 
-  -- a line and the next ones of its phase, of those that are left, of which the first stands last, were
-  -- handed to their processors
+  -- The first line and the next ones of its phase were handed to their processors. The lines that are left
+  -- are in reverse order.
   pub record HasHandedOut (first : Line Global) (left_old left_new : List (Line Global))
       (members : List Caller) (old new : PassMap L S) : Type 0 where
     pub more : List (Line Global)
@@ -255,7 +255,7 @@ module _ {L S : Type 0} where
         AreBusy members new
     pub there : StayThere old new
 
-  -- the works of these processors were taken out, but for those that are left
+  -- the works of these processors were taken out, except those of `left`
   pub record HasLent (members left : List Caller) (works : List (Work L)) (old new : PassMap L S) : Type 0
     where
       pub each : (past : List Past) (taken : List (Line Global)) → Each (IsGiven past taken) old → Each
@@ -264,7 +264,7 @@ module _ {L S : Type 0} where
       pub there : AreKeyed old → AreKeyed new × ((c : Caller) → IsThere old c → IsThere new c ⊎ Contains
           (map (λ work. work.pass.caller) works) c)
 
-  -- what was done came back, and the host stopped nobody
+  -- the outcomes were taken back, and the host stopped no processor
   pub record HasTaken (dones : List (Done L)) (old new : PassMap L S) : Type 0 where
     pub ended : All (λ done. done.end ≡ Finished) dones
     pub each : (past : List Past) → All (λ done. HasRunPhases past done.pass) dones → Each (IsGiven past [])
@@ -272,8 +272,7 @@ module _ {L S : Type 0} where
     pub there : (c : Caller) → IsThere old c ⊎ Contains (map (λ done. done.pass.caller) dones) c → IsThere new
         c
 
-  -- what was handed to these processors was done, each event behind the last one before it, and up to the
-  -- number `now`
+  -- these processors performed what was handed to them, with event numbers above `last` and up to `now`
   pub record HasRunPhase (members : List Caller) (last now : ℕ) (old new : PassMap L S) : Type 0 where
     pub rises : last ≤ now
     pub each : (past : List Past) (taken : List (Line Global)) → last_in 0 past ≡ last → Each

@@ -1,4 +1,4 @@
-// What shows that a phase began after the one before it had ended: the numbers of its receipts.
+// Numbers of receipts, which show that a phase began after the one before it had ended.
 ghost use Rattle.std.specs.Prelude.{◌≡◌, IfOk, IfSome, drop, length, map};
 ghost use Rattle.hv_phases.specs.PassMap.{HaveGained, highest_above};
 ghost use Rattle.hv_shared.specs.Receipts.{list_of};
@@ -7,7 +7,7 @@ use hv_threads::{Done, Receipts, Work};
 use std::alloc::{AllocError, Global};
 use std::sync::ledger::Ledger;
 
-/// How many receipts each pass has before its thread.
+/// Returns the number of receipts that each pass has before its thread.
 pub fn counts_of<L: Ledger>(alloc: Global, works: &[Work<L>]) -> Result<Vec<usize>, AllocError>
     ensures { IfOk result (λ counts. counts.items ≡ map (λ work. length work.pass.receipts) works.now) }
 {
@@ -18,8 +18,9 @@ pub fn counts_of<L: Ledger>(alloc: Global, works: &[Work<L>]) -> Result<Vec<usiz
     Ok(counts)
 }
 
-/// The highest number of a receipt at the end of a phase, if each receipt that the passes gained has a number
-/// above `last`, the highest before the phase. `counts` tells how many receipts each had then.
+/// Returns the highest receipt number at the end of a phase, if each new receipt has a number above `last`.
+///
+/// `last` is the highest number before the phase, and `counts` has each pass's number of receipts then.
 pub fn end_of_phase<L: Ledger>(dones: &[Done<L>], counts: &[usize], last: u64) -> Option<u64>
     requires { length counts.now ≡ length dones.now }
     ensures { IfSome result (λ now. HaveGained counts.now last now dones.now) }
@@ -31,7 +32,8 @@ pub fn end_of_phase<L: Ledger>(dones: &[Done<L>], counts: &[usize], last: u64) -
     Some(highest)
 }
 
-// The highest of a number and the numbers of the receipts from a place on, if each of those is above `last`.
+// Returns the highest of `highest` and the receipts' numbers from a place on, if each of those is above
+// `last`.
 fn highest_above(receipts: &Receipts, from: usize, last: u64, highest: u64) -> Option<u64>
     ensures { result ≡ highest_above last highest (drop from (list_of receipts.now)) }
 {

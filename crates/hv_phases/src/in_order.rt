@@ -16,10 +16,12 @@ use std::alloc::Global;
 use std::sync::Wait;
 use std::sync::ledger::Ledger;
 
-/// Runs the lines one after the other, and tells why the host stopped the first processor that it stopped, if
-/// it stopped one. A processor that was stopped does no line more, and no phase begins after one in which a
-/// processor was stopped. A pass knows nothing of what other processors did, so the numbers of receipts are
-/// compared: those of each line follow those of the line before it, or the run doesn't count.
+/// Runs the lines one after another, and returns why the host stopped a processor, if it did.
+///
+/// The first processor that it stopped counts. A processor that was stopped runs no further line. No phase
+/// begins after one in which a processor was stopped. A pass doesn't know what other processors did, so the
+/// numbers of receipts are compared. Those of each line follow those of the line before it, or the run
+/// doesn't count.
 pub fn run_in_order<L: Ledger, R: Wait, G: Gate>(
     rt: &R,
     gate: &G,
@@ -55,8 +57,8 @@ pub fn run_in_order<L: Ledger, R: Wait, G: Gate>(
     }
 }
 
-// Runs a line, unless its processor was stopped. `turn` is the number of the last event, or None once a
-// receipt's number wasn't the next one.
+// Runs a line, unless its processor was stopped. `turn` is the number of the last event, or `None` after a
+// receipt whose number wasn't the next one.
 fn run_line<L: Ledger, R: Wait, G: Gate>(
     rt: &R,
     gate: &G,
@@ -82,7 +84,7 @@ fn run_line<L: Ledger, R: Wait, G: Gate>(
     done
 }
 
-// Lets one action come to its end: drives a hypercall, and calls for anything else.
+// Performs one action to its end: drives a hypercall, and calls for anything else.
 fn act<L: Ledger, R: Wait, G: Gate>(
     rt: &R,
     shared: &Shared<L>,
@@ -111,7 +113,7 @@ fn act<L: Ledger, R: Wait, G: Gate>(
     }
 }
 
-// The number of the last event, if the receipts from a place on have the numbers after this one in turn.
+// Returns the number of the last event, if the receipts from a place on have the next numbers after `turn`.
 fn last_in_turn(receipts: &Receipts, from: usize, turn: Option<u64>) -> Option<u64>
     ensures { result ≡ option_and_then (λ last. last_in_turn last (drop from (list_of receipts.now))) turn }
 {

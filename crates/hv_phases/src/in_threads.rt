@@ -16,9 +16,10 @@ use std::sync::Wait;
 use std::sync::ledger::Ledger;
 use std::thread::Threads;
 
-/// Runs the lines phase by phase, and tells why the host stopped a processor, of all that it stopped in a
-/// phase the first. No phase begins after one in which a processor was stopped, and none that there is no
-/// memory for.
+/// Runs the lines phase by phase, and returns why the host stopped a processor, if it did.
+///
+/// Of the processors that it stopped in a phase, the first counts. No phase begins after one in which a
+/// processor was stopped, or without memory for it.
 pub fn run_in_threads<L: Ledger + Send + Sync, R: Threads + Wait + Sync, G: Gate>(
     rt: &R,
     gate: &G,
@@ -46,8 +47,8 @@ pub fn run_in_threads<L: Ledger + Send + Sync, R: Threads + Wait + Sync, G: Gate
     None
 }
 
-// Hands out the lines of a phase, of which this is the first, and tells whom they name, in the order of their
-// first lines. The lines that are left stand with the next one last.
+// Hands out the lines of a phase, which begins with this one. Returns the processors that they name, in the
+// order of their first lines. The lines that are left are in reverse order.
 fn distribute<L: Ledger>(
     pass_map: &mut PassMap<L>,
     first: Line<Global>,
@@ -80,7 +81,8 @@ fn next_of(left: &mut Vec<Line<Global>>, phase: u32) -> Option<Line<Global>>
     }
 }
 
-// Hands a line to its processor, and notes it among the members of the phase where it had nothing to do yet.
+// Hands a line to its processor, and adds the processor to the members of the phase if it had nothing to do
+// yet.
 fn give<L: Ledger>(
     pass_map: &mut PassMap<L>,
     members: &mut Vec<Caller>,
@@ -100,9 +102,10 @@ fn give<L: Ledger>(
     Ok(())
 }
 
-// Does what was handed to these processors, each in a thread of its own. Answers the highest number of a
-// receipt at the end of the phase, where `last` is the highest before it, or why the run isn't whole: why the
-// host stopped the first of those that it stopped, or that a number isn't above `last`.
+// Performs what was handed to these processors, each in a thread of its own. Returns the highest receipt
+// number at the end of the phase, where `last` is the highest before it. Otherwise it returns why the run
+// isn't whole: why the host stopped the first of the processors that it stopped, or that a number isn't above
+// `last`.
 fn run_members<L: Ledger + Send + Sync, R: Threads + Wait + Sync, G: Gate>(
     rt: &R,
     gate: &G,
@@ -132,7 +135,7 @@ fn run_members<L: Ledger + Send + Sync, R: Threads + Wait + Sync, G: Gate>(
     }
 }
 
-// How a phase ended: why the host stopped a processor comes before numbers that aren't above the last one.
+// Returns the result of a phase. A stop by the host comes before numbers that aren't above the last one.
 fn told(stop: Option<HostRefused>, now: Option<u64>) -> Result<u64, RunError>
     ensures none { IfOk result (λ _. IsNone stop) }
     ensures now { IfOk result (λ number. now ≡ Some number) }
@@ -145,7 +148,7 @@ fn told(stop: Option<HostRefused>, now: Option<u64>) -> Result<u64, RunError>
     }
 }
 
-// Takes out of the crew what these processors are to do.
+// Takes the work of these processors out of the pass map.
 fn works_of<L: Ledger>(
     pass_map: &mut PassMap<L>,
     members: &[Caller],
@@ -166,7 +169,7 @@ fn works_of<L: Ledger>(
     Ok(works)
 }
 
-// Takes back what was done, and tells why the host stopped the first of those that it stopped.
+// Takes the outcomes back, and returns why the host stopped the first of the processors that it stopped.
 fn take_back<L: Ledger>(pass_map: &mut PassMap<L>, dones: Vec<Done<L>>) -> Option<HostRefused>
     ensures { IfNone result (HasTaken dones.items pass_map.old pass_map.new) }
 {
@@ -188,7 +191,7 @@ fn take_back<L: Ledger>(pass_map: &mut PassMap<L>, dones: Vec<Done<L>>) -> Optio
     stop
 }
 
-// Takes back what wasn't begun.
+// Takes back the work that was not begun.
 fn put_back<L: Ledger>(pass_map: &mut PassMap<L>, works: Vec<Work<L>>) {
     let mut left = works;
     while let Some(work) = left.pop() {

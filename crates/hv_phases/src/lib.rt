@@ -1,9 +1,9 @@
 //! A script's lines, run by the processors that they name.
 //!
-//! Each processor that a script names has one [`hv_threads::Pass`] for the whole run. In a phase, which ends
-//! before the next one begins, each of its processors drives its lines in order, in a thread of its own. In
-//! the script's order one thread does so, line by line. At the end the passes' receipts are settled with the
-//! history. [`run_lines`] answers the machine with its history, and why the lines didn't all run, if they
+//! Each processor that a script names has one [`hv_threads::Pass`] for the whole run. A phase ends before the
+//! next one begins. In a phase, each of its processors drives its lines in order, in a thread of its own. In
+//! the script's order, one thread does so, line by line. At the end the passes' receipts are settled with the
+//! history. [`run_lines`] returns the machine with its history, and why the lines didn't all run, if they
 //! didn't. Scripts and phases are this project's own.
 #![tactic(auto)]
 

@@ -8,17 +8,17 @@ use indexmap::IndexMap;
 use std::alloc::{AllocError, Global};
 use std::sync::ledger::Ledger;
 
-/// What a processor holds.
+/// The pass of a processor, and its work.
 #[derive(Drop)]
 pub struct PassEntry<L: Ledger> {
     pub pass: Pass<L>,
-    /// What it is to do in this phase, in order.
+    /// The processor's actions in this phase, in order.
     pub asked: Vec<Action<Global>>,
-    /// Whether the host refused it something.
+    /// Whether the host stopped the processor.
     pub stopped: bool,
 }
 
-/// What each processor holds, by its partition and its index there.
+/// The entry of each processor, by its partition and its index there.
 pub type PassMap<L> = IndexMap<(u64, u32), PassEntry<L>>;
 
 /// The key of a processor.
@@ -28,7 +28,7 @@ pub fn key_of(by: Caller) -> (u64, u32)
     (by.part, by.vp)
 }
 
-/// The crew of these passes. They leave their list.
+/// Moves these passes out of their list into a pass map.
 pub fn pass_map_of<L: Ledger>(passes: &mut Vec<Pass<L>>) -> Result<PassMap<L>, AllocError>
     requires { All (λ pass. pass.receipts ≡ []) passes.old.items }
     ensures ready { IfOk result (Each (IsReady [])) }
@@ -42,7 +42,7 @@ pub fn pass_map_of<L: Ledger>(passes: &mut Vec<Pass<L>>) -> Result<PassMap<L>, A
     Ok(pass_map)
 }
 
-/// Lets a pass join the crew, with nothing to do.
+/// Adds a pass to the map, with nothing to do.
 pub fn join<L: Ledger>(
     pass_map: &mut PassMap<L>,
     pass: Pass<L>,
@@ -63,7 +63,7 @@ pub fn join<L: Ledger>(
     }
 }
 
-/// Gives the passes of these processors back, in their order.
+/// Moves the passes of these processors out of the map, in the processors' order.
 pub fn leave<L: Ledger>(
     pass_map: PassMap<L>,
     callers: &[Caller],

@@ -1,4 +1,4 @@
-// A whole run of lines, from a machine to which nothing happened to its settlement.
+// A whole run of lines, from a machine without events to the settlement.
 ghost use Rattle.std.specs.Prelude.{◌≡◌, ◌<◌, [], All, IfNone, IsFalse, IsNone, IsTrue, Some, map, vec_len};
 ghost use Rattle.hv_phases.specs.PassMap.{AreCallersOf, HaveRun, HaveRunInOrder, HaveRunPhases};
 ghost use Rattle.hv_phases.specs.Lines.{AreInOrder, ArePhased, AreRun};
@@ -18,21 +18,26 @@ use std::sync::Wait;
 use std::sync::ledger::{Blank, Ledger};
 use std::thread::Threads;
 
-/// Why not all lines were run, or what was run doesn't count.
+/// Why the lines didn't all run, or why the run doesn't count.
 #[derive(Clone, Copy, PartialEq, Eq, Debug)]
 pub enum RunError {
     /// The host refused an event, or had no memory for a phase or for the passes.
     Host(HostRefused),
-    /// The receipts don't make the history, or those of a phase aren't behind those of the phases before it,
-    /// or with `serial` those of a line don't follow those of the line before it.
+    /// The receipts don't make the history, or they are out of order.
+    ///
+    /// The receipts of a phase come after those of the phases before it. With `serial`, those of a line
+    /// follow those of the line before it.
     Settlement(SettleFault),
 }
 
-/// Runs the lines of a script on a machine to which nothing happened yet, each processor of a phase in a
-/// thread of its own, or with `serial` in their order by one thread, and settles. A gate is told of each hold
-/// of the machine's lock. Answers the machine with its history, and why it isn't a whole run of the lines, if
-/// it isn't. Where it is, each processor's events are those that its lines ask for, in their order (`lines`),
-/// and with `serial` the events of each line stand behind those of the line before it (`order`).
+/// Runs the lines of a script on a machine without events, and settles.
+///
+/// Each processor of a phase has a thread of its own. With `serial`, one thread runs the lines in their
+/// order. The gate's hooks run around each hold of the machine's lock.
+///
+/// Returns the machine with its history, and why it isn't a whole run of the lines, if it isn't. In a whole
+/// run each processor's events are those that its lines ask for, in their order (`lines`). With `serial`, the
+/// events of each line come after those of the line before it (`order`).
 pub fn run_lines<R: Threads + Wait + Sync, G: Gate>(
     rt: &R,
     gate: &G,
@@ -57,7 +62,7 @@ pub fn run_lines<R: Threads + Wait + Sync, G: Gate>(
     run_under::<Brand, R, G>(rt, gate, kept, Blank::new(parts), callers, lines, serial)
 }
 
-// The same under one ledger.
+// Runs the lines under one ledger.
 fn run_under<L: Ledger + Send + Sync, R: Threads + Wait + Sync, G: Gate>(
     rt: &R,
     gate: &G,
@@ -89,7 +94,7 @@ fn run_under<L: Ledger + Send + Sync, R: Threads + Wait + Sync, G: Gate>(
     }
 }
 
-// Runs the lines on fresh passes of these callers, and tells why they didn't all run in order, if they
+// Runs the lines on fresh passes of these callers, and returns why they didn't all run in order, if they
 // didn't.
 fn run_on<L: Ledger + Send + Sync, R: Threads + Wait + Sync, G: Gate>(
     rt: &R,
@@ -121,7 +126,7 @@ fn run_on<L: Ledger + Send + Sync, R: Threads + Wait + Sync, G: Gate>(
     }
 }
 
-// Settles, and tells what comes first: why the lines didn't all run, or what the settlement found.
+// Settles, and returns the first cause: why the lines didn't all run, or what the settlement found.
 fn finish<L: Ledger>(
     shared: Shared<L>,
     passes: Vec<Pass<L>>,

@@ -1,8 +1,8 @@
 //! Events as lines of a script.
 //!
-//! [`script_line`] writes what a virtual processor asked for as a line of the language of scripts, so that
-//! what an embedder recorded runs again. The law [`is_read_back`] says that a script's reader takes the line
-//! for that processor and that action.
+//! [`script_line`] writes an action of a virtual processor as a line of a script. An embedder can run again
+//! what it recorded this way. The law [`is_read_back`] says that a script's reader takes the line for that
+//! processor and that action.
 #![tactic(auto)]
 
 ghost use Rattle.std.specs.Prelude.{◌≡◌, true, Ok, Some};
@@ -16,8 +16,10 @@ mod line;
 
 pub use line::script_line;
 
-/// A recorded line is read as that processor's line with that action, wherever the phase has room for the
-/// processor. The numbers fit their types, and the input list has at most 4,096 bytes.
+/// A recorded line reads back as that processor's line with that action.
+///
+/// This holds wherever the phase has room for the processor. The numbers fit their types, and the input list
+/// has at most 4,096 bytes.
 pub fn is_read_back<A>()
     ensures { (so_far : SoFar A) (by : Caller) (what : Action A) → IsRecordable by what
         → have_room (callers_of so_far.phase so_far.lines) by ≡ true

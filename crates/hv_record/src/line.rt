@@ -8,9 +8,10 @@ use hv_policy::{Action, Caller};
 use itoa::Buffer;
 use std::alloc::{AllocError, Allocator, Global};
 
-/// The line of a script by which this processor asks for this action, without its line feed. A hypercall is
-/// written with its registers as they are, so that a run drives it from its start index to its last element.
-/// `Err` where there is no memory.
+/// Returns the script line by which this processor asks for this action, without its line feed.
+///
+/// A hypercall is written with its registers as they are, so a run drives it from its start index to its last
+/// element. Fails if there is no memory.
 pub fn script_line<A: Allocator>(
     alloc: Global,
     by: Caller,
@@ -59,7 +60,7 @@ fn push_call<A: Allocator>(line: &mut Vec<u8>, frame: &Frame<A>) -> Result<(), A
     push_input(line, frame.input.as_slice())
 }
 
-// Adds the bytes of an input list as a word, a dash where there are none.
+// Adds the bytes of an input list as a word, or a dash if there are none.
 fn push_input(line: &mut Vec<u8>, input: &[u8]) -> Result<(), AllocError>
     ensures { OnOk result (line.new.items ≡ line.old.items ++ input_text input.now) }
 {
@@ -70,7 +71,7 @@ fn push_input(line: &mut Vec<u8>, input: &[u8]) -> Result<(), AllocError>
     line.extend_from_slice(text.as_bytes())
 }
 
-// Adds a text, and behind it a number in decimal.
+// Adds a text, then a number in decimal.
 fn push_decimal(line: &mut Vec<u8>, before: &[u8], number: u64) -> Result<(), AllocError>
     ensures { OnOk result (line.new.items ≡ line.old.items ++ (before.now ++ decimal number)) }
 {
@@ -79,7 +80,7 @@ fn push_decimal(line: &mut Vec<u8>, before: &[u8], number: u64) -> Result<(), Al
     line.extend_from_slice(buffer.format(number).as_bytes())
 }
 
-// Adds a text, and behind it a number in hexadecimal digits.
+// Adds a text, then a number in hexadecimal digits.
 fn push_hex(line: &mut Vec<u8>, before: &[u8], number: u64) -> Result<(), AllocError>
     ensures { OnOk result (line.new.items ≡ line.old.items ++ (before.now ++ digits 16 false number)) }
 {

@@ -12,8 +12,8 @@ use Rattle.hv_run.specs.declared.failure.Exit.TheVariants.{Script, Host}
 use Rattle.hv_run.specs.declared.failure.Failure.{Failure}
 use Rattle.hv_run.specs.declared.failure.Failure.TheVariants as failure
 
--- a script that can't be read, has a fault or doesn't boot is the script's, and the rest is the
--- host's
+-- a script that can't be read, has a fault or doesn't boot exits with `Script`, and any other failure with
+-- `Host`
 abbrev pub exit_of : Failure → Exit
 exit_of failure.Unreadable = Script
 exit_of (failure.Fault line kind) = Script
@@ -26,7 +26,7 @@ exit_of failure.Missing = Host
 exit_of failure.Differs = Host
 exit_of failure.Write = Host
 
--- a line's fault is told with its line, and out of memory without
+-- the failure for a fault at a line, which names the line, except out of memory
 abbrev pub failure_at : ℕ → FaultKind → Failure
 failure_at line Memory = failure.Memory
 failure_at line kind = failure.Fault line kind
@@ -34,11 +34,11 @@ failure_at line kind = failure.Fault line kind
 abbrev pub failure_of : ScriptFault → Failure
 failure_of fault = failure_at fault.line fault.kind
 
--- a script whose bytes don't come can't be read, or there is no memory for it
+-- the script can't be read, or there is no memory for it
 abbrev pub IsUnread : Failure → Type 0
 IsUnread why = (why ≡ failure.Unreadable) ⊎ (why ≡ failure.Memory)
 
--- why the lines didn't all run, or what the settlement found
+-- the failure of a run: why the lines didn't all run, or what the settlement found
 abbrev pub failure_by : RunError → Failure
 failure_by (unfinished.Host refused.HistoryFull) = failure.HistoryFull
 failure_by (unfinished.Host refused.Memory) = failure.Memory

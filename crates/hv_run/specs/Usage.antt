@@ -5,8 +5,8 @@ use Rattle.hv_options.specs.declared.usage.Usage.TheVariants.{Help, Words, Memor
 use Rattle.hv_run.specs.declared.failure.Exit.{Exit}
 use Rattle.hv_run.specs.declared.failure.Exit.TheVariants as exit
 
--- help is done unless its text can't be written, a mistake is one of usage, and the rest is the
--- host's
+-- help exits with `Done`, or with `Host` if its text can't be written; a mistake exits with `Usage`, and lack
+-- of memory with `Host`
 abbrev pub IsExitOf : Usage → Exit → Type 0
 IsExitOf (Help text) status = (status ≡ exit.Done) ⊎ (status ≡ exit.Host)
 IsExitOf (Words text) status = status ≡ exit.Usage

@@ -1,4 +1,4 @@
-// What ends a run other than well, and with which exit status.
+// The failures of a run, and their exit statuses.
 ghost use Rattle.std.specs.Prelude.{◌≡◌, ◌⊎◌};
 ghost use Rattle.hv_run.specs.Failure.{exit_of, failure_of};
 
@@ -20,12 +20,12 @@ pub enum Exit {
     Script = 1,
     /// The words of the command line are wrong.
     Usage = 2,
-    /// Memory was wanting, the history was full, the settlement found a fault, or standard output took no
-    /// more.
+    /// The host was out of memory, the history was full, the settlement found a fault, or standard output
+    /// took no more.
     Host = 3,
 }
 
-/// What ends a run other than well. Its `Display` is the line on standard error, after `hvpm: `.
+/// Why a run failed. Its `Display` is the line on standard error, after `hvpm: `.
 #[derive(Clone, Copy, PartialEq, Eq, Debug, Error)]
 pub enum Failure {
     /// The script can't be read.
@@ -43,7 +43,7 @@ pub enum Failure {
     /// The machine doesn't boot with these virtual processors.
     #[error("boot refused: vps")]
     Vps,
-    /// There is no memory.
+    /// The host is out of memory.
     #[error("memory")]
     Memory,
     /// The history has as many events as the script's boot line allows.
@@ -133,7 +133,7 @@ impl From<PrintFault> for Failure {
     }
 }
 
-/// Tells a failure on standard error, and gives its exit status, whether or not the line goes out.
+/// Writes a failure to standard error, and returns its exit status, whether or not the write succeeds.
 pub fn tell<E: Write>(failure: Failure, err: &mut E) -> Exit
     ensures status { result ≡ exit_of failure }
     ensures failed { (result ≡ Exit.Script) ⊎ (result ≡ Exit.Host) }

@@ -1,9 +1,9 @@
 //! A run of a script, from its bytes to the exit status of the program `hvpm`: reading, running, and printing
 //! the audit and the table.
 //!
-//! [`read_script`] reads a script's bytes; [`run_text`] runs them on a machine of its own over two writers,
-//! and [`run_gated`] does so with a gate that is told of each hold of the machine's lock; [`tell_usage`]
-//! tells of a command line that asks for no run. Nothing here opens a file or ends the process.
+//! [`read_script`] reads a script's bytes. [`run_text`] runs them on a machine of its own over two writers.
+//! [`run_gated`] does so with a gate, whose hooks run around each hold of the machine's lock. [`tell_usage`]
+//! handles a command line that asks for no run. Nothing here opens a file or ends the process.
 #![tactic(auto)]
 
 mod failure;

@@ -9,8 +9,9 @@ use std::alloc::Global;
 use std::io;
 use std::io::{ErrorKind, Read};
 
-/// All bytes of a script, and of one that is too long the first 1,048,577: one byte too many, so that it
-/// is never taken for a shorter script.
+/// Reads all bytes of a script, or the first 1,048,577 of one that is too long.
+///
+/// That is one byte too many, so a script that is too long is never taken for a shorter one.
 pub fn read_script<R: Read + Drop>(alloc: Global, reader: R) -> Result<Vec<u8>, Failure>
     ensures bytes { IfOk result (λ script. IfSome (R.remaining reader) (λ text. script.items
         ≡ take (MOST + 1) text)) }

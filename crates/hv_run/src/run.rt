@@ -23,12 +23,11 @@ use std::io::Write;
 use std::sync::Wait;
 use std::thread::Threads;
 
-/// Runs a script and prints its audit on `out`, and with `--table` its table. Why it didn't all run goes to
-/// `err`, in one line.
+/// Runs a script and prints its audit on `out`, and with `--table` its table.
 ///
-/// After a fault of the script or a refused boot nothing is written to `out`. A processor whose event is
-/// refused by the host stops, and the others of its phase go on. The audit of what is kept is written then,
-/// too.
+/// If the script didn't all run, one line on `err` says why. After a fault of the script or a refused boot,
+/// nothing is written to `out`. A processor stops when the host refuses its event, and the others of its
+/// phase continue. The audit of what is kept is written then, too.
 pub fn run_text<T: Threads + Wait + Sync, W: Write, E: Write>(
     rt: &T,
     alloc: Global,
@@ -48,8 +47,9 @@ pub fn run_text<T: Threads + Wait + Sync, W: Write, E: Write>(
     run_gated(rt, alloc, script, options, &Open, out, err)
 }
 
-/// Runs a script as [`run_text`] does, with a gate that is told of each hold before the machine's lock is
-/// taken and after the receipts are kept.
+/// Runs a script as [`run_text`] does, with a gate around each hold of the machine's lock.
+///
+/// Its hooks run before the lock is taken, and after the receipts are kept.
 pub fn run_gated<T: Threads + Wait + Sync, G: Gate, W: Write, E: Write>(
     rt: &T,
     alloc: Global,
@@ -73,7 +73,7 @@ pub fn run_gated<T: Threads + Wait + Sync, G: Gate, W: Write, E: Write>(
     }
 }
 
-// Runs a script that has no fault, and tells why it didn't all run.
+// Runs a script that has no fault, and writes to `err` why it didn't all run.
 fn finish<T: Threads + Wait + Sync, G: Gate, W: Write, E: Write>(
     rt: &T,
     alloc: Global,
@@ -121,7 +121,7 @@ fn run_script<T: Threads + Wait + Sync, G: Gate, W: Write>(
     ended(unfinished, print(&kept, options.table, out))
 }
 
-// Prints the audit, and the table if it is asked for.
+// Prints the audit, and with `with_table` the table.
 fn print<W: Write>(kept: &Kept<Global>, with_table: bool, out: &mut W) -> Result<(), Failure>
     ensures told { OnOk result (Appends (W.contents out.old) (W.contents out.new)
         (told_by with_table kept.now)) }
@@ -129,7 +129,7 @@ fn print<W: Write>(kept: &Kept<Global>, with_table: bool, out: &mut W) -> Result
     ensures host { IfErr result (λ failure. exit_of failure ≡ Exit.Host) }
     ensures run { IsRun kept.now }
 {
-    // The proof reads here that what is kept is a run.
+    // proof: the kept history is a run.
     let _history = kept.history();
     audit(out, kept)?;
     if with_table {
@@ -138,19 +138,19 @@ fn print<W: Write>(kept: &Kept<Global>, with_table: bool, out: &mut W) -> Result
     out.flush().map_err(|_| Failure::Write)
 }
 
-// Prints the table, which is that of the state in which the run of what happened ends.
+// Prints the table of the state in which the run of the history's events ends.
 fn print_table<W: Write>(kept: &Kept<Global>, out: &mut W) -> Result<(), PrintFault>
     ensures ok { OnOk result (Appends (W.contents out.old) (W.contents out.new)
         (table_text (run kept.now.config (events_of kept.now.history)).0)) }
     ensures cut { IfErr result (IsCut (W.contents out.old) (W.contents out.new)
         (table_text (run kept.now.config (events_of kept.now.history)).0)) }
 {
-    // The proof reads here that what is kept is a run.
+    // proof: the kept history is a run.
     let _history = kept.history();
     table(out, kept)
 }
 
-// How a run ended: why it isn't whole comes before output that couldn't be written.
+// Returns the result of a run. Why it isn't whole comes before output that couldn't be written.
 fn ended(unfinished: Option<RunError>, written: Result<(), Failure>) -> Result<(), Failure>
     ensures stop { IsSome unfinished → IfErr result (λ failure. exit_of failure ≡ Exit.Host) }
     ensures stopped { IsSome unfinished → IsErr result }

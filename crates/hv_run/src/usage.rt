@@ -1,4 +1,4 @@
-// What a refusal of the command line shows.
+// The output for a command line that is refused.
 ghost use Rattle.std.specs.Prelude.{◌≡◌};
 ghost use Rattle.hv_run.specs.Usage.{IsExitOf};
 
@@ -7,7 +7,7 @@ use hv_options::Usage;
 use std::io;
 use std::io::Write;
 
-/// Shows help on standard output, or the mistake on standard error, and gives the exit status.
+/// Shows help on standard output, or the mistake on standard error, and returns the exit status.
 pub fn tell_usage<W: Write, E: Write>(usage: Usage, out: &mut W, err: &mut E) -> Exit
     ensures status { IsExitOf usage result }
     ensures silent { result ≡ Exit.Usage → out.new ≡ out.old }

@@ -21,7 +21,7 @@ pub record Said (A : Type 0) : Type 0 where
   pub limit : ℕ
   pub lines : List (Line A)
 
--- what was read so far: the boot line, how many phases began after it, and the lines of processors
+-- what was read so far: the boot line, the number of phases after it, and the lines of processors
 pub record SoFar (A : Type 0) : Type 0 where
   pub boot : Boot
   pub phase : ℕ
@@ -39,12 +39,12 @@ abbrev pub phase_line : {A : Type 0} → SoFar A → List (List ℕ) → Result 
 phase_line so_far words = if length words == 1 then Ok (record so_far { phase = so_far.phase + 1 }) else Err
     Count
 
--- the same with a line of a processor more
+-- what was read so far, with one more line of a processor
 abbrev pub with_line : {A : Type 0} → SoFar A → Caller → Action A → SoFar A
 with_line so_far by action =
     record so_far { lines = so_far.lines ++ record { phase = so_far.phase; by = by; action = action } ∷ [] }
 
--- a line of a processor is taken where the phase has room for it
+-- a line of a processor is taken if the phase has room for it
 abbrev pub taken : {A : Type 0} → SoFar A → Caller → Action A → Result (SoFar A) FaultKind
 taken so_far by action =
     if have_room (callers_of so_far.phase so_far.lines) by then Ok (with_line so_far by action) else Err
@@ -63,12 +63,12 @@ later_line so_far words =
     if begins_with words (codes "boot") then Err BootTwice
     else (if begins_with words (codes "phase") then phase_line so_far words else processor_line so_far words)
 
--- a line that isn't skipped, by what was read before it
+-- the state of the reading after a line that isn't skipped
 abbrev pub read_words : {A : Type 0} → Option (SoFar A) → List (List ℕ) → Result (SoFar A) FaultKind
 read_words None words = first_line words
 read_words (Some so_far) words = later_line so_far words
 
--- a line, by what was read before it
+-- the state of the reading after a line
 unfoldable pub read_line : {A : Type 0} → Option (SoFar A) → List ℕ → Result (Option (SoFar A)) FaultKind
 read_line before line =
     if is_skipped (words_of line) then Ok before
@@ -77,12 +77,12 @@ read_line before line =
       Ok (Some so_far))
     else Err Byte)
 
--- the fault of a line is told with its number
+-- a result whose fault is at this line
 abbrev pub at_line : {T : Type 0} → ℕ → Result T FaultKind → Result T ScriptFault
 at_line number (Ok value) = Ok value
 at_line number (Err kind) = Err (record { line = number; kind = kind })
 
--- lines one after the other, of which the first has this number
+-- the state of the reading after some lines in order, the first with this number
 abbrev pub read_lines : {A : Type 0} → ℕ → Option (SoFar A) → List (List ℕ) → Result (Option (SoFar A))
     ScriptFault
 read_lines number before [] = Ok before
@@ -90,7 +90,7 @@ read_lines number before (line ∷ lines) = do
   after ← at_line number (read_line before line)
   read_lines (number + 1) after lines
 
--- what the lines say together. Where none is read there is no boot, in line 0
+-- the script of all lines; if none is read, the fault is that there is no boot, in line 0
 abbrev pub said_by : {A : Type 0} → Option (SoFar A) → Result (Said A) ScriptFault
 said_by None = Err (record { line = 0; kind = NoBoot })
 said_by (Some so_far) = Ok (record {
@@ -100,7 +100,7 @@ said_by (Some so_far) = Ok (record {
       so_far.lines;
 })
 
--- the script of a text, or its first fault. A text of more than 1,048,576 bytes isn't looked into
+-- the script of a text, or its first fault; a text of more than 1,048,576 bytes isn't read
 unfoldable pub script_of : {A : Type 0} → List ℕ → Result (Said A) ScriptFault
 script_of text =
     if nat_lt MOST_BYTES (length text) then Err (record { line = 0; kind = Long })

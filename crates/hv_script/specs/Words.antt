@@ -9,7 +9,7 @@ use Rattle.std.specs.Str.{bytes_eq}
 abbrev pub lines_of : List ℕ → List (List ℕ)
 lines_of text = slice_split (λ byte. byte == 10) text
 
--- the words, which stand between spaces
+-- the words between spaces
 unfoldable pub words_of : List ℕ → List (List ℕ)
 words_of line = filter (λ word. not (length word == 0)) (slice_split (λ byte. byte == 32) line)
 

@@ -10,10 +10,10 @@ ghost use Rattle.hv_script.specs.Words.{begins_with, word_at};
 use crate::fault::FaultKind;
 use std::marker::Model;
 
-/// How many words of a line are kept: the most that a line of a script has.
+/// The number of words that are kept of a line: the most that a line of a script has.
 pub const KEPT: usize = 6;
 
-/// A line that has been cut, seen as its words.
+/// A line, cut into its words.
 #[derive(Drop)]
 pub struct CutLine<'a> {
     line: &'a [u8],
@@ -36,7 +36,7 @@ impl<'a> Model for CutLine<'a> {
 }
 
 impl<'a> CutLine<'a> {
-    /// An empty line.
+    /// Creates an empty line.
     #[tactic(auto, unfolding(crate::specs::Words::words_of))]
     pub fn new() -> CutLine<'a>
         ensures { result ≡ [] }
@@ -48,8 +48,9 @@ impl<'a> CutLine<'a> {
         }
     }
 
-    /// Cuts the first line of a text, which has no words if it is skipped, and gives what stands after
-    /// its line feed. A line that isn't skipped and has a bad byte is a fault.
+    /// Cuts the first line of a text, and returns the text after its line feed.
+    ///
+    /// A line that is skipped has no words. A line that isn't skipped and has a bad byte is a fault.
     pub fn cut(&mut self, text: &'a [u8]) -> Result<&'a [u8], FaultKind>
         ensures rest { IfOk result (λ rest. rest.now ≡ after_first (λ byte. byte == 10) text.now) }
         ensures words { IsRead result (λ _. self.new) (words_read (line_of text.now)) }
@@ -89,14 +90,14 @@ impl<'a> CutLine<'a> {
         }
     }
 
-    /// How many words there are.
+    /// The number of words.
     pub fn words(&self) -> usize
         ensures { result ≡ length self.now }
     {
         self.count
     }
 
-    /// Whether the first word is this one.
+    /// Returns `true` if the first word is this one.
     pub fn begins_with(&self, text: &[u8]) -> bool
         ensures { result ≡ begins_with self.now text.now }
     {
@@ -104,7 +105,7 @@ impl<'a> CutLine<'a> {
     }
 }
 
-// Where the bytes of words end that stand in a text from a place on.
+// Returns the end of the bytes of words in a text from a place on.
 fn word_end(text: &[u8], from: usize) -> usize
     requires { from ≤ length text.now }
     ensures { Runs is_of_word text.now from result }
@@ -116,15 +117,15 @@ fn word_end(text: &[u8], from: usize) -> usize
     at
 }
 
-// Whether a run of bytes after so many words begins a comment.
+// Whether a run of bytes after `count` words begins a comment.
 fn begins_comment(count: usize, run: &[u8]) -> bool
     ensures { result ≡ ((count == 0) && starts_with nat_eq run.now (codes "#")) }
 {
     count == 0 && matches!(run, [b'#', ..])
 }
 
-// Keeps a run of bytes after so many words, if it is a word and there is room, and gives how many
-// words there are.
+// Keeps a run of bytes after `count` words, if it is a word and there is room. Returns the new number of
+// words.
 fn keep<'a>(first: &mut [&'a [u8]; KEPT], count: usize, run: &'a [u8]) -> usize
     requires { count + 1 < 2 ^ 64 }
     ensures count { result ≡ count + length (word_in run.now) }
@@ -140,7 +141,7 @@ fn keep<'a>(first: &mut [&'a [u8]; KEPT], count: usize, run: &'a [u8]) -> usize
     count + 1
 }
 
-// What stands after the first line feed of a text, nothing if it has none.
+// Returns the text after the first line feed, or nothing if there is none.
 fn after_line(text: &[u8]) -> &[u8]
     ensures { result.now ≡ after_first (λ byte. byte == 10) text.now }
 {
@@ -150,7 +151,7 @@ fn after_line(text: &[u8]) -> &[u8]
     }
 }
 
-// What stands after the byte at a place, if there is one.
+// Returns the text after the byte at a place, if there is one.
 fn behind(text: &[u8], place: usize) -> &[u8]
     ensures { result.now ≡ drop (place + 1) text.now }
 {

@@ -11,14 +11,14 @@ use std::alloc::Allocator;
 // The most digits of a word for bytes, two for each.
 const MOST_DIGITS: usize = 8192;
 
-/// A number of 64 bits in decimal digits, with any number of leading zeros.
+/// Reads a 64-bit number in decimal digits, with any number of leading zeros.
 pub fn decimal(word: &[u8]) -> Option<u64>
     ensures { result ≡ decimal_in 64 word.now }
 {
     digits(word, 10)
 }
 
-/// A number of 32 bits in decimal digits, with any number of leading zeros.
+/// Reads a 32-bit number in decimal digits, with any number of leading zeros.
 pub fn decimal_32(word: &[u8]) -> Option<u32>
     ensures { result ≡ decimal_in 32 word.now }
 {
@@ -28,7 +28,7 @@ pub fn decimal_32(word: &[u8]) -> Option<u32>
     }
 }
 
-/// A number of 64 bits in decimal digits, or in `0x` and 1 to 16 hexadecimal digits of either case.
+/// Reads a 64-bit number in decimal digits, or in `0x` and 1 to 16 hexadecimal digits of either case.
 pub fn number(word: &[u8]) -> Option<u64>
     ensures { result ≡ number_in 64 word.now }
 {
@@ -39,7 +39,7 @@ pub fn number(word: &[u8]) -> Option<u64>
     }
 }
 
-/// A number of fewer bits in the same forms.
+/// Reads a number of fewer bits, in the forms of [`number`].
 pub fn number_in(word: &[u8], bits: u32) -> Option<u64>
     requires { bits < 64 }
     ensures number { result ≡ number_in bits word.now }
@@ -48,7 +48,7 @@ pub fn number_in(word: &[u8], bits: u32) -> Option<u64>
     fitting(number(word), bits)
 }
 
-// A number, if it fits so many bits.
+// Returns a number if it fits `bits` bits.
 fn fitting(number: Option<u64>, bits: u32) -> Option<u64>
     requires { bits < 64 }
     ensures number { result ≡ option_and_then (fitting bits) number }
@@ -60,7 +60,7 @@ fn fitting(number: Option<u64>, bits: u32) -> Option<u64>
     }
 }
 
-/// Bytes as an even number of hexadecimal digits of either case, at most 8,192, or `-` for none.
+/// Reads bytes: an even number of hexadecimal digits of either case, at most 8,192, or `-` for none.
 pub fn bytes<A: Allocator>(alloc: A, word: &[u8]) -> Result<Vec<u8, A>, FaultKind>
     ensures { IsRead result (λ bytes. bytes.items) (bytes_in word.now) }
 {

@@ -12,11 +12,11 @@ use std::alloc::Allocator;
 /// The most processors that a phase has.
 pub const MOST_PROCESSORS: usize = 64;
 
-/// What was read of a script, from its first line on.
+/// The part of a script that was read, from its first line on.
 #[derive(Drop)]
 pub struct Reading<A: Allocator> {
     pub(crate) boot: Boot,
-    /// How many phases began after the boot line.
+    /// The number of phases that began after the boot line.
     pub(crate) phase: u32,
     /// The processors of the phase.
     pub(crate) callers: Vec<Caller, A>,
@@ -32,7 +32,7 @@ impl<A: Allocator + Clone> Reading<A> {
     ghost use Rattle.hv_script.specs.Cursor.{read_cut};
     ghost use Rattle.hv_script.specs.Script.{first_line, later_line, phase_line, processor_line, taken};
 
-    /// Reads a line after what was read before it.
+    /// Reads the next line, with what was read before it.
     pub fn read_line(
         alloc: &A,
         reading: &mut Option<Reading<A>>,
@@ -121,7 +121,7 @@ impl<A: Allocator + Clone> Reading<A> {
         ensures read { IsRead result (λ _. so_far self.new) (taken (so_far self.old) by action) }
         ensures phase { self.new.phase ≡ self.old.phase }
     {
-        // With the line's room made first, nothing fails after the processor is added.
+        // Room for the line comes first, so nothing fails after the processor is added.
         self.lines.reserve(1).map_err(|_| FaultKind::Memory)?;
         if !is_among(&self.callers, by) {
             if self.callers.len() >= MOST_PROCESSORS {

@@ -19,7 +19,7 @@ pub const MOST_BYTES: usize = 1_048_576;
 /// A script that has no fault.
 #[derive(Drop)]
 pub struct Script<A: Allocator> {
-    /// What the root partition is given, not yet checked for a boot.
+    /// The configuration of the root partition, not yet checked for a boot.
     pub config: Config,
     /// The most events that the history keeps.
     pub limit: u32,
@@ -27,8 +27,10 @@ pub struct Script<A: Allocator> {
     pub lines: Vec<Line<A>, A>,
 }
 
-/// Reads a script, or finds its first fault: the first line with a fault decides, and in a line the
-/// order of the kinds of faults. Out of memory is told as one, whatever faults come after it.
+/// Reads a script, or finds its first fault.
+///
+/// The first line with a fault decides, and in a line the order of the kinds of faults. Out of memory is a
+/// fault of its own, whatever faults come after it.
 #[tactic(auto, unfolding(crate::specs::Script::script_of))]
 pub fn parse<A: Allocator + Clone>(alloc: A, text: &[u8]) -> Result<Script<A>, ScriptFault>
     ensures script { IfOk result (λ script. script_of text.now ≡ Ok (said script)) }
@@ -80,7 +82,7 @@ fn read_lines<A: Allocator + Clone>(
     Ok(reading)
 }
 
-// Reads the first line of a text, and gives what stands after its line feed.
+// Reads the first line of a text, and returns the text after its line feed.
 fn read_next<'a, A: Allocator + Clone>(
     alloc: &A,
     reading: &mut Option<Reading<A>>,

@@ -1,4 +1,4 @@
--- What each caller did, by a history.
+-- The events of each caller in a history.
 use Rattle.std.specs.Prelude.{ℕ, ◌≡◌, ◌<◌, ◌+◌, ◌==◌, ◌&&◌, Bool, if◌then◌else◌, List, [], ◌∷◌, length}
 use Rattle.std.specs.Prelude.{slice_index_or, All}
 use Rattle.std.specs.declared.alloc.Global.{Global}
@@ -18,12 +18,12 @@ receipts_by by n (e ∷ entries) =
     if is_caller by e.event.by then receipt n e.event e.reply ∷ receipts_by by (n + 1) entries else
     receipts_by by (n + 1) entries
 
--- no caller stands there twice
+-- the callers all differ
 abbrev pub AreDifferent : List Caller → Type 0
 AreDifferent callers = (i j : ℕ) (c : Caller) → i < length callers → j < length callers → slice_index_or
     callers i c ≡ slice_index_or callers j c → i ≡ j
 
--- each list has receipts of events by the caller at its place alone
+-- each list has only receipts of events by the caller at its place
 abbrev pub AreTheirs : List Caller → List (List Receipt) → Type 0
 AreTheirs callers lists = (i : ℕ) (c : Caller) → i < length callers → All
     (λ r. r.event.by ≡ slice_index_or callers i c) (slice_index_or lists i [])

@@ -1,4 +1,4 @@
--- That a history and lists of receipts count the same events, said by numbers.
+-- That a history and lists of receipts count the same events, number by number.
 use Rattle.std.specs.Prelude.{ℕ, ◌≡◌, ◌≤◌, ◌<◌, ◌-◌, Some, List, [], length, slice_index_or}
 use Rattle.std.specs.List.{slice_get}
 use Rattle.std.specs.declared.alloc.Global.{Global}
@@ -9,9 +9,9 @@ use Rattle.hv_shared.specs.declared.receipts.Receipt.{Receipt}
 abbrev pub StandsAt : List (List Receipt) → ℕ → ℕ → Receipt → Type 0
 StandsAt lists i k r = slice_get (slice_index_or lists i []) k ≡ Some r
 
--- Every number from 1 to the history's length stands in some list (`there`), and at one place alone (`once`);
--- no other number stands anywhere (`within`); the numbers of each list rise (`rising`); and the event and the
--- reply of a receipt are the history's at its number (`same`).
+-- Every number from 1 to the history's length is in some list (`there`), at one place alone (`once`). No
+-- other number is in any list (`within`). The numbers of each list rise (`rising`). The event and the reply
+-- of a receipt are the history's at its number (`same`).
 pub record IsCounted (history : List (Entry Global)) (lists : List (List Receipt)) : Type 0 where
   pub there : (n : ℕ) → 1 ≤ n → n ≤ length history → (i : ℕ) × (k : ℕ) × (r : Receipt) × StandsAt lists i k r
       × (r.number ≡ n)

@@ -1,4 +1,4 @@
--- What a call does that is driven to its end.
+-- The receipts and the result of a call that is driven to its end.
 use Rattle.std.specs.Prelude.{ℕ, ◌≡◌, ◌+◌, List, [], ◌∷◌, ◌++◌, length, map}
 use Rattle.std.specs.declared.alloc.Global.{Global}
 use Rattle.hv_abi.specs.InputValue.{input_value}
@@ -14,17 +14,16 @@ use Rattle.hv_shared.specs.Pass.{HasReceipts, receipt}
 use Rattle.hv_shared.specs.PassValue.{PassValue}
 use Rattle.hv_shared.specs.declared.receipts.Receipt.{Receipt}
 
--- the entry that a receipt is of
+-- the entry of a receipt
 abbrev pub entry_in : Receipt → Entry Global
 entry_in r = record { event = r.event; reply = r.reply }
 
--- one receipt for each element from this frame on, at its start index, the next one and so on; each reply
--- says that the call goes on with the element after it, and `now` is the frame that is to be asked after them
+-- One receipt for each element from this frame's start index on. Each reply says that the call continues with
+-- the next element, and `now` is the frame that asks for the next one.
 abbrev pub AreElements : Caller → Frame Global → List Receipt → Frame Global → Type 0
 AreElements by frame list now = AreAsked by frame (map entry_in list) now
 
--- one receipt for each element of a call from this frame on, to the last one, after whose reply the call
--- doesn't go on
+-- one receipt for each element of a call from this frame to the last one, whose reply ends the call
 pub record IsWholeCall (by : Caller) (frame : Frame Global) (list : List Receipt) (last : Frame Global)
     (reply : Reply) : Type 0 where
   pub before : List Receipt
@@ -33,7 +32,7 @@ pub record IsWholeCall (by : Caller) (frame : Frame Global) (list : List Receipt
   pub all : list ≡ before ++ receipt number (element by last) reply ∷ []
   pub ends : IsMore reply → ⊥
 
--- the pass has the receipts of a whole call more, and the call has the result value of its last element and
+-- the pass has gained the receipts of a whole call, and the call has the result value of its last element and
 -- reply
 pub record HasDriven (frame : Frame Global) (value : ℕ) (reply : Reply) (old new : PassValue) : Type 0 where
   pub more : List Receipt
@@ -42,7 +41,7 @@ pub record HasDriven (frame : Frame Global) (value : ℕ) (reply : Reply) (old n
   pub value_is : value ≡ result_of last reply
   pub gained : HasReceipts more old new
 
--- the pass has the receipts more of the elements before the one with the start index `next`
+-- the pass has gained the receipts of the elements before the one with the start index `next`
 pub record HasStopped (frame : Frame Global) (next : ℕ) (old new : PassValue) : Type 0 where
   pub more : List Receipt
   pub now : Frame Global
@@ -50,7 +49,7 @@ pub record HasStopped (frame : Frame Global) (next : ℕ) (old new : PassValue) 
   pub next_is : next ≡ (input_value now.rcx).start
   pub gained : HasReceipts more old new
 
--- the pass has so many receipts more of the elements of a call from this frame on, the last of which has this
+-- the pass has gained `events` receipts of the elements of a call from this frame on, and the last has this
 -- reply
 pub record HasAsked (frame : Frame Global) (reply : Reply) (events : ℕ) (old new : PassValue) : Type 0 where
   pub before : List Receipt

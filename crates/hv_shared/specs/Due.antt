@@ -1,11 +1,10 @@
--- In which order a settlement finds the passes' receipts.
+-- The order in which a settlement finds the passes' receipts.
 use Rattle.std.specs.Prelude.{ℕ, ◌≡◌, ◌≢◌, ◌-◌, ◌/◌, ◌<◌, ◌≤◌, true, List, length, map, slice_index}
 use Rattle.hv_shared.specs.Merge.{next_is, rest_of}
 use Rattle.hv_shared.specs.PassValue.{PassValue}
 use Rattle.hv_shared.specs.declared.held.TheConstants.{NEVER}
 
--- behind the event with number n, the settlement finds the pass's next receipt at the number `due`, or not at
--- all
+-- after the event with number n, the settlement finds the pass's next receipt at the number `due`, or never
 pub record IsDueAfter (n : ℕ) (p : PassValue) : Type 0 where
   pub later : n < p.due
   pub found : (m : ℕ) → n < m → m < NEVER → next_is m (rest_of p) ≡ true → p.due ≡ m
@@ -14,19 +13,19 @@ pub record IsDueAfter (n : ℕ) (p : PassValue) : Type 0 where
 abbrev pub dues_of : List PassValue → List ℕ
 dues_of passes = map (λ p. p.due) passes
 
--- the place above a place: two places stand below each
+-- the parent of a place in the heap: each place has two children
 abbrev pub above : ℕ → ℕ
 above k = (k - 1) / 2
 
--- nothing stands above a lower number, but perhaps what is at this place
+-- no place has a higher number than its children, except perhaps this place
 abbrev pub IsHeapBut : ℕ → List ℕ → Type 0
 IsHeapBut at xs = (k : ℕ) → 0 < k → k < length xs → above k ≢ at → slice_index xs (above k) ≤ slice_index xs k
 
--- nothing stands above a lower number, so that the lowest is the first
+-- no place has a higher number than its children, so the lowest is the first
 abbrev pub IsHeap : List ℕ → Type 0
 IsHeap xs = (k : ℕ) → 0 < k → k < length xs → slice_index xs (above k) ≤ slice_index xs k
 
--- of the places below this one, a place with the lowest number, which is lower than the one above
+-- the child of this place with the lowest number, which is lower than the place's own
 pub record IsLowestBelow (at : ℕ) (xs : List ℕ) (k : ℕ) : Type 0 where
   pub below : above k ≡ at
   pub some : 0 < k

@@ -1,4 +1,4 @@
--- What the lock holds is seen as.
+-- The model of what the lock protects.
 use Rattle.std.specs.Prelude.{ℕ}
 use Rattle.std.specs.declared.alloc.Global.{Global}
 use Rattle.hv_history.specs.Kept.{Kept}

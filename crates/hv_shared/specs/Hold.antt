@@ -1,4 +1,4 @@
--- What the lock does for several elements of one call.
+-- A hold that serves several elements of one call.
 use Rattle.std.specs.Prelude.{ℕ, ◌≡◌, ◌+◌, List, [], ◌∷◌, ◌++◌, length, map}
 use Rattle.hv_shared.specs.Drive.{entry_in}
 use Rattle.hv_shared.specs.HeldValue.{HeldValue}
@@ -11,7 +11,7 @@ abbrev pub AreNumbered : ℕ → List Receipt → Type 0
 AreNumbered n [] = Unit {0}
 AreNumbered n (r ∷ rs) = (r.number ≡ n) × AreNumbered (n + 1) rs
 
--- the pass has some receipts more, and the history just their entries, under their numbers; all are counted
+-- the pass has gained receipts, and the history exactly their entries, under their numbers; all are counted
 pub record HasHeld (old new : HeldValue) (pass told : PassValue) : Type 0 where
   pub more : List Receipt
   pub history : new.kept.history ≡ old.kept.history ++ map entry_in more

@@ -1,4 +1,4 @@
--- When a history is made of the passes' receipts.
+-- The merge of the passes' receipts into a history.
 use Rattle.std.specs.Prelude.{ℕ, ◌≡◌, ◌≢◌, ◌+◌, ◌<◌, ◌==◌, Bool, true, false, ◌⊎◌, if◌then◌else◌, List, []}
 use Rattle.std.specs.Prelude.{◌∷◌, length, drop, map, All, slice_index_or, slice_set}
 use Rattle.std.specs.declared.alloc.Global.{Global}
@@ -17,7 +17,7 @@ owned i n (owner ∷ owners) (e ∷ entries) =
     if owner == i then receipt n e.event e.reply ∷ owned i (n + 1) owners entries else owned i (n + 1) owners
     entries
 
--- each entry has one owner, and the list of each pass is just the entries that it owns, in order, with their
+-- each entry has one owner, and each pass's list is exactly the entries that it owns, in order, with their
 -- numbers
 pub record IsMergeFrom (n : ℕ) (history : List (Entry Global)) (lists : List (List Receipt)) : Type 0 where
   pub owners : List ℕ
@@ -41,14 +41,14 @@ IsOf e (r ∷ rs) = (r.event ≡ e.event) × (r.reply ≡ e.reply)
 abbrev pub IsNext : ℕ → List (List Receipt) → ℕ → Type 0
 IsNext n lists i = next_is n (slice_index_or lists i []) ≡ true
 
--- just one list goes on with this entry under this number
+-- exactly one list has this number next, with this entry
 pub record IsOnlyNext (n : ℕ) (e : Entry Global) (lists : List (List Receipt)) (i : ℕ) : Type 0 where
   pub there : i < length lists
   pub next : IsNext n lists i
   pub alone : (j : ℕ) → IsNext n lists j → j ≡ i
   pub same : IsOf e (slice_index_or lists i [])
 
--- two lists go on with this number, or one does with another event or reply
+-- two lists have this number next, or one has it with another event or reply
 abbrev pub IsContested : ℕ → Entry Global → List (List Receipt) → Type 0
 IsContested n e lists =
     ((i : ℕ) × (j : ℕ) × (i ≢ j) × IsNext n lists i × IsNext n lists j)
@@ -61,25 +61,25 @@ without lists i = slice_set lists i (drop 1 (slice_index_or lists i []))
 abbrev pub AreDone : List (List Receipt) → Type 0
 AreDone lists = (i : ℕ) → slice_index_or lists i [] ≡ []
 
--- what is wrong at this number
+-- the fault at this number
 abbrev pub FailsAt : ℕ → Entry Global → List (List Receipt) → SettleFault → Type 0
 FailsAt n e lists fault = ((fault ≡ Missing) × ((i : ℕ) → IsNext n lists i → ⊥)) ⊎
     ((fault ≡ Differs) × IsContested n e lists)
 
--- The lists, gone through with the history from number n on, fail first in this way: at the least number that
--- no list goes on with, that two do, or one with another event or reply; or receipts are left over.
+-- The first fault of the lists against the history from number n on. It is at the least number that no list
+-- has next, that two have next, or that one has with another event or reply; or receipts are left over.
 abbrev pub FailsFrom : ℕ → List (Entry Global) → List (List Receipt) → SettleFault → Type 0
 FailsFrom n [] lists fault = (fault ≡ Differs) × (AreDone lists → ⊥)
 FailsFrom n (e ∷ history) lists fault = FailsAt n e lists fault ⊎
     ((i : ℕ) × IsOnlyNext n e lists i × FailsFrom (n + 1) history (without lists i) fault)
 
--- the lists go through with the history from number n on
+-- the lists merge into the history from number n on
 abbrev pub MergesFrom : ℕ → List (Entry Global) → List (List Receipt) → Type 0
 MergesFrom n [] lists = AreDone lists
 MergesFrom n (e ∷ history) lists = (i : ℕ) × IsOnlyNext n e lists i × MergesFrom (n + 1) history
     (without lists i)
 
--- what the settlement has still to find of a pass
+-- the receipts of a pass that the settlement has still to find
 abbrev pub rest_of : PassValue → List Receipt
 rest_of p = drop p.settled p.receipts
 

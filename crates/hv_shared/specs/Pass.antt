@@ -1,4 +1,4 @@
--- What happens to a pass.
+-- Changes of a pass.
 use Rattle.std.specs.Prelude.{ℕ, ◌≡◌, ◌+◌, List, [], ◌∷◌, ◌++◌, length}
 use Rattle.std.specs.declared.alloc.Global.{Global}
 use Rattle.hv_policy.specs.declared.event.Action.{Action}
@@ -10,19 +10,19 @@ use Rattle.hv_shared.specs.declared.receipts.Receipt.{Receipt}
 abbrev pub receipt : ℕ → Event Global → Reply → Receipt
 receipt number event reply = record { number = number; event = event; reply = reply }
 
--- one receipt more, which is counted
+-- the pass has gained this receipt, which is counted
 pub record HasReceipt (number : ℕ) (event : Event Global) (reply : Reply) (old new : PassValue) : Type 0 where
   pub receipts : new.receipts ≡ old.receipts ++ receipt number event reply ∷ []
   pub share : new.share ≡ old.share + 1
   pub caller : new.caller ≡ old.caller
 
--- these receipts more, which are counted
+-- the pass has gained these receipts, which are counted
 pub record HasReceipts (more : List Receipt) (old new : PassValue) : Type 0 where
   pub receipts : new.receipts ≡ old.receipts ++ more
   pub share : new.share ≡ old.share + length more
   pub caller : new.caller ≡ old.caller
 
--- nothing is different but the room
+-- nothing but the room has changed
 pub record IsAsBefore (old new : PassValue) : Type 0 where
   pub receipts : new.receipts ≡ old.receipts
   pub share : new.share ≡ old.share
@@ -30,7 +30,7 @@ pub record IsAsBefore (old new : PassValue) : Type 0 where
   pub settled : new.settled ≡ old.settled
   pub due : new.due ≡ old.due
 
--- one receipt more, of what the pass's caller did
+-- the pass has gained a receipt of this action by its caller
 abbrev pub HasCalled : Action Global → Reply → PassValue → PassValue → Type 0
 HasCalled what reply old new = (number : ℕ) × HasReceipt number (record { by = old.caller; what = what })
     reply old new

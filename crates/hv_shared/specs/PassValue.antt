@@ -1,10 +1,10 @@
--- What a pass is seen as.
+-- The model of a pass.
 use Rattle.std.specs.Prelude.{ℕ, ◌≡◌, List, length, All}
 use Rattle.hv_policy.specs.declared.event.Caller.{Caller}
 use Rattle.hv_shared.specs.declared.receipts.Receipt.{Receipt}
 
--- a caller, the receipts of its events, its share of the count, how many receipts the settlement has come
--- past, at which number it finds the next one, and how many more there is room for
+-- a caller, the receipts of its events, its share of the count, the number of receipts that the settlement
+-- has passed, the number at which it finds the next one, and the room for further receipts
 pub record PassValue : Type 0 where
   pub caller : Caller
   pub receipts : List Receipt
@@ -13,8 +13,8 @@ pub record PassValue : Type 0 where
   pub due : ℕ
   pub room : ℕ
 
--- a pass has one part of the count, in which its receipts are counted, and each of them is of an event by its
--- caller
+-- invariant: a pass has one part of the count, which counts its receipts, and each of them is of an event by
+-- its caller
 pub record IsPass (caller : Caller) (receipts : List Receipt) (parts amount : ℕ) : Type 0 where
   pub one : parts ≡ 1
   pub counted : amount ≡ length receipts

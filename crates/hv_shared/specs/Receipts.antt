@@ -22,7 +22,7 @@ receipts_from (n ∷ numbers) (e ∷ entries) = receipt_of n e ∷ receipts_from
 abbrev pub list_of : Receipts → List Receipt
 list_of r = receipts_from r.numbers.items (entries r.packed)
 
--- the receipt that is borrowed
+-- the borrowed receipt
 abbrev pub receipt_by : ReceiptRef → Receipt
 receipt_by r = receipt_of r.number (entry_by r.entry)
 
@@ -31,6 +31,6 @@ abbrev pub numbered : ℕ → List (Entry Global) → List Receipt
 numbered n [] = []
 numbered n (e ∷ entries) = receipt_of n e ∷ numbered (n + 1) entries
 
--- for how many more there is room
+-- the number of further receipts for which there is room
 abbrev pub room_in : Receipts → ℕ
 room_in r = min (vec_capacity r.numbers - vec_len r.numbers) (room_of r.packed)

@@ -1,4 +1,4 @@
--- What a settlement answers.
+-- The result of a settlement.
 use Rattle.std.specs.Prelude.{ℕ, ◌≡◌, ◌≢◌, ◌⊎◌, List, Result, Ok, Err}
 use Rattle.std.specs.declared.alloc.Global.{Global}
 use Rattle.hv_history.specs.Kept.{Kept}
@@ -9,14 +9,14 @@ use Rattle.hv_shared.specs.declared.fault.SettleRefused.{SettleRefused}
 use Rattle.hv_shared.specs.declared.fault.SettleFault.{SettleFault}
 use Rattle.hv_shared.specs.declared.fault.SettleFault.TheVariants.{Differs}
 
--- the history was kept on these terms, and is a merge of the lists
+-- the history has this configuration and limit, and is a merge of the lists
 pub record IsMadeOf (config : Config) (limit : ℕ) (kept : Kept Global) (lists : List (List Receipt)) : Type 0
   where
     pub same_config : kept.config ≡ config
     pub same_limit : kept.limit ≡ limit
     pub merge : IsMerge kept.history lists
 
--- the history was kept on other terms, or fails on these
+-- the history has another configuration or limit, or has this first fault against the lists
 abbrev pub IsFault : Config → ℕ → Kept Global → List (List Receipt) → SettleFault → Type 0
 IsFault config limit kept lists fault =
     (((kept.config ≢ config) ⊎ (kept.limit ≢ limit)) × (fault ≡ Differs))

@@ -1,4 +1,4 @@
--- What new passes are.
+-- New passes.
 use Rattle.std.specs.Prelude.{◌≡◌, List, [], map, All}
 use Rattle.hv_policy.specs.declared.event.Caller.{Caller}
 use Rattle.hv_shared.specs.PassValue.{PassValue}

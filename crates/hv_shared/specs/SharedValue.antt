@@ -1,8 +1,8 @@
--- What a lock with its terms is seen as.
+-- The model of a lock with its terms.
 use Rattle.std.specs.Prelude.{ℕ}
 use Rattle.hv_policy.specs.declared.config.Config.{Config}
 
--- how many passes there are, and the configuration and limit of the history that it was begun with
+-- the number of passes, and the configuration and limit with which the history was begun
 pub record SharedValue : Type 0 where
   pub passes : ℕ
   pub config : Config

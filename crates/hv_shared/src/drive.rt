@@ -14,19 +14,20 @@ use std::alloc::{AllocError, Global};
 use std::sync::Wait;
 use std::sync::ledger::Ledger;
 
-/// Why the host didn't let a hypercall come to its end, and the start index of the element that it
-/// refused. The elements before it were served and have their receipts.
+/// Why the host stopped a hypercall before its end, and the start index of the element that it refused.
+///
+/// The elements before it were served and have their receipts.
 #[derive(Clone, Copy, PartialEq, Eq, Debug)]
 pub struct DriveRefused {
     pub why: HostRefused,
     pub next: u16,
 }
 
-// The most elements of a call for which the lock is taken once.
+// The most elements of a call in one critical section.
 pub(crate) const MOST_IN_A_HOLD: u32 = 16;
 
-// How many elements there are from the start index on of the call that an input value names, at most so
-// many. A simple call is one, and so is what P4 or P5 denies.
+// Returns the number of elements of an input value's call from the start index on, at most `most`. It is 1
+// for a simple call, and for an input value that P4 or P5 denies.
 fn elements_in(rcx: u64, most: u32) -> u32
     ensures { result ≡ elements_in rcx most }
 {
@@ -49,8 +50,8 @@ fn elements_in(rcx: u64, most: u32) -> u32
     }
 }
 
-// A second frame, and a copy of the event of each element that one hold may serve. The pass has room for
-// their receipts.
+// Returns a second frame, and a copy of the event of each element that one hold may serve. The pass then has
+// room for their receipts.
 pub(crate) fn prepare<L: Ledger>(
     pass: &mut Pass<L>,
     frame: &Frame<Global>,
@@ -74,10 +75,11 @@ pub(crate) fn prepare<L: Ledger>(
 }
 
 impl<L: Ledger> Shared<L> {
-    /// Drives a hypercall to its end: the elements of a rep call one after another from its start index
-    /// on, each an event of its own, of which all rules are asked, and up to 16 of them while the lock is
-    /// taken once. It ends with the last element, or with one that a rule refuses. Answers the result
-    /// value of the whole call, and the reply to its last event.
+    /// Drives a hypercall to its end, and returns its result value and the reply to its last event.
+    ///
+    /// The elements of a rep call happen one after another from its start index on. Each is an event of its
+    /// own, to which all rules apply. Up to 16 of them share one critical section. The call ends with its
+    /// last element, or with the first that a rule refuses. The result value is that of the whole call.
     // Inlined: calls for the own id in bench/largest.sh.
     #[inline(always)]
     pub fn drive<R: Wait, G: Gate>(
@@ -102,7 +104,7 @@ impl<L: Ledger> Shared<L> {
         }
     }
 
-    // Asks for the elements of a call from the frame's start index on in one hold. Answers how many happened,
+    // Asks for elements of a call from the frame's start index on, in one hold. Returns how many happened,
     // and the reply to the last.
     // Inlined: calls for the own id in bench/largest.sh.
     #[inline(always)]

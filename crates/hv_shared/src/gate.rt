@@ -1,17 +1,17 @@
-// What stands before and behind the lock.
+// Hooks around the lock.
 
 use hv_policy::Caller;
 use std::sync::Wait;
 
-/// Is told of each hold of the lock, in which one event happens or up to 16 elements of one call: before
-/// the lock is taken, and after the receipts are kept. The turn is the number of receipts that the
-/// caller's pass had before. Where there is no memory for the receipts, there is no hold, and neither is
-/// called.
+/// Hooks around each hold of the lock: before the lock is taken, and after the receipts are kept.
+///
+/// In a hold one event happens, or up to 16 elements of one call. The turn is the number of receipts that the
+/// caller's pass had before. Without memory for the receipts there is no hold, and neither hook is called.
 pub trait Gate: Sync {
-    /// Is called before the lock is taken. What waits here holds the events back.
+    /// Called before the lock is taken. A hook that waits here holds the events back.
     fn enter<R: Wait>(&self, rt: &R, by: Caller, turn: u64);
 
-    /// Is called once the receipts are kept, also where the host refused an event, with the same turn.
+    /// Called once the receipts are kept, with the same turn, even if the host refused an event.
     fn leave<R: Wait>(&self, rt: &R, by: Caller, turn: u64);
 }
 

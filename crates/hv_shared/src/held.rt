@@ -1,4 +1,4 @@
-// What the lock holds, what each thread holds, and the steps that change both. The fields of `Held` and
+// What the lock protects, what each thread owns, and the steps that change both. The fields of `Held` and
 // `Pass` are private to this file and the settlement.
 ghost use Rattle.std.specs.Prelude.{◌≡◌, ◌<◌, ◌≤◌, ◌+◌, [], IsTrue, ◌↔◌, IfOk, OnOk, OnErr, IsErrOf};
 ghost use Rattle.std.specs.Prelude.{IfErr, Some, length, slice_get, vec_len};
@@ -31,17 +31,17 @@ mod settlement;
 
 pub use settlement::settle;
 
-// No number of an event.
+// Not the number of any event.
 pub(crate) const NEVER: u64 = u64::MAX;
 
-/// What one thread holds: its caller, the receipts of its events, and its share of the count of all events.
+/// What one thread owns: its caller, the receipts of its events, and its share of the count of all events.
 #[derive(Drop)]
 pub struct Pass<L: Ledger> {
     caller: Caller,
-    // In a block of their own, so that the settlement, which changes the order of passes, moves little.
+    // In a block of their own: the settlement reorders passes, and so moves little.
     receipts: Box<Receipts>,
     share: Share<L>,
-    // How many receipts the settlement has come past.
+    // The number of receipts that the settlement has passed.
     settled: usize,
     // The number at which it finds the next one, or `NEVER`.
     due: u64,
@@ -65,7 +65,7 @@ impl<L: Ledger> Model for Pass<L> {
     ghost invariant = { λ p. IsPass p.caller (list_of p.receipts.value) p.share.parts p.share.amount };
 }
 
-/// What the lock of a [`Shared`](crate::Shared) holds: the machine with its history, and the count of the
+/// What the lock of a [`Shared`](crate::Shared) protects: the machine with its history, and the count of the
 /// history's events.
 #[derive(Drop)]
 pub struct Held<L: Ledger> {
@@ -103,14 +103,14 @@ impl<L: Ledger> Pass<L> {
         &self.receipts
     }
 
-    /// For how many more receipts there is room, whatever their events are.
+    /// The number of further receipts for which there is room, whatever their events are.
     pub fn room(&self) -> usize
         ensures { result ≡ self.now.room }
     {
         self.receipts.room()
     }
 
-    /// Makes room for so many more receipts, whatever their events are.
+    /// Makes room for `more` further receipts, whatever their events are.
     pub fn reserve(&mut self, more: usize) -> Result<(), AllocError>
         ensures room { OnOk result (more ≤ self.new.room) }
         ensures same { IsAsBefore self.old self.new }
@@ -153,27 +153,27 @@ impl<L: Ledger> Pass<L> {
         }
     }
 
-    // Whether the settlement has come past all receipts.
+    // Whether the settlement has passed all receipts.
     fn is_settled(&self) -> bool
         ensures { IsTrue result ↔ (rest_of self.now ≡ []) }
     {
         self.receipts().len() <= self.settled
     }
 
-    // Comes past the next receipt, which is that of the event with this number.
+    // Passes the next receipt, which is that of the event with this number.
     fn advance(&mut self, number: u64)
         requires there { self.old.settled < length self.old.receipts }
         requires never { number < NEVER }
         ensures past { self.new ≡ record self.old { settled = self.old.settled + 1; due = self.new.due } }
         ensures due { IsDueAfter number self.new }
     {
-        // The proof reads here that how many receipts there are fits a usize.
+        // proof: the number of receipts fits a `usize`.
         let _count = self.receipts.len();
         self.settled += 1;
         self.due = self.next_after(number);
     }
 
-    // Comes back to the first receipt.
+    // Goes back to the first receipt.
     fn begin(&mut self)
         ensures back { self.new ≡ record self.old { settled = 0; due = self.new.due } }
         ensures due { IsDueAfter 0 self.new }
@@ -182,8 +182,8 @@ impl<L: Ledger> Pass<L> {
         self.due = self.next_after(0);
     }
 
-    // The number of the next receipt, if it comes after this one: the settlement doesn't come to an
-    // earlier one again.
+    // Returns the number of the next receipt if it is above this one, and otherwise `NEVER`: the settlement
+    // doesn't return to a lower number.
     fn next_after(&self, number: u64) -> u64
         requires { number < NEVER }
         ensures { IsDueAfter number (record self.now { due = result }) }
@@ -205,8 +205,8 @@ impl<L: Ledger> Pass<L> {
 }
 
 impl<L: Ledger> Held<L> {
-    // A machine to which nothing happened yet, and a pass for each caller, in order. The blank has as many
-    // parts as there are callers. For out of memory the machine comes back.
+    // Returns the lock's contents for a machine without events, and a pass for each caller, in order. The
+    // blank has a part for each caller. Out of memory, it hands the machine back.
     pub(crate) fn open(
         kept: Kept<Global>,
         blank: Blank,
@@ -233,7 +233,7 @@ impl<L: Ledger> Held<L> {
         Ok((Held { kept, count }, passes))
     }
 
-    /// Lets an event by the pass's caller happen and keeps its receipt, for which there is room. The copy is
+    /// Applies an event by the pass's caller and keeps its receipt, for which there is room. The copy is
     /// equal to the event, and becomes the receipt's.
     // Inlined: messages in bench/largest.sh.
     #[inline(always)]
@@ -247,21 +247,22 @@ impl<L: Ledger> Held<L> {
         requires copy { copy ≡ event }
         requires room { 1 ≤ pass.old.room }
 
-        // The history has the event with its reply more, and the pass a receipt of it. Both are counted.
+        // The history gains the event with its reply, and the pass a receipt of it. Both are counted.
         ensures kept { IfOk result (λ r. HasGained event r self.old.kept self.new.kept) }
         ensures count { OnOk result (self.new.count ≡ self.old.count + 1) }
         ensures receipt { IfOk result (λ r. HasReceipt (length self.new.kept.history) event r pass.old
             pass.new) }
         ensures run { IsRun self.new.kept }
 
-        // A full history takes no event, before any rule. Else the host needs memory.
+        // The host refuses every event of a full history, before any rule is checked. Any other refusal is
+        // for lack of memory.
         ensures full { IsErrOf result HostRefused.HistoryFull
             ↔ (length self.old.kept.history ≡ self.old.kept.limit) }
         ensures refused { OnErr result (self.new ≡ self.old) }
         ensures pass { OnErr result (pass.new ≡ pass.old) }
 
-        // A refusal by a rule names one that is asked, a reply to a hypercall has a result value, and a
-        // call goes on with the element after the one that was served.
+        // A reply that names a rule names one that applies. The reply to a hypercall has a result value. A
+        // call continues with the element after the one that was served.
         ensures asked { IfOk result (λ r. NamesAsked event r) }
         ensures result { (frame : Frame Global) → event.what ≡ Hypercall frame → IfOk result HasResult }
         ensures next { IfOk result (λ r. GoesOn event.what r) }
@@ -269,7 +270,7 @@ impl<L: Ledger> Held<L> {
         match self.kept.apply(event) {
             Ok((number, reply)) => {
                 self.count.add(&mut pass.share, 1);
-                // The proof reads here that a history's length fits 32 bits.
+                // proof: a history's length fits 32 bits.
                 let _limit = self.kept.limit();
                 let (answer, output) = reply.parts();
                 pass.receipts.push(number as u32, copy, answer, output);
@@ -279,10 +280,10 @@ impl<L: Ledger> Held<L> {
         }
     }
 
-    /// Lets the elements of a call by the pass's caller happen as [`Kept::apply_run`](hv_history::Kept) does,
-    /// and keeps their receipts, for which there is room. The copies are the caller's events of the frame at
-    /// its start index, then at each next one, up to `most` of them or to the last element, and one alone of
-    /// a simple call or where P4 or P5 denies the frame. Those of the elements that happen become the
+    /// Applies the elements of a call by the pass's caller as [`Kept::apply_run`](hv_history::Kept) does, and
+    /// keeps their receipts, for which there is room. The copies are the caller's events of the frame at its
+    /// start index, then at each next one, up to `most` of them or to the last element. There is only one for
+    /// a simple call, or if P4 or P5 denies the frame. The copies of the elements that happen become the
     /// receipts'.
     // Inlined: calls for the own id in bench/largest.sh.
     #[inline(always)]
@@ -308,7 +309,7 @@ impl<L: Ledger> Held<L> {
         let from = self.kept.history().len();
         let done = self.kept.apply_run(pass.caller, frame, most);
         self.count.add(&mut pass.share, u64::from(done.events));
-        // The proof reads here that a history's length fits 32 bits.
+        // proof: a history's length fits 32 bits.
         let _limit = self.kept.limit();
         let mut told = copies;
         told.truncate(done.events as usize);

@@ -10,9 +10,10 @@ ghost use Rattle.hv_shared.specs.declared.receipts.Receipt.{Receipt};
 
 use std::alloc::Global;
 
-/// A history is a merge of lists of receipts just where every number from 1 to the history's length
-/// stands in one list, once, no other number does, the numbers of each list rise, and the event and the
-/// reply of each receipt are the history's at its number.
+/// A history is a merge of lists of receipts exactly if they agree number by number.
+///
+/// That is: every number from 1 to the history's length is in one list, once, and no other number is in any.
+/// The numbers of each list rise. The event and the reply of each receipt are the history's at its number.
 pub fn a_merge_counts_each_number_once()
     ensures counted { (history : List (Entry Global)) (lists : List (List Receipt)) → IsMerge history lists
         → IsCounted history lists }
@@ -20,9 +21,10 @@ pub fn a_merge_counts_each_number_once()
         → IsMerge history lists }
 {}
 
-/// Where a history is a merge of the receipts of passes whose callers differ, the receipts of a pass are
-/// just those of the events by its caller, in order and with their numbers, and nobody else made an event
-/// happen.
+/// If a history merges passes with different callers, each pass has exactly the receipts of its caller's
+/// events.
+///
+/// They are in order and have the events' numbers. Nobody else made an event happen.
 pub fn each_caller_did_what_its_pass_has()
     ensures did { (callers : List Caller) (lists : List (List Receipt)) (history : List (Entry Global))
         → length lists ≡ length callers → AreDifferent callers → AreTheirs callers lists

@@ -1,10 +1,10 @@
-//! A history that threads share, and the settlement of what each of them was told.
+//! A history that threads share, and its settlement with the receipts of each thread.
 //!
-//! A [`Shared`] is a lock round a machine with its history ([`Held`]). Each thread has a [`Pass`]: its
-//! caller, a receipt of each event that it made happen, and its share of the count of all events. Only a
-//! step of [`Held`] adds an event, a receipt and to the count. [`settle`] compares the history with all
-//! receipts, and is Ok exactly where the history is a merge of them (`IsMerge` in `specs/`). Passes and
-//! gates are this project's own.
+//! A [`Shared`] is a lock around a machine with its history ([`Held`]). Each thread has a [`Pass`]: its
+//! caller, a receipt of each event that it made happen, and its share of the count of all events. Only a step
+//! of [`Held`] adds events and receipts and raises the count. [`settle`] compares the history with all
+//! receipts, and is `Ok` exactly if the history is a merge of them (`IsMerge` in `specs/`). Passes and gates
+//! are this project's own.
 #![tactic(auto)]
 
 mod drive;

@@ -1,4 +1,4 @@
-// What a thread was told of its events, packed as a history is, with a number beside each entry.
+// The receipts of a thread, packed as a history is, with a number beside each entry.
 ghost use Rattle.std.specs.Prelude.{◌≡◌, ◌+◌, ◌<◌, ◌≤◌, ◌^◌, ◌++◌, ◌↔◌, [], ◌∷◌, IsTrue, OnOk, Some, drop};
 ghost use Rattle.std.specs.Prelude.{length, option_map, slice_get, vec_len};
 ghost use Rattle.hv_defs.specs.declared.sizes.TheConstants.{REPS_END};
@@ -11,7 +11,7 @@ use hv_history::{Answer, EntryRef, History};
 use hv_policy::{Event, Reply};
 use std::alloc::{AllocError, Global};
 
-/// That an event stands in the history at this number, counted from 1, with this reply, as contracts see it.
+/// A receipt, as contracts see it: the history has this event and reply at this number, counted from 1.
 #[derive(Drop)]
 pub struct Receipt {
     pub number: u64,
@@ -40,7 +40,7 @@ impl Receipts {
     ghost use Rattle.hv_shared.specs.Pass.{receipt};
     ghost use Rattle.hv_shared.specs.Receipts.{list_of, numbered, receipt_by, room_in};
 
-    // No receipts.
+    // Creates an empty list.
     pub(crate) fn new(alloc: Global) -> Receipts
         ensures { list_of result ≡ [] }
     {
@@ -50,14 +50,14 @@ impl Receipts {
         }
     }
 
-    /// How many there are.
+    /// The number of receipts.
     pub fn len(&self) -> usize
         ensures { result ≡ length (list_of self.now) }
     {
         self.numbers.len()
     }
 
-    /// The number of the one at a place, counted from 0.
+    /// The number of the receipt at a place, counted from 0.
     pub fn number(&self, at: usize) -> u64
         requires { at < length (list_of self.now) }
         ensures { option_map (λ r. r.number) (slice_get (list_of self.now) at) ≡ Some result }
@@ -65,7 +65,7 @@ impl Receipts {
         u64::from(self.numbers[at])
     }
 
-    /// The one at a place, counted from 0.
+    /// The receipt at a place, counted from 0.
     pub fn get(&self, at: usize) -> ReceiptRef<'_>
         requires { at < length (list_of self.now) }
         ensures receipt { slice_get (list_of self.now) at ≡ Some (receipt_by result) }
@@ -77,7 +77,7 @@ impl Receipts {
         }
     }
 
-    // Whether the one at a place is of the event at a place of a history, with the same reply.
+    // Whether the receipt at a place is of the event at a place of a history, with the same reply.
     pub(crate) fn is_of(&self, at: usize, history: &History<Global>, place: usize) -> bool
         requires here { at < length (list_of self.now) }
         requires there { place < length (entries history.now) }
@@ -88,12 +88,12 @@ impl Receipts {
         own.is_same::<Global>(&history.entry(place))
     }
 
-    // The allocator that they are on.
+    // The allocator of the receipts.
     pub(crate) fn allocator(&self) -> Global {
         *self.numbers.allocator()
     }
 
-    // For how many more there is room.
+    // The number of further receipts for which there is room.
     pub(crate) fn room(&self) -> usize
         ensures { result ≡ room_in self.now }
     {
@@ -101,7 +101,7 @@ impl Receipts {
         numbers.min(self.packed.room())
     }
 
-    // Makes room for so many more.
+    // Makes room for `more` further receipts.
     pub(crate) fn reserve(&mut self, more: usize) -> Result<(), AllocError>
         ensures same { list_of self.new ≡ list_of self.old }
         ensures room { OnOk result (more ≤ room_in self.new) }
@@ -110,7 +110,7 @@ impl Receipts {
         self.packed.reserve(more)
     }
 
-    // Adds one, for which there is room.
+    // Adds a receipt, for which there is room.
     pub(crate) fn push(&mut self, number: u32, event: Event<Global>, answer: Answer, output: &[u8])
         requires room { 1 ≤ room_in self.old }
         requires most { length output.now ≤ 256 }
@@ -123,7 +123,7 @@ impl Receipts {
         self.packed.push(event, answer, output);
     }
 
-    // Adds one of each event of a history from a place on, of each of which there is a copy.
+    // Adds a receipt of each event of a history from a place on. `copies` has a copy of each.
     pub(crate) fn push_all(
         &mut self,
         history: &History<Global>,

@@ -21,8 +21,9 @@ use std::marker::Model;
 use std::sync::ledger::{Blank, Ledger};
 use std::sync::{Mutex, Wait};
 
-/// A lock round a machine with its history, and beside it how many passes there are and with what the
-/// history was begun.
+/// A lock around a machine with its history.
+///
+/// Beside it are the number of passes, and the configuration and limit with which the history was begun.
 #[derive(Drop)]
 pub struct Shared<L: Ledger> {
     held: Mutex<Held<L>>,
@@ -43,8 +44,9 @@ impl<L: Ledger> Model for Shared<L> {
 }
 
 impl<L: Ledger> Shared<L> {
-    /// A lock round a machine to which nothing happened yet, and a pass for each caller, in order. The blank
-    /// has as many parts as there are callers. For out of memory the machine comes back.
+    /// Returns a lock around a machine without events, and a pass for each caller, in order.
+    ///
+    /// The blank has as many parts as there are callers. Out of memory, it hands the machine back.
     pub fn new(
         kept: Kept<Global>,
         blank: Blank,
@@ -72,8 +74,9 @@ impl<L: Ledger> Shared<L> {
         Ok((shared, opened))
     }
 
-    /// Lets the pass's caller do one thing, and keeps its receipt. Room for the receipt and a copy of the
-    /// event are made before the gate is asked.
+    /// Applies one event of the pass's caller, and keeps its receipt.
+    ///
+    /// The call makes room for the receipt and copies the event before it enters the gate.
     // Inlined: messages in bench/largest.sh.
     #[inline(always)]
     pub fn call<R: Wait, G: Gate>(
@@ -86,8 +89,8 @@ impl<L: Ledger> Shared<L> {
         ensures called { IfOk result (λ r. HasCalled what r pass.old pass.new) }
         ensures refused { OnErr result (IsAsBefore pass.old pass.new) }
 
-        // A reply to a hypercall has a result value, and a call goes on with the element after the one
-        // that was served.
+        // The reply to a hypercall has a result value. A call continues with the element after the one that
+        // was served.
         ensures result { (frame : CallFrame Global) → what ≡ Hypercall frame → IfOk result HasResult }
         ensures next { IfOk result (λ r. GoesOn what r) }
     {
@@ -106,7 +109,7 @@ impl<L: Ledger> Shared<L> {
         told
     }
 
-    // What the lock held at last, how many passes there are, and with what the history was begun.
+    // Returns the lock's contents, the number of passes, and the configuration and limit of the history.
     pub(crate) fn into_parts(self) -> (Held<L>, usize, Config, u32)
         ensures passes { (result.1 ≡ self.passes) × (result.1 ≡ L.parts) }
         ensures config { result.2 ≡ self.config }
@@ -138,7 +141,7 @@ impl<L: Ledger> Shared<L> {
         self.held.lock(rt).hold(pass, event, copy)
     }
 
-    // Takes the lock for the elements of a call of which there are copies.
+    // Takes the lock for those elements of a call that have copies.
     // Inlined: calls for the own id in bench/largest.sh.
     #[inline(always)]
     pub(crate) fn hold_run<R: Wait>(

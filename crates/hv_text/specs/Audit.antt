@@ -23,7 +23,7 @@ hex_64 n = encode_lower (to_be_bytes w64 n)
 abbrev pub caller_text : Caller → List ℕ
 caller_text by = decimal by.part ++ codes "." ++ decimal by.vp
 
--- what an event asked for
+-- the request of an event
 abbrev pub what_text : {A : Type 0} → Action A → List ℕ
 what_text (Hypercall frame) = codes "call " ++ hex_64 frame.rcx
 what_text (ReadMsr msr) = codes "rdmsr " ++ hex_32 msr
@@ -34,12 +34,12 @@ what_text (ReadFlags sint) = codes "flags " ++ decimal sint
 what_text (ClearFlag sint flag) = codes "clearflag " ++ decimal sint ++ codes " " ++ decimal flag
 what_text TakeInterrupt = codes "interrupt"
 
--- the bytes that an event put out, two digits each
+-- the output of an event, two digits for each byte
 abbrev pub output_text : List ℕ → List ℕ
 output_text [] = codes "-"
 output_text (byte ∷ bytes) = encode_lower (byte ∷ bytes)
 
--- a space and the result value, of a hypercall alone
+-- a space and the result value, for a hypercall alone
 abbrev pub result_text : {A : Type 0} → Action A → Reply → List ℕ
 result_text (Hypercall frame) reply = codes " " ++ hex_64 (result_of frame reply)
 result_text (ReadMsr msr) reply = []
@@ -50,7 +50,7 @@ result_text (ReadFlags sint) reply = []
 result_text (ClearFlag sint flag) reply = []
 result_text TakeInterrupt reply = []
 
--- how it was answered
+-- the reply to an event
 abbrev pub reply_text : {A : Type 0} → Action A → Reply → List ℕ
 reply_text what (Served output) = codes "ok" ++ result_text what (Served output) ++ codes " " ++ output_text
     output
@@ -66,12 +66,12 @@ entry_text number entry =
     decimal number ++ codes " " ++ caller_text entry.event.by ++ codes " " ++ what_text entry.event.what ++
     codes " " ++ reply_text entry.event.what entry.reply
 
--- the lines of events, of which the first has this number, each with its line feed
+-- the lines of events, numbered from this number on, each with its line feed
 abbrev pub entries_text : {A : Type 0} → ℕ → List (Entry A) → List ℕ
 entries_text number [] = []
 entries_text number (entry ∷ entries) = entry_text number entry ++ codes "\n" ++ entries_text (number + 1)
     entries
 
--- the audit: a line for each event, numbered from 1, and then how many there are
+-- the audit: a line for each event, numbered from 1, then the number of events
 unfoldable pub audit_text : {A : Type 0} → List (Entry A) → List ℕ
 audit_text entries = entries_text 1 entries ++ codes "events " ++ decimal (length entries) ++ codes "\n"

@@ -7,7 +7,7 @@ use Rattle.hv_refine.specs.Tie.{part_row}
 use Rattle.hv_tree.specs.Rows.{Row, Rows, children}
 use Rattle.hv_text.specs.Table.{Counts, Line, text_of}
 
--- what a partition with so many children keeps
+-- the counts of a partition with this number of children
 abbrev pub kept_counts : ℕ → PartitionState → Counts
 kept_counts children p = record {
   loose = set.len p.loose.pages;
@@ -22,7 +22,7 @@ kept_counts children p = record {
 abbrev pub row_line : Rows PartitionState → ℕ × Row PartitionState → Line
 row_line tree e = (e.0, (part_row e.1, kept_counts (length (children tree e.0)) e.1.1))
 
--- how many pages a partition holds, and how many these rows of a tree
+-- the number of pages of a partition, and of these rows of a tree
 abbrev pub pages_of : PartitionState → ℕ
 pages_of p = set.len p.loose.pages + set.len p.pooled.pages
 

@@ -19,8 +19,7 @@ life_text Created = codes "Created"
 life_text Active = codes "Active"
 life_text Finalized = codes "Finalized"
 
--- how many loose and pooled pages a partition has, how many pages it uses, and how many processors, ports and
--- connections it has
+-- the numbers of a partition's loose pages, pooled pages, pages in use, processors, ports and connections
 pub record Counts : Type 0 where
   pub loose : ℕ
   pub pooled : ℕ
@@ -53,7 +52,7 @@ lines_text (line ∷ lines) = partition_text line.0 line.1.0 line.1.1 ++ codes "
 unfoldable pub text_of : List Line → ℕ → List ℕ
 text_of lines pages = lines_text lines ++ codes "pages " ++ decimal pages ++ codes "\n"
 
--- how many loose pages a partition has
+-- the number of a partition's loose pages
 abbrev pub loose_count : Flat → ℕ → ℕ
 loose_count f id = count_by (λ e. (e.1.owner == id) && not e.1.pooled) (entries f.page)
 
@@ -68,6 +67,6 @@ counts_of f id = record {
   conns = conn_count f id;
 }
 
--- the table of a state: a line for each partition by rising id, and then how many pages there are
+-- the table of a state: a line for each partition by rising id, then the number of pages
 unfoldable pub table_text : Flat → List ℕ
 table_text f = text_of (map (λ e. (e.0, (e.1, counts_of f e.0))) (entries f.part)) (len f.page)

@@ -24,7 +24,7 @@ use std::io::Write;
 // The most bytes of the caller.
 pub const CALLER: usize = 2 * MOST_DIGITS + 1;
 
-// The most bytes of what it asked for: a word, a SINT and a flag.
+// The most bytes of a request: a word, a SINT and a flag.
 pub const ASKED: usize = 11 + 2 * MOST_DIGITS;
 
 // The bytes of a result value and the space before it.
@@ -33,14 +33,15 @@ pub const RESULT: usize = 17;
 // The most bytes of a rule's name.
 pub const RULE: usize = 3;
 
-// The most bytes of what an event put out.
+// The most bytes of an event's output.
 pub const OUTPUT: usize = 512;
 
-// The most bytes of how an event was answered: a word, a result value, and what the event put out.
+// The most bytes of a reply: a word, a result value, and the event's output.
 pub const REPLY: usize = 7 + RESULT + OUTPUT;
 
-/// Writes the audit of what happened: a line for each event, and how many there are. It takes no memory, and
-/// doesn't flush.
+/// Writes the audit of a history: a line for each event, and then their number.
+///
+/// It takes no memory, and doesn't flush.
 pub fn audit<W: Write, A: Allocator>(out: &mut W, kept: &Kept<A>) -> Result<(), PrintFault>
     ensures ok { OnOk result
         (Appends (W.contents out.old) (W.contents out.new) (audit_text kept.now.history)) }
@@ -48,7 +49,7 @@ pub fn audit<W: Write, A: Allocator>(out: &mut W, kept: &Kept<A>) -> Result<(), 
         (IsCut (W.contents out.old) (W.contents out.new) (audit_text kept.now.history)) }
     ensures write { result ≢ Err PrintFault.Memory }
 {
-    // The proof reads here that a history's length fits 32 bits.
+    // proof: a history's length fits 32 bits.
     let _limit = kept.limit();
     put_history(out, kept.history())
 }
@@ -114,7 +115,7 @@ fn push_caller(line: &mut Text, by: Caller)
     line.push_decimal(u64::from(by.vp));
 }
 
-// What an event asked for. The bytes of its input aren't shown.
+// Adds the request of an event. The bytes of its input aren't shown.
 fn push_asked<A: Allocator>(line: &mut Text, asked: Request, input: &[u8])
     requires { length line.old + ASKED ≤ LINE }
     ensures text { line.new ≡ line.old ++ what_text (action_of {A = A} asked input.now) }
@@ -162,7 +163,7 @@ fn push_named_32(line: &mut Text, name: &[u8], number: u32)
     line.push_hex_32(number);
 }
 
-// How an event was answered.
+// Adds the reply to an event.
 fn push_reply<A: Allocator>(line: &mut Text, entry: &EntryRef<'_>)
     requires index { next_in (reply_of entry.now.answer []) < REPS_END }
     requires output { length entry.now.output.now ≤ 256 }
@@ -198,7 +199,7 @@ fn push_reply<A: Allocator>(line: &mut Text, entry: &EntryRef<'_>)
     }
 }
 
-// A space and the result value, of a hypercall alone.
+// Adds a space and the result value, for a hypercall alone.
 fn push_result<A: Allocator>(line: &mut Text, entry: &EntryRef<'_>)
     requires index { next_in (reply_of entry.now.answer []) < REPS_END }
     requires room { length line.old + RESULT ≤ LINE }
@@ -222,7 +223,7 @@ fn push_result<A: Allocator>(line: &mut Text, entry: &EntryRef<'_>)
     }
 }
 
-// The bytes that an event put out, or a dash where there are none.
+// Adds the output of an event, or a dash if there is none.
 fn push_output(line: &mut Text, output: &[u8])
     requires most { length output.now ≤ 256 }
     requires room { length line.old + OUTPUT ≤ LINE }

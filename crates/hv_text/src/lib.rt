@@ -1,11 +1,11 @@
 //! The texts of the program `hvpm`: the script that it reads, the audit of a history and the table of its
 //! partitions.
 //!
-//! [`parse`] reads a script, and is `hv_script`'s, whose names stand here too.
-//! [`audit`] writes a line for each event of a history, and [`table`] a line for each partition that its
-//! machine has. Both write exactly the bytes that `specs/` define, and after a write that failed tell how
-//! many of the first bytes went out. [`audit_line`] puts the line of one event into a buffer, for whoever
-//! keeps no history. The texts' forms are this project's own.
+//! [`parse`] reads a script. It is `hv_script`'s, whose names are here too. [`audit`] writes a line for each
+//! event of a history, and [`table`] a line for each partition of its machine. Both write exactly the bytes
+//! that `specs/` define. After a failed write they report how many of the first bytes went out.
+//! [`audit_line`] puts the line of one event into a buffer, for a caller that keeps no history. The texts'
+//! forms are this project's own.
 #![tactic(auto)]
 
 mod audit_text;

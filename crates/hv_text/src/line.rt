@@ -1,4 +1,4 @@
-// One line of the audit, of an event that stands in no history.
+// One line of the audit, for an event outside a history.
 ghost use Rattle.std.specs.Prelude.{◌≡◌, ◌<◌, ◌≤◌, ◌++◌, [], codes, drop, length, take};
 ghost use Rattle.hv_defs.specs.declared.sizes.TheConstants.{REPS_END};
 ghost use Rattle.hv_history.specs.History.{entry_by};
@@ -11,22 +11,23 @@ use crate::text::Text;
 use hv_history::EntryRef;
 use std::alloc::Allocator;
 
-/// Room in which lines are put together, one after another.
+/// A buffer in which lines are built, one after another.
 #[derive(Drop)]
 pub struct Scratch {
     line: Text,
 }
 
 impl Scratch {
-    /// Room for every line.
+    /// Creates room for any line.
     pub fn new() -> Scratch {
         Scratch { line: Text::new() }
     }
 }
 
-/// Puts the audit's line of an event with its number and its reply, with its line feed, at the start of a
-/// buffer of [`LINE`] bytes or more, and answers how many bytes it has. It takes no memory, and what stands
-/// in the room doesn't matter.
+/// Writes an event's audit line, with its line feed, at the start of a buffer, and returns its length.
+///
+/// The line has the event's number and its reply. The buffer has [`LINE`] bytes or more. The function takes
+/// no memory, and the contents of the scratch room don't matter.
 pub fn audit_line<A: Allocator>(
     scratch: &mut Scratch,
     buffer: &mut [u8],

@@ -6,8 +6,8 @@ ghost use Rattle.hv_text.specs.Fault.{IsCutAfter};
 use crate::fault::PrintFault;
 use std::io::{ErrorKind, Write};
 
-// Writes these bytes of a text of which so many went out before, and answers how many did then. A write that
-// takes nothing fails, and one that was interrupted is tried again.
+// Writes these bytes of a text after its first `before` bytes, and returns how many of its bytes went out in
+// all. A write that takes nothing fails, and an interrupted write is tried again.
 pub(crate) fn put<W: Write>(out: &mut W, bytes: &[u8], before: u64) -> Result<u64, PrintFault>
     requires { before + length bytes.now < 2 ^ 64 }
     ensures ok { IfOk result (λ after. Appends (W.contents out.old) (W.contents out.new) bytes.now) }

@@ -34,8 +34,9 @@ pub const PART: usize = 128;
 // The most bytes of a life state.
 pub const LIFE: usize = 9;
 
-/// Writes the table of the partitions that are there now, by rising id. It doesn't flush. It takes memory for
-/// their ids alone, and wants it before anything is written.
+/// Writes the table of a history's current partitions, by rising id.
+///
+/// It doesn't flush. It takes memory for their ids alone, before anything is written.
 pub fn table<W: Write, A: Allocator + Clone>(out: &mut W, kept: &Kept<A>) -> Result<(), PrintFault>
     ensures ok { (f : Flat) → IsFlat kept.now.machine f
         → OnOk result (Appends (W.contents out.old) (W.contents out.new) (table_text f)) }
@@ -45,7 +46,7 @@ pub fn table<W: Write, A: Allocator + Clone>(out: &mut W, kept: &Kept<A>) -> Res
     table_of(out, kept.machine())
 }
 
-/// Writes the table of the partitions of a machine, as [`table`] writes it.
+/// Writes the table of a machine's partitions, as [`table`] does.
 pub fn table_of<W: Write, A: Allocator + Clone>(
     out: &mut W,
     machine: &Machine<A>,
@@ -65,7 +66,7 @@ pub fn table_of<W: Write, A: Allocator + Clone>(
 // No host has memory for the table of more partitions.
 const MOST_ROWS: usize = 0xFFFF_FFFF;
 
-// Writes the lines of the partitions with these ids, which are all, and the last line.
+// Writes the lines of all partitions, which have these ids, and the last line.
 fn put_rows<W: Write, A: Allocator>(
     out: &mut W,
     tree: &Partitions<A>,
@@ -90,7 +91,7 @@ fn put_rows<W: Write, A: Allocator>(
     Ok(())
 }
 
-// Makes it the last line, with its line feed.
+// Sets the text to the last line, with its line feed.
 fn set_end(line: &mut Text, pages: u128)
     ensures text { line.new ≡ codes "pages " ++ decimal pages ++ codes "\n" }
     ensures most { length line.new ≤ LINE }
@@ -101,7 +102,7 @@ fn set_end(line: &mut Text, pages: u128)
     line.push_text(b"\n");
 }
 
-// Makes the line that of the partition with this id, with its line feed, and answers how many pages it holds.
+// Sets the text to the line of the partition with this id, with its line feed. Returns its number of pages.
 fn set_row<A: Allocator>(line: &mut Text, tree: &Partitions<A>, id: u64) -> u128
     requires { IsSome (map.get tree.now id) }
     ensures text { (row : Row PartitionState) → map.get tree.now id ≡ Some row
@@ -123,7 +124,8 @@ fn set_row<A: Allocator>(line: &mut Text, tree: &Partitions<A>, id: u64) -> u128
     u128::from(loose) + u128::from(pooled)
 }
 
-// Makes the line that of a partition with this id, this parent and so many children, with its line feed.
+// Sets the text to the line of a partition with this id, this parent and `count` children, with its line
+// feed.
 fn set_partition<A: Allocator>(
     line: &mut Text,
     id: u64,
@@ -142,7 +144,7 @@ fn set_partition<A: Allocator>(
     line.push_text(b"\n");
 }
 
-// Makes it the first part of that line, as far as the mask.
+// Sets the text to the first part of that line, up to the mask.
 fn set_head<A: Allocator>(line: &mut Text, id: u64, parent: Option<u64>, partition: &Partition<A>)
     ensures text { line.new
         ≡ codes "partition " ++ decimal id ++ codes " parent " ++ parent_text parent ++ codes " "
@@ -161,7 +163,7 @@ fn set_head<A: Allocator>(line: &mut Text, id: u64, parent: Option<u64>, partiti
     line.push_hex_64(partition.mask().bits());
 }
 
-// Adds how many pages a partition with so many children has, and how many of them it uses.
+// Adds the numbers of pages of a partition with `count` children, and of those in use.
 fn push_pages<A: Allocator>(line: &mut Text, count: u32, partition: &Partition<A>)
     requires { length line.old + PART ≤ LINE }
     ensures text { line.new
@@ -178,7 +180,7 @@ fn push_pages<A: Allocator>(line: &mut Text, count: u32, partition: &Partition<A
     line.push_decimal(partition.in_use(count));
 }
 
-// Adds how many processors, ports and connections a partition has.
+// Adds the numbers of a partition's processors, ports and connections.
 fn push_counts<A: Allocator>(line: &mut Text, partition: &Partition<A>)
     requires { length line.old + PART ≤ LINE }
     ensures text { line.new
@@ -195,7 +197,7 @@ fn push_counts<A: Allocator>(line: &mut Text, partition: &Partition<A>)
     line.push_decimal(u64::from(partition.conn_count()));
 }
 
-// The root has no parent.
+// Adds the parent. The root has none.
 fn push_parent(line: &mut Text, parent: Option<u64>)
     requires { length line.old + MOST_DIGITS ≤ LINE }
     ensures text { line.new ≡ line.old ++ parent_text parent }

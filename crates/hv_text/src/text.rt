@@ -36,7 +36,7 @@ static PAIRS: [u8; 512] = *b"\
     f0f1f2f3f4f5f6f7f8f9fafbfcfdfeff\
 ";
 
-// A line so far.
+// The line that is being built.
 #[derive(Drop)]
 pub(crate) struct Text {
     bytes: [u8; LINE],
@@ -55,7 +55,7 @@ impl Model for Text {
 }
 
 impl Text {
-    // No bytes.
+    // Creates an empty line.
     pub(crate) fn new() -> Text
         ensures { result ≡ [] }
     {
@@ -65,7 +65,7 @@ impl Text {
         }
     }
 
-    // Makes it empty again.
+    // Empties the line.
     pub(crate) fn clear(&mut self)
         ensures { self.new ≡ [] }
     {
@@ -140,7 +140,7 @@ impl Text {
     }
 }
 
-// How many digits a number has in decimal.
+// The number of digits that a number has in decimal.
 fn digits_of(number: u64) -> usize
     ensures { result ≡ length (decimal number) }
 {
@@ -153,7 +153,7 @@ fn digits_of(number: u64) -> usize
     count
 }
 
-// Puts the two digits of each byte where there is room for just these.
+// Writes the two digits of each byte into room for exactly these.
 fn put_pairs(bytes: &[u8], room: &mut [u8])
     requires { length room.old ≡ 2 * length bytes.now }
     ensures { room.new ≡ encode_lower bytes.now }

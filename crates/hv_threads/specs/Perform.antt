@@ -1,4 +1,4 @@
--- What comes of one action.
+-- The outcome of one action.
 use Rattle.std.specs.Prelude.{ℕ, ◌≡◌, List, [], ◌∷◌, ◌++◌}
 use Rattle.std.specs.declared.alloc.Global.{Global}
 use Rattle.hv_abi.specs.declared.frame.Frame.{Frame}
@@ -24,7 +24,7 @@ pub record IsCall (by : Caller) (frame : Frame Global) (list : List Receipt) : T
   pub reply : Reply
   pub whole : IsWholeCall by frame list last reply
 
--- the receipts of an action that came to its end: of a hypercall one for each element, else one
+-- the receipts of an action that came to its end: one for each element of a hypercall, and one for an access
 abbrev pub IsWhole : Caller → Action Global → List Receipt → Type 0
 IsWhole by (Hypercall frame) list = IsCall by frame list
 IsWhole by (ReadMsr msr) list = IsAccess by (ReadMsr msr) list
@@ -40,7 +40,7 @@ pub record IsPart (by : Caller) (frame : Frame Global) (list : List Receipt) : T
   pub now : Frame Global
   pub elements : AreElements by frame list now
 
--- the receipts of an action that the host stopped: of a hypercall one for each element before, else none
+-- the receipts of an action that the host stopped: one for each element before, and none for an access
 abbrev pub IsStopped : Caller → Action Global → List Receipt → Type 0
 IsStopped by (Hypercall frame) list = IsPart by frame list
 IsStopped by (ReadMsr msr) list = list ≡ []
@@ -57,13 +57,13 @@ AreWhole by [] list = list ≡ []
 AreWhole by (what ∷ more) list = (own : List Receipt) × (rest : List Receipt) × (list ≡ own ++ rest) × IsWhole
     by what own × AreWhole by more rest
 
--- the pass has the receipts more of an action that came to its end
+-- the pass has gained the receipts of an action that came to its end
 pub record HasPerformed (what : Action Global) (old new : PassValue) : Type 0 where
   pub more : List Receipt
   pub whole : IsWhole old.caller what more
   pub gained : HasReceipts more old new
 
--- the pass has the receipts more of an action that the host stopped
+-- the pass has gained the receipts of an action that the host stopped
 pub record HasBegun (what : Action Global) (old new : PassValue) : Type 0 where
   pub more : List Receipt
   pub stopped : IsStopped old.caller what more

@@ -9,7 +9,7 @@ use std::alloc::Global;
 use std::sync::Wait;
 use std::sync::ledger::Ledger;
 
-// Lets one action come to its end: drives a hypercall, and calls for anything else.
+// Performs one action to its end: drives a hypercall, and calls for anything else.
 pub(crate) fn perform<L: Ledger, R: Wait, G: Gate>(
     rt: &R,
     shared: &Shared<L>,

@@ -1,8 +1,8 @@
 //! Threads that share one history.
 //!
-//! [`run_phase`] lets each of many works go on in a thread of its own, on one [`Shared`]. What stands
-//! below the threads, the lock with what it holds, the passes and their settlement, is `hv_shared`'s,
-//! whose names are all here, so that a user names this crate alone.
+//! [`run_phase`] runs each of many works in a thread of its own, on one [`Shared`]. The layer below the
+//! threads is `hv_shared`: the lock with its contents, the passes and their settlement. All its names are
+//! here, so a user needs this crate alone.
 #![tactic(auto)]
 
 mod action;

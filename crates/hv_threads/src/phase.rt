@@ -14,7 +14,7 @@ use std::sync::ledger::Ledger;
 use std::thread;
 use std::thread::Threads;
 
-/// What one thread is to do, in order.
+/// The work of one thread: its pass, and its actions in order.
 #[derive(Drop)]
 pub struct Work<L: Ledger> {
     pub pass: Pass<L>,
@@ -24,13 +24,13 @@ pub struct Work<L: Ledger> {
 /// How a thread's work ended.
 #[derive(Clone, Copy, PartialEq, Eq, Debug)]
 pub enum End {
-    /// Every action came to its end.
+    /// Every action was performed to its end.
     Finished,
     /// The host refused an event.
     Host(HostRefused),
 }
 
-/// What one thread did: the pass with its receipts, and how many actions came to their end.
+/// The outcome of one thread: the pass with its receipts, and the number of actions that came to their end.
 #[derive(Drop)]
 pub struct Done<L: Ledger> {
     pub pass: Pass<L>,
@@ -38,23 +38,22 @@ pub struct Done<L: Ledger> {
     pub end: End,
 }
 
-/// The work that couldn't be begun, for lack of memory.
+/// The work that was not begun, for lack of memory.
 #[derive(Drop)]
 pub struct PhaseRefused<L: Ledger> {
     pub work: Vec<Work<L>>,
 }
 
-// A work while it is done. Threads work on a slice of tasks, which stay where they are, so that no pass can
-// be lost.
+// A work in progress. Threads work on a slice of tasks, which stay in place, so no pass can be lost.
 #[derive(Drop)]
 struct Task<L: Ledger> {
     work: Work<L>,
-    // How many actions came to their end.
+    // The number of actions that came to their end.
     done: u64,
     end: End,
 }
 
-// Does the actions in order, up to the first that the host refuses.
+// Performs the actions in order, up to the first that the host refuses.
 fn run_work<L: Ledger, R: Wait, G: Gate>(rt: &R, shared: &Shared<L>, gate: &G, task: &mut Task<L>)
     ensures { IsDoneAt task.old task.new }
 {
@@ -87,7 +86,7 @@ fn tasks_of<L: Ledger>(works: Vec<Work<L>>, tasks: &mut Vec<Task<L>>)
     }
 }
 
-// What the tasks hold, the last one first.
+// Adds the outcome of each task, the last one first.
 fn dones_of<L: Ledger>(tasks: Vec<Task<L>>, dones: &mut Vec<Done<L>>)
     requires { (dones.old.items ≡ []) × (vec_len tasks ≤ vec_capacity dones.old) }
     ensures { dones.new.items ≡ map done_of (reverse tasks.items) }
@@ -101,9 +100,10 @@ fn dones_of<L: Ledger>(tasks: Vec<Task<L>>, dones: &mut Vec<Done<L>>)
     }
 }
 
-/// Does each work in a thread of its own, or after another where the system has no thread to give, and tells
-/// what each did, in order. A thread stops at the first event that the host refuses; the others go on. For
-/// out of memory all work comes back, and no thread was started.
+/// Runs each work in a thread of its own, and returns the outcomes in order.
+///
+/// If the system has no thread to give, a work runs after another. A thread stops at the first event that the
+/// host refuses; the others continue. Out of memory, all work comes back, and no thread was started.
 pub fn run_phase<L: Ledger + Send + Sync, R: Threads + Wait + Sync, G: Gate>(
     rt: &R,
     shared: &Shared<L>,
@@ -125,7 +125,7 @@ pub fn run_phase<L: Ledger + Send + Sync, R: Threads + Wait + Sync, G: Gate>(
     Ok(dones)
 }
 
-// Does the tasks, each in a thread of its own.
+// Runs the tasks, each in a thread of its own.
 fn run_tasks<L: Ledger + Send + Sync, R: Threads + Wait + Sync, G: Gate>(
     rt: &R,
     shared: &Shared<L>,

@@ -18,7 +18,7 @@ use hv_policy::Config;
 use std::alloc::Global;
 use std::sync::ledger::{Book, Ledger, Share};
 
-// Whether nothing is left to find.
+// Whether no receipt is left to find.
 fn are_settled<L: Ledger>(passes: &[Pass<L>]) -> bool
     ensures { IsTrue result ↔ AreDone (rests_of passes.now) }
 {
@@ -30,7 +30,7 @@ fn are_settled<L: Ledger>(passes: &[Pass<L>]) -> bool
     true
 }
 
-// Nothing is found yet.
+// Puts every pass back to its first receipt.
 fn begin_all<L: Ledger>(passes: &mut [Pass<L>])
     ensures rests { rests_of passes.new ≡ receipts_of passes.old }
     ensures receipts { receipts_of passes.new ≡ receipts_of passes.old }
@@ -51,7 +51,7 @@ fn put_in_order<L: Ledger>(passes: &mut [Pass<L>])
     passes.sort_unstable_by_key(|pass| pass.due());
 }
 
-// The one of the passes at a place and the next that is due first.
+// Returns the place of the pass that is due first, of a place and the next one.
 fn earlier<L: Ledger>(passes: &[Pass<L>], left: usize) -> usize
     requires { left < length passes.now }
     ensures there { (left ≤ result) × (result ≤ left + 1) × (result < length passes.now) }
@@ -66,7 +66,8 @@ fn earlier<L: Ledger>(passes: &[Pass<L>], left: usize) -> usize
     }
 }
 
-// Of the two passes below a place, the one that is due first, if that is before the one at the place is.
+// Returns the place of the pass that is due first, of the two below a place, if it is due before the pass
+// there.
 fn first_below<L: Ledger>(passes: &[Pass<L>], at: usize) -> Option<usize>
     requires { at < length passes.now }
     ensures some { IfSome result (IsLowestBelow at (dues_of passes.now)) }
@@ -105,8 +106,8 @@ fn is_due<L: Ledger>(passes: &[Pass<L>], at: usize, number: u64) -> bool
     at < passes.len() && passes[at].due() == number
 }
 
-// Whether the first pass alone goes on with the event and the reply at this place of a history, under
-// their number, and else why not. Another pass that goes on with that number would stand right below it.
+// Checks that the first pass alone has the event and the reply at this place of a history next, under their
+// number. Otherwise it returns the fault. Another pass with that number next would be right below the first.
 fn look_at_first<L: Ledger>(
     passes: &[Pass<L>],
     history: &History<Global>,
@@ -136,7 +137,7 @@ fn look_at_first<L: Ledger>(
     }
 }
 
-// What fails first, if anything does, when the receipts are gone through with the history.
+// Returns the first fault of the receipts against the history, if there is one.
 fn first_fault<L: Ledger>(history: &History<Global>, passes: &mut [Pass<L>]) -> Option<SettleFault>
     requires { length (entries history.now) < NEVER }
     ensures none { IfNone result (MergesFrom 1 (entries history.now) (receipts_of passes.old)) }
@@ -160,7 +161,7 @@ fn first_fault<L: Ledger>(history: &History<Global>, passes: &mut [Pass<L>]) -> 
     }
 }
 
-// The shares of all passes in one.
+// Merges the shares of all passes.
 fn gather<L: Ledger>(passes: Vec<Pass<L>>) -> Option<Share<L>>
     ensures some { IfSome result (λ s. (s.parts ≡ vec_len passes)
         × (s.amount ≡ sum (shares_of passes.items))) }
@@ -174,7 +175,7 @@ fn gather<L: Ledger>(passes: Vec<Pass<L>>) -> Option<Share<L>>
     Some(all)
 }
 
-// Where every pass is there, the book's total is the sum of their shares.
+// Audits the book. With every pass present, its total is the sum of their shares.
 fn audit<L: Ledger>(book: Book<L>, passes: Vec<Pass<L>>)
     requires { 0 < L.parts }
     ensures { vec_len passes ≡ L.parts → book.total ≡ sum (shares_of passes.items) }
@@ -185,7 +186,7 @@ fn audit<L: Ledger>(book: Book<L>, passes: Vec<Pass<L>>)
     }
 }
 
-// What is wrong first with a history and the receipts of these passes, if anything is.
+// Returns the first fault of a history and the receipts of these passes, if there is one.
 #[tactic(auto, using(crate::proofs::Merged::made, crate::proofs::Merged::fault_not_made))]
 fn fault_of<L: Ledger>(
     kept: &Kept<Global>,
@@ -204,8 +205,9 @@ fn fault_of<L: Ledger>(
     first_fault(kept.history(), passes)
 }
 
-/// Whether the history is a merge of the passes' receipts, and was begun as `shared` says. The machine
-/// with its history is handed back either way. It takes no memory.
+/// Checks that the history is a merge of the passes' receipts, and was begun as `shared` says.
+///
+/// Hands back the machine with its history either way. It takes no memory.
 pub fn settle<L: Ledger>(
     shared: Shared<L>,
     passes: Vec<Pass<L>>,
