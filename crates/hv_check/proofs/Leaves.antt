@@ -24,7 +24,7 @@ Actions = List (Action Global)
 abbrev pub Entries : Type 0
 Entries = List (Entry Global)
 
--- a call's reply says that it goes on with the element after its own, if it goes on
+-- a call's reply says that it continues with the element after its own, if it continues
 abbrev pub IsInTurn : Action Global → Reply → Type 0
 IsInTurn (Hypercall frame) reply = IsMore reply → GoesOnAt (start_of frame + 1) reply
 IsInTurn (ReadMsr msr) reply = Unit {0}
@@ -42,7 +42,7 @@ AreAll by (a ∷ acts) [] = ⊥
 AreAll by [] (e ∷ es) = ⊥
 AreAll by (a ∷ acts) (e ∷ es) = (e.event ≡ record { by = by; what = a }) × IsInTurn a e.reply × AreAll by (action_left a e.reply ++ acts) es
 
--- a call that doesn't go on leaves nothing, and one that goes on its next element
+-- a call that doesn't continue leaves nothing, and one that continues its next element
 not_more : (frame : Frame Global) (reply : Reply) → (IsMore reply → ⊥) → call_left frame reply ≡ []
 not_more frame (Served output) ends = refl
 not_more frame (More next output) ends = absurd (ends tt)

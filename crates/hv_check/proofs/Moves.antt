@@ -122,7 +122,7 @@ after_left (ReadFlags sint) acts reply goes = access_left (ReadFlags sint) acts 
 after_left (ClearFlag sint flag) acts reply goes = access_left (ClearFlag sint flag) acts reply (λ r. refl) (λ n o no. no) goes
 after_left TakeInterrupt acts reply goes = access_left TakeInterrupt acts reply (λ r. refl) (λ n o no. no) goes
 
--- What an audit claims that goes on with an event of a processor.
+-- What an audit claims that has an event of a processor next.
 pub record Claims (prefix rules : Bool) (k : Kept Global) (lines : Lines) (text : Bytes) (by : Caller) : Type 0 where
   pub kept : Kept Global
   pub run : IsRun kept
@@ -317,7 +317,7 @@ module _ (rules : Bool) (old_kept new_kept : Kept Global) (old new : Replay) (te
           read = read_left lines entry left lines_next stands.read;
         }
 
-    -- what an audit claims that goes on
+    -- what an audit claims that has one more event
     module _ (prefix : Bool) (claims : Claims prefix rules old_kept lines text by) where
       claim_event : claims.e.event ≡ entry.event
       claim_event = same_event lines claims.e entry claims.next left claims.is_next lines_next claims.by_is

@@ -54,7 +54,7 @@ others_of_own c line (a ∷ acts) other =
     asked_behind c (record line { action = a }) (map (λ action. record line { action = action }) acts) other ∙ others_of_own c line acts other
 
 module _ (lines : Lines) (e : Entry Global) (left : Lines) (next : IsNext lines e left) where
-  -- what its processor is asked
+  -- what its processor does next
   pub here : asked_by next.line.by lines ≡ next.line.action ∷ asked_by next.line.by next.after
   here =
       ap (asked_by next.line.by) next.all ∙ asked_by-append next.line.by next.before (next.line ∷ next.after)

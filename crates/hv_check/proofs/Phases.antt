@@ -18,7 +18,7 @@ use Rattle.hv_check.proofs.Next.{AreRuns, Lines, asked_behind, asked_first, aske
 use Rattle.hv_check.proofs.Sorted.{All-both, All-left, All-right, Beyond, Cuts, IsFrom, PartsAt, Within, apart_at, cuts, late_lefts, lefts_all, parts_at, sorted_across, sorted_before, sorted_lefts}
 use Rattle.hv_check.proofs.Sorted.{sorted_other, sorted_right}
 
--- each reply to a call says that it goes on with the element after its own, if it goes on
+-- each reply to a call says that it continues with the element after its own, if it continues
 abbrev pub AreInTurn : Entries → Type 0
 AreInTurn [] = Unit {0}
 AreInTurn (e ∷ es) = IsInTurn e.event.what e.reply × AreInTurn es
@@ -169,7 +169,7 @@ pub find_by : (c : Caller) (lines : Lines) → (asked_by c lines ≡ []) ⊎ Fir
 find_by c [] = inl refl
 find_by c (line ∷ lines) = first_by c line lines (is_caller c line.by) refl (find_by c lines)
 
--- whoever does an event is asked for something
+-- whoever does an event has a line
 nothing_asked : (c : Caller) (acts : Actions) (e : Entry Global) (es : Entries) → acts ≡ [] → AreAll c acts (e ∷ es) → ⊥
 nothing_asked c acts e es none all = subst (λ (l : Actions). AreAll c l (e ∷ es)) none all
 

@@ -1,4 +1,4 @@
--- What a run fixes: the replies, and how a call goes on.
+-- What a run fixes: the replies, and how a call continues.
 use Rattle.std.proofs.Common.{◌≡◌, ℕ, ◌+◌, ◌<◌, List, [], ◌∷◌, ◌++◌, refl, sym, ap, ◌∙◌, subst, arith}
 use Rattle.std.specs.declared.alloc.Global.{Global}
 use Rattle.hv_abi.specs.declared.frame.Frame.{Frame}
@@ -25,7 +25,7 @@ call_turn frame (More next output) goes more = (goes.0, let same = goes.0 in let
 call_turn frame (Denied rule status reps) goes more = absurd more
 call_turn frame (Fault rule) goes more = absurd more
 
--- a reply that goes on by the policy goes on in turn
+-- a reply that continues by the policy continues in turn
 pub turn_by : (what : Action Global) (reply : Reply) → GoesOn what reply → IsInTurn what reply
 turn_by (Hypercall frame) reply goes = call_turn frame reply goes
 turn_by (ReadMsr msr) reply goes = tt
@@ -43,7 +43,7 @@ module _ {X : Type 0} where
   rest_same : (x y : X) (xs ys : List X) → x ∷ xs ≡ y ∷ ys → xs ≡ ys
   rest_same x y xs ys same = cc
 
--- the replies of a run go on in turn
+-- the replies of a run continue in turn
 turns_from : (f : Flat) (es : Entries) → replies_of es ≡ (run_from f (events_of es)).1 → AreInTurn es
 turns_from f [] is = tt
 turns_from f (e ∷ es) is =

@@ -210,7 +210,7 @@ todo_over items done none = let n = ap length none in omega (arith, n, length-dr
 pub todo_parts : (items : Actions) (done : ℕ) (a : Action Global) → done < length items → a ≡ get_or items done a → drop done items ≡ a ∷ drop (done + 1) items
 todo_parts items done a less is = drop-cons items done a less ∙ (λ j. sym is j ∷ drop (sym (add-one done) j) items)
 
--- what is left once it got a reply after which it doesn't go on
+-- what is left once it got a reply after which it doesn't continue
 pub todo_done : (items : Actions) (done : ℕ) (reply : Reply) → done < length items → ((next : ℕ) (output : List ℕ) → reply ≡ More next output → ⊥) → drop (done + 1) items ≡ after_reply
     (drop done items) reply
 todo_done items done reply less other =

@@ -161,7 +161,7 @@ module _ {A : Type 0} (f : Flat) (event : Event A) where
           cc
       by (Some rule) unmet_rule = refl
 
-  -- so what was told is told by the step, whose reply says whether it was served
+  -- so the effect is the step's, whose reply says whether it was served
   pub told_by_step : (look : Look) (taken : Option ℕ) (r reply : Reply) → r ≡ (step f event).1 → (unmet f event ≡ None → Foretells look f (action_effect f event.by event.what) reply)
       → (unmet f event ≡ None → (n : ℕ) → reply ≡ Served (n ∷ []) → taken ≡ Some n) → IsToldBy look (is_served r) taken f (step f event).0 reply
   told_by_step look taken r reply is foretold vector = subst (λ r. IsToldBy look (is_served r) taken f (step f event).0 reply) (sym is) (by (unmet f event) refl)
@@ -192,7 +192,7 @@ module _ {A : Type 0} (f : Flat) (by : Caller) (frame : Frame A) (met : unmet f 
       at None is = let clash : None ≡ Some rule = sym met ∙ past_caller f (call_event by frame) is ∙ refuses in cc
       at (Some first) is = let clash : None ≡ Some first = sym met ∙ unmet_by_caller f (call_event by frame) first is in cc
 
--- the vector that a served access put out is the first byte of its output
+-- the vector that a served access returned is the first byte of its output
 pub first_byte : {A : Type 0} (f : Flat) (event : Event A) (output : List ℕ) (n : ℕ) → unmet f event ≡ None → Served output ≡ (step f event).1 → action_answer f event.by event.what ≡ Served (n ∷ []) →
     slice_get output 0 ≡ Some n
 first_byte f event output n met said told =

@@ -154,7 +154,7 @@ once_counted e f g t = record {
     by (variant.Processor part vp) h = nothing part vp h
     by (variant.Partition part) h = λ vp. nothing part vp (h vp)
 
--- what is told of one state holds of another that is the same of messages, processors and pages
+-- what holds of one state holds of another with equal messages, processors and pages
 pub nothing_told : (f g : Flat) → f.mail ≡ g.mail → ((part vp sint flag : ℕ) → has_flag (get g.vp (part, vp)) sint flag ≡ has_flag (get f.vp (part, vp)) sint flag)
     → ((part vp vector : ℕ) → has_vector (get g.vp (part, vp)) vector ≡ has_vector (get f.vp (part, vp)) vector) → f.page ≡ g.page → Tells variant.Nothing f g
 nothing_told f g mail flags vectors pages = record {

@@ -100,7 +100,7 @@ at_is_in rows id index = by (get rows id)
     by None = refl
     by (Some r) = refl
 
--- whether a message is shown among the rows of what stands at a SINT
+-- whether a message is shown among the rows of what is at a SINT
 shown_rows : (at_sint : Place) (mail : SintMail) → list_any is_shown (rows_of at_sint mail) ≡ is_some mail.slot
 shown_rows at_sint mail = by mail.slot mail.waiting
   where

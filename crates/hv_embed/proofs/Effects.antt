@@ -83,7 +83,7 @@ typed_more zero by ran typed = typed
 typed_more (suc n) by ran typed =
     step_typed (run n by ran).flat (typed_more n by ran typed) (call_event by (restart (run n by ran).frame (next_in (run n by ran).reply)))
 
--- the effect of the element with which a call goes on
+-- the effect of the element with which a call continues
 pub effect_on : (by : Caller) (m : State) (last next : Frame Global) (reply : Reply) (out : List ℕ) (ran : Ran) (e : Effect) (told : HvEffect) → IsAt ran m last reply out → next ≡ restart last
     (next_in reply) → AreTyped ran.flat → IsShown e told
     → ((f : Flat) → IsFlat m f → AreTyped f → Tells e f (step f (call_event by next)).0) → IsEffect told ran.flat (on by ran).flat

@@ -45,7 +45,7 @@ own_push by n (x ∷ es) e all own =
     ∙ ap (λ (k : ℕ). receipt n x.event x.reply ∷ (receipts_by by (n + 1) es ++ receipt k e.event e.reply ∷ [])) at
     ∙ ap (λ (l : List Receipt). l ++ receipt (n + length (x ∷ es)) e.event e.reply ∷ []) (sym (own_first by n x es first))
 
--- the call goes on by one element more
+-- the call continues by one element more
 elements_push : (by : Caller) (frame : Frame Global) (es : List (Entry Global)) (now : Frame Global) (reply : Reply) → AreElements by frame es now → GoesOnAt (start_of now + 1) reply
     → AreElements by frame (es ++ record { event = element by now; reply = reply } ∷ []) (restart now (start_of now + 1))
 elements_push by frame [] now reply is goes =
@@ -64,7 +64,7 @@ module _ (by : Caller) (old : Kept Global) (v : Option (List ℕ)) where
   elements_by frame [] now is = All-nil (IsBy by)
   elements_by frame (e ∷ es) now is = All-cons (IsBy by) e es (ap (λ x. x.by) is.0) (elements_by (restart frame (start_of frame + 1)) es now is.2)
 
-  -- one element more, after which the call goes on
+  -- one element more, after which the call continues
   pub begun_more : (frame now next : Frame Global) (n : ℕ) (mid new : Kept Global) (u w : Option (List ℕ)) → HasBegun frame now mid u → (told : HasWrittenElement by now (Some n) mid new u w)
       → next ≡ restart now n → HasBegun frame next new w
   begun_more frame now next n mid new u w begun told is =

@@ -1,4 +1,4 @@
--- A call that goes on by one element.
+-- A call that continues by one element.
 use Rattle.std.proofs.Common.{◌≡◌, ℕ, ◌+◌, ◌<◌, ◌≤◌, ◌≢◌, List, [], ◌∷◌, ◌++◌, length, refl, sym, subst, ap, ◌∙◌, arith, append_assoc, append-nil, length-append}
 use Rattle.hv_abi.specs.declared.frame.Frame.{Frame}
 use Rattle.hv_defs.specs.declared.sizes.TheConstants.{REPS_END}
@@ -106,7 +106,7 @@ module _ {A : Type 0} where
       next = is.next;
     }
 
-    -- the call goes on
+    -- the call continues
     module _ (next : ℕ) (output : List ℕ) (more : reply ≡ More next output) where
       goes : (next ≡ start_of is.last + 1) × (next < REPS_END)
       goes = subst (GoesOn (Hypercall is.last)) more is.next

@@ -1,4 +1,4 @@
--- A run that goes on by one event.
+-- A run that continues by one event.
 use Rattle.std.proofs.Common.{◌≡◌, ℕ, ◌≤◌, ◌<◌, List, [], ◌∷◌, ◌++◌, length, None, Ok, true, false, IsTrue, refl, sym, subst, ap, ◌∙◌, arith, length-append}
 use Rattle.std.proofs.lemmas.List.{length-map, map-append}
 use Rattle.hv_invariants.proofs.Counted.{run_few}
@@ -86,7 +86,7 @@ started {A = A} config limit m flat boots pages sound = record {
   justified = justified {A = A} config [] m flat refl;
 }
 
--- a call goes on with an element that has an index
+-- a call continues with an element that has an index
 has_index : {A : Type 0} (what : Action A) (reply : Reply) → GoesOn what reply → next_in reply < REPS_END
 has_index what (Served output) on = omega arith
 has_index (Hypercall frame) (More next output) on = on.1
@@ -100,7 +100,7 @@ has_index TakeInterrupt (More next output) on = absurd on
 has_index what (Denied rule status reps) on = omega arith
 has_index what (Fault rule) on = omega arith
 
--- whatever was put out
+-- whatever the output
 any_output : (answer : Answer) (output : List ℕ) → next_in (reply_of answer output) ≡ next_in (reply_of answer [])
 any_output answer.Served output = refl
 any_output (answer.More next) output = refl
@@ -108,7 +108,7 @@ any_output (answer.Denied rule status reps) output = refl
 any_output (answer.Fault rule) output = refl
 
 module _ {A : Type 0} (k : Kept A) (event : Event A) (reply : Reply) (is : IsRun k) (told : (f : Flat) → IsFlat k.machine f → reply ≡ (step f event).1) where
-  -- a call goes on with the element after the one that was served
+  -- a call continues with the element after the one that was served
   pub on : GoesOn event.what reply
   on = subst (GoesOn event.what) (sym (told _ is.machine)) (goes_on (run k.config (events_of k.history)).0 event)
 

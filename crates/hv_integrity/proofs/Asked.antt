@@ -36,7 +36,7 @@ use Rattle.hv_policy.specs.declared.rule.Rule.{Rule}
 use Rattle.hv_policy.specs.declared.rule.Rule.TheVariants.{PropertyKnown, TargetState, NoChildren, Depth, PeerExists, Connection, Port, Entitlement, VpExists, PropertyRange, Operand, Pages, MsrKnown}
 use Rattle.hv_policy.specs.declared.rule.Rule.TheVariants.{MsrPrivilege, MsrWrite}
 
--- the first unmet goes on alike behind the same front
+-- a first unmet rule behind equal fronts is equal
 pub behind : (asks rest other : List Ask) → first_unmet rest ≡ first_unmet other → first_unmet (asks ++ rest) ≡ first_unmet (asks ++ other)
 behind [] rest other same = same
 behind (ask ∷ asks) rest other same = ap (λ first. cond ask.1 first (Some ask.0)) (behind asks rest other same)
@@ -80,7 +80,7 @@ module _ (caller target : ℕ) (states : States) (charge : ℕ) (f g : Flat) whe
   AskedAlike call = first_unmet (call_asks f caller target states charge call) ≡ first_unmet (call_asks g caller target states charge call)
 
   -- what a call reads beyond its caller and its target: HvCreatePartition its caller's depth; HvCreatePort and HvConnectPort the partition
-  -- and the port that they name; a post and a signal what is at the end of a connection, of which all that they are asked is alike
+  -- and the port that they name; a post and a signal read the end of a connection, where all that their rules read is equal
   abbrev pub NamedAlike : Call → Type 0
   NamedAlike (CreatePartition flags) = is_depth_left f caller ≡ is_depth_left g caller
   NamedAlike (PostMessage connection message_type payload) = AskedAlike (PostMessage connection message_type payload)
@@ -117,7 +117,7 @@ module _ (caller target : ℕ) (f g : Flat) (r : ReadsAlike caller target f g) w
     enough : has_available f target charge ≡ has_available g target charge
     enough = ap (nat_le charge) r.unused
 
-    -- what a call is asked is met alike
+    -- the rules of a call are met alike
     pub asked_alike : (call : Call) → NamedAlike caller target states charge f g call → AskedAlike caller target states charge f g call
     asked_alike (CreatePartition flags) n = λ i. first_unmet ((Depth, n i) ∷ (Pages, enough i) ∷ [])
     asked_alike (InitializePartition partition) n = λ i. first_unmet ((TargetState, state i) ∷ [])
@@ -148,7 +148,7 @@ module _ (caller target : ℕ) (f g : Flat) (r : ReadsAlike caller target f g) w
         ∷ (Entitlement, n.peer i) ∷ (Operand, n.kind i) ∷ (Pages, enough i) ∷ [])
     asked_alike call n = refl
 
-  -- and what it puts out is alike
+  -- and what it outputs is alike
   pub output_alike : (call : Call) → MakesAlike call f g → output call f caller target ≡ output call g caller target
   output_alike (CreatePartition flags) m = ap (to_le_bytes w64) m
   output_alike (GetPartitionProperty partition code) m = ap (λ row. to_le_bytes w64 (value_of (property_of code) row)) r.part
@@ -158,7 +158,7 @@ module _ (caller target : ℕ) (f g : Flat) (r : ReadsAlike caller target f g) w
   output_alike (GetVpRegisters partition vp name) m = ap (λ row. to_le_bytes w64 (register_of row name) ++ to_le_bytes w64 0) (r.vps vp)
   output_alike call m = refl
 
--- what a hypercall is asked beyond P3, and what it answers where it is served, is alike
+-- the rules of a hypercall beyond P3, and its answer where it is served, are alike
 abbrev pub CallAlike : {A : Type 0} → Caller → Flat → Flat → Action A → Type 0
 CallAlike by f g (Hypercall frame) =
     (first_unmet (hypercall_asks f by.part frame (call_of frame)) ≡ first_unmet (hypercall_asks g by.part frame (call_of frame)))

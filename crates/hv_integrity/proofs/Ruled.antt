@@ -1,4 +1,4 @@
--- What is asked is met alike in two states that agree for a call.
+-- A call's rules are met alike in two states that agree for it.
 use Rattle.std.proofs.Common.{◌≡◌, ℕ, ◌+◌, ◌==◌, false, nat_le, [], ◌∷◌, is_some, ap}
 use Rattle.std.specs.FinMap.{get}
 use Rattle.std.specs.Option.{option_map_or}

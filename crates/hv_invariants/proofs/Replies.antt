@@ -30,7 +30,7 @@ use Rattle.hv_policy.specs.declared.reply.Reply.TheVariants.{Served, More}
 use Rattle.hv_policy.specs.declared.rule.Rule.{Rule}
 use Rattle.hv_policy.specs.declared.rule.Rule.TheVariants.{CallerExists, CallerActive, CallerVpExists, CallCode, InputValue, Alignment, Parameters, Privilege, TargetExists, TargetScope}
 
--- an unmet rule is one of those that are asked
+-- an unmet rule is one of the event's rules
 found_in : (asks : List Ask) (rule : Rule) → first_unmet asks ≡ Some rule → Contains (rules_of asks) rule
 found_in [] rule e = cc
 found_in (ask ∷ asks) rule e = by ask.1 e (found_in asks rule)
@@ -59,7 +59,7 @@ abbrev has_status : Option CallKind → Rule → Bool
 has_status k rule = is_some (rule_status rule k)
 
 module _ (f : Flat) (caller target : ℕ) (states : States) (charge : ℕ) where
-  -- the rules that a call is asked have a status
+  -- the rules of a call have a status
   call_status : (k : Option CallKind) (call : Call) → all_have (has_status k) (call_asks f caller target states charge call) ≡ true
   call_status k (CreatePartition flags) = refl
   call_status k call = refl
@@ -87,11 +87,11 @@ module _ {A : Type 0} (f : Flat) where
   action_alike g caller (Hypercall frame) = hypercall_alike g caller frame (call_of frame)
   action_alike g caller what = refl
 
-  -- the event alone decides which rules are asked
+  -- the event alone decides its rules
   pub asked_alike : (g : Flat) (e : Event A) → asked f e ≡ asked g e
   asked_alike g e = ap (λ rules. CallerExists ∷ CallerActive ∷ CallerVpExists ∷ rules) (action_alike g e.by.part e.what)
 
-  -- so an unmet one is asked, whatever the state
+  -- so an unmet one is among them, whatever the state
   refused : (e : Event A) (rule : Rule) → unmet f e ≡ Some rule → IsAsked e rule
   refused e rule is g = subst (λ rules. Contains rules rule) (asked_alike g e) (found_in (asks f e) rule is)
 
@@ -126,7 +126,7 @@ module _ {A : Type 0} (f : Flat) (caller : Caller) (frame : Frame A) where
           status : (rule : Rule) → unmet f event ≡ Some rule → is_some (rule_status rule (call_of frame)) ≡ true
           status rule is = found_has (has_status (call_of frame)) (asks f event) rule (hypercall_status f caller.part frame (call_of frame) (call_of frame)) is
 
--- the rule of a refusal is one that is asked
+-- the rule of a refusal is one of the event's rules
 module _ {A : Type 0} (f : Flat) where
   done : (e : Event A) (b : Bool) (bytes : List ℕ) (next : ℕ) → NamesAsked e (cond b (Served bytes) (More next bytes))
   done e true bytes next = tt
@@ -146,7 +146,7 @@ module _ {A : Type 0} (f : Flat) where
   pub names_asked : (e : Event A) → NamesAsked e (step f e).1
   names_asked e = by_action e.by e.what (unmet f e) refl
 
--- a call goes on with the element after the one that was served
+-- a call continues with the element after the one that was served
 module _ {A : Type 0} (f : Flat) where
   next_of : (by : Caller) (frame : Frame A) (b : Bool) → is_done frame (call_of frame) ≡ b → (bytes : List ℕ) → GoesOn (Hypercall frame) (cond b (Served bytes) (More (bits frame.rcx 48 12 + 1) bytes))
   next_of by frame true is bytes = tt

@@ -1,4 +1,4 @@
--- A look shows what the access would put out, where that would be served.
+-- A look shows what the access would return, where that would be served.
 use Rattle.std.proofs.Common.{◌≡◌, ℕ, nat_lt, Bool, true, false, cond, List, [], ◌∷◌, Option, Some, None, is_some, IsSomeAnd, refl, sym, ap, ◌∙◌}
 use Rattle.std.specs.Int.{w64, to_le_bytes}
 use Rattle.std.specs.Option.{option_map, option_and_then}

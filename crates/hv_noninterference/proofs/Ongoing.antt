@@ -1,4 +1,4 @@
--- How rows of partitions go on.
+-- How rows of partitions continue.
 use Rattle.std.proofs.Common.{◌≡◌, ℕ, ◌+◌, ◌≤◌, ◌==◌, Bool, true, false, cond, Option, Some, None, refl, sym, ap, subst, ◌∙◌, arith}
 use Rattle.std.proofs.lemmas.Bool.{eqb-true}
 use Rattle.std.specs.FinMap.{FinMap, get, insert, remove}
@@ -42,13 +42,13 @@ abbrev pub has_begun : Life → Bool
 has_begun Created = false
 has_begun life = true
 
--- a row goes on: it keeps its parent, and once it was Active it stays so or ends, and gets no privilege that it hasn't got
+-- a row continues: it keeps its parent, and once it was Active it stays so or ends, and gets no privilege that it hasn't got
 pub record GoesOn (old new : PartRow) : Type 0 where
   pub parent : new.parent ≡ old.parent
   pub begun : has_begun old.life ≡ true → has_begun new.life ≡ true
   pub less : has_begun old.life ≡ true → IsSubset new.mask old.mask
 
--- rows go on, and a new one is a child of the caller, which may make it
+-- rows continue, and a new one is a child of the caller, which may make it
 pub record FollowOn (f : Flat) (caller : ℕ) (part : FinMap nat_cmp PartRow) (next : ℕ) : Type 0 where
   pub olds : (id : ℕ) (old new : PartRow) → get f.part id ≡ Some old → get part id ≡ Some new → GoesOn old new
   pub news : (id : ℕ) (new : PartRow) → get f.part id ≡ None → get part id ≡ Some new

@@ -35,7 +35,7 @@ behind-push by last [] receipts phase more none whole within =
 behind-push by last (first ∷ past) receipts phase more some whole within =
     (some.0, some.1 ++ more, ap (λ (l : List Receipt). l ++ more) some.2 ∙ append_assoc some.0 some.1 more, some.3, some.4, behind-push by first.last past some.1 phase more some.5 whole within)
 
--- what is asked for in all phases was done
+-- the work of all phases was done
 pub behind_whole : (by : Caller) (last : ℕ) (past : List Past) (receipts : List Receipt) → AreBehind by last past receipts → AreWhole by (asked_by by (lines_in past)) receipts
 behind_whole by last [] receipts none = none
 behind_whole by last (first ∷ past) receipts some =

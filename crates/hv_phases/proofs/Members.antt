@@ -25,7 +25,7 @@ use Rattle.hv_threads.specs.declared.phase.End.{End}
 use Rattle.hv_threads.specs.declared.phase.End.TheVariants.{Finished}
 use Rattle.hv_threads.specs.declared.phase.Work.{Work}
 
--- what a line adds to what is asked of its processor, and of another
+-- what a line adds to its processor's work, and to another's
 asked_more : (c : Caller) (taken : List (Line Global)) (line : Line Global) → line.by ≡ c → asked_by c (taken ++ line ∷ []) ≡ asked_by c taken ++ line.action ∷ []
 asked_more c taken line own = asked_by-append c taken (line ∷ []) ∙ ap (λ (acts : List (Action Global)). asked_by c taken ++ acts) (asked_by_own c line own)
 

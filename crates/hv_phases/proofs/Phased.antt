@@ -189,7 +189,7 @@ same_cut last (x ∷ xs) ys (z ∷ zs) ws is low high low_too high_too =
     high_too in
     ((λ i. one i ∷ more.0 i), more.1)
 
--- a history of whose phases each processor's receipts are told is cut where its phases are
+-- a history of which each processor's receipts are known by phase is cut at its phases
 module _ (past : List Past) (history : List (Entry Global)) (rises : ArePast 0 past) (behind : (c : Caller) → AreBehind c 0 past (receipts_by c 1 history)) (before after : List (Line Global))
     (cut : IsCutOf past before after) where
   abbrev last : ℕ

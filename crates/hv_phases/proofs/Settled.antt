@@ -75,7 +75,7 @@ module _ (lines : List (Line Global)) (passes : List PassValue) (history : List 
   pub settled : AreRun lines history
   settled c = by_caller c (is_among c callers)
 
--- nothing is asked for where nobody is named
+-- there is no work where nobody is named
 pub nobody : (lines : List (Line Global)) (callers : List Caller) (history : List (Entry Global)) → AreCallersOf lines callers → callers ≡ [] → history ≡ [] → AreRun lines history
 nobody lines callers history of none empty c =
     let absent : Contains callers c → ⊥ = λ there. let k = subst (λ (xs : List Caller). Contains xs c) none there in omega (arith, k.1) in

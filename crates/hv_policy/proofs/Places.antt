@@ -23,7 +23,7 @@ is_place_true place other h =
 pub is_place_same : (place : Place) → is_place place place ≡ true
 is_place_same place = and_from _ _ (eq-eqb place.part place.part refl) (and_from _ _ (eq-eqb place.vp place.vp refl) (eq-eqb place.sint place.sint refl))
 
--- what stands at one place doesn't at another
+-- what is at one place isn't at another
 apart : (place other : Place) → is_place place other ≡ false → (row : MailRow) → stands_at other row ≡ true → stands_at place row ≡ false
 apart place other h row is = ap (is_place place) (is_place_true other (place_of row) is) ∙ h
 

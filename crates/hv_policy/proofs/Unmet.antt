@@ -1,4 +1,4 @@
--- The first unmet rule, from the parts of the list that is asked.
+-- The first unmet rule, from the parts of the event's list of rules.
 use Rattle.std.proofs.Common.{◌≡◌, Bool, true, false, cond, List, [], ◌∷◌, ◌++◌, None, Some, refl, sym, ap, ◌∙◌}
 use Rattle.std.specs.Option.{option_map}
 use Rattle.hv_abi.specs.declared.frame.Frame.{Frame}

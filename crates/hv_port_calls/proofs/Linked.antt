@@ -17,7 +17,7 @@ use Rattle.hv_refine.specs.Tie.{Refines, conn_row, conn_row_of, port_row, port_r
 use Rattle.hv_tree.specs.Rows.{Row, Rows}
 use Rattle.hv_port_calls.specs.Change.{HasConns, HasPorts}
 
--- what stands at a key of a pair after one of them was written
+-- what is at a key of a pair after one of them was written
 module _ {X Y : Type 0} (h : X → Y) (id n : ℕ) (to : Option X) (rows : FinMap pair_cmp Y) (own : FinMap nat_cmp X) (was : (q m : ℕ) → q == id ≡ true → get rows (q, m) ≡ option_map h (get own m)) where
   pub written : (own_after : FinMap nat_cmp X) (after : FinMap pair_cmp Y)
       → ((m : ℕ) → get own_after m ≡ cond (eq_by_cmp nat_cmp m n) to (get own m))

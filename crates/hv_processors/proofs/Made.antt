@@ -20,7 +20,7 @@ absent None h = refl
 absent (Some vp) h = cc
 
 module _ (rows new : Rows PartitionState) (f : Flat) (flat : Refines rows f) (id index : ℕ) where
-  -- a processor that came: no message stood at its places
+  -- a processor that came: no message was at its places
   pub added_tied : MayAdd rows id index → HasVps rows new id (λ vps. insert vps index (new_vp index)) → Refines new (record f { vp = insert f.vp (id, index) (start_vp index) })
   added_tied may h =
       let none : vp_in index (get rows id) ≡ None = ap (vp_in index) may.there ∙ absent (get may.row.1.vps.vps index) may.free in

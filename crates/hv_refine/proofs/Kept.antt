@@ -67,7 +67,7 @@ module _ {X : Type 0} (key : ℕ) (g : X → ℕ) where
   sum-one : (m : FinMap nat_cmp X) → ((k : ℕ) (x : X) → k == key ≡ false → get m k ≡ Some x → g x ≡ 0) → sum_by (λ e. g e.1) (entries m) ≡ worth (get m key)
   sum-one m h = one_listed (entries m) (distinct_keys nat_cmp (entries m) (entries_sorted m)) (λ k x apart is. h k x apart (get-entries m k ∙ is)) ∙ ap worth (sym (get-entries m key))
 
--- where all messages of a port pass a test, none stands at a place where none passes it
+-- where all messages of a port pass a test, none is at a place where none passes it
 none_apart : (part port born : ℕ) (passes : MailRow → Bool) (other : Place) → ((row : MailRow) → passes row ≡ true → stands_at other row ≡ false) → (mail : List MailRow) → AllByRecursion
     (λ row. came_through part port born row ≡ true → passes row ≡ true) mail → kept_of part port born (mail_at other mail) ≡ 0
 none_apart part port born passes other apart [] h = refl
@@ -80,7 +80,7 @@ none_apart part port born passes other apart (row ∷ mail) h = by (stands_at ot
         rest
     by false b s t rest = rest
 
--- what is told of every place where nothing stands is told of no message's place
+-- what holds of every place where nothing is holds of no message's place
 each_place : (there : Place → Bool) (mail : List MailRow) → ((place : Place) → there place ≡ false → mail_at place mail ≡ []) → AllByRecursion (λ row. there (place_of row) ≡ true) mail
 each_place there [] h = tt
 each_place there (row ∷ mail) h = (own (there (place_of row)) refl, each_place there mail (λ place none. later place (stands_at place row) (h place none)))
@@ -93,7 +93,7 @@ each_place there (row ∷ mail) h = (own (there (place_of row)) refl, each_place
     later place true none = cc
     later place false none = none
 
--- the messages of a port of which each stands at one SINT of a listed processor are counted processor by processor
+-- the messages of a port of which each is at one SINT of a listed processor are counted processor by processor
 module _ (id port born sint : ℕ) (g : VpState → ℕ) where
   abbrev Fits : List (ℕ × VpState) → MailRow → Type 0
   Fits es row = came_through id port born row ≡ true → (stands_where id Any sint row ≡ true) × (is_some (find nat_cmp row.vp es) ≡ true)
@@ -129,7 +129,7 @@ module _ (id port born sint : ℕ) (g : VpState → ℕ) where
         by true is rest = ((λ came. (let fit = h.0 came in (fit.0, listed (row.part == id) (row.vp == e.0) (row.sint == sint) is fit.0 refl fit.1))), rest)
         by false is rest = rest
 
-    -- and what stands at another stands there as before
+    -- and what is at another is there as before
     still_there : (k : ℕ) → k == e.0 ≡ false → (mail : List MailRow) → mail_at (here id k sint) (filter away mail) ≡ mail_at (here id k sint) mail
     still_there k apart mail = filter_kept (stands_at (here id k sint)) away elsewhere mail
       where
@@ -182,7 +182,7 @@ module _ (rows : Rows PartitionState) (f : Flat) (flat : Refines rows f) (pages 
   own = all_there f id port row is f.mail lawful.placed
 
   module _ (vp : ℕ) (v : VpState) (found : get r.1.vps.vps vp ≡ Some v) where
-    -- what stands at a SINT of a processor, counted
+    -- what is at a SINT of a processor, counted
     counted : (sint : ℕ) → kept_of id port row.born (mail_at (here id vp sint) f.mail) ≡ count_at port row.born (at v.mail sint)
     counted sint =
         ap (kept_of id port row.born) (rows_there rows f flat id vp sint ∙ ap (λ o. rows_of (here id vp sint) (sint_mail sint o)) (vp_found rows id vp r v there found))
@@ -203,7 +203,7 @@ module _ (rows : Rows PartitionState) (f : Flat) (flat : Refines rows f) (pages 
         elsewhere m true b false true d h s t = refl
         elsewhere m false b e c d h s t = refl
 
-    -- so the messages of its mailbox are those that stand at the port's SINT there
+    -- so the messages of its mailbox are those that are at the port's SINT there
     counted_there : kept_of id port row.born (mail_at (here id vp row.sint) f.mail) ≡ count_of port row.born v.mail
     counted_there = counted row.sint ∙ by (get v.mail row.sint) ∙ sym (sum-one row.sint (count_at port row.born) v.mail none_else)
       where
@@ -217,7 +217,7 @@ module _ (rows : Rows PartitionState) (f : Flat) (flat : Refines rows f) (pages 
         kept_among id port row.born (stands_where id row.vp row.sint) f.mail own
         ∙ ap (λ aim. kept_of id port row.born (filter (stands_where id aim row.sint) f.mail)) aim ∙ counted_there
 
-  -- no message stands at a processor that isn't there
+  -- no message is at a processor that isn't there
   abbrev has_vp : Place → Bool
   has_vp place = not (place.part == id) || is_some (get r.1.vps.vps place.vp)
 

@@ -27,7 +27,7 @@ use Rattle.hv_refine.proofs.Twice.{change-alike, change-none, change-twice, with
 use Rattle.hv_refine.specs.Tie.{Refines, here, mail_row, rows_of, sint_mail, vp_row_of}
 use Rattle.hv_refine.specs.Vp.{with_state_of}
 
--- what stands at a SINT that was written, and at another one
+-- what is at a SINT that was written, and at another one
 here_at : (mail : Mail) (sint : ℕ) (there : SintMail) → at (with_at mail sint there) sint ≡ there
 here_at mail sint there = at-with_at mail sint there sint ∙ ap (λ b. cond b there (at mail sint)) (eq-eqb sint sint refl)
 

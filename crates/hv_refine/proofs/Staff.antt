@@ -150,7 +150,7 @@ module _ (rows : Rows PartitionState) (f : Flat) (flat : Refines rows f) (id ind
             (λ sint. mine sint ∙ ap (λ o. rows_of (here id index sint) (sint_mail sint (option_map g o))) now)
             others
 
-    -- one of whose mail only what stands at one SINT changed
+    -- one of whose mail only what is at one SINT changed
     pub sint_tied : (sint : ℕ) → ((v : VpState) (n : ℕ) → n == sint ≡ false → at (g v).mail n ≡ at v.mail n)
         → mail_at (here id index sint) mail ≡ rows_of (here id index sint) (sint_mail sint (option_map g (vp_in index (get rows id))))
         → ((place : Place) → is_place (here id index sint) place ≡ false → mail_at place mail ≡ mail_at place f.mail)

@@ -34,7 +34,7 @@ module _ (rows : Rows PartitionState) (f : Flat) (flat : Refines rows f) (id : �
       first_there id vp_row_of test f.vp empty (λ i. vp_there rows f flat id i ∙ ap (λ r. option_map vp_row_of (vp_in i r)) gone ∙ sym (ap (option_map vp_row_of) (get-empty nat_cmp i)))
       ∙ ap (λ (es : List (ℕ × VpState)). option_map (λ e. e.0) (find (λ e. test (vp_row_of e.1)) es)) (no_entries (entries empty) refl)
 
-  -- whether one processor passes is told by its state
+  -- whether one processor passes depends on its state
   pub one_there : (index : ℕ) → on_vp f (id, index) test ≡ option_map_or (λ v. test (vp_row_of v)) (vp_in index (get rows id)) false
   one_there index = ap (λ o. option_map_or test o false) (vp_there rows f flat id index) ∙ by (vp_in index (get rows id))
     where

@@ -1,4 +1,4 @@
--- Copies of the events of a call are enough: a call goes on only below its count.
+-- Copies of the events of a call are enough: a call continues only below its count.
 use Rattle.std.proofs.Common.{◌≡◌, ℕ, zero, suc, ◌+◌, ◌-◌, ◌<◌, ◌≤◌, ◌&&◌, ◌||◌, min, Bool, true, false, cond, not, if◌then◌else◌, nat_le, nat_lt, Option, None, Some, List, [], ◌∷◌, ◌++◌, length}
 use Rattle.std.proofs.Common.{take, drop, refl, sym, ap, subst, ◌∙◌, arith}
 use Rattle.std.proofs.lemmas.Bool.{and_from, and_parts, or_parts, leb-false, ltb-true}
@@ -42,7 +42,7 @@ met (rule, true) rest is = (refl, is)
 met (rule, false) rest is = cc
 
 module _ (f : Flat) (by : Caller) (frame : Frame Global) where
-  -- a call that goes on is a rep call with an element left
+  -- a call that continues is a rep call with an element left
   valid : (kind : CallKind) → first_unmet (hypercall_asks f by.part frame (Some kind)) ≡ None → is_input_valid (row_of kind) frame.rcx ≡ true
   valid kind none = (met (InputValue, is_input_valid (row_of kind) frame.rcx) (drop 2 (hypercall_asks f by.part frame (Some kind))) none).0
 
@@ -98,7 +98,7 @@ sooner f (e ∷ es) last same =
     let rest = sooner (step f e.event).0 es last (rest_of _ _ _ _ same) in
     λ i. here i ∷ rest i
 
--- elements that are all answered that the call goes on are fewer than there are
+-- elements that are all answered that the call continues are fewer than there are
 bounded : (f : Flat) (by : Caller) (frame : Frame Global) (es : List (Entry Global)) (now : Frame Global) → AreElements by frame es now → replies_of es ≡ (run_from f (events_of es)).1 → 0 < length es
     → (kind : CallKind) × HasMore frame (length es) kind
 bounded f by frame [] now is run some = absurd (omega arith)

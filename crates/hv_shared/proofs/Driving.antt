@@ -1,4 +1,4 @@
--- A call that goes on from hold to hold.
+-- A call that continues from hold to hold.
 use Rattle.std.proofs.Common.{◌≡◌, ℕ, ◌+◌, ◌-◌, ◌≤◌, ◌<◌, IfOk, OnErr, Result, Ok, Err, List, [], ◌∷◌, ◌++◌, length, refl, sym, ap, ◌∙◌, subst, arith, append_assoc, append-nil}
 use Rattle.std.specs.Prelude.{map}
 use Rattle.std.proofs.lemmas.List.{length-append, length-map, map-append}
@@ -237,7 +237,7 @@ module _ (frame now : Frame Global) (old mid : PassValue) (is : IsDriving frame 
           gained = gained;
         }
 
-    -- the call goes on
+    -- the call continues
     module _ (next : ℕ) (output : List ℕ) (more : reply ≡ More next output) where
       goes : GoesOn (Hypercall asked.last) (More next output)
       goes = subst (GoesOn (Hypercall asked.last)) more asked.next

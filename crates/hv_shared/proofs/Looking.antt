@@ -34,7 +34,7 @@ module _ (at : ℕ) (ps : List PassValue) (heap : IsHeap (dues_of ps)) (due : Al
       let there = there_is i next in
       due_is i there ∙ (due i (some_pass ps i there) there).found (at + 1) (omega arith) few (sym (ap (next_is (at + 1)) (rest_is i there)) ∙ next)
 
-  -- a pass that is due at the next number goes on with it
+  -- a pass that is due at the next number continues with it
   pub next_due : (i : ℕ) → i < length ps → get_or (dues_of ps) i 0 ≡ at + 1 → IsNext (at + 1) (rests_of ps) i
   next_due i there is =
       let p = get_or ps i (some_pass ps i there) in
@@ -45,7 +45,7 @@ module _ (at : ℕ) (ps : List PassValue) (heap : IsHeap (dues_of ps)) (due : Al
   later : (i : ℕ) → i < length ps → at < get_or (dues_of ps) i 0
   later i there = let l = (due i (some_pass ps i there) there).later in let d = due_is i there in omega arith
 
-  -- nobody goes on where the first doesn't
+  -- nobody continues where the first doesn't
   pub missing : ((0 < length ps) × (get_or (dues_of ps) 0 0 ≡ at + 1) → ⊥) → (i : ℕ) → IsNext (at + 1) (rests_of ps) i → ⊥
   missing not i next =
       let there = there_is i next in
@@ -55,7 +55,7 @@ module _ (at : ℕ) (ps : List PassValue) (heap : IsHeap (dues_of ps)) (due : Al
       let up = later 0 (omega arith) in
       not (omega arith, omega arith)
 
-  -- nobody else goes on where the two below the first don't
+  -- nobody else continues where the two below the first don't
   pub alone : ((1 < length ps) × (get_or (dues_of ps) 1 0 ≡ at + 1) → ⊥) → ((2 < length ps) × (get_or (dues_of ps) 2 0 ≡ at + 1) → ⊥) → (j : ℕ) → IsNext (at + 1) (rests_of ps) j → j ≡ 0
   alone one two j next =
       let there = there_is j next in
@@ -104,7 +104,7 @@ due_more n i ps q there own so_far j d less =
 pub shares_permuted : (ps qs : List PassValue) → IsPermutation ps qs → sum (shares_of qs) ≡ sum (shares_of ps)
 shares_permuted ps qs moved = sum_by-IsPermutation (λ (n : ℕ). n) (shares_of ps) (shares_of qs) (IsPermutation-map (λ (p : PassValue). p.share) ps qs moved)
 
--- a pass that goes on has a receipt to go on with
+-- a pass that continues has a receipt to continue with
 pub first_left : (n : ℕ) (ps : List PassValue) (d : PassValue) → 0 < length ps → IsNext n (rests_of ps) 0 → (get_or ps 0 d).settled < length (get_or ps 0 d).receipts
 first_left n ps d there next =
     let p = get_or ps 0 d in

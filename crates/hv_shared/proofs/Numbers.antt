@@ -71,7 +71,7 @@ none_left es at left none asked =
     let n = ap length (sym (ap reverse none) ∙ asked) in
     nil_from_length (drop at es) (omega (arith, length-map (drop at es) (λ (e : Entry Global). e.event)))
 
--- each element is asked for by the caller
+-- each element is in the caller's work
 pub owned : (by : Caller) (frame : Frame Global) (es : List (Entry Global)) (now : Frame Global) (n : ℕ) → AreElements by frame es now → All (λ (r : Receipt). r.event.by ≡ by) (numbered n es)
 owned by frame [] now n is = All-nil (λ (r : Receipt). r.event.by ≡ by)
 owned by frame (e ∷ es) now n is =

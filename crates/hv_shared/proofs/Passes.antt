@@ -12,13 +12,13 @@ rest_at ps i p h e = get_or-map rest_of ps i p [] h ∙ ap rest_of (sym e)
 pub rest_past : (ps : List PassValue) (i : ℕ) → length ps ≤ i → get_or (rests_of ps) i [] ≡ []
 rest_past ps i h = get_or_past (rests_of ps) i [] (let e = length-map ps rest_of in omega arith)
 
--- a list that goes on with a number is there
+-- a list that continues with a number is there
 pub next_there : (n : ℕ) (lists : List (List Receipt)) (i : ℕ) → IsNext n lists i → i < length lists
 next_there n [] i h = cc
 next_there n (x ∷ xs) zero h = omega arith
 next_there n (x ∷ xs) (suc i) h = let r = next_there n xs i h in omega arith
 
--- one pass more stands at its beginning
+-- one pass more is at its beginning
 pub begun : (ps : List PassValue) (i : ℕ) (q : PassValue) → i < length ps → q.settled ≡ 0 → rests_of (take i ps) ≡ receipts_of (take i ps)
     → rests_of (take (i + 1) (set ps i q)) ≡ receipts_of (take (i + 1) (set ps i q))
 begun ps i q h zero_settled so_far =
