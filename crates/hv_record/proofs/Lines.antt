@@ -1,12 +1,10 @@
 -- What a script's reader makes of a recorded line.
-use Rattle.std.proofs.Common.{◌≡◌, ℕ, zero, suc, ◌+◌, ◌*◌, ◌^◌, ◌/◌, ◌%◌, ◌<◌, ◌≤◌, ◌==◌, ◌&&◌, nat_eq, nat_lt, nat_le, Bool, true, false, not, cond, List, [], ◌∷◌, ◌++◌, length, take, drop, get_or}
+use Rattle.std.proofs.Common.{◌≡◌, ℕ, zero, suc, ◌+◌, ◌^◌, ◌/◌, ◌%◌, ◌<◌, ◌≤◌, ◌==◌, ◌&&◌, nat_eq, nat_lt, nat_le, Bool, true, false, not, cond, List, [], ◌∷◌, ◌++◌, length, take, drop, get_or}
 use Rattle.std.proofs.Common.{filter, codes, decimal, Some, option_and_then, Ok, refl, sym, ap, ◌∙◌, append-nil, append_assoc, arith}
-use Rattle.std.specs.Char.{digit_value}
 use Rattle.std.specs.Fmt.{digit_glyph, digits, digits_onto}
 use Rattle.std.specs.List.{after_first, before_first, list_all, position_or_len, slice_split, starts_with}
 use Rattle.std.specs.Prelude.{slice_index}
 use Rattle.std.specs.Str.{bytes_eq}
-use Rattle.std.specs.Str.Parse.{AllDigits}
 use Rattle.std.proofs.lemmas.Bool.{false≢true}
 use Rattle.std.proofs.lemmas.Bool.Decides.{nat_tests}
 use Rattle.std.proofs.lemmas.Fmt.{decimal_is_IsNumeral, digits_is_IsNumeral}
@@ -14,19 +12,19 @@ use Rattle.std.proofs.lemmas.List.{length-append}
 use Rattle.std.proofs.lemmas.List.Folds.{list_all-append}
 use Rattle.std.proofs.lemmas.List.Splits.{slice_split_at, slice_split_none}
 use Rattle.std.proofs.lemmas.List.Sums.{AllPass-from_list_all}
-use Rattle.hex.proofs.HexLemmas.{length-encode_with}
+use Rattle.hex.proofs.HexLemmas.{decode_of-encode_lower, length-encode_with}
 use Rattle.hex.specs.Hex.{IsBytes, encode_lower, encode_with, lower_digits}
 use Rattle.hv_policy.specs.declared.event.Action.{Action}
 use Rattle.hv_policy.specs.declared.event.Action.TheVariants as action
 use Rattle.hv_policy.specs.declared.event.Caller.{Caller}
 use Rattle.hv_record.specs.Recorded.{IsInRange, IsRecordable, hex_text, input_text, line_text, spaced, words_by}
 use Rattle.hv_script.proofs.CutLemmas.{choose}
-use Rattle.hv_script.proofs.NumberLemmas.{hex_number, hex_test, narrower_number, no_bytes, pairs_of_bytes, plain_number, read_digits}
+use Rattle.hv_script.proofs.NumberLemmas.{hex_bytes, hex_number, hex_said, hex_test, narrower_number, no_bytes, plain_number, read_digits}
 use Rattle.hv_script.proofs.WordLemmas.{is_good, word_is_good}
 use Rattle.hv_script.specs.Callers.{callers_of, have_room}
 use Rattle.hv_script.specs.Cursor.{is_of_word}
 use Rattle.hv_script.specs.Line.{action_of, processor_of}
-use Rattle.hv_script.specs.Number.{bytes_in, bytes_of, decimal_in, fitting, number_in}
+use Rattle.hv_script.specs.Number.{bytes_in, decimal_in, fitting, number_in}
 use Rattle.hv_script.specs.Script.{SoFar, later_line, processor_line, read_line, with_line}
 use Rattle.hv_script.specs.Words.{begins_with, has_good_bytes, is_skipped, words_of}
 
@@ -160,7 +158,7 @@ small_read bits n few wide fits =
     let whole : Some n ≡ number_in 64 (decimal n) = plain_number (decimal n) (Some n) (no_hex n) ((is.0, rw is.1 wide), sym is.1) in
     narrower_number bits (decimal n) few ∙ ap (option_and_then (fitting bits)) (sym whole) ∙ fitting_is bits n fits
 
--- pairs of digits are read as the bytes that they were
+-- a test that each number below another passes
 abbrev all_below : (ℕ → Bool) → ℕ → Bool
 all_below test zero = true
 all_below test (suc n) = test n && all_below test n
@@ -172,12 +170,6 @@ passes test (suc n) k all less =
     let lower : all_below test n ≡ true = grind (arith, nat_tests) in
     choose k n (passes test n k lower) (λ past. let last : k ≡ n = omega (arith, less, past) in rw last here)
 
-abbrev has_value : ℕ → Bool
-has_value d = nat_eq (digit_value (slice_index lower_digits d)) d
-
-below_16 : (d : ℕ) → d < 16 → digit_value (slice_index lower_digits d) ≡ d
-below_16 d less = let is = passes has_value 16 d refl less in grind (arith, nat_tests, is)
-
 glyph_16 : (d : ℕ) → d < 16 → is_of_word (slice_index lower_digits d) ≡ true
 glyph_16 d less = passes (λ k. is_of_word (slice_index lower_digits k)) 16 d refl less
 
@@ -188,26 +180,6 @@ pairs_of_word (byte ∷ bytes) are =
     let fits : byte < 256 = are 0 in
     rw (glyph_16 (byte / 16) (omega (arith, fits)), glyph_16 (byte % 16) (omega arith), pairs_of_word bytes (λ k. are (suc k))) refl
 
-pairs_are_digits : (bytes : List ℕ) → IsBytes bytes → AllDigits 16 (encode_lower bytes)
-unfolding encode_with
-pairs_are_digits [] are = tt
-pairs_are_digits (byte ∷ bytes) are =
-    let fits : byte < 256 = are 0 in
-    let high = below_16 (byte / 16) (omega (arith, fits)) in
-    let low = below_16 (byte % 16) (omega arith) in
-    (omega (arith, fits, high), (omega (arith, low), pairs_are_digits bytes (λ k. are (suc k))))
-
-pairs_read : (bytes : List ℕ) → IsBytes bytes → bytes_of (encode_lower bytes) ≡ bytes
-unfolding encode_with
-pairs_read [] are = refl
-pairs_read (byte ∷ bytes) are =
-    let fits : byte < 256 = are 0 in
-    let high = below_16 (byte / 16) (omega (arith, fits)) in
-    let low = below_16 (byte % 16) (omega arith) in
-    let whole : (0 * 16 + digit_value (slice_index lower_digits (byte / 16))) * 16 + digit_value (slice_index lower_digits (byte % 16)) ≡ byte =
-    omega (arith, high, low) in
-    ap (λ (x : ℕ). x ∷ bytes_of (encode_lower bytes)) whole ∙ ap (λ (xs : List ℕ). byte ∷ xs) (pairs_read bytes (λ k. are (suc k)))
-
 no_dash : (byte : ℕ) (bytes : List ℕ) → bytes_eq (encode_lower (byte ∷ bytes)) (codes "-") ≡ false
 unfolding encode_with
 no_dash byte bytes = grind (arith, nat_tests)
@@ -216,8 +188,7 @@ input_read : (bytes : List ℕ) → IsBytes bytes → length bytes ≤ 4096 → 
 input_read [] are few = no_bytes (codes "-") refl
 input_read (byte ∷ bytes) are few =
     let long = length-encode_with lower_digits (byte ∷ bytes) in
-    pairs_of_bytes (encode_lower (byte ∷ bytes)) (no_dash byte bytes) (pairs_are_digits (byte ∷ bytes) are) (omega (arith, long)) (omega (arith, long, few))
-    ∙ ap Ok (pairs_read (byte ∷ bytes) are)
+    hex_bytes (encode_lower (byte ∷ bytes)) (no_dash byte bytes) (omega (arith, long, few)) ∙ ap hex_said (decode_of-encode_lower (byte ∷ bytes) are)
 
 -- each word is one
 hex_word : (n : ℕ) → IsWord (hex_text n)

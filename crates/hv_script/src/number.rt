@@ -1,11 +1,12 @@
 // Numbers and bytes, as words of a script.
-ghost use Rattle.std.specs.Prelude.{◌≡◌, ◌^◌, ◌<◌, ◌≤◌, length, option_and_then, IfSome};
+ghost use Rattle.std.specs.Prelude.{◌≡◌, ◌≢◌, ◌^◌, ◌<◌, ◌≤◌, length, option_and_then, IfSome};
 ghost use Rattle.std.specs.Option.{SomeIff};
 ghost use Rattle.std.specs.Str.Parse.{AllDigits, IsNumeral, digits_value};
 ghost use Rattle.hv_script.specs.Fault.{IsRead};
 ghost use Rattle.hv_script.specs.Number.{bytes_in, decimal_in, fitting, number_in};
 
 use crate::fault::FaultKind;
+use hex::FromHexError;
 use std::alloc::Allocator;
 
 // The most digits of a word for bytes, two for each.
@@ -64,33 +65,29 @@ fn fitting(number: Option<u64>, bits: u32) -> Option<u64>
 pub fn bytes<A: Allocator>(alloc: A, word: &[u8]) -> Result<Vec<u8, A>, FaultKind>
     ensures { IsRead result (λ bytes. bytes.items) (bytes_in word.now) }
 {
-    let mut bytes = Vec::new(alloc);
     if word == b"-".as_slice() {
-        return Ok(bytes);
+        return Ok(Vec::new(alloc));
     }
-    if word.len() % 2 != 0 || word.len() > MOST_DIGITS {
+    if word.len() > MOST_DIGITS {
         return Err(FaultKind::Hex);
     }
-    bytes
-        .reserve(word.len() / 2)
-        .map_err(|_| FaultKind::Memory)?;
-    for pair in word.chunks_exact(2) {
-        let Some(byte) = pair_value(pair) else {
-            return Err(FaultKind::Hex);
-        };
-        bytes.push_reserved(byte);
+    match hex::decode(alloc, word) {
+        Ok(bytes) => Ok(bytes),
+        Err(error) => Err(fault_of(error)),
     }
-    Ok(bytes)
 }
 
-// The byte that two hexadecimal digits write.
-fn pair_value(pair: &[u8]) -> Option<u8>
-    requires { length pair.now ≡ 2 }
-    ensures { SomeIff result (AllDigits 16 pair.now) (digits_value 16 pair.now) }
+// Why digits weren't read as bytes.
+fn fault_of(error: FromHexError) -> FaultKind
+    ensures memory { error ≡ FromHexError.OutOfMemory → result ≡ FaultKind.Memory }
+    ensures hex { error ≢ FromHexError.OutOfMemory → result ≡ FaultKind.Hex }
 {
-    let high = char::from(pair[0]).to_digit(16)?;
-    let low = char::from(pair[1]).to_digit(16)?;
-    Some((high * 16 + low) as u8)
+    match error {
+        FromHexError::OutOfMemory => FaultKind::Memory,
+        FromHexError::InvalidHexCharacter { .. }
+        | FromHexError::OddLength
+        | FromHexError::InvalidStringLength => FaultKind::Hex,
+    }
 }
 
 // The number that digits in a base write, where it fits 64 bits.
