@@ -186,34 +186,11 @@ impl<A: Allocator + Clone> Machine<A> {
     {
         // proof: opens the machine, so its invariant holds of its fields.
         let _ = &self.tree;
-        match self.admit(by, frame, named) {
-            Ok((shape, call)) => self.answer(by, frame, shape, &call),
-            Err(rule) => Ok(refused_reply(frame, rule)),
-        }
-    }
-
-    // Serves a call for which P1 to P10 hold if its own rules hold too, and makes the reply.
-    // Inlined: calls for the own id in bench/embed.sh.
-    #[inline(always)]
-    fn answer(
-        &mut self,
-        by: Caller,
-        frame: &Frame<A>,
-        shape: Shape,
-        call: &Call<'_>,
-    ) -> Result<CallReply, HostRefused>
-        requires count { self.old.served < MAX_SERVED }
-        requires shape { IsShape frame.now shape }
-        requires call { IsCall frame.now shape call.now }
-        requires bounded { IsBounded call.now }
-        requires access { (f : Flat) → IsFlat self.old f → HasAccess f by.part call.now }
-        requires further { (f : Flat) → IsFlat self.old f
-            → unmet f (call_event by frame.now) ≡ unmet_further f by.part call.now }
-        ensures { IsStep (call_event by frame.now) self.old result self.new }
-    {
-        // proof: opens the machine, so its invariant holds of its fields.
-        let _ = &self.tree;
-        match self.serve(by, call) {
+        let (shape, call) = match self.admit(by, frame, named) {
+            Ok(admitted) => admitted,
+            Err(rule) => return Ok(refused_reply(frame, rule)),
+        };
+        match self.serve(by, &call) {
             Ok(output) => Ok(served_reply(frame, shape, output)),
             Err(CallError::Unmet(rule)) => Ok(refused_reply(frame, rule)),
             Err(CallError::Memory) => Err(HostRefused::Memory),
