@@ -1,15 +1,16 @@
 -- The calls' rows: each call's code, whether it is a rep call, whether it may be fast, and the lengths of
 -- its lists.
 use Rattle.std.specs.Prelude.{ℕ, ◌+◌, ◌*◌, ◌==◌, ◌&&◌, Bool, not, nat_le, Option, find}
-use Rattle.hv_abi.specs.declared.call_row.CallRow.{CallRow}
-use Rattle.hv_abi.specs.declared.call_row.TheConstants.{CREATE_PARTITION, INITIALIZE_PARTITION}
-use Rattle.hv_abi.specs.declared.call_row.TheConstants.{FINALIZE_PARTITION, DELETE_PARTITION}
-use Rattle.hv_abi.specs.declared.call_row.TheConstants.{GET_PARTITION_PROPERTY, SET_PARTITION_PROPERTY}
-use Rattle.hv_abi.specs.declared.call_row.TheConstants.{GET_PARTITION_ID, GET_NEXT_CHILD_PARTITION}
-use Rattle.hv_abi.specs.declared.call_row.TheConstants.{DEPOSIT_MEMORY, WITHDRAW_MEMORY, GET_MEMORY_BALANCE}
-use Rattle.hv_abi.specs.declared.call_row.TheConstants.{CREATE_VP, DELETE_VP, GET_VP_REGISTERS}
-use Rattle.hv_abi.specs.declared.call_row.TheConstants.{SET_VP_REGISTERS, DELETE_PORT, DISCONNECT_PORT}
-use Rattle.hv_abi.specs.declared.call_row.TheConstants.{POST_MESSAGE, SIGNAL_EVENT, CREATE_PORT, CONNECT_PORT}
+use Rattle.hv_abi.specs.declared.call_kind.CallRow.{CallRow}
+use Rattle.hv_abi.specs.declared.call_kind.TheConstants.{CREATE_PARTITION, INITIALIZE_PARTITION}
+use Rattle.hv_abi.specs.declared.call_kind.TheConstants.{FINALIZE_PARTITION, DELETE_PARTITION}
+use Rattle.hv_abi.specs.declared.call_kind.TheConstants.{GET_PARTITION_PROPERTY, SET_PARTITION_PROPERTY}
+use Rattle.hv_abi.specs.declared.call_kind.TheConstants.{GET_PARTITION_ID, GET_NEXT_CHILD_PARTITION}
+use Rattle.hv_abi.specs.declared.call_kind.TheConstants.{DEPOSIT_MEMORY, WITHDRAW_MEMORY, GET_MEMORY_BALANCE}
+use Rattle.hv_abi.specs.declared.call_kind.TheConstants.{CREATE_VP, DELETE_VP, GET_VP_REGISTERS}
+use Rattle.hv_abi.specs.declared.call_kind.TheConstants.{SET_VP_REGISTERS, DELETE_PORT, DISCONNECT_PORT}
+use Rattle.hv_abi.specs.declared.call_kind.TheConstants.{POST_MESSAGE, SIGNAL_EVENT, CREATE_PORT}
+use Rattle.hv_abi.specs.declared.call_kind.TheConstants.{CONNECT_PORT}
 use Rattle.hv_abi.specs.declared.call_kind.CallKind.{CallKind}
 use Rattle.hv_abi.specs.declared.call_kind.CallKind.TheVariants.{CreatePartition, InitializePartition}
 use Rattle.hv_abi.specs.declared.call_kind.CallKind.TheVariants.{FinalizePartition, DeletePartition}

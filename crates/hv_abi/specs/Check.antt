@@ -9,7 +9,7 @@ use Rattle.hv_abi.specs.declared.frame.Shape.{Shape}
 use Rattle.hv_abi.specs.declared.frame.AbiFault.{AbiFault}
 use Rattle.hv_abi.specs.declared.frame.AbiFault.TheVariants.{UnknownCode, Input, Alignment}
 use Rattle.hv_abi.specs.declared.call_kind.CallKind.{CallKind}
-use Rattle.hv_abi.specs.declared.call_row.CallRow.{CallRow}
+use Rattle.hv_abi.specs.declared.call_kind.CallRow.{CallRow}
 use Rattle.hv_abi.specs.InputValue.{is_reserved_zero}
 use Rattle.hv_abi.specs.CallRow.{row_of, kind_of, input_len, output_len}
 

@@ -5,8 +5,7 @@ ghost use Rattle.hv_abi.specs.Check.{is_placed};
 ghost use Rattle.hv_abi.specs.InputValue.{input_value, restarted};
 
 use crate::bytes::Bytes;
-use crate::call_kind::CallKind;
-use crate::call_row::CallRow;
+use crate::call_kind::{CallKind, CallRow};
 use crate::input_value::InputValue;
 use hv_defs::PAGE_SIZE;
 use std::alloc::{AllocError, Allocator};

@@ -8,15 +8,13 @@
 
 mod bytes;
 mod call_kind;
-mod call_row;
 mod frame;
 mod input_value;
 mod result_value;
 mod status;
 
 pub use bytes::Bytes;
-pub use call_kind::{ALL_CALLS, CallKind};
-pub use call_row::{CallRow, DEPOSIT_MEMORY, GET_VP_REGISTERS, SET_VP_REGISTERS};
+pub use call_kind::{ALL_CALLS, CallKind, CallRow};
 pub use frame::{AbiFault, Frame, Shape};
 pub use input_value::InputValue;
 pub use result_value::ResultValue;

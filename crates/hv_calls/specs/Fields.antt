@@ -1,4 +1,4 @@
--- Tests of fields by themselves.
+-- Tests of fields by themselves, for rule P7.
 use Rattle.std.specs.Prelude.{ℕ, ◌+◌, ◌==◌, ◌&&◌, ◌||◌, not, nat_le, Bool}
 use Rattle.hv_defs.specs.declared.sizes.TheConstants.{EVENT_FLAGS, MAX_MESSAGE_TYPE, MAX_PORT_ID}
 

@@ -1,6 +1,4 @@
-pub mod Blocks
 pub mod Bytes
 pub mod Call
 pub mod Fields
 pub mod Params
-pub mod WellFormed

@@ -5,10 +5,10 @@ use Rattle.hv_abi.specs.Check.{input_of, is_fast}
 use Rattle.hv_abi.specs.declared.call_kind.CallKind.{CallKind}
 use Rattle.hv_abi.specs.declared.frame.Frame.{Frame}
 use Rattle.hv_defs.specs.Bits.{bits}
-use Rattle.hv_calls.specs.Blocks.{call_in}
-use Rattle.hv_calls.specs.WellFormed.{are_well_formed}
+use Rattle.hv_calls.specs.Call.{call_in}
+use Rattle.hv_calls.specs.Call.{are_well_formed}
 use Rattle.hv_calls.specs.declared.call.Call.{Call}
-use Rattle.hv_calls.specs.declared.decoding.Malformed.{Malformed}
+use Rattle.hv_calls.specs.declared.call.Malformed.{Malformed}
 
 -- the offset of the element at a start index. Elements follow the header, one after another
 abbrev pub element_at : CallKind → ℕ → ℕ

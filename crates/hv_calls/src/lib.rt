@@ -2,15 +2,13 @@
 //!
 //! [`decode`] reads the block of a frame that [`hv_abi::Frame::check`] accepted. It returns the call with its
 //! fields, or reports that a parameter is malformed by itself. It is total over all frames, and allocates no
-//! memory. `specs/Blocks.antt` is the table of offsets, and `specs/WellFormed.antt` says which parameters are
-//! malformed. The contract of `decode` is that it agrees with these two tables.
+//! memory. `block_of` in `specs/Call.antt` is the table of offsets and of malformed parameters. The contract
+//! of `decode` is that it agrees with this table.
 #![tactic(auto)]
 
 mod call;
-mod decoding;
 mod fields;
 mod payload;
 
-pub use call::Call;
-pub use decoding::{Malformed, decode};
+pub use call::{Call, Malformed, decode};
 pub use payload::Payload;

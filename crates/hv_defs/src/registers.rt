@@ -65,326 +65,82 @@ const SYNIC: u64 = 1 << 2;
 // The privilege AccessVpIndex.
 const INDEX: u64 = 1 << 6;
 
+// A general register: it takes any value, and a call alone names it.
+macro_rules! general {
+    ($name:expr) => {
+        RegisterRow {
+            name: $name,
+            msr: None,
+            privilege: 0,
+            takes: Takes::Any,
+            start: 0,
+        }
+    };
+}
+
+// A synthetic register: its name, its number as a model-specific register, and the rest of its row.
+macro_rules! synthetic {
+    ($name:expr, $msr:expr, $privilege:expr, $takes:expr, $start:expr) => {
+        RegisterRow {
+            name: $name,
+            msr: Some($msr),
+            privilege: $privilege,
+            takes: $takes,
+            start: $start,
+        }
+    };
+}
+
+/// The number of registers.
+pub const REGISTER_COUNT: usize = 40;
+
+// The register of a SINT: its name, and its number as a model-specific register.
+macro_rules! sint {
+    ($name:expr, $msr:expr) => {
+        synthetic!($name, $msr, SYNIC, Takes::SintValue, 0x0001_0000)
+    };
+}
+
 /// The registers, sorted by name (TLFS 4.0, "Virtual Processor Register Formats"). All others are left out.
-pub const REGISTERS: [RegisterRow; 40] = [
-    // RAX
-    RegisterRow {
-        name: 0x0002_0000,
-        msr: None,
-        privilege: 0,
-        takes: Takes::Any,
-        start: 0,
-    },
-    // RCX
-    RegisterRow {
-        name: 0x0002_0001,
-        msr: None,
-        privilege: 0,
-        takes: Takes::Any,
-        start: 0,
-    },
-    // RDX
-    RegisterRow {
-        name: 0x0002_0002,
-        msr: None,
-        privilege: 0,
-        takes: Takes::Any,
-        start: 0,
-    },
-    // RBX
-    RegisterRow {
-        name: 0x0002_0003,
-        msr: None,
-        privilege: 0,
-        takes: Takes::Any,
-        start: 0,
-    },
-    // RSP
-    RegisterRow {
-        name: 0x0002_0004,
-        msr: None,
-        privilege: 0,
-        takes: Takes::Any,
-        start: 0,
-    },
-    // RBP
-    RegisterRow {
-        name: 0x0002_0005,
-        msr: None,
-        privilege: 0,
-        takes: Takes::Any,
-        start: 0,
-    },
-    // RSI
-    RegisterRow {
-        name: 0x0002_0006,
-        msr: None,
-        privilege: 0,
-        takes: Takes::Any,
-        start: 0,
-    },
-    // RDI
-    RegisterRow {
-        name: 0x0002_0007,
-        msr: None,
-        privilege: 0,
-        takes: Takes::Any,
-        start: 0,
-    },
-    // R8
-    RegisterRow {
-        name: 0x0002_0008,
-        msr: None,
-        privilege: 0,
-        takes: Takes::Any,
-        start: 0,
-    },
-    // R9
-    RegisterRow {
-        name: 0x0002_0009,
-        msr: None,
-        privilege: 0,
-        takes: Takes::Any,
-        start: 0,
-    },
-    // R10
-    RegisterRow {
-        name: 0x0002_000A,
-        msr: None,
-        privilege: 0,
-        takes: Takes::Any,
-        start: 0,
-    },
-    // R11
-    RegisterRow {
-        name: 0x0002_000B,
-        msr: None,
-        privilege: 0,
-        takes: Takes::Any,
-        start: 0,
-    },
-    // R12
-    RegisterRow {
-        name: 0x0002_000C,
-        msr: None,
-        privilege: 0,
-        takes: Takes::Any,
-        start: 0,
-    },
-    // R13
-    RegisterRow {
-        name: 0x0002_000D,
-        msr: None,
-        privilege: 0,
-        takes: Takes::Any,
-        start: 0,
-    },
-    // R14
-    RegisterRow {
-        name: 0x0002_000E,
-        msr: None,
-        privilege: 0,
-        takes: Takes::Any,
-        start: 0,
-    },
-    // R15
-    RegisterRow {
-        name: 0x0002_000F,
-        msr: None,
-        privilege: 0,
-        takes: Takes::Any,
-        start: 0,
-    },
-    // RIP
-    RegisterRow {
-        name: 0x0002_0010,
-        msr: None,
-        privilege: 0,
-        takes: Takes::Any,
-        start: 0,
-    },
-    // RFLAGS
-    RegisterRow {
-        name: 0x0002_0011,
-        msr: None,
-        privilege: 0,
-        takes: Takes::Any,
-        start: 0,
-    },
-    // VP_INDEX
-    RegisterRow {
-        name: 0x0009_0003,
-        msr: Some(0x4000_0002),
-        privilege: INDEX,
-        takes: Takes::Nothing,
-        start: 0,
-    },
-    // SINT0
-    RegisterRow {
-        name: 0x000A_0000,
-        msr: Some(0x4000_0090),
-        privilege: SYNIC,
-        takes: Takes::SintValue,
-        start: 0x0001_0000,
-    },
-    // SINT1
-    RegisterRow {
-        name: 0x000A_0001,
-        msr: Some(0x4000_0091),
-        privilege: SYNIC,
-        takes: Takes::SintValue,
-        start: 0x0001_0000,
-    },
-    // SINT2
-    RegisterRow {
-        name: 0x000A_0002,
-        msr: Some(0x4000_0092),
-        privilege: SYNIC,
-        takes: Takes::SintValue,
-        start: 0x0001_0000,
-    },
-    // SINT3
-    RegisterRow {
-        name: 0x000A_0003,
-        msr: Some(0x4000_0093),
-        privilege: SYNIC,
-        takes: Takes::SintValue,
-        start: 0x0001_0000,
-    },
-    // SINT4
-    RegisterRow {
-        name: 0x000A_0004,
-        msr: Some(0x4000_0094),
-        privilege: SYNIC,
-        takes: Takes::SintValue,
-        start: 0x0001_0000,
-    },
-    // SINT5
-    RegisterRow {
-        name: 0x000A_0005,
-        msr: Some(0x4000_0095),
-        privilege: SYNIC,
-        takes: Takes::SintValue,
-        start: 0x0001_0000,
-    },
-    // SINT6
-    RegisterRow {
-        name: 0x000A_0006,
-        msr: Some(0x4000_0096),
-        privilege: SYNIC,
-        takes: Takes::SintValue,
-        start: 0x0001_0000,
-    },
-    // SINT7
-    RegisterRow {
-        name: 0x000A_0007,
-        msr: Some(0x4000_0097),
-        privilege: SYNIC,
-        takes: Takes::SintValue,
-        start: 0x0001_0000,
-    },
-    // SINT8
-    RegisterRow {
-        name: 0x000A_0008,
-        msr: Some(0x4000_0098),
-        privilege: SYNIC,
-        takes: Takes::SintValue,
-        start: 0x0001_0000,
-    },
-    // SINT9
-    RegisterRow {
-        name: 0x000A_0009,
-        msr: Some(0x4000_0099),
-        privilege: SYNIC,
-        takes: Takes::SintValue,
-        start: 0x0001_0000,
-    },
-    // SINT10
-    RegisterRow {
-        name: 0x000A_000A,
-        msr: Some(0x4000_009A),
-        privilege: SYNIC,
-        takes: Takes::SintValue,
-        start: 0x0001_0000,
-    },
-    // SINT11
-    RegisterRow {
-        name: 0x000A_000B,
-        msr: Some(0x4000_009B),
-        privilege: SYNIC,
-        takes: Takes::SintValue,
-        start: 0x0001_0000,
-    },
-    // SINT12
-    RegisterRow {
-        name: 0x000A_000C,
-        msr: Some(0x4000_009C),
-        privilege: SYNIC,
-        takes: Takes::SintValue,
-        start: 0x0001_0000,
-    },
-    // SINT13
-    RegisterRow {
-        name: 0x000A_000D,
-        msr: Some(0x4000_009D),
-        privilege: SYNIC,
-        takes: Takes::SintValue,
-        start: 0x0001_0000,
-    },
-    // SINT14
-    RegisterRow {
-        name: 0x000A_000E,
-        msr: Some(0x4000_009E),
-        privilege: SYNIC,
-        takes: Takes::SintValue,
-        start: 0x0001_0000,
-    },
-    // SINT15
-    RegisterRow {
-        name: 0x000A_000F,
-        msr: Some(0x4000_009F),
-        privilege: SYNIC,
-        takes: Takes::SintValue,
-        start: 0x0001_0000,
-    },
-    // SCONTROL
-    RegisterRow {
-        name: 0x000A_0010,
-        msr: Some(0x4000_0080),
-        privilege: SYNIC,
-        takes: Takes::Any,
-        start: 0,
-    },
-    // SVERSION
-    RegisterRow {
-        name: 0x000A_0011,
-        msr: Some(0x4000_0081),
-        privilege: SYNIC,
-        takes: Takes::Nothing,
-        start: 1,
-    },
-    // SIEFP
-    RegisterRow {
-        name: 0x000A_0012,
-        msr: Some(0x4000_0082),
-        privilege: SYNIC,
-        takes: Takes::Any,
-        start: 0,
-    },
-    // SIMP
-    RegisterRow {
-        name: 0x000A_0013,
-        msr: Some(0x4000_0083),
-        privilege: SYNIC,
-        takes: Takes::Any,
-        start: 0,
-    },
-    // EOM
-    RegisterRow {
-        name: 0x000A_0014,
-        msr: Some(0x4000_0084),
-        privilege: SYNIC,
-        takes: Takes::EndOfMessage,
-        start: 0,
-    },
+pub const REGISTERS: [RegisterRow; REGISTER_COUNT] = [
+    general!(0x0002_0000), // RAX
+    general!(0x0002_0001), // RCX
+    general!(0x0002_0002), // RDX
+    general!(0x0002_0003), // RBX
+    general!(0x0002_0004), // RSP
+    general!(0x0002_0005), // RBP
+    general!(0x0002_0006), // RSI
+    general!(0x0002_0007), // RDI
+    general!(0x0002_0008), // R8
+    general!(0x0002_0009), // R9
+    general!(0x0002_000A), // R10
+    general!(0x0002_000B), // R11
+    general!(0x0002_000C), // R12
+    general!(0x0002_000D), // R13
+    general!(0x0002_000E), // R14
+    general!(0x0002_000F), // R15
+    general!(0x0002_0010), // RIP
+    general!(0x0002_0011), // RFLAGS
+    synthetic!(0x0009_0003, 0x4000_0002, INDEX, Takes::Nothing, 0), // VP_INDEX
+    sint!(0x000A_0000, 0x4000_0090), // SINT0
+    sint!(0x000A_0001, 0x4000_0091), // SINT1
+    sint!(0x000A_0002, 0x4000_0092), // SINT2
+    sint!(0x000A_0003, 0x4000_0093), // SINT3
+    sint!(0x000A_0004, 0x4000_0094), // SINT4
+    sint!(0x000A_0005, 0x4000_0095), // SINT5
+    sint!(0x000A_0006, 0x4000_0096), // SINT6
+    sint!(0x000A_0007, 0x4000_0097), // SINT7
+    sint!(0x000A_0008, 0x4000_0098), // SINT8
+    sint!(0x000A_0009, 0x4000_0099), // SINT9
+    sint!(0x000A_000A, 0x4000_009A), // SINT10
+    sint!(0x000A_000B, 0x4000_009B), // SINT11
+    sint!(0x000A_000C, 0x4000_009C), // SINT12
+    sint!(0x000A_000D, 0x4000_009D), // SINT13
+    sint!(0x000A_000E, 0x4000_009E), // SINT14
+    sint!(0x000A_000F, 0x4000_009F), // SINT15
+    synthetic!(0x000A_0010, 0x4000_0080, SYNIC, Takes::Any, 0), // SCONTROL
+    synthetic!(0x000A_0011, 0x4000_0081, SYNIC, Takes::Nothing, 1), // SVERSION
+    synthetic!(0x000A_0012, 0x4000_0082, SYNIC, Takes::Any, 0), // SIEFP
+    synthetic!(0x000A_0013, 0x4000_0083, SYNIC, Takes::Any, 0), // SIMP
+    synthetic!(0x000A_0014, 0x4000_0084, SYNIC, Takes::EndOfMessage, 0), // EOM
 ];

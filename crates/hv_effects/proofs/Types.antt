@@ -7,9 +7,10 @@ use Rattle.hv_abi.specs.Check.{call_of, input_of, is_fast}
 use Rattle.hv_abi.specs.declared.call_kind.CallKind.{CallKind}
 use Rattle.hv_abi.specs.declared.call_kind.CallKind.TheVariants as kind
 use Rattle.hv_abi.specs.declared.frame.Frame.{Frame}
-use Rattle.hv_calls.specs.Blocks.{call_in}
+use Rattle.hv_calls.specs.Call.{call_in}
 use Rattle.hv_calls.specs.Params.{element_at, parameters}
-use Rattle.hv_calls.specs.WellFormed.{are_well_formed, is_id, is_message_type}
+use Rattle.hv_calls.specs.Call.{are_well_formed}
+use Rattle.hv_calls.specs.Fields.{is_id, is_message_type}
 use Rattle.hv_calls.specs.declared.call.Call.{Call}
 use Rattle.hv_calls.specs.declared.call.Call.TheVariants.{CreatePartition, InitializePartition, FinalizePartition, DeletePartition, GetPartitionProperty, SetPartitionProperty, GetPartitionId}
 use Rattle.hv_calls.specs.declared.call.Call.TheVariants.{GetNextChildPartition, DepositMemory, WithdrawMemory, GetMemoryBalance, CreateVp, DeleteVp, GetVpRegisters, SetVpRegisters, DeletePort}

@@ -1,7 +1,7 @@
 -- Messages whose slots don't read as empty ones.
 use Rattle.std.specs.Prelude.{◌≡◌, Bool, true}
 use Rattle.std.specs.List.{AllByRecursion}
-use Rattle.hv_calls.specs.WellFormed.{is_message_type}
+use Rattle.hv_calls.specs.Fields.{is_message_type}
 use Rattle.hv_policy.specs.Flat.{Flat, MailRow}
 
 -- a message has a type that a guest may post. It isn't 0, which is the type of an empty slot

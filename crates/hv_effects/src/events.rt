@@ -109,7 +109,7 @@ fn look_at_frame<A: Allocator + Clone>(machine: &Machine<A>, by: Caller, frame: 
 fn is_served(reply: &CallReply) -> bool
     ensures { result ≡ is_served_reply reply.now }
 {
-    let (answer, _, _) = reply.parts();
+    let (answer, _) = reply.parts();
     match answer {
         Answer::Served | Answer::More { .. } => true,
         Answer::Denied { .. } | Answer::Fault { .. } => false,

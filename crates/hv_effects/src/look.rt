@@ -50,18 +50,6 @@ pub fn look_at_call<A: Allocator>(tree: &Partitions<A>, caller: u64, call: &Call
         → Foretells result f (call_effect call.now f caller (target_of call.now caller)) reply }
 {
     match *call {
-        Call::CreatePartition { .. }
-        | Call::InitializePartition { .. }
-        | Call::GetPartitionProperty { .. }
-        | Call::SetPartitionProperty { .. }
-        | Call::GetPartitionId
-        | Call::GetNextChildPartition { .. }
-        | Call::GetMemoryBalance { .. }
-        | Call::GetVpRegisters { .. }
-        | Call::DeletePort { .. }
-        | Call::DisconnectPort { .. }
-        | Call::CreatePort { .. }
-        | Call::ConnectPort { .. } => Look::Told(Effect::Nothing),
         Call::FinalizePartition { partition } => Look::Told(Effect::Partition {
             part: resolve_partition_id(caller, partition),
         }),
@@ -99,6 +87,8 @@ pub fn look_at_call<A: Allocator>(tree: &Partitions<A>, caller: u64, call: &Call
         Call::SignalEvent { connection, flag } => {
             Look::Told(look_at_signal(tree, caller, connection, flag))
         }
+        // The contract refuses this of a call with an effect on what a look names.
+        _ => Look::Told(Effect::Nothing),
     }
 }
 

@@ -90,12 +90,12 @@ pub(crate) fn step_run(
         &mut at,
     );
     reply.effect = effect;
-    let (told, output, len) = last.parts();
+    let (told, output) = last.parts();
     answer_call(
         by,
         &machine_state.frame,
         told,
-        &output[..len],
+        output,
         *events,
         &mut machine_state.scratch,
         reply,
@@ -183,11 +183,12 @@ fn append_output(reply: &CallReply, outputs: &mut [u8], at: usize) -> usize
     ensures bytes { take result outputs.new ≡ take at outputs.old ++ output_in reply.now }
     ensures most { result ≤ at + ELEMENT_OUTPUT }
 {
-    let (answer, output, len) = reply.parts();
+    let (answer, output) = reply.parts();
     match answer {
         Answer::Served | Answer::More { .. } => {
-            outputs[at..at + len].copy_from_slice(&output[..len]);
-            at + len
+            let end = at + output.len();
+            outputs[at..end].copy_from_slice(output);
+            end
         }
         Answer::Denied { .. } | Answer::Fault { .. } => at,
     }

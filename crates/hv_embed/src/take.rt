@@ -128,12 +128,12 @@ pub(crate) fn step_call(
     };
     *events += 1;
     reply.effect = shown(effect);
-    let (told, output, len) = told.parts();
+    let (told, output) = told.parts();
     answer_call(
         by,
         &machine_state.frame,
         told,
-        &output[..len],
+        output,
         *events,
         &mut machine_state.scratch,
         reply,

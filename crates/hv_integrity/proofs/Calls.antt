@@ -4,8 +4,8 @@ use Rattle.std.proofs.lemmas.Bool.{eq-eqb, or_right}
 use Rattle.std.specs.FinMap.{get, insert}
 use Rattle.std.specs.Option.{option_map}
 use Rattle.hv_calls.specs.declared.call.Call.{Call}
-use Rattle.hv_calls.specs.declared.call.Call.TheVariants.{CreatePartition, DeletePartition, GetPartitionProperty, SetPartitionProperty, GetPartitionId, GetNextChildPartition, DepositMemory}
-use Rattle.hv_calls.specs.declared.call.Call.TheVariants.{WithdrawMemory, GetMemoryBalance, GetVpRegisters, PostMessage, SignalEvent}
+use Rattle.hv_calls.specs.declared.call.Call.TheVariants.{CreatePartition, DeletePartition, SetPartitionProperty, DepositMemory}
+use Rattle.hv_calls.specs.declared.call.Call.TheVariants.{WithdrawMemory, PostMessage, SignalEvent}
 use Rattle.hv_defs.proofs.Maps.{get_at-insert}
 use Rattle.hv_policy.proofs.Rows.{get-narrowed}
 use Rattle.hv_policy.specs.Aim.{ResolvedPort, aim_of, flag_taker, message_taker}
@@ -17,6 +17,7 @@ use Rattle.hv_policy.specs.Needs.{resolved_id, needs_of, target_of}
 use Rattle.hv_policy.specs.Property.{property_of}
 use Rattle.hv_policy.specs.Rules.{IsAllowed}
 use Rattle.hv_policy.specs.Subtree.{is_in_subtree}
+use Rattle.hv_policy.specs.calls.{policy_of}
 use Rattle.hv_privs.specs.Privileges.{of}
 use Rattle.hv_privs.specs.declared.Privileges.{Privileges}
 use Rattle.hv_integrity.proofs.Apart.{nothing, once_counted}
@@ -25,7 +26,13 @@ use Rattle.hv_integrity.proofs.CallerAndChildren.{far_apart, kin_relative}
 use Rattle.hv_integrity.proofs.Reading.{caller_relative}
 use Rattle.hv_integrity.proofs.Sent.{posted_confined, signalled_confined}
 use Rattle.hv_integrity.specs.Integrity.{IntegrityWithin, CallerAndChildren, AndMasks, reach_of_call, reach_through, reach_to}
+use Rattle.hv_integrity.specs.Misses.{UnlessReading}
 use Rattle.hv_integrity.specs.Same.{HasSame, HasSameButMask, is_relative}
+
+-- what holds of every call holds unless a call only reads
+unless_reading : (effect : Option (Flat → ℕ → ℕ → Flat)) (P : Type 0) → P → UnlessReading effect P
+unless_reading None P holds = tt
+unless_reading (Some effect) P holds = holds
 
 module _ (f : Flat) (caller : ℕ) where
   -- a new partition is the caller's child
@@ -83,14 +90,9 @@ module _ (f : Flat) (caller : ℕ) where
         call_misses f id caller (DepositMemory partition page) a (off_target (DepositMemory partition page) a, off_caller)
     call_apart (WithdrawMemory partition) a none still =
         call_misses f id caller (WithdrawMemory partition) a (off_target (WithdrawMemory partition) a, off_caller)
-    call_apart (GetPartitionProperty partition code) a none still = nothing id f
-    call_apart GetPartitionId a none still = nothing id f
-    call_apart (GetNextChildPartition partition previous) a none still = nothing id f
-    call_apart (GetMemoryBalance partition) a none still = nothing id f
-    call_apart (GetVpRegisters partition vp name) a none still = nothing id f
     call_apart (PostMessage connection message_type payload) a none still = unposted (aim_of f (caller, connection)) message_type payload none
     call_apart (SignalEvent connection flag) a none still = unsignalled (aim_of f (caller, connection)) flag none
-    call_apart call a none still = call_misses f id caller call a (off_target call a)
+    call_apart call a none still = call_misses f id caller call a (unless_reading (policy_of call).effect _ (off_target call a))
 
   call_stays : (call : Call) → IsAllowed f caller call → reach_of_call f caller call ≡ CallerAndChildren → IntegrityWithin CallerAndChildren caller f
       (counted (call_effect call f caller (target_of call caller)))

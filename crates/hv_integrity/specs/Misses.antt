@@ -3,10 +3,8 @@ use Rattle.std.specs.Prelude.{◌≡◌, ℕ, ◌==◌, true, false, Option, Non
 use Rattle.std.specs.FinMap.{get}
 use Rattle.hv_calls.specs.declared.call.Call.{Call}
 use Rattle.hv_calls.specs.declared.call.Call.TheVariants.{CreatePartition, DeletePartition}
-use Rattle.hv_calls.specs.declared.call.Call.TheVariants.{GetPartitionProperty, SetPartitionProperty}
-use Rattle.hv_calls.specs.declared.call.Call.TheVariants.{GetPartitionId, GetNextChildPartition}
-use Rattle.hv_calls.specs.declared.call.Call.TheVariants.{DepositMemory, WithdrawMemory, GetMemoryBalance}
-use Rattle.hv_calls.specs.declared.call.Call.TheVariants.{GetVpRegisters, PostMessage, SignalEvent}
+use Rattle.hv_calls.specs.declared.call.Call.TheVariants.{SetPartitionProperty, DepositMemory, WithdrawMemory}
+use Rattle.hv_calls.specs.declared.call.Call.TheVariants.{PostMessage, SignalEvent}
 use Rattle.hv_policy.specs.Call.{called}
 use Rattle.hv_policy.specs.Effect.{narrows}
 use Rattle.hv_policy.specs.Flat.{ConnRow, Flat}
@@ -14,6 +12,7 @@ use Rattle.hv_policy.specs.Needs.{target_of}
 use Rattle.hv_policy.specs.Property.{property_of}
 use Rattle.hv_policy.specs.Rules.{unmet}
 use Rattle.hv_policy.specs.Subtree.{is_in_subtree}
+use Rattle.hv_policy.specs.calls.{policy_of}
 use Rattle.hv_policy.specs.declared.event.Action.{Action}
 use Rattle.hv_policy.specs.declared.event.Action.TheVariants.{Hypercall}
 use Rattle.hv_policy.specs.declared.event.Event.{Event}
@@ -23,16 +22,15 @@ use Rattle.hv_integrity.specs.Same.{HasSame}
 abbrev pub IsNoEnd : ℕ → Option ConnRow → Type 0
 IsNoEnd id conn = (row : ConnRow) → conn ≡ Some row → id == row.part ≡ false
 
+-- a call that only reads is about no partition
+abbrev pub UnlessReading : Option (Flat → ℕ → ℕ → Flat) → Type 0 → Type 0
+UnlessReading None P = Unit {0}
+UnlessReading (Some effect) P = P
+
 -- a call is not about a partition: the partition is not its target, the one that it creates, the one to which
--- it sends, in the subtree that it narrows, or the caller whose pages it moves. A call that only reads is
--- about no partition
+-- it sends, in the subtree that it narrows, or the caller whose pages it moves
 abbrev pub Misses : Call → ℕ → Flat → ℕ → Type 0
 Misses (CreatePartition flags) caller f id = id == f.next ≡ false
-Misses (GetPartitionProperty partition code) caller f id = Unit {0}
-Misses GetPartitionId caller f id = Unit {0}
-Misses (GetNextChildPartition partition previous) caller f id = Unit {0}
-Misses (GetMemoryBalance partition) caller f id = Unit {0}
-Misses (GetVpRegisters partition vp name) caller f id = Unit {0}
 Misses (PostMessage connection message_type payload) caller f id = IsNoEnd id
     (get f.conn (caller, connection))
 Misses (SignalEvent connection flag) caller f id = IsNoEnd id (get f.conn (caller, connection))
@@ -46,7 +44,7 @@ Misses (DepositMemory partition page) caller f id =
     (id == target_of (DepositMemory partition page) caller ≡ false) × (id == caller ≡ false)
 Misses (WithdrawMemory partition) caller f id = (id == target_of (WithdrawMemory partition) caller ≡ false) ×
     (id == caller ≡ false)
-Misses call caller f id = id == target_of call caller ≡ false
+Misses call caller f id = UnlessReading (policy_of call).effect (id == target_of call caller ≡ false)
 
 abbrev pub CallMisses : Option Call → ℕ → Flat → ℕ → Type 0
 CallMisses None caller f id = Unit {0}

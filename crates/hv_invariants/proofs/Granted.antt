@@ -7,9 +7,10 @@ use Rattle.hv_abi.specs.declared.call_kind.CallKind.{CallKind}
 use Rattle.hv_abi.specs.declared.call_kind.CallKind.TheVariants as kind
 use Rattle.hv_abi.specs.declared.frame.Frame.{Frame}
 use Rattle.hv_abi.specs.Check.{call_of, input_of, is_fast}
-use Rattle.hv_calls.specs.Blocks.{call_in, port_kind}
+use Rattle.hv_calls.specs.Call.{call_in, port_kind}
 use Rattle.hv_calls.specs.Params.{element_at, parameters}
-use Rattle.hv_calls.specs.WellFormed.{are_flags, are_well_formed, is_id, is_port_type}
+use Rattle.hv_calls.specs.Call.{are_well_formed}
+use Rattle.hv_calls.specs.Fields.{are_flags, is_id, is_port_type}
 use Rattle.hv_calls.specs.declared.call.Call.{Call}
 use Rattle.hv_defs.specs.Bits.{bits}
 use Rattle.hv_defs.specs.Field.{field}

@@ -5,6 +5,7 @@ use Rattle.hv_calls.specs.declared.call.Call.{Call}
 use Rattle.hv_policy.specs.Call.{called}
 use Rattle.hv_policy.specs.Flat.{Flat}
 use Rattle.hv_policy.specs.Needs.{target_of}
+use Rattle.hv_policy.specs.Policy.{applied}
 use Rattle.hv_policy.specs.calls.{access_policy, policy_of}
 use Rattle.hv_policy.specs.declared.event.Action.{Action}
 use Rattle.hv_policy.specs.declared.event.Action.TheVariants.{Hypercall}
@@ -19,7 +20,7 @@ unfoldable pub use Rattle.hv_policy.specs.Change.{show_each}
 
 -- the effect of a call with this caller and target, without the count of served events
 abbrev pub call_effect : Call → Flat → ℕ → ℕ → Flat
-call_effect call = (policy_of call).effect
+call_effect call = applied (policy_of call).effect
 
 abbrev pub served_effect : Flat → ℕ → Option Call → Flat
 served_effect f caller call = option_map_or (λ call. call_effect call f caller (target_of call caller)) call f

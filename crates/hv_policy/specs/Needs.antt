@@ -1,7 +1,7 @@
 -- What each call needs of its caller and its target, and what it costs.
 use Rattle.std.specs.Prelude.{ℕ, Bool, []}
 use Rattle.hv_abi.specs.declared.call_kind.CallKind.{CallKind}
-use Rattle.hv_calls.specs.Blocks.{call_in}
+use Rattle.hv_calls.specs.Call.{call_in}
 use Rattle.hv_calls.specs.declared.call.Call.{Call}
 use Rattle.hv_policy.specs.calls.{policy_of}
 use Rattle.hv_policy.specs.declared.need.Need.{Need}

@@ -1,6 +1,6 @@
 -- The policy of one call, and of one access.
-use Rattle.std.specs.Prelude.{ℕ, Bool, List, Option}
-use Rattle.hv_abi.specs.declared.call_row.CallRow.{CallRow}
+use Rattle.std.specs.Prelude.{ℕ, Bool, List, Option, None, Some}
+use Rattle.hv_abi.specs.declared.call_kind.CallRow.{CallRow}
 use Rattle.hv_privs.specs.declared.Privileges.{Privileges}
 use Rattle.hv_policy.specs.Ask.{Ask}
 use Rattle.hv_policy.specs.Flat.{Flat}
@@ -22,8 +22,13 @@ pub record CallPolicy : Type 0 where
   pub asks : Flat → ℕ → ℕ → States → ℕ → List Ask
   -- its output for a caller and a target; for a rep call, the output of its own element
   pub output : Flat → ℕ → ℕ → List ℕ
-  -- its effect, without the count of served events
-  pub effect : Flat → ℕ → ℕ → Flat
+  -- its effect for a caller and a target, without the count of served events; a call that only reads has none
+  pub effect : Option (Flat → ℕ → ℕ → Flat)
+
+-- a state after an effect, if there is one
+abbrev pub applied : Option (Flat → ℕ → ℕ → Flat) → Flat → ℕ → ℕ → Flat
+applied None f caller target = f
+applied (Some effect) f caller target = effect f caller target
 
 abbrev pub needs : Privileges → Kin → Option ℕ → States → ℕ → Need
 needs privilege kin named states charge =

@@ -1,10 +1,11 @@
 // The reply to a hypercall, in the space that it needs.
-ghost use Rattle.std.specs.Prelude.{◌≡◌, ◌+◌, ◌≤◌, ◌++◌, [], length, take};
+ghost use Rattle.std.specs.Prelude.{◌≡◌, ◌+◌, ◌≤◌, ◌++◌, [], length};
 ghost use Rattle.std.specs.Int.{w64, to_le_bytes};
 ghost use Rattle.hv_policy.specs.Parts.{reply_of};
 
 use crate::reply::Reply;
 use crate::rule::Rule;
+use arrayvec::ArrayVec;
 use hv_abi::Status;
 use std::marker::Model;
 
@@ -30,27 +31,18 @@ pub enum Answer {
     },
 }
 
-/// The output bytes of a simple hypercall, or of one element of a rep hypercall: at most two numbers of 8
-/// bytes.
+/// The output bytes of a simple hypercall, or of one element of a rep hypercall: at most 16.
 #[derive(Debug, Drop)]
 pub struct CallOutput {
-    // The two numbers are not adjacent. A copy would read both at once after two separate writes, and the
-    // processor would stall.
-    first: u64,
-    // The number of bytes.
-    len: usize,
-    second: u64,
+    bytes: ArrayVec<u8, 16>,
 }
 
 impl Model for CallOutput {
-    ghost use Rattle.std.specs.Prelude.{◌≡◌, ◌⊎◌, ◌++◌, List, ℕ, take};
-    ghost use Rattle.std.specs.Int.{w64, to_le_bytes};
+    ghost use Rattle.std.specs.Prelude.{List, ℕ};
 
     ghost Value = { List ℕ };
 
-    ghost view = { λ o. take o.len (to_le_bytes w64 o.first ++ to_le_bytes w64 o.second) };
-
-    ghost invariant = { λ o. (o.len ≡ 0) ⊎ (o.len ≡ 8) ⊎ (o.len ≡ 16) };
+    ghost view = { λ o. o.bytes.items };
 }
 
 impl CallOutput {
@@ -59,10 +51,18 @@ impl CallOutput {
         ensures { result ≡ [] }
     {
         CallOutput {
-            first: 0,
-            len: 0,
-            second: 0,
+            bytes: ArrayVec::new(),
         }
+    }
+
+    /// Appends bytes. An output has at most 16 bytes in all.
+    pub fn extend_from_slice(&mut self, bytes: &[u8])
+        requires { length self.old + length bytes.now ≤ 16 }
+        ensures { self.new ≡ self.old ++ bytes.now }
+    {
+        let Ok(()) = self.bytes.try_extend_from_slice(bytes) else {
+            unreachable!()
+        };
     }
 
     /// Appends a number as 8 bytes, the lowest first.
@@ -70,24 +70,15 @@ impl CallOutput {
         requires { length self.old + 8 ≤ 16 }
         ensures { self.new ≡ self.old ++ to_le_bytes w64 number }
     {
-        if self.len == 0 {
-            self.first = number;
-            self.len = 8;
-        } else {
-            self.second = number;
-            self.len = 16;
-        }
+        self.extend_from_slice(&number.to_le_bytes());
     }
 
-    /// Returns a buffer that begins with the bytes, and the number of them.
-    pub fn to_bytes(&self) -> ([u8; 16], usize)
-        ensures bytes { take result.1 result.0 ≡ self.now }
-        ensures most { result.1 ≤ 16 }
+    /// Returns the bytes.
+    pub fn as_slice(&self) -> &[u8]
+        ensures bytes { result.now ≡ self.now }
+        ensures most { length self.now ≤ 16 }
     {
-        let mut bytes = [0; 16];
-        bytes[..8].copy_from_slice(&self.first.to_le_bytes());
-        bytes[8..].copy_from_slice(&self.second.to_le_bytes());
-        (bytes, self.len)
+        self.bytes.as_slice()
     }
 }
 
@@ -108,20 +99,19 @@ impl Model for CallReply {
 }
 
 impl CallReply {
-    /// Returns the answer, a buffer that begins with the output's bytes, and the number of these bytes.
-    pub fn parts(&self) -> (Answer, [u8; 16], usize)
-        ensures reply { reply_of result.0 (take result.2 result.1) ≡ self.now }
-        ensures most { result.2 ≤ 16 }
+    /// Splits the reply into its answer and its output.
+    pub fn parts(&self) -> (Answer, &[u8])
+        ensures reply { reply_of result.0 result.1.now ≡ self.now }
+        ensures most { length result.1.now ≤ 16 }
     {
-        let (bytes, len) = self.output.to_bytes();
-        (self.answer, bytes, len)
+        (self.answer, self.output.as_slice())
     }
 
     /// Converts to a [`Reply`].
     pub fn to_reply(&self) -> Reply
         ensures { result ≡ self.now }
     {
-        let (answer, bytes, len) = self.parts();
-        Reply::of(answer, &bytes[..len])
+        let (answer, output) = self.parts();
+        Reply::of(answer, output)
     }
 }

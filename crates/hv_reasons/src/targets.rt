@@ -2,7 +2,7 @@
 
 use crate::tree::{Tree, available, mask_of};
 use hv_calls::Call;
-use hv_defs::{CONNECTION_CHARGE, MAX_DEPTH, PARTITION_CHARGE, PORT_CHARGE, VP_CHARGE};
+use hv_defs::MAX_DEPTH;
 use hv_partition::PageKind;
 use hv_policy::{Property, States, needs};
 use hv_words::{Words, life_name, privilege_name, property_name};
@@ -106,7 +106,7 @@ pub fn push_pages(words: &mut Words, tree: &Tree, target: u64, call: &Call<'_>) 
     let (Some(partition), Some(children)) = (tree.get(target), tree.children_of(target)) else {
         return;
     };
-    let needed = charge_of(call);
+    let needed = needs(call).charge;
     let pooled = partition.pages(PageKind::Pooled).count();
     words.decimal("needs ", needed);
     words.text(if needed == 1 { " page" } else { " pages" });
@@ -114,16 +114,4 @@ pub fn push_pages(words: &mut Words, tree: &Tree, target: u64, call: &Call<'_>) 
     words.decimal(" has ", available(partition, children, pooled));
     words.decimal(" available of ", pooled);
     words.text(" pooled");
-}
-
-// Returns the number of available pages that a call needs.
-fn charge_of(call: &Call<'_>) -> u64 {
-    match call {
-        Call::CreatePartition { .. } => PARTITION_CHARGE,
-        Call::WithdrawMemory { .. } => 1,
-        Call::CreateVp { .. } => VP_CHARGE,
-        Call::CreatePort { .. } => PORT_CHARGE,
-        Call::ConnectPort { .. } => CONNECTION_CHARGE,
-        _ => 0,
-    }
 }

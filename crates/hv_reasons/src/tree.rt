@@ -2,6 +2,7 @@
 
 use hv_calls::Call;
 use hv_partition::Partition;
+use hv_policy::needs;
 use hv_ports::{Conn, Port};
 use hv_refine::{Partitions, resolve_partition_id};
 use std::alloc::Global;
@@ -11,28 +12,9 @@ pub type Tree = Partitions<Global>;
 
 // Returns the target of a call of this caller.
 pub fn target_of(caller: u64, call: &Call<'_>) -> u64 {
-    match call {
-        Call::CreatePartition { .. }
-        | Call::GetPartitionId
-        | Call::PostMessage { .. }
-        | Call::SignalEvent { .. } => caller,
-        Call::InitializePartition { partition }
-        | Call::FinalizePartition { partition }
-        | Call::DeletePartition { partition }
-        | Call::GetPartitionProperty { partition, .. }
-        | Call::SetPartitionProperty { partition, .. }
-        | Call::GetNextChildPartition { partition, .. }
-        | Call::DepositMemory { partition, .. }
-        | Call::WithdrawMemory { partition }
-        | Call::GetMemoryBalance { partition }
-        | Call::CreateVp { partition, .. }
-        | Call::DeleteVp { partition, .. }
-        | Call::GetVpRegisters { partition, .. }
-        | Call::SetVpRegisters { partition, .. }
-        | Call::DeletePort { partition, .. }
-        | Call::DisconnectPort { partition, .. }
-        | Call::CreatePort { partition, .. }
-        | Call::ConnectPort { partition, .. } => resolve_partition_id(caller, *partition),
+    match needs(call).named {
+        None => caller,
+        Some(named) => resolve_partition_id(caller, named),
     }
 }
 

@@ -9,7 +9,6 @@
 #![tactic(auto)]
 
 mod accesses;
-mod blocks;
 mod calls;
 mod frames;
 mod links;
@@ -25,14 +24,11 @@ pub use accesses::{
     each_access_has_its_edges, each_access_has_its_rules, each_msr_has_its_register,
     each_processor_has_its_index,
 };
-pub use blocks::{
-    each_block_has_its_fields, each_call_has_its_checks, each_check_has_its_edges,
-    each_field_has_its_bytes,
-};
 pub use calls::{
-    each_call_has_its_frame, each_call_has_its_lists, each_call_has_its_needs,
-    each_call_has_its_rules, each_call_has_its_target, each_kin_has_its_partitions,
-    each_policy_has_its_row, the_profile_has_its_calls,
+    each_block_has_its_fields, each_call_has_its_checks, each_call_has_its_frame,
+    each_call_has_its_lists, each_call_has_its_needs, each_call_has_its_rules,
+    each_call_has_its_target, each_check_has_its_edges, each_field_has_its_bytes,
+    each_kin_has_its_partitions, each_policy_has_its_row, the_profile_has_its_calls,
 };
 pub use frames::{
     each_frame_has_its_fault, each_input_value_has_its_parts, each_result_has_its_value,

@@ -1,6 +1,6 @@
 // Ports and connections: which types are equal, where a port aims, and what it keeps of its flags.
 ghost use Rattle.std.specs.Prelude.{◌≡◌, ℕ, true, false, None, Some};
-ghost use Rattle.hv_calls.specs.Blocks.{port_aim};
+ghost use Rattle.hv_calls.specs.Call.{port_aim};
 ghost use Rattle.hv_defs.specs.declared.aim.Aim.TheVariants.{One, Any};
 ghost use Rattle.hv_defs.specs.declared.port_kind.PortKind.TheVariants.{Message, Event};
 ghost use Rattle.hv_policy.specs.Aim.{aims_at};

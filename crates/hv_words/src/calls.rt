@@ -1,11 +1,40 @@
-// Calls and accesses with their fields.
+// Calls with their names, fields and outputs, and accesses with their fields.
 
-use crate::names::{call_name, kind_name, property_name};
+use crate::names::{kind_name, property_name};
+use crate::outputs::number_at;
 use crate::registers::{push_msr, push_register};
 use crate::words::Words;
+use hv_abi::CallKind;
 use hv_calls::{Call, Payload};
 use hv_defs::{Aim, PortKind};
 use hv_policy::{Access, Property};
+
+/// The TLFS's name of a call.
+pub fn call_name(call: CallKind) -> &'static str {
+    match call {
+        CallKind::CreatePartition => "HvCreatePartition",
+        CallKind::InitializePartition => "HvInitializePartition",
+        CallKind::FinalizePartition => "HvFinalizePartition",
+        CallKind::DeletePartition => "HvDeletePartition",
+        CallKind::GetPartitionProperty => "HvGetPartitionProperty",
+        CallKind::SetPartitionProperty => "HvSetPartitionProperty",
+        CallKind::GetPartitionId => "HvGetPartitionId",
+        CallKind::GetNextChildPartition => "HvGetNextChildPartition",
+        CallKind::DepositMemory => "HvDepositMemory",
+        CallKind::WithdrawMemory => "HvWithdrawMemory",
+        CallKind::GetMemoryBalance => "HvGetMemoryBalance",
+        CallKind::CreateVp => "HvCreateVp",
+        CallKind::DeleteVp => "HvDeleteVp",
+        CallKind::GetVpRegisters => "HvGetVpRegisters",
+        CallKind::SetVpRegisters => "HvSetVpRegisters",
+        CallKind::DeletePort => "HvDeletePort",
+        CallKind::DisconnectPort => "HvDisconnectPort",
+        CallKind::PostMessage => "HvPostMessage",
+        CallKind::SignalEvent => "HvSignalEvent",
+        CallKind::CreatePort => "HvCreatePort",
+        CallKind::ConnectPort => "HvConnectPort",
+    }
+}
 
 /// Adds a call's name and its fields.
 pub fn push_call(words: &mut Words, call: &Call<'_>) {
@@ -105,6 +134,45 @@ pub fn push_call(words: &mut Words, call: &Call<'_>) {
     }
 }
 
+/// Adds the output of a served call, after a comma.
+pub fn push_call_output(words: &mut Words, call: &Call<'_>, output: &[u8]) {
+    let first = number_at(output, 0, 8);
+    match call {
+        Call::CreatePartition { .. } | Call::GetPartitionId => words.decimal(", partition ", first),
+        Call::GetPartitionProperty { code, .. } => push_value(words, *code, first),
+        Call::GetNextChildPartition { .. } => push_child(words, first),
+        Call::WithdrawMemory { .. } => words.decimal(", page ", first),
+        Call::GetMemoryBalance { .. } => {
+            words.decimal(", balance ", first);
+            words.decimal(" pages, ", number_at(output, 8, 8));
+            words.text(" in use");
+        }
+        Call::GetVpRegisters { .. } => words.hex(", value ", first),
+        Call::InitializePartition { .. }
+        | Call::FinalizePartition { .. }
+        | Call::DeletePartition { .. }
+        | Call::SetPartitionProperty { .. }
+        | Call::DepositMemory { .. }
+        | Call::CreateVp { .. }
+        | Call::DeleteVp { .. }
+        | Call::SetVpRegisters { .. }
+        | Call::DeletePort { .. }
+        | Call::DisconnectPort { .. }
+        | Call::PostMessage { .. }
+        | Call::SignalEvent { .. }
+        | Call::CreatePort { .. }
+        | Call::ConnectPort { .. } => {}
+    }
+}
+
+fn push_child(words: &mut Words, child: u64) {
+    if child == 0 {
+        words.text(", no child");
+    } else {
+        words.decimal(", partition ", child);
+    }
+}
+
 // The property of a partition.
 fn push_property(words: &mut Words, partition: u64, code: u32) {
     words.id(" partition ", partition);
@@ -120,7 +188,7 @@ fn push_property(words: &mut Words, partition: u64, code: u32) {
 }
 
 // A property's value: a mask in hexadecimal, a CPU property in decimal.
-pub(crate) fn push_value(words: &mut Words, code: u32, value: u64) {
+fn push_value(words: &mut Words, code: u32, value: u64) {
     match Property::of(code) {
         Some(Property::CpuReserve) | Some(Property::CpuCap) | Some(Property::CpuWeight) => {
             words.decimal(", value ", value);

@@ -13,9 +13,9 @@ mod registers;
 mod sentences;
 mod words;
 
-pub use calls::{push_access, push_call};
-pub use names::{call_name, kind_name, life_name, privilege_name, property_name};
-pub use outputs::{push_access_output, push_call_output};
+pub use calls::{call_name, push_access, push_call, push_call_output};
+pub use names::{kind_name, life_name, privilege_name, property_name};
+pub use outputs::push_access_output;
 pub use registers::{push_msr, push_register, register_name};
 pub use sentences::sentence;
 pub use words::Words;

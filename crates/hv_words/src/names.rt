@@ -1,35 +1,7 @@
-// The names of calls, privileges, properties, life states and kinds of ports.
+// The names of privileges, properties, life states and kinds of ports.
 
-use hv_abi::CallKind;
 use hv_defs::{Life, PortKind};
 use hv_policy::Property;
-
-/// The TLFS's name of a call.
-pub fn call_name(call: CallKind) -> &'static str {
-    match call {
-        CallKind::CreatePartition => "HvCreatePartition",
-        CallKind::InitializePartition => "HvInitializePartition",
-        CallKind::FinalizePartition => "HvFinalizePartition",
-        CallKind::DeletePartition => "HvDeletePartition",
-        CallKind::GetPartitionProperty => "HvGetPartitionProperty",
-        CallKind::SetPartitionProperty => "HvSetPartitionProperty",
-        CallKind::GetPartitionId => "HvGetPartitionId",
-        CallKind::GetNextChildPartition => "HvGetNextChildPartition",
-        CallKind::DepositMemory => "HvDepositMemory",
-        CallKind::WithdrawMemory => "HvWithdrawMemory",
-        CallKind::GetMemoryBalance => "HvGetMemoryBalance",
-        CallKind::CreateVp => "HvCreateVp",
-        CallKind::DeleteVp => "HvDeleteVp",
-        CallKind::GetVpRegisters => "HvGetVpRegisters",
-        CallKind::SetVpRegisters => "HvSetVpRegisters",
-        CallKind::DeletePort => "HvDeletePort",
-        CallKind::DisconnectPort => "HvDisconnectPort",
-        CallKind::PostMessage => "HvPostMessage",
-        CallKind::SignalEvent => "HvSignalEvent",
-        CallKind::CreatePort => "HvCreatePort",
-        CallKind::ConnectPort => "HvConnectPort",
-    }
-}
 
 /// The TLFS's name of the privilege at this bit of a mask, or `None` if no call and no register needs it.
 pub fn privilege_name(bit: u32) -> Option<&'static str> {

@@ -1,51 +1,10 @@
-// The outputs of calls and accesses.
+// The outputs of accesses.
 
-use crate::calls::push_value;
 use crate::words::Words;
-use hv_calls::Call;
 use hv_policy::Access;
 
 // The most flags that are listed.
 const MOST_FLAGS: usize = 16;
-
-/// Adds the output of a served call, after a comma.
-pub fn push_call_output(words: &mut Words, call: &Call<'_>, output: &[u8]) {
-    let first = number_at(output, 0, 8);
-    match call {
-        Call::CreatePartition { .. } | Call::GetPartitionId => words.decimal(", partition ", first),
-        Call::GetPartitionProperty { code, .. } => push_value(words, *code, first),
-        Call::GetNextChildPartition { .. } => push_child(words, first),
-        Call::WithdrawMemory { .. } => words.decimal(", page ", first),
-        Call::GetMemoryBalance { .. } => {
-            words.decimal(", balance ", first);
-            words.decimal(" pages, ", number_at(output, 8, 8));
-            words.text(" in use");
-        }
-        Call::GetVpRegisters { .. } => words.hex(", value ", first),
-        Call::InitializePartition { .. }
-        | Call::FinalizePartition { .. }
-        | Call::DeletePartition { .. }
-        | Call::SetPartitionProperty { .. }
-        | Call::DepositMemory { .. }
-        | Call::CreateVp { .. }
-        | Call::DeleteVp { .. }
-        | Call::SetVpRegisters { .. }
-        | Call::DeletePort { .. }
-        | Call::DisconnectPort { .. }
-        | Call::PostMessage { .. }
-        | Call::SignalEvent { .. }
-        | Call::CreatePort { .. }
-        | Call::ConnectPort { .. } => {}
-    }
-}
-
-fn push_child(words: &mut Words, child: u64) {
-    if child == 0 {
-        words.text(", no child");
-    } else {
-        words.decimal(", partition ", child);
-    }
-}
 
 /// Adds the output of a served access, after a comma.
 pub fn push_access_output(words: &mut Words, access: Access, output: &[u8]) {
@@ -109,8 +68,8 @@ fn push_vector(words: &mut Words, vector: u64) {
     }
 }
 
-// The little-endian number in `size` bytes, at most 8, from `at` on. Bytes past the end are 0.
-fn number_at(bytes: &[u8], at: usize, size: usize) -> u64 {
+/// The little-endian number in `size` bytes, at most 8, from `at` on. Bytes past the end are 0.
+pub(crate) fn number_at(bytes: &[u8], at: usize, size: usize) -> u64 {
     let mut number: u64 = 0;
     for k in 0..size {
         let place = at.saturating_add(size - 1 - k);

@@ -2,7 +2,7 @@
 // names a rule that applies to the call.
 
 use crate::calls::{BY_0, Call, Told, answer, frame};
-use hv_abi::{CallKind, Frame};
+use hv_abi::{ALL_CALLS, CallKind, Frame};
 use hv_calls::{Malformed, decode};
 use std::alloc::{AllocError, Global};
 use std::process::Abort;
@@ -140,8 +140,25 @@ fn assert_each(rt: &impl Abort, alloc: Global, call: Call<'_>) -> Result<(), Fai
     Ok(())
 }
 
+// Whether both tables have a row of this call.
+fn has_rows(kind: CallKind) -> bool {
+    let code = u64::from(kind.code());
+    let mut framed = false;
+    for (rcx, _, _) in CALLS.iter() {
+        framed = framed || rcx & 0xffff == code;
+    }
+    let mut ruled = false;
+    for (ruled_code, _) in FURTHER.iter() {
+        ruled = ruled || *ruled_code == code;
+    }
+    framed && ruled
+}
+
 #[test]
 fn hostile_frames_are_answered(rt: HostRuntime) -> Result<(), Fail> {
+    for kind in ALL_CALLS.iter() {
+        assert!(rt; has_rows(*kind), "{:#x}", kind.code());
+    }
     for (rcx, rdx, input) in CALLS.iter() {
         let call = Call {
             rcx: *rcx,
@@ -154,30 +171,15 @@ fn hostile_frames_are_answered(rt: HostRuntime) -> Result<(), Fail> {
     Ok(())
 }
 
-// A well-formed input value of each call: a rep call has 2 reps and starts at the second.
-const INPUT_VALUES: [(u64, CallKind); 21] = [
-    (0x40, CallKind::CreatePartition),
-    (0x41, CallKind::InitializePartition),
-    (0x42, CallKind::FinalizePartition),
-    (0x43, CallKind::DeletePartition),
-    (0x44, CallKind::GetPartitionProperty),
-    (0x45, CallKind::SetPartitionProperty),
-    (0x46, CallKind::GetPartitionId),
-    (0x47, CallKind::GetNextChildPartition),
-    (0x0001_0002_0000_0048, CallKind::DepositMemory),
-    (0x0001_0002_0000_0049, CallKind::WithdrawMemory),
-    (0x4A, CallKind::GetMemoryBalance),
-    (0x4E, CallKind::CreateVp),
-    (0x4F, CallKind::DeleteVp),
-    (0x0001_0002_0000_0050, CallKind::GetVpRegisters),
-    (0x0001_0002_0000_0051, CallKind::SetVpRegisters),
-    (0x58, CallKind::DeletePort),
-    (0x5B, CallKind::DisconnectPort),
-    (0x5C, CallKind::PostMessage),
-    (0x5D, CallKind::SignalEvent),
-    (0x95, CallKind::CreatePort),
-    (0x96, CallKind::ConnectPort),
-];
+// A well-formed input value of a call: a rep call has 2 reps and starts at the second.
+fn input_value(kind: CallKind) -> u64 {
+    let reps = if kind.is_rep() {
+        0x0001_0002_0000_0000
+    } else {
+        0
+    };
+    reps + u64::from(kind.code())
+}
 
 // A block that each call accepts, with a byte that is not zero in most of its fields.
 const ANY_BLOCK: [u8; 80] = [
@@ -226,8 +228,8 @@ fn assert_decoded(
 
 #[test]
 fn cut_blocks_are_decoded(rt: HostRuntime) -> Result<(), Fail> {
-    for (rcx, kind) in INPUT_VALUES.iter() {
-        assert_decoded(&rt, rt.alloc(), *rcx, *kind)?;
+    for kind in ALL_CALLS.iter() {
+        assert_decoded(&rt, rt.alloc(), input_value(*kind), *kind)?;
     }
     Ok(())
 }

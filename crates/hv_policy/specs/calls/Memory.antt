@@ -1,8 +1,8 @@
 -- The pools of pages.
-use Rattle.std.specs.Prelude.{ℕ, true, false, [], ◌∷◌, ◌++◌, Some}
+use Rattle.std.specs.Prelude.{ℕ, true, false, [], ◌∷◌, ◌++◌, Some, None}
 use Rattle.std.specs.FinMap.{get, insert}
 use Rattle.std.specs.Int.{w64, to_le_bytes}
-use Rattle.hv_abi.specs.declared.call_row.TheConstants.{DEPOSIT_MEMORY, WITHDRAW_MEMORY, GET_MEMORY_BALANCE}
+use Rattle.hv_abi.specs.declared.call_kind.TheConstants.{DEPOSIT_MEMORY, WITHDRAW_MEMORY, GET_MEMORY_BALANCE}
 use Rattle.hv_policy.specs.Change.{withdrawn}
 use Rattle.hv_policy.specs.Count.{available, in_use, lowest_pooled}
 use Rattle.hv_policy.specs.Met.{has_available, is_in, is_loose}
@@ -22,9 +22,9 @@ deposit_memory partition page = record {
   asks = λ f caller target states charge. (TargetState, is_in f target states) ∷
       (Operand, is_loose caller (get f.page page)) ∷ [];
   output = λ f caller target. [];
-  effect = λ f caller target. record f {
+  effect = Some (λ f caller target. record f {
     page = insert f.page page (record { owner = target; pooled = true });
-  };
+  });
 }
 
 -- HvWithdrawMemory: makes the lowest page of the target's pool a loose page of the caller. If no page is
@@ -36,7 +36,7 @@ withdraw_memory partition = record {
   memory = true;
   asks = λ f caller target states charge. (Pages, has_available f target charge) ∷ [];
   output = λ f caller target. to_le_bytes w64 (page_or_0 (lowest_pooled f target));
-  effect = λ f caller target. record f { page = withdrawn caller (lowest_pooled f target) f.page };
+  effect = Some (λ f caller target. record f { page = withdrawn caller (lowest_pooled f target) f.page });
 }
 
 -- HvGetMemoryBalance: returns the number of pages of the target's pool that are available, and of those in
@@ -48,5 +48,5 @@ get_memory_balance partition = record {
   memory = false;
   asks = λ f caller target states charge. [];
   output = λ f caller target. to_le_bytes w64 (available f target) ++ to_le_bytes w64 (in_use f target);
-  effect = λ f caller target. f;
+  effect = None;
 }

@@ -1,7 +1,7 @@
 -- Messages and event flags that are sent through connections.
-use Rattle.std.specs.Prelude.{ℕ, true, false, List, [], ◌∷◌, None}
+use Rattle.std.specs.Prelude.{ℕ, true, false, List, [], ◌∷◌, None, Some}
 use Rattle.std.specs.FinMap.{contains_key}
-use Rattle.hv_abi.specs.declared.call_row.TheConstants.{POST_MESSAGE, SIGNAL_EVENT}
+use Rattle.hv_abi.specs.declared.call_kind.TheConstants.{POST_MESSAGE, SIGNAL_EVENT}
 use Rattle.hv_policy.specs.Aim.{aim_of, is_same_birth, on_aim}
 use Rattle.hv_policy.specs.Change.{post_to, signal_to}
 use Rattle.hv_policy.specs.Met.{has_flag, has_flag_taker, has_message_room, has_message_taker, is_aimed_at_vp}
@@ -27,7 +27,7 @@ post_message connection message_type payload = record {
       ∷ (VpReady, on_aim f (target, connection) (has_message_taker f))
       ∷ (PortRoom, on_aim f (target, connection) (has_message_room f)) ∷ [];
   output = λ f caller target. [];
-  effect = λ f caller target. post_to (aim_of f (target, connection)) message_type payload f;
+  effect = Some (λ f caller target. post_to (aim_of f (target, connection)) message_type payload f);
 }
 
 -- HvSignalEvent: sets an event flag of the port through a connection of the caller.
@@ -43,5 +43,5 @@ signal_event connection flag = record {
       (Operand, on_aim f (target, connection) (has_flag flag))
       ∷ (VpReady, on_aim f (target, connection) (has_flag_taker f)) ∷ [];
   output = λ f caller target. [];
-  effect = λ f caller target. signal_to (aim_of f (target, connection)) flag f;
+  effect = Some (λ f caller target. signal_to (aim_of f (target, connection)) flag f);
 }

@@ -2,9 +2,9 @@
 use Rattle.std.specs.Prelude.{ℕ, ◌+◌, ◌==◌, ◌||◌, true, false, [], ◌∷◌, map, None, Some}
 use Rattle.std.specs.FinMap.{entries, from_entries, get, insert, remove}
 use Rattle.std.specs.Int.{w64, to_le_bytes}
-use Rattle.hv_abi.specs.declared.call_row.TheConstants.{CREATE_PARTITION, INITIALIZE_PARTITION}
-use Rattle.hv_abi.specs.declared.call_row.TheConstants.{FINALIZE_PARTITION, DELETE_PARTITION}
-use Rattle.hv_abi.specs.declared.call_row.TheConstants.{GET_PARTITION_ID, GET_NEXT_CHILD_PARTITION}
+use Rattle.hv_abi.specs.declared.call_kind.TheConstants.{CREATE_PARTITION, INITIALIZE_PARTITION}
+use Rattle.hv_abi.specs.declared.call_kind.TheConstants.{FINALIZE_PARTITION, DELETE_PARTITION}
+use Rattle.hv_abi.specs.declared.call_kind.TheConstants.{GET_PARTITION_ID, GET_NEXT_CHILD_PARTITION}
 use Rattle.hv_defs.specs.declared.life.Life.TheVariants.{Active, Finalized}
 use Rattle.hv_defs.specs.declared.sizes.TheConstants.{PARTITION_CHARGE}
 use Rattle.hv_policy.specs.Change.{inherited, mask_of, new_row, rows_but, with_row}
@@ -26,11 +26,11 @@ create_partition flags = record {
   asks = λ f caller target states charge. (Depth, is_depth_left f caller) ∷
       (Pages, has_available f target charge) ∷ [];
   output = λ f caller target. to_le_bytes w64 f.next;
-  effect = λ f caller target.
+  effect = Some (λ f caller target.
       record f {
         part = insert f.part f.next (new_row caller (mask_of (get f.part caller)));
         next = f.next + 1;
-      };
+      });
 }
 
 -- HvInitializePartition: makes the target Active.
@@ -41,9 +41,9 @@ initialize_partition partition = record {
   memory = false;
   asks = λ f caller target states charge. (TargetState, is_in f target states) ∷ [];
   output = λ f caller target. [];
-  effect = λ f caller target. record f {
+  effect = Some (λ f caller target. record f {
     part = with_row f.part target (λ row. record row { life = Active });
-  };
+  });
 }
 
 -- HvFinalizePartition: makes the target Finalized, and removes its processors, ports, connections and
@@ -56,13 +56,13 @@ finalize_partition partition = record {
   asks = λ f caller target states charge. (TargetState, is_in f target states) ∷
       (NoChildren, is_childless f target) ∷ [];
   output = λ f caller target. [];
-  effect = λ f caller target. record f {
+  effect = Some (λ f caller target. record f {
     part = with_row f.part target (λ row. record row { life = Finalized });
     vp = rows_but target f.vp;
     port = rows_but target f.port;
     conn = rows_but target f.conn;
     mail = mail_but target f.mail;
-  };
+  });
 }
 
 -- HvDeletePartition: removes the target, and gives its pages to the caller.
@@ -73,10 +73,10 @@ delete_partition partition = record {
   memory = true;
   asks = λ f caller target states charge. (TargetState, is_in f target states) ∷ [];
   output = λ f caller target. [];
-  effect = λ f caller target. record f {
+  effect = Some (λ f caller target. record f {
     part = remove f.part target;
     page = from_entries (map (λ e. (e.0, inherited target caller e.1)) (entries f.page));
-  };
+  });
 }
 
 -- HvGetPartitionId: returns the caller's own id.
@@ -87,7 +87,7 @@ get_partition_id = record {
   memory = false;
   asks = λ f caller target states charge. [];
   output = λ f caller target. to_le_bytes w64 caller;
-  effect = λ f caller target. f;
+  effect = None;
 }
 
 -- HvGetNextChildPartition: returns the lowest id above another among the target's children, or 0 if there is
@@ -99,5 +99,5 @@ get_next_child_partition partition previous = record {
   memory = false;
   asks = λ f caller target states charge. (PeerExists, (previous == 0) || is_child f target previous) ∷ [];
   output = λ f caller target. to_le_bytes w64 (next_child f target previous);
-  effect = λ f caller target. f;
+  effect = None;
 }

@@ -1,8 +1,8 @@
 -- Ports and connections.
 use Rattle.std.specs.Prelude.{ℕ, ◌+◌, ◌==◌, not, true, false, [], ◌∷◌, Some}
 use Rattle.std.specs.FinMap.{contains_key, get, insert, remove}
-use Rattle.hv_abi.specs.declared.call_row.TheConstants.{DELETE_PORT, DISCONNECT_PORT, CREATE_PORT}
-use Rattle.hv_abi.specs.declared.call_row.TheConstants.{CONNECT_PORT}
+use Rattle.hv_abi.specs.declared.call_kind.TheConstants.{DELETE_PORT, DISCONNECT_PORT, CREATE_PORT}
+use Rattle.hv_abi.specs.declared.call_kind.TheConstants.{CONNECT_PORT}
 use Rattle.hv_defs.specs.declared.aim.Aim.{Aim}
 use Rattle.hv_defs.specs.declared.port_kind.PortKind.{PortKind}
 use Rattle.hv_defs.specs.declared.sizes.TheConstants.{CONNECTION_CHARGE, PORT_CHARGE}
@@ -26,7 +26,7 @@ delete_port partition port = record {
   asks = λ f caller target states charge. (TargetState, is_in f target states) ∷
       (Port, contains_key f.port (target, port)) ∷ [];
   output = λ f caller target. [];
-  effect = λ f caller target. record f { port = remove f.port (target, port) };
+  effect = Some (λ f caller target. record f { port = remove f.port (target, port) });
 }
 
 -- HvDisconnectPort: removes a connection of the target.
@@ -38,7 +38,7 @@ disconnect_port partition connection = record {
   asks = λ f caller target states charge.
       (TargetState, is_in f target states) ∷ (Connection, contains_key f.conn (target, connection)) ∷ [];
   output = λ f caller target. [];
-  effect = λ f caller target. record f { conn = remove f.conn (target, connection) };
+  effect = Some (λ f caller target. record f { conn = remove f.conn (target, connection) });
 }
 
 -- HvCreatePort: creates a port of the target, to which the peer may connect.
@@ -52,7 +52,7 @@ create_port partition port peer port_kind sint vp base count = record {
       ∷ (Port, not (contains_key f.port (target, port))) ∷ (VpExists, has_target f target vp)
       ∷ (Pages, has_available f target charge) ∷ [];
   output = λ f caller target. [];
-  effect = λ f caller target. record f {
+  effect = Some (λ f caller target. record f {
     port = insert f.port (target, port) (record {
       kind = port_kind;
       peer = resolved_id caller peer;
@@ -62,7 +62,7 @@ create_port partition port peer port_kind sint vp base count = record {
       count = flags_of port_kind count;
       born = f.served + 1;
     });
-  };
+  });
 }
 
 -- HvConnectPort: creates a connection of the target, to a port whose peer it is.
@@ -83,12 +83,12 @@ connect_port partition connection port_partition port port_kind = record {
       ∷ (Operand, on_port f (resolved_id caller port_partition, port) (λ row. is_kind row.kind port_kind))
       ∷ (Pages, has_available f target charge) ∷ [];
   output = λ f caller target. [];
-  effect = λ f caller target. record f {
+  effect = Some (λ f caller target. record f {
     conn = insert f.conn (target, connection) (record {
       part = resolved_id caller port_partition;
       port = port;
       kind = port_kind;
       born = born_of (get f.port (resolved_id caller port_partition, port));
     });
-  };
+  });
 }

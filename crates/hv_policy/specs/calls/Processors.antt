@@ -1,9 +1,9 @@
 -- Virtual processors and their registers.
-use Rattle.std.specs.Prelude.{ℕ, true, false, is_ok, is_some, [], ◌∷◌, ◌++◌, Some}
+use Rattle.std.specs.Prelude.{ℕ, true, false, is_ok, is_some, [], ◌∷◌, ◌++◌, Some, None}
 use Rattle.std.specs.FinMap.{contains_key, get, insert, remove}
 use Rattle.std.specs.Int.{w64, to_le_bytes}
-use Rattle.hv_abi.specs.declared.call_row.TheConstants.{CREATE_VP, DELETE_VP, GET_VP_REGISTERS}
-use Rattle.hv_abi.specs.declared.call_row.TheConstants.{SET_VP_REGISTERS}
+use Rattle.hv_abi.specs.declared.call_kind.TheConstants.{CREATE_VP, DELETE_VP, GET_VP_REGISTERS}
+use Rattle.hv_abi.specs.declared.call_kind.TheConstants.{SET_VP_REGISTERS}
 use Rattle.hv_defs.specs.Registers as register
 use Rattle.hv_defs.specs.declared.sizes.TheConstants.{VP_CHARGE}
 use Rattle.hv_policy.specs.Boot.{start_vp}
@@ -27,7 +27,7 @@ create_vp partition vp = record {
       (TargetState, is_in f target states) ∷ (VpExists, is_vp_free f target vp) ∷
       (Pages, has_available f target charge) ∷ [];
   output = λ f caller target. [];
-  effect = λ f caller target. record f { vp = insert f.vp (target, vp) (start_vp vp) };
+  effect = Some (λ f caller target. record f { vp = insert f.vp (target, vp) (start_vp vp) });
 }
 
 -- HvDeleteVp: removes the processor and its messages.
@@ -39,7 +39,10 @@ delete_vp partition vp = record {
   asks = λ f caller target states charge.
       (TargetState, is_in f target states) ∷ (VpExists, contains_key f.vp (target, vp)) ∷ [];
   output = λ f caller target. [];
-  effect = λ f caller target. record f { vp = remove f.vp (target, vp); mail = mail_but_at target vp f.mail };
+  effect = Some (λ f caller target. record f {
+    vp = remove f.vp (target, vp);
+    mail = mail_but_at target vp f.mail;
+  });
 }
 
 -- HvGetVpRegisters: returns the value of a register of the processor, in 16 bytes.
@@ -52,7 +55,7 @@ get_vp_registers partition vp name = record {
       (TargetState, is_in f target states) ∷ (Entitlement, may_access f caller (register.row_of name))
       ∷ (VpExists, contains_key f.vp (target, vp)) ∷ (Operand, is_some (register.row_of name)) ∷ [];
   output = λ f caller target. to_le_bytes w64 (register_of (get f.vp (target, vp)) name) ++ to_le_bytes w64 0;
-  effect = λ f caller target. f;
+  effect = None;
 }
 
 -- HvSetVpRegisters: writes a register of the processor.
@@ -66,5 +69,5 @@ set_vp_registers partition vp name value = record {
       ∷ (VpExists, contains_key f.vp (target, vp)) ∷
       (Operand, is_ok (register.kept (register.row_of name) value)) ∷ [];
   output = λ f caller target. [];
-  effect = λ f caller target. write_register target vp name value f;
+  effect = Some (λ f caller target. write_register target vp name value f);
 }

@@ -1,8 +1,8 @@
 -- The properties of partitions.
-use Rattle.std.specs.Prelude.{ℕ, false, is_some, [], ◌∷◌, Some}
+use Rattle.std.specs.Prelude.{ℕ, false, is_some, [], ◌∷◌, Some, None}
 use Rattle.std.specs.FinMap.{get}
 use Rattle.std.specs.Int.{w64, to_le_bytes}
-use Rattle.hv_abi.specs.declared.call_row.TheConstants.{GET_PARTITION_PROPERTY, SET_PARTITION_PROPERTY}
+use Rattle.hv_abi.specs.declared.call_kind.TheConstants.{GET_PARTITION_PROPERTY, SET_PARTITION_PROPERTY}
 use Rattle.hv_policy.specs.Change.{property_set}
 use Rattle.hv_policy.specs.Met.{is_in, is_in_range, may_give}
 use Rattle.hv_policy.specs.Policy.{CallPolicy, needs}
@@ -23,7 +23,7 @@ get_partition_property partition code = record {
   memory = false;
   asks = λ f caller target states charge. (PropertyKnown, is_some (property_of code)) ∷ [];
   output = λ f caller target. to_le_bytes w64 (value_of (property_of code) (get f.part target));
-  effect = λ f caller target. f;
+  effect = None;
 }
 
 -- HvSetPartitionProperty: sets a property of the target. The mask of an Active target narrows its subtree.
@@ -37,5 +37,5 @@ set_partition_property partition code value = record {
       ∷ (Entitlement, may_give (property_of code) value f caller) ∷
       (PropertyRange, is_in_range (property_of code) value) ∷ [];
   output = λ f caller target. [];
-  effect = λ f caller target. record f { part = property_set f target (property_of code) value };
+  effect = Some (λ f caller target. record f { part = property_set f target (property_of code) value });
 }

@@ -1,4 +1,4 @@
-use Rattle.std.proofs.Common.{sym, ◌∙◌, arith}
+use Rattle.std.proofs.Common.{sym, arith}
 use Rattle.std.specs.Int.{to_le_bytes, w64}
 use Rattle.hv_calls.proofs.Numbers.{field-bytes}
 use Rattle.hv_calls.proofs.fields.second_u16.Goals as goal

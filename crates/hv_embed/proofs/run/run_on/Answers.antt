@@ -13,7 +13,7 @@ loop-more-preserved c =
     let l = c.loop-more in
     let was = l.invariant in
     let taken = c.in-Ok.ensures.step in
-    let output : List ℕ = take c.parts.result.2 c.parts.result.1 in
+    let output : List ℕ = c.parts.result.1.now in
     let more : l.last ≡ More c.in-Some.next output = sym c.parts.ensures.reply ∙ c.in-Some.ensures.some output in
     let next : c.restart.new.frame ≡ restart l.frame (next_in l.last) = c.restart.ensures ∙ ap (λ (r : Reply). restart l.frame (next_in r)) (sym more) in
     record {

@@ -1,5 +1,5 @@
 use Rattle.hv_calls.proofs.Decoded.{decoded_of, decoded-same, decoded-ok, decoded-only, decoded-malformed, decoded-kind}
-use Rattle.hv_calls.proofs.decoding.decode.Goals as goal
+use Rattle.hv_calls.proofs.call.decode.Goals as goal
 use Rattle.std.proofs.Common.{◌≡◌}
 
 pub returns : goal.returns
