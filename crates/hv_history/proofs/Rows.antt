@@ -1,15 +1,19 @@
 -- Rows of a history, once one comes or a head asks for another element.
-use Rattle.std.proofs.Common.{◌≡◌, ℕ, ◌+◌, ◌-◌, ◌<◌, ◌≤◌, inl, inr, List, [], ◌∷◌, ◌++◌, Some, length, take, drop, get_or, set, refl, sym, ap, subst, ◌∙◌, arith, length-append}
+use Rattle.std.proofs.Common.{◌≡◌, ℕ, ◌+◌, ◌-◌, ◌<◌, ◌≤◌, inl, inr, List, [], ◌∷◌, ◌++◌, Some, length, take, drop, get_or, set, refl, sym, ap, subst, ◌∙◌, arith, append_assoc, length-append}
 use Rattle.std.proofs.Math.Seq.{drop-append_seam}
 use Rattle.std.proofs.lemmas.Bool.{cases_eq}
-use Rattle.std.proofs.lemmas.List.{length-map, take-append-le, drop-append-le, take_all, length-drop, map-append, get_or_append_left, get_or-append-add, length-set, get_or-set_same, get_or-set_other}
+use Rattle.std.proofs.lemmas.List.{length-map, take-append-le, drop-append-le, drop_more, take_all, length-drop, get_or-drop, map-append}
+use Rattle.std.proofs.lemmas.List.{get_or_append_left, get_or-append-add, length-set, get_or-set_same, get_or-set_other}
 use Rattle.std.proofs.lemmas.List.Elements.{All-head, All-push, All-tail, All-weaker}
 use Rattle.std.proofs.lemmas.Option.{get_or_from_slice_get, slice_get-get_or, slice_get-map}
 use Rattle.std.specs.List.{slice_get}
 use Rattle.std.specs.Prelude.{option_map}
 use Rattle.hv_policy.specs.Parts.{reply_of}
+use Rattle.hv_policy.specs.declared.event.Action.{Action}
+use Rattle.hv_policy.specs.declared.event.Action.TheVariants.{Hypercall, ReadMsr, WriteMsr, ReadSlot, ClearSlot, ReadFlags, ClearFlag, TakeInterrupt}
 use Rattle.hv_policy.specs.declared.event.Event.{Event}
-use Rattle.hv_history.specs.Row.{ArePlaced, IsPlaced, asking, bytes_at, entries_of, entry_of, head_at, last_row}
+use Rattle.hv_policy.specs.declared.reply.Reply.{Reply}
+use Rattle.hv_history.specs.Row.{ArePlaced, DifferInRcx, IsPlaced, asking, bytes_at, entries_of, entry_of, head_at, last_row, with_rcx}
 use Rattle.hv_history.specs.declared.entry.Entry.{Entry}
 use Rattle.hv_history.specs.declared.row.Row.{Row}
 
@@ -23,6 +27,10 @@ bytes-more bytes more start len within =
 bytes-last : (bytes more : List ℕ) (start len : ℕ) → start ≡ length bytes → len ≡ length more → bytes_at (bytes ++ more) start len ≡ more
 bytes-last bytes more start len starts is =
     ap (λ n. take len (drop n (bytes ++ more))) starts ∙ ap (take len) (drop-append_seam bytes more) ∙ take_all len more (omega arith)
+
+-- bytes that are read from a place on
+pub bytes-read : (bytes all : List ℕ) (start len : ℕ) → bytes ≡ all → take (start + len - start) (drop start bytes) ≡ bytes_at all start len
+bytes-read bytes all start len is = let many : start + len - start ≡ len = omega arith in λ i. take (many i) (drop start (is i))
 
 -- rows stay placed among more heads and more bytes
 pub placed_in : (heads more_heads outputs more_outputs : ℕ) (rows : List Row) → heads ≤ more_heads → outputs ≤ more_outputs → ArePlaced heads outputs rows → ArePlaced more_heads more_outputs rows
@@ -82,6 +90,44 @@ module _ {A : Type 0} where
       let last = bytes-last outputs output row.output row.output_len starts len in
       map-append (entry_of {A = A} heads (outputs ++ output)) rows (row ∷ [])
       ∙ (λ i. rest i ++ record { event = asking (head_at heads row.head) row.rcx; reply = reply_of row.answer (last i) } ∷ [])
+
+  -- an event with one RCX and then another has the other
+  pub asks_again : (what : Action A) (one other : ℕ) → with_rcx (with_rcx what one) other ≡ with_rcx what other
+  asks_again (Hypercall frame) one other = refl
+  asks_again (ReadMsr msr) one other = refl
+  asks_again (WriteMsr msr value) one other = refl
+  asks_again (ReadSlot sint) one other = refl
+  asks_again (ClearSlot sint) one other = refl
+  asks_again (ReadFlags sint) one other = refl
+  asks_again (ClearFlag sint flag) one other = refl
+  asks_again TakeInterrupt one other = refl
+
+  again : (e : Event A) (one other : ℕ) → asking (asking e one) other ≡ asking e other
+  again e one other = λ i. record { by = e.by; what = asks_again e.what one other i }
+
+  -- events that differ in RCX alone are the same under that of one of them
+  pub same_but : (one other : Event A) (rcx : ℕ) → asking one 0 ≡ asking (asking other rcx) 0 → asking one rcx ≡ asking other rcx
+  same_but one other rcx same =
+      sym (again one 0 rcx) ∙ ap (λ (e : Event A). asking e rcx) same ∙ again (asking other rcx) 0 rcx ∙ again other rcx rcx
+
+  -- an entry among those that differ from an event in RCX alone
+  pub differs_at : (event : Event A) (es : List (Entry A)) (from at : ℕ) (e : Entry A) → DifferInRcx event (drop from es) → from ≤ at → at < length es → slice_get es at ≡ Some e
+      → asking e.event 0 ≡ asking event 0
+  differs_at event es from at e all above less there =
+      let place : from + (at - from) ≡ at = omega arith in
+      subst (λ (x : Entry A). asking x.event 0 ≡ asking event 0)
+      (get_or-drop from es (at - from) e ∙ ap (λ n. get_or es n e) place ∙ get_or_from_slice_get es at e e there)
+      (all (at - from) e (omega (arith, length-drop from es)))
+
+  -- the entries of another history come over one by one
+  pub one_over : (es old new all : List (Entry A)) (at : ℕ) (e : Entry A) (event : Event A) (reply : Reply) → at < length es → slice_get es at ≡ Some e
+      → new ≡ old ++ record { event = event; reply = reply } ∷ [] → event ≡ e.event → reply ≡ e.reply → old ++ drop at es ≡ all → new ++ drop (at + 1) es ≡ all
+  one_over es old new all at e event reply less there pushed event_is reply_is so_far =
+      let rest = drop (at + 1) es in
+      let next : drop at es ≡ e ∷ rest = drop_more es at e less ∙ ap (λ (x : Entry A). x ∷ rest) (get_or_from_slice_get es at e e there) in
+      ap (λ (xs : List (Entry A)). xs ++ rest) pushed ∙ append_assoc old (record { event = event; reply = reply } ∷ []) rest
+      ∙ (λ i. old ++ record { event = event_is i; reply = reply_is i } ∷ rest)
+      ∙ sym (ap (λ (xs : List (Entry A)). old ++ xs) next) ∙ so_far
 
   -- what was put into a place stands there
   pub changed : (heads : List (Event A)) (at : ℕ) (none event : Event A) → at < length heads → head_at (set (set heads at none) at event) at ≡ event

@@ -1,5 +1,5 @@
 -- The packed form of an event with its reply, and the entry that it stands for.
-use Rattle.std.specs.Prelude.{ℕ, ◌+◌, ◌-◌, ◌≤◌, ◌<◌, List, [], length, map, take, drop, slice_index_or}
+use Rattle.std.specs.Prelude.{ℕ, ◌≡◌, ◌+◌, ◌-◌, ◌≤◌, ◌<◌, List, [], length, map, take, drop, slice_index_or}
 use Rattle.std.specs.List.{All}
 use Rattle.hv_defs.specs.declared.sizes.TheConstants.{REPS_END}
 use Rattle.hv_policy.specs.Parts.{next_in, reply_of}
@@ -88,6 +88,10 @@ entries_of heads outputs rows = map (entry_of heads outputs) rows
 
 abbrev pub events_of : {A : Type 0} → List (Entry A) → List (Event A)
 events_of entries = map (λ entry. entry.event) entries
+
+-- each entry is of this event, but for its RCX
+abbrev pub DifferInRcx : {A : Type 0} → Event A → List (Entry A) → Type 0
+DifferInRcx event entries = All (λ entry. asking entry.event 0 ≡ asking event 0) entries
 
 abbrev pub replies_of : {A : Type 0} → List (Entry A) → List Reply
 replies_of entries = map (λ entry. entry.reply) entries

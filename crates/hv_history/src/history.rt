@@ -1,10 +1,10 @@
 // The history: events with their replies.
 ghost use Rattle.std.specs.Prelude.{◌≡◌, ◌+◌, ◌<◌, ◌≤◌, ◌++◌, [], ◌∷◌, ℕ, List, IsTrue, OnOk, Some};
-ghost use Rattle.std.specs.Prelude.{length, slice_get, vec_len, vec_capacity};
+ghost use Rattle.std.specs.Prelude.{drop, length, slice_get, vec_len, vec_capacity};
 ghost use Rattle.hv_abi.specs.declared.frame.Frame.{Frame as CallFrame};
 ghost use Rattle.hv_defs.specs.declared.sizes.TheConstants.{REPS_END};
 ghost use Rattle.hv_history.specs.History.{entries, entry_by, last_head, room_of};
-ghost use Rattle.hv_history.specs.Row.{asking, head_at, rcx_in};
+ghost use Rattle.hv_history.specs.Row.{DifferInRcx, asking, head_at, rcx_in};
 ghost use Rattle.hv_history.specs.Run.{element, restart};
 ghost use Rattle.hv_history.specs.declared.entry.Entry.{Entry};
 ghost use Rattle.hv_policy.specs.Parts.{next_in, reply_of};
@@ -93,6 +93,25 @@ impl<A: Allocator> History<A> {
         let rcx = rcx_of(&event.what);
         let head = self.place(event);
         self.push_row(head, rcx, answer, output);
+    }
+
+    /// Adds the events of another history from a place on, with their replies. There is room for them, and
+    /// `event` differs from each of them in RCX alone.
+    pub fn push_all(&mut self, event: Event<A>, other: &History<A>, from: usize)
+        requires from { from ≤ length (entries other.now) }
+        requires alike { DifferInRcx event (drop from (entries other.now)) }
+        requires room { length (entries other.now) ≤ from + room_of self.old }
+        ensures { entries self.new ≡ entries self.old ++ drop from (entries other.now) }
+    {
+        if from == other.len() {
+            return;
+        }
+        let head = self.place(event);
+        for at in from..other.len() {
+            let row = other.rows[at];
+            let output = &other.outputs[row.output..row.output + row.output_len as usize];
+            self.push_row(head, row.rcx, row.answer, output);
+        }
     }
 
     // Returns the place of an event's head. If the event differs from the last head in RCX alone, that head

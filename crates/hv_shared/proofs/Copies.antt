@@ -1,6 +1,6 @@
 -- Copies of the events of a call are enough: a call continues only below its count.
 use Rattle.std.proofs.Common.{◌≡◌, ℕ, zero, suc, ◌+◌, ◌-◌, ◌<◌, ◌≤◌, ◌&&◌, ◌||◌, min, Bool, true, false, cond, not, if◌then◌else◌, nat_le, nat_lt, Option, None, Some, List, [], ◌∷◌, ◌++◌, length}
-use Rattle.std.proofs.Common.{take, drop, refl, sym, ap, subst, ◌∙◌, arith}
+use Rattle.std.proofs.Common.{take, drop, get_or, refl, sym, ap, subst, ◌∙◌, arith}
 use Rattle.std.proofs.lemmas.Bool.{and_from, and_parts, or_parts, leb-false, ltb-true}
 use Rattle.std.specs.FinMap.{contains_key}
 use Rattle.std.specs.declared.alloc.Global.{Global}
@@ -163,32 +163,13 @@ enough f by frame (e ∷ es) now most copies are is run fewer =
     let many = many_of frame most (length (e ∷ es)) more.0 more.1 fewer in
     omega arith
 
--- and they are of these events
-pub told : (by : Caller) (frame : Frame Global) (es : List (Entry Global)) (now : Frame Global) (copies : List (Event Global)) (n : ℕ) → AreElements by frame es now → AreAsking by frame copies → n ≡
-    length es → n ≤ length copies
-    → take n copies ≡ events_of es
-told by frame [] now copies zero is are count within = refl
-told by frame [] now copies (suc n) is are count within = absurd (omega arith)
-told by frame (e ∷ es) now copies zero is are count within = absurd (omega arith)
-told by frame (e ∷ es) now [] (suc n) is are count within = absurd (omega arith)
-told by frame (e ∷ es) now (c ∷ copies) (suc n) is are count within =
-    let rest = told by (restart frame (start_of frame + 1)) es now copies n is.2 are.1 (omega arith) (omega arith) in
-    let one : c ≡ e.event = are.0 ∙ sym is.0 in
-    λ i. one i ∷ rest i
+-- there is one at least, and the first is of the frame
+pub some_copies : (by : Caller) (frame : Frame Global) (most : ℕ) (copies : List (Event Global)) → AreCopies by frame most copies → 0 < most → 0 < length copies
+some_copies by frame most copies are more = let count = are.count in let some = some_of (call_of frame) frame.rcx most more in omega arith
 
-pub told_last : (by : Caller) (frame : Frame Global) (es : List (Entry Global)) (now : Frame Global) (last : Entry Global) (copies : List (Event Global)) (n : ℕ) → AreElements by frame es now →
-    last.event ≡ element by now
-    → AreAsking by frame copies → n ≡ length es + 1 → n ≤ length copies → take n copies ≡ events_of (es ++ last ∷ [])
-told_last by frame es now last copies zero is at are count within = absurd (omega arith)
-told_last by frame es now last [] (suc n) is at are count within = absurd (omega arith)
-told_last by frame [] now last (c ∷ copies) (suc zero) is at are count within =
-    let one : c ≡ last.event = are.0 ∙ ap (element by) (sym is) ∙ sym at in
-    ap (λ (x : Event Global). x ∷ []) one
-told_last by frame [] now last (c ∷ copies) (suc (suc n)) is at are count within = absurd (omega arith)
-told_last by frame (e ∷ es) now last (c ∷ copies) (suc n) is at are count within =
-    let rest = told_last by (restart frame (start_of frame + 1)) es now last copies n is.2 at are.1 (omega arith) (omega arith) in
-    let one : c ≡ e.event = are.0 ∙ sym is.0 in
-    λ i. one i ∷ rest i
+pub first_copy : (by : Caller) (frame : Frame Global) (copies : List (Event Global)) (c : Event Global) → AreAsking by frame copies → 0 < length copies → c ≡ get_or copies 0 c → c ≡ element by frame
+first_copy by frame [] c are some is = absurd (omega arith)
+first_copy by frame (x ∷ copies) c are some is = is ∙ are.0
 
 -- one more
 pub asking_more : (by : Caller) (frame : Frame Global) (es : List (Event Global)) (n : ℕ) → AreAsking by frame es → n ≡ start_of frame + length es → n < 4096 → AreAsking by frame

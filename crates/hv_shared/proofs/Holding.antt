@@ -1,11 +1,12 @@
 -- Several elements of a call under the lock.
-use Rattle.std.proofs.Common.{◌≡◌, ℕ, ◌+◌, IfOk, OnErr, Result, Ok, Err, List, [], ◌∷◌, ◌++◌, length, take, drop, refl, sym, ap, subst, ◌∙◌, arith}
-use Rattle.std.specs.Prelude.{All}
+use Rattle.std.proofs.Common.{◌≡◌, ℕ, ◌+◌, ◌≤◌, IfOk, OnErr, Result, Ok, Err, List, [], ◌∷◌, ◌++◌, length, drop, refl, sym, ap, subst, ◌∙◌, arith}
+use Rattle.std.proofs.Math.Seq.{drop-append_seam}
 use Rattle.std.proofs.lemmas.List.{length-append}
+use Rattle.std.proofs.lemmas.List.Elements.{All-push}
 use Rattle.std.specs.declared.alloc.Global.{Global}
 use Rattle.hv_abi.specs.declared.frame.Frame.{Frame}
 use Rattle.hv_history.specs.Kept.{IsRun, Kept}
-use Rattle.hv_history.specs.Row.{events_of, replies_of}
+use Rattle.hv_history.specs.Row.{DifferInRcx, asking, events_of, replies_of}
 use Rattle.hv_history.specs.Run.{HasRun, HasStopped, element}
 use Rattle.hv_history.specs.declared.entry.Entry.{Entry}
 use Rattle.hv_policy.specs.Boot.{boot}
@@ -19,17 +20,16 @@ use Rattle.hv_shared.specs.HeldValue.{HeldValue}
 use Rattle.hv_shared.specs.Hold.{HasHeld}
 use Rattle.hv_shared.specs.PassValue.{PassValue}
 use Rattle.hv_shared.specs.Receipts.{numbered}
-use Rattle.hv_shared.specs.declared.receipts.Receipt.{Receipt}
-use Rattle.hv_shared.proofs.Copies.{enough, later, sooner, told, told_last}
-use Rattle.hv_shared.proofs.Numbers.{are_numbered, count, entries_in, owned, owned_last}
+use Rattle.hv_shared.proofs.Copies.{enough, later, sooner}
+use Rattle.hv_shared.proofs.Numbers.{are_numbered, count, differ, differs, entries_in}
 
--- the history has so many entries more, which ask for what the first copies ask, all by the caller
-pub record IsGained (by : Caller) (events : ℕ) (old new : Kept Global) (copies : List (Event Global)) : Type 0 where
+-- the history has so many entries more, of events that differ from the frame's in RCX alone, and of each of which there is a copy
+pub record IsGained (by : Caller) (frame : Frame Global) (events : ℕ) (old new : Kept Global) (copies : List (Event Global)) : Type 0 where
   pub more : List (Entry Global)
   pub history : new.history ≡ old.history ++ more
   pub many : length more ≡ events
-  pub copied : take events copies ≡ events_of more
-  pub own : (n : ℕ) → All (λ (r : Receipt). r.event.by ≡ by) (numbered n more)
+  pub enough : events ≤ length copies
+  pub alike : DifferInRcx (element by frame) more
 
 module _ (by : Caller) (frame : Frame Global) (events most : ℕ) (old new : Kept Global) (copies : List (Event Global)) (run_is : IsRun new) (are : AreCopies by frame most copies) where
   -- what was gained is itself a run
@@ -37,7 +37,7 @@ module _ (by : Caller) (frame : Frame Global) (events most : ℕ) (old new : Kep
   onward more history =
       later (boot new.config) old.history more (subst (λ (es : List (Entry Global)). replies_of es ≡ (run_from (boot new.config) (events_of es)).1) history run_is.replies)
 
-  ran : (reply : Reply) → HasRun by frame reply events most old new → IsGained by events old new copies
+  ran : (reply : Reply) → HasRun by frame reply events most old new → IsGained by frame events old new copies
   ran reply is =
       let last : Entry Global = record { event = element by is.last; reply = reply } in
       let on = onward (is.before ++ last ∷ []) is.history in
@@ -48,11 +48,12 @@ module _ (by : Caller) (frame : Frame Global) (events most : ℕ) (old new : Kep
         more = is.before ++ last ∷ [];
         history = is.history;
         many = omega (arith, length-append is.before (last ∷ []));
-        copied = told_last by frame is.before is.last last copies events is.elements refl are.asking many (omega arith);
-        own = λ n. owned_last by frame is.before is.last last n is.elements refl;
+        enough = omega arith;
+        alike = All-push (λ (d : Entry Global). asking d.event 0 ≡ asking (element by frame) 0) is.before last
+            (differ by frame is.before is.last is.elements) (differs by frame is.before is.last is.elements);
       }
 
-  stopped : HasStopped by frame events most old new → IsGained by events old new copies
+  stopped : HasStopped by frame events most old new → IsGained by frame events old new copies
   stopped is =
       let on = onward is.before is.history in
       let many = is.count in
@@ -62,27 +63,24 @@ module _ (by : Caller) (frame : Frame Global) (events most : ℕ) (old new : Kep
         more = is.before;
         history = is.history;
         many = sym many;
-        copied = told by frame is.before is.now copies events is.elements are.asking many (omega arith);
-        own = λ n. owned by frame is.before is.now n is.elements;
+        enough = omega arith;
+        alike = differ by frame is.before is.now is.elements;
       }
 
-  pub gained : {E : Type 0} (last : Result Reply E) → IfOk last (λ reply. HasRun by frame reply events most old new) → OnErr last (HasStopped by frame events most old new) → IsGained by events old new
-      copies
+  pub gained : {E : Type 0} (last : Result Reply E) → IfOk last (λ reply. HasRun by frame reply events most old new) → OnErr last (HasStopped by frame events most old new)
+      → IsGained by frame events old new copies
   gained (Ok reply) is other = ran reply is
   gained (Err why) other is = stopped is
 
 pub tail_is : (all old more : List (Entry Global)) (from : ℕ) → all ≡ old ++ more → from ≡ length old → drop from all ≡ more
-tail_is all old more from is at = (λ i. drop (at i) (is i)) ∙ past old more
-  where
-    past : (old more : List (Entry Global)) → drop (length old) (old ++ more) ≡ more
-    past [] more = refl
-    past (e ∷ old) more = past old more
+tail_is all old more from is at = (λ i. drop (at i) (is i)) ∙ drop-append_seam old more
 
 -- the receipts of what was gained
-pub held : (by : Caller) (events : ℕ) (copies : List (Event Global)) (h k : HeldValue) (p q : PassValue) → IsGained by events h.kept k.kept copies → k.count ≡ h.count + events
+pub held : (by : Caller) (frame : Frame Global) (events : ℕ) (copies : List (Event Global)) (h k : HeldValue) (p q : PassValue) → IsGained by frame events h.kept k.kept copies
+    → k.count ≡ h.count + events
     → (all : List (Entry Global)) (from : ℕ) → all ≡ k.kept.history → from ≡ length h.kept.history → q.receipts ≡ p.receipts ++ numbered (from + 1) (drop from all) → q.share ≡ p.share + events →
     q.caller ≡ p.caller → HasHeld h k p q
-held by events copies h k p q is counted all from all_is at receipts share caller =
+held by frame events copies h k p q is counted all from all_is at receipts share caller =
     let n = length h.kept.history + 1 in
     let tail = tail_is all h.kept.history is.more from (all_is ∙ is.history) at in
     let many : events ≡ length (numbered n is.more) = sym (count n is.more ∙ is.many) in

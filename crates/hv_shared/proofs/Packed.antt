@@ -1,16 +1,16 @@
 -- What stands in packed receipts.
-use Rattle.std.proofs.Common.{◌≡◌, ℕ, suc, zero, Some, ◌<◌, ◌≤◌, ◌==◌, List, [], ◌∷◌, ◌++◌, length, drop, get_or, false, refl, sym, ap, subst, ◌∙◌, ◌+◌, arith}
+use Rattle.std.proofs.Common.{◌≡◌, ℕ, suc, zero, Some, ◌<◌, ◌≤◌, ◌==◌, List, [], ◌∷◌, ◌++◌, length, drop, get_or, false, refl, sym, ap, subst, ◌∙◌, ◌+◌, ◌-◌, arith, append_assoc, append-nil}
 use Rattle.std.proofs.lemmas.List.{drop_all, length-append}
 use Rattle.std.proofs.lemmas.List.Elements.{All-append}
 use Rattle.std.proofs.lemmas.Option.{slice_get-get_or}
-use Rattle.std.specs.List.{slice_get}
+use Rattle.std.specs.List.{range_with_len, slice_get}
 use Rattle.std.specs.Prelude.{All, option_map}
 use Rattle.std.specs.declared.alloc.Global.{Global}
 use Rattle.hv_history.specs.declared.entry.Entry.{Entry}
 use Rattle.hv_policy.specs.declared.event.Caller.{Caller}
 use Rattle.hv_shared.specs.Merge.{IsOf, next_is}
 use Rattle.hv_shared.specs.PassValue.{IsPass}
-use Rattle.hv_shared.specs.Receipts.{receipt_of, receipts_from}
+use Rattle.hv_shared.specs.Receipts.{numbered, receipt_of, receipts_from}
 use Rattle.hv_shared.specs.declared.receipts.Receipt.{Receipt}
 
 pub count : (ns : List ℕ) (es : List (Entry Global)) → length ns ≡ length es → length (receipts_from ns es) ≡ length ns
@@ -37,6 +37,40 @@ more [] [] n e same = refl
 more [] (d ∷ es) n e same = cc
 more (m ∷ ns) [] n e same = cc
 more (m ∷ ns) (d ∷ es) n e same = ap (λ (rs : List Receipt). receipt_of m d ∷ rs) (more ns es n e (omega (arith, same)))
+
+numbered_is : (es : List (Entry Global)) (n : ℕ) → receipts_from (range_with_len n (length es)) es ≡ numbered n es
+numbered_is [] n = refl
+numbered_is (e ∷ es) n = ap (λ (rs : List Receipt). receipt_of n e ∷ rs) (numbered_is es (n + 1))
+
+-- receipts more, with the numbers from one on
+pub all_more : (ns : List ℕ) (es more : List (Entry Global)) (n : ℕ) → length ns ≡ length es
+    → receipts_from (ns ++ range_with_len n (length more)) (es ++ more) ≡ receipts_from ns es ++ numbered n more
+all_more [] [] more n same = numbered_is more n
+all_more [] (d ∷ es) more n same = cc
+all_more (m ∷ ns) [] more n same = cc
+all_more (m ∷ ns) (d ∷ es) more n same = ap (λ (rs : List Receipt). receipt_of m d ∷ rs) (all_more ns es more n (omega (arith, same)))
+
+range-more : (a n : ℕ) → range_with_len a (suc n) ≡ range_with_len a n ++ (a + n) ∷ []
+range-more a zero = ap (λ (k : ℕ). k ∷ []) (omega arith)
+range-more a (suc n) =
+    let place : a + 1 + n ≡ a + suc n = omega arith in
+    ap (λ (xs : List ℕ). a ∷ xs) (range-more (a + 1) n) ∙ ap (λ (k : ℕ). a ∷ (range_with_len (a + 1) n ++ k ∷ [])) place
+
+-- none of them yet
+pub no_numbers : (old : List ℕ) (from : ℕ) → old ≡ old ++ range_with_len (from + 1) (from - from)
+no_numbers old from =
+    let none : zero ≡ from - from = omega arith in
+    sym (append-nil old) ∙ ap (λ (n : ℕ). old ++ range_with_len (from + 1) n) none
+
+-- one number more of those behind one
+pub number-push : (old now : List ℕ) (from at n : ℕ) → from ≤ at → n ≡ at + 1 → now ≡ old ++ range_with_len (from + 1) (at - from)
+    → now ++ n ∷ [] ≡ old ++ range_with_len (from + 1) (at + 1 - from)
+number-push old now from at n above is so_far =
+    let count : at + 1 - from ≡ suc (at - from) = omega arith in
+    let place : n ≡ from + 1 + (at - from) = omega (arith, is) in
+    ap (λ (xs : List ℕ). xs ++ n ∷ []) so_far ∙ append_assoc old (range_with_len (from + 1) (at - from)) (n ∷ [])
+    ∙ ap (λ (k : ℕ). old ++ (range_with_len (from + 1) (at - from) ++ k ∷ [])) place
+    ∙ sym (ap (λ (xs : List ℕ). old ++ xs) (ap (range_with_len (from + 1)) count ∙ range-more (from + 1) (at - from)))
 
 pub past_all : (rs : List Receipt) (k : ℕ) → length rs ≤ k → drop k rs ≡ []
 past_all rs k past = drop_all k rs past

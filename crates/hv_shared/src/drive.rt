@@ -65,8 +65,7 @@ pub(crate) fn prepare<L: Ledger>(
     pass.reserve(count as usize)?;
     let InputValue { start, .. } = InputValue::read(frame.rcx);
     let by = pass.caller();
-    let mut copies = Vec::new(pass.receipts().allocator());
-    copies.reserve(count as usize)?;
+    let mut copies = pass.take_copies(count as usize)?;
     for i in 0..count as u16 {
         let what = Action::Hypercall(frame.copy()?.with_start(start + i));
         copies.push_reserved(Event { by, what });

@@ -1,7 +1,7 @@
 // What the lock protects, what each thread owns, and the steps that change both. The fields of `Held` and
 // `Pass` are private to this file and the settlement.
 ghost use Rattle.std.specs.Prelude.{◌≡◌, ◌<◌, ◌≤◌, ◌+◌, [], IsTrue, ◌↔◌, IfOk, OnOk, OnErr, IsErrOf};
-ghost use Rattle.std.specs.Prelude.{IfErr, Some, length, slice_get, vec_len};
+ghost use Rattle.std.specs.Prelude.{IfErr, Some, length, slice_get, vec_len, vec_capacity};
 ghost use Rattle.hv_abi.specs.declared.frame.Frame.{Frame};
 ghost use Rattle.hv_policy.specs.Next.{GoesOn};
 ghost use Rattle.hv_policy.specs.Result.{HasResult};
@@ -25,6 +25,7 @@ use hv_history::{History, HostRefused, Kept, RunDone};
 use hv_policy::{Caller, Event, Reply};
 use std::alloc::{AllocError, Global};
 use std::marker::Model;
+use std::mem;
 use std::sync::ledger::{Blank, Book, Ledger, Share};
 
 mod settlement;
@@ -45,6 +46,8 @@ pub struct Pass<L: Ledger> {
     settled: usize,
     // The number at which it finds the next one, or `NEVER`.
     due: u64,
+    // The copies that no receipt of the last hold took. The next hold uses their block again.
+    copies: Vec<Event<Global>>,
 }
 
 impl<L: Ledger> Model for Pass<L> {
@@ -118,6 +121,20 @@ impl<L: Ledger> Pass<L> {
         self.receipts.reserve(more)
     }
 
+    // Returns an empty list with room for `count` copies, in the block of the last hold's copies.
+    pub(crate) fn take_copies(&mut self, count: usize) -> Result<Vec<Event<Global>>, AllocError>
+        ensures empty { IfOk result (λ copies. copies.items ≡ []) }
+        ensures len { IfOk result (λ copies. vec_len copies ≡ 0) }
+        ensures room { IfOk result (λ copies. count ≤ vec_capacity copies) }
+        ensures same { self.new ≡ self.old }
+    {
+        let none = Vec::new(self.receipts.allocator());
+        let mut copies = mem::replace(&mut self.copies, none);
+        copies.clear();
+        copies.reserve(count)?;
+        Ok(copies)
+    }
+
     // A pass without receipts, with one part of the count.
     fn open(alloc: Global, caller: Caller, share: Share<L>) -> Result<Pass<L>, AllocError>
         requires { (share.parts ≡ 1) × (share.amount ≡ 0) }
@@ -130,6 +147,7 @@ impl<L: Ledger> Pass<L> {
             share,
             settled: 0,
             due: NEVER,
+            copies: Vec::new(alloc),
         })
     }
 
@@ -311,9 +329,10 @@ impl<L: Ledger> Held<L> {
         self.count.add(&mut pass.share, u64::from(done.events));
         // proof: a history's length fits 32 bits.
         let _limit = self.kept.limit();
-        let mut told = copies;
-        told.truncate(done.events as usize);
-        pass.receipts.push_all(self.kept.history(), from, told);
+        let mut copies = copies;
+        let first = copies.swap_remove(0);
+        pass.receipts.push_all(self.kept.history(), from, first);
+        pass.copies = copies;
         done
     }
 

@@ -1,10 +1,11 @@
 // The receipts of a thread, packed as a history is, with a number beside each entry.
 ghost use Rattle.std.specs.Prelude.{◌≡◌, ◌+◌, ◌<◌, ◌≤◌, ◌^◌, ◌++◌, ◌↔◌, [], ◌∷◌, IsTrue, OnOk, Some, drop};
-ghost use Rattle.std.specs.Prelude.{length, option_map, slice_get, vec_len};
+ghost use Rattle.std.specs.Prelude.{◌-◌, length, option_map, slice_get, vec_len, vec_capacity};
+ghost use Rattle.std.specs.List.{range_with_len};
 ghost use Rattle.hv_defs.specs.declared.sizes.TheConstants.{REPS_END};
 ghost use Rattle.hv_policy.specs.Parts.{next_in, reply_of};
 ghost use Rattle.hv_history.specs.History.{entries};
-ghost use Rattle.hv_history.specs.Row.{events_of};
+ghost use Rattle.hv_history.specs.Row.{DifferInRcx};
 ghost use Rattle.hv_history.specs.declared.entry.Entry.{Entry};
 
 use hv_history::{Answer, EntryRef, History};
@@ -123,27 +124,30 @@ impl Receipts {
         self.packed.push(event, answer, output);
     }
 
-    // Adds a receipt of each event of a history from a place on. `copies` has a copy of each.
-    pub(crate) fn push_all(
-        &mut self,
-        history: &History<Global>,
-        from: usize,
-        copies: Vec<Event<Global>>,
-    )
-        requires copies { copies.items ≡ events_of (drop from (entries history.now)) }
-        requires within { from ≤ length (entries history.now) }
+    // Adds a receipt of each event of a history from a place on. There is room for them, and `copy` differs
+    // from each of them in RCX alone.
+    pub(crate) fn push_all(&mut self, history: &History<Global>, from: usize, copy: Event<Global>)
+        requires alike { DifferInRcx copy (drop from (entries history.now)) }
+        requires from { from ≤ length (entries history.now) }
         requires few { length (entries history.now) < 2 ^ 32 }
-        requires room { vec_len copies ≤ room_in self.old }
+        requires room { length (entries history.now) ≤ from + room_in self.old }
         ensures { list_of self.new ≡ list_of self.old
             ++ numbered (from + 1) (drop from (entries history.now)) }
     {
-        let mut left = copies;
-        left.reverse();
-        let mut at = from;
-        while let Some(copy) = left.pop() {
-            let entry = history.entry(at);
-            at += 1;
-            self.push(at as u32, copy, entry.answer, entry.output);
-        }
+        push_numbers(&mut self.numbers, from, history.len());
+        self.packed.push_all(copy, history, from);
+    }
+}
+
+// Adds the numbers above `from` up to `to`, for which there is room.
+fn push_numbers(numbers: &mut Vec<u32>, from: usize, to: usize)
+    requires order { from ≤ to }
+    requires few { to < 2 ^ 32 }
+    requires room { vec_len numbers.old + (to - from) ≤ vec_capacity numbers.old }
+    ensures len { vec_len numbers.new ≡ vec_len numbers.old + (to - from) }
+    ensures items { numbers.new.items ≡ numbers.old.items ++ range_with_len (from + 1) (to - from) }
+{
+    for at in from..to {
+        numbers.push_reserved(at as u32 + 1);
     }
 }
