@@ -6,7 +6,7 @@ use Rattle.std.proofs.lemmas.List.{drop_more, get_or-map, length-map, map-append
 use Rattle.std.proofs.lemmas.List.Elements.{All-cons, All-head, All-nil, All-push, All-tail, Contains-append_left, Contains-push}
 use Rattle.std.specs.declared.alloc.Global.{Global}
 use Rattle.hv_policy.specs.declared.event.Caller.{Caller}
-use Rattle.hv_phases.specs.PassMap.{AreBusy, AreKeyed, PassMap, HasJoined, HasLent, HasRunPhase, HasRunPhases, HasTaken, HaveGained, IsGiven, IsWithin, IsWorkOf, Past, last_in, member_of}
+use Rattle.hv_phases.specs.PassMap.{AreBusy, AreKeyed, PassMap, HasJoined, HasLent, HasRunPhase, HasRunGroups, HasTaken, HaveGained, IsGiven, IsWithin, IsWorkOf, Past, last_in, member_of}
 use Rattle.hv_phases.specs.Lines.{asked_by}
 use Rattle.hv_phases.specs.declared.pass_map.PassEntry.{PassEntry}
 use Rattle.hv_phases.proofs.Members.{each_without, ended, idle_given, joined, none_there, some_there, worked}
@@ -36,7 +36,7 @@ callers_done dones = map (λ done. done.pass.caller) dones
 
 done_at : {L : Type 0} (past : List Past) (taken : List (Line Global)) (last now : ℕ) (works : List (Work L)) (counts : List ℕ) (dones : List (Done L)) → last_in 0 past ≡ last → EachDone works dones
     → counts ≡ map (λ w. length w.pass.receipts) works → HaveGained counts last now dones → All (IsWorkOf past taken) works → All (λ d. d.end ≡ Finished) dones
-    → All (λ d. HasRunPhases (past ++ ended taken now ∷ []) d.pass) dones
+    → All (λ d. HasRunGroups (past ++ ended taken now ∷ []) d.pass) dones
 done_at {L} past taken last now works counts dones last_is did counted gained all ended_well k d less =
     let w = some_work works (let c = did.count in omega arith) in
     let there : k < length works = let c = did.count in omega arith in
@@ -104,7 +104,7 @@ module _ {L S : Type 0} where
               let g = (w.0 by m was).1 in (
                 each_without now new by others (IsGiven past taken) gone w.0,
                 All-push (IsWorkOf past taken) works work w.1
-                    (record { run = subst (HasRunPhases past) (sym pass) g.run; asked = asked ∙ g.asked ∙ ap (λ (p : PassValue). asked_by p.caller taken) (sym pass) }),
+                    (record { run = subst (HasRunGroups past) (sym pass) g.run; asked = asked ∙ g.asked ∙ ap (λ (p : PassValue). asked_by p.caller taken) (sym pass) }),
               );
           idle = fewer_busy;
           there = λ keyed.
@@ -165,11 +165,11 @@ module _ {L S : Type 0} where
         each = λ past all each.
             joined (IsGiven past []) done.pass stopped now new is
             (λ m same idle still. record {
-              run = subst (HasRunPhases past) (sym same) (All-head (λ (d : Done L). HasRunPhases past d.pass) done dones all);
+              run = subst (HasRunGroups past) (sym same) (All-head (λ (d : Done L). HasRunGroups past d.pass) done dones all);
               asked = idle;
               going = still ∙ going;
             })
-            (so_far.each past (All-tail (λ (d : Done L). HasRunPhases past d.pass) done dones all) each);
+            (so_far.each past (All-tail (λ (d : Done L). HasRunGroups past d.pass) done dones all) each);
         there = λ c there.
             either done.pass.caller c
             (λ same. some_there (member_of c new) is.member (ap (λ (x : Caller). member_of x new) same ∙ is.here))

@@ -2,7 +2,6 @@ pub mod Asked
 pub mod Behind
 pub mod PassMaps
 pub mod Handing
-pub mod InOrder
 pub mod Lending
 pub mod Members
 pub mod Named

@@ -1,6 +1,6 @@
 -- A crew that changes at one processor.
 use Rattle.std.proofs.Common.{◌≡◌, ℕ, List, [], ◌∷◌, ◌++◌, drop, length, refl, sym, ap, ◌∙◌, subst, append-nil, Bool, false, Option, Some, None, inl, inr}
-use Rattle.std.specs.Prelude.{All, IsSome, is_some}
+use Rattle.std.specs.Prelude.{All, IfSome, IsSome, is_some}
 use Rattle.std.specs.List.{Contains}
 use Rattle.std.proofs.lemmas.Bool.{false≢true}
 use Rattle.std.proofs.lemmas.List.{drop_at}
@@ -8,17 +8,18 @@ use Rattle.std.proofs.lemmas.List.Elements.{All-nil}
 use Rattle.std.specs.declared.alloc.Global.{Global}
 use Rattle.hv_policy.specs.declared.event.Action.{Action}
 use Rattle.hv_policy.specs.declared.event.Caller.{Caller}
-use Rattle.hv_phases.specs.PassMap.{AreBehind, PassMap, Each, HasDone, HasGiven, HasJoined, HasRun, HasRunPhases, IsGiven, IsReady, IsWithin, IsWorkOf, Past, StayThere, last_in, member_of}
+use Rattle.hv_phases.specs.PassMap.{AreBehind, PassMap, Each, HasGiven, HasJoined, HasRunGroups, HasRunLine, IsGiven, IsWithin, IsWorkOf, Past, StayThere, highest_above, last_in, member_of}
 use Rattle.hv_phases.specs.Lines.{asked_by}
 use Rattle.hv_phases.specs.declared.pass_map.PassEntry.{PassEntry}
 use Rattle.hv_phases.proofs.Asked.{asked_by-append, asked_by_other, asked_by_own}
 use Rattle.hv_phases.proofs.Behind.{behind-push}
 use Rattle.hv_phases.proofs.Named.{either}
+use Rattle.hv_phases.proofs.Numbers.{all_above}
 use Rattle.hv_script.specs.declared.line.Line.{Line}
+use Rattle.hv_shared.specs.Pass.{HasReceipts}
 use Rattle.hv_shared.specs.PassValue.{PassValue}
 use Rattle.hv_threads.specs.Perform.{AreWhole, HasPerformed}
 use Rattle.hv_shared.specs.declared.receipts.Receipt.{Receipt}
-use Rattle.hv_threads.proofs.Working.{whole-push}
 use Rattle.hv_threads.specs.Phase.{HasEnded, IsDone}
 use Rattle.hv_threads.specs.declared.phase.Done.{Done}
 use Rattle.hv_threads.specs.declared.phase.End.{End}
@@ -33,35 +34,34 @@ asked_still : (c : Caller) (taken : List (Line Global)) (line : Line Global) →
 asked_still c taken line other =
     asked_by-append c taken (line ∷ []) ∙ ap (λ (acts : List (Action Global)). asked_by c taken ++ acts) (asked_by_other c line other) ∙ append-nil (asked_by c taken)
 
--- a line was run
-run_more : (line : Line Global) (ran : List (Line Global)) (p q : PassValue) → line.by ≡ p.caller → HasRun ran p → HasPerformed line.action p q → HasRun (ran ++ line ∷ []) q
-run_more line ran p q own run did =
-    subst (λ (c : Caller). AreWhole c (asked_by c (ran ++ line ∷ [])) q.receipts) (sym did.gained.caller)
-    (subst (λ (rs : List Receipt). AreWhole p.caller (asked_by p.caller (ran ++ line ∷ [])) rs) (sym did.gained.receipts)
-    (subst (λ (acts : List (Action Global)). AreWhole p.caller acts (p.receipts ++ did.more)) (sym (asked_more p.caller ran line own))
-    (whole-push p.caller (asked_by p.caller ran) p.receipts line.action did.more run did.whole)))
-
--- a phase of these lines, until whose end this number is the highest
+-- a group of these lines, until whose end this number is the highest
 abbrev pub ended : List (Line Global) → ℕ → Past
 ended lines last = record { lines = lines; last = last }
 
--- what a thread did that the host didn't stop, behind all that was done before
+-- what a processor did of these lines, behind all that was done before
+grown : (past : List Past) (taken : List (Line Global)) (now : ℕ) (more : List Receipt) (p q : PassValue) → HasReceipts more p q → HasRunGroups past p → AreWhole p.caller
+    (asked_by p.caller taken) more
+    → All (IsWithin (last_in 0 past) now) more → HasRunGroups (past ++ ended taken now ∷ []) q
+grown past taken now more p q gained run whole within =
+    subst (λ (c : Caller). AreBehind c 0 (past ++ ended taken now ∷ []) q.receipts) (sym gained.caller)
+    (subst (AreBehind p.caller 0 (past ++ ended taken now ∷ [])) (sym gained.receipts) (behind-push p.caller 0 past p.receipts (ended taken now) more run whole within))
+
+gained_is : (more : List Receipt) (p q : PassValue) → HasReceipts more p q → drop (length p.receipts) q.receipts ≡ more
+gained_is more p q gained = ap (drop (length p.receipts)) gained.receipts ∙ drop_at p.receipts more (length p.receipts) refl
+
+-- what a thread did that the host didn't stop
 pub worked : {L : Type 0} (past : List Past) (taken : List (Line Global)) (now : ℕ) (work : Work L) (done : Done L) → IsDone work done.pass done.done done.end → done.end ≡ Finished → IsWorkOf past
     taken work
-    → All (IsWithin (last_in 0 past) now) (drop (length work.pass.receipts) done.pass.receipts) → HasRunPhases (past ++ ended taken now ∷ []) done.pass
-worked past taken now work done did finished is behind =
+    → All (IsWithin (last_in 0 past) now) (drop (length work.pass.receipts) done.pass.receipts) → HasRunGroups (past ++ ended taken now ∷ []) done.pass
+worked past taken now work done did finished is within =
     let by = work.pass.caller in
     let a = did.account in
     let e : HasEnded by Finished a.left a.part = subst (λ (end : End). HasEnded by end a.left a.part) finished a.ended in
     let actions : a.did ≡ asked_by by taken = sym (append-nil a.did) ∙ ap (λ (l : List (Action Global)). a.did ++ l) (sym e.0) ∙ a.in_order ∙ is.asked in
     let more : a.whole ≡ did.more = sym (append-nil a.whole) ∙ ap (λ (l : List Receipt). a.whole ++ l) (sym e.1) ∙ sym a.all in
-    let gained : drop (length work.pass.receipts) done.pass.receipts ≡ did.more =
-    ap (drop (length work.pass.receipts)) did.gained.receipts ∙ drop_at work.pass.receipts did.more (length work.pass.receipts) refl in
-    subst (λ (c : Caller). AreBehind c 0 (past ++ ended taken now ∷ []) done.pass.receipts) (sym did.gained.caller)
-    (subst (λ (rs : List Receipt). AreBehind by 0 (past ++ ended taken now ∷ []) rs) (sym did.gained.receipts)
-    (behind-push by 0 past work.pass.receipts (ended taken now) did.more is.run
-    (subst (λ (acts : List (Action Global)). AreWhole by acts did.more) actions (subst (λ (rs : List Receipt). AreWhole by a.did rs) more a.are_whole))
-    (subst (All (IsWithin (last_in 0 past) now)) gained behind)))
+    grown past taken now did.more work.pass done.pass did.gained is.run
+    (subst (λ (acts : List (Action Global)). AreWhole by acts did.more) actions (subst (AreWhole by a.did) more a.are_whole))
+    (subst (All (IsWithin (last_in 0 past) now)) (gained_is did.more work.pass done.pass did.gained) within)
 
 -- nothing was asked of it
 pub idle_given : {L : Type 0} (past : List Past) (taken : List (Line Global)) (now : ℕ) (m : PassEntry L) → IsGiven past taken m → m.asked.items ≡ [] → IsGiven (past ++ ended taken now ∷ []) [] m
@@ -127,7 +127,7 @@ module _ {L S : Type 0} (line : Line Global) (old new : PassMap L S) (m n : Pass
             let same : n.pass.caller ≡ m.pass.caller = ap (λ (p : PassValue). p.caller) pass in
             each_changed old new line.by others (IsGiven past taken) (IsGiven past (taken ++ line ∷ [])) n here (same ∙ g.0)
             (record {
-              run = subst (HasRunPhases past) (sym pass) g.1.run;
+              run = subst (HasRunGroups past) (sym pass) g.1.run;
               asked = asked ∙ ap (λ (l : List (Action Global)). l ++ line.action ∷ []) g.1.asked ∙ sym (asked_more m.pass.caller taken line (sym g.0))
                   ∙ ap (λ (c : Caller). asked_by c (taken ++ line ∷ [])) (sym same);
               going = stopped ∙ g.1.going;
@@ -148,21 +148,39 @@ module _ {L S : Type 0} (line : Line Global) (old new : PassMap L S) (m n : Pass
       }
 
   -- a line was run
-  pub done_more : HasPerformed line.action m.pass n.pass → n.asked.items ≡ m.asked.items → n.stopped ≡ false → HasDone line old new
-  done_more did asked going =
+  line_run : (last now : ℕ) → HasPerformed line.action m.pass n.pass → highest_above last last (drop (length m.pass.receipts) n.pass.receipts) ≡ Some now → n.asked.items ≡ m.asked.items
+      → n.stopped ≡ false → HasRunLine line last now old new
+  line_run last now did above asked going =
+      let are = all_above last last now did.more (ap (highest_above last last) (sym (gained_is did.more m.pass n.pass did.gained)) ∙ above) in
       record {
-        each = λ ran there each.
+        rises = are.0;
+        each = λ past last_is there each.
             let g = each line.by m was in
-            each_changed old new line.by others (IsReady ran) (IsReady (ran ++ line ∷ [])) n here (did.gained.caller ∙ g.0)
-            (record { run = run_more line ran m.pass n.pass (sym g.0) g.1.run did; asked = asked ∙ g.1.asked; going = going })
-            (λ c x other keyed is. record {
-              run = subst (λ (acts : List (Action Global)). AreWhole x.pass.caller acts x.pass.receipts) (sym (asked_still x.pass.caller ran line (not_own c x other keyed))) is.run;
-              asked = is.asked;
-              going = is.going;
-            })
-            each;
-        there = stay_changed old new line.by others n here;
+            let whole : AreWhole m.pass.caller (asked_by m.pass.caller (line ∷ [])) did.more =
+            subst (λ (acts : List (Action Global)). AreWhole m.pass.caller acts did.more) (sym (asked_by_own m.pass.caller line (sym g.0)))
+            (did.more, [], sym (append-nil did.more), did.whole, refl) in (
+              each_changed old new line.by others (IsGiven past []) (IsGiven (past ++ ended (line ∷ []) now ∷ []) []) n here (did.gained.caller ∙ g.0)
+                  (record {
+                    run = grown past (line ∷ []) now did.more m.pass n.pass did.gained g.1.run whole (subst (λ (low : ℕ). All (IsWithin low now) did.more) (sym last_is) are.1);
+                    asked = asked ∙ g.1.asked;
+                    going = going;
+                  })
+                  (λ c x other keyed is.
+                  let given : IsGiven past (line ∷ []) x = record {
+                    run = is.run;
+                    asked = is.asked ∙ sym (asked_by_other x.pass.caller line (not_own c x other keyed));
+                    going = is.going;
+                  } in
+                  idle_given past (line ∷ []) now x given is.asked)
+                  each,
+              stay_changed old new line.by others n here,
+            );
       }
+
+  pub line_told : (last : ℕ) (told : Option ℕ) → HasPerformed line.action m.pass n.pass → told ≡ highest_above last last (drop (length m.pass.receipts) n.pass.receipts)
+      → n.asked.items ≡ m.asked.items → n.stopped ≡ false → IfSome told (λ now. HasRunLine line last now old new)
+  line_told last None did is asked going = tt
+  line_told last (Some now) did is asked going = line_run last now did (sym is) asked going
 
 -- a pass joined
 pub joined : {L S : Type 0} (P : PassEntry L → Type 0) (pass : PassValue) (stopped : Bool) (old new : PassMap L S) → HasJoined pass stopped old new

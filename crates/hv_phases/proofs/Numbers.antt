@@ -1,14 +1,22 @@
 -- The numbers of receipts that a phase gained.
-use Rattle.std.proofs.Common.{◌≡◌, ℕ, ◌+◌, ◌<◌, ◌≤◌, max, List, [], ◌∷◌, length, get_or, drop, refl, sym, ap, ◌∙◌, subst, arith, Bool, true, false, Option, None, Some}
+use Rattle.std.proofs.Common.{◌≡◌, ℕ, zero, suc, ◌+◌, ◌<◌, ◌≤◌, max, List, [], ◌∷◌, length, get_or, drop, refl, sym, ap, ◌∙◌, subst, arith, Bool, true, false, Option, None, Some}
 use Rattle.std.specs.Prelude.{All, if◌then◌else◌, nat_lt, option_map, slice_get}
 use Rattle.std.proofs.lemmas.Bool.Decides.{nat_tests}
 use Rattle.std.proofs.lemmas.List.{get_or_default}
 use Rattle.std.proofs.lemmas.List.Elements.{All-cons, All-nil, All-weaker}
 use Rattle.std.proofs.lemmas.Option.{none-some, same_Some}
 use Rattle.hv_phases.specs.PassMap.{HaveGained, IsWithin, highest_above}
-use Rattle.hv_phases.proofs.InOrder.{here_is}
 use Rattle.hv_shared.specs.declared.receipts.Receipt.{Receipt}
 use Rattle.hv_threads.specs.declared.phase.Done.{Done}
+
+-- the receipt at a place, where its number is known
+here_is : (list : List Receipt) (at number : ℕ) → option_map (λ r. r.number) (slice_get list at) ≡ Some number → (r : Receipt) × (r.number ≡ number) × (drop at list ≡ r ∷ drop (at + 1) list)
+here_is [] at number is = absurd (none-some number is)
+here_is (r ∷ rs) zero number is = (r, same_Some r.number number is, refl)
+here_is (r ∷ rs) (suc k) number is =
+    let rest = here_is rs k number is in
+    let at : suc (k + 1) ≡ suc k + 1 = omega arith in
+    (rest.0, rest.1, rest.2 ∙ ap (λ (l : List Receipt). rest.0 ∷ l) (ap (λ (n : ℕ). drop n (r ∷ rs)) at))
 
 is_above : (low number : ℕ) → low < number → nat_lt low number ≡ true
 is_above low number above = grind (arith, nat_tests)
@@ -34,7 +42,7 @@ module _ (list : List Receipt) (at last highest number : ℕ) (is : option_map (
   pub above_ends : number ≤ last → highest_above last highest (drop at list) ≡ None
   above_ends below = looked false (ap (nat_lt last) (here_is list at number is).1 ∙ not_above last number below)
 
-all_above : (last highest now : ℕ) (list : List Receipt) → highest_above last highest list ≡ Some now → (highest ≤ now) × All (IsWithin last now) list
+pub all_above : (last highest now : ℕ) (list : List Receipt) → highest_above last highest list ≡ Some now → (highest ≤ now) × All (IsWithin last now) list
 all_above last highest now [] is = ((let same : highest ≡ now = same_Some highest now is in omega (arith, same)), All-nil (IsWithin last now))
 all_above last highest now (r ∷ list) is = by (nat_lt last r.number) refl is (λ rest. all_above last (max highest r.number) now list rest)
   where

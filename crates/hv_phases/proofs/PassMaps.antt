@@ -1,15 +1,14 @@
 -- A crew of fresh passes, and its passes that go back.
-use Rattle.std.proofs.Common.{◌≡◌, ℕ, zero, suc, ◌+◌, ◌<◌, ◌≤◌, List, [], ◌∷◌, ◌++◌, length, get_or, take, refl, sym, ap, ◌∙◌, subst, arith, false, Option, Some, None, inl, inr}
+use Rattle.std.proofs.Common.{◌≡◌, ℕ, zero, suc, ◌+◌, ◌<◌, ◌≤◌, List, [], ◌∷◌, ◌++◌, length, get_or, take, refl, sym, ap, ◌∙◌, subst, arith, Bool, false, Option, Some, None, inl, inr}
 use Rattle.std.specs.Prelude.{◌⊎◌, All, map, IsSome}
 use Rattle.std.specs.List.{Contains}
 use Rattle.std.proofs.lemmas.List.{map-append, take_more}
 use Rattle.std.proofs.lemmas.List.Elements.{All-nil, All-push}
 use Rattle.std.specs.declared.alloc.Global.{Global}
 use Rattle.hv_policy.specs.declared.event.Caller.{Caller}
-use Rattle.hv_phases.specs.PassMap.{AreCallersOf, AreKeyed, PassMap, Each, HasJoined, HasRun, HasRunAll, HasRunAllPhases, HasRunInOrder, HasRunPhases, HaveMembers, HaveRun, HaveRunInOrder}
-use Rattle.hv_phases.specs.PassMap.{HaveRunPhases, IsBack, IsHeld, IsReady, IsThere, IsToldOf, member_of}
+use Rattle.hv_phases.specs.PassMap.{AreCallersOf, AreKeyed, PassMap, Each, HasJoined, HasRunAll, HasRunGroups, HaveMembers, HaveRun, IsBack, IsGiven, IsHeld, IsThere, member_of}
 use Rattle.hv_phases.specs.declared.pass_map.PassEntry.{PassEntry}
-use Rattle.hv_phases.proofs.Handing.{before_last, keyed, last_of}
+use Rattle.hv_phases.proofs.Handing.{before_last, last_of}
 use Rattle.hv_phases.proofs.Members.{joined, none_there, some_there}
 use Rattle.hv_phases.proofs.Named.{either, split_last}
 use Rattle.hv_script.specs.declared.line.Line.{Line}
@@ -22,7 +21,7 @@ callers_of passes = map (λ pass. pass.caller) passes
 module _ {L S : Type 0} where
   -- so many of these passes are left, and the others are in the crew
   pub record IsPartly (passes left : List PassValue) (pass_map : PassMap L S) : Type 0 where
-    pub ready : Each (IsReady []) pass_map
+    pub ready : Each (IsGiven [] []) pass_map
     pub fresh : All (λ pass. pass.receipts ≡ []) left
     pub there : (c : Caller) → Contains (callers_of passes) c → Contains (callers_of left) c ⊎ IsThere pass_map c
 
@@ -38,9 +37,9 @@ module _ {L S : Type 0} where
       passes rest new
   partly_more passes left rest pass old new at is did =
       record {
-        ready = joined (IsReady []) pass false old new did
+        ready = joined (IsGiven [] []) pass false old new did
             (λ m same idle still. record {
-              run = subst (HasRun []) (sym same) (last_of (λ (p : PassValue). p.receipts ≡ []) left rest pass is at.fresh);
+              run = subst (HasRunGroups []) (sym same) (last_of (λ (p : PassValue). p.receipts ≡ []) left rest pass is at.fresh);
               asked = idle;
               going = still;
             })
@@ -141,29 +140,13 @@ module _ {L S : Type 0} where
   named_there lines callers pass_map of have k d less = have _ (of.named k d less)
 
   -- the passes after all lines
-  pub have_run : (lines : List (Line Global)) (callers : List Caller) (passes : List PassValue) (old new : PassMap L S) → AreCallersOf lines callers → HaveMembers callers old → HasRunAll lines old new
-      → IsBack new callers passes → HaveRun lines passes
-  have_run lines callers passes old new of have ran back =
+  pub have_run : (serial : Bool) (lines : List (Line Global)) (callers : List Caller) (passes : List PassValue) (old new : PassMap L S) → AreCallersOf lines callers → HaveMembers callers old
+      → HasRunAll serial lines old new → IsBack new callers passes → HaveRun serial lines passes
+  have_run serial lines callers passes old new of have ran back =
       record {
-        callers = subst (AreCallersOf lines) (sym (back.callers of.different (keyed lines new ran.each) (λ c there. ran.there c (have c there)))) of;
-        run = λ k d less. let held = back.each k d less in subst (HasRun lines) held.pass_is (ran.each held.by held.member held.here).1.run;
-      }
-
-  pub have_run_in_order : (lines : List (Line Global)) (callers : List Caller) (passes : List PassValue) (pass_map : PassMap L S) → HasRunInOrder lines pass_map → IsBack pass_map callers passes →
-      HaveRunInOrder lines passes
-  have_run_in_order lines callers passes pass_map ran back =
-      record {
-        history = ran.history;
-        order = ran.order;
-        told = λ k d less. let held = back.each k d less in subst (IsToldOf ran.history) held.pass_is (ran.told held.by held.member held.here).1;
-      }
-
-  pub have_run_phases : (lines : List (Line Global)) (callers : List Caller) (passes : List PassValue) (pass_map : PassMap L S) → HasRunAllPhases lines pass_map → IsBack pass_map callers passes →
-      HaveRunPhases lines passes
-  have_run_phases lines callers passes pass_map ran back =
-      record {
+        callers = subst (AreCallersOf lines) (sym (back.callers of.different (λ c m is. (ran.run c m is).0) (λ c there. ran.there c (have c there)))) of;
         past = ran.past;
         lines_are = ran.lines_are;
         rises = ran.rises;
-        run = λ k d less. let held = back.each k d less in subst (HasRunPhases ran.past) held.pass_is (ran.run held.by held.member held.here).1;
+        run = λ k d less. let held = back.each k d less in subst (HasRunGroups ran.past) held.pass_is (ran.run held.by held.member held.here).1;
       }

@@ -1,147 +1,87 @@
--- Histories in which each phase stands behind the phases before it.
-use Rattle.std.proofs.Common.{◌≡◌, ℕ, ◌+◌, ◌<◌, ◌≤◌, List, [], ◌∷◌, ◌++◌, length, get_or, refl, sym, ap, ◌∙◌, subst, arith, append_assoc, Bool, true, false, inl, inr}
-use Rattle.std.specs.Prelude.{◌⊎◌, nat_lt, map, All}
+-- Histories in which each group of lines stands behind the groups before it.
+use Rattle.std.proofs.Common.{◌≡◌, ℕ, ◌+◌, ◌<◌, ◌≤◌, List, [], ◌∷◌, ◌++◌, length, refl, sym, ap, ◌∙◌, subst, arith, append-nil, append_assoc, Bool, true, false, inl, inr}
+use Rattle.std.specs.Prelude.{◌⊎◌, nat_lt, All, if◌then◌else◌}
 use Rattle.std.specs.List.{Contains}
 use Rattle.std.proofs.lemmas.Bool.Decides.{nat_tests}
-use Rattle.std.proofs.lemmas.List.{get_or-map, length-append, length-map}
-use Rattle.std.proofs.lemmas.List.Elements.{All-head, All-nil, All-tail}
+use Rattle.std.proofs.lemmas.List.{length-append}
+use Rattle.std.proofs.lemmas.List.Elements.{All-cons, All-head, All-nil, All-tail, All-weaker}
 use Rattle.std.specs.declared.alloc.Global.{Global}
 use Rattle.hv_history.specs.declared.entry.Entry.{Entry}
 use Rattle.hv_policy.specs.declared.event.Action.{Action}
 use Rattle.hv_policy.specs.declared.event.Caller.{Caller}
-use Rattle.hv_phases.specs.PassMap.{AreBehind, AreCallersOf, ArePast, HaveRun, HaveRunPhases, Past, last_in, lines_in}
-use Rattle.hv_phases.specs.Lines.{AreApart, AreInOrder, ArePhased, HasCut, asked_by}
-use Rattle.hv_phases.proofs.Asked.{All-second, asked_by-append, asked_by_other, asked_by_own}
-use Rattle.hv_phases.proofs.Behind.{AreSplit, behind_above, behind_none, behind_split, behind_up_to, behind_whole, past_split}
-use Rattle.hv_phases.proofs.InOrder.{all_if, first_of, later, nothing_in_order, receipts-append, receipts_of_other, rest_of}
+use Rattle.hv_phases.specs.PassMap.{AreBehind, AreCallersOf, AreOfOne, ArePast, IsGroup, IsWithin, Past, lines_in}
+use Rattle.hv_phases.specs.Lines.{AreApart, AreInOrder, ArePhased, AreRun, asked_by}
+use Rattle.hv_phases.proofs.Asked.{All-second, asked_by-append, asked_by_other, asked_by_own, whole-append}
+use Rattle.hv_phases.proofs.Behind.{behind_above}
 use Rattle.hv_phases.proofs.Named.{either}
 use Rattle.hv_phases.proofs.Renumbered.{whole_from}
-use Rattle.hv_phases.proofs.Settled.{is_among, many, own, some_pass}
 use Rattle.hv_script.specs.declared.line.Line.{Line}
-use Rattle.hv_shared.proofs.Callers.{no_receipts, receipts_of_pass}
+use Rattle.hv_shared.proofs.Callers.{is_another, is_itself}
 use Rattle.hv_shared.specs.ByCaller.{is_caller, receipts_by}
-use Rattle.hv_shared.specs.Merge.{IsMerge, receipts_of}
 use Rattle.hv_shared.specs.Pass.{receipt}
-use Rattle.hv_shared.specs.PassValue.{PassValue}
 use Rattle.hv_shared.specs.declared.receipts.Receipt.{Receipt}
 use Rattle.hv_threads.specs.Perform.{AreWhole, IsWhole}
 
--- the first lines of lines in order, and the others
-record AreCutInOrder (n : ℕ) (before after : List (Line Global)) (es : List (Entry Global)) : Type 0 where
-  own : List (Entry Global)
-  rest : List (Entry Global)
-  all : es ≡ own ++ rest
-  first : AreInOrder n before own
-  other : AreInOrder (n + length own) after rest
+abbrev IsBy : Caller → Entry Global → Type 0
+IsBy by e = e.event.by ≡ by
 
-cut_in_order : (n : ℕ) (before after : List (Line Global)) (es : List (Entry Global)) → AreInOrder n (before ++ after) es → AreCutInOrder n before after es
-cut_in_order n [] after es all =
-    let at : n ≡ n + 0 = omega arith in
-    record { own = []; rest = es; all = refl; first = refl; other = subst (λ (k : ℕ). AreInOrder k after es) at all }
-cut_in_order n (line ∷ before) after es some =
-    let more = cut_in_order (n + length some.0) before after some.1 some.5 in
-    let at : (n + length some.0) + length more.own ≡ n + length (some.0 ++ more.own) = omega (arith, length-append some.0 more.own) in
-    record {
-      own = some.0 ++ more.own;
-      rest = more.rest;
-      all = some.2 ∙ ap (λ (l : List (Entry Global)). some.0 ++ l) more.all ∙ sym (append_assoc some.0 more.own more.rest);
-      first = (some.0, more.own, refl, some.3, some.4, more.first);
-      other = subst (λ (k : ℕ). AreInOrder k after more.rest) at more.other;
-    }
+-- a list that is put behind another that may begin with one more
+behind : (b : Bool) (r : Receipt) (xs ys zs : List Receipt) → zs ≡ xs ++ ys → (if b then r ∷ zs else zs) ≡ (if b then r ∷ xs else xs) ++ ys
+behind true r xs ys zs is = ap (λ (l : List Receipt). r ∷ l) is
+behind false r xs ys zs is = is
 
--- each processor did what lines in order ask it for
-ran_in_order : (c : Caller) (n : ℕ) (lines : List (Line Global)) (es : List (Entry Global)) → AreInOrder n lines es → AreWhole c (asked_by c lines) (receipts_by c n es)
-ran_in_order c n [] es none = ap (receipts_by c n) none
-ran_in_order c n (line ∷ lines) es some =
-    let more = ran_in_order c (n + length some.0) lines some.1 some.5 in
-    let asked : asked_by c (line ∷ lines) ≡ asked_by c (line ∷ []) ++ asked_by c lines = asked_by-append c (line ∷ []) lines in
-    let told : receipts_by c n es ≡ receipts_by c n some.0 ++ receipts_by c (n + length some.0) some.1 = ap (receipts_by c n) some.2 ∙ receipts-append c n some.0 some.1 in
-    subst (λ (l : List Receipt). AreWhole c (asked_by c (line ∷ lines)) l) (sym told)
-    (either line.by c
-    (λ same.
-    subst (λ (acts : List (Action Global)). AreWhole c acts (receipts_by c n some.0 ++ receipts_by c (n + length some.0) some.1))
-    (sym (asked ∙ ap (λ (acts : List (Action Global)). acts ++ asked_by c lines) (asked_by_own c line (sym same))))
-    (receipts_by c n some.0, receipts_by c (n + length some.0) some.1, refl, subst (λ (x : Caller). IsWhole x line.action (receipts_by x n some.0)) (sym same) some.4, more))
-    (λ other.
-    let apart : line.by ≡ c → ⊥ = λ same. other (sym same) in
-    subst (λ (acts : List (Action Global)). AreWhole c acts (receipts_by c n some.0 ++ receipts_by c (n + length some.0) some.1))
-    (sym (asked ∙ ap (λ (acts : List (Action Global)). acts ++ asked_by c lines) (asked_by_other c line apart)))
-    (subst (λ (l : List Receipt). AreWhole c (asked_by c lines) (l ++ receipts_by c (n + length some.0) some.1)) (sym (receipts_of_other c line.by apart n some.0 some.3)) more)))
+receipts-append : (by : Caller) (n : ℕ) (xs ys : List (Entry Global)) → receipts_by by n (xs ++ ys) ≡ receipts_by by n xs ++ receipts_by by (n + length xs) ys
+receipts-append by n [] ys = ap (λ (k : ℕ). receipts_by by k ys) (omega arith)
+receipts-append by n (e ∷ xs) ys =
+    behind (is_caller by e.event.by) (receipt n e.event e.reply) (receipts_by by (n + 1) xs) (receipts_by by (n + length (e ∷ xs)) ys) (receipts_by by (n + 1) (xs ++ ys))
+    (receipts-append by (n + 1) xs ys ∙ ap (λ (k : ℕ). receipts_by by (n + 1) xs ++ receipts_by by k ys) (omega arith))
 
--- lines in order are in order of their phases
-pub in_order_phased : (lines : List (Line Global)) (history : List (Entry Global)) → AreInOrder 1 lines history → ArePhased lines history
-in_order_phased lines history order before after is apart =
-    let parts = cut_in_order 1 before after history (subst (λ (ls : List (Line Global)). AreInOrder 1 ls history) is order) in
-    record {
-      own = parts.own;
-      rest = parts.rest;
-      all = parts.all;
-      before_run = λ c. ran_in_order c 1 before parts.own parts.first;
-      after_run = λ c. whole_from c (asked_by c after) (1 + length parts.own) 1 parts.rest (ran_in_order c (1 + length parts.own) after parts.rest parts.other);
-    }
+-- another's entries
+receipts_of_other : (by other : Caller) → (other ≡ by → ⊥) → (n : ℕ) (es : List (Entry Global)) → All (IsBy other) es → receipts_by by n es ≡ []
+receipts_of_other by other apart n [] all = refl
+receipts_of_other by other apart n (e ∷ es) all =
+    ap (λ (b : Bool). if b then receipt n e.event e.reply ∷ receipts_by by (n + 1) es else receipts_by by (n + 1) es)
+    (is_another by e.event.by (λ same. apart (sym (All-head (IsBy other) e es all) ∙ same)))
+    ∙ receipts_of_other by other apart (n + 1) es (All-tail (IsBy other) e es all)
 
-pub nothing_phased : (lines : List (Line Global)) (callers : List Caller) (history : List (Entry Global)) → AreCallersOf lines callers → callers ≡ [] → history ≡ [] → ArePhased lines history
-nothing_phased lines callers history of none empty = in_order_phased lines history (nothing_in_order lines callers history of none empty)
+own_first : (by : Caller) (n : ℕ) (e : Entry Global) (es : List (Entry Global)) → e.event.by ≡ by → receipts_by by n (e ∷ es) ≡ receipt n e.event e.reply ∷ receipts_by by (n + 1) es
+own_first by n e es own =
+    ap (λ (b : Bool). if b then receipt n e.event e.reply ∷ receipts_by by (n + 1) es else receipts_by by (n + 1) es) (is_itself by e.event.by own)
 
--- two ways to cut a list: the first cut isn't behind the other, or it is
-record IsBefore {X : Type 0} (xs ys zs ws : List X) : Type 0 where
-  mid : List X
-  longer : zs ≡ xs ++ mid
-  rest : ys ≡ mid ++ ws
+-- the numbers of receipts grow
+all_if : (P : Receipt → Type 0) (b : Bool) (r : Receipt) (rs : List Receipt) → P r → All P rs → All P (if b then r ∷ rs else rs)
+all_if P true r rs p all = All-cons P r rs p all
+all_if P false r rs p all = all
 
-record IsBehind {X : Type 0} (xs ys zs ws : List X) : Type 0 where
-  next : X
-  mid : List X
-  longer : xs ≡ zs ++ next ∷ mid
-  rest : ws ≡ next ∷ mid ++ ys
+later : (c : Caller) (n k : ℕ) (es : List (Entry Global)) → n < k → All (λ r. n < r.number) (receipts_by c k es)
+later c n k [] less = All-nil (λ (r : Receipt). n < r.number)
+later c n k (e ∷ es) less =
+    all_if (λ (r : Receipt). n < r.number) (is_caller c e.event.by) (receipt k e.event e.reply) (receipts_by c (k + 1) es) less (later c n (k + 1) es (omega (arith, less)))
 
-compare : {X : Type 0} (xs ys zs ws : List X) → xs ++ ys ≡ zs ++ ws → IsBefore xs ys zs ws ⊎ IsBehind xs ys zs ws
-compare [] ys zs ws is = inl (record { mid = zs; longer = refl; rest = is })
-compare (x ∷ xs) ys [] ws is = inr (record { next = x; mid = xs; longer = refl; rest = sym is })
-compare (x ∷ xs) ys (z ∷ zs) ws is =
-    let one : x ≡ z = first_of x z (xs ++ ys) (zs ++ ws) is in
-    elim (compare xs ys zs ws (rest_of x z (xs ++ ys) (zs ++ ws) is)) [
-      | inl c ↦ inl (record { mid = c.mid; longer = λ i. (sym one) i ∷ c.longer i; rest = c.rest })
-      | inr c ↦ inr (record { next = c.next; mid = c.mid; longer = λ i. one i ∷ c.longer i; rest = c.rest })
-    ]
+first_of : {X : Type 0} (x y : X) (xs ys : List X) → x ∷ xs ≡ y ∷ ys → x ≡ y
+first_of x y xs ys same = cc
 
--- a cut of lines between phases is one of the phases
-record IsCutOf (past : List Past) (before after : List (Line Global)) : Type 0 where
-  firsts : List Past
-  others : List Past
-  all : past ≡ firsts ++ others
-  before_is : lines_in firsts ≡ before
-  after_is : lines_in others ≡ after
+rest_of : {X : Type 0} (x y : X) (xs ys : List X) → x ∷ xs ≡ y ∷ ys → xs ≡ ys
+rest_of x y xs ys same = cc
 
--- no cut between phases is within one
-not_within : (phase : ℕ) (lines : List (Line Global)) (first next : Line Global) (before mid after ys : List (Line Global)) → All (λ line. line.phase ≡ phase) lines
-    → lines ≡ (first ∷ before) ++ next ∷ mid → after ≡ next ∷ mid ++ ys → AreApart (first ∷ before) after → ⊥
-not_within phase lines first next before mid after ys one is rest apart =
-    let all = subst (All (λ (l : Line Global). l.phase ≡ phase)) is one in
-    let here : first.phase ≡ phase = All-head (λ (l : Line Global). l.phase ≡ phase) first (before ++ next ∷ mid) all in
-    let there : next.phase ≡ phase = All-head (λ (l : Line Global). l.phase ≡ phase) next mid (All-second (λ (l : Line Global). l.phase ≡ phase) (first ∷ before) (next ∷ mid) all) in
-    let later_than = All-head (λ (l : Line Global). All (λ (n : Line Global). l.phase < n.phase) after) first before apart in
-    let less : first.phase < next.phase = All-head (λ (n : Line Global). first.phase < n.phase) next (mid ++ ys) (subst (All (λ (n : Line Global). first.phase < n.phase)) rest later_than) in
-    omega (arith, here, there, less)
+not_empty : {X : Type 0} (x : X) (xs : List X) → x ∷ xs ≡ [] → ⊥
+not_empty x xs same = cc
 
-cut_of : (last : ℕ) (past : List Past) (before after : List (Line Global)) → ArePast last past → lines_in past ≡ before ++ after → AreApart before after → IsCutOf past before after
-cut_of last [] [] after rises is apart = record { firsts = []; others = []; all = refl; before_is = refl; after_is = is }
-cut_of last [] (line ∷ before) after rises is apart = let wrong = is in cc
-cut_of last (phase ∷ past) [] after rises is apart = record { firsts = []; others = phase ∷ past; all = refl; before_is = refl; after_is = is }
-cut_of last (phase ∷ past) (line ∷ before) after rises is apart =
-    elim (compare phase.lines (lines_in past) (line ∷ before) after is) [
-      | inl c ↦
-          let rest = cut_of phase.last past c.mid after rises.2 c.rest
-          (All-second (λ (l : Line Global). All (λ (n : Line Global). l.phase < n.phase) after) phase.lines c.mid (subst (λ (ls : List (Line Global)). AreApart ls after) c.longer apart)) in
-          record {
-            firsts = phase ∷ rest.firsts;
-            others = rest.others;
-            all = ap (λ (ps : List Past). phase ∷ ps) rest.all;
-            before_is = ap (λ (ls : List (Line Global)). phase.lines ++ ls) rest.before_is ∙ sym c.longer;
-            after_is = rest.after_is;
-          }
-      | inr c ↦ absurd (not_within rises.0.0 phase.lines line c.next before c.mid after (lines_in past) rises.0.1 c.longer c.rest apart)
-    ]
+rest_none : (b : Bool) (r : Receipt) (rs : List Receipt) → (if b then r ∷ rs else rs) ≡ [] → rs ≡ []
+rest_none true r rs is = absurd (not_empty r rs is)
+rest_none false r rs is = is
+
+-- entries of which nobody, or nobody but one, has a receipt
+no_entries : (n : ℕ) (es : List (Entry Global)) → ((c : Caller) → receipts_by c n es ≡ []) → es ≡ []
+no_entries n [] none = refl
+no_entries n (e ∷ es) none = absurd (not_empty _ _ (sym (own_first e.event.by n e es refl) ∙ none e.event.by))
+
+all_by : (by : Caller) (n : ℕ) (es : List (Entry Global)) → ((c : Caller) → (c ≡ by → ⊥) → receipts_by c n es ≡ []) → All (IsBy by) es
+all_by by n [] none = All-nil (IsBy by)
+all_by by n (e ∷ es) none =
+    All-cons (IsBy by) e es
+    (either by e.event.by (λ same. same) (λ other. absurd (not_empty _ _ (sym (own_first e.event.by n e es refl) ∙ none e.event.by other))))
+    (all_by by (n + 1) es (λ c other. rest_none (is_caller c e.event.by) (receipt n e.event e.reply) (receipts_by c (n + 1) es) (none c other)))
 
 -- entries up to a number, and those above it
 record AreCutBy (last n : ℕ) (es : List (Entry Global)) : Type 0 where
@@ -189,67 +129,213 @@ same_cut last (x ∷ xs) ys (z ∷ zs) ws is low high low_too high_too =
     high_too in
     ((λ i. one i ∷ more.0 i), more.1)
 
--- a history of which each processor's receipts are known by phase is cut at its phases
-module _ (past : List Past) (history : List (Entry Global)) (rises : ArePast 0 past) (behind : (c : Caller) → AreBehind c 0 past (receipts_by c 1 history)) (before after : List (Line Global))
-    (cut : IsCutOf past before after) where
-  abbrev last : ℕ
-  last = last_in 0 cut.firsts
+-- the entries of these groups from number n on, group by group
+abbrev pub AreGroups : ℕ → List Past → List (Entry Global) → Type 0
+AreGroups n [] es = es ≡ []
+AreGroups n (group ∷ past) es =
+    (own : List (Entry Global)) × (rest : List (Entry Global)) × (es ≡ own ++ rest) × ((c : Caller) → AreWhole c (asked_by c group.lines) (receipts_by c n own)) × AreGroups (n + length own) past rest
 
-  abbrev are_past : ArePast 0 cut.firsts × ArePast last cut.others
-  are_past = past_split 0 cut.firsts cut.others (subst (ArePast 0) cut.all rises)
+-- a history of groups of these lines
+pub record IsGrouped (serial : Bool) (lines : List (Line Global)) (history : List (Entry Global)) : Type 0 where
+  pub past : List Past
+  pub lines_are : lines_in past ≡ lines
+  pub rises : ArePast serial 0 past
+  pub groups : AreGroups 1 past history
 
-  told : (c : Caller) → AreSplit c 0 cut.firsts cut.others (receipts_by c 1 history)
-  told c = behind_split c 0 cut.firsts cut.others (receipts_by c 1 history) (subst (λ (ps : List Past). AreBehind c 0 ps (receipts_by c 1 history)) cut.all (behind c))
+-- a history of which each processor's receipts are known by group is cut at the groups' last numbers
+pub groups_of : (serial : Bool) (n last : ℕ) (past : List Past) (es : List (Entry Global)) → ArePast serial last past → ((c : Caller) → AreBehind c last past (receipts_by c n es))
+    → AreGroups n past es
+groups_of serial n last [] es are behind = no_entries n es behind
+groups_of serial n last (group ∷ past) es are behind =
+    let cut = cut_by group.last n es in
+    let same : (c : Caller) → (receipts_by c n cut.own ≡ (behind c).0) × (receipts_by c (n + length cut.own) cut.rest ≡ (behind c).1) = λ c.
+    let b = behind c in
+    same_cut group.last (receipts_by c n cut.own) (receipts_by c (n + length cut.own) cut.rest) b.0 b.1
+    (sym (receipts-append c n cut.own cut.rest) ∙ ap (receipts_by c n) (sym cut.all) ∙ b.2) (cut.up_to c) (cut.above c)
+    (All-weaker (IsWithin last group.last) (λ (r : Receipt). r.number ≤ group.last) (λ r within. within.1) b.0 b.4) (behind_above serial c group.last past b.1 are.2 b.5) in (
+      cut.own,
+      cut.rest,
+      cut.all,
+      λ c. subst (AreWhole c (asked_by c group.lines)) (sym (same c).0) (behind c).3,
+      groups_of serial (n + length cut.own) group.last past cut.rest are.2 (λ c. subst (AreBehind c group.last past) (sym (same c).1) (behind c).5),
+    )
 
-  same_told : (entries : AreCutBy last 1 history) (c : Caller) → (receipts_by c 1 entries.own ≡ (told c).own) × (receipts_by c (1 + length entries.own) entries.rest ≡ (told c).rest)
-  same_told entries c =
-      let parts = told c in
-      same_cut last (receipts_by c 1 entries.own) (receipts_by c (1 + length entries.own) entries.rest) parts.own parts.rest
-      (sym (receipts-append c 1 entries.own entries.rest) ∙ ap (receipts_by c 1) (sym entries.all) ∙ parts.all) (entries.up_to c) (entries.above c)
-      (behind_up_to c 0 cut.firsts parts.own are_past.0 parts.first) (behind_above c last cut.others parts.rest are_past.1 parts.other)
+-- each processor did what the lines of the groups ask it for
+groups_whole : (c : Caller) (n : ℕ) (past : List Past) (es : List (Entry Global)) → AreGroups n past es → AreWhole c (asked_by c (lines_in past)) (receipts_by c n es)
+groups_whole c n [] es none = ap (receipts_by c n) none
+groups_whole c n (group ∷ past) es some =
+    let own = receipts_by c n some.0 in
+    let rest = receipts_by c (n + length some.0) some.1 in
+    subst (AreWhole c (asked_by c (group.lines ++ lines_in past))) (sym (ap (receipts_by c n) some.2 ∙ receipts-append c n some.0 some.1))
+    (subst (λ (acts : List (Action Global)). AreWhole c acts (own ++ rest)) (sym (asked_by-append c group.lines (lines_in past)))
+    (whole-append c (asked_by c group.lines) (asked_by c (lines_in past)) own rest (some.3 c) (groups_whole c (n + length some.0) past some.1 some.4)))
 
-  is_cut : AreCutBy last 1 history → HasCut before after history
-  is_cut entries =
-      record {
-        own = entries.own;
-        rest = entries.rest;
-        all = entries.all;
-        before_run = λ c.
-            subst (λ (ls : List (Line Global)). AreWhole c (asked_by c ls) (receipts_by c 1 entries.own)) cut.before_is
-            (subst (λ (l : List Receipt). AreWhole c (asked_by c (lines_in cut.firsts)) l) (sym (same_told entries c).0) (behind_whole c 0 cut.firsts (told c).own (told c).first));
-        after_run = λ c.
-            whole_from c (asked_by c after) (1 + length entries.own) 1 entries.rest
-            (subst (λ (ls : List (Line Global)). AreWhole c (asked_by c ls) (receipts_by c (1 + length entries.own) entries.rest)) cut.after_is
-            (subst (λ (l : List Receipt). AreWhole c (asked_by c (lines_in cut.others)) l) (sym (same_told entries c).1) (behind_whole c last cut.others (told c).rest (told c).other)));
-      }
+pub all_run : (serial : Bool) (lines : List (Line Global)) (history : List (Entry Global)) → IsGrouped serial lines history → AreRun lines history
+all_run serial lines history are c =
+    subst (λ (ls : List (Line Global)). AreWhole c (asked_by c ls) (receipts_by c 1 history)) are.lines_are (groups_whole c 1 are.past history are.groups)
 
-phased : (past : List Past) (history : List (Entry Global)) → ArePast 0 past → ((c : Caller) → AreBehind c 0 past (receipts_by c 1 history)) → ArePhased (lines_in past) history
-phased past history rises behind before after is apart =
-    let cut = cut_of 0 past before after rises is apart in
-    is_cut past history rises behind before after cut (cut_by (last_in 0 cut.firsts) 1 history)
+-- the first groups and the others
+record AreCut (n : ℕ) (firsts others : List Past) (es : List (Entry Global)) : Type 0 where
+  own : List (Entry Global)
+  rest : List (Entry Global)
+  all : es ≡ own ++ rest
+  first : AreGroups n firsts own
+  other : AreGroups (n + length own) others rest
 
--- a history that is settled with passes that have run phase by phase
-module _ (lines : List (Line Global)) (passes : List PassValue) (history : List (Entry Global)) (ran : HaveRun lines passes) (merge : IsMerge history (receipts_of passes))
-    (run : HaveRunPhases lines passes) where
-  abbrev callers : List Caller
-  callers = map (λ (p : PassValue). p.caller) passes
+groups_cut : (n : ℕ) (firsts others : List Past) (es : List (Entry Global)) → AreGroups n (firsts ++ others) es → AreCut n firsts others es
+groups_cut n [] others es all =
+    let at : n ≡ n + 0 = omega arith in
+    record { own = []; rest = es; all = refl; first = refl; other = subst (λ (k : ℕ). AreGroups k others es) at all }
+groups_cut n (group ∷ firsts) others es some =
+    let more = groups_cut (n + length some.0) firsts others some.1 some.4 in
+    let at : (n + length some.0) + length more.own ≡ n + length (some.0 ++ more.own) = omega (arith, length-append some.0 more.own) in
+    record {
+      own = some.0 ++ more.own;
+      rest = more.rest;
+      all = some.2 ∙ ap (λ (l : List (Entry Global)). some.0 ++ l) more.all ∙ sym (append_assoc some.0 more.own more.rest);
+      first = (some.0, more.own, refl, some.3, more.first);
+      other = subst (λ (k : ℕ). AreGroups k others more.rest) at more.other;
+    }
 
-  behind_at : (j : ℕ) (p : PassValue) (c : Caller) → j < length callers → get_or callers j c ≡ c → AreBehind c 0 run.past (receipts_by c 1 history)
-  behind_at j p c h is =
-      let there : j < length passes = let m = length-map passes (λ (p : PassValue). p.caller) in omega (arith, m, h) in
-      let by_is : get_or callers j c ≡ (get_or passes j p).caller = get_or-map (λ (p : PassValue). p.caller) passes j p c there in
-      let list_is = get_or-map (λ (p : PassValue). p.receipts) passes j p [] there in
-      subst (AreBehind c 0 run.past)
-      (sym (receipts_of_pass callers (receipts_of passes) history (many lines passes history ran merge) merge (own lines passes history ran merge) ran.callers.different j c h (sym is) ∙ list_is))
-      (subst (λ (x : Caller). AreBehind x 0 run.past (get_or passes j p).receipts) (sym by_is ∙ is) (run.run j p there))
+-- two ways to cut a list: the first cut isn't behind the other, or it is
+record IsBefore {X : Type 0} (xs ys zs ws : List X) : Type 0 where
+  mid : List X
+  longer : zs ≡ xs ++ mid
+  rest : ys ≡ mid ++ ws
 
-  behind : (c : Caller) → Contains callers c ⊎ (Contains callers c → ⊥) → AreBehind c 0 run.past (receipts_by c 1 history)
-  behind c (inl there) =
-      let h = there.1 in
-      behind_at there.0 (some_pass lines passes history ran merge (omega (arith, h))) c h there.2
-  behind c (inr none) =
-      subst (AreBehind c 0 run.past) (sym (no_receipts callers (receipts_of passes) history (many lines passes history ran merge) merge (own lines passes history ran merge) c none))
-      (behind_none c callers 0 run.past (subst (All (λ (l : Line Global). Contains callers l.by)) (sym run.lines_are) ran.callers.named) none)
+record IsBehind {X : Type 0} (xs ys zs ws : List X) : Type 0 where
+  next : X
+  mid : List X
+  longer : xs ≡ zs ++ next ∷ mid
+  rest : ws ≡ next ∷ mid ++ ys
 
-  pub settled_phased : ArePhased lines history
-  settled_phased = subst (λ (ls : List (Line Global)). ArePhased ls history) run.lines_are (phased run.past history run.rises (λ c. behind c (is_among c callers)))
+compare : {X : Type 0} (xs ys zs ws : List X) → xs ++ ys ≡ zs ++ ws → IsBefore xs ys zs ws ⊎ IsBehind xs ys zs ws
+compare [] ys zs ws is = inl (record { mid = zs; longer = refl; rest = is })
+compare (x ∷ xs) ys [] ws is = inr (record { next = x; mid = xs; longer = refl; rest = sym is })
+compare (x ∷ xs) ys (z ∷ zs) ws is =
+    let one : x ≡ z = first_of x z (xs ++ ys) (zs ++ ws) is in
+    elim (compare xs ys zs ws (rest_of x z (xs ++ ys) (zs ++ ws) is)) [
+      | inl c ↦ inl (record { mid = c.mid; longer = λ i. (sym one) i ∷ c.longer i; rest = c.rest })
+      | inr c ↦ inr (record { next = c.next; mid = c.mid; longer = λ i. one i ∷ c.longer i; rest = c.rest })
+    ]
+
+-- a cut of lines between phases is one of the groups
+record IsCutOf (past : List Past) (before after : List (Line Global)) : Type 0 where
+  firsts : List Past
+  others : List Past
+  all : past ≡ firsts ++ others
+  before_is : lines_in firsts ≡ before
+  after_is : lines_in others ≡ after
+
+-- no cut between phases is within one
+not_within : (phase : ℕ) (lines : List (Line Global)) (first next : Line Global) (before mid after ys : List (Line Global)) → All (λ line. line.phase ≡ phase) lines
+    → lines ≡ (first ∷ before) ++ next ∷ mid → after ≡ next ∷ mid ++ ys → AreApart (first ∷ before) after → ⊥
+not_within phase lines first next before mid after ys one is rest apart =
+    let all = subst (All (λ (l : Line Global). l.phase ≡ phase)) is one in
+    let here : first.phase ≡ phase = All-head (λ (l : Line Global). l.phase ≡ phase) first (before ++ next ∷ mid) all in
+    let there : next.phase ≡ phase = All-head (λ (l : Line Global). l.phase ≡ phase) next mid (All-second (λ (l : Line Global). l.phase ≡ phase) (first ∷ before) (next ∷ mid) all) in
+    let later_than = All-head (λ (l : Line Global). All (λ (n : Line Global). l.phase < n.phase) after) first before apart in
+    let less : first.phase < next.phase = All-head (λ (n : Line Global). first.phase < n.phase) next (mid ++ ys) (subst (All (λ (n : Line Global). first.phase < n.phase)) rest later_than) in
+    omega (arith, here, there, less)
+
+of_one : (serial : Bool) (lines : List (Line Global)) → IsGroup serial lines → AreOfOne lines
+of_one true lines one =
+    let same : Line Global → Type 0 = λ (l : Line Global). l.phase ≡ one.0.phase in
+    (one.0.phase, subst (All same) (sym one.1) (All-cons same one.0 [] refl (All-nil same)))
+of_one false lines one = one
+
+cut_of : (serial : Bool) (last : ℕ) (past : List Past) (before after : List (Line Global)) → ArePast serial last past → lines_in past ≡ before ++ after → AreApart before after
+    → IsCutOf past before after
+cut_of serial last [] [] after rises is apart = record { firsts = []; others = []; all = refl; before_is = refl; after_is = is }
+cut_of serial last [] (line ∷ before) after rises is apart = let wrong = is in cc
+cut_of serial last (group ∷ past) [] after rises is apart = record { firsts = []; others = group ∷ past; all = refl; before_is = refl; after_is = is }
+cut_of serial last (group ∷ past) (line ∷ before) after rises is apart =
+    elim (compare group.lines (lines_in past) (line ∷ before) after is) [
+      | inl c ↦
+          let rest = cut_of serial group.last past c.mid after rises.2 c.rest
+          (All-second (λ (l : Line Global). All (λ (n : Line Global). l.phase < n.phase) after) group.lines c.mid (subst (λ (ls : List (Line Global)). AreApart ls after) c.longer apart)) in
+          record {
+            firsts = group ∷ rest.firsts;
+            others = rest.others;
+            all = ap (λ (ps : List Past). group ∷ ps) rest.all;
+            before_is = ap (λ (ls : List (Line Global)). group.lines ++ ls) rest.before_is ∙ sym c.longer;
+            after_is = rest.after_is;
+          }
+      | inr c ↦ let one = of_one serial group.lines rises.0 in absurd (not_within one.0 group.lines line c.next before c.mid after (lines_in past) one.1 c.longer c.rest apart)
+    ]
+
+-- groups are in order of their phases
+pub all_phased : (serial : Bool) (lines : List (Line Global)) (history : List (Entry Global)) → IsGrouped serial lines history → ArePhased lines history
+all_phased serial lines history are before after is apart =
+    let cut = cut_of serial 0 are.past before after are.rises (are.lines_are ∙ is) apart in
+    let parts = groups_cut 1 cut.firsts cut.others history (subst (λ (ps : List Past). AreGroups 1 ps history) cut.all are.groups) in
+    record {
+      own = parts.own;
+      rest = parts.rest;
+      all = parts.all;
+      before_run = λ c. subst (λ (ls : List (Line Global)). AreWhole c (asked_by c ls) (receipts_by c 1 parts.own)) cut.before_is (groups_whole c 1 cut.firsts parts.own parts.first);
+      after_run = λ c.
+          whole_from c (asked_by c after) 1 (length parts.own) parts.rest
+          (subst (λ (ls : List (Line Global)). AreWhole c (asked_by c ls) (receipts_by c (1 + length parts.own) parts.rest)) cut.after_is
+          (groups_whole c (1 + length parts.own) cut.others parts.rest parts.other));
+    }
+
+one_whole : (by : Caller) (what : Action Global) (list : List Receipt) → AreWhole by (what ∷ []) list → IsWhole by what list
+one_whole by what list some = subst (IsWhole by what) (sym (some.2 ∙ ap (λ (l : List Receipt). some.0 ++ l) some.4 ∙ append-nil some.0)) some.3
+
+-- groups of one line each are lines in order
+groups_in_order : (n last : ℕ) (past : List Past) (es : List (Entry Global)) → ArePast true last past → AreGroups n past es → AreInOrder n (lines_in past) es
+groups_in_order n last [] es are none = none
+groups_in_order n last (group ∷ past) es are some =
+    let line = are.0.0 in
+    let whole : (c : Caller) → AreWhole c (asked_by c (line ∷ [])) (receipts_by c n some.0) = λ c.
+    subst (λ (ls : List (Line Global)). AreWhole c (asked_by c ls) (receipts_by c n some.0)) are.0.1 (some.3 c) in
+    subst (λ (ls : List (Line Global)). AreInOrder n (ls ++ lines_in past) es) (sym are.0.1) (
+      some.0,
+      some.1,
+      some.2,
+      all_by line.by n some.0
+          (λ c other. subst (λ (acts : List (Action Global)). AreWhole c acts (receipts_by c n some.0)) (asked_by_other c line (λ same. other (sym same))) (whole c)),
+      one_whole line.by line.action (receipts_by line.by n some.0)
+          (subst (λ (acts : List (Action Global)). AreWhole line.by acts (receipts_by line.by n some.0)) (asked_by_own line.by line refl) (whole line.by)),
+      groups_in_order (n + length some.0) group.last past some.1 are.2 some.4,
+    )
+
+pub all_in_order : (lines : List (Line Global)) (history : List (Entry Global)) → IsGrouped true lines history → AreInOrder 1 lines history
+all_in_order lines history are = subst (λ (ls : List (Line Global)). AreInOrder 1 ls history) are.lines_are (groups_in_order 1 0 are.past history are.rises are.groups)
+
+-- lines in order are groups of one line each
+line_whole : (c : Caller) (line : Line Global) (n : ℕ) (own : List (Entry Global)) → All (IsBy line.by) own → IsWhole line.by line.action (receipts_by line.by n own)
+    → AreWhole c (asked_by c (line ∷ [])) (receipts_by c n own)
+line_whole c line n own all whole =
+    either line.by c
+    (λ same.
+    subst (λ (acts : List (Action Global)). AreWhole c acts (receipts_by c n own)) (sym (asked_by_own c line (sym same)))
+    (receipts_by c n own, [], sym (append-nil (receipts_by c n own)), subst (λ (x : Caller). IsWhole x line.action (receipts_by x n own)) (sym same) whole, refl))
+    (λ other.
+    let apart : line.by ≡ c → ⊥ = λ same. other (sym same) in
+    subst (λ (acts : List (Action Global)). AreWhole c acts (receipts_by c n own)) (sym (asked_by_other c line apart)) (receipts_of_other c line.by apart n own all))
+
+order_grouped : (n last : ℕ) (lines : List (Line Global)) (es : List (Entry Global)) → AreInOrder n lines es
+    → (past : List Past) × (lines_in past ≡ lines) × ArePast true last past × AreGroups n past es
+order_grouped n last [] es none = ([], refl, tt, none)
+order_grouped n last (line ∷ lines) es some =
+    let more = order_grouped (n + length some.0) last lines some.1 some.5 in (
+      record { lines = line ∷ []; last = last } ∷ more.0,
+      ap (λ (ls : List (Line Global)). line ∷ ls) more.1,
+      ((line, refl), omega arith, more.2),
+      (some.0, some.1, some.2, λ c. line_whole c line n some.0 some.3 some.4, more.3),
+    )
+
+pub in_order_phased : (lines : List (Line Global)) (history : List (Entry Global)) → AreInOrder 1 lines history → ArePhased lines history
+in_order_phased lines history order =
+    let are = order_grouped 1 0 lines history order in
+    all_phased true lines history (record { past = are.0; lines_are = are.1; rises = are.2; groups = are.3 })
+
+-- there is nothing where nobody is named
+pub nothing : (lines : List (Line Global)) (callers : List Caller) (history : List (Entry Global)) → AreCallersOf lines callers → callers ≡ [] → history ≡ [] → IsGrouped true lines history
+nothing [] callers history of none empty = record { past = []; lines_are = refl; rises = tt; groups = empty }
+nothing (line ∷ lines) callers history of none empty =
+    let there : Contains callers line.by = All-head (λ (l : Line Global). Contains callers l.by) line lines of.named in
+    let k = subst (λ (xs : List Caller). Contains xs line.by) none there in
+    absurd (omega (arith, k.1))

@@ -1,22 +1,17 @@
 -- A crew that was written at one key.
-use Rattle.std.proofs.Common.{◌≡◌, ◌==◌, ℕ, List, [], ◌∷◌, length, arith, refl, sym, ap, ◌∙◌, subst, Bool, true, false, Option, Some, None, Result, Ok, Err, OnOk}
+use Rattle.std.proofs.Common.{◌≡◌, ◌==◌, ℕ, List, [], ◌∷◌, length, arith, refl, sym, ap, ◌∙◌, Bool, true, false, Option, Some, None, Result, Ok, Err, OnOk}
 use Rattle.std.specs.Prelude.{is_err}
 use Rattle.std.proofs.lemmas.Bool.{false≢true}
 use Rattle.std.proofs.lemmas.Bool.Decides.{nat_tests}
 use Rattle.std.specs.declared.alloc.Global.{Global}
 use Rattle.hv_policy.specs.declared.event.Caller.{Caller}
-use Rattle.hv_phases.specs.PassMap.{PassMap, HasDone, HasJoined, IsThere, is_key, key_of, member_of}
+use Rattle.hv_phases.specs.PassMap.{PassMap, HasJoined, HasRunLine, is_key, key_of, member_of}
 use Rattle.hv_phases.specs.declared.pass_map.PassEntry.{PassEntry}
-use Rattle.hv_phases.proofs.Members.{none_there, stay_changed}
+use Rattle.hv_phases.proofs.Members.{none_there}
 use Rattle.hv_phases.proofs.Named.{apart}
 use Rattle.hv_script.specs.declared.line.Line.{Line}
 use Rattle.hv_shared.specs.PassValue.{PassValue}
 use Rattle.indexmap.specs.IndexMap.{UpdatesBy, get, get_by}
-
--- what holds where the host refused nothing
-pub on_ok : {T E : Type 0} (r : Result T E) (stopped : Bool) (P Q : Type 0) → stopped ≡ is_err r → (stopped ≡ false → P → Q) → OnOk r P → OnOk r Q
-on_ok (Ok x) stopped P Q is f p = f is p
-on_ok (Err e) stopped P Q is f p = tt
 
 -- a list that is said to be empty, or not to be
 pub not_empty : (len : ℕ) (told : Bool) → told ≡ (len == 0) → told ≡ false → len ≡ 0 → ⊥
@@ -59,19 +54,11 @@ has_joined pass stopped key m old new is own idle going did =
       others = others pass.caller key is old new (Some m) did;
     }
 
--- a line's processor isn't there
-pub done_none : {L S : Type 0} (line : Line Global) (old new : PassMap L S) → new ≡ old → member_of line.by old ≡ None → HasDone line old new
-done_none {L} {S} line old new same none =
-    record {
-      each = λ ran there each. absurd (none_there (member_of line.by old) none there);
-      there = λ c there. subst (λ (x : PassMap L S). IsThere x c) (sym same) there;
-    }
+-- a line's processor isn't there, or it was stopped
+pub line_of_none : {L S : Type 0} (line : Line Global) (last : ℕ) (old new : PassMap L S) → member_of line.by old ≡ None → HasRunLine line last last old new
+line_of_none line last old new none =
+    record { rises = omega arith; each = λ past last_is there each. absurd (none_there (member_of line.by old) none there) }
 
--- it was stopped
-pub done_stopped : {L S : Type 0} (line : Line Global) (old new : PassMap L S) (m n : PassEntry L) → member_of line.by old ≡ Some m → m.stopped ≡ true → member_of line.by new ≡ Some n
-    → ((c : Caller) → (c ≡ line.by → ⊥) → member_of c new ≡ member_of c old) → HasDone line old new
-done_stopped line old new m n was stopped now rest =
-    record {
-      each = λ ran there each. absurd (false≢true (sym (each line.by m was).1.going ∙ stopped));
-      there = stay_changed old new line.by rest n now;
-    }
+pub line_of_stopped : {L S : Type 0} (line : Line Global) (last : ℕ) (old new : PassMap L S) (m : PassEntry L) → member_of line.by old ≡ Some m → m.stopped ≡ true → HasRunLine line last last old new
+line_of_stopped line last old new m was stopped =
+    record { rises = omega arith; each = λ past last_is there each. absurd (false≢true (sym (each line.by m was).1.going ∙ stopped)) }

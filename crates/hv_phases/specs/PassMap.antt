@@ -1,16 +1,15 @@
 -- What the processors of a script hold while its lines run. Only contracts of private functions cite these
 -- words.
-use Rattle.std.specs.Prelude.{ℕ, ◌≡◌, ◌+◌, ◌<◌, ◌≤◌, ◌==◌, ◌&&◌, ◌⊎◌, ◌↔◌, ⊤, max, nat_lt, false, true, Bool}
+use Rattle.std.specs.Prelude.{ℕ, ◌≡◌, ◌<◌, ◌≤◌, ◌==◌, ◌&&◌, ◌⊎◌, ◌↔◌, ⊤, max, nat_lt, false, true, Bool}
 use Rattle.std.specs.Prelude.{if◌then◌else◌, List, [], ◌∷◌, ◌++◌, drop, length, map, reverse, slice_index_or}
-use Rattle.std.specs.Prelude.{All, Option, None, Some, IfSome, IsSome}
+use Rattle.std.specs.Prelude.{All, Option, None, Some, IsSome}
 use Rattle.std.specs.List.{Contains}
 use Rattle.std.specs.declared.alloc.Global.{Global}
-use Rattle.hv_history.specs.declared.entry.Entry.{Entry}
 use Rattle.hv_policy.specs.declared.event.Caller.{Caller}
 use Rattle.hv_script.specs.declared.line.Line.{Line}
-use Rattle.hv_phases.specs.Lines.{AreInOrder, asked_by}
+use Rattle.hv_phases.specs.Lines.{asked_by}
 use Rattle.hv_phases.specs.declared.pass_map.PassEntry.{PassEntry}
-use Rattle.hv_shared.specs.ByCaller.{AreDifferent, receipts_by}
+use Rattle.hv_shared.specs.ByCaller.{AreDifferent}
 use Rattle.hv_shared.specs.PassValue.{PassValue}
 use Rattle.hv_shared.specs.declared.receipts.Receipt.{Receipt}
 use Rattle.hv_threads.specs.Perform.{AreWhole}
@@ -42,84 +41,61 @@ is_key one other = (one.0 == other.0) && (one.1 == other.1)
 abbrev pub IsSetOf : {S : Type 0} → IndexSet (ℕ × ℕ) S → List Caller → Type 0
 IsSetOf seen callers = (c : Caller) → (contains is_key seen (key_of c) ≡ true) ↔ Contains callers c
 
--- the pass has a receipt of each of its caller's events that these lines ask for, in order, and no other
-abbrev pub HasRun : List (Line Global) → PassValue → Type 0
-HasRun lines pass = AreWhole pass.caller (asked_by pass.caller lines) pass.receipts
-
--- the passes of these lines' processors, which have run them
-pub record HaveRun (lines : List (Line Global)) (passes : List PassValue) : Type 0 where
-  pub callers : AreCallersOf lines (map (λ pass. pass.caller) passes)
-  pub run : All (HasRun lines) passes
-
--- the pass's receipts are those of its processor's events in this history
-abbrev pub IsToldOf : List (Entry Global) → PassValue → Type 0
-IsToldOf history pass = pass.receipts ≡ receipts_by pass.caller 1 history
-
--- the passes have the receipts of a history in which the entries of each line come after those of the line
--- before it
-pub record HaveRunInOrder (lines : List (Line Global)) (passes : List PassValue) : Type 0 where
-  pub history : List (Entry Global)
-  pub order : AreInOrder 1 lines history
-  pub told : All (IsToldOf history) passes
-
--- the number of the last event after these receipts, if their numbers follow this one in turn
-abbrev pub last_in_turn : ℕ → List Receipt → Option ℕ
-last_in_turn last [] = Some last
-last_in_turn last (r ∷ receipts) = if r.number == last + 1 then last_in_turn (last + 1) receipts else None
-
--- the pass's processor has run these lines, has nothing to do, and wasn't stopped
-pub record IsReady {L : Type 0} (ran : List (Line Global)) (member : PassEntry L) : Type 0 where
-  pub run : HasRun ran member.pass
-  pub asked : member.asked.items ≡ []
-  pub going : member.stopped ≡ false
-
--- a phase that has ended: its lines, and the highest receipt number at its end
-pub record Past : Type 0 where
-  pub lines : List (Line Global)
-  pub last : ℕ
-
--- the lines of these phases
-abbrev pub lines_in : List Past → List (Line Global)
-lines_in [] = []
-lines_in (phase ∷ past) = phase.lines ++ lines_in past
-
--- the highest receipt number at the end of these phases, where this one is the highest before them
-abbrev pub last_in : ℕ → List Past → ℕ
-last_in last [] = last
-last_in last (phase ∷ past) = last_in phase.last past
-
 -- these lines are of one phase
 abbrev pub AreOfOne : List (Line Global) → Type 0
 AreOfOne lines = (phase : ℕ) × All (λ line. line.phase ≡ phase) lines
 
--- the lines of each are of one phase, and the highest number never falls
-abbrev pub ArePast : ℕ → List Past → Type 0
-ArePast last [] = ⊤
-ArePast last (phase ∷ past) = AreOfOne phase.lines × (last ≤ phase.last) × ArePast phase.last past
+-- what runs as a group: a line with `serial`, and otherwise lines of one phase
+abbrev pub IsGroup : Bool → List (Line Global) → Type 0
+IsGroup true lines = (line : Line Global) × (lines ≡ line ∷ [])
+IsGroup false lines = AreOfOne lines
+
+-- a group that has ended: its lines, and the highest receipt number at its end
+pub record Past : Type 0 where
+  pub lines : List (Line Global)
+  pub last : ℕ
+
+-- the lines of these groups
+abbrev pub lines_in : List Past → List (Line Global)
+lines_in [] = []
+lines_in (group ∷ past) = group.lines ++ lines_in past
+
+-- the highest receipt number at the end of these groups, where this one is the highest before them
+abbrev pub last_in : ℕ → List Past → ℕ
+last_in last [] = last
+last_in last (group ∷ past) = last_in group.last past
+
+-- these are groups, and the highest number never falls
+abbrev pub ArePast : Bool → ℕ → List Past → Type 0
+ArePast serial last [] = ⊤
+ArePast serial last (group ∷ past) = IsGroup serial group.lines × (last ≤ group.last) × ArePast serial
+    group.last past
 
 -- the receipt's number is above one and not above another
 abbrev pub IsWithin : ℕ → ℕ → Receipt → Type 0
 IsWithin low high r = (low < r.number) × (r.number ≤ high)
 
--- a processor's receipts in these phases: in each, what its lines ask for, after the last receipt of the
--- phases before it
+-- a processor's receipts in these groups: in each, what its lines ask for, after the last receipt of the
+-- groups before it
 abbrev pub AreBehind : Caller → ℕ → List Past → List Receipt → Type 0
 AreBehind by last [] receipts = receipts ≡ []
-AreBehind by last (phase ∷ past) receipts =
+AreBehind by last (group ∷ past) receipts =
     (own : List Receipt) × (rest : List Receipt) × (receipts ≡ own ++ rest) × AreWhole by
-    (asked_by by phase.lines) own × All (IsWithin last phase.last) own
-    × AreBehind by phase.last past rest
+    (asked_by by group.lines) own × All (IsWithin last group.last) own
+    × AreBehind by group.last past rest
 
--- the pass's processor has run these phases, each after the one before it
-abbrev pub HasRunPhases : List Past → PassValue → Type 0
-HasRunPhases past pass = AreBehind pass.caller 0 past pass.receipts
+-- the pass's processor has run these groups, each after the one before it
+abbrev pub HasRunGroups : List Past → PassValue → Type 0
+HasRunGroups past pass = AreBehind pass.caller 0 past pass.receipts
 
--- the passes have run these lines phase by phase, each phase after the one before it
-pub record HaveRunPhases (lines : List (Line Global)) (passes : List PassValue) : Type 0 where
+-- the passes of these lines' processors, which have run them group by group, each group after the one before
+-- it
+pub record HaveRun (serial : Bool) (lines : List (Line Global)) (passes : List PassValue) : Type 0 where
+  pub callers : AreCallersOf lines (map (λ pass. pass.caller) passes)
   pub past : List Past
   pub lines_are : lines_in past ≡ lines
-  pub rises : ArePast 0 past
-  pub run : All (HasRunPhases past) passes
+  pub rises : ArePast serial 0 past
+  pub run : All (HasRunGroups past) passes
 
 -- the highest of this number and the numbers of these receipts, if each of those is above `last`
 abbrev pub highest_above : ℕ → ℕ → List Receipt → Option ℕ
@@ -127,17 +103,17 @@ highest_above last highest [] = Some highest
 highest_above last highest (r ∷ receipts) = if nat_lt last r.number then highest_above last
     (max highest r.number) receipts else None
 
--- the pass's processor has run these phases, is to do what these lines ask for, and wasn't stopped
+-- the pass's processor has run these groups, is to do what these lines ask for, and wasn't stopped
 pub record IsGiven {L : Type 0} (past : List Past) (taken : List (Line Global)) (member : PassEntry L) : Type
     0 where
-  pub run : HasRunPhases past member.pass
+  pub run : HasRunGroups past member.pass
   pub asked : member.asked.items ≡ asked_by member.pass.caller taken
   pub going : member.stopped ≡ false
 
--- the work is what these lines ask of a processor that has run the phases before them
+-- the work is what these lines ask of a processor that has run the groups before them
 pub record IsWorkOf {L : Type 0} (past : List Past) (taken : List (Line Global)) (work : Work L) : Type 0
   where
-    pub run : HasRunPhases past work.pass
+    pub run : HasRunGroups past work.pass
     pub asked : work.actions.items ≡ asked_by work.pass.caller taken
 
 -- each receipt of these passes beyond its count has a number above `last` and not above `now`
@@ -194,47 +170,24 @@ module _ {L S : Type 0} where
   abbrev pub StayThere : PassMap L S → PassMap L S → Type 0
   StayThere old new = (c : Caller) → IsThere old c → IsThere new c
 
-  -- a line was run
-  pub record HasDone (line : Line Global) (old new : PassMap L S) : Type 0 where
-    pub each : (ran : List (Line Global)) → IsThere old line.by → Each (IsReady ran) old → Each
-        (IsReady (ran ++ line ∷ [])) new
-    pub there : StayThere old new
-
-  -- all lines were run
-  pub record HasRunAll (lines : List (Line Global)) (old new : PassMap L S) : Type 0 where
-    pub each : Each (IsReady lines) new
-    pub there : StayThere old new
-
-  -- the passes have the receipts of a history in which the entries of each line come after those of the line
-  -- before it
-  pub record HasRunInOrder (lines : List (Line Global)) (pass_map : PassMap L S) : Type 0 where
-    pub history : List (Entry Global)
-    pub order : AreInOrder 1 lines history
-    pub told : Each (λ member. IsToldOf history member.pass) pass_map
-
-  -- if every receipt came in its turn, the passes have run these lines in order, and the last event has this
-  -- number
-  abbrev pub IsTurn : List (Line Global) → Option ℕ → PassMap L S → Type 0
-  IsTurn lines turn pass_map = IfSome turn (λ last. (run : HasRunInOrder lines pass_map) ×
-      (length run.history ≡ last))
-
-  -- the events of the line's processor come after all events before
-  abbrev pub KeepsOrder : Line Global → Option ℕ → Option ℕ → PassMap L S → PassMap L S → Type 0
-  KeepsOrder line turn_old turn_new old new =
-      (ran : List (Line Global)) → IsThere old line.by → Each (IsReady ran) old → IsTurn ran turn_old old →
-      IsTurn (ran ++ line ∷ []) turn_new new
+  -- a line was run, with receipt numbers above `last` and up to `now`
+  pub record HasRunLine (line : Line Global) (last now : ℕ) (old new : PassMap L S) : Type 0 where
+    pub rises : last ≤ now
+    pub each : (past : List Past) → last_in 0 past ≡ last → IsThere old line.by → Each (IsGiven past []) old →
+        Each (IsGiven (past ++ record { lines = line ∷ []; last = now } ∷ []) []) new × StayThere old new
 
   -- only these processors have something to do
   abbrev pub AreBusy : List Caller → PassMap L S → Type 0
   AreBusy members pass_map = (c : Caller) (m : PassEntry L) → member_of c pass_map ≡ Some m → Contains members
       c ⊎ (m.asked.items ≡ [])
 
-  -- the passes have run these lines phase by phase, each phase after the one before it
-  pub record HasRunAllPhases (lines : List (Line Global)) (pass_map : PassMap L S) : Type 0 where
+  -- all lines were run group by group, each group after the one before it
+  pub record HasRunAll (serial : Bool) (lines : List (Line Global)) (old new : PassMap L S) : Type 0 where
     pub past : List Past
     pub lines_are : lines_in past ≡ lines
-    pub rises : ArePast 0 past
-    pub run : Each (λ member. HasRunPhases past member.pass) pass_map
+    pub rises : ArePast serial 0 past
+    pub run : Each (λ member. HasRunGroups past member.pass) new
+    pub there : StayThere old new
 
   -- a line was handed to its processor
   pub record HasGiven (line : Line Global) (members_old members_new : List Caller) (old new : PassMap L S) :
@@ -267,7 +220,7 @@ module _ {L S : Type 0} where
   -- the outcomes were taken back, and the host stopped no processor
   pub record HasTaken (dones : List (Done L)) (old new : PassMap L S) : Type 0 where
     pub ended : All (λ done. done.end ≡ Finished) dones
-    pub each : (past : List Past) → All (λ done. HasRunPhases past done.pass) dones → Each (IsGiven past [])
+    pub each : (past : List Past) → All (λ done. HasRunGroups past done.pass) dones → Each (IsGiven past [])
         old → Each (IsGiven past []) new
     pub there : (c : Caller) → IsThere old c ⊎ Contains (map (λ done. done.pass.caller) dones) c → IsThere new
         c

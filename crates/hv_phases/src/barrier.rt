@@ -1,4 +1,4 @@
-// Numbers of receipts, which show that a phase began after the one before it had ended.
+// Numbers of receipts, which show that a phase or a line began after the one before it had ended.
 ghost use Rattle.std.specs.Prelude.{◌≡◌, IfOk, IfSome, drop, length, map};
 ghost use Rattle.hv_phases.specs.PassMap.{HaveGained, highest_above};
 ghost use Rattle.hv_shared.specs.Receipts.{list_of};
@@ -32,9 +32,9 @@ pub fn end_of_phase<L: Ledger>(dones: &[Done<L>], counts: &[usize], last: u64) -
     Some(highest)
 }
 
-// Returns the highest of `highest` and the receipts' numbers from a place on, if each of those is above
-// `last`.
-fn highest_above(receipts: &Receipts, from: usize, last: u64, highest: u64) -> Option<u64>
+/// Returns the highest of `highest` and the receipts' numbers from a place on, if each of those is above
+/// `last`.
+pub fn highest_above(receipts: &Receipts, from: usize, last: u64, highest: u64) -> Option<u64>
     ensures { result ≡ highest_above last highest (drop from (list_of receipts.now)) }
 {
     let mut highest = highest;

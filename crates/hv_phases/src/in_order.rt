@@ -1,17 +1,15 @@
 // The lines of a script in its order, by one thread.
-ghost use Rattle.std.specs.Prelude.{◌≡◌, [], All, IfNone, IsSome, OnErr, OnOk, drop};
-ghost use Rattle.std.specs.Prelude.{option_and_then};
-ghost use Rattle.hv_phases.specs.PassMap.{Each, HasDone, HasRunAll, HasRunInOrder, IsReady, KeepsOrder};
-ghost use Rattle.hv_phases.specs.PassMap.{last_in_turn, member_of};
-ghost use Rattle.hv_shared.specs.Receipts.{list_of};
+ghost use Rattle.std.specs.Prelude.{◌≡◌, [], All, IfNone, IfOk, IfSome, IsSome, OnErr, OnOk, true};
+ghost use Rattle.hv_phases.specs.PassMap.{Each, HasRunAll, HasRunLine, IsGiven, member_of};
 ghost use Rattle.hv_threads.specs.Perform.{HasBegun, HasPerformed};
 
+use crate::barrier::highest_above;
 use crate::pass_map::{PassMap, key_of};
 use crate::run::RunError;
 use hv_history::HostRefused;
 use hv_policy::Action;
 use hv_script::Line;
-use hv_threads::{Gate, Pass, Receipts, SettleFault, Shared};
+use hv_threads::{Gate, Pass, SettleFault, Shared};
 use std::alloc::Global;
 use std::sync::Wait;
 use std::sync::ledger::Ledger;
@@ -20,7 +18,7 @@ use std::sync::ledger::Ledger;
 ///
 /// The first processor that it stopped counts. A processor that was stopped runs no further line. No phase
 /// begins after one in which a processor was stopped. A pass doesn't know what other processors did, so the
-/// numbers of receipts are compared. Those of each line follow those of the line before it, or the run
+/// numbers of receipts are compared. Those of each line are above those of the lines before it, or the run
 /// doesn't count.
 pub fn run_in_order<L: Ledger, R: Wait, G: Gate>(
     rt: &R,
@@ -29,15 +27,15 @@ pub fn run_in_order<L: Ledger, R: Wait, G: Gate>(
     pass_map: &mut PassMap<L>,
     lines: Vec<Line<Global>>,
 ) -> Option<RunError>
-    requires ready { Each (IsReady []) pass_map.old }
+    requires ready { Each (IsGiven [] []) pass_map.old }
     requires named { All (λ line. IsSome (member_of line.by pass_map.old)) lines.items }
-    ensures run { IfNone result (HasRunAll lines.items pass_map.old pass_map.new) }
-    ensures order { IfNone result (HasRunInOrder lines.items pass_map.new) }
+    ensures { IfNone result (HasRunAll true lines.items pass_map.old pass_map.new) }
 {
     let mut left = lines;
     left.reverse();
     let mut phase = 0;
-    let mut turn = Some(0);
+    let mut last = 0;
+    let mut differs = false;
     let mut stop = None;
     while let Some(line) = left.pop() {
         if line.phase != phase {
@@ -46,42 +44,45 @@ pub fn run_in_order<L: Ledger, R: Wait, G: Gate>(
             }
             phase = line.phase;
         }
-        if let Err(why) = run_line(rt, gate, shared, pass_map, line, &mut turn) {
-            stop = stop.or(Some(why));
+        match run_line(rt, gate, shared, pass_map, line, last) {
+            Ok(Some(now)) => last = now,
+            Ok(None) => differs = true,
+            Err(why) => stop = stop.or(Some(why)),
         }
     }
-    match (stop, turn) {
-        (None, Some(_)) => None,
-        (None, None) => Some(RunError::Settlement(SettleFault::Differs)),
+    match (stop, differs) {
+        (None, false) => None,
+        (None, true) => Some(RunError::Settlement(SettleFault::Differs)),
         (Some(why), _) => Some(RunError::Host(why)),
     }
 }
 
-// Runs a line, unless its processor was stopped. `turn` is the number of the last event, or `None` after a
-// receipt whose number wasn't the next one.
+// Runs a line, unless its processor was stopped. Returns the highest receipt number after it, where `last` is
+// the highest before it, or `None` after a new receipt whose number isn't above `last`.
 fn run_line<L: Ledger, R: Wait, G: Gate>(
     rt: &R,
     gate: &G,
     shared: &Shared<L>,
     pass_map: &mut PassMap<L>,
     line: Line<Global>,
-    turn: &mut Option<u64>,
-) -> Result<(), HostRefused>
-    ensures done { OnOk result (HasDone line pass_map.old pass_map.new) }
-    ensures order { OnOk result (KeepsOrder line turn.old turn.new pass_map.old pass_map.new) }
+    last: u64,
+) -> Result<Option<u64>, HostRefused>
+    ensures { IfOk result (λ told. IfSome told (λ now. HasRunLine line last now pass_map.old pass_map.new)) }
 {
     let Line { by, action, .. } = line;
     let Some(member) = pass_map.get_mut(&key_of(by)) else {
-        return Ok(());
+        return Ok(Some(last));
     };
     if member.stopped {
-        return Ok(());
+        return Ok(Some(last));
     }
     let before = member.pass.receipts().len();
     let done = act(rt, shared, gate, &mut member.pass, action);
-    *turn = last_in_turn(member.pass.receipts(), before, *turn);
     member.stopped = done.is_err();
-    done
+    match done {
+        Ok(()) => Ok(highest_above(member.pass.receipts(), before, last, last)),
+        Err(why) => Err(why),
+    }
 }
 
 // Performs one action to its end: drives a hypercall, and calls for anything else.
@@ -111,19 +112,4 @@ fn act<L: Ledger, R: Wait, G: Gate>(
             Err(why) => Err(why),
         },
     }
-}
-
-// Returns the number of the last event, if the receipts from a place on have the next numbers after `turn`.
-fn last_in_turn(receipts: &Receipts, from: usize, turn: Option<u64>) -> Option<u64>
-    ensures { result ≡ option_and_then (λ last. last_in_turn last (drop from (list_of receipts.now))) turn }
-{
-    let mut last = turn?;
-    for at in from..receipts.len() {
-        let number = receipts.number(at);
-        if number.saturating_sub(last) != 1 {
-            return None;
-        }
-        last = number;
-    }
-    Some(last)
 }

@@ -1,8 +1,8 @@
 // The phases of a script, each processor of a phase in a thread of its own.
 ghost use Rattle.std.specs.Prelude.{◌≡◌, ◌++◌, ◌∷◌, [], All, IfNone, IfOk, IfSome, IsNone, IsSome};
-ghost use Rattle.std.specs.Prelude.{Err, OnOk, Some};
+ghost use Rattle.std.specs.Prelude.{Err, OnOk, Some, false};
 ghost use Rattle.hv_phases.specs.PassMap.{AreBusy, Each, HasGiven, HasHandedOut, HasLent, HasRunAll};
-ghost use Rattle.hv_phases.specs.PassMap.{HasRunAllPhases, HasRunPhase, HasTaken, IsReady, member_of};
+ghost use Rattle.hv_phases.specs.PassMap.{HasRunPhase, HasTaken, IsGiven, member_of};
 
 use crate::barrier::{counts_of, end_of_phase};
 use crate::pass_map::{PassEntry, PassMap, join, key_of};
@@ -27,10 +27,9 @@ pub fn run_in_threads<L: Ledger + Send + Sync, R: Threads + Wait + Sync, G: Gate
     pass_map: &mut PassMap<L>,
     lines: Vec<Line<Global>>,
 ) -> Option<RunError>
-    requires ready { Each (IsReady []) pass_map.old }
+    requires ready { Each (IsGiven [] []) pass_map.old }
     requires named { All (λ line. IsSome (member_of line.by pass_map.old)) lines.items }
-    ensures run { IfNone result (HasRunAll lines.items pass_map.old pass_map.new) }
-    ensures phases { IfNone result (HasRunAllPhases lines.items pass_map.new) }
+    ensures { IfNone result (HasRunAll false lines.items pass_map.old pass_map.new) }
 {
     let mut left = lines;
     left.reverse();

@@ -1,6 +1,6 @@
 // What the processors of a script hold while its lines run.
 ghost use Rattle.std.specs.Prelude.{◌≡◌, ◌≢◌, ℕ, [], All, IfOk, OnOk, map};
-ghost use Rattle.hv_phases.specs.PassMap.{HasJoined, HaveMembers, Each, IsBack, IsReady, key_of};
+ghost use Rattle.hv_phases.specs.PassMap.{HasJoined, HaveMembers, Each, IsBack, IsGiven, key_of};
 
 use hv_policy::{Action, Caller};
 use hv_threads::Pass;
@@ -31,7 +31,7 @@ pub fn key_of(by: Caller) -> (u64, u32)
 /// Moves these passes out of their list into a pass map.
 pub fn pass_map_of<L: Ledger>(passes: &mut Vec<Pass<L>>) -> Result<PassMap<L>, AllocError>
     requires { All (λ pass. pass.receipts ≡ []) passes.old.items }
-    ensures ready { IfOk result (Each (IsReady [])) }
+    ensures ready { IfOk result (Each (IsGiven [] [])) }
     ensures there { IfOk result (HaveMembers (map (λ pass. pass.caller) passes.old.items)) }
     ensures none { OnOk result (passes.new.items ≡ []) }
 {

@@ -1,6 +1,6 @@
 // A whole run of lines, from a machine without events to the settlement.
-ghost use Rattle.std.specs.Prelude.{◌≡◌, ◌<◌, [], All, IfNone, IsFalse, IsNone, IsTrue, Some, map, vec_len};
-ghost use Rattle.hv_phases.specs.PassMap.{AreCallersOf, HaveRun, HaveRunInOrder, HaveRunPhases};
+ghost use Rattle.std.specs.Prelude.{◌≡◌, ◌<◌, [], All, IfNone, IsNone, IsTrue, Some, map, vec_len};
+ghost use Rattle.hv_phases.specs.PassMap.{AreCallersOf, HaveRun};
 ghost use Rattle.hv_phases.specs.Lines.{AreInOrder, ArePhased, AreRun};
 ghost use Rattle.hv_shared.specs.Merge.{IsMerge, receipts_of};
 
@@ -108,9 +108,7 @@ fn run_on<L: Ledger + Send + Sync, R: Threads + Wait + Sync, G: Gate>(
     requires callers { AreCallersOf lines.items callers.now }
     requires passes { map (λ pass. pass.caller) passes.old.items ≡ callers.now }
     requires fresh { All (λ pass. pass.receipts ≡ []) passes.old.items }
-    ensures run { IfNone result (HaveRun lines.items passes.new.items) }
-    ensures phases { IsFalse serial → IfNone result (HaveRunPhases lines.items passes.new.items) }
-    ensures order { IsTrue serial → IfNone result (HaveRunInOrder lines.items passes.new.items) }
+    ensures { IfNone result (HaveRun serial lines.items passes.new.items) }
 {
     let Ok(mut pass_map) = pass_map_of(passes) else {
         return Some(RunError::Host(HostRefused::Memory));
