@@ -1,5 +1,6 @@
 -- How many rows of a finite map pass a test, from what is at each key.
-use Rattle.std.proofs.Common.{◌≡◌, Bool, true, false, cond, ◌||◌, ◌&&◌, T, List, [], ◌∷◌, length, Option, None, Some, refl, sym, ap, ◌∙◌, arith}
+use Rattle.std.proofs.Common.{◌≡◌, Bool, true, false, cond, ◌||◌, ◌&&◌, T, List, [], ◌∷◌, length, Option, None, Some, refl, sym, ap, ◌∙◌, arith, filter, count_by, is_eq, is_lt, Ordering, Less, Equal}
+use Rattle.std.proofs.Common.{Greater}
 use Rattle.std.proofs.lemmas.List.{length-map}
 use Rattle.std.proofs.lemmas.List.Sums.{length-filter}
 use Rattle.std.proofs.lemmas.Map.Made.{length-from_same_keys, IsDistinct-keys_filter}
@@ -7,11 +8,9 @@ use Rattle.std.specs.Cmp.{IsTotalOrder, Equal-is, eq_by_cmp_equiv}
 use Rattle.std.specs.FinMap.{FinMap, get, entries, entries_sorted, get-entries, find, is_sorted, IsAntisymmetric}
 use Rattle.std.specs.FinMap.Entries.{below_all}
 use Rattle.std.specs.FinSet.{FinSet, contains, from_list, len, contains-from_list, len-empty, len-insert, same_set}
-use Rattle.std.specs.List.{AllByRecursion, IsDistinct, filter, list_any, count_by}
+use Rattle.std.specs.List.{AllByRecursion, IsDistinct, list_any}
 use Rattle.std.specs.Map.{keys_of}
-use Rattle.std.specs.Ordering.{eq_by_cmp, is_eq, is_lt}
-use Rattle.std.specs.declared.cmp.Ordering.{Ordering}
-use Rattle.std.specs.declared.cmp.Ordering.TheVariants.{Less, Equal, Greater}
+use Rattle.std.specs.Ordering.{eq_by_cmp}
 
 -- whether the row at a key passes the test, and false where there is none
 abbrev pub passes : {K X : Type 0} → (K × X → Bool) → K → Option X → Bool

@@ -1,10 +1,9 @@
 -- Sets of the numbers from one up to another, and lists of these.
-use Rattle.std.proofs.Common.{◌≡◌, ℕ, zero, suc, ◌+◌, ◌<◌, ◌≤◌, ◌==◌, inl, inr, false, ◌&&◌, ◌||◌, nat_le, nat_lt, refl, sym, ap, ◌∙◌, arith}
-use Rattle.std.proofs.lemmas.Bool.{eq-eqb, ne_eqb, lt-ltb, le-ltb, le-leb, lt-leb, cases_lt, cases_eq}
+use Rattle.std.proofs.Common.{◌≡◌, ℕ, zero, suc, ◌+◌, ◌<◌, ◌≤◌, ◌==◌, inl, inr, false, ◌&&◌, ◌||◌, nat_le, nat_lt, refl, sym, ap, ◌∙◌, arith, eq-eqb, ne_eqb, lt-ltb, le-ltb, le-leb, nat_cmp}
+use Rattle.std.proofs.lemmas.Bool.{lt-leb, cases_lt, cases_eq}
 use Rattle.std.specs.Cmp.{nat_cmp_total, unsigned_tied}
 use Rattle.std.specs.FinSet.{FinSet, empty, contains, insert, len, contains-empty, contains-insert, len-empty, len-insert}
 use Rattle.std.specs.List.{list_any, range_with_len}
-use Rattle.std.specs.Ordering.{nat_cmp}
 
 -- the set holds the numbers from low on and below high, and so as many as there are of these
 pub record IsRange (s : FinSet nat_cmp) (low high : ℕ) : Type 0 where

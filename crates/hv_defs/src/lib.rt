@@ -17,7 +17,8 @@ pub use aim::Aim;
 pub use life::Life;
 pub use port_kind::PortKind;
 pub use registers::{
-    EOM, REGISTERS, RegFault, RegisterRow, SCONTROL, SIEFP, SIMP, SINT0, Takes, VP_INDEX,
+    EOM, REGISTER_COUNT, REGISTERS, RegFault, RegisterRow, SCONTROL, SIEFP, SIMP, SINT0, Takes,
+    VP_INDEX,
 };
 pub use sizes::{
     ANY_VP, CONNECTION_CHARGE, CPU_CAP_START, CPU_RESERVE_START, CPU_WEIGHT_START, EVENT_FLAGS,

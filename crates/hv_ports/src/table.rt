@@ -1,8 +1,7 @@
 // A table of rows by ids.
 ghost use Rattle.std.specs.Prelude.{◌≡◌, ◌+◌, ◌<◌, ◌≤◌, ◌↔◌, false, length, IfErr, IfOk, IsOk, IsTrue, OnErr};
-ghost use Rattle.std.specs.Prelude.{OnOk};
+ghost use Rattle.std.specs.Prelude.{OnOk, HoldsAt, slice_get};
 ghost use Rattle.std.specs.FinMap as map;
-ghost use Rattle.std.specs.List.{HoldsAt, slice_get};
 ghost use Rattle.std.specs.List.Sorted.{IsPartitionPoint, IsSearchInRange};
 ghost use Rattle.hv_ports.specs.Table.{IsRising, cleared, no_rows};
 
@@ -135,25 +134,8 @@ impl<R: Copy, A: Allocator> Table<R, A> {
     }
 }
 
-// The place of the row with this id, or where it would go. Looks first at the last place where the row may
-// be, since each id is higher than the one before.
+// The place of the row with this id, or where it would go.
 fn place_of<R: Copy>(slots: &[(u32, R)], id: u32) -> Result<usize, usize>
-    requires { IsRising slots.now }
-    ensures within { IsSearchInRange result (length slots.now) }
-    ensures found { IfOk result (HoldsAt (λ slot. slot.0 ≡ id) slots.now) }
-    ensures between { IfErr result (IsPartitionPoint (λ slot. slot.0 < id) (λ slot. id < slot.0) slots.now) }
-{
-    if !slots.is_empty() && id >= slots[0].0 {
-        let guess = usize::min((id - slots[0].0) as usize, slots.len() - 1);
-        if slots[guess].0 == id {
-            return Ok(guess);
-        }
-    }
-    search(slots, id)
-}
-
-// Finds the place by a binary search, wherever it is.
-fn search<R: Copy>(slots: &[(u32, R)], id: u32) -> Result<usize, usize>
     requires { IsRising slots.now }
     ensures within { IsSearchInRange result (length slots.now) }
     ensures found { IfOk result (HoldsAt (λ slot. slot.0 ≡ id) slots.now) }

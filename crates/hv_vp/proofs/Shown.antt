@@ -1,9 +1,7 @@
 -- Messages that become shown at SINTs, and the write of EOM.
-use Rattle.std.proofs.Common.{◌≡◌, ℕ, zero, suc, ◌+◌, Bool, Result, Ok, Err, inl, inr, refl, sym, ap, ◌∙◌, arith, add-one}
-use Rattle.std.proofs.lemmas.Bool.{cases_eq, ne_eqb}
+use Rattle.std.proofs.Common.{◌≡◌, ℕ, zero, suc, ◌+◌, Bool, Result, Ok, Err, inl, inr, refl, sym, ap, ◌∙◌, arith, add-one, ne_eqb, OnErr, nat_cmp}
+use Rattle.std.proofs.lemmas.Bool.{cases_eq}
 use Rattle.std.specs.FinMap.{FinMap}
-use Rattle.std.specs.Result.{OnErr}
-use Rattle.std.specs.Ordering.{nat_cmp}
 use Rattle.hv_defs.specs.Registers.{after_write, kept, row_of}
 use Rattle.hv_defs.specs.declared.registers.RegFault.{RegFault}
 use Rattle.hv_defs.specs.declared.registers.TheConstants.{EOM}

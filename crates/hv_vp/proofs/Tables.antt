@@ -1,11 +1,11 @@
 -- The table of registers.
-use Rattle.std.proofs.Common.{◌≡◌, ℕ, zero, suc, ◌+◌, ◌<◌, Bool, ◌==◌, List, [], ◌∷◌, length, get_or, set as list_set, None, Some, Err, arith, inl, inr, sym, refl, ap, subst, ◌∙◌}
-use Rattle.std.specs.List.{zip, position_from}
-use Rattle.std.specs.Prelude.{find, map as list_map, option_map, Option, true, false}
+use Rattle.std.proofs.Common.{◌≡◌, ℕ, zero, suc, ◌+◌, ◌<◌, Bool, ◌==◌, List, [], ◌∷◌, length, get_or, set as list_set, None, Some, Err, arith, inl, inr, sym, refl, ap, subst, ◌∙◌, zip, find}
+use Rattle.std.proofs.Common.{map as list_map, option_map, Option, true, false, ne_eqb, eq-eqb, eqb-true}
+use Rattle.std.specs.List.{position_from}
 use Rattle.std.specs.Cmp.{nat_cmp_total}
 use Rattle.std.specs.FinMap as map
 use Rattle.std.proofs.lemmas.Option.{none-some, same_Some}
-use Rattle.std.proofs.lemmas.Bool.{agree_below_at, cases_Bool, cases_eq, ne_eqb, eq-eqb, eqb-true, false≢true}
+use Rattle.std.proofs.lemmas.Bool.{agree_below_at, cases_Bool, cases_eq, false≢true}
 use Rattle.hv_defs.specs.declared.registers.RegisterRow.{RegisterRow}
 use Rattle.hv_defs.specs.declared.registers.TheConstants.{REGISTERS, VP_INDEX}
 use Rattle.hv_defs.specs.declared.registers.Takes.TheVariants.{Nothing}
@@ -83,38 +83,6 @@ at_place name place scan =
 at_none : (name : ℕ) → place_of name ≡ None → IsUnknown REGISTERS name
 unfolding place_of
 at_none name scan = no_row name REGISTERS 0 scan
-
--- a row of the table, or an empty one past its end
-abbrev pub row_in : ℕ → RegisterRow
-row_in place = get_or REGISTERS place (record { name = 0; msr = None; privilege = 0; takes = Nothing; start = 0 })
-
--- a scan ends at this place
-abbrev pub ends_at : Option ℕ → ℕ → Bool
-ends_at None place = false
-ends_at (Some found) place = found == place
-
-ended : (scan : Option ℕ) (place : ℕ) → ends_at scan place ≡ true → scan ≡ Some place
-ended None place e = absurd (false≢true e)
-ended (Some found) place e = ap Some (eqb-true found place e)
-
--- a scan for a row's name ends at the row, since no two have one name
-pub place_by_row : (place : ℕ) → place < 40 → place_of (row_in place).name ≡ Some place
-unfolding place_of
-place_by_row place within = ended _ place (agree_below_at (λ at. ends_at (place_of (row_in at).name) at) (λ _. true) 40 place refl within)
-
--- a row without a number, or for whose number a scan ends at it
-abbrev pub has_own : Option ℕ → ℕ → Bool
-has_own None place = true
-has_own (Some msr) place = ends_at (msr_place msr) place
-
-owned : (m : Option ℕ) (msr place : ℕ) → m ≡ Some msr → has_own m place ≡ true → msr_place msr ≡ Some place
-owned None msr place is e = absurd (none-some msr is)
-owned (Some own) msr place is e = subst (λ m. msr_place m ≡ Some place) (same_Some own msr is) (ended (msr_place own) place e)
-
--- so does a scan for a row's number as a model-specific register
-pub place_by_msr : (msr place : ℕ) → place < 40 → (row_in place).msr ≡ Some msr → msr_place msr ≡ Some place
-unfolding msr_place
-place_by_msr msr place within is = owned (row_in place).msr msr place is (agree_below_at (λ at. has_own (row_in at).msr at) (λ _. true) 40 place refl within)
 
 -- a place of the table
 pub place_within : (name place : ℕ) → place_of name ≡ Some place → place < 40

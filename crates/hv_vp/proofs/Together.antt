@@ -1,14 +1,13 @@
 -- What all slots together tell of the processors: the lowest that meets a test, and how many messages of a port they have.
-use Rattle.std.proofs.Common.{◌≡◌, ℕ, ◌+◌, ◌≤◌, ◌==◌, min, Bool, true, false, cond, List, [], ◌∷◌, Option, None, Some, arith, inl, inr, length, refl, sym, ap, subst, ◌∙◌}
-use Rattle.std.specs.Prelude.{find, map as list_map}
+use Rattle.std.proofs.Common.{◌≡◌, ℕ, ◌+◌, ◌≤◌, ◌==◌, min, Bool, true, false, cond, List, [], ◌∷◌, Option, None, Some, arith, inl, inr, length, refl, sym, ap, subst, ◌∙◌, find, map as list_map}
+use Rattle.std.proofs.Common.{filter, fold, sum_by, option_map, nat_cmp, eq-eqb, eqb-true}
 use Rattle.std.specs.Cmp.{nat_cmp_total}
 use Rattle.std.specs.FinMap as map
 use Rattle.std.specs.FinMap.{FinMap, entries, from_entries, get, insert, get-from_entries, get-insert, len-empty, len-entries}
 use Rattle.std.specs.FinSet.{nat_cmp-IsAntisymmetric}
-use Rattle.std.specs.List.{IsDistinct, filter, fold, reduce, sum_by}
-use Rattle.std.specs.Option.{option_map}
-use Rattle.std.specs.Ordering.{nat_cmp, eq_by_cmp}
-use Rattle.std.proofs.lemmas.Bool.{cases_lt, eq-eqb, eqb-true}
+use Rattle.std.specs.List.{IsDistinct, reduce}
+use Rattle.std.specs.Ordering.{eq_by_cmp}
+use Rattle.std.proofs.lemmas.Bool.{cases_lt}
 use Rattle.std.proofs.lemmas.List.Sums.{sum_by-cons}
 use Rattle.hv_defs.proofs.Maps.{found_least, found_row, get_at-insert}
 use Rattle.hv_mail.proofs.Totals.{sum-insert}

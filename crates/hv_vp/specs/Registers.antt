@@ -1,6 +1,6 @@
 -- The answers to reads and writes of registers, and the table of registers by place.
-use Rattle.std.specs.Prelude.{ℕ, ◌==◌, List, map, Option, None, Some, Result, Ok, Err}
-use Rattle.std.specs.List.{zip, position_from}
+use Rattle.std.specs.Prelude.{ℕ, ◌==◌, List, map, Option, None, Some, Result, Ok, Err, zip}
+use Rattle.std.specs.List.{position_from}
 use lib.ListN.{get_or}
 use Rattle.std.specs.Ordering.{nat_cmp}
 use Rattle.std.specs.FinMap.{FinMap, from_entries, get}

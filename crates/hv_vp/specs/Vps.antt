@@ -1,10 +1,9 @@
 -- The processors of a partition as contracts see them.
 use Rattle.std.specs.Prelude.{ℕ, ◌+◌, ◌-◌, ◌≤◌, Bool, find, List, length, map as list_map, min, nat_eq}
-use Rattle.std.specs.Prelude.{Option, refl}
+use Rattle.std.specs.Prelude.{Option, refl, sum_by, option_map}
 use Rattle.std.specs.Coded.{Coded, code_by, coded×, coded_ℕ}
 use Rattle.std.specs.FinMap as map
-use Rattle.std.specs.List.{IsDistinct, sum_by}
-use Rattle.std.specs.Option.{option_map}
+use Rattle.std.specs.List.{IsDistinct}
 use Rattle.std.specs.Ordering.{nat_cmp}
 use Rattle.hv_defs.specs.Registers.{takes_flags, takes_messages}
 use Rattle.hv_defs.specs.declared.port_kind.PortKind.{PortKind}

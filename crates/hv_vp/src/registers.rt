@@ -5,13 +5,13 @@ ghost use Rattle.hv_defs.specs.Registers.{after_write, kept, row_of, start_regis
 ghost use Rattle.hv_vp.specs.Registers.{answer};
 
 use crate::table::{VP_INDEX_PLACE, place_of, start_values, take, takes_at};
-use hv_defs::RegFault;
+use hv_defs::{REGISTER_COUNT, RegFault};
 use std::marker::Model;
 
 /// One value for each row of the table.
 #[derive(Drop)]
 pub struct Registers {
-    values: [u64; 40],
+    values: [u64; REGISTER_COUNT],
 }
 
 impl Model for Registers {

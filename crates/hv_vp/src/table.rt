@@ -1,10 +1,11 @@
 // The table of registers, by places.
 ghost use Rattle.std.specs.Prelude.{◌≡◌, ◌<◌, IfSome, map, option_map};
 ghost use Rattle.hv_defs.specs.declared.registers.TheConstants as rows;
+ghost use Rattle.hv_defs.specs.declared.registers.TheConstants.{REGISTER_COUNT};
 ghost use Rattle.hv_defs.specs.Registers.{is_sint_value, kept, name_of_msr, row_of, take};
 ghost use Rattle.hv_vp.specs.Registers.{msr_place, place_of, takes_at};
 
-use hv_defs::{REGISTERS, RegFault, SINT0, Takes, VP_INDEX};
+use hv_defs::{REGISTER_COUNT, REGISTERS, RegFault, Takes, VP_INDEX};
 
 // The place of VP_INDEX.
 pub const VP_INDEX_PLACE: usize = 18;
@@ -12,50 +13,17 @@ pub const VP_INDEX_PLACE: usize = 18;
 const _: () = prove!(REGISTERS[VP_INDEX_PLACE].name == VP_INDEX);
 
 // The values of the rows in a new processor.
-pub fn start_values() -> [u64; 40]
+pub fn start_values() -> [u64; REGISTER_COUNT]
     ensures { result ≡ map (λ row. row.start) rows.REGISTERS }
 {
     REGISTERS.map(|row| row.start)
 }
 
-// The place of SINT 0. The other SINTs and the registers of their controller follow it.
-const SINT0_PLACE: usize = 19;
-
-const _: () = prove!(REGISTERS[SINT0_PLACE].name == SINT0);
-
-// The place of a register in the table. The name tells where the register would be, and the table tells
-// whether it is there.
+// The place of a register in the table.
+#[tactic(auto, unfolding(crate::specs::Registers::place_of))]
 pub fn place_of(name: u32) -> Option<usize>
     ensures place { result ≡ place_of name }
-    ensures within { IfSome result (λ place. place < 40) }
-{
-    let place = likely_place(name);
-    let rows = &REGISTERS;
-    if rows[place].name == name {
-        return Some(place);
-    }
-    scan(name)
-}
-
-// A place at which a register with this name would be.
-fn likely_place(name: u32) -> usize
-    ensures { result < 40 }
-{
-    let place = if name >= SINT0 {
-        SINT0_PLACE + (name - SINT0) as usize
-    } else if name >= VP_INDEX {
-        VP_INDEX_PLACE
-    } else {
-        name as usize % 0x1_0000
-    };
-    if place < 40 { place } else { 0 }
-}
-
-// The place of a register, found by a scan of the table.
-#[tactic(auto, unfolding(crate::specs::Registers::place_of))]
-fn scan(name: u32) -> Option<usize>
-    ensures place { result ≡ place_of name }
-    ensures within { IfSome result (λ place. place < 40) }
+    ensures within { IfSome result (λ place. place < REGISTER_COUNT) }
 {
     REGISTERS.iter().position(|row| row.name == name)
 }
@@ -63,7 +31,7 @@ fn scan(name: u32) -> Option<usize>
 // Which values the register at a place of the table takes.
 #[tactic(auto, unfolding(crate::specs::Registers::takes_at))]
 pub fn takes_at(place: usize) -> Takes
-    requires { place < 40 }
+    requires { place < REGISTER_COUNT }
     ensures { result ≡ takes_at place }
 {
     let rows = &REGISTERS;
@@ -128,46 +96,11 @@ pub fn name_of_msr(msr: u32) -> Option<u32>
     }
 }
 
-// The model-specific registers of SINT 0 and of the SINTs' controller. The controller's rows follow those of
-// the SINTs.
-const SINT0_MSR: u32 = 0x4000_0090;
-
-const SCONTROL_MSR: u32 = 0x4000_0080;
-
-const SCONTROL_PLACE: usize = SINT0_PLACE + 16;
-
-// The place of a model-specific register in the table. Looks first where the register would be.
+// The place of a model-specific register in the table.
+#[tactic(auto, unfolding(crate::specs::Registers::msr_place))]
 fn msr_place(msr: u32) -> Option<usize>
     ensures place { result ≡ msr_place msr }
-    ensures within { IfSome result (λ place. place < 40) }
-{
-    let place = likely_msr_place(msr);
-    let rows = &REGISTERS;
-    if rows[place].msr == Some(msr) {
-        return Some(place);
-    }
-    scan_msr(msr)
-}
-
-// A place at which a model-specific register with this number would be.
-fn likely_msr_place(msr: u32) -> usize
-    ensures { result < 40 }
-{
-    let place = if msr >= SINT0_MSR {
-        SINT0_PLACE + (msr - SINT0_MSR) as usize
-    } else if msr >= SCONTROL_MSR {
-        SCONTROL_PLACE + (msr - SCONTROL_MSR) as usize
-    } else {
-        VP_INDEX_PLACE
-    };
-    if place < 40 { place } else { 0 }
-}
-
-// The place of a model-specific register, found by a scan of the table.
-#[tactic(auto, unfolding(crate::specs::Registers::msr_place))]
-fn scan_msr(msr: u32) -> Option<usize>
-    ensures place { result ≡ msr_place msr }
-    ensures within { IfSome result (λ place. place < 40) }
+    ensures within { IfSome result (λ place. place < REGISTER_COUNT) }
 {
     REGISTERS.iter().position(|row| row.msr == Some(msr))
 }

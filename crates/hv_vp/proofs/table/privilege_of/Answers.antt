@@ -1,5 +1,4 @@
-use Rattle.std.proofs.Common.{◌∙◌, sym, ap}
-use Rattle.std.specs.Prelude.{option_map}
+use Rattle.std.proofs.Common.{◌∙◌, sym, ap, option_map}
 use Rattle.hv_defs.specs.declared.registers.RegisterRow.{RegisterRow}
 use Rattle.hv_vp.proofs.Tables.{row_known, row_unknown}
 use Rattle.hv_vp.proofs.table.privilege_of.Goals as goal

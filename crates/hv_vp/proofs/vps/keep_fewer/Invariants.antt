@@ -1,5 +1,4 @@
-use Rattle.std.proofs.Common.{◌≡◌, ◌+◌, take}
-use Rattle.std.specs.List.{sum_by}
+use Rattle.std.proofs.Common.{◌≡◌, ◌+◌, take, sum_by}
 use Rattle.hv_mail.specs.Mail.{count_of}
 use Rattle.hv_vp.specs.declared.vps.Slot.{Slot}
 use Rattle.hv_vp.proofs.vps.keep_fewer.Given as goal

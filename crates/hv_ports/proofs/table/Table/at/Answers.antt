@@ -1,6 +1,5 @@
-use Rattle.std.proofs.Common.{ap, sym, ◌∙◌}
+use Rattle.std.proofs.Common.{ap, sym, ◌∙◌, slice_get}
 use Rattle.std.proofs.lemmas.Option.{slice_get_past, slice_get_read}
-use Rattle.std.specs.List.{slice_get}
 use Rattle.hv_ports.proofs.Tables.{entries-rows_of}
 use Rattle.hv_ports.proofs.table.Table.at.Goals as goal
 

@@ -1,5 +1,4 @@
-use Rattle.std.proofs.Common.{◌∙◌, sym, ap}
-use Rattle.std.specs.Prelude.{is_some}
+use Rattle.std.proofs.Common.{◌∙◌, sym, ap, is_some}
 use Rattle.hv_vp.proofs.VpsLemmas.{none_of, one_less, removed_of, some_of, unchanged}
 use Rattle.hv_vp.proofs.vps.Vps.remove.Goals as goal
 
