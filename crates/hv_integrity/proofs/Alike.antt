@@ -1,10 +1,7 @@
 -- What two states count alike, and find alike, where rows agree key by key.
-use Rattle.std.proofs.Common.{◌≡◌, ℕ, ◌≤◌, ◌==◌, ◌&&◌, Bool, true, false, cond, find, not, Option, Some, None, is_some, refl, sym, ap, ◌∙◌, arith}
-use Rattle.std.proofs.lemmas.Bool.{eqb-true}
+use Rattle.std.proofs.Common.{◌≡◌, ℕ, ◌≤◌, ◌==◌, ◌&&◌, Bool, true, false, cond, find, not, Option, Some, None, is_some, refl, sym, ap, ◌∙◌, arith, eqb-true, count_by, nat_cmp}
 use Rattle.std.specs.Cmp.{nat_cmp_total}
 use Rattle.std.specs.FinMap.{FinMap, get, entries, nat_cmp-IsAntisymmetric}
-use Rattle.std.specs.List.{count_by}
-use Rattle.std.specs.Ordering.{nat_cmp}
 use Rattle.hv_defs.proofs.Counts.{passes}
 use Rattle.hv_defs.proofs.Maps.{found_row, found_least}
 use Rattle.hv_defs.proofs.Tallies.{count-alike}
@@ -22,13 +19,6 @@ lineage_tested t None None e = refl
 lineage_tested t None (Some s) e = cc
 lineage_tested t (Some r) None e = cc
 lineage_tested t (Some r) (Some s) e = let same : r.parent ≡ s.parent = cc in ap t same
-
-pub lineage_passes : (t : ℕ → Option ℕ → Bool) (q : ℕ) (r s : Option PartRow) → lineage r ≡ lineage s → passes (λ (e : ℕ × PartRow). t e.0 e.1.parent) q r ≡ passes
-    (λ (e : ℕ × PartRow). t e.0 e.1.parent) q s
-lineage_passes t q None None e = refl
-lineage_passes t q None (Some s) e = cc
-lineage_passes t q (Some r) None e = cc
-lineage_passes t q (Some r) (Some s) e = let same : r.parent ≡ s.parent = cc in ap (t q) same
 
 -- whether there is a row
 pub lineage_there : (r s : Option PartRow) → lineage r ≡ lineage s → is_some r ≡ is_some s
@@ -84,10 +74,10 @@ first-alike {X = X} {Y = Y} p r m n h = by (find p (entries m)) (find r (entries
         let same : c.0 ≡ d.0 = omega (arith, less, more, a, b) in
         ap Some same
 
--- the rows by (partition, number) of one partition, counted
-pub own-alike : {X : Type 0} (id : ℕ) (m n : FinMap pair_cmp X) → ((i : ℕ) → get m (id, i) ≡ get n (id, i)) → count_by (λ (e : (ℕ × ℕ) × X). e.0.0 == id) (entries m) ≡ count_by
+-- the rows by (partition, number) of one partition, counted, where they are there alike
+pub as_many : {X : Type 0} (id : ℕ) (m n : FinMap pair_cmp X) → ((i : ℕ) → is_some (get m (id, i)) ≡ is_some (get n (id, i))) → count_by (λ (e : (ℕ × ℕ) × X). e.0.0 == id) (entries m) ≡ count_by
     (λ (e : (ℕ × ℕ) × X). e.0.0 == id) (entries n)
-own-alike {X = X} id m n h = count-alike pair_cmp_total pair_cmp_exact own own m n (λ key. at key (key.0 == id) refl)
+as_many {X = X} id m n h = count-alike pair_cmp_total pair_cmp_exact own own m n (λ key. at key (key.0 == id) refl)
   where
     own : (ℕ × ℕ) × X → Bool
     own e = e.0.0 == id
@@ -96,8 +86,12 @@ own-alike {X = X} id m n h = count-alike pair_cmp_total pair_cmp_exact own own m
     none key off None = refl
     none key off (Some x) = off
 
+    some : (key : ℕ × ℕ) → key.0 == id ≡ true → (r : Option X) → passes (λ (e : (ℕ × ℕ) × X). e.0.0 == id) key r ≡ is_some r
+    some key is None = refl
+    some key is (Some x) = is
+
     at : (key : ℕ × ℕ) (b : Bool) → key.0 == id ≡ b → passes (λ (e : (ℕ × ℕ) × X). e.0.0 == id) key (get m key) ≡ passes (λ (e : (ℕ × ℕ) × X). e.0.0 == id) key (get n key)
     at key true is =
         let to = ap (λ k. (k, key.1)) (eqb-true key.0 id is) in
-        ap (passes (λ (e : (ℕ × ℕ) × X). e.0.0 == id) key) (ap (get m) to ∙ h key.1 ∙ ap (get n) (sym to))
+        some key is (get m key) ∙ ap is_some (ap (get m) to) ∙ h key.1 ∙ ap is_some (ap (get n) (sym to)) ∙ sym (some key is (get n key))
     at key false off = none key off (get m key) ∙ sym (none key off (get n key))

@@ -1,10 +1,8 @@
 -- What a change leaves of a partition that it isn't about.
-use Rattle.std.proofs.Common.{◌≡◌, ℕ, zero, suc, ◌==◌, ◌&&◌, not, Bool, true, false, cond, List, Option, Some, None, find, map, refl, sym, ap, ◌∙◌}
-use Rattle.std.proofs.lemmas.Bool.{and_parts, eq-eqb, eqb-true}
+use Rattle.std.proofs.Common.{◌≡◌, ℕ, zero, suc, ◌==◌, ◌&&◌, not, Bool, true, false, cond, List, Option, Some, None, find, map, refl, sym, ap, ◌∙◌, eq-eqb, eqb-true, filter, option_map, nat_cmp}
+use Rattle.std.proofs.lemmas.Bool.{and_parts}
 use Rattle.std.specs.FinMap.{FinMap, get, insert, remove, entries, from_entries, get-insert, get-remove}
-use Rattle.std.specs.List.{filter}
-use Rattle.std.specs.Option.{option_map}
-use Rattle.std.specs.Ordering.{nat_cmp, eq_by_cmp}
+use Rattle.std.specs.Ordering.{eq_by_cmp}
 use Rattle.hv_defs.proofs.Maps.{found_row, get-mapped, get_at-insert, get_at-remove}
 use Rattle.hv_defs.specs.Flags.{pair_cmp}
 use Rattle.hv_defs.specs.declared.registers.TheConstants.{EOM}

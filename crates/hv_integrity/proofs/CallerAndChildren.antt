@@ -1,6 +1,5 @@
 -- Which partitions are a caller's relatives.
-use Rattle.std.proofs.Common.{◌≡◌, ℕ, ◌==◌, ◌||◌, Bool, true, false, refl, sym, ap, ◌∙◌}
-use Rattle.std.proofs.lemmas.Bool.{eqb-true}
+use Rattle.std.proofs.Common.{◌≡◌, ℕ, ◌==◌, ◌||◌, Bool, true, false, refl, sym, ap, ◌∙◌, eqb-true}
 use Rattle.hv_policy.specs.Flat.{Flat}
 use Rattle.hv_policy.specs.Met.{is_child, is_kin}
 use Rattle.hv_policy.specs.declared.need.Kin.{Kin}

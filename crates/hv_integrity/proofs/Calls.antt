@@ -1,11 +1,9 @@
 -- What each call changes is of the caller's relatives, or where it sends to.
-use Rattle.std.proofs.Common.{◌≡◌, ℕ, ◌+◌, ◌==◌, Bool, true, false, cond, List, Option, Some, None, ◌⊎◌, inl, inr, refl, sym, ap, subst, ◌∙◌}
-use Rattle.std.proofs.lemmas.Bool.{eq-eqb, or_right}
+use Rattle.std.proofs.Common.{◌≡◌, ℕ, ◌+◌, ◌==◌, Bool, true, false, cond, List, Option, Some, None, ◌⊎◌, inl, inr, refl, sym, ap, subst, ◌∙◌, eq-eqb, option_map}
+use Rattle.std.proofs.lemmas.Bool.{or_right}
 use Rattle.std.specs.FinMap.{get, insert}
-use Rattle.std.specs.Option.{option_map}
 use Rattle.hv_calls.specs.declared.call.Call.{Call}
-use Rattle.hv_calls.specs.declared.call.Call.TheVariants.{CreatePartition, DeletePartition, SetPartitionProperty, DepositMemory}
-use Rattle.hv_calls.specs.declared.call.Call.TheVariants.{WithdrawMemory, PostMessage, SignalEvent}
+use Rattle.hv_calls.specs.declared.call.Call.TheVariants.{CreatePartition, DeletePartition, SetPartitionProperty, DepositMemory, WithdrawMemory, PostMessage, SignalEvent}
 use Rattle.hv_defs.proofs.Maps.{get_at-insert}
 use Rattle.hv_policy.proofs.Rows.{get-narrowed}
 use Rattle.hv_policy.specs.Aim.{ResolvedPort, aim_of, flag_taker, message_taker}
@@ -21,7 +19,7 @@ use Rattle.hv_policy.specs.calls.{policy_of}
 use Rattle.hv_privs.specs.Privileges.{of}
 use Rattle.hv_privs.specs.declared.Privileges.{Privileges}
 use Rattle.hv_integrity.proofs.Apart.{nothing, once_counted}
-use Rattle.hv_integrity.proofs.Missing.{call_misses}
+use Rattle.hv_integrity.proofs.Missing.{call_misses, part_changed}
 use Rattle.hv_integrity.proofs.CallerAndChildren.{far_apart, kin_relative}
 use Rattle.hv_integrity.proofs.Reading.{caller_relative}
 use Rattle.hv_integrity.proofs.Sent.{posted_confined, signalled_confined}
@@ -54,21 +52,17 @@ module _ (f : Flat) (caller : ℕ) where
     off_target call a = far_apart f caller id (target_of call caller) far (kin_relative (needs_of call).kin f caller (target_of call caller) a.target.1.1.0)
 
     -- a post and a signal that lead nowhere
+    nowhere : (aim : ResolvedPort) (at : Option ℕ → Flat) → HasSame id f (at None) → (vp : Option ℕ) → reach_to aim vp ≡ CallerAndChildren → HasSame id f (at vp)
+    nowhere aim at same None none = same
+    nowhere aim at same (Some vp) none = cc
+
     unposted : (aim : Option ResolvedPort) (type : ℕ) (payload : List ℕ) → reach_through (message_taker f) aim ≡ CallerAndChildren → HasSame id f (post_to aim type payload f)
     unposted None type payload none = nothing id f
-    unposted (Some aim) type payload none = by (message_taker f aim) none
-      where
-        by : (vp : Option ℕ) → reach_to aim vp ≡ CallerAndChildren → HasSame id f (post_at aim vp type payload f)
-        by None none = nothing id f
-        by (Some vp) none = cc
+    unposted (Some aim) type payload none = nowhere aim (λ vp. post_at aim vp type payload f) (nothing id f) (message_taker f aim) none
 
     unsignalled : (aim : Option ResolvedPort) (flag : ℕ) → reach_through (flag_taker f) aim ≡ CallerAndChildren → HasSame id f (signal_to aim flag f)
     unsignalled None flag none = nothing id f
-    unsignalled (Some aim) flag none = by (flag_taker f aim) none
-      where
-        by : (vp : Option ℕ) → reach_to aim vp ≡ CallerAndChildren → HasSame id f (signal_at aim vp flag f)
-        by None none = nothing id f
-        by (Some vp) none = cc
+    unsignalled (Some aim) flag none = nowhere aim (λ vp. signal_at aim vp flag f) (nothing id f) (flag_taker f aim) none
 
     -- a property that narrows nothing
     unnarrowed : (b : Bool) (target : ℕ) (value : Privileges) → cond b (AndMasks target value) CallerAndChildren ≡ CallerAndChildren → b ≡ false
@@ -110,14 +104,7 @@ module _ (f : Flat) (caller : ℕ) where
       same (Some row) = refl
 
       elsewhere : (id : ℕ) → get (narrowed f target value) id ≡ get f.part id → HasSame id f (counted (record f { part = narrowed f target value }))
-      elsewhere id is = record {
-        part = sym is;
-        pages = λ _. refl;
-        vps = λ _. refl;
-        ports = λ _. refl;
-        conns = λ _. refl;
-        mail = λ _ _. refl;
-      }
+      elsewhere id is = once_counted id f _ (part_changed f id (narrowed f target value) f.next (sym is))
 
       inside : (id : ℕ) → HasSameButMask value id f (counted (record f { part = narrowed f target value }))
       inside id = record {

@@ -1,6 +1,5 @@
 -- Confinement, carried over to any state with the same rows.
-use Rattle.std.proofs.Common.{◌≡◌, ℕ, ◌==◌, ◌||◌, inl, inr, sym, ap, ◌∙◌}
-use Rattle.std.specs.Option.{option_map}
+use Rattle.std.proofs.Common.{◌≡◌, ℕ, ◌==◌, ◌||◌, inl, inr, sym, ap, ◌∙◌, option_map}
 use Rattle.hv_policy.specs.Count.{is_parent}
 use Rattle.hv_policy.specs.Flat.{Flat, VpRow}
 use Rattle.hv_policy.specs.Mail.{Place}

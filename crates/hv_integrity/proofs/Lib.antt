@@ -5,6 +5,7 @@ pub mod Calls
 pub mod Carried
 pub mod Confining
 pub mod Gains
+pub mod Held
 pub mod Missing
 pub mod Reading
 pub mod CallerAndChildren

@@ -1,9 +1,7 @@
 -- What an event isn't about stays as it was.
-use Rattle.std.proofs.Common.{◌≡◌, ℕ, ◌+◌, ◌==◌, ◌&&◌, Bool, true, false, cond, List, [], ◌∷◌, ◌++◌, Option, Some, None, refl, sym, ap, subst, ◌∙◌, append-nil}
-use Rattle.std.proofs.lemmas.Bool.{and_parts, eqb-false, ne_eqb}
+use Rattle.std.proofs.Common.{◌≡◌, ℕ, ◌+◌, ◌==◌, ◌&&◌, Bool, true, false, cond, List, [], ◌∷◌, ◌++◌, Option, Some, None, refl, sym, ap, subst, ◌∙◌, append-nil, ne_eqb, option_map, nat_cmp}
+use Rattle.std.proofs.lemmas.Bool.{and_parts, eqb-false}
 use Rattle.std.specs.FinMap.{FinMap, get, insert}
-use Rattle.std.specs.Option.{option_map}
-use Rattle.std.specs.Ordering.{nat_cmp}
 use Rattle.hv_calls.specs.declared.call.Call.{Call}
 use Rattle.hv_calls.specs.declared.call.Call.TheVariants.{CreatePartition, InitializePartition, FinalizePartition, DeletePartition, SetPartitionProperty, DepositMemory, WithdrawMemory, CreateVp}
 use Rattle.hv_calls.specs.declared.call.Call.TheVariants.{DeleteVp, SetVpRegisters, DeletePort, DisconnectPort, PostMessage, SignalEvent, CreatePort, ConnectPort}
@@ -40,7 +38,7 @@ use Rattle.hv_integrity.specs.Misses.{ActionMisses, CallMisses, IsNoEnd, Misses}
 
 module _ (f : Flat) (id : ℕ) where
   -- rows of one map alone change
-  part_changed : (part : FinMap nat_cmp PartRow) (n : ℕ) → get f.part id ≡ get part id → HasSame id f (record f { part = part; next = n })
+  pub part_changed : (part : FinMap nat_cmp PartRow) (n : ℕ) → get f.part id ≡ get part id → HasSame id f (record f { part = part; next = n })
   part_changed part n is = record { part = is; pages = λ _. refl; vps = λ _. refl; ports = λ _. refl; conns = λ _. refl; mail = λ _ _. refl }
 
   pages_changed : (pages : FinMap nat_cmp PageRow) → ((q : ℕ) → held_by id (get f.page q) ≡ held_by id (get pages q)) → HasSame id f (record f { page = pages })
@@ -77,12 +75,12 @@ module _ (f : Flat) (id : ℕ) where
       at None = nowhere
       at (Some port) = there (record { conn = conn; port = port }) (none conn refl)
 
-  posted : (aim : ResolvedPort) → id == aim.conn.part ≡ false → (type : ℕ) (payload : List ℕ) (o : Option ℕ) → HasSame id f (post_at aim o type payload f)
+  pub posted : (aim : ResolvedPort) → id == aim.conn.part ≡ false → (type : ℕ) (payload : List ℕ) (o : Option ℕ) → HasSame id f (post_at aim o type payload f)
   posted aim off type payload None = nothing id f
   posted aim off type payload (Some vp) =
       post_elsewhere (record { part = aim.conn.part; vp = vp; sint = aim.port.sint; port = aim.conn.port; born = aim.conn.born; type = type; payload = payload; shown = false }) off
 
-  signalled : (aim : ResolvedPort) → id == aim.conn.part ≡ false → (flag : ℕ) (o : Option ℕ) → HasSame id f (signal_at aim o flag f)
+  pub signalled : (aim : ResolvedPort) → id == aim.conn.part ≡ false → (flag : ℕ) (o : Option ℕ) → HasSame id f (signal_at aim o flag f)
   signalled aim off flag None = nothing id f
   signalled aim off flag (Some vp) = staff_apart id aim.conn.part off f vp _
 

@@ -1,6 +1,5 @@
 -- Two states that agree for an event give it the same reply.
-use Rattle.std.proofs.Common.{◌≡◌, ◌++◌, Bool, true, false, nat_lt, length, [], ◌∷◌, Option, Some, None, find, is_some, refl, sym, ap, ◌∙◌}
-use Rattle.std.specs.Option.{option_map}
+use Rattle.std.proofs.Common.{◌≡◌, ◌++◌, Bool, true, false, nat_lt, length, [], ◌∷◌, Option, Some, None, find, is_some, refl, sym, ap, ◌∙◌, option_map}
 use Rattle.hv_abi.specs.Check.{call_of}
 use Rattle.hv_abi.specs.declared.call_kind.CallKind.{CallKind}
 use Rattle.hv_abi.specs.declared.frame.Frame.{Frame}
@@ -21,7 +20,8 @@ use Rattle.hv_policy.specs.declared.event.Action.TheVariants.{Hypercall}
 use Rattle.hv_policy.specs.declared.event.Caller.{Caller}
 use Rattle.hv_policy.specs.declared.event.Event.{Event}
 use Rattle.hv_policy.specs.declared.rule.Rule.TheVariants.{CallerExists, CallerActive, CallerVpExists}
-use Rattle.hv_integrity.proofs.Reading.{access_alike, own, there_alike}
+use Rattle.hv_integrity.proofs.Held.{access_alike}
+use Rattle.hv_integrity.proofs.Reading.{own, there_alike}
 use Rattle.hv_integrity.proofs.CallerAndChildren.{kin_relative}
 use Rattle.hv_integrity.proofs.Asked.{CallAlike, MakesAlike, OwnAlike, behind, output_alike, reply_alike, stops}
 use Rattle.hv_integrity.proofs.Ruled.{further_alike, reads, targets_alike}
@@ -39,7 +39,7 @@ module _ (by : Caller) (f g : Flat) (a : Agrees by.part f g) where
   own_alike : OwnAlike by f g
   own_alike = record {
     callers = callers_alike;
-    accessed = access_alike by.part f g a;
+    accessed = access_alike f g by.part (own by.part f g a).part;
     vp = (own by.part f g a).vps by.vp;
     slots = λ sint. ap (λ rows. row_bytes (find is_shown rows) (nat_lt 1 (length rows))) ((own by.part f g a).mail by.vp sint);
   }

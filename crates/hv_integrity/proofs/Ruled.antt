@@ -12,8 +12,8 @@ use Rattle.hv_policy.specs.Met.{has_flag, is_depth_left, is_for_messages, is_kin
 use Rattle.hv_policy.specs.Needs.{charge_of, resolved_id, needs_of, target_of}
 use Rattle.hv_policy.specs.Rules.{first_unmet, further_asks, target_asks}
 use Rattle.hv_policy.specs.declared.rule.Rule.TheVariants.{Privilege, TargetExists, TargetScope, Connection, Port, VpExists, Operand, VpReady, PortRoom}
-use Rattle.hv_integrity.proofs.Reading.{access_alike, available_alike, child_alike, children_alike, depth_alike, give_alike, kin_alike, loose_alike, lowest_alike, next_child_alike, own, there_alike}
-use Rattle.hv_integrity.proofs.Reading.{use_alike}
+use Rattle.hv_integrity.proofs.Held.{reads_alike}
+use Rattle.hv_integrity.proofs.Reading.{child_alike, depth_alike, kin_alike, own, there_alike}
 use Rattle.hv_integrity.proofs.Asked.{NamedAlike, ReadsAlike, asked_alike}
 use Rattle.hv_integrity.proofs.Through.{on_aim_alike, on_room_alike, on_taker_alike, on_target_alike}
 use Rattle.hv_integrity.specs.Agreed.{Agrees, AgreesOnNamed}
@@ -35,21 +35,9 @@ module _ (caller : ℕ) (f g : Flat) (a : Agrees caller f g) where
 
   -- what a call reads, where they have the same of the target
   pub reads : (target : ℕ) → HasSame target f g → ReadsAlike caller target f g
-  reads target t = record {
-    part = t.part;
-    vps = t.vps;
-    ports = λ port. ap is_some (t.ports port);
-    conns = λ connection. ap is_some (t.conns connection);
-    children = children_alike caller f g a target;
-    child = child_alike caller f g a target;
-    following = next_child_alike caller f g a target;
-    unused = available_alike caller f g a target t;
-    used = use_alike caller f g a target t;
-    lowest = lowest_alike caller f g a target t;
-    loose = loose_alike caller f g a;
-    given = give_alike caller f g a;
-    accessed = access_alike caller f g a;
-  }
+  reads target t =
+      reads_alike f g caller target (own caller f g a).part (own caller f g a).pages t.part t.pages t.vps (λ port. ap is_some (t.ports port)) (λ connection. ap is_some (t.conns connection))
+      (child_alike caller f g a target)
 
   named : (call : Call) → AgreesOnNamed call caller f g → NamedAlike caller (target_of call caller) (needs_of call).states (charge_of call) f g call
   named (CreatePartition flags) n = depth_left_alike

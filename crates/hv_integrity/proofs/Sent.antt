@@ -1,11 +1,10 @@
 -- What a post or a signal leaves as it was: all but what stands where it goes, of which nothing goes.
-use Rattle.std.proofs.Common.{◌≡◌, ℕ, ◌+◌, ◌==◌, ◌&&◌, ◌||◌, Bool, true, false, cond, List, [], ◌∷◌, ◌++◌, Option, Some, None, refl, sym, ap, ◌∙◌, arith}
-use Rattle.std.proofs.lemmas.Bool.{and_parts, eqb-true}
+use Rattle.std.proofs.Common.{◌≡◌, ℕ, ◌+◌, ◌==◌, ◌&&◌, ◌||◌, Bool, true, false, cond, List, [], ◌∷◌, ◌++◌, Option, Some, None, refl, sym, ap, ◌∙◌, arith, eqb-true, option_map, nat_cmp}
+use Rattle.std.proofs.lemmas.Bool.{and_parts}
 use Rattle.std.specs.Cmp.{unsigned_tied}
 use Rattle.std.specs.FinMap.{get}
 use Rattle.std.specs.FinSet as set
-use Rattle.std.specs.Option.{option_map}
-use Rattle.std.specs.Ordering.{nat_cmp, eq_by_cmp}
+use Rattle.std.specs.Ordering.{eq_by_cmp}
 use Rattle.hv_defs.specs.Flags.{pair_cmp}
 use Rattle.hv_policy.proofs.Pairs.{pair_cmp_total, tied_pairs}
 use Rattle.hv_policy.proofs.Places.{posted_apart}
@@ -25,9 +24,9 @@ module _ (at : Place) (h : VpRow → VpRow) (registers : (row : VpRow) → row.r
   tied_at : (id vp : ℕ) → eq_by_cmp pair_cmp (id, vp) (at.part, at.vp) ≡ is_at at id vp
   tied_at id vp = tied_pairs id vp at.part at.vp ∙ ap (λ b. (id == at.part) && b) (unsigned_tied vp at.vp)
 
-  same_but : (f : Flat) (mail : List MailRow) (id : ℕ) → ((vp sint : ℕ) → is_place at (place id vp sint) ≡ false → mail_at (place id vp sint) f.mail ≡ mail_at (place id vp sint) mail) → HasSameBut at
-      id f (record f { vp = with_vp f.vp (at.part, at.vp) h; mail = mail })
-  same_but f mail id mails = record {
+  same_but : (f : Flat) (mail : List MailRow) (served id : ℕ) → ((vp sint : ℕ) → is_place at (place id vp sint) ≡ false → mail_at (place id vp sint) f.mail ≡ mail_at (place id vp sint) mail) →
+      HasSameBut at id f (record f { vp = with_vp f.vp (at.part, at.vp) h; mail = mail; served = served })
+  same_but f mail served id mails = record {
     part = refl;
     pages = λ _. refl;
     vps = λ vp off. sym (is vp ∙ ap (λ b. cond b (option_map h (get f.vp (at.part, at.vp))) (get f.vp (id, vp))) off);
@@ -73,23 +72,10 @@ module _ (at : Place) (h : VpRow → VpRow) (registers : (row : VpRow) → row.r
 nothing_sent : (f : Flat) (caller : ℕ) → IntegrityWithin CallerAndChildren caller f (counted f)
 nothing_sent f caller id apart = once_counted id f f (nothing id f)
 
--- one more served event changes nothing more
-but_counted : (at : Place) (id : ℕ) (f g : Flat) → HasSameBut at id f g → HasSameBut at id f (counted g)
-but_counted at id f g s = record {
-  part = s.part;
-  pages = s.pages;
-  vps = s.vps;
-  registers = s.registers;
-  flags = s.flags;
-  ports = s.ports;
-  conns = s.conns;
-  mail = s.mail;
-}
-
 -- a message through a connection, at the processor that takes it
 message_confined : (aim : ResolvedPort) (vp type : ℕ) (payload : List ℕ) (f : Flat) (caller : ℕ) → IntegrityWithin (AndPlace (aimed_place aim vp)) caller f
     (counted (post_at aim (Some vp) type payload f))
-message_confined aim vp type payload f caller = (λ id apart. but_counted at id f (post_at aim (Some vp) type payload f) (others id), gains)
+message_confined aim vp type payload f caller = (λ id apart. others id, gains)
   where
     at : Place
     at = aimed_place aim vp
@@ -109,8 +95,9 @@ message_confined aim vp type payload f caller = (λ id apart. but_counted at id 
     did : Bool
     did = has_next at (f.mail ++ row ∷ [])
 
-    others : (id : ℕ) → HasSameBut at id f (post_at aim (Some vp) type payload f)
-    others id = same_but at (row_raised did at.sint) (λ _. refl) (λ _ _ _ _. refl) f (shown_next at (f.mail ++ row ∷ [])) id (λ vp sint off. sym (posted_apart (place id vp sint) row off f.mail))
+    others : (id : ℕ) → HasSameBut at id f (counted (post_at aim (Some vp) type payload f))
+    others id = same_but at (row_raised did at.sint) (λ _. refl) (λ _ _ _ _. refl) f (shown_next at (f.mail ++ row ∷ [])) (f.served + 1) id
+        (λ vp sint off. sym (posted_apart (place id vp sint) row off f.mail))
 
     gains : OnlyGains at f (counted (post_at aim (Some vp) type payload f))
     gains = record {
@@ -132,7 +119,7 @@ posted_confined (Some aim) type payload f caller = by (message_taker f aim)
 
 -- a flag through a connection, at the processor that takes it
 flag_confined : (aim : ResolvedPort) (vp flag : ℕ) (f : Flat) (caller : ℕ) → IntegrityWithin (AndPlace (aimed_place aim vp)) caller f (counted (signal_at aim (Some vp) flag f))
-flag_confined aim vp flag f caller = (λ id apart. but_counted (aimed_place aim vp) id f (signal_at aim (Some vp) flag f) (others id), gains)
+flag_confined aim vp flag f caller = (λ id apart. others id, gains)
   where
     signalled : ℕ
     signalled = aim.port.base + flag
@@ -142,8 +129,8 @@ flag_confined aim vp flag f caller = (λ id apart. but_counted (aimed_place aim 
         sym (set.contains-insert pair_cmp_total row.flags (aim.port.sint, signalled) (sint, n)
         ∙ ap (λ b. b || set.contains row.flags (sint, n)) (tied_pairs sint n aim.port.sint signalled ∙ ap (λ b. b && eq_by_cmp nat_cmp n signalled) off))
 
-    others : (id : ℕ) → HasSameBut (aimed_place aim vp) id f (signal_at aim (Some vp) flag f)
-    others id = same_but (aimed_place aim vp) (row_signalled aim.port.sint signalled) (λ _. refl) elsewhere f f.mail id (λ _ _ _. refl)
+    others : (id : ℕ) → HasSameBut (aimed_place aim vp) id f (counted (signal_at aim (Some vp) flag f))
+    others id = same_but (aimed_place aim vp) (row_signalled aim.port.sint signalled) (λ _. refl) elsewhere f f.mail (f.served + 1) id (λ _ _ _. refl)
 
     gains : OnlyGains (aimed_place aim vp) f (counted (signal_at aim (Some vp) flag f))
     gains = record {

@@ -1,6 +1,5 @@
 -- What two states have alike through a connection, where they agree on its port.
-use Rattle.std.proofs.Common.{◌≡◌, ℕ, true, false, cond, nat_lt, Bool, Option, Some, None, is_some, refl, ap, ◌∙◌}
-use Rattle.std.proofs.lemmas.Bool.{eq-eqb}
+use Rattle.std.proofs.Common.{◌≡◌, ℕ, true, false, cond, nat_lt, Bool, Option, Some, None, is_some, refl, ap, ◌∙◌, eq-eqb}
 use Rattle.std.specs.FinMap.{get}
 use Rattle.std.specs.Option.{option_map_or}
 use Rattle.hv_defs.specs.declared.aim.Aim.{Aim}

@@ -1,7 +1,6 @@
 -- Low equivalence for one event: the part of a state on which the reply depends.
-use Rattle.std.specs.Prelude.{◌≡◌, ℕ, true, Option, None, Some}
+use Rattle.std.specs.Prelude.{◌≡◌, ℕ, true, Option, None, Some, option_map}
 use Rattle.std.specs.FinMap.{get}
-use Rattle.std.specs.Option.{option_map}
 use Rattle.hv_calls.specs.declared.call.Call.{Call}
 use Rattle.hv_calls.specs.declared.call.Call.TheVariants.{PostMessage, SignalEvent, ConnectPort}
 use Rattle.hv_policy.specs.Aim.{aims_at}

@@ -1,9 +1,8 @@
 -- What one partition has in a flat state, and the relatives of a caller.
 use Rattle.std.specs.Prelude.{◌≡◌, ℕ, ◌≤◌, ◌==◌, ◌&&◌, ◌⊎◌, ◌++◌, if◌then◌else◌, length, map, Bool, true}
-use Rattle.std.specs.Prelude.{false, List, Option, None, Some}
+use Rattle.std.specs.Prelude.{false, List, Option, None, Some, option_map}
 use Rattle.std.specs.FinMap.{get}
 use Rattle.std.specs.FinSet as set
-use Rattle.std.specs.Option.{option_map}
 use Rattle.hv_policy.specs.Effect.{narrowed_row}
 use Rattle.hv_policy.specs.Flat.{Flat, MailRow, PageRow, VpRow}
 use Rattle.hv_policy.specs.Mail.{Place, as_shown, mail_at}

@@ -23,6 +23,7 @@ ghost use Rattle.hv_integrity.specs.Unrelated.{AreUnrelated};
 /// - A post or a signal may add to the SINT at which its connection's port aims, at the processor that takes
 ///   it. It removes nothing there.
 /// - A mask that is given to an Active child also restricts the masks of all descendants of that child.
+#[tactic(auto, using(crate::proofs::Confining::confined))]
 pub fn each_event_is_confined<A>()
     ensures { (f : Flat) (e : Event A) → Integrity e f (step f e).0 }
 {}
@@ -34,12 +35,14 @@ pub fn each_event_is_confined<A>()
 /// - for three calls, the port that they name;
 /// - for a post and a signal, also the processor at which that port aims, or all processors of its partition
 ///   if it aims at any.
+#[tactic(auto, using(crate::proofs::Replies::same_reply))]
 pub fn each_reply_is_of_what_relatives_have<A>()
     ensures { (f g : Flat) (e : Event A) → LowEquivalent e f g → (step f e).1 ≡ (step g e).1 }
 {}
 
 /// Events of unrelated partitions do not show. After any number of them, a partition and its children have
 /// what they had, and the reply to an event is what it was before them.
+#[tactic(auto, using(crate::proofs::Unshown::agreed_all, crate::proofs::Unshown::hidden))]
 pub fn unrelated_events_do_not_show<A>()
     ensures kept { (f : Flat) (others : List (Event A)) (id : ℕ) → AreUnrelated others id f
         → Agrees id f (run_from f others).0 }

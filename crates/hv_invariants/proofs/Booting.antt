@@ -1,13 +1,13 @@
 -- The state that boot gives is lawful.
 use Rattle.std.proofs.Common.{◌≡◌, ℕ, zero, suc, ◌+◌, ◌*◌, ◌≤◌, ◌==◌, Bool, true, false, cond, ◌&&◌, ◌||◌, nat_lt, List, [], ◌∷◌, length, map, Some, None, is_some, refl, sym, ap, subst, ◌∙◌, arith}
-use Rattle.std.proofs.lemmas.Bool.{eqb-true, lt-ltb, ltb-true, ltb-false, or_parts}
+use Rattle.std.proofs.Common.{eqb-true, lt-ltb, ltb-true, ltb-false, nat_cmp, is_eq, Ordering}
+use Rattle.std.proofs.lemmas.Bool.{or_parts}
 use Rattle.std.proofs.lemmas.List.FromFn.{length-range_with_len, length-map-range_with_len}
 use Rattle.std.proofs.lemmas.List.Sums.{count_by-le-length}
 use Rattle.std.specs.Cmp.{IsTotalOrder, nat_cmp_total, nat_eq_equiv, unsigned_tied, tied_then}
 use Rattle.std.specs.FinMap.{get, empty, entries, from_entries, find, get-insert, get-empty, get-from_entries, len, len-entries, len-empty, len-insert, contains_key, nat_cmp-IsAntisymmetric}
 use Rattle.std.specs.List.{AllByRecursion, IsDistinct, list_any, range_with_len}
-use Rattle.std.specs.Ordering.{nat_cmp, eq_by_cmp, is_eq}
-use Rattle.std.specs.declared.cmp.Ordering.{Ordering}
+use Rattle.std.specs.Ordering.{eq_by_cmp}
 use Rattle.hv_defs.proofs.Counts.{passes, count_by-none}
 use Rattle.hv_defs.proofs.Ranges.{beneath, listed_below, listed_range}
 use Rattle.hv_defs.proofs.Tallies.{count-from_keys}

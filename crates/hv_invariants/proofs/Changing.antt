@@ -1,11 +1,8 @@
 -- A partition with another row.
-use Rattle.std.proofs.Common.{◌≡◌, ℕ, ◌<◌, ◌≤◌, ◌==◌, Bool, true, false, cond, if◌then◌else◌, not, Option, Some, None, is_some, refl, sym, ap, subst, ◌∙◌, arith}
-use Rattle.std.proofs.lemmas.Bool.{eqb-true, ne_eqb, eq-eqb}
+use Rattle.std.proofs.Common.{◌≡◌, ℕ, ◌<◌, ◌≤◌, ◌==◌, Bool, true, false, cond, if◌then◌else◌, not, Option, Some, None, is_some, refl, sym, ap, subst, ◌∙◌, arith, eqb-true, ne_eqb, eq-eqb, count_by}
+use Rattle.std.proofs.Common.{option_and_then, option_map, nat_cmp}
 use Rattle.std.specs.Cmp.{nat_cmp_total}
 use Rattle.std.specs.FinMap.{FinMap, get, contains_key, entries, nat_cmp-IsAntisymmetric}
-use Rattle.std.specs.List.{count_by}
-use Rattle.std.specs.Option.{option_and_then, option_map}
-use Rattle.std.specs.Ordering.{nat_cmp}
 use Rattle.hv_defs.proofs.Counts.{passes, count_by-none}
 use Rattle.hv_defs.specs.declared.life.Life.TheVariants.{Active, Finalized}
 use Rattle.hv_policy.proofs.Pairs.{pair_cmp_total, pair_cmp_exact}
@@ -23,8 +20,10 @@ use Rattle.hv_policy.proofs.Subtrees.{child_within}
 use Rattle.hv_policy.specs.Subtree.{is_in_subtree}
 use Rattle.hv_privs.proofs.PrivilegesLemmas.{restrict-HasBit}
 use Rattle.hv_privs.specs.declared.Privileges.{Privileges}
-use Rattle.hv_defs.proofs.Tallies.{count-alike, count-fewer, none-counted}
-use Rattle.hv_invariants.proofs.Mailing.{AreMailed, mail_left, mailed_of, ports_but}
+use Rattle.hv_defs.proofs.Tallies.{count-alike, none-counted}
+use Rattle.hv_invariants.proofs.Mailing.{mail_left, mailed_of, ports_but}
+use Rattle.hv_invariants.proofs.Owned.{no_more, owned}
+use Rattle.hv_invariants.proofs.Staffing.{less}
 use Rattle.hv_invariants.specs.StateInvariant.{StateInvariant}
 
 -- what uses nothing is nobody's parent
@@ -270,17 +269,12 @@ module _ (pages : ℕ) (f : Flat) (l : StateInvariant pages f) (target : ℕ) wh
   abbrev dropped : Flat
   dropped = record f { vp = rows_but target f.vp; port = rows_but target f.port; conn = rows_but target f.conn; mail = mail_but target f.mail }
 
-  rows-fewer : {X : Type 0} (rows : FinMap pair_cmp X) (id : ℕ) → count_by (λ (e : (ℕ × ℕ) × X). e.0.0 == id) (entries (rows_but target rows)) ≤ count_by (λ (e : (ℕ × ℕ) × X). e.0.0 == id)
-      (entries rows)
-  rows-fewer {X = X} rows id = count-fewer pair_cmp_total pair_cmp_exact own own (rows_but target rows) rows
-      (λ key h. by key (key.0 == target) (sym (ap (passes own key) (get-rows_but rows target key)) ∙ h))
+  rows-fewer : {X : Type 0} (rows : FinMap pair_cmp X) (id : ℕ) → owned (rows_but target rows) id ≤ owned rows id
+  rows-fewer rows = no_more rows (rows_but target rows) (λ key h. by (not (key.0 == target)) (get rows key) (sym (ap is_some (get-rows_but rows target key)) ∙ h))
     where
-      own : (ℕ × ℕ) × X → Bool
-      own e = e.0.0 == id
-
-      by : (key : ℕ × ℕ) (b : Bool) → passes (λ (e : (ℕ × ℕ) × X). e.0.0 == id) key (cond (not b) (get rows key) None) ≡ true → passes (λ (e : (ℕ × ℕ) × X). e.0.0 == id) key (get rows key) ≡ true
-      by key true h = cc
-      by key false h = h
+      by : {X : Type 0} (b : Bool) (r : Option X) → is_some (cond b r None) ≡ true → is_some r ≡ true
+      by true r h = h
+      by false r h = cc
 
   rows-none : {X : Type 0} (rows : FinMap pair_cmp X) → count_by (λ (e : (ℕ × ℕ) × X). e.0.0 == target) (entries (rows_but target rows)) ≡ 0
   rows-none {X = X} rows = count_by-none pair_cmp pair_cmp_total pair_cmp_exact (rows_but target rows) (λ e. e.0.0 == target)
@@ -291,31 +285,11 @@ module _ (pages : ℕ) (f : Flat) (l : StateInvariant pages f) (target : ℕ) wh
       by key false is None = refl
       by key false is (Some x) = is
 
-  dropped_use : (id : ℕ) → in_use dropped id ≤ in_use f id
-  dropped_use id =
-      let vps = rows-fewer f.vp id in
-      let ports = rows-fewer f.port id in
-      let conns = rows-fewer f.conn id in
-      omega arith
-
-  dropped_mail : AreMailed f.served (rows_but target f.port) (mail_but target f.mail)
-  dropped_mail =
-      ports_but f.served f.port target (mail_but target f.mail)
-      (mail_left f.served f.port (λ row. not (row.part == target)) f.mail (mailed_of pages f l))
-
   dropped_lawful : StateInvariant pages dropped
-  dropped_lawful = record {
-    below = l.below;
-    above = l.above;
-    within = λ id. (let fewer = dropped_use id in let within = l.within id in omega arith);
-    idle = λ id still. (let fewer = dropped_use id in let none = l.idle id still in omega arith);
-    masks = l.masks;
-    paged = l.paged;
-    owned = l.owned;
-    few = l.few;
-    ports = dropped_mail.ports;
-    placed = dropped_mail.placed;
-  }
+  dropped_lawful =
+      less pages f l (rows_but target f.vp) (rows_but target f.port) (rows_but target f.conn) (mail_but target f.mail) f.served (omega arith)
+      (ports_but f.served f.port target (mail_but target f.mail) (mail_left f.served f.port (λ row. not (row.part == target)) f.mail (mailed_of pages f l)))
+      (λ id. (let vps = rows-fewer f.vp id in let ports = rows-fewer f.port id in let conns = rows-fewer f.conn id in omega arith))
 
   pub closed : child_count f target ≡ 0 → StateInvariant pages (record dropped { part = with_row f.part target (λ row. record row { life = Finalized }) })
   closed none =

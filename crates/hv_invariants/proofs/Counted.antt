@@ -17,7 +17,7 @@ use Rattle.hv_policy.specs.declared.event.Action.TheVariants.{Hypercall, WriteMs
 use Rattle.hv_policy.specs.declared.event.Caller.{Caller}
 use Rattle.hv_policy.specs.declared.event.Event.{Event}
 use Rattle.hv_policy.specs.declared.rule.Rule.{Rule}
-use Rattle.hv_invariants.proofs.Ended.{posted_counted, register_counted, signalled_counted, write_served_is}
+use Rattle.hv_invariants.proofs.Ended.{posted_counted, register_counted, signalled_counted, msr_counted}
 
 -- what a call changes isn't the count
 pub call_served : (call : Call) (f : Flat) (caller target : ℕ) → (call_effect call f caller target).served ≡ f.served
@@ -35,7 +35,7 @@ module _ {A : Type 0} where
   -- nor what any action changes
   pub action_served : (what : Action A) (f : Flat) (by : Caller) → (action_effect f by what).served ≡ f.served
   action_served (Hypercall frame) f by = served_by f by.part (called frame)
-  action_served (WriteMsr msr value) f by = write_served_is by.part by.vp (name_of_msr msr) value f
+  action_served (WriteMsr msr value) f by = (msr_counted by.part by.vp (name_of_msr msr) value f).served
   action_served what f by = refl
 
   -- an event counts once where it is served, and not where it is refused

@@ -1,8 +1,7 @@
 -- A partition that goes, and its pages with its heir.
-use Rattle.std.proofs.Common.{◌≡◌, ℕ, ◌≤◌, ◌==◌, Bool, true, false, cond, Option, Some, None, is_some, map, refl, sym, ap, subst, ◌∙◌, arith}
-use Rattle.std.proofs.lemmas.Bool.{eqb-true, and_parts}
+use Rattle.std.proofs.Common.{◌≡◌, ℕ, ◌≤◌, ◌==◌, Bool, true, false, cond, Option, Some, None, is_some, map, refl, sym, ap, subst, ◌∙◌, arith, eqb-true, option_map}
+use Rattle.std.proofs.lemmas.Bool.{and_parts}
 use Rattle.std.specs.FinMap.{get, remove, contains_key, entries, from_entries}
-use Rattle.std.specs.Option.{option_map}
 use Rattle.hv_defs.proofs.Counts.{passes}
 use Rattle.hv_policy.specs.Count.{child_count, in_use, is_parent, pooled_count}
 use Rattle.hv_policy.specs.Effect.{inherited}

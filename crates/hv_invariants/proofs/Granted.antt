@@ -1,15 +1,14 @@
 -- What the rules tell that are met.
-use Rattle.std.proofs.Common.{◌≡◌, ℕ, ◌+◌, ◌<◌, ◌≤◌, ◌==◌, ◌&&◌, ◌||◌, not, nat_le, nat_lt, Bool, true, false, cond, List, ◌++◌, Option, Some, None, is_some, refl, ap, subst, arith}
-use Rattle.std.proofs.lemmas.Bool.{and_parts, eqb-true, leb-true, ltb-true}
+use Rattle.std.proofs.Common.{◌≡◌, ℕ, ◌+◌, ◌<◌, ◌≤◌, ◌==◌, ◌&&◌, ◌||◌, not, nat_le, nat_lt, Bool, true, false, cond, List, ◌++◌, Option, Some, None, is_some, refl, ap, subst, arith, eqb-true}
+use Rattle.std.proofs.Common.{leb-true, ltb-true, option_map}
+use Rattle.std.proofs.lemmas.Bool.{and_parts}
 use Rattle.std.specs.FinMap.{get, contains_key}
-use Rattle.std.specs.Option.{option_map}
 use Rattle.hv_abi.specs.declared.call_kind.CallKind.{CallKind}
 use Rattle.hv_abi.specs.declared.call_kind.CallKind.TheVariants as kind
 use Rattle.hv_abi.specs.declared.frame.Frame.{Frame}
 use Rattle.hv_abi.specs.Check.{call_of, input_of, is_fast}
-use Rattle.hv_calls.specs.Call.{call_in, port_kind}
+use Rattle.hv_calls.specs.Call.{call_in, port_kind, are_well_formed}
 use Rattle.hv_calls.specs.Params.{element_at, parameters}
-use Rattle.hv_calls.specs.Call.{are_well_formed}
 use Rattle.hv_calls.specs.Fields.{are_flags, is_id, is_port_type}
 use Rattle.hv_calls.specs.declared.call.Call.{Call}
 use Rattle.hv_defs.specs.Bits.{bits}

@@ -1,6 +1,6 @@
 -- Each state that the flat model reaches from boot is lawful.
-use Rattle.std.proofs.Common.{◌≡◌, ℕ, ◌==◌, ◌&&◌, not, Bool, nat_lt, true, false, List, [], ◌∷◌, Option, Some, None, refl, sym, ap, subst, ◌∙◌, arith}
-use Rattle.std.proofs.lemmas.Bool.{and_parts, eqb-true, ne_eqb, leb-true}
+use Rattle.std.proofs.Common.{◌≡◌, ℕ, ◌+◌, ◌==◌, ◌&&◌, not, Bool, nat_lt, true, false, List, [], ◌∷◌, Option, Some, None, refl, sym, ap, subst, ◌∙◌, arith, eqb-true, ne_eqb, leb-true}
+use Rattle.std.proofs.lemmas.Bool.{and_parts}
 use Rattle.std.specs.FinMap.{contains_key, get}
 use Rattle.hv_calls.specs.declared.call.Call.{Call}
 use Rattle.hv_calls.specs.declared.call.Call.TheVariants.{CreatePartition, InitializePartition, FinalizePartition, DeletePartition, SetPartitionProperty, DepositMemory, WithdrawMemory, CreateVp}
@@ -36,8 +36,9 @@ use Rattle.hv_invariants.proofs.Deleting.{deleted}
 use Rattle.hv_invariants.proofs.Granted.{caller_there, child_row, is_served, state_row, target_there}
 use Rattle.hv_invariants.proofs.Lending.{deposited, withdrawn_pages}
 use Rattle.hv_invariants.proofs.Mailing.{mail_counted, mail_left, mailed_of}
+use Rattle.hv_invariants.proofs.Ongoing.{idle_state}
 use Rattle.hv_invariants.proofs.Posting.{cleared_lawful, msr_lawful, post_lawful, register_lawful, signal_lawful}
-use Rattle.hv_invariants.proofs.Staffing.{conn_added, conn_removed, port_added, port_removed, vp_added, vp_changed, vp_removed}
+use Rattle.hv_invariants.proofs.Staffing.{conn_added, conn_removed, less, port_added, port_removed, vp_added, vp_changed, vp_removed}
 use Rattle.hv_policy.proofs.Rows.{row_of}
 use Rattle.hv_invariants.specs.Bounded.{IsBounded}
 use Rattle.hv_invariants.specs.StateInvariant.{StateInvariant}
@@ -45,24 +46,7 @@ use Rattle.hv_invariants.specs.StateInvariant.{StateInvariant}
 -- one more served event changes nothing of it
 pub counted_lawful : (pages : ℕ) (f : Flat) → StateInvariant pages f → StateInvariant pages (counted f)
 counted_lawful pages f l =
-    let mailed = mail_counted f.served f.port f.mail (mailed_of pages f l) in
-    record {
-      below = l.below;
-      above = l.above;
-      within = l.within;
-      idle = l.idle;
-      masks = l.masks;
-      paged = l.paged;
-      owned = l.owned;
-      few = let few = l.few in omega arith;
-      ports = mailed.ports;
-      placed = mailed.placed;
-    }
-
-idle_state : (life : Life) → is_among life states.CreatedOrFinalized ≡ true → is_active life ≡ false
-idle_state Created h = refl
-idle_state Active h = cc
-idle_state Finalized h = refl
+    less pages f l f.vp f.port f.conn f.mail (f.served + 1) (omega arith) (mail_counted f.served f.port f.mail (mailed_of pages f l)) (λ id. omega arith)
 
 module _ (pages : ℕ) (f : Flat) (l : StateInvariant pages f) (caller : ℕ) where
   -- what is there and isn't Active uses nothing

@@ -4,11 +4,11 @@ pub mod Creation
 pub mod Counted
 pub mod Deleting
 pub mod Ended
-pub mod Gains
 pub mod Granted
 pub mod Laws
 pub mod Lending
 pub mod Mailing
+pub mod Ongoing
 pub mod Owned
 pub mod Partitions
 pub mod Posting

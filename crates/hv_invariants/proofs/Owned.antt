@@ -1,7 +1,6 @@
 -- How many rows by (partition, number) a partition has, once one comes or goes.
-use Rattle.std.proofs.Common.{◌≡◌, ℕ, ◌+◌, ◌≤◌, ◌==◌, Bool, true, false, cond, Option, Some, None, is_some, refl, sym, ap, ◌∙◌}
+use Rattle.std.proofs.Common.{◌≡◌, ℕ, ◌+◌, ◌≤◌, ◌==◌, Bool, true, false, cond, Option, Some, None, is_some, refl, sym, ap, ◌∙◌, count_by}
 use Rattle.std.specs.FinMap.{FinMap, get, insert, remove, entries, contains_key, get-remove}
-use Rattle.std.specs.List.{count_by}
 use Rattle.std.specs.Ordering.{eq_by_cmp}
 use Rattle.hv_defs.proofs.Counts.{passes}
 use Rattle.hv_defs.proofs.Tallies.{count-fewer, count-insert}

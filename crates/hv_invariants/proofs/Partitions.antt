@@ -1,24 +1,20 @@
 -- How many partitions there are: each but the root took an event of the run.
-use Rattle.std.proofs.Common.{◌≡◌, ℕ, zero, suc, ◌+◌, ◌-◌, ◌≤◌, ◌==◌, Bool, true, false, cond, if◌then◌else◌, List, [], ◌∷◌, length, Option, Some, None, refl, sym, ap, ◌∙◌, arith}
+use Rattle.std.proofs.Common.{◌≡◌, ℕ, ◌+◌, ◌-◌, ◌≤◌, ◌==◌, Bool, true, false, cond, if◌then◌else◌, List, [], ◌∷◌, length, Option, Some, None, refl, sym, ap, ◌∙◌, arith, count_by, option_map, nat_cmp}
 use Rattle.std.proofs.lemmas.List.Sums.{sum_by-cons}
 use Rattle.std.specs.Cmp.{nat_cmp_total}
 use Rattle.std.specs.FinMap.{FinMap, contains_key, empty, entries, get, insert, len, len-empty, len-entries, len-insert, len-remove, nat_cmp-IsAntisymmetric, remove}
-use Rattle.std.specs.List.{count_by}
-use Rattle.std.specs.Option.{option_map}
-use Rattle.std.specs.Ordering.{nat_cmp}
 use Rattle.hv_calls.specs.declared.call.Call.{Call}
 use Rattle.hv_calls.specs.declared.call.Call.TheVariants.{CreatePartition, InitializePartition, FinalizePartition, DeletePartition, SetPartitionProperty, SetVpRegisters, PostMessage, SignalEvent}
 use Rattle.hv_defs.proofs.Counts.{passes}
 use Rattle.hv_defs.proofs.Tallies.{count-fewer}
 use Rattle.hv_defs.specs.Registers.{name_of_msr}
 use Rattle.hv_defs.specs.declared.life.Life.TheVariants.{Active, Finalized}
-use Rattle.hv_defs.specs.declared.registers.TheConstants.{EOM}
-use Rattle.hv_defs.specs.declared.sizes.TheConstants.{ROOT_ID, SINTS}
-use Rattle.hv_policy.specs.Aim.{ResolvedPort, aim_of, flag_taker, is_ready_for_messages, message_taker, on_vp}
+use Rattle.hv_defs.specs.declared.sizes.TheConstants.{ROOT_ID}
+use Rattle.hv_policy.specs.Aim.{aim_of}
 use Rattle.hv_policy.specs.Boot.{boot, root_row}
 use Rattle.hv_policy.specs.Call.{called}
-use Rattle.hv_policy.specs.Effect.{action_effect, call_effect, changed_at, end_if, given, mask_of, narrowed, narrowed_row, narrows, new_row, post_at, post_to, served_effect, show_each, signal_at}
-use Rattle.hv_policy.specs.Effect.{signal_to, with_row, with_vp, write_msr, write_register, written}
+use Rattle.hv_policy.specs.Effect.{action_effect, call_effect, changed_at, given, mask_of, narrowed, narrowed_row, narrows, new_row, post_to, served_effect, signal_to, with_row, write_msr}
+use Rattle.hv_policy.specs.Effect.{write_register}
 use Rattle.hv_policy.specs.Flat.{Flat, PartRow}
 use Rattle.hv_policy.specs.Needs.{target_of}
 use Rattle.hv_policy.specs.Property.{property_of}
@@ -35,6 +31,7 @@ use Rattle.hv_policy.specs.declared.property.Property.{Property}
 use Rattle.hv_policy.specs.declared.rule.Rule.{Rule}
 use Rattle.hv_privs.specs.Privileges.{of}
 use Rattle.hv_privs.specs.declared.Privileges.{Privileges}
+use Rattle.hv_invariants.proofs.Ended.{msr_counted, posted_counted, register_counted, signalled_counted}
 
 -- a row that comes in is at most one more
 one_more : (part : FinMap nat_cmp PartRow) (id : ℕ) (row : PartRow) → len (insert part id row) ≤ len part + 1
@@ -56,43 +53,6 @@ none_more part id = by (contains_key part id) (len-remove nat_cmp_total part id)
 changed_more : (part : FinMap nat_cmp PartRow) (id : ℕ) (change : PartRow → PartRow) (row : Option PartRow) → len (changed_at part id change row) ≤ len part + 1
 changed_more part id change None = omega arith
 changed_more part id change (Some row) = one_more part id (change row)
-
--- where a message ends, or is posted, the partitions stay
-shown_part : (part vp n : ℕ) (f : Flat) → (show_each part vp n f).part ≡ f.part
-unfolding show_each
-shown_part part vp zero f = refl
-shown_part part vp (suc n) f = shown_part part vp n f
-
-ended_part : (is : Bool) (part vp : ℕ) (f : Flat) → (end_if is part vp f).part ≡ f.part
-ended_part false part vp f = refl
-ended_part true part vp f = by (on_vp f (part, vp) is_ready_for_messages) refl
-  where
-    by : (b : Bool) → on_vp f (part, vp) is_ready_for_messages ≡ b → (end_if true part vp f).part ≡ f.part
-    by true is = rw is (shown_part part vp SINTS f)
-    by false is = rw is refl
-
-pub register_part : (part vp name value : ℕ) (f : Flat) → (write_register part vp name value f).part ≡ f.part
-register_part part vp name value f = ended_part (name == EOM) part vp (record f { vp = with_vp f.vp (part, vp) (written name value) })
-
-pub msr_part : (part vp : ℕ) (name : Option ℕ) (value : ℕ) (f : Flat) → (write_msr part vp name value f).part ≡ f.part
-msr_part part vp None value f = refl
-msr_part part vp (Some name) value f = register_part part vp name value f
-
-pub posted_part : (aim : Option ResolvedPort) (type : ℕ) (payload : List ℕ) (f : Flat) → (post_to aim type payload f).part ≡ f.part
-posted_part None type payload f = refl
-posted_part (Some aim) type payload f = by (message_taker f aim)
-  where
-    by : (vp : Option ℕ) → (post_at aim vp type payload f).part ≡ f.part
-    by None = refl
-    by (Some vp) = refl
-
-pub signalled_part : (aim : Option ResolvedPort) (flag : ℕ) (f : Flat) → (signal_to aim flag f).part ≡ f.part
-signalled_part None flag f = refl
-signalled_part (Some aim) flag f = by (flag_taker f aim)
-  where
-    by : (vp : Option ℕ) → (signal_at aim vp flag f).part ≡ f.part
-    by None = refl
-    by (Some vp) = refl
 
 -- the same partitions are none more
 as_many : (f g : Flat) → g.part ≡ f.part → len g.part ≤ len f.part + 1
@@ -130,10 +90,10 @@ call_makes (InitializePartition partition) f caller target = changed_more f.part
 call_makes (FinalizePartition partition) f caller target = changed_more f.part target (λ row. record row { life = Finalized }) (get f.part target)
 call_makes (DeletePartition partition) f caller target = none_more f.part target
 call_makes (SetPartitionProperty partition code value) f caller target = set_more (narrows (property_of code) f target) f target (property_of code) value
-call_makes (SetVpRegisters partition vp name value) f caller target = as_many f (write_register target vp name value f) (register_part target vp name value f)
+call_makes (SetVpRegisters partition vp name value) f caller target = as_many f (write_register target vp name value f) (register_counted target vp name value f).part
 call_makes (PostMessage connection message_type payload) f caller target = as_many f (post_to (aim_of f (target, connection)) message_type payload f)
-    (posted_part (aim_of f (target, connection)) message_type payload f)
-call_makes (SignalEvent connection flag) f caller target = as_many f (signal_to (aim_of f (target, connection)) flag f) (signalled_part (aim_of f (target, connection)) flag f)
+    (posted_counted (aim_of f (target, connection)) message_type payload f).part
+call_makes (SignalEvent connection flag) f caller target = as_many f (signal_to (aim_of f (target, connection)) flag f) (signalled_counted (aim_of f (target, connection)) flag f).part
 call_makes call f caller target = as_many f f refl
 
 makes_by : (f : Flat) (caller : ℕ) (call : Option Call) → len (served_effect f caller call).part ≤ len f.part + 1
@@ -144,7 +104,7 @@ module _ {A : Type 0} where
   -- so does any action, and any event
   action_makes : (what : Action A) (f : Flat) (by : Caller) → len (action_effect f by what).part ≤ len f.part + 1
   action_makes (Hypercall frame) f by = makes_by f by.part (called frame)
-  action_makes (WriteMsr msr value) f by = as_many f (write_msr by.part by.vp (name_of_msr msr) value f) (msr_part by.part by.vp (name_of_msr msr) value f)
+  action_makes (WriteMsr msr value) f by = as_many f (write_msr by.part by.vp (name_of_msr msr) value f) (msr_counted by.part by.vp (name_of_msr msr) value f).part
   action_makes what f by = as_many f f refl
 
   step_makes : (f : Flat) (e : Event A) → len (step f e).0.part ≤ len f.part + 1

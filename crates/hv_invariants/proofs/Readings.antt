@@ -1,8 +1,6 @@
 -- What a lawful state tells of single rows.
-use Rattle.std.proofs.Common.{◌≡◌, ℕ, ◌==◌, Bool, true, false, Some, refl, sym, ap, ◌∙◌, arith}
-use Rattle.std.proofs.lemmas.Bool.{eq-eqb}
+use Rattle.std.proofs.Common.{◌≡◌, ℕ, ◌==◌, Bool, true, false, Some, refl, sym, ap, ◌∙◌, arith, eq-eqb, count_by}
 use Rattle.std.specs.FinMap.{FinMap, get, entries}
-use Rattle.std.specs.List.{count_by}
 use Rattle.hv_defs.proofs.Counts.{passes}
 use Rattle.hv_policy.proofs.Pairs.{pair_cmp_total, pair_cmp_exact}
 use Rattle.hv_policy.specs.Count.{conn_count, in_use, port_count, vp_count}

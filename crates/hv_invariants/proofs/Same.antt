@@ -1,9 +1,10 @@
 -- States that differ in nothing but the order of messages across places do the same.
 use Rattle.std.proofs.Common.{◌≡◌, ℕ, zero, suc, ◌+◌, ◌==◌, ◌&&◌, not, nat_le, nat_lt, Bool, true, false, cond, List, [], ◌∷◌, ◌++◌, Option, Some, None, is_ok, is_some, refl, sym, ap, subst, ◌∙◌}
+use Rattle.std.proofs.Common.{filter}
 use Rattle.std.proofs.lemmas.List.Elements.{filter-append}
 use Rattle.std.specs.FinMap.{FinMap, contains_key, get}
 use Rattle.std.specs.Option.{option_map_or}
-use Rattle.std.specs.List.{filter, list_any}
+use Rattle.std.specs.List.{list_any}
 use Rattle.hv_abi.specs.Check.{call_of}
 use Rattle.hv_abi.specs.declared.call_kind.CallKind.{CallKind}
 use Rattle.hv_abi.specs.declared.frame.Frame.{Frame}
@@ -44,6 +45,7 @@ use Rattle.hv_policy.specs.declared.reply.Reply.TheVariants.{Served}
 use Rattle.hv_policy.specs.declared.rule.Rule.{Rule}
 use Rattle.hv_policy.specs.declared.rule.Rule.TheVariants.{Privilege, TargetExists, TargetScope, PropertyKnown, TargetState, Depth, Connection, Port, Entitlement, VpExists, PropertyRange, Operand}
 use Rattle.hv_policy.specs.declared.rule.Rule.TheVariants.{VpReady, PortRoom, Pages, MsrKnown, MsrPrivilege, MsrWrite}
+use Rattle.hv_invariants.proofs.Staffing.{mail_changed}
 use Rattle.hv_invariants.specs.StateInvariant.{StateInvariant, is_placed}
 
 -- a state with its messages in another order
@@ -278,18 +280,7 @@ module _ (f : Flat) (mail : List MailRow) (same : IsSameMail f.mail mail) where
         by_rule (Some rule) = (refl, alike f f.mail mail same)
 
   lawful_alike : (pages : ℕ) → StateInvariant pages f → StateInvariant pages g
-  lawful_alike pages l = record {
-    below = l.below;
-    above = l.above;
-    within = l.within;
-    idle = l.idle;
-    masks = l.masks;
-    paged = l.paged;
-    owned = l.owned;
-    few = l.few;
-    ports = l.ports;
-    placed = all_same (is_placed f) f.mail mail same l.placed;
-  }
+  lawful_alike pages l = mail_changed pages f l mail (record { ports = l.ports; placed = all_same (is_placed f) f.mail mail same l.placed })
 
 -- a state is the other one with its own messages
 other_order : (f g : Flat) → IsSame f g → record f { mail = g.mail } ≡ g

@@ -1,9 +1,7 @@
 -- Processors, ports, connections and messages that come, go and change.
-use Rattle.std.proofs.Common.{◌≡◌, ℕ, ◌+◌, ◌≤◌, ◌==◌, Bool, true, false, cond, List, Option, Some, None, is_some, refl, sym, ap, subst, ◌∙◌, arith}
-use Rattle.std.proofs.lemmas.Bool.{eqb-true}
+use Rattle.std.proofs.Common.{◌≡◌, ℕ, ◌+◌, ◌≤◌, ◌==◌, Bool, true, false, cond, List, Option, Some, None, is_some, refl, sym, ap, subst, ◌∙◌, arith, eqb-true, option_map}
 use Rattle.std.specs.Cmp.{Equal-is}
 use Rattle.std.specs.FinMap.{FinMap, get, insert, remove, contains_key}
-use Rattle.std.specs.Option.{option_map}
 use Rattle.std.specs.Ordering.{eq_by_cmp}
 use Rattle.hv_policy.proofs.Pairs.{pair_cmp_exact}
 use Rattle.hv_policy.proofs.Rows.{get-with_vp}
@@ -38,7 +36,7 @@ module _ (pages : ℕ) (f : Flat) (l : StateInvariant pages f) where
     }
 
     -- they use no more than those that were there
-    less : ((id : ℕ) → in_use changed id ≤ in_use f id) → StateInvariant pages changed
+    pub less : ((id : ℕ) → in_use changed id ≤ in_use f id) → StateInvariant pages changed
     less fewer = rowed (λ id. (let uses = fewer id in let within = l.within id in omega arith)) (λ id still. (let uses = fewer id in let none = l.idle id still in omega arith))
 
     -- or one partition uses so much more, which is Active and can pay for it
@@ -103,16 +101,8 @@ module _ (pages : ℕ) (f : Flat) (l : StateInvariant pages f) where
         (counted (record f { port = insert f.port (id, n) row }))
     port_added row born good free pays =
         more f.vp (insert f.port (id, n) row) f.conn f.mail (f.served + 1) (omega arith) (port_more f.served f.port (id, n) row born good f.mail (mailed_of pages f l))
-        id 1 active pays (λ q. by q (id == q) (added_owned f.port id n row free q))
-      where
-        by : (q : ℕ) (b : Bool) → owned (insert f.port (id, n) row) q ≡ owned f.port q + cond b 1 0 → in_use (record f { port = insert f.port (id, n) row }) q ≡ in_use f q + cond b 1 0
-        by q true more = omega arith
-        by q false more = omega arith
+        id 1 active pays (λ q. (let more = added_owned f.port id n row free q in omega arith))
 
     pub conn_added : (row : ConnRow) → contains_key f.conn (id, n) ≡ false → 1 ≤ available f id → StateInvariant pages (record f { conn = insert f.conn (id, n) row })
     conn_added row free pays = more f.vp f.port (insert f.conn (id, n) row) f.mail f.served (omega arith) (mailed_of pages f l) id 1 active pays
-        (λ q. by q (id == q) (added_owned f.conn id n row free q))
-      where
-        by : (q : ℕ) (b : Bool) → owned (insert f.conn (id, n) row) q ≡ owned f.conn q + cond b 1 0 → in_use (record f { conn = insert f.conn (id, n) row }) q ≡ in_use f q + cond b 1 0
-        by q true more = omega arith
-        by q false more = omega arith
+        (λ q. (let more = added_owned f.conn id n row free q in omega arith))

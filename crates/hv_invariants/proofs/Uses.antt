@@ -1,9 +1,7 @@
 -- Counts over rows by number, compared key by key.
-use Rattle.std.proofs.Common.{◌≡◌, ℕ, ◌≤◌, Bool, true}
+use Rattle.std.proofs.Common.{◌≡◌, ℕ, ◌≤◌, Bool, true, count_by, nat_cmp}
 use Rattle.std.specs.Cmp.{nat_cmp_total}
 use Rattle.std.specs.FinMap.{FinMap, get, entries, nat_cmp-IsAntisymmetric}
-use Rattle.std.specs.List.{count_by}
-use Rattle.std.specs.Ordering.{nat_cmp}
 use Rattle.hv_defs.proofs.Counts.{passes}
 use Rattle.hv_defs.proofs.Tallies.{count-fewer}
 

@@ -1,7 +1,7 @@
 -- The invariant of the flat model: what holds in every reachable state.
 use Rattle.std.specs.Prelude.{◌≡◌, ℕ, ◌+◌, ◌≤◌, ◌<◌, ◌==◌, ◌&&◌, ◌||◌, not, Bool, true, false, nat_le, nat_lt}
-use Rattle.std.specs.Prelude.{List, Option, None, Some}
-use Rattle.std.specs.List.{AllByRecursion, filter}
+use Rattle.std.specs.Prelude.{List, Option, None, Some, filter}
+use Rattle.std.specs.List.{AllByRecursion}
 use Rattle.std.specs.FinMap.{get, contains_key}
 use Rattle.hv_defs.specs.declared.aim.Aim.{Aim}
 use Rattle.hv_defs.specs.declared.sizes.TheConstants.{EVENT_FLAGS, SINTS}

@@ -76,6 +76,7 @@ pub fn each_partition_of_a_subtree_leads_up_to_its_top()
 
 /// The order of messages matters only within a place. Two states that differ only in the order across places
 /// give the same replies to the same events, and continue to differ only in that order.
+#[tactic(auto, using(crate::proofs::Same::step_same, crate::proofs::Same::run_same))]
 pub fn order_across_places_does_not_count<A>()
     ensures steps { (f g : Flat) (e : Event A) → IsSame f g → ((step f e).1 ≡ (step g e).1)
         × IsSame (step f e).0 (step g e).0 }
@@ -86,6 +87,7 @@ pub fn order_across_places_does_not_count<A>()
 {}
 
 /// A run serves at most as many events as it has.
+#[tactic(auto, using(crate::proofs::Counted::run_few))]
 pub fn no_more_events_are_served_than_there_are<A>()
     ensures runs { (config : Config) (events : List (Event A))
         → (run config events).0.served ≤ length events }
@@ -93,18 +95,21 @@ pub fn no_more_events_are_served_than_there_are<A>()
 
 /// A run has at most one partition more than it has events. Each partition except the root took an event to
 /// create.
+#[tactic(auto, using(crate::proofs::Partitions::few_partitions))]
 pub fn each_partition_but_the_root_took_an_event<A>()
     ensures { (config : Config) (events : List (Event A))
         → len (run config events).0.part ≤ length events + 1 }
 {}
 
 /// The event alone decides which rules apply, and in which order. The state plays no part.
+#[tactic(auto, using(crate::proofs::Replies::asked_alike))]
 pub fn the_event_decides_what_is_asked<A>()
     ensures { (f g : Flat) (e : Event A) → asked f e ≡ asked g e }
 {}
 
 /// A refusal names a rule that applies to its event. Every reply to a hypercall has a result value, and a
 /// call continues with the element after the one that was served.
+#[tactic(auto, using(crate::proofs::Replies::names_asked, crate::proofs::Replies::goes_on))]
 pub fn each_reply_fits_its_event<A>()
     ensures asked { (f : Flat) (e : Event A) → NamesAsked e (step f e).1 }
     ensures result { (f : Flat) (by : Caller) (frame : Frame A)

@@ -10,7 +10,7 @@ use Rattle.hv_invariants.proofs.Granted.{is_served}
 use Rattle.hv_policy.specs.Aim.{is_same_birth}
 use Rattle.hv_policy.specs.Call.{called}
 use Rattle.hv_policy.specs.Effect.{call_effect, counted, effect, is_mask, mask_of, narrows, new_row, property_set, served_effect}
-use Rattle.hv_policy.specs.Flat.{ConnRow, Flat}
+use Rattle.hv_policy.specs.Flat.{Flat}
 use Rattle.hv_policy.specs.Mail.{place_at}
 use Rattle.hv_policy.specs.Met.{is_active, test_row}
 use Rattle.hv_policy.specs.Needs.{resolved_id, needs_of, target_of}
@@ -25,27 +25,15 @@ use Rattle.hv_policy.specs.declared.property.Property.{Property}
 use Rattle.hv_noninterference.specs.Alike.{AreLowEquivalent, AreClosed, ArePast}
 use Rattle.hv_noninterference.specs.Looks.{ActionLooksAlike, LooksAlike}
 use Rattle.hv_noninterference.specs.Turns.{ActionDoesAlike, CallDoesAlike, DoesAlike, LeadsAlike}
-use Rattle.hv_noninterference.proofs.Changes.{conn_deleted, conn_made, deleted, deposited, dismissed, finalized, parted, port_deleted, port_made, set_alike, staffed, subtree_alike, withdrew}
+use Rattle.hv_noninterference.proofs.Changes.{conn_deleted, conn_made, deleted, deposited, dismissed, finalized, one_more, port_deleted, port_made, rows_changed, set_alike, staffed, subtree_alike}
+use Rattle.hv_noninterference.proofs.Changes.{withdrew}
 use Rattle.hv_noninterference.proofs.Replies.{kin_member, looked}
 use Rattle.hv_noninterference.proofs.Rows.{new_alike, row_alike}
-use Rattle.hv_noninterference.proofs.Sends.{LeadAlike, leads_alike, posts_alike, signals_alike, way}
+use Rattle.hv_noninterference.proofs.Sends.{leads_alike, posts_alike, signals_alike, way}
 use Rattle.hv_noninterference.proofs.Showing.{cleared_alike, msr_alike, register_alike, staff_alike}
-
-counted_alike : (members : ℕ → Bool) (f g : Flat) → AreLowEquivalent members f g → AreLowEquivalent members (counted f) (counted g)
-counted_alike members f g a id own = record {
-  part = (a id own).part;
-  pages = (a id own).pages;
-  vps = (a id own).vps;
-  ports = (a id own).ports;
-  conns = (a id own).conns;
-  mail = (a id own).mail;
-}
 
 module _ (members : ℕ → Bool) (f g : Flat) (a : AreLowEquivalent members f g) (closed : AreClosed members f) (closed_too : AreClosed members g) (past : ArePast f) (past_too : ArePast g) where
   module _ (caller : ℕ) where
-    lead : (conn other : ConnRow) → (conn.part ≡ other.part) × (conn.port ≡ other.port) → LeadAlike conn other
-    lead conn other same = record { part = same.0; port = same.1 }
-
     -- a property of a member, or one whose change is about the same members
     set_leaves : (target : ℕ) (property : Option Property) (value : ℕ) → (members target ≡ false → (narrows property f target ≡ narrows property g target) ×
         ((id : ℕ) → members id ≡ true → is_in_subtree f target id ≡ is_in_subtree g target id))
@@ -61,9 +49,9 @@ module _ (members : ℕ → Bool) (f g : Flat) (a : AreLowEquivalent members f g
     call_leaves : (call : Call) → IsAllowed f caller call → IsAllowed g caller call → DoesAlike members call caller f g → AreLowEquivalent members (call_effect call f caller (target_of call caller))
         (call_effect call g caller (target_of call caller))
     call_leaves (CreatePartition flags) s t n =
-        parted members f g a _ _ (f.next + 1) (g.next + 1)
+        rows_changed members f g a _ _ (f.next + 1) (g.next + 1)
         (λ id own. new_alike f.part g.part id (a id own).part f.next g.next n.0 _ _ (ap (new_row caller) n.1))
-    call_leaves (InitializePartition partition) s t n = parted members f g a _ _ f.next g.next
+    call_leaves (InitializePartition partition) s t n = rows_changed members f g a _ _ f.next g.next
         (λ id own. row_alike f.part g.part id (a id own).part (target_of (InitializePartition partition) caller) _)
     call_leaves (FinalizePartition partition) s t n = finalized members f g a past past_too partition caller (target_of (FinalizePartition partition) caller)
     call_leaves (DeletePartition partition) s t n = deleted members f g a partition caller (target_of (DeletePartition partition) caller) n
@@ -78,11 +66,11 @@ module _ (members : ℕ → Bool) (f g : Flat) (a : AreLowEquivalent members f g
     call_leaves (PostMessage connection message_type payload) s t n =
         let w = way f (caller, connection) is_same_birth s.further.1.0 in
         let v = way g (caller, connection) is_same_birth t.further.1.0 in
-        posts_alike members f g a (caller, connection) w v (lead w.conn v.conn (n w.conn v.conn w.leads v.leads)) message_type payload
+        posts_alike members f g a (caller, connection) w v (n w.conn v.conn w.leads v.leads) message_type payload
     call_leaves (SignalEvent connection flag) s t n =
         let w = way f (caller, connection) is_same_birth s.further.1.0 in
         let v = way g (caller, connection) is_same_birth t.further.1.0 in
-        signals_alike members f g a (caller, connection) w v (lead w.conn v.conn (n w.conn v.conn w.leads v.leads)) flag
+        signals_alike members f g a (caller, connection) w v (n w.conn v.conn w.leads v.leads) flag
     call_leaves (CreatePort partition port peer port_kind sint vp base count) s t n = port_made members f g a past past_too partition port peer port_kind sint vp base count caller
         (target_of (CreatePort partition port peer port_kind sint vp base count) caller)
     call_leaves (ConnectPort partition connection port_partition port port_kind) s t n =
@@ -103,8 +91,7 @@ module _ (members : ℕ → Bool) (f g : Flat) (a : AreLowEquivalent members f g
 
       leads : (connection : ℕ) → LeadsAlike (get f.conn (by.part, connection)) (get g.conn (by.part, connection))
       leads connection conn other is is_too =
-          let l = leads_alike members f g (get f.conn (by.part, connection)) (get g.conn (by.part, connection)) conn other ((a by.part own).conns connection) is is_too in
-          (l.part, l.port)
+          leads_alike members f g (get f.conn (by.part, connection)) (get g.conn (by.part, connection)) conn other ((a by.part own).conns connection) is is_too
 
       own_does : (call : Call) → IsAllowed f by.part call → LooksAlike members call by.part f g → DoesAlike members call by.part f g
       own_does (CreatePartition flags) s n = (n.0, ap mask_of (a by.part own).part)
@@ -124,7 +111,7 @@ module _ (members : ℕ → Bool) (f g : Flat) (a : AreLowEquivalent members f g
           let both : Some call ≡ Some other = sym is ∙ is_too in
           let same : other ≡ call = cc in
           subst (λ c. AreLowEquivalent members (counted (served_effect f by.part c)) (counted (served_effect g by.part c))) (sym is)
-          (counted_alike members _ _ (call_leaves by.part call s (subst (IsAllowed g by.part) same t) n))
+          (one_more members _ _ (call_leaves by.part call s (subst (IsAllowed g by.part) same t) n))
 
       pub call_done : unmet f (event (Hypercall frame)) ≡ None → unmet g (event (Hypercall frame)) ≡ None →
           ((call : Call) → called frame ≡ Some call → IsAllowed f by.part call → DoesAlike members call by.part f g)
@@ -146,8 +133,8 @@ module _ (members : ℕ → Bool) (f g : Flat) (a : AreLowEquivalent members f g
           (effect g (event what))
       own_leaves (Hypercall frame) met met_too n = call_done frame met met_too (λ call is s. own_does by own call s
           (looked members f g a closed closed_too by own frame (called frame) call is n s.target.0))
-      own_leaves (WriteMsr msr value) met met_too n = counted_alike members _ _ (msr_alike members by.part by.vp (name_of_msr msr) value own f g a)
-      own_leaves (ClearSlot sint) met met_too n = counted_alike members _ _ (cleared_alike members (place_at by sint) f g a)
-      own_leaves (ClearFlag sint flag) met met_too n = counted_alike members _ _ (staff_alike members (by.part, by.vp) _ f g a)
-      own_leaves TakeInterrupt met met_too n = counted_alike members _ _ (staff_alike members (by.part, by.vp) _ f g a)
-      own_leaves what met met_too n = counted_alike members f g a
+      own_leaves (WriteMsr msr value) met met_too n = one_more members _ _ (msr_alike members by.part by.vp (name_of_msr msr) value own f g a)
+      own_leaves (ClearSlot sint) met met_too n = one_more members _ _ (cleared_alike members (place_at by sint) f g a)
+      own_leaves (ClearFlag sint flag) met met_too n = one_more members _ _ (staff_alike members (by.part, by.vp) _ f g a)
+      own_leaves TakeInterrupt met met_too n = one_more members _ _ (staff_alike members (by.part, by.vp) _ f g a)
+      own_leaves what met met_too n = one_more members f g a

@@ -1,10 +1,11 @@
 -- The end of a connection that leads to a member is alike.
-use Rattle.std.proofs.Common.{◌≡◌, ℕ, ◌+◌, ◌==◌, ◌&&◌, nat_lt, Bool, true, false, cond, List, [], ◌∷◌, map, Option, Some, None, is_some, refl, sym, ap, ◌∙◌}
-use Rattle.std.proofs.lemmas.Bool.{and_parts, eq-eqb, eqb-false, eqb-true, ne_eqb}
+use Rattle.std.proofs.Common.{◌≡◌, ℕ, ◌+◌, ◌==◌, ◌&&◌, nat_lt, Bool, true, false, cond, List, [], ◌∷◌, map, Option, Some, None, is_some, refl, sym, ap, ◌∙◌, eq-eqb, eqb-true, ne_eqb, filter}
+use Rattle.std.proofs.Common.{option_map}
+use Rattle.std.proofs.lemmas.Bool.{and_parts, eqb-false}
 use Rattle.std.proofs.lemmas.List.Sums.{sum_by-cons}
 use Rattle.std.specs.FinMap.{get}
-use Rattle.std.specs.List.{AllByRecursion, filter}
-use Rattle.std.specs.Option.{option_map, option_map_or}
+use Rattle.std.specs.List.{AllByRecursion}
+use Rattle.std.specs.Option.{option_map_or}
 use Rattle.hv_defs.specs.declared.aim.Aim.{Aim}
 use Rattle.hv_defs.specs.declared.aim.Aim.TheVariants.{One, Any}
 use Rattle.hv_defs.specs.declared.sizes.TheConstants.{MAX_MESSAGES}
@@ -12,14 +13,15 @@ use Rattle.hv_policy.proofs.Filters.{filter_gone}
 use Rattle.hv_policy.proofs.Places.{left_there}
 use Rattle.hv_policy.proofs.SameMail.{kept_among, kept_same}
 use Rattle.hv_policy.specs.Aim.{ResolvedPort, aim_by, aim_with, has_target, is_ready_for_flags, is_ready_for_messages, is_same_birth, on_aim, select_vp}
-use Rattle.hv_policy.specs.Flat.{ConnRow, Flat, MailRow, PortRow}
-use Rattle.hv_policy.specs.Mail.{Place, came_through, kept_of, mail_at, stands_at}
-use Rattle.hv_policy.specs.Met.{has_flag, has_flag_taker, has_message_room, has_message_taker, is_aimed_at_vp, is_for_messages, is_kind}
+use Rattle.hv_policy.specs.Flat.{ConnRow, Flat, MailRow, PortRow, VpRow}
+use Rattle.hv_policy.specs.Mail.{came_through, kept_of, mail_at, stands_at}
+use Rattle.hv_policy.specs.Met.{has_flag, has_message_room, is_aimed_at_vp, is_for_messages, is_kind}
 use Rattle.hv_policy.specs.Same.{IsSameMail}
 use Rattle.hv_defs.specs.declared.port_kind.PortKind.TheVariants.{Message, Event}
 use Rattle.hv_noninterference.specs.Alike.{AreLowEquivalent, is_born, mark, marked, unborn}
 use Rattle.hv_noninterference.specs.Looks.{EndsAlike}
-use Rattle.hv_noninterference.proofs.Sends.{AimAlike, aims_alike, taker_same}
+use Rattle.hv_noninterference.proofs.Marks.{filter_marked, unmarked}
+use Rattle.hv_noninterference.proofs.Sends.{seen_alike, taker_same}
 
 -- a test of where a connection leads, which fails where it leads nowhere
 abbrev test_aim : (ResolvedPort → Bool) → Option ResolvedPort → Bool
@@ -33,10 +35,6 @@ module _ (f : Flat) (part port : ℕ) (row : PortRow) (there : get f.port (part,
       by : (t : Bool) → b == a ≡ t → a == b ≡ t
       by true is = eq-eqb a b (sym (eqb-true b a is))
       by false is = ne_eqb a b (λ same. eqb-false b a is (sym same))
-
-  unmarked : (b : Bool) → mark b == 1 ≡ b
-  unmarked true = refl
-  unmarked false = refl
 
   one : (m : MailRow) → came_through part port row.born m ≡ came_through part port 1 (marked f m)
   one m = by (m.part == part) (m.port == port) refl refl
@@ -63,16 +61,6 @@ module _ (f : Flat) (part port : ℕ) (row : PortRow) (there : get f.port (part,
   pub kept_marked : kept_of part port row.born f.mail ≡ kept_of part port 1 (filter (λ m. m.part == part) (map (marked f) f.mail))
   kept_marked = counted f.mail ∙ kept_among part port 1 (λ m. m.part == part) (map (marked f) f.mail) (all_own (map (marked f) f.mail))
 
--- marks don't move messages
-mail_marked : (f : Flat) (at : Place) (mail : List MailRow) → mail_at at (map (marked f) mail) ≡ map (marked f) (mail_at at mail)
-mail_marked f at [] = refl
-mail_marked f at (m ∷ mail) = by (stands_at at m) (mail_marked f at mail)
-  where
-    by : (b : Bool) → mail_at at (map (marked f) mail) ≡ map (marked f) (mail_at at mail) → cond b (marked f m ∷ mail_at at (map (marked f) mail)) (mail_at at (map (marked f) mail)) ≡ map (marked f)
-        (cond b (m ∷ mail_at at mail) (mail_at at mail))
-    by true rest = ap (λ rows. marked f m ∷ rows) rest
-    by false rest = rest
-
 module _ (members : ℕ → Bool) (f g : Flat) (a : AreLowEquivalent members f g) where
   -- a member's messages, in two states
   same_own : (part : ℕ) → members part ≡ true → IsSameMail (filter (λ m. m.part == part) (map (marked f) f.mail)) (filter (λ m. m.part == part) (map (marked g) g.mail))
@@ -87,7 +75,7 @@ module _ (members : ℕ → Bool) (f g : Flat) (a : AreLowEquivalent members f g
       by : (b : Bool) → at.part == part ≡ b → filter (λ m. m.part == part) (mail_at at (map (marked f) f.mail)) ≡ filter (λ m. m.part == part) (mail_at at (map (marked g) g.mail))
       by true is =
           ap (filter (λ m. m.part == part))
-          (mail_marked f at f.mail ∙ (a at.part (ap members (eqb-true at.part part is) ∙ own)).mail at.vp at.sint ∙ sym (mail_marked g at g.mail))
+          (filter_marked f (stands_at at) (λ m. refl) f.mail ∙ (a at.part (ap members (eqb-true at.part part is) ∙ own)).mail at.vp at.sint ∙ sym (filter_marked g (stands_at at) (λ m. refl) g.mail))
       by false off = none off (map (marked f) f.mail) ∙ sym (none off (map (marked g) g.mail))
 
   module _ (key : ℕ × ℕ) (conn other : ConnRow) (part : other.part ≡ conn.part) (port : other.port ≡ conn.port) (is : get f.conn key ≡ Some conn) (is_too : get g.conn key ≡ Some other)
@@ -106,8 +94,8 @@ module _ (members : ℕ → Bool) (f g : Flat) (a : AreLowEquivalent members f g
     abbrev there : Option PortRow
     there = get g.port (conn.part, conn.port)
 
-    ports : (row row_too : PortRow) → here ≡ Some row → there ≡ Some row_too → AimAlike row row_too
-    ports row row_too s t = aims_alike here there row row_too ((a conn.part own).ports conn.port) s t
+    ports : (row row_too : PortRow) → here ≡ Some row → there ≡ Some row_too → unborn row ≡ unborn row_too
+    ports row row_too s t = seen_alike unborn unborn here there row row_too ((a conn.part own).ports conn.port) s t
 
     through : (t u : ResolvedPort → Bool) → ((row row_too : PortRow) → here ≡ Some row → there ≡ Some row_too → t (record { conn = conn; port = row }) ≡ u (record { conn = renamed; port = row_too }))
         → on_aim f key t ≡ on_aim g key u
@@ -134,9 +122,9 @@ module _ (members : ℕ → Bool) (f g : Flat) (a : AreLowEquivalent members f g
     target_same (One vp) = ap is_some ((a conn.part own).vps vp)
     target_same Any = refl
 
-    taken : (aim : Aim) → (is_some (select_vp is_ready_for_messages f conn.part aim) ≡ is_some (select_vp is_ready_for_messages g conn.part aim)) ×
-        (is_some (select_vp is_ready_for_flags f conn.part aim) ≡ is_some (select_vp is_ready_for_flags g conn.part aim))
-    taken aim = (ap is_some (taker_same f g is_ready_for_messages conn.part (a conn.part own).vps aim), ap is_some (taker_same f g is_ready_for_flags conn.part (a conn.part own).vps aim))
+    takers : (test : VpRow → Bool) → on_aim f key (λ aim. is_some (select_vp test f aim.conn.part aim.port.vp)) ≡ on_aim g key (λ aim. is_some (select_vp test g aim.conn.part aim.port.vp))
+    takers test = through (λ aim. is_some (select_vp test f aim.conn.part aim.port.vp)) (λ aim. is_some (select_vp test g aim.conn.part aim.port.vp)) (λ row row_too p q.
+        ap is_some (taker_same f g test conn.part (a conn.part own).vps row.vp) ∙ ap (λ (r : PortRow). is_some (select_vp test g conn.part r.vp)) (ports row row_too p q))
 
     met_here : (row : PortRow) → here ≡ Some row → on_aim f key is_same_birth ≡ true → row.born == conn.born ≡ true
     met_here row p standing = sym (ap (λ c. test_aim is_same_birth (aim_by f c)) is ∙ ap (λ r. test_aim is_same_birth (aim_with conn r)) p) ∙ standing
@@ -152,11 +140,10 @@ module _ (members : ℕ → Bool) (f g : Flat) (a : AreLowEquivalent members f g
     pub ends_alike : EndsAlike key f g
     ends_alike = record {
       stands = through is_same_birth is_same_birth stand;
-      aimed = through (is_aimed_at_vp f) (is_aimed_at_vp g) (λ row row_too p q. target_same row.vp ∙ ap (has_target g conn.part) (ports row row_too p q).vp);
-      for_messages = through is_for_messages is_for_messages (λ row row_too p q. ap (λ kind. is_kind kind Message) (ports row row_too p q).kind);
-      flags = λ flag. through (has_flag flag) (has_flag flag) (λ row row_too p q. λ i. is_kind ((ports row row_too p q).kind i) Event && nat_lt flag ((ports row row_too p q).count i));
-      message_taker = through (has_message_taker f) (has_message_taker g) (λ row row_too p q. (taken row.vp).0 ∙ ap (λ aim. is_some (select_vp is_ready_for_messages g conn.part aim))
-          (ports row row_too p q).vp);
-      flag_taker = through (has_flag_taker f) (has_flag_taker g) (λ row row_too p q. (taken row.vp).1 ∙ ap (λ aim. is_some (select_vp is_ready_for_flags g conn.part aim)) (ports row row_too p q).vp);
+      aimed = through (is_aimed_at_vp f) (is_aimed_at_vp g) (λ row row_too p q. target_same row.vp ∙ ap (λ (r : PortRow). has_target g conn.part r.vp) (ports row row_too p q));
+      for_messages = through is_for_messages is_for_messages (λ row row_too p q. ap (λ (r : PortRow). is_kind r.kind Message) (ports row row_too p q));
+      flags = λ flag. through (has_flag flag) (has_flag flag) (λ row row_too p q. λ i. is_kind (ports row row_too p q i).kind Event && nat_lt flag (ports row row_too p q i).count);
+      message_taker = takers is_ready_for_messages;
+      flag_taker = takers is_ready_for_flags;
       room = λ standing. through (has_message_room f) (has_message_room g) (λ row row_too p q. ap (λ n. nat_lt n MAX_MESSAGES) (as_full row row_too p q (met_here row p standing)));
     }

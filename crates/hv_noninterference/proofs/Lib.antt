@@ -5,7 +5,6 @@ pub mod Effects
 pub mod Ends
 pub mod Marks
 pub mod Narrower
-pub mod Ongoing
 pub mod Past
 pub mod Plain
 pub mod Purged

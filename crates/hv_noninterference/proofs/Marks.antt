@@ -1,9 +1,8 @@
 -- What the marks of births become where ports come and go.
-use Rattle.std.proofs.Common.{◌≡◌, ℕ, ◌+◌, ◌≤◌, ◌==◌, not, Bool, true, false, cond, List, [], ◌∷◌, map, Option, Some, None, refl, sym, ap, ◌∙◌, arith}
-use Rattle.std.proofs.lemmas.Bool.{ne_eqb}
+use Rattle.std.proofs.Common.{◌≡◌, ℕ, ◌+◌, ◌≤◌, ◌==◌, not, Bool, true, false, cond, List, [], ◌∷◌, map, Option, Some, None, refl, sym, ap, ◌∙◌, arith, ne_eqb, filter, option_map}
 use Rattle.std.specs.FinMap.{FinMap, get, insert, remove, get-insert, get-remove}
-use Rattle.std.specs.List.{AllByRecursion, filter}
-use Rattle.std.specs.Option.{option_map, option_map_or}
+use Rattle.std.specs.List.{AllByRecursion}
+use Rattle.std.specs.Option.{option_map_or}
 use Rattle.std.specs.Ordering.{eq_by_cmp}
 use Rattle.hv_defs.specs.Flags.{pair_cmp}
 use Rattle.hv_policy.proofs.Pairs.{pair_cmp_total}
@@ -12,9 +11,18 @@ use Rattle.hv_policy.specs.Effect.{rows_but}
 use Rattle.hv_policy.specs.Flat.{ConnRow, Flat, MailRow, PortRow}
 use Rattle.hv_noninterference.specs.Alike.{is_born, mark, marked, marked_conn}
 
-unmarked : (b : Bool) → mark b == 1 ≡ b
+pub unmarked : (b : Bool) → mark b == 1 ≡ b
 unmarked true = refl
 unmarked false = refl
+
+-- a test that doesn't look at births keeps the same messages
+pub filter_marked : (f : Flat) (keep : MailRow → Bool) → ((m : MailRow) → keep (marked f m) ≡ keep m) → (mail : List MailRow) → filter keep (map (marked f) mail) ≡ map (marked f) (filter keep mail)
+filter_marked f keep blind [] = refl
+filter_marked f keep blind (m ∷ mail) = (λ i. cond (blind m i) (marked f m ∷ filter_marked f keep blind mail i) (filter_marked f keep blind mail i)) ∙ by (keep m)
+  where
+    by : (b : Bool) → cond b (marked f m ∷ map (marked f) (filter keep mail)) (map (marked f) (filter keep mail)) ≡ map (marked f) (cond b (m ∷ filter keep mail) (filter keep mail))
+    by true = refl
+    by false = refl
 
 -- a row with another mark, by its port's key and the mark that it has
 abbrev pub remarked : (ℕ × ℕ → Bool → Bool) → MailRow → MailRow

@@ -1,6 +1,6 @@
 -- Births that are kept are past.
-use Rattle.std.proofs.Common.{◌≡◌, ℕ, zero, suc, ◌≤◌, ◌==◌, nat_le, not, Bool, true, false, cond, List, [], ◌∷◌, Option, Some, None, refl, sym, ap, subst, ◌∙◌, arith}
-use Rattle.std.proofs.lemmas.Bool.{and_parts, leb-true}
+use Rattle.std.proofs.Common.{◌≡◌, ℕ, ◌≤◌, ◌==◌, nat_le, not, Bool, true, false, cond, List, [], ◌∷◌, Option, Some, None, refl, sym, ap, subst, ◌∙◌, arith, leb-true}
+use Rattle.std.proofs.lemmas.Bool.{and_parts}
 use Rattle.std.specs.FinMap.{FinMap, get, insert, remove, get-insert, get-remove}
 use Rattle.std.specs.List.{AllByRecursion}
 use Rattle.std.specs.Ordering.{eq_by_cmp}
@@ -8,15 +8,14 @@ use Rattle.hv_calls.specs.declared.call.Call.{Call}
 use Rattle.hv_calls.specs.declared.call.Call.TheVariants.{FinalizePartition, SetVpRegisters, DisconnectPort, PostMessage, SignalEvent, ConnectPort}
 use Rattle.hv_defs.specs.Flags.{pair_cmp}
 use Rattle.hv_defs.specs.Registers.{name_of_msr}
-use Rattle.hv_defs.specs.declared.registers.TheConstants.{EOM}
-use Rattle.hv_defs.specs.declared.sizes.TheConstants.{SINTS}
 use Rattle.hv_invariants.proofs.Counted.{action_served}
+use Rattle.hv_invariants.proofs.Ended.{msr_counted, posted_counted, register_counted, signalled_counted}
 use Rattle.hv_invariants.specs.StateInvariant.{StateInvariant, is_aimed, is_placed}
 use Rattle.hv_policy.proofs.Pairs.{pair_cmp_total}
 use Rattle.hv_policy.proofs.Rows.{get-rows_but}
-use Rattle.hv_policy.specs.Aim.{ResolvedPort, aim_of, flag_taker, is_ready_for_messages, message_taker, on_vp}
+use Rattle.hv_policy.specs.Aim.{aim_of}
 use Rattle.hv_policy.specs.Call.{called}
-use Rattle.hv_policy.specs.Effect.{action_effect, born_of, call_effect, end_if, post_at, post_to, rows_but, served_effect, show_each, signal_at, signal_to, write_msr, write_register}
+use Rattle.hv_policy.specs.Effect.{action_effect, born_of, call_effect, rows_but, served_effect}
 use Rattle.hv_policy.specs.Flat.{ConnRow, Flat, MailRow, PortRow}
 use Rattle.hv_policy.specs.Needs.{resolved_id, target_of}
 use Rattle.hv_policy.specs.Rules.{unmet}
@@ -27,43 +26,6 @@ use Rattle.hv_policy.specs.declared.event.Caller.{Caller}
 use Rattle.hv_policy.specs.declared.event.Event.{Event}
 use Rattle.hv_policy.specs.declared.rule.Rule.{Rule}
 use Rattle.hv_noninterference.specs.Alike.{AreConnsPast, ArePast}
-
--- what is shown, posted or signalled changes no connection
-shown_conn : (part vp n : ℕ) (f : Flat) → (show_each part vp n f).conn ≡ f.conn
-unfolding show_each
-shown_conn part vp zero f = refl
-shown_conn part vp (suc n) f = shown_conn part vp n f
-
-ended_conn : (is : Bool) (part vp : ℕ) (f : Flat) → (end_if is part vp f).conn ≡ f.conn
-ended_conn false part vp f = refl
-ended_conn true part vp f = by (on_vp f (part, vp) is_ready_for_messages)
-  where
-    by : (b : Bool) → (cond b (show_each part vp SINTS f) f).conn ≡ f.conn
-    by true = shown_conn part vp SINTS f
-    by false = refl
-
-pub register_conn : (part vp name value : ℕ) (f : Flat) → (write_register part vp name value f).conn ≡ f.conn
-register_conn part vp name value f = ended_conn (name == EOM) part vp _
-
-pub msr_conn : (part vp : ℕ) (name : Option ℕ) (value : ℕ) (f : Flat) → (write_msr part vp name value f).conn ≡ f.conn
-msr_conn part vp None value f = refl
-msr_conn part vp (Some name) value f = register_conn part vp name value f
-
-pub post_conn : (aim : Option ResolvedPort) (type : ℕ) (payload : List ℕ) (f : Flat) → (post_to aim type payload f).conn ≡ f.conn
-post_conn None type payload f = refl
-post_conn (Some aim) type payload f = by (message_taker f aim)
-  where
-    by : (o : Option ℕ) → (post_at aim o type payload f).conn ≡ f.conn
-    by None = refl
-    by (Some vp) = refl
-
-pub signal_conn : (aim : Option ResolvedPort) (flag : ℕ) (f : Flat) → (signal_to aim flag f).conn ≡ f.conn
-signal_conn None flag f = refl
-signal_conn (Some aim) flag f = by (flag_taker f aim)
-  where
-    by : (o : Option ℕ) → (signal_at aim o flag f).conn ≡ f.conn
-    by None = refl
-    by (Some vp) = refl
 
 module _ (pages : ℕ) (f : Flat) (l : StateInvariant pages f) (past : AreConnsPast f) where
   abbrev Fine : FinMap pair_cmp ConnRow → Type 0
@@ -102,10 +64,10 @@ module _ (pages : ℕ) (f : Flat) (l : StateInvariant pages f) (past : AreConnsP
 
   call_conns : (call : Call) (caller target : ℕ) → Fine (call_effect call f caller target).conn
   call_conns (FinalizePartition partition) caller target = left target
-  call_conns (SetVpRegisters partition vp name value) caller target = same _ (register_conn target vp name value f)
+  call_conns (SetVpRegisters partition vp name value) caller target = same _ (register_counted target vp name value f).conn
   call_conns (DisconnectPort partition connection) caller target = removed (target, connection)
-  call_conns (PostMessage connection message_type payload) caller target = same _ (post_conn (aim_of f (target, connection)) message_type payload f)
-  call_conns (SignalEvent connection flag) caller target = same _ (signal_conn (aim_of f (target, connection)) flag f)
+  call_conns (PostMessage connection message_type payload) caller target = same _ (posted_counted (aim_of f (target, connection)) message_type payload f).conn
+  call_conns (SignalEvent connection flag) caller target = same _ (signalled_counted (aim_of f (target, connection)) flag f).conn
   call_conns (ConnectPort partition connection port_partition port port_kind) caller target = inserted (target, connection) _ (port_past (resolved_id caller port_partition, port))
   call_conns call caller target = past
 
@@ -115,7 +77,7 @@ module _ (pages : ℕ) (f : Flat) (l : StateInvariant pages f) (past : AreConnsP
 
   action_conns : {A : Type 0} (by : Caller) (what : Action A) → Fine (action_effect f by what).conn
   action_conns by (Hypercall frame) = served_conns by.part (called frame)
-  action_conns by (WriteMsr msr value) = same _ (msr_conn by.part by.vp (name_of_msr msr) value f)
+  action_conns by (WriteMsr msr value) = same _ (msr_counted by.part by.vp (name_of_msr msr) value f).conn
   action_conns by what = past
 
   pub step_past : {A : Type 0} (e : Event A) → AreConnsPast (step f e).0

@@ -6,9 +6,7 @@ use Rattle.hv_policy.specs.declared.event.Event.{Event}
 use Rattle.hv_noninterference.specs.Alike.{AreLowEquivalent}
 use Rattle.hv_noninterference.specs.Turns.{AreMatched, IsReached, Here, Both, events_here, events_there, own_events, own_replies, turns_of}
 use Rattle.hv_noninterference.proofs.Runs.{replies_matched}
-
-same : (members : ℕ → Bool) (f : Flat) → AreLowEquivalent members f f
-same members f id own = record { part = refl; pages = λ _. refl; vps = λ _. refl; ports = λ _. refl; conns = λ _. refl; mail = λ _ _. refl }
+use Rattle.hv_noninterference.proofs.Sends.{same}
 
 module _ {A : Type 0} where
   module _ (members : ℕ → Bool) where
@@ -49,7 +47,7 @@ module _ {A : Type 0} where
         → (own_replies members events (run_from f events).1 ≡ (run_from f (own_events members events)).1)
         × AreLowEquivalent members (run_from f events).0 (run_from f (own_events members events)).0
     purged f r events m =
-        let both = replies_matched members (turns_of members events) f f r r (same members f) m in
+        let both = replies_matched members (turns_of members events) f f r r (λ id own. same members id f) m in
         let here = all_here events in
         let there = own_there events in (
           sym (ap (λ es. own_replies members es (run_from f es).1) here) ∙ both.0 ∙ ap (λ es. own_replies members es (run_from f es).1) there ∙ all_own events f,

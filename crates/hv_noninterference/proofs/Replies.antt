@@ -1,8 +1,7 @@
 -- The replies to a member are alike in two states in which members have the same.
-use Rattle.std.proofs.Common.{◌≡◌, ℕ, ◌++◌, Bool, true, false, cond, nat_lt, length, List, [], ◌∷◌, map, Option, Some, None, find, is_some, refl, sym, ap, subst, ◌∙◌}
+use Rattle.std.proofs.Common.{◌≡◌, ℕ, ◌++◌, Bool, true, false, cond, nat_lt, length, List, [], ◌∷◌, map, Option, Some, None, find, is_some, refl, sym, ap, subst, ◌∙◌, option_map}
 use Rattle.std.proofs.lemmas.List.{length-map}
 use Rattle.std.specs.FinMap.{contains_key}
-use Rattle.std.specs.Option.{option_map}
 use Rattle.hv_abi.specs.Check.{call_of}
 use Rattle.hv_abi.specs.declared.call_kind.CallKind.{CallKind}
 use Rattle.hv_abi.specs.declared.frame.Frame.{Frame}
@@ -26,10 +25,11 @@ use Rattle.hv_policy.specs.declared.need.Kin.{Kin}
 use Rattle.hv_policy.specs.declared.rule.Rule.TheVariants.{CallerExists, CallerActive, CallerVpExists, Privilege, TargetExists, TargetScope}
 use Rattle.hv_privs.specs.Privileges.{contains}
 use Rattle.hv_integrity.proofs.Asked.{CallAlike, MakesAlike, OwnAlike, behind, output_alike, reply_alike as replies_alike, stops, unmet_alike as rules_alike}
+use Rattle.hv_integrity.proofs.Held.{access_alike}
 use Rattle.hv_integrity.specs.Same.{place}
 use Rattle.hv_noninterference.specs.Alike.{AreLowEquivalent, AreClosed, marked}
 use Rattle.hv_noninterference.specs.Looks.{ActionLooksAlike, CallLooksAlike, LooksAlike}
-use Rattle.hv_noninterference.proofs.Reading.{access_alike, kin_alike, no_kin}
+use Rattle.hv_noninterference.proofs.Reading.{kin_alike, no_kin}
 use Rattle.hv_noninterference.proofs.Ruled.{further_alike, part_alike, reads}
 
 -- a slot shows no birth
@@ -60,7 +60,7 @@ module _ (members : ℕ → Bool) (f g : Flat) (a : AreLowEquivalent members f g
   own_alike : OwnAlike by f g
   own_alike = record {
     callers = callers_alike;
-    accessed = access_alike members f g a closed closed_too by.part own;
+    accessed = access_alike f g by.part (a by.part own).part;
     vp = (a by.part own).vps by.vp;
     slots = λ sint.
         bytes_marked f (mail_at (place by.part by.vp sint) f.mail) ∙ ap (bytes f) ((a by.part own).mail by.vp sint)

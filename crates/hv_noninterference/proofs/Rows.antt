@@ -1,10 +1,8 @@
 -- Rows that are alike in two maps stay so where both change alike.
-use Rattle.std.proofs.Common.{◌≡◌, ℕ, ◌==◌, not, map, Bool, true, false, cond, Option, Some, None, refl, sym, ap, ◌∙◌}
-use Rattle.std.proofs.lemmas.Bool.{eqb-true}
+use Rattle.std.proofs.Common.{◌≡◌, ℕ, ◌==◌, not, map, Bool, true, false, cond, Option, Some, None, refl, sym, ap, ◌∙◌, eqb-true, option_map, nat_cmp}
 use Rattle.std.specs.Cmp.{Equal-is}
 use Rattle.std.specs.FinMap.{FinMap, get, insert, remove, from_entries, entries, get-insert, get-remove}
-use Rattle.std.specs.Option.{option_map}
-use Rattle.std.specs.Ordering.{nat_cmp, eq_by_cmp}
+use Rattle.std.specs.Ordering.{eq_by_cmp}
 use Rattle.hv_defs.proofs.Maps.{get_at-insert, get_at-remove, get-mapped}
 use Rattle.hv_defs.specs.Flags.{pair_cmp}
 use Rattle.hv_policy.proofs.Pairs.{pair_cmp_total, pair_cmp_exact}
@@ -60,33 +58,28 @@ module _ (pages others : FinMap nat_cmp PageRow) (id : ℕ) (same : (q : ℕ) �
         ∙ sym (picked (get others q)) ∙ sym (ap (held_by id) (get-mapped (inherited target new_owner) others q))
 
 -- rows by (partition, number), each seen in some way
-module _ {X Y : Type 0} (u v : X → Y) (rows others : FinMap pair_cmp X) (key : ℕ × ℕ) (same : option_map u (get rows key) ≡ option_map v (get others key)) where
-  pub inserted_alike : (at : ℕ × ℕ) (x y : X) → u x ≡ v y → option_map u (get (insert rows at x) key) ≡ option_map v (get (insert others at y) key)
-  inserted_alike at x y is =
-      ap (option_map u) (get-insert pair_cmp_total rows at x key) ∙ by (eq_by_cmp pair_cmp key at)
-      ∙ sym (ap (option_map v) (get-insert pair_cmp_total others at y key))
+module _ {X Y : Type 0} (u v : Option X → Y) (rows others : FinMap pair_cmp X) (key : ℕ × ℕ) (same : u (get rows key) ≡ v (get others key)) where
+  pub inserted_alike : (at : ℕ × ℕ) (x y : X) → u (Some x) ≡ v (Some y) → u (get (insert rows at x) key) ≡ v (get (insert others at y) key)
+  inserted_alike at x y is = ap u (get-insert pair_cmp_total rows at x key) ∙ by (eq_by_cmp pair_cmp key at) ∙ sym (ap v (get-insert pair_cmp_total others at y key))
     where
-      by : (b : Bool) → option_map u (cond b (Some x) (get rows key)) ≡ option_map v (cond b (Some y) (get others key))
-      by true = ap Some is
+      by : (b : Bool) → u (cond b (Some x) (get rows key)) ≡ v (cond b (Some y) (get others key))
+      by true = is
       by false = same
 
-  pub removed_alike : (at : ℕ × ℕ) → option_map u (get (remove rows at) key) ≡ option_map v (get (remove others at) key)
-  removed_alike at =
-      ap (option_map u) (get-remove pair_cmp_total rows at key) ∙ by (eq_by_cmp pair_cmp key at)
-      ∙ sym (ap (option_map v) (get-remove pair_cmp_total others at key))
-    where
-      by : (b : Bool) → option_map u (cond b None (get rows key)) ≡ option_map v (cond b None (get others key))
-      by true = refl
-      by false = same
+  module _ (none : u None ≡ v None) where
+    pub removed_alike : (at : ℕ × ℕ) → u (get (remove rows at) key) ≡ v (get (remove others at) key)
+    removed_alike at = ap u (get-remove pair_cmp_total rows at key) ∙ by (eq_by_cmp pair_cmp key at) ∙ sym (ap v (get-remove pair_cmp_total others at key))
+      where
+        by : (b : Bool) → u (cond b None (get rows key)) ≡ v (cond b None (get others key))
+        by true = none
+        by false = same
 
-  pub left_alike : (target : ℕ) → option_map u (get (rows_but target rows) key) ≡ option_map v (get (rows_but target others) key)
-  left_alike target =
-      ap (option_map u) (get-rows_but rows target key) ∙ by (not (key.0 == target))
-      ∙ sym (ap (option_map v) (get-rows_but others target key))
-    where
-      by : (b : Bool) → option_map u (cond b (get rows key) None) ≡ option_map v (cond b (get others key) None)
-      by true = same
-      by false = refl
+    pub left_alike : (target : ℕ) → u (get (rows_but target rows) key) ≡ v (get (rows_but target others) key)
+    left_alike target = ap u (get-rows_but rows target key) ∙ by (not (key.0 == target)) ∙ sym (ap v (get-rows_but others target key))
+      where
+        by : (b : Bool) → u (cond b (get rows key) None) ≡ v (cond b (get others key) None)
+        by true = same
+        by false = none
 
 -- processors
 module _ (vps others : FinMap pair_cmp VpRow) (key : ℕ × ℕ) (same : get vps key ≡ get others key) where
@@ -100,17 +93,3 @@ module _ (vps others : FinMap pair_cmp VpRow) (key : ℕ × ℕ) (same : get vps
           let here : key ≡ at = pair_cmp_exact key at ((Equal-is (pair_cmp key at)).0 is) in
           ap (option_map h) (ap (get vps) (sym here) ∙ same ∙ ap (get others) here)
       by false is = same
-
-  pub vp_inserted : (at : ℕ × ℕ) (row : VpRow) → get (insert vps at row) key ≡ get (insert others at row) key
-  vp_inserted at row =
-      get-insert pair_cmp_total vps at row key ∙ ap (λ r. cond (eq_by_cmp pair_cmp key at) (Some row) r) same
-      ∙ sym (get-insert pair_cmp_total others at row key)
-
-  pub vp_removed : (at : ℕ × ℕ) → get (remove vps at) key ≡ get (remove others at) key
-  vp_removed at =
-      get-remove pair_cmp_total vps at key ∙ ap (λ r. cond (eq_by_cmp pair_cmp key at) None r) same
-      ∙ sym (get-remove pair_cmp_total others at key)
-
-  pub vp_left : (target : ℕ) → get (rows_but target vps) key ≡ get (rows_but target others) key
-  vp_left target =
-      get-rows_but vps target key ∙ ap (λ r. cond (not (key.0 == target)) r None) same ∙ sym (get-rows_but others target key)

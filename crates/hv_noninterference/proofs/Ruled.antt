@@ -1,7 +1,7 @@
 -- The rules of a member's call are met alike.
-use Rattle.std.proofs.Common.{◌≡◌, ℕ, ◌==◌, Bool, true, false, cond, List, [], ◌∷◌, Option, Some, None, is_some, refl, sym, ap, ◌∙◌}
+use Rattle.std.proofs.Common.{◌≡◌, ℕ, ◌==◌, Bool, true, false, cond, List, [], ◌∷◌, Option, Some, None, is_some, refl, sym, ap, ◌∙◌, option_map}
 use Rattle.std.specs.FinMap.{contains_key, get}
-use Rattle.std.specs.Option.{option_map, option_map_or}
+use Rattle.std.specs.Option.{option_map_or}
 use Rattle.hv_calls.specs.declared.call.Call.{Call}
 use Rattle.hv_calls.specs.declared.call.Call.TheVariants.{CreatePartition, PostMessage, SignalEvent, CreatePort, ConnectPort}
 use Rattle.hv_policy.specs.Aim.{is_same_birth, on_aim}
@@ -11,12 +11,13 @@ use Rattle.hv_policy.specs.Needs.{charge_of, resolved_id, needs_of, target_of}
 use Rattle.hv_policy.specs.Rules.{Ask, first_unmet, further_asks}
 use Rattle.hv_policy.specs.declared.rule.Rule.TheVariants.{Connection, Port, VpExists, Operand, VpReady, PortRoom}
 use Rattle.hv_integrity.proofs.Asked.{NamedAlike, ReadsAlike, asked_alike}
+use Rattle.hv_integrity.proofs.Held.{reads_alike}
 use Rattle.hv_noninterference.specs.Alike.{AreLowEquivalent, AreClosed, is_born, mark, marked_conn, unborn}
 use Rattle.hv_noninterference.specs.Looks.{EndsAlike, IsThereAlike, LooksAlike, OutsideAlike}
-use Rattle.hv_noninterference.proofs.Changes.{lowest_same}
 use Rattle.hv_noninterference.proofs.Ends.{ends_alike}
-use Rattle.hv_noninterference.proofs.Reading.{access_alike, available_alike, child_alike, children_alike, give_alike, loose_alike, next_child_alike, there_alike, use_alike}
-use Rattle.hv_noninterference.proofs.Sends.{leads_alike}
+use Rattle.hv_noninterference.proofs.Marks.{unmarked}
+use Rattle.hv_noninterference.proofs.Reading.{child_alike, there_alike}
+use Rattle.hv_noninterference.proofs.Sends.{leads_alike, seen_alike}
 
 module _ (members : ℕ → Bool) (f g : Flat) (a : AreLowEquivalent members f g) (closed : AreClosed members f) (closed_too : AreClosed members g) where
   -- whoever is named is there alike
@@ -54,10 +55,6 @@ module _ (members : ℕ → Bool) (f g : Flat) (a : AreLowEquivalent members f g
       conn_there : contains_key f.conn key ≡ contains_key g.conn key
       conn_there = there_alike (marked_conn members f) (marked_conn members g) (get f.conn key) (get g.conn key) ((a caller own_caller).conns connection)
 
-      unmarked : (b : Bool) → mark b == 1 ≡ b
-      unmarked true = refl
-      unmarked false = refl
-
       chosen : (b : Bool) (x y : ℕ) → b ≡ true → cond b x 0 ≡ cond b y 0 → x ≡ y
       chosen true x y is e = e
       chosen false x y is e = cc
@@ -65,9 +62,7 @@ module _ (members : ℕ → Bool) (f g : Flat) (a : AreLowEquivalent members f g
       births : (conn other : ConnRow) → get f.conn key ≡ Some conn → get g.conn key ≡ Some other → (part : other.part ≡ conn.part) → (port : other.port ≡ conn.port) → members conn.part ≡ true
           → is_born f (conn.part, conn.port) conn.born ≡ is_born g (conn.part, conn.port) other.born
       births conn other is is_too part port own =
-          let both : Some (marked_conn members f conn) ≡ Some (marked_conn members g other) = sym (ap (option_map (marked_conn members f)) is) ∙ (a caller own_caller).conns connection ∙ ap
-          (option_map (marked_conn members g)) is_too in
-          let rows : marked_conn members f conn ≡ marked_conn members g other = cc in
+          let rows = seen_alike (marked_conn members f) (marked_conn members g) (get f.conn key) (get g.conn key) conn other ((a caller own_caller).conns connection) is is_too in
           let marks = ap (λ (row : ConnRow). row.born) rows ∙ (λ i. cond (members (part i)) (mark (is_born g (part i, port i) other.born)) 0) in
           let same = chosen (members conn.part) _ _ own marks in
           sym (unmarked (is_born f (conn.part, conn.port) conn.born)) ∙ ap (λ n. n == 1) same ∙ unmarked (is_born g (conn.part, conn.port) other.born)
@@ -78,7 +73,7 @@ module _ (members : ℕ → Bool) (f g : Flat) (a : AreLowEquivalent members f g
           within : (other : ConnRow) → get g.conn key ≡ Some other → members conn.part ≡ true → EndsAlike key f g
           within other is_too own =
               let l = leads_alike members f g (get f.conn key) (get g.conn key) conn other ((a caller own_caller).conns connection) is is_too in
-              ends_alike members f g a key conn other (sym l.part) (sym l.port) is is_too own (births conn other is is_too (sym l.part) (sym l.port) own)
+              ends_alike members f g a key conn other (sym l.0) (sym l.1) is is_too own (births conn other is is_too (sym l.0) (sym l.1) own)
 
           at : (other : ConnRow) → get g.conn key ≡ Some other → (b : Bool) → members conn.part ≡ b → EndsAlike key f g
           at other is_too true own = within other is_too own
@@ -138,21 +133,11 @@ module _ (members : ℕ → Bool) (f g : Flat) (a : AreLowEquivalent members f g
 
     -- what a member's call reads of a member
     pub reads : (target : ℕ) → members target ≡ true → ReadsAlike caller target f g
-    reads target own = record {
-      part = (a target own).part;
-      vps = (a target own).vps;
-      ports = λ port. there_alike unborn unborn (get f.port (target, port)) (get g.port (target, port)) ((a target own).ports port);
-      conns = λ connection. there_alike (marked_conn members f) (marked_conn members g) (get f.conn (target, connection)) (get g.conn (target, connection)) ((a target own).conns connection);
-      children = children_alike members f g a closed closed_too target own;
-      child = λ id. child_alike members f g a closed closed_too target id own;
-      following = λ previous. next_child_alike members f g a closed closed_too target previous own;
-      unused = available_alike members f g a closed closed_too target own;
-      used = use_alike members f g a closed closed_too target own;
-      lowest = lowest_same target f g (a target own).pages;
-      loose = loose_alike members f g a closed closed_too caller own_caller;
-      given = give_alike members f g a closed closed_too caller own_caller;
-      accessed = access_alike members f g a closed closed_too caller own_caller;
-    }
+    reads target own =
+        reads_alike f g caller target (a caller own_caller).part (a caller own_caller).pages (a target own).part (a target own).pages (a target own).vps
+        (λ port. there_alike unborn unborn (get f.port (target, port)) (get g.port (target, port)) ((a target own).ports port))
+        (λ connection. there_alike (marked_conn members f) (marked_conn members g) (get f.conn (target, connection)) (get g.conn (target, connection)) ((a target own).conns connection))
+        (λ id. child_alike members f g a closed closed_too target id own)
 
     named : (call : Call) → LooksAlike members call caller f g → NamedAlike caller (target_of call caller) (needs_of call).states (charge_of call) f g call
     named (CreatePartition flags) n = n.1

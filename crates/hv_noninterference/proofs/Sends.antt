@@ -1,18 +1,16 @@
 -- What is sent alike in two states leaves members alike.
-use Rattle.std.proofs.Common.{◌≡◌, ℕ, ◌+◌, ◌==◌, ◌&&◌, Bool, true, false, cond, List, [], ◌∷◌, ◌++◌, map, Option, Some, None, refl, sym, ap, subst, ◌∙◌, append-nil}
-use Rattle.std.proofs.lemmas.Bool.{eqb-false, ne_eqb}
-use Rattle.std.specs.FinMap.{get}
-use Rattle.std.specs.Option.{option_map, option_map_or}
+use Rattle.std.proofs.Common.{◌≡◌, ℕ, ◌+◌, ◌==◌, Bool, true, false, cond, List, map, Option, Some, None, refl, sym, ap, subst, ◌∙◌, ne_eqb, option_map}
+use Rattle.std.specs.FinMap.{FinMap, get}
+use Rattle.std.specs.Option.{option_map_or}
+use Rattle.hv_defs.specs.Flags.{pair_cmp}
 use Rattle.hv_defs.specs.declared.aim.Aim.{Aim}
 use Rattle.hv_defs.specs.declared.aim.Aim.TheVariants.{One, Any}
 use Rattle.hv_policy.proofs.Pairs.{first_alike}
-use Rattle.hv_policy.proofs.Places.{last_there}
-use Rattle.hv_policy.specs.Aim.{ResolvedPort, aim_by, aim_of, aim_with, flag_taker, is_ready_for_flags, is_ready_for_messages, is_same_birth, message_taker, on_aim, select_vp}
-use Rattle.hv_policy.specs.Effect.{post, post_at, post_to, row_signalled, signal_at, signal_to, with_vp}
+use Rattle.hv_policy.specs.Aim.{ResolvedPort, aim_by, aim_of, aim_with, is_ready_for_flags, is_ready_for_messages, is_same_birth, on_aim, select_vp}
+use Rattle.hv_policy.specs.Effect.{post_at, post_to, row_signalled, signal_at, signal_to, with_vp}
 use Rattle.hv_policy.specs.Flat.{ConnRow, Flat, MailRow, PortRow, VpRow}
-use Rattle.hv_policy.specs.Mail.{mail_at, stands_at}
-use Rattle.hv_integrity.proofs.Apart.{shown_apart, staff_apart}
-use Rattle.hv_integrity.specs.Same.{place}
+use Rattle.hv_integrity.proofs.Missing.{posted, signalled}
+use Rattle.hv_integrity.specs.Same.{HasSame}
 use Rattle.hv_noninterference.specs.Alike.{AreLowEquivalent, HasAlike, is_born, mark, marked, marked_conn, unborn}
 use Rattle.hv_noninterference.proofs.Showing.{posted_alike, staff_alike}
 
@@ -39,40 +37,16 @@ pub aimed_way : (f : Flat) (key : ℕ × ℕ) (conn : ConnRow) (port : PortRow) 
     (record { conn = conn; port = port })
 aimed_way f key conn port is there = ap (aim_by f) is ∙ ap (aim_with conn) there
 
--- what two connections have alike that lead to one port
-pub record LeadAlike (conn other : ConnRow) : Type 0 where
-  pub part : conn.part ≡ other.part
-  pub port : conn.port ≡ other.port
+-- rows that are there are seen alike
+pub seen_alike : {X Y : Type 0} (u v : X → Y) (r s : Option X) (x y : X) → option_map u r ≡ option_map v s → r ≡ Some x → s ≡ Some y → u x ≡ v y
+seen_alike u v r s x y same is is_too = let both : Some (u x) ≡ Some (v y) = sym (ap (option_map u) is) ∙ same ∙ ap (option_map v) is_too in cc
 
--- those of a member do
+-- connections of a member lead to one port
 pub leads_alike : (members : ℕ → Bool) (f g : Flat) (c d : Option ConnRow) (conn other : ConnRow) → option_map (marked_conn members f) c ≡ option_map (marked_conn members g) d → c ≡ Some conn → d ≡
-    Some other → LeadAlike conn other
+    Some other → (conn.part ≡ other.part) × (conn.port ≡ other.port)
 leads_alike members f g c d conn other same is is_too =
-    let both : Some (marked_conn members f conn) ≡ Some (marked_conn members g other) = sym (ap (option_map (marked_conn members f)) is) ∙ same ∙ ap (option_map (marked_conn members g)) is_too in
-    let rows : marked_conn members f conn ≡ marked_conn members g other = cc in
-    record { part = ap (λ (row : ConnRow). row.part) rows; port = ap (λ (row : ConnRow). row.port) rows }
-
--- and ports that are alike but for their births
-pub record AimAlike (port other : PortRow) : Type 0 where
-  pub kind : port.kind ≡ other.kind
-  pub peer : port.peer ≡ other.peer
-  pub sint : port.sint ≡ other.sint
-  pub vp : port.vp ≡ other.vp
-  pub base : port.base ≡ other.base
-  pub count : port.count ≡ other.count
-
-pub aims_alike : (r s : Option PortRow) (port other : PortRow) → option_map unborn r ≡ option_map unborn s → r ≡ Some port → s ≡ Some other → AimAlike port other
-aims_alike r s port other same is is_too =
-    let both : Some (unborn port) ≡ Some (unborn other) = sym (ap (option_map unborn) is) ∙ same ∙ ap (option_map unborn) is_too in
-    let rows : unborn port ≡ unborn other = cc in
-    record {
-      kind = ap (λ (row : PortRow). row.kind) rows;
-      peer = ap (λ (row : PortRow). row.peer) rows;
-      sint = ap (λ (row : PortRow). row.sint) rows;
-      vp = ap (λ (row : PortRow). row.vp) rows;
-      base = ap (λ (row : PortRow). row.base) rows;
-      count = ap (λ (row : PortRow). row.count) rows;
-    }
+    let rows = seen_alike (marked_conn members f) (marked_conn members g) c d conn other same is is_too in
+    (ap (λ (row : ConnRow). row.part) rows, ap (λ (row : ConnRow). row.port) rows)
 
 -- the message that goes to a port
 abbrev message : ResolvedPort → ℕ → ℕ → List ℕ → MailRow
@@ -93,30 +67,18 @@ taker_same f g test id same (One index) = ap (λ row. cond (option_map_or test r
 taker_same f g test id same Any = first_alike id test f.vp g.vp same
 
 module _ (members : ℕ → Bool) where
-  -- what is posted, or signalled, elsewhere leaves a member as it was
-  post_apart : (row : MailRow) (f : Flat) (id : ℕ) → id == row.part ≡ false → HasAlike members id f (post row f)
-  post_apart row f id off = record {
-    part = refl;
-    pages = λ _. refl;
-    vps = (shown_apart id row.part off row.vp row.sint (record f { mail = f.mail ++ row ∷ [] })).vps;
-    ports = λ _. refl;
-    conns = λ _. refl;
-    mail = λ vp sint.
-        ap (map (marked f)) (sym (append-nil (mail_at (place id vp sint) f.mail)) ∙ sym (last_there (place id vp sint) f.mail row false (away vp sint))
-        ∙ (shown_apart id row.part off row.vp row.sint (record f { mail = f.mail ++ row ∷ [] })).mail vp sint);
-  }
-    where
-      away : (vp sint : ℕ) → stands_at (place id vp sint) row ≡ false
-      away vp sint = ap (λ b. b && ((row.vp == vp) && (row.sint == sint))) (ne_eqb row.part id (λ same. eqb-false id row.part off (sym same)))
+  pub same : (id : ℕ) (f : Flat) → HasAlike members id f f
+  same id f = record { part = refl; pages = λ _. refl; vps = λ _. refl; ports = λ _. refl; conns = λ _. refl; mail = λ _ _. refl }
 
-  signal_apart : (f : Flat) (target vp : ℕ) (h : VpRow → VpRow) (id : ℕ) → id == target ≡ false → HasAlike members id f (record f { vp = with_vp f.vp (target, vp) h })
-  signal_apart f target vp h id off = record {
-    part = refl;
-    pages = λ _. refl;
-    vps = (staff_apart id target off f vp h).vps;
+  -- what is the same is alike where processors and messages alone change
+  from_same : (f : Flat) (vps : FinMap pair_cmp VpRow) (mail : List MailRow) (id : ℕ) → HasSame id f (record f { vp = vps; mail = mail }) → HasAlike members id f (record f { vp = vps; mail = mail })
+  from_same f vps mail id s = record {
+    part = s.part;
+    pages = s.pages;
+    vps = s.vps;
     ports = λ _. refl;
     conns = λ _. refl;
-    mail = λ _ _. refl;
+    mail = λ vp sint. ap (map (marked f)) (s.mail vp sint);
   }
 
   pub back : (id : ℕ) (f g : Flat) → HasAlike members id f g → HasAlike members id g f
@@ -148,7 +110,7 @@ module _ (members : ℕ → Bool) where
     both_apart : (h k : Flat) → ((id : ℕ) → members id ≡ true → HasAlike members id f h) → ((id : ℕ) → members id ≡ true → HasAlike members id g k) → AreLowEquivalent members h k
     both_apart h k s t id own = chain id h f k (back id f h (s id own)) (chain id f g k (a id own) (t id own))
 
-    module _ (key : ℕ × ℕ) (w : IsWay f key is_same_birth) (v : IsWay g key is_same_birth) (l : LeadAlike w.conn v.conn) where
+    module _ (key : ℕ × ℕ) (w : IsWay f key is_same_birth) (v : IsWay g key is_same_birth) (l : (w.conn.part ≡ v.conn.part) × (w.conn.port ≡ v.conn.port)) where
       abbrev aim : ResolvedPort
       aim = record { conn = w.conn; port = w.port }
 
@@ -156,13 +118,13 @@ module _ (members : ℕ → Bool) where
       aim_too = record { conn = v.conn; port = v.port }
 
       -- ports of a member are alike
-      ends : members w.conn.part ≡ true → AimAlike w.port v.port
+      ends : members w.conn.part ≡ true → unborn w.port ≡ unborn v.port
       ends own =
-          aims_alike (get f.port (w.conn.part, w.conn.port)) (get g.port (w.conn.part, w.conn.port)) w.port v.port ((a w.conn.part own).ports w.conn.port) w.there
-          ((λ i. get g.port (l.part i, l.port i)) ∙ v.there)
+          seen_alike unborn unborn (get f.port (w.conn.part, w.conn.port)) (get g.port (w.conn.part, w.conn.port)) w.port v.port ((a w.conn.part own).ports w.conn.port) w.there
+          ((λ i. get g.port (l.0 i, l.1 i)) ∙ v.there)
 
       takers : (own : members w.conn.part ≡ true) → (test : VpRow → Bool) → select_vp test f w.conn.part w.port.vp ≡ select_vp test g v.conn.part v.port.vp
-      takers own test = taker_same f g test w.conn.part (a w.conn.part own).vps w.port.vp ∙ (λ i. select_vp test g (l.part i) ((ends own).vp i))
+      takers own test = taker_same f g test w.conn.part (a w.conn.part own).vps w.port.vp ∙ (λ i. select_vp test g (l.0 i) (ends own i).vp)
 
       -- a message
       born_there : (h : Flat) (conn : ConnRow) (port : PortRow) → get h.port (conn.part, conn.port) ≡ Some port → port.born == conn.born ≡ true → is_born h (conn.part, conn.port) conn.born ≡ true
@@ -171,55 +133,55 @@ module _ (members : ℕ → Bool) where
       posted_within : (own : members w.conn.part ≡ true) (type : ℕ) (payload : List ℕ) (o : Option ℕ) → AreLowEquivalent members (post_at aim o type payload f) (post_at aim_too o type payload g)
       posted_within own type payload None = a
       posted_within own type payload (Some vp) =
-          posted_alike members (message aim vp type payload) (message aim_too vp type payload) f g (λ i. record { part = l.part i; vp = vp; sint = (ends own).sint i })
-          (λ i. record { part = l.part i; vp = vp; sint = (ends own).sint i; port = l.port i; born = mark (marks i); type = type; payload = payload; shown = false }) own a
+          posted_alike members (message aim vp type payload) (message aim_too vp type payload) f g (λ i. record { part = l.0 i; vp = vp; sint = (ends own i).sint })
+          (λ i. record { part = l.0 i; vp = vp; sint = (ends own i).sint; port = l.1 i; born = mark (marks i); type = type; payload = payload; shown = false }) own a
         where
           marks : is_born f (w.conn.part, w.conn.port) w.conn.born ≡ is_born g (v.conn.part, v.conn.port) v.conn.born
           marks = born_there f w.conn w.port w.there w.met ∙ sym (born_there g v.conn v.port v.there v.met)
 
       elsewhere : (h : Flat) (to : ResolvedPort) → members to.conn.part ≡ false → (type : ℕ) (payload : List ℕ) (o : Option ℕ) (id : ℕ) → members id ≡ true → HasAlike members id h
           (post_at to o type payload h)
-      elsewhere h to off type payload None id own = record { part = refl; pages = λ _. refl; vps = λ _. refl; ports = λ _. refl; conns = λ _. refl; mail = λ _ _. refl }
-      elsewhere h to off type payload (Some vp) id own = post_apart (message to vp type payload) h id (apart_from id to.conn.part own off)
+      elsewhere h to off type payload None id own = same id h
+      elsewhere h to off type payload (Some vp) id own =
+          from_same h (post_at to (Some vp) type payload h).vp (post_at to (Some vp) type payload h).mail id (posted h id to (apart_from id to.conn.part own off) type payload (Some vp))
+
+      -- what is sent through both connections
+      sent : (test : VpRow → Bool) (send : ResolvedPort → Option ℕ → Flat → Flat) → (members w.conn.part ≡ true → (o : Option ℕ) → AreLowEquivalent members (send aim o f) (send aim_too o g))
+          → ((h : Flat) (to : ResolvedPort) → members to.conn.part ≡ false → (o : Option ℕ) (id : ℕ) → members id ≡ true → HasAlike members id h (send to o h)) → (p q : Option ResolvedPort → Flat)
+          → p (Some aim) ≡ send aim (select_vp test f w.conn.part w.port.vp) f → q (Some aim_too) ≡ send aim_too (select_vp test g v.conn.part v.port.vp) g
+          → AreLowEquivalent members (p (aim_of f key)) (q (aim_of g key))
+      sent test send within away p q to to_too =
+          subst (λ h. AreLowEquivalent members h (q (aim_of g key))) (sym (ap p (aimed_way f key w.conn w.port w.leads w.there) ∙ to))
+          (subst (λ h. AreLowEquivalent members (send aim (select_vp test f w.conn.part w.port.vp) f) h) (sym (ap q (aimed_way g key v.conn v.port v.leads v.there) ∙ to_too))
+          (by (members w.conn.part) refl))
+        where
+          by : (b : Bool) → members w.conn.part ≡ b → AreLowEquivalent members (send aim (select_vp test f w.conn.part w.port.vp) f) (send aim_too (select_vp test g v.conn.part v.port.vp) g)
+          by true own =
+              subst (λ o. AreLowEquivalent members (send aim (select_vp test f w.conn.part w.port.vp) f) (send aim_too o g)) (takers own test)
+              (within own (select_vp test f w.conn.part w.port.vp))
+          by false off = both_apart _ _ (away f aim off _) (away g aim_too (ap members (sym l.0) ∙ off) _)
 
       pub posts_alike : (type : ℕ) (payload : List ℕ) → AreLowEquivalent members (post_to (aim_of f key) type payload f) (post_to (aim_of g key) type payload g)
       posts_alike type payload =
-          subst (λ o. AreLowEquivalent members (post_to o type payload f) (post_to (aim_of g key) type payload g)) (sym (aimed_way f key w.conn w.port w.leads w.there))
-          (subst (λ o. AreLowEquivalent members (post_to (Some aim) type payload f) (post_to o type payload g)) (sym (aimed_way g key v.conn v.port v.leads v.there))
-          (by (members w.conn.part) refl))
-        where
-          by : (b : Bool) → members w.conn.part ≡ b → AreLowEquivalent members (post_at aim (message_taker f aim) type payload f) (post_at aim_too (message_taker g aim_too) type payload g)
-          by true own =
-              subst (λ o. AreLowEquivalent members (post_at aim (message_taker f aim) type payload f) (post_at aim_too o type payload g)) (takers own is_ready_for_messages)
-              (posted_within own type payload (message_taker f aim))
-          by false off =
-              both_apart _ _ (elsewhere f aim off type payload (message_taker f aim))
-              (elsewhere g aim_too (ap members (sym l.part) ∙ off) type payload (message_taker g aim_too))
+          sent is_ready_for_messages (λ to o h. post_at to o type payload h) (λ own. posted_within own type payload) (λ h to off. elsewhere h to off type payload)
+          (λ o. post_to o type payload f) (λ o. post_to o type payload g) refl refl
 
       -- and a flag
       signalled_within : (own : members w.conn.part ≡ true) (flag : ℕ) (o : Option ℕ) → AreLowEquivalent members (signal_at aim o flag f) (signal_at aim_too o flag g)
       signalled_within own flag None = a
       signalled_within own flag (Some vp) =
-          subst (λ to. AreLowEquivalent members (signal_at aim (Some vp) flag f) to) same
+          subst (λ to. AreLowEquivalent members (signal_at aim (Some vp) flag f) to) renamed
           (staff_alike members (w.conn.part, vp) (row_signalled w.port.sint (w.port.base + flag)) f g a)
         where
-          same : record g { vp = with_vp g.vp (w.conn.part, vp) (row_signalled w.port.sint (w.port.base + flag)) } ≡ signal_at aim_too (Some vp) flag g
-          same = λ i. record g { vp = with_vp g.vp (l.part i, vp) (row_signalled ((ends own).sint i) ((ends own).base i + flag)) }
+          renamed : record g { vp = with_vp g.vp (w.conn.part, vp) (row_signalled w.port.sint (w.port.base + flag)) } ≡ signal_at aim_too (Some vp) flag g
+          renamed = λ i. record g { vp = with_vp g.vp (l.0 i, vp) (row_signalled (ends own i).sint ((ends own i).base + flag)) }
 
       flag_elsewhere : (h : Flat) (to : ResolvedPort) → members to.conn.part ≡ false → (flag : ℕ) (o : Option ℕ) (id : ℕ) → members id ≡ true → HasAlike members id h (signal_at to o flag h)
-      flag_elsewhere h to off flag None id own = record { part = refl; pages = λ _. refl; vps = λ _. refl; ports = λ _. refl; conns = λ _. refl; mail = λ _ _. refl }
-      flag_elsewhere h to off flag (Some vp) id own = signal_apart h to.conn.part vp _ id (apart_from id to.conn.part own off)
+      flag_elsewhere h to off flag None id own = same id h
+      flag_elsewhere h to off flag (Some vp) id own =
+          from_same h (signal_at to (Some vp) flag h).vp h.mail id (signalled h id to (apart_from id to.conn.part own off) flag (Some vp))
 
       pub signals_alike : (flag : ℕ) → AreLowEquivalent members (signal_to (aim_of f key) flag f) (signal_to (aim_of g key) flag g)
       signals_alike flag =
-          subst (λ o. AreLowEquivalent members (signal_to o flag f) (signal_to (aim_of g key) flag g)) (sym (aimed_way f key w.conn w.port w.leads w.there))
-          (subst (λ o. AreLowEquivalent members (signal_to (Some aim) flag f) (signal_to o flag g)) (sym (aimed_way g key v.conn v.port v.leads v.there))
-          (by (members w.conn.part) refl))
-        where
-          by : (b : Bool) → members w.conn.part ≡ b → AreLowEquivalent members (signal_at aim (flag_taker f aim) flag f) (signal_at aim_too (flag_taker g aim_too) flag g)
-          by true own =
-              subst (λ o. AreLowEquivalent members (signal_at aim (flag_taker f aim) flag f) (signal_at aim_too o flag g)) (takers own is_ready_for_flags)
-              (signalled_within own flag (flag_taker f aim))
-          by false off =
-              both_apart _ _ (flag_elsewhere f aim off flag (flag_taker f aim))
-              (flag_elsewhere g aim_too (ap members (sym l.part) ∙ off) flag (flag_taker g aim_too))
+          sent is_ready_for_flags (λ to o h. signal_at to o flag h) (λ own. signalled_within own flag) (λ h to off. flag_elsewhere h to off flag)
+          (λ o. signal_to o flag f) (λ o. signal_to o flag g) refl refl

@@ -1,8 +1,10 @@
 -- Messages that are shown, go or are posted alike in two states stay alike.
-use Rattle.std.proofs.Common.{◌≡◌, ℕ, zero, suc, ◌==◌, ◌&&◌, ◌||◌, not, Bool, true, false, cond, List, [], ◌∷◌, ◌++◌, map, Option, Some, None, refl, sym, ap, subst, ◌∙◌}
+use Rattle.std.proofs.Common.{◌≡◌, ℕ, zero, suc, ◌==◌, ◌&&◌, ◌||◌, not, Bool, true, false, cond, List, [], ◌∷◌, ◌++◌, map, Option, Some, None, refl, sym, ap, subst, ◌∙◌, filter}
 use Rattle.std.proofs.lemmas.List.{map-append}
-use Rattle.std.specs.List.{filter, list_any}
+use Rattle.std.specs.FinMap.{FinMap, get}
+use Rattle.std.specs.List.{list_any}
 use Rattle.std.specs.Option.{option_map_or}
+use Rattle.hv_defs.specs.Flags.{pair_cmp}
 use Rattle.hv_defs.specs.declared.registers.TheConstants.{EOM}
 use Rattle.hv_defs.specs.declared.sizes.TheConstants.{SINTS}
 use Rattle.hv_policy.proofs.Places.{cleared_apart, cleared_there, head_shown, is_place, is_place_true, last_there, next_apart, next_rows, next_there}
@@ -12,6 +14,7 @@ use Rattle.hv_policy.specs.Flat.{Flat, MailRow, VpRow}
 use Rattle.hv_policy.specs.Mail.{Place, cleared, has_next, is_shown, is_some_row, mail_at, place_of, shown_next, stands_at}
 use Rattle.hv_integrity.specs.Same.{place}
 use Rattle.hv_noninterference.specs.Alike.{AreLowEquivalent, marked}
+use Rattle.hv_noninterference.proofs.Marks.{filter_marked}
 use Rattle.hv_noninterference.proofs.Rows.{vp_alike}
 
 -- marks don't tell what is shown
@@ -41,28 +44,27 @@ module _ (f : Flat) where
   pub next_waits : (rows : List MailRow) → waits rows ≡ waits (map (marked f) rows)
   next_waits rows = λ i. not (sym (any_shown rows) i) && sym (some_row rows) i
 
-  pub hidden_marked : (rows : List MailRow) → map (marked f) (filter (λ row. not row.shown) rows) ≡ filter (λ row. not row.shown) (map (marked f) rows)
-  hidden_marked [] = refl
-  hidden_marked (row ∷ rows) = by (not row.shown) (hidden_marked rows)
-    where
-      by : (b : Bool) → map (marked f) (filter (λ row. not row.shown) rows) ≡ filter (λ row. not row.shown) (map (marked f) rows) → map (marked f)
-          (cond b (row ∷ filter (λ row. not row.shown) rows) (filter (λ row. not row.shown) rows)) ≡ cond b (marked f row ∷ filter (λ row. not row.shown) (map (marked f) rows))
-          (filter (λ row. not row.shown) (map (marked f) rows))
-      by true rest = ap (λ rows. marked f row ∷ rows) rest
-      by false rest = rest
-
 module _ (members : ℕ → Bool) where
-  -- Show at a place of a member
-  pub shown_alike : (at : Place) → members at.part ≡ true → (f g : Flat) → AreLowEquivalent members f g → AreLowEquivalent members (show at f) (show at g)
-  shown_alike at member f g a id own = record {
+  -- processors and messages alone change
+  pub staff_changed : (f g : Flat) → AreLowEquivalent members f g → (vps others : FinMap pair_cmp VpRow) (mail rest : List MailRow)
+      → ((id : ℕ) → members id ≡ true → (vp : ℕ) → get vps (id, vp) ≡ get others (id, vp))
+      → ((id : ℕ) → members id ≡ true → (vp sint : ℕ) → map (marked f) (mail_at (place id vp sint) mail) ≡ map (marked g) (mail_at (place id vp sint) rest))
+      → AreLowEquivalent members (record f { vp = vps; mail = mail }) (record g { vp = others; mail = rest })
+  staff_changed f g a vps others mail rest same mails id own = record {
     part = (a id own).part;
     pages = (a id own).pages;
-    vps = λ vp. vp_alike f.vp g.vp (id, vp) ((a id own).vps vp) (at.part, at.vp) (row_raised (has_next at f.mail) at.sint) (row_raised (has_next at g.mail) at.sint)
-        (ap (λ b. row_raised b at.sint) has);
+    vps = same id own;
     ports = (a id own).ports;
     conns = (a id own).conns;
-    mail = λ vp sint. mails vp sint (is_place at (place id vp sint)) refl;
+    mail = mails id own;
   }
+
+  -- Show at a place of a member
+  pub shown_alike : (at : Place) → members at.part ≡ true → (f g : Flat) → AreLowEquivalent members f g → AreLowEquivalent members (show at f) (show at g)
+  shown_alike at member f g a = staff_changed f g a (show at f).vp (show at g).vp (shown_next at f.mail) (shown_next at g.mail)
+      (λ id own vp. vp_alike f.vp g.vp (id, vp) ((a id own).vps vp) (at.part, at.vp) (row_raised (has_next at f.mail) at.sint) (row_raised (has_next at g.mail) at.sint)
+      (ap (λ b. row_raised b at.sint) has))
+      (λ id own vp sint. mails id own vp sint (is_place at (place id vp sint)) refl)
     where
       there : map (marked f) (mail_at at f.mail) ≡ map (marked g) (mail_at at g.mail)
       there = (a at.part member).mail at.vp at.sint
@@ -70,13 +72,13 @@ module _ (members : ℕ → Bool) where
       has : has_next at f.mail ≡ has_next at g.mail
       has = next_waits f (mail_at at f.mail) ∙ ap (λ rows. not (list_any is_shown rows) && is_some_row rows) there ∙ sym (next_waits g (mail_at at g.mail))
 
-      mails : (vp sint : ℕ) (b : Bool) → is_place at (place id vp sint) ≡ b → map (marked f) (mail_at (place id vp sint) (shown_next at f.mail)) ≡ map (marked g)
+      mails : (id : ℕ) → members id ≡ true → (vp sint : ℕ) (b : Bool) → is_place at (place id vp sint) ≡ b → map (marked f) (mail_at (place id vp sint) (shown_next at f.mail)) ≡ map (marked g)
           (mail_at (place id vp sint) (shown_next at g.mail))
-      mails vp sint true is =
+      mails id own vp sint true is =
           subst (λ p. map (marked f) (mail_at p (shown_next at f.mail)) ≡ map (marked g) (mail_at p (shown_next at g.mail))) (sym (is_place_true at (place id vp sint) is))
           (ap (map (marked f)) (next_there at f.mail) ∙ next_marked f (mail_at at f.mail) ∙ ap next_rows there
           ∙ sym (next_marked g (mail_at at g.mail)) ∙ sym (ap (map (marked g)) (next_there at g.mail)))
-      mails vp sint false is =
+      mails id own vp sint false is =
           ap (map (marked f)) (next_apart (place id vp sint) at is f.mail) ∙ (a id own).mail vp sint
           ∙ sym (ap (map (marked g)) (next_apart (place id vp sint) at is g.mail))
 
@@ -99,14 +101,8 @@ module _ (members : ℕ → Bool) where
   -- a processor changes
   pub staff_alike : (key : ℕ × ℕ) (h : VpRow → VpRow) (f g : Flat) → AreLowEquivalent members f g → AreLowEquivalent members (record f { vp = with_vp f.vp key h })
       (record g { vp = with_vp g.vp key h })
-  staff_alike key h f g a id own = record {
-    part = (a id own).part;
-    pages = (a id own).pages;
-    vps = λ vp. vp_alike f.vp g.vp (id, vp) ((a id own).vps vp) key h h refl;
-    ports = (a id own).ports;
-    conns = (a id own).conns;
-    mail = (a id own).mail;
-  }
+  staff_alike key h f g a =
+      staff_changed f g a (with_vp f.vp key h) (with_vp g.vp key h) f.mail g.mail (λ id own vp. vp_alike f.vp g.vp (id, vp) ((a id own).vps vp) key h h refl) (λ id own. (a id own).mail)
 
   pub register_alike : (part vp name value : ℕ) → members part ≡ true → (f g : Flat) → AreLowEquivalent members f g → AreLowEquivalent members (write_register part vp name value f)
       (write_register part vp name value g)
@@ -121,23 +117,17 @@ module _ (members : ℕ → Bool) where
 
   -- the shown message of a place goes
   pub cleared_alike : (at : Place) → (f g : Flat) → AreLowEquivalent members f g → AreLowEquivalent members (record f { mail = cleared at f.mail }) (record g { mail = cleared at g.mail })
-  cleared_alike at f g a id own = record {
-    part = (a id own).part;
-    pages = (a id own).pages;
-    vps = (a id own).vps;
-    ports = (a id own).ports;
-    conns = (a id own).conns;
-    mail = λ vp sint. mails vp sint (is_place at (place id vp sint)) refl;
-  }
+  cleared_alike at f g a =
+      staff_changed f g a f.vp g.vp (cleared at f.mail) (cleared at g.mail) (λ id own. (a id own).vps) (λ id own vp sint. mails id own vp sint (is_place at (place id vp sint)) refl)
     where
-      mails : (vp sint : ℕ) (b : Bool) → is_place at (place id vp sint) ≡ b → map (marked f) (mail_at (place id vp sint) (cleared at f.mail)) ≡ map (marked g)
+      mails : (id : ℕ) → members id ≡ true → (vp sint : ℕ) (b : Bool) → is_place at (place id vp sint) ≡ b → map (marked f) (mail_at (place id vp sint) (cleared at f.mail)) ≡ map (marked g)
           (mail_at (place id vp sint) (cleared at g.mail))
-      mails vp sint true is =
+      mails id own vp sint true is =
           let here = is_place_true at (place id vp sint) is in
-          let left = (λ (h : Flat). ap (λ p. map (marked h) (mail_at (place id vp sint) (cleared p h.mail))) (sym here) ∙ ap (map (marked h)) (cleared_there (place id vp sint) h.mail) ∙ hidden_marked
-          h (mail_at (place id vp sint) h.mail)) in
+          let left = (λ (h : Flat). ap (λ p. map (marked h) (mail_at (place id vp sint) (cleared p h.mail))) (sym here) ∙ ap (map (marked h)) (cleared_there (place id vp sint) h.mail) ∙ sym
+          (filter_marked h (λ row. not row.shown) (λ m. refl) (mail_at (place id vp sint) h.mail))) in
           left f ∙ ap (filter (λ row. not row.shown)) ((a id own).mail vp sint) ∙ sym (left g)
-      mails vp sint false is =
+      mails id own vp sint false is =
           ap (map (marked f)) (cleared_apart (place id vp sint) at is f.mail) ∙ (a id own).mail vp sint
           ∙ sym (ap (map (marked g)) (cleared_apart (place id vp sint) at is g.mail))
 
@@ -161,11 +151,4 @@ module _ (members : ℕ → Bool) where
           (marked g) (mail_at at g.mail) (cond (stands_at at row) (other ∷ []) []))
 
       last : AreLowEquivalent members (record f { mail = f.mail ++ row ∷ [] }) (record g { mail = g.mail ++ other ∷ [] })
-      last id own = record {
-        part = (a id own).part;
-        pages = (a id own).pages;
-        vps = (a id own).vps;
-        ports = (a id own).ports;
-        conns = (a id own).conns;
-        mail = λ vp sint. mails (place id vp sint) ((a id own).mail vp sint);
-      }
+      last = staff_changed f g a f.vp g.vp (f.mail ++ row ∷ []) (g.mail ++ other ∷ []) (λ id own. (a id own).vps) (λ id own vp sint. mails (place id vp sint) ((a id own).mail vp sint))

@@ -1,10 +1,7 @@
 -- A tenant that can look nothing up, over a run.
-use Rattle.std.proofs.Common.{◌≡◌, ℕ, ◌<◌, ◌==◌, Bool, true, false, List, Option, Some, None, refl, sym, ap, subst, ◌∙◌, arith}
-use Rattle.std.proofs.lemmas.Bool.{eqb-true}
+use Rattle.std.proofs.Common.{◌≡◌, ℕ, ◌<◌, ◌==◌, Bool, true, false, List, Option, Some, None, refl, sym, ap, subst, ◌∙◌, arith, eqb-true}
 use Rattle.std.specs.FinMap.{get}
 use Rattle.hv_calls.specs.declared.call.Call.{Call}
-use Rattle.hv_defs.specs.declared.life.Life.{Life}
-use Rattle.hv_defs.specs.declared.life.Life.TheVariants.{Created, Active, Finalized}
 use Rattle.hv_policy.specs.Call.{called}
 use Rattle.hv_policy.specs.Count.{is_parent}
 use Rattle.hv_policy.specs.Flat.{Flat, PartRow}
@@ -21,7 +18,7 @@ use Rattle.hv_noninterference.specs.Looks.{ActionLooksAlike, CallLooksAlike, Loo
 use Rattle.hv_noninterference.specs.Tenant.{ActionSeesAlike, AreTenantTurns, CallSeesAlike, IsTenant, IsTenantTurn, only}
 use Rattle.hv_noninterference.specs.Turns.{AreAnsweredAlike, IsMatched, IsReached, Turn}
 use Rattle.hv_noninterference.proofs.Narrower.{comes_narrower, turns_narrower}
-use Rattle.hv_noninterference.proofs.Ongoing.{FollowOn, GoesOn, has_begun, step_follows}
+use Rattle.hv_invariants.proofs.Ongoing.{FollowOn, GoesOn, has_begun, runs_begun, step_follows}
 use Rattle.hv_noninterference.proofs.Plain.{lacks, looks_through}
 use Rattle.hv_noninterference.proofs.Runs.{IsGood, next_good, reached_good, replies_matched}
 
@@ -44,21 +41,15 @@ module _ (id : ℕ) where
     good = s;
     stays = record {
       made = below (get f.part id) refl t.running;
-      begun = λ row is. active row.life (sym (ap (test_row (λ row. is_active row.life)) is) ∙ t.running);
+      begun = λ row is. runs_begun row.life (sym (ap (test_row (λ row. is_active row.life)) is) ∙ t.running);
       nothing = t.nothing;
-      childless =
-          t.childless;
+      childless = t.childless;
     };
   }
     where
       below : (r : Option PartRow) → get f.part id ≡ r → test_row (λ row. is_active row.life) r ≡ true → id < f.next
       below None is runs = cc
       below (Some row) is runs = s.lawful.below id row is
-
-      active : (life : Life) → is_active life ≡ true → has_begun life ≡ true
-      active Created runs = cc
-      active Active runs = refl
-      active Finalized runs = cc
 
   module _ {A : Type 0} (f : Flat) (e : Event A) (pages : ℕ) (s : IsGood pages f) (t : StaysTenant f) where
     abbrev g : Flat

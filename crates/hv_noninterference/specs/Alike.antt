@@ -1,9 +1,8 @@
 -- Low equivalence for a run: what two flat states have in common for a set of partitions. Births may differ,
 -- as long as they agree on whether a birth is that of the existing port.
-use Rattle.std.specs.Prelude.{◌≡◌, ℕ, ◌==◌, ◌≤◌, cond, Bool, true, false, map, Some}
+use Rattle.std.specs.Prelude.{◌≡◌, ℕ, ◌==◌, ◌≤◌, cond, Bool, true, false, map, Some, option_map}
 use Rattle.std.specs.FinMap.{get}
 use Rattle.std.specs.List.{AllByRecursion}
-use Rattle.std.specs.Option.{option_map}
 use Rattle.hv_policy.specs.Flat.{ConnRow, Flat, MailRow, PortRow}
 use Rattle.hv_policy.specs.Mail.{mail_at}
 use Rattle.hv_policy.specs.Met.{is_child, on_port}

@@ -1,7 +1,6 @@
 -- Allowed flows: what an event of a member looks at outside the members, in two states.
-use Rattle.std.specs.Prelude.{◌≡◌, ℕ, Bool, true, false, Option, None, Some}
+use Rattle.std.specs.Prelude.{◌≡◌, ℕ, Bool, true, false, Option, None, Some, option_map}
 use Rattle.std.specs.FinMap.{contains_key, get}
-use Rattle.std.specs.Option.{option_map}
 use Rattle.hv_calls.specs.declared.call.Call.{Call}
 use Rattle.hv_calls.specs.declared.call.Call.TheVariants.{CreatePartition, PostMessage, SignalEvent}
 use Rattle.hv_calls.specs.declared.call.Call.TheVariants.{CreatePort, ConnectPort}

@@ -1,8 +1,7 @@
 -- Two runs side by side, turn by turn.
 use Rattle.std.specs.Prelude.{◌≡◌, ℕ, if◌then◌else◌, map, Bool, true, false, List, [], ◌∷◌, Option, None}
-use Rattle.std.specs.Prelude.{Some}
+use Rattle.std.specs.Prelude.{Some, filter}
 use Rattle.std.specs.FinMap.{get}
-use Rattle.std.specs.List.{filter}
 use Rattle.hv_calls.specs.declared.call.Call.{Call}
 use Rattle.hv_calls.specs.declared.call.Call.TheVariants.{CreatePartition, PostMessage, SignalEvent}
 use Rattle.hv_calls.specs.declared.call.Call.TheVariants.{SetPartitionProperty}

@@ -39,6 +39,7 @@ pub fn each_event_is_of_what_it_is_about<A>()
 /// Two runs that are matched for the members give them the same replies and low-equivalent final states.
 /// Matched means that members do the same, that the same is done to them, and that they see the same where
 /// their events look outside. Whatever else others do in each run does not matter.
+#[tactic(auto, using(crate::proofs::Runs::replies_matched))]
 pub fn replies_are_of_what_members_do_and_is_done_to_them<A>()
     ensures { (members : ℕ → Bool) (turns : List (Turn A)) (f g : Flat) → IsReached A f
         → IsReached A g → AreLowEquivalent members f g → AreMatched members turns f g
@@ -58,6 +59,7 @@ pub fn events_of_others_do_not_show<A>()
 /// Members look at nothing outside if their calls name only members and their connections lead to members. If
 /// the same is done to them, they get the same replies, whatever others do. Only a member that creates a
 /// partition sees the next id.
+#[tactic(auto, using(crate::proofs::Within::replies_within))]
 pub fn a_closed_set_looks_at_nothing_outside<A>()
     ensures { (members : ℕ → Bool) (turns : List (Turn A)) (f g : Flat) → IsReached A f
         → IsReached A g → AreLowEquivalent members f g → AreWithin members turns f g
@@ -68,6 +70,7 @@ pub fn a_closed_set_looks_at_nothing_outside<A>()
 /// end that a post or a signal of its own uses counts. A tenant has none of the privileges for partitions,
 /// pools, ports and connections, as with the start mask. It is Active and has no children in the states in
 /// which the runs begin. Nothing else is required.
+#[tactic(auto, using(crate::proofs::Tenants::replies_of_tenant))]
 pub fn a_tenant_sees_no_more_than_the_ends_of_its_connections<A>()
     ensures { (tenant : ℕ) (turns : List (Turn A)) (f g : Flat) → IsReached A f → IsReached A g
         → IsTenant f tenant → IsTenant g tenant → AreLowEquivalent (only tenant) f g → AreTenantTurns tenant
@@ -77,6 +80,7 @@ pub fn a_tenant_sees_no_more_than_the_ends_of_its_connections<A>()
 
 /// A member without the privileges of `LooksUpNothing` looks outside only through its connections, whatever
 /// it calls. A mask within the one that a new partition gets has none of these privileges.
+#[tactic(auto, using(crate::proofs::Plain::looks_through, crate::proofs::Plain::starts_plain))]
 pub fn nothing_is_looked_up_without_privileges()
     ensures looks { (members : ℕ → Bool) (f g : Flat) (caller : ℕ) → members caller ≡ true → LooksUpNothing f
         caller

@@ -1,9 +1,6 @@
 -- How rows of partitions continue.
-use Rattle.std.proofs.Common.{◌≡◌, ℕ, ◌+◌, ◌≤◌, ◌==◌, Bool, true, false, cond, Option, Some, None, refl, sym, ap, subst, ◌∙◌, arith}
-use Rattle.std.proofs.lemmas.Bool.{eqb-true}
-use Rattle.std.specs.FinMap.{FinMap, get, insert, remove}
-use Rattle.std.specs.Option.{option_map}
-use Rattle.std.specs.Ordering.{nat_cmp}
+use Rattle.std.proofs.Common.{◌≡◌, ℕ, ◌+◌, ◌≤◌, ◌==◌, Bool, true, false, cond, Option, Some, None, is_some, refl, sym, ap, subst, ◌∙◌, arith, eqb-true, option_map, nat_cmp}
+use Rattle.std.specs.FinMap.{FinMap, contains_key, get, insert, remove}
 use Rattle.hv_calls.specs.declared.call.Call.{Call}
 use Rattle.hv_calls.specs.declared.call.Call.TheVariants.{CreatePartition, InitializePartition, FinalizePartition, DeletePartition, SetPartitionProperty, SetVpRegisters, PostMessage, SignalEvent}
 use Rattle.hv_defs.proofs.Maps.{get_at-insert, get_at-remove}
@@ -11,15 +8,14 @@ use Rattle.hv_defs.specs.Registers.{name_of_msr}
 use Rattle.hv_defs.specs.declared.life.Life.{Life}
 use Rattle.hv_defs.specs.declared.life.Life.TheVariants.{Created, Active, Finalized}
 use Rattle.hv_invariants.proofs.Changing.{only_at, row_only}
-use Rattle.hv_invariants.proofs.Ended.{posted_counted, register_counted, signalled_counted, write_next_is}
-use Rattle.hv_invariants.proofs.Granted.{is_served}
-use Rattle.hv_invariants.proofs.Partitions.{msr_part, posted_part, register_part, signalled_part}
+use Rattle.hv_invariants.proofs.Ended.{AreCounted, msr_counted, posted_counted, register_counted, signalled_counted}
+use Rattle.hv_invariants.proofs.Granted.{is_served, state_row}
 use Rattle.hv_invariants.specs.StateInvariant.{StateInvariant}
 use Rattle.hv_policy.proofs.Rows.{get-narrowed}
 use Rattle.hv_policy.specs.Aim.{aim_of}
-use Rattle.hv_policy.specs.Effect.{call_effect, counted, effect, given, narrowed, narrowed_row, narrows, served_effect, with_row}
+use Rattle.hv_policy.specs.Effect.{call_effect, counted, effect, given, narrowed, narrowed_row, narrows, post_to, served_effect, signal_to, with_row, write_msr, write_register}
 use Rattle.hv_policy.specs.Flat.{Flat, PartRow}
-use Rattle.hv_policy.specs.Met.{has_privilege, is_active, is_in, test_row}
+use Rattle.hv_policy.specs.Met.{has_privilege, is_active, is_in, is_running, test_row}
 use Rattle.hv_policy.specs.Needs.{is_among, states_to_set, target_of}
 use Rattle.hv_policy.specs.Property.{property_of}
 use Rattle.hv_policy.specs.Rules.{IsAllowed, unmet}
@@ -42,18 +38,32 @@ abbrev pub has_begun : Life → Bool
 has_begun Created = false
 has_begun life = true
 
+pub runs_begun : (life : Life) → is_active life ≡ true → has_begun life ≡ true
+runs_begun Created runs = cc
+runs_begun life runs = refl
+
+-- who is Active is there
+pub runs_there : (r : Option PartRow) → test_row (λ row. is_active row.life) r ≡ true → is_some r ≡ true
+runs_there None runs = runs
+runs_there (Some row) runs = refl
+
+pub idle_state : (life : Life) → is_among life states.CreatedOrFinalized ≡ true → is_active life ≡ false
+idle_state Active h = cc
+idle_state life h = refl
+
 -- a row continues: it keeps its parent, and once it was Active it stays so or ends, and gets no privilege that it hasn't got
 pub record GoesOn (old new : PartRow) : Type 0 where
   pub parent : new.parent ≡ old.parent
   pub begun : has_begun old.life ≡ true → has_begun new.life ≡ true
   pub less : has_begun old.life ≡ true → IsSubset new.mask old.mask
 
--- rows continue, and a new one is a child of the caller, which may make it
+-- rows continue, who is Active stays there, and a new one is a child of the caller, which may make it
 pub record FollowOn (f : Flat) (caller : ℕ) (part : FinMap nat_cmp PartRow) (next : ℕ) : Type 0 where
   pub olds : (id : ℕ) (old new : PartRow) → get f.part id ≡ Some old → get part id ≡ Some new → GoesOn old new
   pub news : (id : ℕ) (new : PartRow) → get f.part id ≡ None → get part id ≡ Some new
       → (id ≡ f.next) × (new.parent ≡ Some caller) × (has_privilege f caller privilege.CREATE_PARTITIONS ≡ true)
   pub rises : f.next ≤ next
+  pub stays : (id : ℕ) → is_running f id ≡ true → contains_key part id ≡ true
 
 module _ (f : Flat) (caller : ℕ) where
   as_was : (old : PartRow) → GoesOn old old
@@ -67,7 +77,11 @@ module _ (f : Flat) (caller : ℕ) where
     olds = λ id old new was there. one_row old new (get f.part id) was (ap {A = FinMap nat_cmp PartRow} (λ part. get part id) (sym is) ∙ there);
     news = λ id new none there. (let clash = sym none ∙ ap {A = FinMap nat_cmp PartRow} (λ part. get part id) (sym is) ∙ there in cc);
     rises = omega (arith, on);
+    stays = λ id runs. ap {A = FinMap nat_cmp PartRow} (λ part. contains_key part id) is ∙ runs_there (get f.part id) runs;
   }
+
+  counted_same : (h : Flat) → AreCounted f h → FollowOn f caller h.part h.next
+  counted_same h c = same h.part h.next c.part c.next
 
   mapped : (part : FinMap nat_cmp PartRow) (h : ℕ → PartRow → PartRow) → ((id : ℕ) → get part id ≡ option_map (h id) (get f.part id)) →
       ((id : ℕ) (row : PartRow) → get f.part id ≡ Some row → GoesOn row (h id row)) → FollowOn f caller part f.next
@@ -76,7 +90,12 @@ module _ (f : Flat) (caller : ℕ) where
         (let made : h id old ≡ new = (let both = sym (at id ∙ ap (option_map (h id)) was) ∙ there in cc) in subst (GoesOn old) made (on id old was));
     news = λ id new none there. (let clash = sym (at id ∙ ap (option_map (h id)) none) ∙ there in cc);
     rises = omega arith;
+    stays = λ id runs. ap is_some (at id) ∙ still id (get f.part id) runs;
   }
+    where
+      still : (id : ℕ) (r : Option PartRow) → test_row (λ row. is_active row.life) r ≡ true → is_some (option_map (h id) r) ≡ true
+      still id None runs = runs
+      still id (Some row) runs = refl
 
   one_changed : (target : ℕ) (h : PartRow → PartRow) → ((row : PartRow) → get f.part target ≡ Some row → GoesOn row (h row)) → FollowOn f caller (with_row f.part target h) f.next
   one_changed target h on = mapped (with_row f.part target h) (only_at target h) (row_only f.part target h) (λ id row was. by id row was (id == target) refl)
@@ -119,13 +138,18 @@ module _ (f : Flat) (caller : ℕ) where
   setting target value property state true is = narrowing target value
   setting target value property state false is = giving target value property is state
 
-  removed : (target : ℕ) → FollowOn f caller (remove f.part target) f.next
-  removed target = record {
+  removed : (target : ℕ) → is_running f target ≡ false → FollowOn f caller (remove f.part target) f.next
+  removed target idle = record {
     olds = λ id old new was there. still id old new was (id == target) (sym (get_at-remove f.part target id) ∙ there);
     news = λ id new none there. absent id new none (id == target) (sym (get_at-remove f.part target id) ∙ there);
     rises = omega arith;
+    stays = λ id runs. ap is_some (get_at-remove f.part target id) ∙ left id runs (id == target) refl;
   }
     where
+      left : (id : ℕ) → is_running f id ≡ true → (b : Bool) → id == target ≡ b → is_some (cond b None (get f.part id)) ≡ true
+      left id runs true here = let clash = sym idle ∙ ap (is_running f) (sym (eqb-true id target here)) ∙ runs in cc
+      left id runs false off = runs_there (get f.part id) runs
+
       still : (id : ℕ) (old new : PartRow) → get f.part id ≡ Some old → (b : Bool) → cond b None (get f.part id) ≡ Some new → GoesOn old new
       still id old new was true there = cc
       still id old new was false there = one_row old new (get f.part id) was there
@@ -140,8 +164,13 @@ module _ (f : Flat) (caller : ℕ) where
       olds = λ id old new was there. still id old new was (id == f.next) refl (sym (get_at-insert f.part f.next row id) ∙ there);
       news = λ id new none there. fresh id new none (id == f.next) refl (sym (get_at-insert f.part f.next row id) ∙ there);
       rises = omega arith;
+      stays = λ id runs. ap is_some (get_at-insert f.part f.next row id) ∙ left (id == f.next) (get f.part id) runs;
     }
       where
+        left : (b : Bool) (r : Option PartRow) → test_row (λ row. is_active row.life) r ≡ true → is_some (cond b (Some row) r) ≡ true
+        left true r runs = refl
+        left false r runs = runs_there r runs
+
         still : (id : ℕ) (old new : PartRow) → get f.part id ≡ Some old → (b : Bool) → id == f.next ≡ b → cond b (Some row) (get f.part id) ≡ Some new → GoesOn old new
         still id old new was true here there = absurd (let below = l.below id old was in let same = eqb-true id f.next here in omega (arith, below, same))
         still id old new was false off there = one_row old new (get f.part id) was there
@@ -157,16 +186,18 @@ module _ (f : Flat) (caller : ℕ) where
         (λ row was. record { parent = refl; begun = λ h. refl; less = λ h k set. set })
     call_follows (FinalizePartition partition) a = one_changed (target_of (FinalizePartition partition) caller) (λ row. record row { life = Finalized })
         (λ row was. record { parent = refl; begun = λ h. refl; less = λ h k set. set })
-    call_follows (DeletePartition partition) a = removed (target_of (DeletePartition partition) caller)
+    call_follows (DeletePartition partition) a =
+        let (row, was, state) = state_row f caller (DeletePartition partition) a a.further.0 in
+        removed (target_of (DeletePartition partition) caller) (ap (test_row (λ row. is_active row.life)) was ∙ idle_state row.life state)
     call_follows (SetPartitionProperty partition code value) a =
         setting (target_of (SetPartitionProperty partition code value) caller) value (property_of code) a.further.1.0
         (narrows (property_of code) f (target_of (SetPartitionProperty partition code value) caller)) refl
     call_follows (SetVpRegisters partition vp name value) a =
-        same _ _ (register_part (target_of (SetVpRegisters partition vp name value) caller) vp name value f)
-        (register_counted (target_of (SetVpRegisters partition vp name value) caller) vp name value f).next
-    call_follows (PostMessage connection message_type payload) a = same _ _ (posted_part (aim_of f (caller, connection)) message_type payload f)
-        (posted_counted (aim_of f (caller, connection)) message_type payload f).next
-    call_follows (SignalEvent connection flag) a = same _ _ (signalled_part (aim_of f (caller, connection)) flag f) (signalled_counted (aim_of f (caller, connection)) flag f).next
+        let target = target_of (SetVpRegisters partition vp name value) caller in
+        counted_same (write_register target vp name value f) (register_counted target vp name value f)
+    call_follows (PostMessage connection message_type payload) a =
+        counted_same (post_to (aim_of f (caller, connection)) message_type payload f) (posted_counted (aim_of f (caller, connection)) message_type payload f)
+    call_follows (SignalEvent connection flag) a = counted_same (signal_to (aim_of f (caller, connection)) flag f) (signalled_counted (aim_of f (caller, connection)) flag f)
     call_follows call a = same f.part f.next refl refl
 
 module _ (f : Flat) (pages : ℕ) (l : StateInvariant pages f) where
@@ -175,7 +206,7 @@ module _ (f : Flat) (pages : ℕ) (l : StateInvariant pages f) where
   action_follows by (Hypercall frame) met =
       let s = is_served f by frame met in
       subst (λ call. FollowOn f by.part (counted (served_effect f by.part call)).part (counted (served_effect f by.part call)).next) (sym s.called) (call_follows f by.part pages l s.call s.granted)
-  action_follows by (WriteMsr msr value) met = same f by.part _ _ (msr_part by.part by.vp (name_of_msr msr) value f) (write_next_is by.part by.vp (name_of_msr msr) value f)
+  action_follows by (WriteMsr msr value) met = counted_same f by.part (write_msr by.part by.vp (name_of_msr msr) value f) (msr_counted by.part by.vp (name_of_msr msr) value f)
   action_follows by what met = same f by.part f.part f.next refl refl
 
   pub step_follows : {A : Type 0} (e : Event A) → FollowOn f e.by.part (step f e).0.part (step f e).0.next
