@@ -1,16 +1,15 @@
 -- The calls and accesses of this call group, carried over to the flat state.
-use Rattle.std.proofs.Common.{◌≡◌, ℕ, ◌+◌, ◌<◌, ◌≤◌, true, false, Bool, cond, is_some, List, [], ◌∷◌, Option, Some, None, refl, sym, ap, subst, ◌∙◌}
-use Rattle.std.proofs.lemmas.Bool.{eqb-true, false≢true}
+use Rattle.std.proofs.Common.{◌≡◌, ℕ, ◌+◌, ◌<◌, true, false, Bool, is_some, List, [], ◌∷◌, Option, Some, None, refl, sym, ap, subst, ◌∙◌, eqb-true, IfSome, option_map}
+use Rattle.std.proofs.lemmas.Bool.{false≢true}
 use Rattle.std.specs.FinMap.{contains_key, get}
 use Rattle.std.specs.FinSet as set
-use Rattle.std.specs.Option.{IfSome, option_map, option_map_or}
 use Rattle.hv_calls.specs.declared.call.Call.TheVariants.{PostMessage, SignalEvent}
 use Rattle.hv_defs.specs.declared.aim.Aim.{Aim}
 use Rattle.hv_defs.specs.declared.aim.Aim.TheVariants.{One, Any}
 use Rattle.hv_defs.specs.declared.port_kind.PortKind.{PortKind}
 use Rattle.hv_defs.specs.declared.port_kind.PortKind.TheVariants as port_type
 use Rattle.hv_defs.specs.Vectors.{highest, without}
-use Rattle.hv_defs.specs.declared.sizes.TheConstants.{EVENT_FLAGS, SINTS}
+use Rattle.hv_defs.specs.declared.sizes.TheConstants.{SINTS}
 use Rattle.hv_mail.specs.Mail.{count_of}
 use Rattle.hv_mail.specs.declared.message.Message.{Message}
 use Rattle.hv_partition.specs.Partition.{PartitionState}
@@ -28,7 +27,7 @@ use Rattle.hv_ports.specs.declared.ports.Port.{Port}
 use Rattle.hv_refine.proofs.Kept.{kept_by_any, kept_by_one}
 use Rattle.hv_refine.proofs.Mailed.{flag_cleared_tied, interrupted_tied, posted_tied, signalled_tied, slot_cleared_tied}
 use Rattle.hv_refine.proofs.Staff.{vp_in, vp_there}
-use Rattle.hv_refine.proofs.Takers.{lowest_gone, lowest_there, one_there, taker_there}
+use Rattle.hv_refine.proofs.Takers.{lowest_there, taker_there}
 use Rattle.hv_refine.specs.Served.{TreeInvariant}
 use Rattle.hv_refine.specs.Tie.{Refines, here, mail_row, port_row_of, vp_row_of}
 use Rattle.hv_refine.specs.Vp.{with_state_of}
@@ -36,7 +35,6 @@ use Rattle.hv_tree.specs.Rows.{Row, Rows, change, content}
 use Rattle.hv_vp.specs.Vps.{is_ready, kept_by_all, lowest}
 use Rattle.hv_vp.specs.Vp.{VpState, flag_cleared, interrupted, posted, signalled, slot_cleared}
 use Rattle.hv_messages.specs.ResolvedPort.{IsReached, aim_row, taker_of}
-use Rattle.hv_messages.specs.declared.aims.Target.{Target}
 
 -- where P3 is met, the processor that was looked up is the one that makes the access
 module _ (rows : Rows PartitionState) (f : Flat) (flat : Refines rows f) (by : Caller) (v : VpState) where
@@ -69,77 +67,56 @@ module _ (rows new : Rows PartitionState) (f : Flat) (flat : Refines rows f) (by
   vector_gone is = subst (λ r. Refines r (record f { vp = with_vp f.vp (by.part, by.vp) (λ row. record row { pending = without row.pending (highest row.pending) }) })) (sym is)
       (interrupted_tied rows f flat by.part by.vp)
 
-module _ (rows new : Rows PartitionState) (f : Flat) (flat : Refines rows f) (caller connection : ℕ) (target : Target) (reached : IsReached f (caller, connection) target.conn target.port) where
+module _ (rows new : Rows PartitionState) (f : Flat) (flat : Refines rows f) (caller connection vp : ℕ) (conn : Conn) (port : Port) (reached : IsReached f (caller, connection) conn port) where
   abbrev aim : ResolvedPort
-  aim = aim_row target.conn target.port
+  aim = aim_row conn port
 
-  pub flag_set : (sint flag at : ℕ) → flag_taker f aim ≡ Some target.vp → sint ≡ target.port.sint → at ≡ target.port.base + flag → new ≡ change rows target.conn.part
-      (with_state_of target.vp (signalled sint at)) → Refines new (call_effect (SignalEvent connection flag) f caller caller)
+  pub flag_set : (sint flag at : ℕ) → flag_taker f aim ≡ Some vp → sint ≡ port.sint → at ≡ port.base + flag → new ≡ change rows conn.part
+      (with_state_of vp (signalled sint at)) → Refines new (call_effect (SignalEvent connection flag) f caller caller)
   flag_set sint flag at taken same sum is =
       subst (λ aim. Refines new (signal_to aim flag f)) (sym reached.aim)
-      (subst (λ vp. Refines new (signal_at aim vp flag f)) (sym taken)
-      (subst (λ r. Refines r (signal_at aim (Some target.vp) flag f)) (sym (is ∙ ap (λ s. change rows target.conn.part (with_state_of target.vp (signalled s at))) same ∙ ap
-      (λ n. change rows target.conn.part (with_state_of target.vp (signalled target.port.sint n))) sum))
-      (signalled_tied rows f flat target.conn.part target.vp target.port.sint (target.port.base + flag))))
+      (subst (λ to. Refines new (signal_at aim to flag f)) (sym taken)
+      (subst (λ r. Refines r (signal_at aim (Some vp) flag f)) (sym (is ∙ ap (λ s. change rows conn.part (with_state_of vp (signalled s at))) same ∙ ap
+      (λ n. change rows conn.part (with_state_of vp (signalled port.sint n))) sum))
+      (signalled_tied rows f flat conn.part vp port.sint (port.base + flag))))
 
-  pub message_posted : (sint type : ℕ) (payload : List ℕ) (message : Message) → message_taker f aim ≡ Some target.vp → sint ≡ target.port.sint → message.port ≡ target.conn.port → message.born ≡
-      target.conn.born → message.kind ≡ type → message.payload.items ≡ payload → new ≡ change rows target.conn.part (with_state_of target.vp (posted sint message)) → Refines new
+  pub message_posted : (sint type : ℕ) (payload : List ℕ) (message : Message) → message_taker f aim ≡ Some vp → sint ≡ port.sint → message.port ≡ conn.port → message.born ≡
+      conn.born → message.kind ≡ type → message.payload.items ≡ payload → new ≡ change rows conn.part (with_state_of vp (posted sint message)) → Refines new
       (call_effect (PostMessage connection type payload) f caller caller)
-  message_posted sint type payload message taken at port born kind bytes is =
-      let (v, there) = taker_there rows f flat target.conn.part is_ready_for_messages target.port.vp target.vp taken in
-      let row : MailRow = mail_row (here target.conn.part target.vp sint) false message in
-      let same : row ≡ record { part = target.conn.part; vp = target.vp; sint = target.port.sint; port = target.conn.port; born = target.conn.born; type = type; payload = payload; shown = false } =
-      (λ i. record { part = target.conn.part; vp = target.vp; sint = at i; port = port i; born = born i; type = kind i; payload = bytes i; shown = false }) in
+  message_posted sint type payload message taken at from born kind bytes is =
+      let (v, there) = taker_there rows f flat conn.part is_ready_for_messages port.vp vp taken in
+      let row : MailRow = mail_row (here conn.part vp sint) false message in
+      let same : row ≡ record { part = conn.part; vp = vp; sint = port.sint; port = conn.port; born = conn.born; type = type; payload = payload; shown = false } =
+      (λ i. record { part = conn.part; vp = vp; sint = at i; port = from i; born = born i; type = kind i; payload = bytes i; shown = false }) in
       subst (λ aim. Refines new (post_to aim type payload f)) (sym reached.aim)
-      (subst (λ vp. Refines new (post_at aim vp type payload f)) (sym taken)
+      (subst (λ to. Refines new (post_at aim to type payload f)) (sym taken)
       (subst (λ row. Refines new (post row f)) same
-      (subst (λ r. Refines r (post row f)) (sym is) (posted_tied rows f flat target.conn.part target.vp sint v there message))))
+      (subst (λ r. Refines r (post row f)) (sym is) (posted_tied rows f flat conn.part vp sint v there message))))
 
 -- the processor that takes what comes to a port, as the tree has it
-module _ (rows : Rows PartitionState) (f : Flat) (flat : Refines rows f) (conn : Conn) (port : Port) where
-  -- of a partition that isn't there none
-  pub taker_gone : (kind : PortKind) → content rows conn.part ≡ None → taker_of kind f (aim_row conn port) ≡ None
-  taker_gone kind gone = by_kind kind
+module _ (rows : Rows PartitionState) (f : Flat) (flat : Refines rows f) (conn : Conn) (port : Port) (p : PartitionState) (is : content rows conn.part ≡ Some p) where
+  -- for any the lowest that is ready
+  pub taker_any : (kind : PortKind) → port.vp ≡ Any → lowest (is_ready kind) p.vps.vps ≡ taker_of kind f (aim_row conn port)
+  taker_any kind any = by (get rows conn.part) refl is
     where
-      none : (o : Option (Row PartitionState)) → option_map (λ r. r.1) o ≡ None → o ≡ None
-      none None is = refl
-      none (Some r) is = cc
+      by : (o : Option (Row PartitionState)) → get rows conn.part ≡ o → option_map (λ r. r.1) o ≡ Some p → lowest (is_ready kind) p.vps.vps ≡ taker_of kind f (aim_row conn port)
+      by None there is = cc
+      by (Some r) there is = by_kind kind
+        where
+          vps : p.vps.vps ≡ r.1.vps.vps
+          vps = let same : p ≡ r.1 = cc in ap (λ (p : PartitionState). p.vps.vps) same
 
-      by_aim : (test : VpRow → Bool) (aim : Aim) → select_vp test f conn.part aim ≡ None
-      by_aim test (One index) = ap (λ b. cond b (Some index) None) (one_there rows f flat conn.part test index ∙ ap (λ r. option_map_or (λ v. test (vp_row_of v)) (vp_in index r) false)
-          (none (get rows conn.part) gone))
-      by_aim test Any = lowest_gone rows f flat conn.part test (none (get rows conn.part) gone)
+          by_aim : (test : VpRow → Bool) → lowest (λ v. test (vp_row_of v)) p.vps.vps ≡ select_vp test f conn.part port.vp
+          by_aim test = ap (lowest (λ v. test (vp_row_of v))) vps ∙ sym (ap (select_vp test f conn.part) any ∙ lowest_there rows f flat conn.part test r there)
 
-      by_kind : (kind : PortKind) → taker_of kind f (aim_row conn port) ≡ None
-      by_kind port_type.Message = by_aim is_ready_for_messages port.vp
-      by_kind port_type.Event = by_aim is_ready_for_flags port.vp
-
-  module _ (p : PartitionState) (is : content rows conn.part ≡ Some p) where
-    -- for any the lowest that is ready
-    pub taker_any : (kind : PortKind) → port.vp ≡ Any → lowest (is_ready kind) p.vps.vps ≡ taker_of kind f (aim_row conn port)
-    taker_any kind any = by (get rows conn.part) refl is
-      where
-        by : (o : Option (Row PartitionState)) → get rows conn.part ≡ o → option_map (λ r. r.1) o ≡ Some p → lowest (is_ready kind) p.vps.vps ≡ taker_of kind f (aim_row conn port)
-        by None there is = cc
-        by (Some r) there is = by_kind kind
-          where
-            vps : p.vps.vps ≡ r.1.vps.vps
-            vps = let same : p ≡ r.1 = cc in ap (λ (p : PartitionState). p.vps.vps) same
-
-            by_aim : (test : VpRow → Bool) → lowest (λ v. test (vp_row_of v)) p.vps.vps ≡ select_vp test f conn.part port.vp
-            by_aim test = ap (lowest (λ v. test (vp_row_of v))) vps ∙ sym (ap (select_vp test f conn.part) any ∙ lowest_there rows f flat conn.part test r there)
-
-            by_kind : (kind : PortKind) → lowest (is_ready kind) p.vps.vps ≡ taker_of kind f (aim_row conn port)
-            by_kind port_type.Message = by_aim is_ready_for_messages
-            by_kind port_type.Event = by_aim is_ready_for_flags
+          by_kind : (kind : PortKind) → lowest (is_ready kind) p.vps.vps ≡ taker_of kind f (aim_row conn port)
+          by_kind port_type.Message = by_aim is_ready_for_messages
+          by_kind port_type.Event = by_aim is_ready_for_flags
 
 -- where a connection leads, the law says what its port may keep
 module _ (rows : Rows PartitionState) (a : TreeInvariant rows) (key : ℕ × ℕ) (conn : Conn) (port : Port) (reached : (f : Flat) → Refines rows f → IsReached f key conn port) where
   pub sint_bound : port.sint < SINTS
   sint_bound = (a.lawful.ports (conn.part, conn.port) _ (reached a.flat a.tied).row).sint
-
-  pub flags_bound : port.base + port.count ≤ EVENT_FLAGS
-  flags_bound = (a.lawful.ports (conn.part, conn.port) _ (reached a.flat a.tied).row).flags
 
   -- and that the messages that came through it are those of its processor's mailbox, or of all its partition's
   module _ (f : Flat) (flat : Refines rows f) (p : PartitionState) (is : content rows conn.part ≡ Some p) where

@@ -1,7 +1,6 @@
 // The accesses of this call group. Each one checks P1 to P3 as well, and none requires a privilege. An access
 // writes its result to an output that has room for a whole slot and is not moved.
-ghost use Rattle.std.specs.Prelude.{◌≡◌, [], ◌∷◌, Some, false};
-ghost use Rattle.std.specs.Prelude.{◌++◌};
+ghost use Rattle.std.specs.Prelude.{◌≡◌, [], ◌∷◌, Some, false, ◌++◌};
 ghost use Rattle.std.specs.Result.{result_map_both};
 ghost use Rattle.hv_policy.specs.Flat.{Flat};
 ghost use Rattle.hv_policy.specs.Rules.{caller_asks, first_unmet};
@@ -10,13 +9,14 @@ ghost use Rattle.hv_policy.specs.declared.rule.Rule.TheVariants as rule;
 ghost use Rattle.hv_refine.specs.Access.{IsAnswered};
 ghost use Rattle.hv_refine.specs.Tie.{Refines};
 
-use crate::rows::{clear, clear_one_flag, flags, slot, take};
+use crate::rows::take;
 use hv_defs::{EVENT_FLAGS, SINTS};
 use hv_policy::{Caller, Output, Rule};
-use hv_refine::{Partitions, caller_in};
+use hv_refine::{Partitions, caller_in, caller_vp};
 use std::alloc::Allocator;
 
 /// Reads the message slot of one of the caller's SINTs. The output is 256 bytes.
+#[tactic(auto, using(hv_tree::proofs::Laws::unchanged))]
 pub fn read_slot<A: Allocator>(
     tree: &mut Partitions<A>,
     by: Caller,
@@ -30,12 +30,18 @@ pub fn read_slot<A: Allocator>(
     if u32::from(sint) >= SINTS {
         return Err(no_subject(tree, by));
     }
-    slot(tree, by, sint, output)
+    let vp = match caller_vp(tree, by) {
+        Ok(vp) => vp,
+        Err(rule) => return Err(rule),
+    };
+    output.extend_from_slice(&vp.slot(sint));
+    Ok(())
 }
 
 /// Removes the message that one of the caller's SINTs shows, if it shows one.
 ///
 /// No other message is shown in its place.
+#[tactic(auto, using(hv_tree::proofs::Laws::unchanged))]
 pub fn clear_slot<A: Allocator>(tree: &mut Partitions<A>, by: Caller, sint: u8) -> Result<(), Rule>
     ensures { (f : Flat) → Refines tree.old f → IsAnswered {A = A} f by (action.ClearSlot sint) tree.old
         (result_map_both (λ _. []) (λ rule. rule) result) tree.new }
@@ -43,13 +49,16 @@ pub fn clear_slot<A: Allocator>(tree: &mut Partitions<A>, by: Caller, sint: u8) 
     if u32::from(sint) >= SINTS {
         return Err(no_subject(tree, by));
     }
-    match clear(tree, by, sint) {
-        Ok(()) => Ok(()),
-        Err(rule) => Err(rule),
-    }
+    let vp = match caller_vp(tree, by) {
+        Ok(vp) => vp,
+        Err(rule) => return Err(rule),
+    };
+    vp.clear_slot(sint);
+    Ok(())
 }
 
 /// Reads the event flags of one of the caller's SINTs. The output is 256 bytes.
+#[tactic(auto, using(hv_tree::proofs::Laws::unchanged))]
 pub fn read_flags<A: Allocator>(
     tree: &mut Partitions<A>,
     by: Caller,
@@ -63,10 +72,16 @@ pub fn read_flags<A: Allocator>(
     if u32::from(sint) >= SINTS {
         return Err(no_subject(tree, by));
     }
-    flags(tree, by, sint, output)
+    let vp = match caller_vp(tree, by) {
+        Ok(vp) => vp,
+        Err(rule) => return Err(rule),
+    };
+    output.extend_from_slice(&vp.flags(sint));
+    Ok(())
 }
 
 /// Clears an event flag of one of the caller's SINTs.
+#[tactic(auto, using(hv_tree::proofs::Laws::unchanged))]
 pub fn clear_flag<A: Allocator>(
     tree: &mut Partitions<A>,
     by: Caller,
@@ -79,10 +94,12 @@ pub fn clear_flag<A: Allocator>(
     if u32::from(sint) >= SINTS || u32::from(flag) >= EVENT_FLAGS {
         return Err(no_subject(tree, by));
     }
-    match clear_one_flag(tree, by, sint, flag) {
-        Ok(()) => Ok(()),
-        Err(rule) => Err(rule),
-    }
+    let vp = match caller_vp(tree, by) {
+        Ok(vp) => vp,
+        Err(rule) => return Err(rule),
+    };
+    vp.clear_flag(sint, flag);
+    Ok(())
 }
 
 /// Takes the highest vector that is pending at the caller.

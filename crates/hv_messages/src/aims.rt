@@ -25,14 +25,6 @@ pub struct ResolvedPort {
     pub port: Port,
 }
 
-// A resolved connection, with the processor of the port's partition that it delivers to.
-#[derive(Clone, Copy)]
-pub struct Target {
-    pub conn: Conn,
-    pub port: Port,
-    pub vp: u32,
-}
-
 // Checks P16, P17 and P19 for a post or a signal, and returns the caller's connection, its port and the
 // port's partition. The error is the first of these rules that fails. The checks on the port's partition
 // use the partition that the lookup found.

@@ -1,14 +1,13 @@
 // The calls of this call group.
-ghost use Rattle.std.specs.Prelude.{◌≡◌, ◌&&◌, ◌<◌, ℕ, List, nat_lt, None, Some, IfOk, IfErr};
+ghost use Rattle.std.specs.Prelude.{◌≡◌, ◌&&◌, nat_lt};
 ghost use Rattle.hv_calls.specs.declared.call.Call.TheVariants as call;
 ghost use Rattle.hv_defs.specs.declared.port_kind.PortKind.TheVariants as port_type;
 ghost use Rattle.hv_policy.specs.Flat.{Flat};
 ghost use Rattle.hv_policy.specs.Met.{is_kind};
-ghost use Rattle.hv_refine.specs.Served.{TreeInvariant, IsAdmitted, IsOutcome, unmet_further};
+ghost use Rattle.hv_refine.specs.Served.{IsAdmitted, IsOutcome};
 ghost use Rattle.hv_refine.specs.Tie.{Refines};
-ghost use Rattle.hv_messages.specs.ResolvedPort.{IsReached, aim_row, taker_of};
 
-use crate::aims::{Target, has_message_room, resolve_connection, select_vp};
+use crate::aims::{has_message_room, resolve_connection, select_vp};
 use crate::rows::{post, signal};
 use hv_calls::Payload;
 use hv_defs::PortKind;
@@ -34,58 +33,30 @@ pub fn post_message<A: Allocator + Clone>(
     ensures { (f : Flat) → Refines tree.old f
         → IsOutcome f caller (call.PostMessage connection message_type payload.now) tree.old result tree.new }
 {
-    let target = match ask_post(tree, caller, connection) {
-        Ok(target) => target,
+    let (aimed, home) = match resolve_connection(tree, caller, connection) {
+        Ok(found) => found,
         Err(rule) => return Err(CallError::Unmet(rule)),
     };
+    if !is_for_messages(aimed.port) {
+        return Err(CallError::Unmet(Rule::Operand));
+    }
+    let Some(vp) = select_vp(home, aimed, PortKind::Message) else {
+        return Err(CallError::Unmet(Rule::VpReady));
+    };
+    if !has_message_room(home, aimed) {
+        return Err(CallError::Unmet(Rule::PortRoom));
+    }
     let message = Message {
-        port: target.conn.port,
-        born: target.conn.born,
+        port: aimed.conn.port,
+        born: aimed.conn.born,
         kind: message_type,
         payload: payload.to_array(),
     };
-    let sint = target.port.sint as u8;
-    match post(tree, target.conn.part, target.vp, sint, message) {
+    let sint = aimed.port.sint as u8;
+    match post(tree, aimed.conn.part, vp, sint, message) {
         Ok(()) => Ok(CallOutput::new()),
         Err(AllocError) => Err(CallError::Memory),
     }
-}
-
-// Checks P16, P17, P19, P21, P22 and P23, and returns the resolved connection with the processor that takes
-// the message. The error is the first of these rules that fails.
-fn ask_post<A: Allocator>(
-    tree: &Partitions<A>,
-    caller: u64,
-    connection: u32,
-) -> Result<Target, Rule>
-    requires { TreeInvariant tree.now }
-    ensures reached { IfOk result (λ target. (f : Flat) → Refines tree.now f
-        → IsReached f (caller, connection) target.conn target.port) }
-    ensures select_vp { IfOk result (λ target. (f : Flat) → Refines tree.now f
-        → taker_of port_type.Message f (aim_row target.conn target.port) ≡ Some target.vp) }
-    ensures met { IfOk result (λ _. (f : Flat) (type : ℕ) (payload : List ℕ) → Refines tree.now f
-        → unmet_further f caller (call.PostMessage connection type payload) ≡ None) }
-    ensures first { IfErr result (λ rule. (f : Flat) (type : ℕ) (payload : List ℕ) → Refines tree.now f
-        → unmet_further f caller (call.PostMessage connection type payload) ≡ Some rule) }
-{
-    let (aimed, home) = match resolve_connection(tree, caller, connection) {
-        Ok(found) => found,
-        Err(rule) => return Err(rule),
-    };
-    if !is_for_messages(aimed.port) {
-        return Err(Rule::Operand);
-    }
-    let Some(vp) = select_vp(home, aimed, PortKind::Message) else {
-        return Err(Rule::VpReady);
-    };
-    if !has_message_room(home, aimed) {
-        return Err(Rule::PortRoom);
-    }
-    Ok(Target {
-        conn: aimed.conn,
-        port: aimed.port,
-        vp,
-    })
 }
 
 // P21 for a post: whether the port takes messages.
@@ -113,54 +84,19 @@ pub fn signal_event<A: Allocator>(
     ensures { (f : Flat) → Refines tree.old f
         → IsOutcome f caller (call.SignalEvent connection flag) tree.old result tree.new }
 {
-    let target = match ask_signal(tree, caller, connection, flag) {
-        Ok(target) => target,
-        Err(rule) => return Err(CallError::Unmet(rule)),
-    };
-    let sint = target.port.sint as u8;
-    signal(
-        tree,
-        target.conn.part,
-        target.vp,
-        sint,
-        target.port.base + flag,
-    );
-    Ok(CallOutput::new())
-}
-
-// Checks P16, P17, P19, P21 and P22, and returns the resolved connection with the processor that takes the
-// event flag. The error is the first of these rules that fails.
-fn ask_signal<A: Allocator>(
-    tree: &Partitions<A>,
-    caller: u64,
-    connection: u32,
-    flag: u16,
-) -> Result<Target, Rule>
-    ensures reached { IfOk result (λ target. (f : Flat) → Refines tree.now f
-        → IsReached f (caller, connection) target.conn target.port) }
-    ensures select_vp { IfOk result (λ target. (f : Flat) → Refines tree.now f
-        → taker_of port_type.Event f (aim_row target.conn target.port) ≡ Some target.vp) }
-    ensures flag { IfOk result (λ target. flag < target.port.count) }
-    ensures met { IfOk result (λ _. (f : Flat) → Refines tree.now f
-        → unmet_further f caller (call.SignalEvent connection flag) ≡ None) }
-    ensures first { IfErr result (λ rule. (f : Flat) → Refines tree.now f
-        → unmet_further f caller (call.SignalEvent connection flag) ≡ Some rule) }
-{
     let (aimed, home) = match resolve_connection(tree, caller, connection) {
         Ok(found) => found,
-        Err(rule) => return Err(rule),
+        Err(rule) => return Err(CallError::Unmet(rule)),
     };
     if !has_flag(aimed.port, flag) {
-        return Err(Rule::Operand);
+        return Err(CallError::Unmet(Rule::Operand));
     }
     let Some(vp) = select_vp(home, aimed, PortKind::Event) else {
-        return Err(Rule::VpReady);
+        return Err(CallError::Unmet(Rule::VpReady));
     };
-    Ok(Target {
-        conn: aimed.conn,
-        port: aimed.port,
-        vp,
-    })
+    let sint = aimed.port.sint as u8;
+    signal(tree, aimed.conn.part, vp, sint, aimed.port.base + flag);
+    Ok(CallOutput::new())
 }
 
 // P21 for a signal: whether the port takes event flags and has one with this number.

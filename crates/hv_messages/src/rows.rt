@@ -1,18 +1,17 @@
 // The changes that the calls and accesses of this call group make to the tree, and what they read from it.
-ghost use Rattle.std.specs.Prelude.{◌≡◌, ◌<◌, [], None, Some, IfOk, IfErr, OnOk, OnErr};
+ghost use Rattle.std.specs.Prelude.{◌≡◌, ◌<◌, None, Some, IfOk, IfErr, OnOk, OnErr};
 ghost use Rattle.hv_policy.specs.Rules.{caller_asks, first_unmet};
 ghost use Rattle.std.specs.FinMap.{get};
 ghost use Rattle.hv_defs.specs.declared.sizes.TheConstants.{EVENT_FLAGS, SINTS};
-ghost use Rattle.hv_policy.specs.Answer.{flags_at, vector_of};
+ghost use Rattle.hv_policy.specs.Answer.{vector_of};
 ghost use Rattle.hv_policy.specs.Flat.{Flat};
-ghost use Rattle.hv_policy.specs.Mail.{slot_at};
-ghost use Rattle.hv_refine.specs.Tie.{Refines, here};
+ghost use Rattle.hv_refine.specs.Tie.{Refines};
 ghost use Rattle.hv_refine.specs.Vp.{with_state_of};
 ghost use Rattle.hv_tree.specs.Rows.{change as changed};
-ghost use Rattle.hv_vp.specs.Vp.{flag_cleared, interrupted, posted, signalled, slot_cleared};
+ghost use Rattle.hv_vp.specs.Vp.{interrupted, posted, signalled};
 
 use hv_mail::Message;
-use hv_policy::{Caller, Output, Rule};
+use hv_policy::{Caller, Rule};
 use hv_refine::{Partitions, caller_vp};
 use std::alloc::{AllocError, Allocator};
 
@@ -53,50 +52,6 @@ pub fn signal<A: Allocator>(tree: &mut Partitions<A>, id: u64, index: u32, sint:
     }
 }
 
-// Removes the message that a SINT of the calling processor shows.
-#[tactic(auto, using(hv_tree::proofs::Laws::unchanged))]
-pub fn clear<A: Allocator>(tree: &mut Partitions<A>, by: Caller, sint: u8) -> Result<(), Rule>
-    requires { sint < SINTS }
-    ensures cleared { OnOk result (tree.new ≡ changed tree.old by.part
-        (with_state_of by.vp (slot_cleared sint))) }
-    ensures kept { OnErr result (tree.new ≡ tree.old) }
-    ensures met { IfOk result (λ _. (f : Flat) → Refines tree.old f → first_unmet (caller_asks f by) ≡ None) }
-    ensures unmet { IfErr result (λ rule. (f : Flat) → Refines tree.old f
-        → first_unmet (caller_asks f by) ≡ Some rule) }
-{
-    let vp = match caller_vp(tree, by) {
-        Ok(vp) => vp,
-        Err(rule) => return Err(rule),
-    };
-    vp.clear_slot(sint);
-    Ok(())
-}
-
-// Clears an event flag of a SINT of the calling processor.
-#[tactic(auto, using(hv_tree::proofs::Laws::unchanged))]
-pub fn clear_one_flag<A: Allocator>(
-    tree: &mut Partitions<A>,
-    by: Caller,
-    sint: u8,
-    flag: u16,
-) -> Result<(), Rule>
-    requires sint { sint < SINTS }
-    requires flag { flag < EVENT_FLAGS }
-    ensures cleared { OnOk result (tree.new
-        ≡ changed tree.old by.part (with_state_of by.vp (flag_cleared sint flag))) }
-    ensures kept { OnErr result (tree.new ≡ tree.old) }
-    ensures met { IfOk result (λ _. (f : Flat) → Refines tree.old f → first_unmet (caller_asks f by) ≡ None) }
-    ensures unmet { IfErr result (λ rule. (f : Flat) → Refines tree.old f
-        → first_unmet (caller_asks f by) ≡ Some rule) }
-{
-    let vp = match caller_vp(tree, by) {
-        Ok(vp) => vp,
-        Err(rule) => return Err(rule),
-    };
-    vp.clear_flag(sint, flag);
-    Ok(())
-}
-
 // Takes the highest vector that is pending at the calling processor, or returns 0 if none is.
 #[tactic(auto, using(hv_tree::proofs::Laws::unchanged))]
 pub fn take<A: Allocator>(tree: &mut Partitions<A>, by: Caller) -> Result<u8, Rule>
@@ -116,54 +71,4 @@ pub fn take<A: Allocator>(tree: &mut Partitions<A>, by: Caller) -> Result<u8, Ru
         Some(vector) => Ok(vector),
         None => Ok(0),
     }
-}
-
-// Writes the message slot of a SINT of the calling processor to the output.
-#[tactic(auto, using(hv_tree::proofs::Laws::unchanged))]
-pub fn slot<A: Allocator>(
-    tree: &mut Partitions<A>,
-    by: Caller,
-    sint: u8,
-    output: &mut Output,
-) -> Result<(), Rule>
-    requires sint { sint < SINTS }
-    requires empty { output.old ≡ [] }
-    ensures read { IfOk result (λ _. (f : Flat) → Refines tree.old f
-        → output.new ≡ slot_at (here by.part by.vp sint) f.mail) }
-    ensures kept { tree.new ≡ tree.old }
-    ensures met { IfOk result (λ _. (f : Flat) → Refines tree.old f → first_unmet (caller_asks f by) ≡ None) }
-    ensures unmet { IfErr result (λ rule. (f : Flat) → Refines tree.old f
-        → first_unmet (caller_asks f by) ≡ Some rule) }
-{
-    let vp = match caller_vp(tree, by) {
-        Ok(vp) => vp,
-        Err(rule) => return Err(rule),
-    };
-    output.extend_from_slice(&vp.slot(sint));
-    Ok(())
-}
-
-// Writes the event flags of a SINT of the calling processor to the output.
-#[tactic(auto, using(hv_tree::proofs::Laws::unchanged))]
-pub fn flags<A: Allocator>(
-    tree: &mut Partitions<A>,
-    by: Caller,
-    sint: u8,
-    output: &mut Output,
-) -> Result<(), Rule>
-    requires sint { sint < SINTS }
-    requires empty { output.old ≡ [] }
-    ensures read { IfOk result (λ _. (f : Flat) → Refines tree.old f
-        → output.new ≡ flags_at (get f.vp (by.part, by.vp)) sint) }
-    ensures kept { tree.new ≡ tree.old }
-    ensures met { IfOk result (λ _. (f : Flat) → Refines tree.old f → first_unmet (caller_asks f by) ≡ None) }
-    ensures unmet { IfErr result (λ rule. (f : Flat) → Refines tree.old f
-        → first_unmet (caller_asks f by) ≡ Some rule) }
-{
-    let vp = match caller_vp(tree, by) {
-        Ok(vp) => vp,
-        Err(rule) => return Err(rule),
-    };
-    output.extend_from_slice(&vp.flags(sint));
-    Ok(())
 }

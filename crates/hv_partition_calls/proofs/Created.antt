@@ -1,10 +1,7 @@
 -- A partition that was made.
-use Rattle.std.proofs.Common.{◌≡◌, ℕ, ◌+◌, ◌==◌, Bool, true, false, cond, Option, Some, None, refl, sym, ap, subst, ◌∙◌}
-use Rattle.std.proofs.lemmas.Bool.{eqb-true}
+use Rattle.std.proofs.Common.{◌≡◌, ℕ, ◌+◌, ◌==◌, Bool, true, false, cond, Option, Some, None, refl, sym, ap, subst, ◌∙◌, eqb-true, option_map, nat_cmp}
 use Rattle.std.specs.FinMap.{get, get-empty, insert}
 use Rattle.std.specs.FinSet as set
-use Rattle.std.specs.Option.{option_map}
-use Rattle.std.specs.Ordering.{nat_cmp}
 use Rattle.hv_defs.proofs.Maps.{get_at-insert}
 use Rattle.hv_partition.specs.Partition.{PartitionState}
 use Rattle.hv_policy.specs.Effect.{new_row, mask_of}

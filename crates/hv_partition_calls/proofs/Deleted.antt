@@ -1,15 +1,12 @@
 -- A partition that was deleted, and its pages with its heir.
-use Rattle.std.proofs.Common.{◌≡◌, ℕ, ◌==◌, Bool, true, false, cond, ◌&&◌, ◌||◌, not, map, Option, Some, None, refl, sym, ap, subst, ◌∙◌}
-use Rattle.std.proofs.lemmas.Bool.{eqb-true, eq-eqb}
+use Rattle.std.proofs.Common.{◌≡◌, ℕ, ◌==◌, Bool, true, false, cond, ◌&&◌, ◌||◌, not, map, Option, Some, None, refl, sym, ap, subst, ◌∙◌, eqb-true, eq-eqb, option_map, nat_cmp}
 use Rattle.std.specs.Cmp.{nat_cmp_total, nat_eq_equiv}
 use Rattle.std.specs.FinMap.{FinMap, get, get-empty, remove, entries, from_entries}
 use Rattle.std.specs.FinSet as set
-use Rattle.std.specs.Option.{option_map}
-use Rattle.std.specs.Ordering.{nat_cmp}
 use Rattle.hv_partition.specs.Partition.{PartitionState}
 use Rattle.hv_policy.specs.Effect.{inherited}
 use Rattle.hv_policy.specs.Flat.{Flat, PageRow}
-use Rattle.hv_defs.proofs.Maps.{get_at-insert, get_at-remove, get-mapped}
+use Rattle.hv_defs.proofs.Maps.{get_at-remove, get-mapped}
 use Rattle.hv_ports.specs.declared.ports.Conn.{Conn}
 use Rattle.hv_ports.specs.declared.ports.Port.{Port}
 use Rattle.hv_tree.specs.Rows.{Row, Rows}
@@ -17,12 +14,6 @@ use Rattle.hv_partition_calls.specs.Change.{IsDeleted, new_owner_of}
 use Rattle.hv_refine.proofs.StateInvariant.{UsesNothing}
 use Rattle.hv_refine.specs.Tie.{Refines, PartitionRelation, conn_row_of, here, is_held, holds, port_row_of, rows_of, sint_mail, vp_row_of}
 use Rattle.hv_vp.specs.Vp.{VpState}
-
--- a row after a deletion
-pub get-deleted : (old new : Rows PartitionState) (new_owner id : ℕ) (d : IsDeleted old new new_owner id) (q : ℕ) → get new q ≡ cond (q == new_owner) (Some (new_owner_of d.gone.1 d.room d.owner))
-    (cond (q == id) None (get old q))
-get-deleted old new new_owner id d q = ap (λ rows. get rows q) d.rows ∙ get_at-insert (remove old id) new_owner (new_owner_of d.gone.1 d.room d.owner) q ∙ ap
-    (cond (q == new_owner) (Some (new_owner_of d.gone.1 d.room d.owner))) (get_at-remove old id q)
 
 -- who holds a page of a partition that is gone, and any other page
 module _ (gone new_owner : ℕ) (apart : gone == new_owner ≡ false) where
@@ -107,9 +98,6 @@ module _ (rows : Rows PartitionState) (f : Flat) (flat : Refines rows f) (new : 
   abbrev owner_after : Row PartitionState
   owner_after = new_owner_of d.gone.1 d.room d.owner
 
-  row_after : (q : ℕ) → get new q ≡ cond (q == new_owner) (Some owner_after) (cond (q == id) None (get rows q))
-  row_after = get-deleted rows new new_owner id d
-
   page_after : (page : ℕ) → get deleted.page page ≡ option_map (inherited id new_owner) (get f.page page)
   page_after page = get-mapped (inherited id new_owner) f.page page
 
@@ -132,7 +120,7 @@ module _ (rows : Rows PartitionState) (f : Flat) (flat : Refines rows f) (new : 
       (set.contains-union nat_cmp_total d.owner.1.loose.pages d.gone.1.loose.pages page))
 
   deleted_shows : (q : ℕ) → PartitionRelation deleted q (get new q)
-  deleted_shows q = subst (PartitionRelation deleted q) (sym (row_after q)) (by (q == new_owner) (q == id) refl refl)
+  deleted_shows q = subst (PartitionRelation deleted q) (sym (d.rows q)) (by (q == new_owner) (q == id) refl refl)
     where
       by : (s t : Bool) → q == new_owner ≡ s → q == id ≡ t → PartitionRelation deleted q (cond s (Some owner_after) (cond t None (get rows q)))
       by true t is at =

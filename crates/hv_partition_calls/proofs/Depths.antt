@@ -1,7 +1,6 @@
 -- How many partitions stand above one, in a state that a machine stands for.
-use Rattle.std.proofs.Common.{◌≡◌, ℕ, zero, suc, ◌+◌, ◌≤◌, ◌<◌, Option, Some, None, is_some, IfSome, refl, sym, ap, ◌∙◌, arith}
+use Rattle.std.proofs.Common.{◌≡◌, ℕ, zero, suc, ◌+◌, ◌≤◌, ◌<◌, Option, Some, None, is_some, IfSome, refl, sym, ap, ◌∙◌, arith, option_map, option_and_then}
 use Rattle.std.specs.FinMap.{get, contains_key}
-use Rattle.std.specs.Option.{option_map, option_and_then}
 use Rattle.hv_partition.specs.Partition.{PartitionState}
 use Rattle.hv_policy.specs.Count.{parent_of, one_more, depth_within, depth}
 use Rattle.hv_policy.specs.Flat.{Flat}

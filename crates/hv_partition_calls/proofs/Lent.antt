@@ -1,9 +1,7 @@
 -- A partition that was lent from the tree, changed, and put back.
-use Rattle.std.proofs.Common.{◌≡◌, ℕ, ◌+◌, ◌≤◌, ◌==◌, Bool, true, false, cond, length, Some, None, refl, sym, ap, ◌∙◌, arith}
-use Rattle.std.proofs.lemmas.Bool.{eq-eqb}
+use Rattle.std.proofs.Common.{◌≡◌, ℕ, ◌+◌, ◌≤◌, ◌==◌, Bool, true, false, cond, length, Option, Some, None, refl, sym, ap, ◌∙◌, arith, eq-eqb, option_map}
 use Rattle.std.specs.Cmp.{nat_eq_equiv}
 use Rattle.std.specs.FinMap.{get, insert, remove}
-use Rattle.std.specs.Option.{option_map}
 use Rattle.std.specs.FinSet as set
 use Rattle.hv_pages.specs.PageSet.{Pages, runs_of}
 use Rattle.hv_partition.specs.Partition.{PartitionState, new_partition}
@@ -12,7 +10,7 @@ use Rattle.hv_privs.specs.Privileges.{restrict}
 use Rattle.hv_privs.specs.declared.TheConstants.Privileges as privilege
 use Rattle.hv_tree.proofs.ChildLaws.{count-change}
 use Rattle.hv_defs.proofs.Maps.{get_at-insert, get_at-remove}
-use Rattle.hv_tree.proofs.Laws.{parent-change, same_rows}
+use Rattle.hv_tree.proofs.Laws.{parent-change}
 use Rattle.hv_tree.specs.Rows.{Row, Rows, children, content, parent, is_leaf, change, changed_at}
 use Rattle.hv_refine.proofs.Found.{content_row}
 use Rattle.hv_partition_calls.specs.Change.{IsCreated, IsDeleted, HasRoom, HasTakenOver, MayDelete, MayTakeOver, new_owner_of}
@@ -59,10 +57,6 @@ is_created rows new parent id p child there made rows_are =
           (sym same));
     }
 
--- a row after another was written
-get-written : (rows new : Rows PartitionState) (id : ℕ) (v : Row PartitionState) → new ≡ insert rows id v → (q : ℕ) → get new q ≡ cond (q == id) (Some v) (get rows q)
-get-written rows new id v is q = ap (λ m. get m q) is ∙ get_at-insert rows id v q
-
 -- a partition stays a leaf when another gets room
 pub still_leaf : (rows new : Rows PartitionState) (new_owner id more : ℕ) → MayDelete rows new_owner id → HasRoom rows new new_owner more → is_leaf new id ≡ true
 still_leaf rows new new_owner id more may room =
@@ -72,58 +66,52 @@ still_leaf rows new new_owner id more may room =
     let counts : length (children new id) ≡ length (children rows id) = ap (λ m. length (children m id)) same ∙ count-change rows new_owner _ id in
     rw (parents, counts) may.leaf
 
--- the heir, once it has room and the other is gone, can take over its pages
-pub can_take_over : (rows roomy : Rows PartitionState) (new_owner id more : ℕ) (may : MayDelete rows new_owner id) → HasRoom rows roomy new_owner more → (gone : PartitionState) → content roomy id ≡
-    Some gone → runs_of may.gone.1.loose.pages + runs_of may.gone.1.pooled.pages ≤ more → MayTakeOver (remove roomy id) new_owner gone
-can_take_over rows roomy new_owner id more may room gone was counted =
-    let apart : new_owner == id ≡ false = nat_eq_equiv.symm new_owner id ∙ may.apart in
-    let owner : room.row ≡ may.owner = (let both = sym room.there ∙ may.there in cc) in
-    let row : Row PartitionState = (room.row.0, record room.row.1 { loose = record { pages = room.row.1.loose.pages; room = room.room } }) in
-    let same : may.gone.1 ≡ gone = (let found = sym (ap (option_map (λ r. r.1)) (get-written rows roomy new_owner _ room.rows id ∙ ap (λ b. cond b (Some row) (get rows id)) may.apart ∙ may.was)) ∙ was
-    in cc) in
-    record {
-      row = row;
-      there = get_at-remove roomy id new_owner ∙ ap (λ b. cond b None (get roomy new_owner)) apart ∙ get-written rows roomy new_owner row room.rows new_owner ∙ ap
-          (λ b. cond b (Some row) (get rows new_owner)) (eq-eqb new_owner new_owner refl);
-      room = rw (← same) (let enough = room.enough in omega arith);
-      loose = rw (owner, ← same) may.loose;
-      pooled = rw (owner, ← same) may.pooled;
-      own = rw (← same) may.own;
-    }
+-- the heir, once it has room and the other is gone, can take over its pages, and then the other is deleted
+module _ (rows roomy : Rows PartitionState) (new_owner id more : ℕ) (may : MayDelete rows new_owner id) (room : HasRoom rows roomy new_owner more) (gone : PartitionState)
+    (was : content roomy id ≡ Some gone) where
+  abbrev row : Row PartitionState
+  row = (room.row.0, record room.row.1 { loose = record { pages = room.row.1.loose.pages; room = room.room } })
 
--- and then the other is deleted
-pub has_deleted : (rows roomy new : Rows PartitionState) (new_owner id more : ℕ) (may : MayDelete rows new_owner id) → HasRoom rows roomy new_owner more → (gone : PartitionState) → content roomy id ≡
-    Some gone → HasTakenOver (remove roomy id) new new_owner gone → IsDeleted rows new new_owner id
-has_deleted rows roomy new new_owner id more may room gone was taken =
-    let apart : new_owner == id ≡ false = nat_eq_equiv.symm new_owner id ∙ may.apart in
-    let row : Row PartitionState = (room.row.0, record room.row.1 { loose = record { pages = room.row.1.loose.pages; room = room.room } }) in
-    let same : may.gone.1 ≡ gone = (let found = sym (ap (option_map (λ r. r.1)) (get-written rows roomy new_owner _ room.rows id ∙ ap (λ b. cond b (Some row) (get rows id)) may.apart ∙ may.was)) ∙ was
-    in cc) in
-    let found : get (remove roomy id) new_owner ≡ Some row = get_at-remove roomy id new_owner ∙ ap (λ b. cond b None (get roomy new_owner)) apart ∙ get-written rows roomy new_owner row room.rows
-    new_owner ∙ ap (λ b. cond b (Some row) (get rows new_owner)) (eq-eqb new_owner new_owner refl) in
-    let taken_row : taken.row ≡ row = (let both = sym taken.there ∙ found in cc) in
-    record {
-      gone = may.gone;
-      was = may.was;
-      owner = room.row;
-      there = room.there;
-      room = taken.room;
-      rows = taken.rows ∙ same_rows _ _ (λ q. by q (q == new_owner) refl taken_row same);
-    }
-  where
-    by : (q : ℕ) (b : Bool) → q == new_owner ≡ b → taken.row ≡ (room.row.0, record room.row.1 { loose = record { pages = room.row.1.loose.pages; room = room.room } }) → may.gone.1 ≡ gone → get
-        (insert (remove roomy id) new_owner (new_owner_of gone taken.room taken.row)) q ≡ get (insert (remove rows id) new_owner (new_owner_of may.gone.1 taken.room room.row)) q
-    by q true is taken_row same =
-        get_at-insert (remove roomy id) new_owner (new_owner_of gone taken.room taken.row) q ∙ ap (λ b. cond b (Some (new_owner_of gone taken.room taken.row)) (get (remove roomy id) q)) is
-        ∙ ap {A = Row PartitionState} (λ r. Some (new_owner_of gone taken.room r)) taken_row ∙ ap {A = PartitionState} (λ p. Some (new_owner_of p taken.room room.row)) (sym same)
-        ∙ sym (get_at-insert (remove rows id) new_owner (new_owner_of may.gone.1 taken.room room.row) q ∙ ap (λ b. cond b (Some (new_owner_of may.gone.1 taken.room room.row)) (get (remove rows id) q))
-        is)
-    by q false is taken_row same =
-        get_at-insert (remove roomy id) new_owner (new_owner_of gone taken.room taken.row) q ∙ ap (λ b. cond b (Some (new_owner_of gone taken.room taken.row)) (get (remove roomy id) q)) is
-        ∙ get_at-remove roomy id q ∙ ap (λ r. cond (q == id) None r) (unwritten q is)
-        ∙ sym (get_at-insert (remove rows id) new_owner (new_owner_of may.gone.1 taken.room room.row) q ∙ ap (λ b. cond b (Some (new_owner_of may.gone.1 taken.room room.row)) (get (remove rows id) q))
-        is ∙ get_at-remove rows id q)
-      where
-        unwritten : (q : ℕ) → q == new_owner ≡ false → get roomy q ≡ get rows q
-        unwritten q is = get-written rows roomy new_owner (room.row.0, record room.row.1 { loose = record { pages = room.row.1.loose.pages; room = room.room } }) room.rows q ∙ ap
-            (λ b. cond b (Some (room.row.0, record room.row.1 { loose = record { pages = room.row.1.loose.pages; room = room.room } })) (get rows q)) is
+  roomy_at : (q : ℕ) → get roomy q ≡ cond (q == new_owner) (Some row) (get rows q)
+  roomy_at q = ap (λ m. get m q) room.rows ∙ get_at-insert rows new_owner row q
+
+  same : may.gone.1 ≡ gone
+  same = let found = sym (ap (option_map (λ r. r.1)) (roomy_at id ∙ ap (λ b. cond b (Some row) (get rows id)) may.apart ∙ may.was)) ∙ was in cc
+
+  found : get (remove roomy id) new_owner ≡ Some row
+  found = get_at-remove roomy id new_owner ∙ ap (λ b. cond b None (get roomy new_owner)) (nat_eq_equiv.symm new_owner id ∙ may.apart) ∙ roomy_at new_owner ∙ ap
+      (λ b. cond b (Some row) (get rows new_owner)) (eq-eqb new_owner new_owner refl)
+
+  pub can_take_over : runs_of may.gone.1.loose.pages + runs_of may.gone.1.pooled.pages ≤ more → MayTakeOver (remove roomy id) new_owner gone
+  can_take_over counted =
+      let owner : room.row ≡ may.owner = (let both = sym room.there ∙ may.there in cc) in
+      record {
+        row = row;
+        there = found;
+        room = rw (← same) (let enough = room.enough in omega arith);
+        loose = rw (owner, ← same) may.loose;
+        pooled = rw (owner, ← same) may.pooled;
+        own = rw (← same) may.own;
+      }
+
+  pub has_deleted : (new : Rows PartitionState) → HasTakenOver (remove roomy id) new new_owner gone → IsDeleted rows new new_owner id
+  has_deleted new taken =
+      let taken_row : taken.row ≡ row = (let both = sym taken.there ∙ found in cc) in
+      let owner : Some (new_owner_of gone taken.room taken.row) ≡ Some (new_owner_of may.gone.1 taken.room room.row) =
+      ap {A = Row PartitionState} (λ r. Some (new_owner_of gone taken.room r)) taken_row ∙ ap {A = PartitionState} (λ p. Some (new_owner_of p taken.room room.row)) (sym same) in
+      record {
+        gone = may.gone;
+        was = may.was;
+        owner = room.row;
+        there = room.there;
+        room = taken.room;
+        rows = λ q.
+            ap (λ m. get m q) taken.rows ∙ get_at-insert (remove roomy id) new_owner (new_owner_of gone taken.room taken.row) q
+            ∙ ap (cond (q == new_owner) (Some (new_owner_of gone taken.room taken.row))) (get_at-remove roomy id q ∙ ap (cond (q == id) None) (roomy_at q))
+            ∙ by (q == new_owner) (q == id) (Some (new_owner_of gone taken.room taken.row)) (get rows q)
+            ∙ ap (λ o. cond (q == new_owner) o (cond (q == id) None (get rows q))) owner;
+      }
+    where
+      by : (s t : Bool) (a o : Option (Row PartitionState)) → cond s a (cond t None (cond s (Some row) o)) ≡ cond s a (cond t None o)
+      by true t a o = refl
+      by false t a o = refl

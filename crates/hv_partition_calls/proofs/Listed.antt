@@ -1,16 +1,13 @@
 -- The child after another, in a state that a machine stands for.
-use Rattle.std.proofs.Common.{◌≡◌, ℕ, ◌<◌, Bool, true, ◌&&◌, nat_lt, Option, Some, None, find, refl, sym, ap, ◌∙◌, arith}
-use Rattle.std.proofs.lemmas.Bool.{eq-eqb, ltb-true, lt-ltb}
+use Rattle.std.proofs.Common.{◌≡◌, ℕ, ◌<◌, Bool, true, ◌&&◌, nat_lt, Option, Some, None, find, refl, sym, ap, ◌∙◌, arith, eq-eqb, ltb-true, lt-ltb, Contains}
 use Rattle.std.specs.FinMap.{get, entries}
-use Rattle.std.specs.List.{Contains}
 use Rattle.hv_defs.proofs.Counts.{passes}
 use Rattle.hv_defs.proofs.Maps.{found_least, found_row}
 use Rattle.hv_policy.specs.Answer.{first_id, next_child}
 use Rattle.hv_policy.specs.Count.{is_parent}
 use Rattle.hv_partition.specs.Partition.{PartitionState}
 use Rattle.hv_policy.specs.Flat.{Flat, PartRow}
-use Rattle.hv_tree.specs.Rows.{Rows, children, IsLeastAbove}
-use Rattle.hv_tree.specs.Rows.{parent as tree_parent}
+use Rattle.hv_tree.specs.Rows.{Rows, children, IsLeastAbove, parent as tree_parent}
 use Rattle.hv_tree.proofs.ChildLaws.{parent-child, child-parent}
 use Rattle.hv_refine.proofs.Counted.{child_at, named}
 use Rattle.hv_refine.proofs.Held.{two_tests}

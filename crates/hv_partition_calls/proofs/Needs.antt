@@ -1,8 +1,6 @@
 -- What the calls of this call group need of the rows, once all their rules are met.
-use Rattle.std.proofs.Common.{◌≡◌, ℕ, ◌≤◌, ◌==◌, true, false, Option, Some, None, is_some, refl, sym, ap, ◌∙◌, arith}
-use Rattle.std.proofs.lemmas.Bool.{ne_eqb}
+use Rattle.std.proofs.Common.{◌≡◌, ℕ, ◌≤◌, ◌==◌, true, false, Option, Some, None, is_some, refl, sym, ap, ◌∙◌, arith, ne_eqb, option_map, option_and_then}
 use Rattle.std.specs.FinMap.{get}
-use Rattle.std.specs.Option.{option_map, option_and_then}
 use Rattle.hv_calls.specs.declared.call.Call.TheVariants.{CreatePartition, DeletePartition}
 use Rattle.hv_defs.specs.declared.life.Life.{Life}
 use Rattle.hv_defs.specs.declared.life.Life.TheVariants.{Created, Active, Finalized}

@@ -1,19 +1,17 @@
 -- What the calls of this call group make of the rows is what the model makes of its state.
 use Rattle.std.proofs.Common.{◌≡◌, ℕ, None, sym, ap, subst, ◌∙◌}
 use Rattle.std.specs.FinMap.{get, insert}
-use Rattle.hv_calls.specs.declared.call.Call.TheVariants.{CreatePartition, InitializePartition, FinalizePartition, DeletePartition}
-use Rattle.hv_defs.specs.declared.life.Life.TheVariants.{Active}
-use Rattle.hv_partition.specs.Partition.{PartitionState, finalized}
+use Rattle.hv_calls.specs.declared.call.Call.TheVariants.{CreatePartition, DeletePartition}
+use Rattle.hv_partition.specs.Partition.{PartitionState}
 use Rattle.hv_policy.specs.Needs.{target_of}
 use Rattle.hv_policy.specs.Effect.{call_effect}
 use Rattle.hv_policy.specs.Flat.{Flat}
 use Rattle.hv_refine.proofs.Allowed.{admitted_allowed}
 use Rattle.hv_refine.specs.Served.{IsAdmitted, unmet_further}
 use Rattle.hv_refine.specs.Tie.{Refines}
-use Rattle.hv_tree.specs.Rows.{Rows, change}
+use Rattle.hv_tree.specs.Rows.{Rows}
 use Rattle.hv_partition_calls.proofs.Created.{created_tied}
 use Rattle.hv_partition_calls.proofs.Deleted.{deleted_tied}
-use Rattle.hv_partition_calls.proofs.Ended.{activated_tied, closed_tied}
 use Rattle.hv_partition_calls.proofs.Needs.{create_needs, delete_needs, deleted_idle, free_row}
 use Rattle.hv_partition_calls.specs.Change.{IsCreated, IsDeleted, MayCreate, MayDelete, child_of}
 
@@ -39,14 +37,3 @@ module _ (rows : Rows PartitionState) (caller partition : ℕ) (a : IsAdmitted r
   deleted new d f flat =
       deleted_tied rows f flat new caller (target_of (DeletePartition partition) caller) may_delete.apart d
       (deleted_idle rows a.rows.flat a.rows.tied a.rows.pages a.rows.bounded a.rows.lawful caller partition (admitted_allowed rows caller (DeletePartition partition) a met) d.gone d.was)
-
-module _ (rows new : Rows PartitionState) (caller partition target : ℕ) (f : Flat) (flat : Refines rows f) where
-  pub initialized : target ≡ target_of (InitializePartition partition) caller → new ≡ change rows target (λ p. record p { life = Active }) → Refines new
-      (call_effect (InitializePartition partition) f caller (target_of (InitializePartition partition) caller))
-  initialized at is = subst (λ t. Refines new (call_effect (InitializePartition partition) f caller t)) at
-      (subst (λ rows. Refines rows (call_effect (InitializePartition partition) f caller target)) (sym is) (activated_tied rows f flat target))
-
-  pub ended : target ≡ target_of (FinalizePartition partition) caller → new ≡ change rows target finalized → Refines new
-      (call_effect (FinalizePartition partition) f caller (target_of (FinalizePartition partition) caller))
-  ended at is = subst (λ t. Refines new (call_effect (FinalizePartition partition) f caller t)) at
-      (subst (λ rows. Refines rows (call_effect (FinalizePartition partition) f caller target)) (sym is) (closed_tied rows f flat target))

@@ -1,6 +1,6 @@
 -- The changes that the calls of this call group make to the rows, and their preconditions.
-use Rattle.std.specs.Prelude.{◌≡◌, ℕ, ◌==◌, ◌<◌, ◌≤◌, ◌+◌, ◌-◌, ◌^◌, true, false, length, Some}
-use Rattle.std.specs.FinMap.{get, insert, remove, contains_key}
+use Rattle.std.specs.Prelude.{◌≡◌, ℕ, ◌==◌, ◌<◌, ◌≤◌, ◌+◌, ◌-◌, ◌^◌, true, false, cond, length, None, Some}
+use Rattle.std.specs.FinMap.{get, insert, contains_key}
 use Rattle.std.specs.FinSet as set
 use Rattle.hv_defs.specs.declared.life.Life.TheVariants.{Created}
 use Rattle.hv_defs.specs.declared.sizes.TheConstants.{MAX_PAGES}
@@ -21,8 +21,7 @@ new_owner_of gone room r = (
   record r.1 {
     loose = record {
       pages = set.union (set.union r.1.loose.pages gone.loose.pages) gone.pooled.pages;
-      room =
-          room;
+      room = room;
     };
   },
 )
@@ -68,7 +67,8 @@ pub record IsDeleted (old new : Rows PartitionState) (new_owner id : ℕ) : Type
   pub owner : Row PartitionState
   pub there : get old new_owner ≡ Some owner
   pub room : ℕ
-  pub rows : new ≡ insert (remove old id) new_owner (new_owner_of gone.1 room owner)
+  pub rows : (q : ℕ) → get new q ≡ cond (q == new_owner) (Some (new_owner_of gone.1 room owner))
+      (cond (q == id) None (get old q))
 
 -- precondition of creating: the parent exists and can count one more child (a count stays below 2^32), and
 -- the id is free

@@ -85,30 +85,19 @@ pub fn finalize_partition<A: Allocator>(
     ensures { (f : Flat) → Refines tree.old f
         → IsOutcome f caller (call.FinalizePartition partition) tree.old result tree.new }
 {
-    if let Some(rule) = unmet_finalize(tree, caller, partition) {
-        return Err(CallError::Unmet(rule));
-    }
-    finalize(tree, resolve_partition_id(caller, partition));
-    Ok(CallOutput::new())
-}
-
-// P12 and P13.
-fn unmet_finalize<A: Allocator>(tree: &Partitions<A>, caller: u64, partition: u64) -> Option<Rule>
-    ensures { (f : Flat) → Refines tree.now f → result
-        ≡ unmet_further f caller (call.FinalizePartition partition) }
-{
     let target = resolve_partition_id(caller, partition);
     if !is_state_allowed(
         tree,
         target,
         needs(&Call::FinalizePartition { partition }).states,
     ) {
-        return Some(Rule::TargetState);
+        return Err(CallError::Unmet(Rule::TargetState));
     }
     if !is_childless(tree, target) {
-        return Some(Rule::NoChildren);
+        return Err(CallError::Unmet(Rule::NoChildren));
     }
-    None
+    finalize(tree, target);
+    Ok(CallOutput::new())
 }
 
 /// HvDeletePartition: removes the target. All its pages become loose pages of the caller.

@@ -5,9 +5,8 @@ ghost use Rattle.std.specs.FinMap as map;
 ghost use Rattle.hv_defs.specs.declared.life.Life.TheVariants as life;
 ghost use Rattle.hv_partition.specs.Partition.{finalized};
 ghost use Rattle.hv_tree.specs.Rows.{change as changed};
-ghost use Rattle.hv_partition_calls.specs.Change.{IsCreated, IsDeleted, MayCreate, MayDelete, HasRoom};
-ghost use Rattle.hv_partition_calls.specs.Change.{MayTakeOver};
-ghost use Rattle.hv_partition_calls.specs.Change.{HasTakenOver};
+ghost use Rattle.hv_partition_calls.specs.Change.{HasRoom, HasTakenOver, IsCreated, IsDeleted, MayCreate};
+ghost use Rattle.hv_partition_calls.specs.Change.{MayDelete, MayTakeOver};
 
 use hv_defs::Life;
 use hv_partition::{PageKind, Partition};
@@ -85,10 +84,7 @@ pub fn delete<A: Allocator>(
         unreachable!()
     };
     let runs = gone.pages(PageKind::Loose).runs() + gone.pages(PageKind::Pooled).runs();
-    match make_room(tree, new_owner, runs) {
-        Ok(()) => {}
-        Err(refused) => return Err(refused),
-    }
+    make_room(tree, new_owner, runs)?;
     let Some(gone) = tree.remove_leaf(id) else {
         unreachable!()
     };

@@ -1,7 +1,6 @@
 // The rules that only this call group checks, and the lookups in the tree that they need.
-ghost use Rattle.std.specs.Prelude.{◌≡◌, ◌==◌, ◌||◌};
+ghost use Rattle.std.specs.Prelude.{◌≡◌, ◌==◌, ◌||◌, option_map};
 ghost use Rattle.std.specs.FinMap.{get};
-ghost use Rattle.std.specs.Option.{option_map};
 ghost use Rattle.hv_policy.specs.Answer.{next_child as next_child_of};
 ghost use Rattle.hv_policy.specs.Count.{depth as depth_of};
 ghost use Rattle.hv_policy.specs.Flat.{Flat};

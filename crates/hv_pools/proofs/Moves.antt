@@ -1,19 +1,25 @@
--- Pages that come to a partition and go from it, one write after another.
-use Rattle.std.proofs.Common.{◌≡◌, ℕ, ◌==◌, Bool, true, false, cond, ◌&&◌, not, Option, Some, None, refl, sym, ap, ◌∙◌, subst}
-use Rattle.std.proofs.lemmas.Bool.{and_from, and_right, eqb-true, eq-eqb}
-use Rattle.std.specs.FinMap.{get}
+-- Pages that come to a partition and go from it, one write after another: the rows are tied to what the model makes of them.
+use Rattle.std.proofs.Common.{◌≡◌, ℕ, ◌==◌, Bool, true, false, cond, ◌&&◌, ◌||◌, not, Option, Some, None, is_some, refl, sym, ap, ◌∙◌, subst, eqb-true, eq-eqb, option_map, nat_cmp}
+use Rattle.std.proofs.lemmas.Iterator.Adapters.{option_map_id}
+use Rattle.std.specs.Cmp.{nat_cmp_total, unsigned_tied}
+use Rattle.std.specs.FinMap.{FinMap, get, insert, remove, nat_cmp-IsAntisymmetric, same_map}
 use Rattle.std.specs.FinSet as set
-use Rattle.std.specs.Option.{option_map}
-use Rattle.std.specs.Ordering.{nat_cmp}
+use Rattle.hv_defs.proofs.Maps.{get_at-insert, get_at-remove}
 use Rattle.hv_pages.specs.PageSet.{IsLowest, PagesAndRoom}
-use Rattle.hv_partition.proofs.Written.{with_twice}
 use Rattle.hv_partition.specs.Partition.{PartitionState, pages_in, with_pages}
 use Rattle.hv_partition.specs.declared.kind.PageKind.{PageKind}
 use Rattle.hv_partition.specs.declared.kind.PageKind.TheVariants.{Loose, Pooled}
-use Rattle.hv_tree.proofs.Laws.{same_rows, get-change, change-of}
+use Rattle.hv_policy.specs.Count.{lowest_pooled}
+use Rattle.hv_policy.specs.Effect.{withdrawn}
+use Rattle.hv_policy.specs.Flat.{Flat, PageRow}
+use Rattle.hv_tree.proofs.Laws.{get-change, change-of}
 use Rattle.hv_tree.specs.Rows.{Row, Rows, content, change}
+use Rattle.hv_refine.proofs.Held.{apart_sets, held_alone, held_by_owner}
+use Rattle.hv_refine.proofs.Room.{kept_tied}
 use Rattle.hv_refine.specs.Room.{IsSameButRoom, bare}
-use Rattle.hv_pools.specs.Change.{CanGain, HasGained, HasLost, HasLostLowest, HasOneRoom, HasPages, IsMoved, IsWithdrawn, MayWithdraw, other, pages_at, with_pages_at}
+use Rattle.hv_refine.specs.Tie.{Refines, PartitionRelation, holds, is_held}
+use Rattle.hv_pools.proofs.Lowest.{lowest_is}
+use Rattle.hv_pools.specs.Change.{CanGain, HasGained, HasLost, HasLostLowest, HasOneRoom, HasPages, MayDeposit, MayWithdraw, pages_at, with_pages_at}
 
 -- a partition that was lent, and its pages of a kind changed
 pub written : (rows : Rows PartitionState) (id : ℕ) (kind : PageKind) (p w : PartitionState) (How : PagesAndRoom → PagesAndRoom → Type 0) → Some p ≡ content rows id → w ≡ with_pages kind
@@ -30,96 +36,56 @@ written rows id kind p w How there rest how = record {
 lost_lowest : (old new : Rows PartitionState) (id page : ℕ) (kind : PageKind) → HasPages old new id kind (HasLostLowest page) → HasPages old new id kind (HasLost page)
 lost_lowest old new id page kind lost = record { before = lost.before; at = lost.at; after = lost.after; how = lost.how.1; rows = lost.rows }
 
--- which kind it is, and whether two are the same
-abbrev pub is_pooled : PageKind → Bool
-is_pooled Loose = false
-is_pooled Pooled = true
-
-abbrev pub alike : PageKind → PageKind → Bool
-alike Loose kind = not (is_pooled kind)
-alike Pooled kind = is_pooled kind
-
-alike-self : (kind : PageKind) → alike kind kind ≡ true
-alike-self Loose = refl
-alike-self Pooled = refl
-
-alike-other : (kind : PageKind) → alike kind (other kind) ≡ false
-alike-other Loose = refl
-alike-other Pooled = refl
-
-other-alike : (kind : PageKind) → alike (other kind) kind ≡ false
-other-alike Loose = refl
-other-alike Pooled = refl
+-- the kind of pages that the model calls pooled, or not
+abbrev kind_of : Bool → PageKind
+kind_of false = Loose
+kind_of true = Pooled
 
 -- a row with other pages of a kind where the test holds
-abbrev pub pages_if : Bool → PageKind → PagesAndRoom → Row PartitionState → Row PartitionState
+abbrev pages_if : Bool → PageKind → PagesAndRoom → Row PartitionState → Row PartitionState
 pages_if b kind v r = (r.0, cond b (with_pages kind v r.1) r.1)
 
-same_row : (f : Row PartitionState → Row PartitionState) → ((r : Row PartitionState) → f r ≡ r) → (r : Option (Row PartitionState)) → r ≡ option_map f r
-same_row f h None = refl
-same_row f h (Some r) = ap Some (sym (h r))
-
-pub get-with_pages : (rows : Rows PartitionState) (id : ℕ) (kind : PageKind) (v : PagesAndRoom) (q : ℕ) → get (with_pages_at rows id kind v) q ≡ option_map (pages_if (q == id) kind v) (get rows q)
+get-with_pages : (rows : Rows PartitionState) (id : ℕ) (kind : PageKind) (v : PagesAndRoom) (q : ℕ) → get (with_pages_at rows id kind v) q ≡ option_map (pages_if (q == id) kind v) (get rows q)
 get-with_pages rows id kind v q = get-change rows id (with_pages kind v) q ∙ by (q == id) refl
   where
     by : (b : Bool) → q == id ≡ b → cond b (option_map (λ r. (r.0, with_pages kind v r.1)) (get rows id)) (get rows q) ≡ option_map (pages_if b kind v) (get rows q)
     by true is = ap (λ n. option_map (pages_if true kind v) (get rows n)) (sym (eqb-true q id is))
-    by false is = same_row (pages_if false kind v) (λ r. refl) (get rows q)
+    by false is = sym (option_map_id (get rows q))
 
-pages_of : (b : Bool) (j kind : PageKind) (v : PagesAndRoom) (p : PartitionState) → pages_in j (cond b (with_pages kind v p) p) ≡ cond (b && alike j kind) v (pages_in j p)
-pages_of false j kind v p = refl
-pages_of true Loose Loose v p = refl
-pages_of true Loose Pooled v p = refl
-pages_of true Pooled Loose v p = refl
-pages_of true Pooled Pooled v p = refl
-
--- the pages of any kind and partition once those of one kind of one partition were written
-pub pages_after : (rows : Rows PartitionState) (id : ℕ) (kind : PageKind) (v : PagesAndRoom) (q : ℕ) (j : PageKind) → pages_at (with_pages_at rows id kind v) q j ≡ option_map
-    (λ old. cond (q == id && alike j kind) v old) (pages_at rows q j)
-pages_after rows id kind v q j = ap (λ r. option_map (pages_in j) (option_map (λ r. r.1) r)) (get-with_pages rows id kind v q) ∙ by (get rows q)
-  where
-    by : (r : Option (Row PartitionState)) → option_map (pages_in j) (option_map (λ r. r.1) (option_map (pages_if (q == id) kind v) r)) ≡ option_map (λ old. cond (q == id && alike j kind) v old)
-        (option_map (pages_in j) (option_map (λ r. r.1) r))
-    by None = refl
-    by (Some r) = ap Some (pages_of (q == id) j kind v r.1)
-
-unmapped : (o : Option PagesAndRoom) → option_map (λ old. old) o ≡ o
-unmapped None = refl
-unmapped (Some p) = refl
-
--- those of that kind, and those of the other kind
+-- the pages that were written, and those of the other kind
 pages_same : (rows : Rows PartitionState) (id : ℕ) (kind : PageKind) (v p : PagesAndRoom) → pages_at rows id kind ≡ Some p → pages_at (with_pages_at rows id kind v) id kind ≡ Some v
-pages_same rows id kind v p at =
-    pages_after rows id kind v id kind
-    ∙ ap (option_map (λ old. cond (id == id && alike kind kind) v old)) at
-    ∙ ap (λ b. Some (cond b v p)) (and_from (id == id) (alike kind kind) (eq-eqb id id refl) (alike-self kind))
-
-pages_apart : (rows : Rows PartitionState) (id : ℕ) (kind : PageKind) (v : PagesAndRoom) (q : ℕ) (j : PageKind) → alike j kind ≡ false → pages_at (with_pages_at rows id kind v) q j ≡ pages_at rows q j
-pages_apart rows id kind v q j apart =
-    pages_after rows id kind v q j
-    ∙ ap (λ b. option_map (λ old. cond b v old) (pages_at rows q j)) (and_right (q == id) (alike j kind) apart)
-    ∙ unmapped (pages_at rows q j)
-
--- the last write alone shows
-again : (rows : Rows PartitionState) (to from : ℕ) (kind : PageKind) (first left come : PagesAndRoom) → with_pages_at (with_pages_at (with_pages_at rows to (other kind) first) from kind left) to
-    (other kind) come ≡ with_pages_at (with_pages_at rows from kind left) to (other kind) come
-again rows to from kind first left come = same_rows _ _ (λ q.
-    get-with_pages (with_pages_at (with_pages_at rows to (other kind) first) from kind left) to (other kind) come q
-    ∙ ap (option_map (pages_if (q == to) (other kind) come)) (get-with_pages (with_pages_at rows to (other kind) first) from kind left q ∙ ap (option_map (pages_if (q == from) kind left))
-    (get-with_pages rows to (other kind) first q))
-    ∙ by (q == to) (q == from) kind (get rows q)
-    ∙ sym (get-with_pages (with_pages_at rows from kind left) to (other kind) come q ∙ ap (option_map (pages_if (q == to) (other kind) come)) (get-with_pages rows from kind left q)))
+pages_same rows id kind v p at = ap (λ r. option_map (pages_in kind) (option_map (λ r. r.1) r)) (get-with_pages rows id kind v id) ∙ by (id == id) (eq-eqb id id refl) kind (get rows id) at
   where
-    by : (s t : Bool) (kind : PageKind) (r : Option (Row PartitionState)) → option_map (pages_if s (other kind) come) (option_map (pages_if t kind left) (option_map (pages_if s (other kind) first) r))
-        ≡ option_map (pages_if s (other kind) come) (option_map (pages_if t kind left) r)
-    by s t kind None = refl
-    by false t kind (Some r) = refl
-    by true false kind (Some r) = ap (λ p. Some (r.0, p)) (with_twice (other kind) come first r.1)
-    by true true Loose (Some r) = refl
-    by true true Pooled (Some r) = refl
+    by : (b : Bool) → b ≡ true → (kind : PageKind) (r : Option (Row PartitionState)) → option_map (pages_in kind) (option_map (λ r. r.1) r) ≡ Some p → option_map (pages_in kind)
+        (option_map (λ r. r.1) (option_map (pages_if b kind v) r)) ≡ Some v
+    by false is kind r at = cc
+    by true is kind None at = cc
+    by true is Loose (Some r) at = refl
+    by true is Pooled (Some r) at = refl
+
+pages_apart : (rows : Rows PartitionState) (id : ℕ) (pooled : Bool) (v : PagesAndRoom) (q : ℕ) → pages_at (with_pages_at rows id (kind_of pooled) v) q (kind_of (not pooled)) ≡ pages_at rows q
+    (kind_of (not pooled))
+pages_apart rows id pooled v q = ap (λ r. option_map (pages_in (kind_of (not pooled))) (option_map (λ r. r.1) r)) (get-with_pages rows id (kind_of pooled) v q) ∙ by (q == id) pooled (get rows q)
+  where
+    by : (b pooled : Bool) (r : Option (Row PartitionState)) → option_map (pages_in (kind_of (not pooled))) (option_map (λ r. r.1) (option_map (pages_if b (kind_of pooled) v) r)) ≡ option_map
+        (pages_in (kind_of (not pooled))) (option_map (λ r. r.1) r)
+    by b pooled None = refl
+    by false pooled (Some r) = refl
+    by true false (Some r) = refl
+    by true true (Some r) = refl
 
 some_same : (o : Option PagesAndRoom) (a b : PagesAndRoom) → o ≡ Some a → o ≡ Some b → a ≡ b
 some_same o a b e h = let both = sym e ∙ h in cc
+
+-- the row of a partition whose pages are these
+pages_row : (rows : Rows PartitionState) (id : ℕ) (kind : PageKind) (v : PagesAndRoom) → pages_at rows id kind ≡ Some v → (r : Row PartitionState) × (get rows id ≡ Some r) ×
+    (pages_in kind r.1 ≡ v)
+pages_row rows id kind v at = by (get rows id) refl at
+  where
+    by : (r : Option (Row PartitionState)) → get rows id ≡ r → option_map (pages_in kind) (option_map (λ r. r.1) r) ≡ Some v → (r : Row PartitionState) × (get rows id ≡ Some r) ×
+        (pages_in kind r.1 ≡ v)
+    by None is h = cc
+    by (Some r) is h = (r, is, cc)
 
 bare_with : (kind : PageKind) (v : PagesAndRoom) (r : Row PartitionState) → v.pages ≡ (pages_in kind r.1).pages → bare (r.0, with_pages kind v r.1) ≡ bare r
 bare_with Loose v r same = ap {A = set.FinSet nat_cmp} (λ ps. bare (r.0, record r.1 { loose = record { pages = ps; room = 0 } })) same
@@ -137,64 +103,151 @@ room_alone old new id kind room q = ap (λ rows. option_map bare (get rows q)) r
         (ap (λ n. pages_at old n kind) (eqb-true q id is) ∙ room.at) in
         ap Some (bare_with kind room.after r (room.how.0 ∙ ap {A = PagesAndRoom} (λ p. p.pages) (sym same)))
 
+-- a partition's pages of one kind were written as other page rows have them, and nothing else changed
+pages_tied : (rows : Rows PartitionState) (f : Flat) → Refines rows f → (id : ℕ) (pooled : Bool) (v : PagesAndRoom) (m : FinMap nat_cmp PageRow) → is_some (get rows id) ≡ true →
+    ((x : ℕ) → is_held id pooled (get m x) ≡ set.contains v.pages x) →
+    ((q : ℕ) (j : Bool) (x : ℕ) → ((q ≡ id) × (j ≡ pooled) → ⊥) → is_held q j (get m x) ≡ is_held q j (get f.page x)) → Refines (with_pages_at rows id (kind_of pooled) v) (record f { page = m })
+pages_tied rows f flat id pooled v m there own others = record {
+  rows = λ q. subst (PartitionRelation (record f { page = m }) q) (sym (get-with_pages rows id (kind_of pooled) v q)) (by q (q == id) refl pooled own (others q) (get rows q) refl (flat.rows q));
+}
+  where
+    away : (q : ℕ) → q == id ≡ false → (pooled : Bool) → ((j : Bool) (x : ℕ) → ((q ≡ id) × (j ≡ pooled) → ⊥) → is_held q j (get m x) ≡ is_held q j (get f.page x)) →
+        (r : Option (Row PartitionState)) → ((x : ℕ) (j : Bool) → is_held q j (get f.page x) ≡ holds j x r) → (x : ℕ) (j : Bool) → is_held q j (get m x) ≡ holds j x r
+    away q off pooled others r was x j = others j x (λ e. let on = sym (eq-eqb q id e.0) ∙ off in cc) ∙ was x j
+
+    by : (q : ℕ) (b : Bool) → q == id ≡ b → (pooled : Bool) → ((x : ℕ) → is_held id pooled (get m x) ≡ set.contains v.pages x) →
+        ((j : Bool) (x : ℕ) → ((q ≡ id) × (j ≡ pooled) → ⊥) → is_held q j (get m x) ≡ is_held q j (get f.page x)) → (r : Option (Row PartitionState)) → get rows q ≡ r → PartitionRelation f q r →
+        PartitionRelation (record f { page = m }) q (option_map (pages_if b (kind_of pooled) v) r)
+    by q true is pooled own others None at old = let none = sym (ap (λ n. is_some (get rows n)) (eqb-true q id is)) ∙ ap is_some at in cc
+    by q false is pooled own others None at old = record { part = old.part; page = away q is pooled others None old.page; vp = old.vp; port = old.port; conn = old.conn; mail = old.mail }
+    by q false is pooled own others (Some r) at old = record { part = old.part; page = away q is pooled others (Some r) old.page; vp = old.vp; port = old.port; conn = old.conn; mail = old.mail }
+    by q true is false own others (Some r) at old = record { part = old.part; page = page; vp = old.vp; port = old.port; conn = old.conn; mail = old.mail }
+      where
+        page : (x : ℕ) (j : Bool) → is_held q j (get m x) ≡ holds j x (Some (r.0, record r.1 { loose = v }))
+        page x false = ap (λ n. is_held n false (get m x)) (eqb-true q id is) ∙ own x
+        page x true = others true x (λ e. let no = e.1 in cc) ∙ old.page x true
+    by q true is true own others (Some r) at old = record { part = old.part; page = page; vp = old.vp; port = old.port; conn = old.conn; mail = old.mail }
+      where
+        page : (x : ℕ) (j : Bool) → is_held q j (get m x) ≡ holds j x (Some (r.0, record r.1 { pooled = v }))
+        page x true = ap (λ n. is_held n true (get m x)) (eqb-true q id is) ∙ own x
+        page x false = others false x (λ e. let no = e.1 in cc) ∙ old.page x false
+
+-- what the model holds of a partition's pages
+told : (rows : Rows PartitionState) (f : Flat) → Refines rows f → (id : ℕ) (pooled : Bool) (p : PagesAndRoom) → pages_at rows id (kind_of pooled) ≡ Some p → (x : ℕ) → is_held id pooled
+    (get f.page x) ≡ set.contains p.pages x
+told rows f flat id true p at x = let (r, is, same) = pages_row rows id Pooled p at in (flat.rows id).page x true ∙ ap (holds true x) is ∙ ap {A = PagesAndRoom} (λ p. set.contains p.pages x) same
+told rows f flat id false p at x = let (r, is, same) = pages_row rows id Loose p at in (flat.rows id).page x false ∙ ap (holds false x) is ∙ ap {A = PagesAndRoom} (λ p. set.contains p.pages x) same
+
+there : (rows : Rows PartitionState) (id : ℕ) (kind : PageKind) (p : PagesAndRoom) → pages_at rows id kind ≡ Some p → is_some (get rows id) ≡ true
+there rows id kind p at = let (r, is, same) = pages_row rows id kind p at in ap is_some is
+
+-- a page that was lost, and one that came
+module _ (rows new : Rows PartitionState) (f : Flat) (flat : Refines rows f) (id page : ℕ) (pooled : Bool) where
+  lost_tied : HasPages rows new id (kind_of pooled) (HasLost page) → is_held id pooled (get f.page page) ≡ true → Refines new (record f { page = remove f.page page })
+  lost_tied h one = subst (λ rows. Refines rows (record f { page = remove f.page page })) (sym h.rows)
+      (pages_tied rows f flat id pooled h.after (remove f.page page) (there rows id (kind_of pooled) h.before h.at) own others)
+    where
+      own : (x : ℕ) → is_held id pooled (get (remove f.page page) x) ≡ set.contains h.after.pages x
+      own x = ap (is_held id pooled) (get_at-remove f.page page x) ∙ by (x == page)
+          ∙ sym (ap (λ s. set.contains s x) h.how ∙ set.contains-remove nat_cmp_total h.before.pages page x ∙ ap (λ b. not b && set.contains h.before.pages x) (unsigned_tied x page))
+        where
+          by : (b : Bool) → is_held id pooled (cond b None (get f.page x)) ≡ (not b && set.contains h.before.pages x)
+          by true = refl
+          by false = told rows f flat id pooled h.before h.at x
+
+      others : (q : ℕ) (j : Bool) (x : ℕ) → ((q ≡ id) × (j ≡ pooled) → ⊥) → is_held q j (get (remove f.page page) x) ≡ is_held q j (get f.page x)
+      others q j x differ = ap (is_held q j) (get_at-remove f.page page x) ∙ by (x == page) refl
+        where
+          by : (b : Bool) → x == page ≡ b → is_held q j (cond b None (get f.page x)) ≡ is_held q j (get f.page x)
+          by true is =
+              sym (ap (λ n. is_held q j (get f.page n)) (eqb-true x page is) ∙ (flat.rows q).page page j
+              ∙ apart_sets rows f flat id q pooled j (λ e. differ (sym e.0, sym e.1)) page (sym ((flat.rows id).page page pooled) ∙ one))
+          by false is = refl
+
+  abbrev row : PageRow
+  row = record { owner = id; pooled = pooled }
+
+  gained_tied : HasPages rows new id (kind_of pooled) (HasGained page) → get f.page page ≡ None → Refines new (record f { page = insert f.page page row })
+  gained_tied h free = subst (λ rows. Refines rows (record f { page = insert f.page page row })) (sym h.rows)
+      (pages_tied rows f flat id pooled h.after (insert f.page page row) (there rows id (kind_of pooled) h.before h.at) own others)
+    where
+      own : (x : ℕ) → is_held id pooled (get (insert f.page page row) x) ≡ set.contains h.after.pages x
+      own x = ap (is_held id pooled) (get_at-insert f.page page row x) ∙ by (x == page)
+          ∙ sym (ap (λ s. set.contains s x) h.how ∙ set.contains-insert nat_cmp_total h.before.pages page x ∙ ap (λ b. b || set.contains h.before.pages x) (unsigned_tied x page))
+        where
+          by : (b : Bool) → is_held id pooled (cond b (Some row) (get f.page x)) ≡ (b || set.contains h.before.pages x)
+          by true = held_by_owner row
+          by false = told rows f flat id pooled h.before h.at x
+
+      others : (q : ℕ) (j : Bool) (x : ℕ) → ((q ≡ id) × (j ≡ pooled) → ⊥) → is_held q j (get (insert f.page page row) x) ≡ is_held q j (get f.page x)
+      others q j x differ = ap (is_held q j) (get_at-insert f.page page row x) ∙ by (x == page) (is_held q j (Some row)) refl refl
+        where
+          by : (b h : Bool) → x == page ≡ b → is_held q j (Some row) ≡ h → is_held q j (cond b (Some row) (get f.page x)) ≡ is_held q j (get f.page x)
+          by true true is held = absurd (differ (held_alone row q j held))
+          by true false is held = held ∙ sym (ap (λ n. is_held q j (get f.page n)) (eqb-true x page is) ∙ ap (is_held q j) free)
+          by false h is held = refl
+
+-- of two writes of a page's row the last one shows
+again : (m : FinMap nat_cmp PageRow) (k : ℕ) (v : PageRow) → insert (remove m k) k v ≡ insert m k v
+again m k v = same_map nat_cmp_total nat_cmp-IsAntisymmetric (insert (remove m k) k v) (insert m k v) (λ q.
+    get_at-insert (remove m k) k v q ∙ ap (cond (q == k) (Some v)) (get_at-remove m k q) ∙ by (q == k) (get m q) ∙ sym (get_at-insert m k v q))
+  where
+    by : (b : Bool) (o : Option PageRow) → cond b (Some v) (cond b None o) ≡ cond b (Some v) o
+    by true o = refl
+    by false o = refl
+
 -- a page that moves from one kind of `from` to the other kind of `to`, once there is room for it
-module _ (old roomy : Rows PartitionState) (from to : ℕ) (kind : PageKind) (source target : PagesAndRoom) (had : pages_at old from kind ≡ Some source)
-    (there : pages_at old to (other kind) ≡ Some target) (room : HasPages old roomy to (other kind) HasOneRoom) where
-  target_is : room.before ≡ target
-  target_is = some_same (pages_at old to (other kind)) room.before target room.at there
-
-  pub source_there : pages_at roomy from kind ≡ Some source
-  source_there = ap (λ rows. pages_at rows from kind) room.rows ∙ pages_apart old to (other kind) room.after from kind (alike-other kind) ∙ had
-
-  -- the lowest that went is the lowest that was there
-  lowest_there : (page : ℕ) (left : Rows PartitionState) → HasPages roomy left from kind (HasLostLowest page) → IsLowest source.pages page
-  lowest_there page left lost = subst {A = PagesAndRoom} (λ p. IsLowest p.pages page) (some_same (pages_at roomy from kind) lost.before source lost.at source_there) lost.how.0
-
-  module _ (page : ℕ) (left : Rows PartitionState) (lost : HasPages roomy left from kind (HasLost page)) where
-    source_is : lost.before ≡ source
-    source_is = some_same (pages_at roomy from kind) lost.before source lost.at source_there
-
-    target_after : pages_at left to (other kind) ≡ Some room.after
-    target_after = ap (λ rows. pages_at rows to (other kind)) lost.rows ∙ pages_apart roomy from kind lost.after to (other kind) (other-alike kind) ∙ ap (λ rows. pages_at rows to (other kind))
-        room.rows ∙ pages_same old to (other kind) room.after room.before room.at
-
-    pub can_gain : set.contains target.pages page ≡ false → CanGain page (pages_at left to (other kind))
-    can_gain new = record {
-      there = room.after;
-      at = target_after;
-      room = room.how.1;
-      new = ap {A = set.FinSet nat_cmp} (λ ps. set.contains ps page) (room.how.0 ∙ ap {A = PagesAndRoom} (λ p. p.pages) target_is) ∙ new;
-    }
-
-    pub has_moved : (new : Rows PartitionState) → HasPages left new to (other kind) (HasGained page) → IsMoved old new from to page kind
-    has_moved new gained =
-        let before : gained.before ≡ room.after = some_same (pages_at left to (other kind)) gained.before room.after gained.at target_after in
-        record {
-          source = source;
-          had = had;
-          left = lost.after;
-          lost = lost.how ∙ ap {A = PagesAndRoom} (λ p. set.remove p.pages page) source_is;
-          target = target;
-          there = there;
-          come = gained.after;
-          gained = gained.how ∙ ap {A = set.FinSet nat_cmp} (λ ps. set.insert ps page) (ap {A = PagesAndRoom} (λ p. p.pages) before ∙ room.how.0 ∙ ap {A = PagesAndRoom} (λ p. p.pages) target_is);
-          rows = gained.rows ∙ ap (λ rows. with_pages_at rows to (other kind) gained.after) (lost.rows ∙ ap (λ rows. with_pages_at rows from kind lost.after) room.rows) ∙ again old to from kind
-              room.after lost.after gained.after;
-        }
-
--- a withdrawal, one write after another
-module _ (old roomy : Rows PartitionState) (from to : ℕ) (may : MayWithdraw old from to) (room : HasPages old roomy to Loose HasOneRoom) (page : ℕ) (left : Rows PartitionState)
-    (lowest : HasPages roomy left from Pooled (HasLostLowest page)) where
-  is_lowest : IsLowest may.pooled.pages page
-  is_lowest = lowest_there old roomy from to Pooled may.pooled may.loose may.pool may.had room page left lowest
-
-  pub loose_can_gain : CanGain page (pages_at left to Loose)
-  loose_can_gain = can_gain old roomy from to Pooled may.pooled may.loose may.pool may.had room page left (lost_lowest roomy left from page Pooled lowest) (may.apart page is_lowest.held)
-
-  pub has_withdrawn : (new : Rows PartitionState) → HasPages left new to Loose (HasGained page) → IsWithdrawn old new from to
-  unfolding has_moved
-  has_withdrawn new gained = record {
-    page = page;
-    moved = has_moved old roomy from to Pooled may.pooled may.loose may.pool may.had room page left (lost_lowest roomy left from page Pooled lowest) new gained;
-    lowest = is_lowest;
+module _ (old roomy left : Rows PartitionState) (from to page : ℕ) (pooled : Bool) (room : HasPages old roomy to (kind_of (not pooled)) HasOneRoom)
+    (lost : HasPages roomy left from (kind_of pooled) (HasLost page)) where
+  can_gain : (target : PagesAndRoom) → pages_at old to (kind_of (not pooled)) ≡ Some target → set.contains target.pages page ≡ false → CanGain page (pages_at left to (kind_of (not pooled)))
+  can_gain target at new = record {
+    there = room.after;
+    at = ap (λ rows. pages_at rows to (kind_of (not pooled))) lost.rows ∙ pages_apart roomy from pooled lost.after to ∙ ap (λ rows. pages_at rows to (kind_of (not pooled))) room.rows
+        ∙ pages_same old to (kind_of (not pooled)) room.after room.before room.at;
+    room = room.how.1;
+    new = ap {A = set.FinSet nat_cmp} (λ ps. set.contains ps page) room.how.0
+        ∙ ap {A = PagesAndRoom} (λ p. set.contains p.pages page) (some_same (pages_at old to (kind_of (not pooled))) room.before target room.at at) ∙ new;
   }
+
+  moved_tied : (new : Rows PartitionState) → HasPages left new to (kind_of (not pooled)) (HasGained page) → (f : Flat) → Refines old f → is_held from pooled (get f.page page) ≡ true → Refines new
+      (record f { page = insert f.page page (record { owner = to; pooled = not pooled }) })
+  moved_tied new gained f flat one =
+      subst (λ (m : FinMap nat_cmp PageRow). Refines new (record f { page = m })) (again f.page page (record { owner = to; pooled = not pooled }))
+      (gained_tied left new (record f { page = remove f.page page })
+      (lost_tied roomy left f (kept_tied old roomy (room_alone old roomy to (kind_of (not pooled)) room) f flat) from page pooled lost one)
+      to page (not pooled) gained (get_at-remove f.page page page ∙ ap (λ b. cond b None (get f.page page)) (eq-eqb page page refl)))
+
+-- a deposit and a withdrawal
+module _ (old roomy : Rows PartitionState) (from to : ℕ) where
+  pub loose_there : HasPages old roomy to Pooled HasOneRoom → (p : PagesAndRoom) → pages_at old from Loose ≡ Some p → pages_at roomy from Loose ≡ Some p
+  loose_there room p at = ap (λ rows. pages_at rows from Loose) room.rows ∙ pages_apart old to true room.after from ∙ at
+
+  pub pool_there : HasPages old roomy to Loose HasOneRoom → (p : PagesAndRoom) → pages_at old from Pooled ≡ Some p → pages_at roomy from Pooled ≡ Some p
+  pool_there room p at = ap (λ rows. pages_at rows from Pooled) room.rows ∙ pages_apart old to false room.after from ∙ at
+
+  module _ (left : Rows PartitionState) (page : ℕ) where
+    module _ (may : MayDeposit old from to page) (room : HasPages old roomy to Pooled HasOneRoom) (lost : HasPages roomy left from Loose (HasLost page)) where
+      pub pool_can_gain : CanGain page (pages_at left to Pooled)
+      pool_can_gain = can_gain old roomy left from to page false room lost may.pooled may.pool may.new
+
+      pub deposited_tied : (new : Rows PartitionState) → HasPages left new to Pooled (HasGained page) → (f : Flat) → Refines old f → Refines new
+          (record f { page = insert f.page page (record { owner = to; pooled = true }) })
+      deposited_tied new gained f flat = moved_tied old roomy left from to page false room lost new gained f flat (told old f flat from false may.loose may.had page ∙ may.held)
+
+    module _ (may : MayWithdraw old from to) (room : HasPages old roomy to Loose HasOneRoom) (lowest : HasPages roomy left from Pooled (HasLostLowest page)) where
+      lost : HasPages roomy left from Pooled (HasLost page)
+      lost = lost_lowest roomy left from page Pooled lowest
+
+      is_lowest : IsLowest may.pooled.pages page
+      is_lowest = subst {A = PagesAndRoom} (λ p. IsLowest p.pages page) (some_same (pages_at roomy from Pooled) lowest.before may.pooled lowest.at (pool_there room may.pooled may.pool)) lowest.how.0
+
+      pub loose_can_gain : CanGain page (pages_at left to Loose)
+      loose_can_gain = can_gain old roomy left from to page true room lost may.loose may.had (may.apart page is_lowest.held)
+
+      pub withdrawn_tied : (new : Rows PartitionState) → HasPages left new to Loose (HasGained page) → (f : Flat) → Refines old f → Refines new
+          (record f { page = withdrawn to (lowest_pooled f from) f.page })
+      withdrawn_tied new gained f flat =
+          let (r, is, same) = pages_row old from Pooled may.pooled may.pool in
+          let low = lowest_is old f flat from r is page (subst {A = PagesAndRoom} (λ p. IsLowest p.pages page) (sym same) is_lowest) in
+          subst (λ low. Refines new (record f { page = withdrawn to low f.page })) (sym low)
+          (moved_tied old roomy left from to page true room lost new gained f flat (told old f flat from true may.pooled may.pool page ∙ is_lowest.held))

@@ -1,17 +1,11 @@
 -- The changes that the calls of this call group make to the rows, and their preconditions.
-use Rattle.std.specs.Prelude.{◌≡◌, ℕ, ◌<◌, ◌≤◌, ◌^◌, true, false, Option, Some}
-use Rattle.std.specs.Option.{option_map}
+use Rattle.std.specs.Prelude.{◌≡◌, ℕ, ◌<◌, ◌≤◌, ◌^◌, true, false, Option, Some, option_map}
 use Rattle.std.specs.FinSet as set
 use Rattle.hv_pages.specs.PageSet.{PagesAndRoom, IsDisjoint, IsLowest}
 use Rattle.hv_partition.specs.Partition.{PartitionState, pages_in, with_pages}
 use Rattle.hv_partition.specs.declared.kind.PageKind.{PageKind}
 use Rattle.hv_partition.specs.declared.kind.PageKind.TheVariants.{Loose, Pooled}
 use Rattle.hv_tree.specs.Rows.{Rows, content, change}
-
--- the other kind
-abbrev pub other : PageKind → PageKind
-other Loose = Pooled
-other Pooled = Loose
 
 -- a partition's pages of a kind, with their room
 abbrev pub pages_at : Rows PartitionState → ℕ → PageKind → Option PagesAndRoom
@@ -58,28 +52,6 @@ pub record CanLose (pages : Option PagesAndRoom) : Type 0 where
   pub there : PagesAndRoom
   pub at : pages ≡ Some there
   pub some : there.pages ≡ set.empty → ⊥
-
--- a page of one kind of `from` became a page of the other kind of `to`
-pub record IsMoved (old new : Rows PartitionState) (from to page : ℕ) (kind : PageKind) : Type 0 where
-  pub source : PagesAndRoom
-  pub had : pages_at old from kind ≡ Some source
-  pub left : PagesAndRoom
-  pub lost : left.pages ≡ set.remove source.pages page
-  pub target : PagesAndRoom
-  pub there : pages_at old to (other kind) ≡ Some target
-  pub come : PagesAndRoom
-  pub gained : come.pages ≡ set.insert target.pages page
-  pub rows : new ≡ with_pages_at (with_pages_at old from kind left) to (other kind) come
-
--- a loose page of `from` went to the pool of `to`
-abbrev pub IsDeposited : Rows PartitionState → Rows PartitionState → ℕ → ℕ → ℕ → Type 0
-IsDeposited old new from to page = IsMoved old new from to page Loose
-
--- the lowest pooled page of `from` became a loose page of `to`
-pub record IsWithdrawn (old new : Rows PartitionState) (from to : ℕ) : Type 0 where
-  pub page : ℕ
-  pub moved : IsMoved old new from to page Pooled
-  pub lowest : IsLowest moved.source.pages page
 
 -- precondition of a deposit: the page is a loose page of `from`, and not in the pool of `to`
 pub record MayDeposit (rows : Rows PartitionState) (from to page : ℕ) : Type 0 where

@@ -1,10 +1,14 @@
 // The changes that a deposit and a withdrawal make to the tree: one page moves from one partition to another,
 // or within one.
-ghost use Rattle.std.specs.Prelude.{◌≡◌, IsSome, OnOk, OnErr};
+ghost use Rattle.std.specs.Prelude.{◌≡◌, true, IsSome, OnOk, OnErr};
+ghost use Rattle.std.specs.FinMap.{insert};
+ghost use Rattle.hv_policy.specs.Count.{lowest_pooled};
+ghost use Rattle.hv_policy.specs.Effect.{withdrawn};
+ghost use Rattle.hv_policy.specs.Flat.{Flat};
 ghost use Rattle.hv_refine.specs.Room.{IsSameButRoom};
+ghost use Rattle.hv_refine.specs.Tie.{Refines};
 ghost use Rattle.hv_pools.specs.Change.{CanGain, CanLose, HasGained, HasLost, HasLostLowest, HasOneRoom};
-ghost use Rattle.hv_pools.specs.Change.{HasPages, IsDeposited, IsWithdrawn, MayDeposit, MayWithdraw};
-ghost use Rattle.hv_pools.specs.Change.{pages_at};
+ghost use Rattle.hv_pools.specs.Change.{HasPages, MayDeposit, MayWithdraw, pages_at};
 
 use hv_partition::{PageKind, Partition};
 use hv_refine::Partitions;
@@ -18,13 +22,11 @@ pub fn deposit<A: Allocator>(
     page: u32,
 ) -> Result<(), AllocError>
     requires { MayDeposit tree.old from to page }
-    ensures deposited { OnOk result (IsDeposited tree.old tree.new from to page) }
+    ensures deposited { OnOk result ((f : Flat) → Refines tree.old f
+        → Refines tree.new (record f { page = insert f.page page (record { owner = to; pooled = true }) })) }
     ensures kept { OnErr result (IsSameButRoom tree.old tree.new) }
 {
-    match reserve(tree, to, PageKind::Pooled) {
-        Ok(()) => {}
-        Err(refused) => return Err(refused),
-    }
+    reserve(tree, to, PageKind::Pooled)?;
     match take(tree, from, PageKind::Loose, page) {
         Ok(()) => {}
         Err(refused) => return Err(refused),
@@ -40,13 +42,11 @@ pub fn withdraw<A: Allocator>(
     to: u64,
 ) -> Result<(), AllocError>
     requires { MayWithdraw tree.old from to }
-    ensures withdrawn { OnOk result (IsWithdrawn tree.old tree.new from to) }
+    ensures withdrawn { OnOk result ((f : Flat) → Refines tree.old f
+        → Refines tree.new (record f { page = withdrawn to (lowest_pooled f from) f.page })) }
     ensures kept { OnErr result (tree.new ≡ tree.old) }
 {
-    match reserve(tree, to, PageKind::Loose) {
-        Ok(()) => {}
-        Err(refused) => return Err(refused),
-    }
+    reserve(tree, to, PageKind::Loose)?;
     let page = take_lowest(tree, from, PageKind::Pooled);
     put(tree, to, PageKind::Loose, page);
     Ok(())

@@ -1,3 +1,2 @@
-pub mod Lent
 pub mod Linked
-pub mod Outcomes
+pub mod Needs

@@ -1,25 +1,22 @@
 -- One port or connection that came or went: the rows are tied to what the model makes of it.
-use Rattle.std.proofs.Common.{◌≡◌, ℕ, ◌==◌, ◌&&◌, Bool, true, false, cond, Option, Some, None, refl, sym, ap, subst, ◌∙◌}
-use Rattle.std.proofs.lemmas.Bool.{eqb-true}
+use Rattle.std.proofs.Common.{◌≡◌, ℕ, ◌==◌, ◌&&◌, Bool, true, false, cond, Option, Some, None, refl, sym, ap, subst, ◌∙◌, eqb-true, option_map, nat_cmp}
 use Rattle.std.specs.Cmp.{nat_cmp_total}
 use Rattle.std.specs.FinMap.{FinMap, get, insert, remove, get-insert, get-remove}
-use Rattle.std.specs.Option.{option_map}
-use Rattle.std.specs.Ordering.{nat_cmp, eq_by_cmp}
+use Rattle.std.specs.Ordering.{eq_by_cmp}
 use Rattle.hv_partition.specs.Partition.{PartitionState}
 use Rattle.hv_policy.proofs.Pairs.{pair_cmp_total, tied_pairs}
 use Rattle.hv_defs.specs.Flags.{pair_cmp}
-use Rattle.hv_policy.specs.Flat.{Flat}
-use Rattle.hv_ports.specs.Table.{TableState}
+use Rattle.hv_policy.specs.Flat.{ConnRow, Flat, PortRow}
 use Rattle.hv_ports.specs.declared.ports.Conn.{Conn}
 use Rattle.hv_ports.specs.declared.ports.Port.{Port}
+use Rattle.hv_refine.proofs.Found.{content_row}
 use Rattle.hv_refine.proofs.Links.{conns_tied, ports_tied}
 use Rattle.hv_refine.specs.Tie.{Refines, conn_row, conn_row_of, port_row, port_row_of}
-use Rattle.hv_tree.specs.Rows.{Row, Rows}
-use Rattle.hv_port_calls.specs.Change.{HasConns, HasPorts}
+use Rattle.hv_tree.specs.Rows.{Rows, change, changed_at, content}
 
 -- what is at a key of a pair after one of them was written
 module _ {X Y : Type 0} (h : X → Y) (id n : ℕ) (to : Option X) (rows : FinMap pair_cmp Y) (own : FinMap nat_cmp X) (was : (q m : ℕ) → q == id ≡ true → get rows (q, m) ≡ option_map h (get own m)) where
-  pub written : (own_after : FinMap nat_cmp X) (after : FinMap pair_cmp Y)
+  written : (own_after : FinMap nat_cmp X) (after : FinMap pair_cmp Y)
       → ((m : ℕ) → get own_after m ≡ cond (eq_by_cmp nat_cmp m n) to (get own m))
       → ((key : ℕ × ℕ) → get after key ≡ cond (eq_by_cmp pair_cmp key (id, n)) (option_map h to) (get rows key))
       → (q m : ℕ) → get after (q, m) ≡ cond (q == id) (option_map h (get own_after m)) (get rows (q, m))
@@ -34,41 +31,48 @@ module _ {X Y : Type 0} (h : X → Y) (id n : ℕ) (to : Option X) (rows : FinMa
       by true is = ap (cond (eq_by_cmp nat_cmp m n) (option_map h to)) (was q m is) ∙ one (eq_by_cmp nat_cmp m n) (get own m) ∙ sym (ap (option_map h) (here m))
       by false is = refl
 
-module _ (rows : Rows PartitionState) (f : Flat) (flat : Refines rows f) (id n : ℕ) where
-  port_was : (r : Row PartitionState) → get rows id ≡ Some r → (q m : ℕ) → q == id ≡ true → get f.port (q, m) ≡ option_map port_row_of (get r.1.ports.rows m)
-  port_was r there q m is = (flat.rows q).port m ∙ ap (port_row m) (ap (get rows) (eqb-true q id is) ∙ there)
+-- a partition that was lent from the tree, whose ports or connections changed, and put back
+module _ (rows : Rows PartitionState) (f : Flat) (flat : Refines rows f) (id n : ℕ) (p w : PartitionState) (there : Some p ≡ content rows id) where
+  port_was : (q m : ℕ) → q == id ≡ true → get f.port (q, m) ≡ option_map port_row_of (get p.ports.rows m)
+  port_was q m is =
+      let (r, at, same) = content_row rows id p there in
+      (flat.rows q).port m ∙ ap (port_row m) (ap (get rows) (eqb-true q id is) ∙ at) ∙ ap {A = PartitionState} (λ v. option_map port_row_of (get v.ports.rows m)) same
 
-  pub port_added : (new : Rows PartitionState) (x : Port) → HasPorts rows new id (λ rows. insert rows n x) → Refines new (record f { port = insert f.port (id, n) (port_row_of x) })
-  port_added new x h =
-      let after : TableState Port = record { rows = insert h.row.1.ports.rows n x; room = h.room } in
-      subst (λ rows. Refines rows (record f { port = insert f.port (id, n) (port_row_of x) })) (sym h.rows)
-      (ports_tied rows f flat id h.row h.there after (insert f.port (id, n) (port_row_of x))
-      (written port_row_of id n (Some x) f.port h.row.1.ports.rows (port_was h.row h.there) after.rows (insert f.port (id, n) (port_row_of x))
-      (λ m. get-insert nat_cmp_total h.row.1.ports.rows n x m) (λ key. get-insert pair_cmp_total f.port (id, n) (port_row_of x) key)))
+  ports_after : (to : Option Port) (m : FinMap pair_cmp PortRow) → w ≡ record p { ports = w.ports } → ((k : ℕ) → get w.ports.rows k ≡ cond (eq_by_cmp nat_cmp k n) to (get p.ports.rows k)) →
+      ((key : ℕ × ℕ) → get m key ≡ cond (eq_by_cmp pair_cmp key (id, n)) (option_map port_row_of to) (get f.port key)) → Refines (change rows id (λ _. w)) (record f { port = m })
+  ports_after to m rest here at =
+      let (r, is, same) = content_row rows id p there in
+      subst (λ rows. Refines rows (record f { port = m })) (sym (ap (changed_at rows id (λ _. w)) is ∙ ap {A = PartitionState} (λ v. insert rows id (r.0, v))
+      (rest ∙ ap {A = PartitionState} (λ q. record q { ports = w.ports }) (sym same))))
+      (ports_tied rows f flat id r is w.ports m (written port_row_of id n to f.port p.ports.rows port_was w.ports.rows m here at))
 
-  pub port_removed : (new : Rows PartitionState) → HasPorts rows new id (λ rows. remove rows n) → Refines new (record f { port = remove f.port (id, n) })
-  port_removed new h =
-      let after : TableState Port = record { rows = remove h.row.1.ports.rows n; room = h.room } in
-      subst (λ rows. Refines rows (record f { port = remove f.port (id, n) })) (sym h.rows)
-      (ports_tied rows f flat id h.row h.there after (remove f.port (id, n))
-      (written port_row_of id n None f.port h.row.1.ports.rows (port_was h.row h.there) after.rows (remove f.port (id, n))
-      (λ m. get-remove nat_cmp_total h.row.1.ports.rows n m) (λ key. get-remove pair_cmp_total f.port (id, n) key)))
+  pub port_added : (x : Port) → w.ports.rows ≡ insert p.ports.rows n x → w ≡ record p { ports = w.ports } → Refines (change rows id (λ _. w))
+      (record f { port = insert f.port (id, n) (port_row_of x) })
+  port_added x is rest = ports_after (Some x) (insert f.port (id, n) (port_row_of x)) rest (λ k. ap {A = FinMap nat_cmp Port} (λ m. get m k) is ∙ get-insert nat_cmp_total p.ports.rows n x k)
+      (λ key. get-insert pair_cmp_total f.port (id, n) (port_row_of x) key)
 
-  conn_was : (r : Row PartitionState) → get rows id ≡ Some r → (q m : ℕ) → q == id ≡ true → get f.conn (q, m) ≡ option_map conn_row_of (get r.1.conns.rows m)
-  conn_was r there q m is = (flat.rows q).conn m ∙ ap (conn_row m) (ap (get rows) (eqb-true q id is) ∙ there)
+  pub port_removed : w.ports.rows ≡ remove p.ports.rows n → w ≡ record p { ports = w.ports } → Refines (change rows id (λ _. w)) (record f { port = remove f.port (id, n) })
+  port_removed is rest = ports_after None (remove f.port (id, n)) rest (λ k. ap {A = FinMap nat_cmp Port} (λ m. get m k) is ∙ get-remove nat_cmp_total p.ports.rows n k)
+      (λ key. get-remove pair_cmp_total f.port (id, n) key)
 
-  pub conn_added : (new : Rows PartitionState) (x : Conn) → HasConns rows new id (λ rows. insert rows n x) → Refines new (record f { conn = insert f.conn (id, n) (conn_row_of x) })
-  conn_added new x h =
-      let after : TableState Conn = record { rows = insert h.row.1.conns.rows n x; room = h.room } in
-      subst (λ rows. Refines rows (record f { conn = insert f.conn (id, n) (conn_row_of x) })) (sym h.rows)
-      (conns_tied rows f flat id h.row h.there after (insert f.conn (id, n) (conn_row_of x))
-      (written conn_row_of id n (Some x) f.conn h.row.1.conns.rows (conn_was h.row h.there) after.rows (insert f.conn (id, n) (conn_row_of x))
-      (λ m. get-insert nat_cmp_total h.row.1.conns.rows n x m) (λ key. get-insert pair_cmp_total f.conn (id, n) (conn_row_of x) key)))
+  conn_was : (q m : ℕ) → q == id ≡ true → get f.conn (q, m) ≡ option_map conn_row_of (get p.conns.rows m)
+  conn_was q m is =
+      let (r, at, same) = content_row rows id p there in
+      (flat.rows q).conn m ∙ ap (conn_row m) (ap (get rows) (eqb-true q id is) ∙ at) ∙ ap {A = PartitionState} (λ v. option_map conn_row_of (get v.conns.rows m)) same
 
-  pub conn_removed : (new : Rows PartitionState) → HasConns rows new id (λ rows. remove rows n) → Refines new (record f { conn = remove f.conn (id, n) })
-  conn_removed new h =
-      let after : TableState Conn = record { rows = remove h.row.1.conns.rows n; room = h.room } in
-      subst (λ rows. Refines rows (record f { conn = remove f.conn (id, n) })) (sym h.rows)
-      (conns_tied rows f flat id h.row h.there after (remove f.conn (id, n))
-      (written conn_row_of id n None f.conn h.row.1.conns.rows (conn_was h.row h.there) after.rows (remove f.conn (id, n))
-      (λ m. get-remove nat_cmp_total h.row.1.conns.rows n m) (λ key. get-remove pair_cmp_total f.conn (id, n) key)))
+  conns_after : (to : Option Conn) (m : FinMap pair_cmp ConnRow) → w ≡ record p { conns = w.conns } → ((k : ℕ) → get w.conns.rows k ≡ cond (eq_by_cmp nat_cmp k n) to (get p.conns.rows k)) →
+      ((key : ℕ × ℕ) → get m key ≡ cond (eq_by_cmp pair_cmp key (id, n)) (option_map conn_row_of to) (get f.conn key)) → Refines (change rows id (λ _. w)) (record f { conn = m })
+  conns_after to m rest here at =
+      let (r, is, same) = content_row rows id p there in
+      subst (λ rows. Refines rows (record f { conn = m })) (sym (ap (changed_at rows id (λ _. w)) is ∙ ap {A = PartitionState} (λ v. insert rows id (r.0, v))
+      (rest ∙ ap {A = PartitionState} (λ q. record q { conns = w.conns }) (sym same))))
+      (conns_tied rows f flat id r is w.conns m (written conn_row_of id n to f.conn p.conns.rows conn_was w.conns.rows m here at))
+
+  pub conn_added : (x : Conn) → w.conns.rows ≡ insert p.conns.rows n x → w ≡ record p { conns = w.conns } → Refines (change rows id (λ _. w))
+      (record f { conn = insert f.conn (id, n) (conn_row_of x) })
+  conn_added x is rest = conns_after (Some x) (insert f.conn (id, n) (conn_row_of x)) rest (λ k. ap {A = FinMap nat_cmp Conn} (λ m. get m k) is ∙ get-insert nat_cmp_total p.conns.rows n x k)
+      (λ key. get-insert pair_cmp_total f.conn (id, n) (conn_row_of x) key)
+
+  pub conn_removed : w.conns.rows ≡ remove p.conns.rows n → w ≡ record p { conns = w.conns } → Refines (change rows id (λ _. w)) (record f { conn = remove f.conn (id, n) })
+  conn_removed is rest = conns_after None (remove f.conn (id, n)) rest (λ k. ap {A = FinMap nat_cmp Conn} (λ m. get m k) is ∙ get-remove nat_cmp_total p.conns.rows n k)
+      (λ key. get-remove pair_cmp_total f.conn (id, n) key)

@@ -1,7 +1,9 @@
 // The changes that the calls of this call group make to the tree.
 ghost use Rattle.std.specs.Prelude.{◌≡◌, true, OnOk, OnErr};
 ghost use Rattle.std.specs.FinMap.{contains_key, insert, remove};
-ghost use Rattle.hv_port_calls.specs.Change.{HasConns, HasPorts, MayAddConn, MayAddPort};
+ghost use Rattle.hv_policy.specs.Flat.{Flat};
+ghost use Rattle.hv_refine.specs.Tie.{Refines, conn_row_of, port_row_of};
+ghost use Rattle.hv_port_calls.specs.Change.{MayAddConn, MayAddPort};
 
 use hv_ports::{Conn, Port};
 use hv_refine::Partitions;
@@ -16,7 +18,8 @@ pub fn add_port<A: Allocator>(
     row: Port,
 ) -> Result<(), AllocError>
     requires { MayAddPort tree.old id port }
-    ensures added { OnOk result (HasPorts tree.old tree.new id (λ rows. insert rows port row)) }
+    ensures added { OnOk result ((f : Flat) → Refines tree.old f
+        → Refines tree.new (record f { port = insert f.port (id, port) (port_row_of row) })) }
     ensures kept { OnErr result (tree.new ≡ tree.old) }
 {
     let Some(partition) = tree.get_mut(id) else {
@@ -30,7 +33,8 @@ pub fn add_port<A: Allocator>(
 // Removes a port from an existing partition.
 pub fn remove_port<A: Allocator>(tree: &mut Partitions<A>, id: u64, port: u32)
     requires { contains_key tree.old id ≡ true }
-    ensures { HasPorts tree.old tree.new id (λ rows. remove rows port) }
+    ensures { (f : Flat) → Refines tree.old f
+        → Refines tree.new (record f { port = remove f.port (id, port) }) }
 {
     let Some(partition) = tree.get_mut(id) else {
         unreachable!()
@@ -47,7 +51,8 @@ pub fn add_conn<A: Allocator>(
     row: Conn,
 ) -> Result<(), AllocError>
     requires { MayAddConn tree.old id connection }
-    ensures added { OnOk result (HasConns tree.old tree.new id (λ rows. insert rows connection row)) }
+    ensures added { OnOk result ((f : Flat) → Refines tree.old f
+        → Refines tree.new (record f { conn = insert f.conn (id, connection) (conn_row_of row) })) }
     ensures kept { OnErr result (tree.new ≡ tree.old) }
 {
     let Some(partition) = tree.get_mut(id) else {
@@ -61,7 +66,8 @@ pub fn add_conn<A: Allocator>(
 // Removes a connection from an existing partition.
 pub fn remove_conn<A: Allocator>(tree: &mut Partitions<A>, id: u64, connection: u32)
     requires { contains_key tree.old id ≡ true }
-    ensures { HasConns tree.old tree.new id (λ rows. remove rows connection) }
+    ensures { (f : Flat) → Refines tree.old f
+        → Refines tree.new (record f { conn = remove f.conn (id, connection) }) }
 {
     let Some(partition) = tree.get_mut(id) else {
         unreachable!()

@@ -1,12 +1,11 @@
 -- What the calls and accesses of this call group make of the rows is what the model makes of its state.
-use Rattle.std.proofs.Common.{◌≡◌, ℕ, not, Bool, true, false, nat_lt, is_some, Option, None, Some, refl, sym, ap, subst, ◌∙◌}
-use Rattle.std.proofs.lemmas.Bool.{and_parts}
-use Rattle.std.specs.FinMap.{contains_key, get, insert, remove}
-use Rattle.std.specs.Option.{option_map}
-use Rattle.hv_calls.specs.declared.call.Call.TheVariants.{CreateVp, DeleteVp, SetVpRegisters}
+use Rattle.std.proofs.Common.{◌≡◌, ℕ, not, nat_lt, is_some, Option, None, Some, refl, sym, ap, subst, ◌∙◌, option_map}
+use Rattle.std.proofs.lemmas.Bool.{and_parts, not-true}
+use Rattle.std.specs.FinMap.{contains_key, get}
+use Rattle.hv_calls.specs.declared.call.Call.TheVariants.{CreateVp}
 use Rattle.hv_partition.specs.Partition.{PartitionState}
 use Rattle.hv_policy.specs.Needs.{target_of}
-use Rattle.hv_policy.specs.Effect.{call_effect, write_msr, write_register}
+use Rattle.hv_policy.specs.Effect.{write_msr, write_register}
 use Rattle.hv_policy.specs.Flat.{Flat}
 use Rattle.hv_policy.specs.Rules.{first_unmet}
 use Rattle.hv_policy.specs.declared.event.Caller.{Caller}
@@ -16,51 +15,28 @@ use Rattle.hv_refine.specs.Served.{IsAdmitted, unmet_further}
 use Rattle.hv_refine.specs.Tie.{Refines, vp_row, vp_row_of}
 use Rattle.hv_refine.specs.Vp.{with_state_of}
 use Rattle.hv_tree.specs.Rows.{Rows, change}
-use Rattle.hv_vp.specs.Vp.{VpState, new_vp, written, written_msr}
+use Rattle.hv_vp.specs.Vp.{VpState, written_msr}
 use Rattle.hv_processors.specs.Asked.{write_asks}
-use Rattle.hv_processors.proofs.Made.{added_tied, removed_tied}
-use Rattle.hv_processors.specs.Change.{HasVps, MayAdd}
+use Rattle.hv_processors.specs.Change.{MayAdd}
 
-unless : (b : Bool) → not b ≡ true → b ≡ false
-unless true h = cc
-unless false h = refl
+mapped : (o : Option VpState) → is_some (option_map vp_row_of o) ≡ is_some o
+mapped None = refl
+mapped (Some vp) = refl
 
-module _ (rows : Rows PartitionState) (caller partition vp : ℕ) (a : IsAdmitted rows caller (CreateVp partition vp)) (met : unmet_further a.rows.flat caller (CreateVp partition vp) ≡ None) where
-  -- what a call that is served needs of the rows
-  pub may_add : (target : ℕ) → target ≡ target_of (CreateVp partition vp) caller → MayAdd rows target vp
-  may_add target at = subst (λ id. MayAdd rows id vp) (sym at) there
-    where
-      mapped : (o : Option VpState) → is_some (option_map vp_row_of o) ≡ is_some o
-      mapped None = refl
-      mapped (Some vp) = refl
-
-      there : MayAdd rows (target_of (CreateVp partition vp) caller) vp
-      there =
-          let target = target_of (CreateVp partition vp) caller in
-          let f = a.rows.flat in
-          let allowed = admitted_allowed rows caller (CreateVp partition vp) a met in
-          let (row, is) = target_row rows f a.rows.tied caller (CreateVp partition vp) allowed in
-          let (below, free) = and_parts (nat_lt vp 64) (not (contains_key f.vp (target, vp))) allowed.further.1.0 in
-          record {
-            row = row;
-            there = is;
-            free = sym (mapped (get row.1.vps.vps vp)) ∙ sym (ap is_some ((a.rows.tied.rows target).vp vp ∙ ap (vp_row vp) is)) ∙ unless (contains_key f.vp (target, vp)) free;
-          }
-
-module _ (rows new : Rows PartitionState) (f : Flat) (flat : Refines rows f) (caller partition vp target : ℕ) where
-  pub created : target ≡ target_of (CreateVp partition vp) caller → MayAdd rows target vp → HasVps rows new target (λ vps. insert vps vp (new_vp vp)) → Refines new
-      (call_effect (CreateVp partition vp) f caller (target_of (CreateVp partition vp) caller))
-  created at may h = subst (λ t. Refines new (call_effect (CreateVp partition vp) f caller t)) at (added_tied rows new f flat target vp may h)
-
-  pub deleted : target ≡ target_of (DeleteVp partition vp) caller → HasVps rows new target (λ vps. remove vps vp) → Refines new
-      (call_effect (DeleteVp partition vp) f caller (target_of (DeleteVp partition vp) caller))
-  deleted at h = subst (λ t. Refines new (call_effect (DeleteVp partition vp) f caller t)) at (removed_tied rows new f flat target vp h)
-
-  pub set : (name value : ℕ) → target ≡ target_of (SetVpRegisters partition vp name value) caller → new ≡ change rows target (with_state_of vp (written name value)) → Refines new
-      (call_effect (SetVpRegisters partition vp name value) f caller (target_of (SetVpRegisters partition vp name value) caller))
-  set name value at is =
-      subst (λ t. Refines new (call_effect (SetVpRegisters partition vp name value) f caller t)) at
-      (subst (λ rows. Refines rows (call_effect (SetVpRegisters partition vp name value) f caller target)) (sym is) (written_tied rows f flat target vp name value))
+-- what a call that is served needs of the rows
+pub may_add : (rows : Rows PartitionState) (caller partition vp : ℕ) (a : IsAdmitted rows caller (CreateVp partition vp)) → unmet_further a.rows.flat caller (CreateVp partition vp) ≡ None →
+    MayAdd rows (target_of (CreateVp partition vp) caller) vp
+may_add rows caller partition vp a met =
+    let target = target_of (CreateVp partition vp) caller in
+    let f = a.rows.flat in
+    let allowed = admitted_allowed rows caller (CreateVp partition vp) a met in
+    let (row, is) = target_row rows f a.rows.tied caller (CreateVp partition vp) allowed in
+    let (below, free) = and_parts (nat_lt vp 64) (not (contains_key f.vp (target, vp))) allowed.further.1.0 in
+    record {
+      row = row;
+      there = is;
+      free = sym (mapped (get row.1.vps.vps vp)) ∙ sym (ap is_some ((a.rows.tied.rows target).vp vp ∙ ap (vp_row vp) is)) ∙ not-true (contains_key f.vp (target, vp)) free;
+    }
 
 module _ (rows new : Rows PartitionState) (f : Flat) (flat : Refines rows f) (by : Caller) (value : ℕ) where
   pub msr_set : (name : Option ℕ) → first_unmet (write_asks f by.part name value) ≡ None → new ≡ change rows by.part (with_state_of by.vp (written_msr name value)) → Refines new

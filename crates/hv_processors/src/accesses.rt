@@ -6,7 +6,7 @@ ghost use Rattle.hv_policy.specs.declared.event.Action.TheVariants as action;
 ghost use Rattle.hv_refine.specs.Access.{IsAnswered};
 ghost use Rattle.hv_refine.specs.Tie.{Refines};
 
-use crate::own::{read_own, write_own};
+use crate::own::{own_vp, read_own};
 use hv_policy::{Caller, Output, Rule};
 use hv_refine::Partitions;
 use std::alloc::Allocator;
@@ -32,6 +32,9 @@ pub fn read_msr<A: Allocator>(
 }
 
 /// Writes one of the caller's model-specific registers. The register determines which value it keeps.
+///
+/// The write itself decides P27: if the processor rejects the value, nothing changes.
+#[tactic(auto, using(hv_tree::proofs::Laws::unchanged))]
 pub fn write_msr<A: Allocator>(
     tree: &mut Partitions<A>,
     by: Caller,
@@ -41,8 +44,12 @@ pub fn write_msr<A: Allocator>(
     ensures { (f : Flat) → Refines tree.old f → IsAnswered {A = A} f by (action.WriteMsr msr value) tree.old
         (result_map_both (λ _. []) (λ rule. rule) result) tree.new }
 {
-    match write_own(tree, by, msr, value) {
+    let vp = match own_vp(tree, by, msr) {
+        Ok(vp) => vp,
+        Err(rule) => return Err(rule),
+    };
+    match vp.write_msr(msr, value) {
         Ok(()) => Ok(()),
-        Err(rule) => Err(rule),
+        Err(_) => Err(Rule::MsrWrite),
     }
 }

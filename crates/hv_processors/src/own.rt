@@ -1,5 +1,5 @@
 // The model-specific registers of the processor that makes an access.
-ghost use Rattle.std.specs.Prelude.{◌≡◌, ◌++◌, ℕ, None, Some, IfErr, IfOk, IfSome, OnErr, OnOk};
+ghost use Rattle.std.specs.Prelude.{◌≡◌, ◌++◌, ℕ, None, Some, IfErr, IfOk, IfSome};
 ghost use Rattle.std.specs.Borrow.{LendsIfOk, sem};
 ghost use Rattle.std.specs.FinMap.{get};
 ghost use Rattle.hv_defs.specs.Registers.{name_of_msr};
@@ -9,12 +9,10 @@ ghost use Rattle.hv_policy.specs.Answer.{msr_of};
 ghost use Rattle.hv_policy.specs.Flat.{Flat};
 ghost use Rattle.hv_policy.specs.Rules.{caller_asks, first_unmet};
 ghost use Rattle.hv_refine.specs.Tie.{Refines};
-ghost use Rattle.hv_refine.specs.Vp.{with_state_of};
 ghost use Rattle.hv_tree.specs.Rows.{Rows, change, content};
 ghost use Rattle.hv_tree.specs.contracts.tree.IdTree.{the_row as tree_row};
-ghost use Rattle.hv_vp.specs.Vp.{written_msr};
 ghost use Rattle.hv_vp.specs.contracts.vp.Vp.{the_row as vp_row};
-ghost use Rattle.hv_processors.specs.Asked.{msr_asks, write_asks};
+ghost use Rattle.hv_processors.specs.Asked.{msr_asks};
 
 use hv_defs::Life;
 use hv_policy::{Caller, Rule};
@@ -44,37 +42,14 @@ pub fn read_own<A: Allocator>(tree: &mut Partitions<A>, by: Caller, msr: u32) ->
     }
 }
 
-// Checks P1 to P3, P25 and P26, and writes the register. The write itself decides P27: if the processor
-// rejects the value, nothing changes.
-#[tactic(auto, using(hv_tree::proofs::Laws::unchanged))]
-pub fn write_own<A: Allocator>(
-    tree: &mut Partitions<A>,
-    by: Caller,
-    msr: u32,
-    value: u64,
-) -> Result<(), Rule>
-    ensures written { OnOk result (tree.new
-        ≡ change tree.old by.part (with_state_of by.vp (written_msr (name_of_msr msr) value))) }
-    ensures kept { OnErr result (tree.new ≡ tree.old) }
-    ensures met { IfOk result (λ _. (f : Flat) → Refines tree.old f → (first_unmet (caller_asks f by) ≡ None)
-        × (first_unmet (write_asks f by.part (name_of_msr msr) value) ≡ None)) }
-    ensures unmet { IfErr result (λ rule. (f : Flat) → Refines tree.old f
-        → first_unmet (caller_asks f by ++ write_asks f by.part (name_of_msr msr) value) ≡ Some rule) }
-{
-    let vp = match own_vp(tree, by, msr) {
-        Ok(vp) => vp,
-        Err(rule) => return Err(rule),
-    };
-    match vp.write_msr(msr, value) {
-        Ok(()) => Ok(()),
-        Err(_) => Err(Rule::MsrWrite),
-    }
-}
-
 // Checks P1 to P3, P25 and P26, and returns the processor that makes the access, to read or change. The error
 // is the first of these rules that fails. The partitions are then unchanged.
 #[tactic(auto, using(hv_tree::proofs::Laws::unchanged))]
-fn own_vp<A: Allocator>(tree: &mut Partitions<A>, by: Caller, msr: u32) -> Result<&mut Vp<A>, Rule>
+pub fn own_vp<A: Allocator>(
+    tree: &mut Partitions<A>,
+    by: Caller,
+    msr: u32,
+) -> Result<&mut Vp<A>, Rule>
     ensures* writes_back { sem 𝓛 (LendsIfOk (tree_row (partition_row A.row A.Allocator) A.row A.Allocator)
         (vp_row A.row A.Allocator) tree.entry result
         (λ w. change tree.old by.part (λ p. with_vp_of p by.vp w)) tree.old) }

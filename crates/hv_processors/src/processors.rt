@@ -103,23 +103,6 @@ pub fn get_vp_registers<A: Allocator>(
     ensures { (f : Flat) → Refines tree.now f
         → IsOutcome f caller (call.GetVpRegisters partition vp name) tree.now result tree.now }
 {
-    if let Some(rule) = unmet_get(tree, caller, partition, vp, name) {
-        return Err(CallError::Unmet(rule));
-    }
-    Ok(register_output(register(tree, resolve_partition_id(caller, partition), vp, name)))
-}
-
-// P12, P18, P19 and P21.
-fn unmet_get<A: Allocator>(
-    tree: &Partitions<A>,
-    caller: u64,
-    partition: u64,
-    vp: u32,
-    name: u32,
-) -> Option<Rule>
-    ensures { (f : Flat) → Refines tree.now f → result
-        ≡ unmet_further f caller (call.GetVpRegisters partition vp name) }
-{
     let target = resolve_partition_id(caller, partition);
     let states = needs(&Call::GetVpRegisters {
         partition,
@@ -128,15 +111,15 @@ fn unmet_get<A: Allocator>(
     })
     .states;
     if !is_state_allowed(tree, target, states) {
-        return Some(Rule::TargetState);
+        return Err(CallError::Unmet(Rule::TargetState));
     }
     if let Some(rule) = unmet_register(tree, caller, target, vp, name) {
-        return Some(rule);
+        return Err(CallError::Unmet(rule));
     }
     if !is_known(name) {
-        return Some(Rule::Operand);
+        return Err(CallError::Unmet(Rule::Operand));
     }
-    None
+    Ok(register_output(register(tree, target, vp, name)))
 }
 
 // P18 and P19, which apply both to reading and to writing a register.
@@ -182,31 +165,6 @@ pub fn set_vp_registers<A: Allocator>(
     ensures { (f : Flat) → Refines tree.old f
         → IsOutcome f caller (call.SetVpRegisters partition vp name value) tree.old result tree.new }
 {
-    if let Some(rule) = unmet_set(tree, caller, partition, vp, name, value) {
-        return Err(CallError::Unmet(rule));
-    }
-    write(
-        tree,
-        resolve_partition_id(caller, partition),
-        vp,
-        name,
-        value,
-    );
-    Ok(CallOutput::new())
-}
-
-// P12, P18, P19 and P21.
-fn unmet_set<A: Allocator>(
-    tree: &Partitions<A>,
-    caller: u64,
-    partition: u64,
-    vp: u32,
-    name: u32,
-    value: u64,
-) -> Option<Rule>
-    ensures { (f : Flat) → Refines tree.now f → result
-        ≡ unmet_further f caller (call.SetVpRegisters partition vp name value) }
-{
     let target = resolve_partition_id(caller, partition);
     let states = needs(&Call::SetVpRegisters {
         partition,
@@ -216,13 +174,14 @@ fn unmet_set<A: Allocator>(
     })
     .states;
     if !is_state_allowed(tree, target, states) {
-        return Some(Rule::TargetState);
+        return Err(CallError::Unmet(Rule::TargetState));
     }
     if let Some(rule) = unmet_register(tree, caller, target, vp, name) {
-        return Some(rule);
+        return Err(CallError::Unmet(rule));
     }
     if !takes(name, value) {
-        return Some(Rule::Operand);
+        return Err(CallError::Unmet(Rule::Operand));
     }
-    None
+    write(tree, target, vp, name, value);
+    Ok(CallOutput::new())
 }

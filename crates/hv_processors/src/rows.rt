@@ -2,10 +2,14 @@
 ghost use Rattle.std.specs.Prelude.{◌≡◌, true, OnOk, OnErr};
 ghost use Rattle.std.specs.FinMap.{contains_key, insert};
 ghost use Rattle.std.specs.FinMap as map;
+ghost use Rattle.hv_policy.specs.Boot.{start_vp};
+ghost use Rattle.hv_policy.specs.Flat.{Flat};
+ghost use Rattle.hv_policy.specs.Mail.{mail_but_at};
 ghost use Rattle.hv_tree.specs.Rows.{change as changed};
-ghost use Rattle.hv_vp.specs.Vp.{new_vp, written};
+ghost use Rattle.hv_vp.specs.Vp.{written};
+ghost use Rattle.hv_refine.specs.Tie.{Refines};
 ghost use Rattle.hv_refine.specs.Vp.{with_state_of};
-ghost use Rattle.hv_processors.specs.Change.{HasVps, MayAdd};
+ghost use Rattle.hv_processors.specs.Change.{MayAdd};
 
 use hv_refine::Partitions;
 use hv_vp::Vp;
@@ -20,7 +24,8 @@ pub fn add<A: Allocator + Clone>(
     index: u32,
 ) -> Result<(), AllocError>
     requires { MayAdd tree.old id index }
-    ensures added { OnOk result (HasVps tree.old tree.new id (λ vps. insert vps index (new_vp index))) }
+    ensures added { OnOk result ((f : Flat) → Refines tree.old f
+        → Refines tree.new (record f { vp = insert f.vp (id, index) (start_vp index) })) }
     ensures kept { OnErr result (tree.new ≡ tree.old) }
 {
     let vp = Vp::new(alloc.clone()?, index)?;
@@ -35,7 +40,8 @@ pub fn add<A: Allocator + Clone>(
 // Removes a processor from an existing partition.
 pub fn remove<A: Allocator>(tree: &mut Partitions<A>, id: u64, index: u32)
     requires { contains_key tree.old id ≡ true }
-    ensures { HasVps tree.old tree.new id (λ vps. map.remove vps index) }
+    ensures { (f : Flat) → Refines tree.old f → Refines tree.new
+        (record f { vp = map.remove f.vp (id, index); mail = mail_but_at id index f.mail }) }
 {
     let Some(partition) = tree.get_mut(id) else {
         unreachable!()

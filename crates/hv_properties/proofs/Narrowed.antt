@@ -1,7 +1,6 @@
 -- Rows whose subtree was narrowed are tied to the model's partitions with the same subtree narrowed.
-use Rattle.std.proofs.Common.{◌≡◌, ℕ, zero, suc, ◌<◌, Bool, true, false, cond, if◌then◌else◌, Option, Some, None, refl, sym, ap, subst, ◌∙◌}
+use Rattle.std.proofs.Common.{◌≡◌, ℕ, zero, suc, ◌<◌, Bool, true, false, cond, if◌then◌else◌, Option, Some, None, refl, sym, ap, subst, ◌∙◌, option_and_then, option_map}
 use Rattle.std.specs.FinMap.{get}
-use Rattle.std.specs.Option.{option_and_then, option_map}
 use Rattle.hv_partition.specs.Partition.{PartitionState}
 use Rattle.hv_policy.proofs.Rows.{get-narrowed}
 use Rattle.hv_policy.proofs.Subtrees.{leads_tested, within_leads}

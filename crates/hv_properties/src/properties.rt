@@ -1,8 +1,7 @@
 // The calls of this call group.
-ghost use Rattle.std.specs.Prelude.{◌≡◌};
 ghost use Rattle.hv_calls.specs.declared.call.Call.TheVariants as call;
 ghost use Rattle.hv_policy.specs.Flat.{Flat};
-ghost use Rattle.hv_refine.specs.Served.{IsAdmitted, IsOutcome, unmet_further};
+ghost use Rattle.hv_refine.specs.Served.{IsAdmitted, IsOutcome};
 ghost use Rattle.hv_refine.specs.Tie.{Refines};
 
 use crate::rows::set_property;
@@ -43,41 +42,25 @@ pub fn set_partition_property<A: Allocator>(
     ensures { (f : Flat) → Refines tree.old f
         → IsOutcome f caller (call.SetPartitionProperty partition code value) tree.old result tree.new }
 {
-    if let Some(rule) = unmet_set(tree, caller, partition, code, value) {
-        return Err(CallError::Unmet(rule));
-    }
-    set_property(tree, resolve_partition_id(caller, partition), code, value);
-    Ok(CallOutput::new())
-}
-
-// P11, P12, P18 and P20.
-fn unmet_set<A: Allocator>(
-    tree: &Partitions<A>,
-    caller: u64,
-    partition: u64,
-    code: u32,
-    value: u64,
-) -> Option<Rule>
-    ensures { (f : Flat) → Refines tree.now f → result
-        ≡ unmet_further f caller (call.SetPartitionProperty partition code value) }
-{
     if !is_known(code) {
-        return Some(Rule::PropertyKnown);
+        return Err(CallError::Unmet(Rule::PropertyKnown));
     }
+    let target = resolve_partition_id(caller, partition);
     let states = needs(&Call::SetPartitionProperty {
         partition,
         code,
         value,
     })
     .states;
-    if !is_state_allowed(tree, resolve_partition_id(caller, partition), states) {
-        return Some(Rule::TargetState);
+    if !is_state_allowed(tree, target, states) {
+        return Err(CallError::Unmet(Rule::TargetState));
     }
     if !may_give(tree, caller, code, value) {
-        return Some(Rule::Entitlement);
+        return Err(CallError::Unmet(Rule::Entitlement));
     }
     if !is_in_range(code, value) {
-        return Some(Rule::PropertyRange);
+        return Err(CallError::Unmet(Rule::PropertyRange));
     }
-    None
+    set_property(tree, target, code, value);
+    Ok(CallOutput::new())
 }

@@ -2,12 +2,12 @@ use Rattle.std.proofs.Common.{rules}
 use Rattle.hv_messages.proofs.Outcomes.{slot_gone}
 use Rattle.hv_messages.proofs.accesses.clear_slot.Goals as goal
 
-pub returns-in-Ok : goal.returns-in-Ok
-returns-in-Ok g c f flat = (
+pub returns : goal.returns
+returns g c f flat = (
   c.in-Ok.ensures.met f flat,
   record {
     met = search rules;
     reply = search rules;
-    rows = slot_gone c.args.tree.now c.clear.new.tree f flat c.args.by c.args.sint c.in-Ok.ensures.cleared;
+    rows = slot_gone c.args.tree.now _ f flat c.args.by c.args.sint (search rules);
   },
 )

@@ -1,6 +1,5 @@
-use Rattle.std.proofs.Common.{ap, ◌∙◌}
+use Rattle.std.proofs.Common.{ap, ◌∙◌, nat_cmp}
 use Rattle.std.specs.FinSet as set
-use Rattle.std.specs.Ordering.{nat_cmp}
 use Rattle.hv_partition.proofs.Written.{with_twice}
 use Rattle.hv_partition.specs.Partition.{pages_in, with_pages}
 use Rattle.hv_pools.proofs.Moves.{written}

@@ -1,9 +1,7 @@
-use Rattle.std.proofs.Common.{◌≡◌, ◌==◌, true, false, not, nat_le, sym, ap, ◌∙◌, refl, rules}
+use Rattle.std.proofs.Common.{◌≡◌, ◌==◌, true, false, not, sym, ◌∙◌, refl, rules}
 use Rattle.std.specs.FinMap.{contains_key}
-use Rattle.hv_policy.specs.Count.{available}
 use Rattle.hv_policy.specs.Met.{has_available, is_in, is_kind, on_port}
 use Rattle.hv_policy.specs.Needs.{resolved_id}
-use Rattle.hv_policy.specs.declared.need.Need.{Need}
 use Rattle.hv_policy.specs.declared.need.States.TheVariants.{Active}
 use Rattle.hv_port_calls.proofs.links.unmet_connect.Goals as goal
 
@@ -17,10 +15,8 @@ returns-then-not-has_available g c f flat =
     let peer : on_port f (resolved_id c.args.caller c.args.port_partition, c.args.port) (λ row. row.peer == target) ≡ true = (let told = c.if-not-is_peer.ensures f flat in search rules) in
     let kind : on_port f (resolved_id c.args.caller c.args.port_partition, c.args.port) (λ row. is_kind row.kind c.args.kind) ≡ true = (let told = c.if-not-is_kind.ensures f flat in search rules) in
     let short : c.has_available.result ≡ false = search rules in
-    let charge : c.needs-need.result.charge ≡ 1 = ap (λ (need : Need). need.charge) c.needs-need.ensures in
-    let pages : has_available f target 1 ≡ false = ap (λ id. nat_le 1 (available f id)) (sym c.resolve_partition_id-target.ensures)
-    ∙ ap (λ n. nat_le n (available f c.resolve_partition_id-target.result)) (sym charge) ∙ sym (c.has_available.ensures f flat) ∙ short in
-    rw (state, other, free, port, peer, kind, pages) refl
+    let told : c.has_available.result ≡ has_available f target 1 = rw (c.needs-need.ensures, c.resolve_partition_id-target.ensures) at (c.has_available.ensures f flat) in
+    rw (state, other, free, port, peer, kind, sym told ∙ short) refl
 
 pub returns : goal.returns
 returns g c f flat =
@@ -32,7 +28,5 @@ returns g c f flat =
     let peer : on_port f (resolved_id c.args.caller c.args.port_partition, c.args.port) (λ row. row.peer == target) ≡ true = (let told = c.if-not-is_peer.ensures f flat in search rules) in
     let kind : on_port f (resolved_id c.args.caller c.args.port_partition, c.args.port) (λ row. is_kind row.kind c.args.kind) ≡ true = (let told = c.if-not-is_kind.ensures f flat in search rules) in
     let enough : c.has_available.result ≡ true = search rules in
-    let charge : c.needs-need.result.charge ≡ 1 = ap (λ (need : Need). need.charge) c.needs-need.ensures in
-    let pages : has_available f target 1 ≡ true = ap (λ id. nat_le 1 (available f id)) (sym c.resolve_partition_id-target.ensures)
-    ∙ ap (λ n. nat_le n (available f c.resolve_partition_id-target.result)) (sym charge) ∙ sym (c.has_available.ensures f flat) ∙ enough in
-    rw (state, other, free, port, peer, kind, pages) refl
+    let told : c.has_available.result ≡ has_available f target 1 = rw (c.needs-need.ensures, c.resolve_partition_id-target.ensures) at (c.has_available.ensures f flat) in
+    rw (state, other, free, port, peer, kind, sym told ∙ enough) refl

@@ -1,10 +1,8 @@
-use Rattle.std.proofs.Common.{◌≡◌, true, false, not, nat_le, sym, ap, ◌∙◌, refl, rules}
+use Rattle.std.proofs.Common.{◌≡◌, true, false, not, sym, ◌∙◌, refl, rules}
 use Rattle.std.specs.FinMap.{contains_key}
 use Rattle.hv_policy.specs.Aim.{has_target}
-use Rattle.hv_policy.specs.Count.{available}
 use Rattle.hv_policy.specs.Met.{has_available, is_in}
 use Rattle.hv_policy.specs.Needs.{resolved_id}
-use Rattle.hv_policy.specs.declared.need.Need.{Need}
 use Rattle.hv_policy.specs.declared.need.States.TheVariants.{Active}
 use Rattle.hv_port_calls.proofs.links.unmet_create.Goals as goal
 
@@ -16,10 +14,8 @@ returns-then-not-has_available g c f flat =
     let free : not (contains_key f.port (target, c.args.new.port)) ≡ true = (let told = c.if-has_port.ensures f flat in search rules) in
     let vp : has_target f target c.args.new.vp ≡ true = (let told = c.if-not-has_target.ensures f flat in search rules) in
     let short : c.has_available.result ≡ false = search rules in
-    let charge : c.needs-need.result.charge ≡ 1 = ap (λ (need : Need). need.charge) c.needs-need.ensures in
-    let pages : has_available f target 1 ≡ false = ap (λ id. nat_le 1 (available f id)) (sym c.resolve_partition_id-target.ensures)
-    ∙ ap (λ n. nat_le n (available f c.resolve_partition_id-target.result)) (sym charge) ∙ sym (c.has_available.ensures f flat) ∙ short in
-    rw (state, other, free, vp, pages) refl
+    let told : c.has_available.result ≡ has_available f target 1 = rw (c.needs-need.ensures, c.resolve_partition_id-target.ensures) at (c.has_available.ensures f flat) in
+    rw (state, other, free, vp, sym told ∙ short) refl
 
 pub returns : goal.returns
 returns g c f flat =
@@ -29,7 +25,5 @@ returns g c f flat =
     let free : not (contains_key f.port (target, c.args.new.port)) ≡ true = (let told = c.if-has_port.ensures f flat in search rules) in
     let vp : has_target f target c.args.new.vp ≡ true = (let told = c.if-not-has_target.ensures f flat in search rules) in
     let enough : c.has_available.result ≡ true = search rules in
-    let charge : c.needs-need.result.charge ≡ 1 = ap (λ (need : Need). need.charge) c.needs-need.ensures in
-    let pages : has_available f target 1 ≡ true = ap (λ id. nat_le 1 (available f id)) (sym c.resolve_partition_id-target.ensures)
-    ∙ ap (λ n. nat_le n (available f c.resolve_partition_id-target.result)) (sym charge) ∙ sym (c.has_available.ensures f flat) ∙ enough in
-    rw (state, other, free, vp, pages) refl
+    let told : c.has_available.result ≡ has_available f target 1 = rw (c.needs-need.ensures, c.resolve_partition_id-target.ensures) at (c.has_available.ensures f flat) in
+    rw (state, other, free, vp, sym told ∙ enough) refl

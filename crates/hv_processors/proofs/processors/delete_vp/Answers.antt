@@ -1,10 +1,9 @@
 use Rattle.std.proofs.Common.{rules}
-use Rattle.hv_processors.proofs.Outcomes.{deleted}
 use Rattle.hv_processors.proofs.processors.delete_vp.Goals as goal
 
 pub returns : goal.returns
 returns g c f flat = record {
   met = (let state = c.if-not-is_state_allowed.ensures f flat in let there = c.if-not-has_vp.ensures f flat in search rules);
   output = search rules;
-  rows = deleted c.args.tree.now c.remove.new.tree f flat c.args.caller c.args.partition c.args.vp c.resolve_partition_id-target.result c.resolve_partition_id-target.ensures c.remove.ensures;
+  rows = rw c.resolve_partition_id-target.ensures at (c.remove.ensures f flat);
 }

@@ -1,10 +1,15 @@
-use Rattle.std.proofs.Common.{sym, rules}
-use Rattle.hv_processors.proofs.Outcomes.{set}
+use Rattle.std.proofs.Common.{rules}
+use Rattle.hv_policy.specs.Needs.{resolved_id}
+use Rattle.hv_refine.proofs.Mailed.{written_tied}
 use Rattle.hv_processors.proofs.processors.set_vp_registers.Goals as goal
 
 pub returns : goal.returns
-returns g c f flat = record {
-  met = sym (c.in_default.ensures f flat);
-  output = search rules;
-  rows = set c.args.tree.now c.write.new.tree f flat c.args.caller c.args.partition c.args.vp c.resolve_partition_id.result c.args.name c.args.value c.resolve_partition_id.ensures c.write.ensures;
-}
+returns g c f flat =
+    let state = c.if-not-is_state_allowed.ensures f flat in
+    let register = c.in_default.ensures f flat in
+    record {
+      met = search rules;
+      output = search rules;
+      rows = rw (c.write.ensures, c.resolve_partition_id-target.ensures)
+          (written_tied c.args.tree.now f flat (resolved_id c.args.caller c.args.partition) c.args.vp c.args.name c.args.value);
+    }
