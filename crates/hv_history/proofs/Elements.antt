@@ -1,23 +1,20 @@
 -- A call that continues by one element.
-use Rattle.std.proofs.Common.{◌≡◌, ℕ, ◌+◌, ◌<◌, ◌≤◌, ◌≢◌, List, [], ◌∷◌, ◌++◌, length, refl, sym, subst, ap, ◌∙◌, arith, append_assoc, append-nil, length-append}
+use Rattle.std.proofs.Common.{◌≡◌, ℕ, ◌+◌, ◌-◌, ◌<◌, List, [], ◌∷◌, ◌++◌, Some, length, get_or, refl, sym, subst, ap, ◌∙◌, arith, append_assoc, length-append, get_or-append-add, slice_get}
+use Rattle.std.proofs.lemmas.Option.{slice_get_read}
 use Rattle.hv_abi.specs.declared.frame.Frame.{Frame}
 use Rattle.hv_defs.specs.declared.sizes.TheConstants.{REPS_END}
 use Rattle.hv_policy.specs.Next.{GoesOn}
-use Rattle.hv_policy.specs.Result.{HasResult}
-use Rattle.hv_policy.specs.Step.{NamesAsked}
 use Rattle.hv_policy.specs.declared.event.Action.TheVariants.{Hypercall}
 use Rattle.hv_policy.specs.declared.event.Caller.{Caller}
 use Rattle.hv_policy.specs.declared.reply.Reply.{Reply}
-use Rattle.hv_policy.specs.declared.reply.Reply.TheVariants.{Served, More, Denied, Fault}
+use Rattle.hv_policy.specs.declared.reply.Reply.TheVariants.{More}
 use Rattle.hv_history.specs.Kept.{IsTaken, Kept}
-use Rattle.hv_history.specs.Run.{AreElements, GoesOnAt, HasRun, HasStopped, IsMore, element, restart, start_of}
+use Rattle.hv_history.specs.Run.{AreElements, GoesOnAt, HasRun, HasStopped, element, restart, start_of}
 use Rattle.hv_history.specs.declared.entry.Entry.{Entry}
 
 has_index_at : (n : ℕ) (reply : Reply) → GoesOnAt n reply → n < REPS_END
 has_index_at n (More next output) is = is.1
-has_index_at n (Served output) is = absurd is
-has_index_at n (Denied rule status reps) is = absurd is
-has_index_at n (Fault rule) is = absurd is
+has_index_at n reply is = absurd is
 
 module _ {A : Type 0} where
   -- a start index that is written is read
@@ -40,71 +37,19 @@ module _ {A : Type 0} where
   elements-push by frame (e ∷ es) now reply is goes =
       (is.0, is.1, elements-push by (restart frame (start_of frame + 1)) es now reply is.2 goes)
 
-  -- The history has so many elements of a call more: all but the last, that of the frame `last`, are answered that the call goes
-  -- on, and the last has this reply.
-  pub record HasRunTo (by : Caller) (frame : Frame A) (reply : Reply) (events most : ℕ) (old now : Kept A) : Type 0 where
-    pub before : List (Entry A)
-    pub last : Frame A
-    pub elements : AreElements by frame before last
-    pub history : now.history ≡ old.history ++ (before ++ record { event = element by last; reply = reply } ∷ [])
-    pub config : now.config ≡ old.config
-    pub limit : now.limit ≡ old.limit
-    pub count : events ≡ length before + 1
-    pub within : events ≤ most
-    pub asked : NamesAsked (element by last) reply
-    pub result : HasResult reply
-    pub next : GoesOn (Hypercall last) reply
-
-  -- the first element
-  pub begun : (by : Caller) (frame : Frame A) (reply : Reply) (most : ℕ) (old now : Kept A) → 0 < most → IsTaken (element by frame) reply old now → HasRunTo by frame reply 1 most old now
-  begun by frame reply most old now some taken = record {
-    before = [];
-    last = frame;
-    elements = refl;
-    history = taken.gained.history;
-    config = taken.gained.config;
-    limit = taken.gained.limit;
-    count = refl;
-    within = some;
-    asked = taken.asked;
-    result = taken.result frame refl;
-    next = taken.next;
-  }
-
-  -- none happened
-  pub none : (by : Caller) (frame : Frame A) (most : ℕ) (old now : Kept A) → 0 < most → now ≡ old → HasStopped by frame 0 most old now
-  none by frame most old now some same =
-      subst (HasStopped by frame 0 most old) (sym same)
-      (record { before = []; now = frame; elements = refl; history = sym (append-nil old.history); config = refl; limit = refl; count = refl; within = some })
-
-  module _ (by : Caller) (frame : Frame A) (reply : Reply) (events most : ℕ) (old now : Kept A) (is : HasRunTo by frame reply events most old now) where
+  module _ (by : Caller) (frame : Frame A) (reply : Reply) (events : ℕ) (old now : Kept A) (is : HasRun by frame reply events events old now) where
     abbrev last : Entry A
     last = record { event = element by is.last; reply = reply }
 
-    -- the last event is the element's
-    pub ends_in : now.history ≡ (old.history ++ is.before) ++ last ∷ []
-    ends_in = is.history ∙ sym (append_assoc old.history is.before (last ∷ []))
-
-    -- so that there is one
-    pub some : 0 < length now.history
-    some = let n = ap length ends_in in omega (arith, length-append (old.history ++ is.before) (last ∷ []))
-
-    -- it was the last of the call, or of those that may be
-    pub ended : (events < most → IsMore reply → ⊥) → HasRun by frame reply events most old now
-    ended ends = record {
-      before = is.before;
-      last = is.last;
-      elements = is.elements;
-      history = is.history;
-      config = is.config;
-      limit = is.limit;
-      count = is.count;
-      within = is.within;
-      ends = ends;
-      asked = is.asked;
-      result = is.result;
-      next = is.next;
-    }
+    -- the last entry is the element's
+    pub ends_in : slice_get now.history (length now.history - 1) ≡ Some last
+    ends_in =
+        let xs = old.history ++ is.before in
+        let all : now.history ≡ xs ++ last ∷ [] = is.history ∙ sym (append_assoc old.history is.before (last ∷ [])) in
+        let count = ap length all in
+        let place : length now.history - 1 ≡ length xs + 0 = omega (arith, length-append xs (last ∷ [])) in
+        slice_get_read now.history (length now.history) (length now.history - 1) last refl (omega (arith, length-append xs (last ∷ [])))
+        (sym ((λ i. get_or (all i) (place i) last) ∙ get_or-append-add xs (last ∷ []) 0 last))
 
     -- the call continues
     module _ (next : ℕ) (output : List ℕ) (more : reply ≡ More next output) where
@@ -114,45 +59,41 @@ module _ {A : Type 0} where
       goes_at : GoesOnAt (start_of is.last + 1) reply
       goes_at = subst (GoesOnAt (start_of is.last + 1)) (sym more) (goes.0, (let less = goes.1 in let same = goes.0 in omega arith))
 
-      elements : AreElements by frame (is.before ++ last ∷ []) (restart is.last (start_of is.last + 1))
-      elements = elements-push by frame is.before is.last reply is.elements goes_at
-
-      -- with an element that has an index
-      pub index : next < REPS_END
-      index = goes.1
+      -- with an element that has not happened
+      paused : (most : ℕ) → events < most → HasStopped by frame events most old now
+      paused most fewer = record {
+        before = is.before ++ last ∷ [];
+        now = restart is.last (start_of is.last + 1);
+        elements = elements-push by frame is.before is.last reply is.elements goes_at;
+        history = is.history;
+        config = is.config;
+        limit = is.limit;
+        count = let c = is.count in omega (arith, length-append is.before (last ∷ []));
+        within = fewer;
+      }
 
       -- which the host refuses
-      pub stopped : (new : Kept A) → new ≡ now → events ≢ most → HasStopped by frame events most old new
-      stopped new same fewer =
-          subst (HasStopped by frame events most old) (sym same)
-          (record {
-            before = is.before ++ last ∷ [];
-            now = restart is.last (start_of is.last + 1);
-            elements = elements;
-            history = is.history;
-            config = is.config;
-            limit = is.limit;
-            count = let c = is.count in omega (arith, length-append is.before (last ∷ []));
-            within = let w = is.within in omega (arith, fewer);
-          })
+      pub stopped : (most : ℕ) (new : Kept A) → new ≡ now → events < most → HasStopped by frame events most old new
+      stopped most new same fewer = subst (HasStopped by frame events most old) (sym same) (paused most fewer)
 
       -- or which happens
-      pub goes_on : (later : Reply) (new : Kept A) (count : ℕ) → count ≡ events + 1 → events ≢ most → IsTaken (element by (restart is.last next)) later now new → HasRunTo by frame later count most old
-          new
-      goes_on later new count counted fewer taken =
-          let asked : IsTaken (element by (restart is.last (start_of is.last + 1))) later now new =
-          subst (λ n. IsTaken (element by (restart is.last n)) later now new) goes.0 taken in
-          let entry : Entry A = record { event = element by (restart is.last (start_of is.last + 1)); reply = later } in
+      pub goes_on : (later : Reply) (new : Kept A) → IsTaken (element by (restart is.last next)) later now new → HasRun by frame later (events + 1) (events + 1) old new
+      unfolding paused
+      goes_on later new taken =
+          let asked = subst (λ n. IsTaken (element by (restart is.last n)) later now new) goes.0 taken in
+          let s = paused (events + 1) (omega arith) in
+          let entry : Entry A = record { event = element by s.now; reply = later } in
           record {
-            before = is.before ++ last ∷ [];
-            last = restart is.last (start_of is.last + 1);
-            elements = elements;
-            history = asked.gained.history ∙ ap (λ (es : List (Entry A)). es ++ entry ∷ []) is.history ∙ append_assoc old.history (is.before ++ last ∷ []) (entry ∷ []);
-            config = asked.gained.config ∙ is.config;
-            limit = asked.gained.limit ∙ is.limit;
-            count = let c = is.count in omega (arith, counted, length-append is.before (last ∷ []));
-            within = let w = is.within in omega (arith, counted, fewer);
+            before = s.before;
+            last = s.now;
+            elements = s.elements;
+            history = asked.gained.history ∙ ap (λ (es : List (Entry A)). es ++ entry ∷ []) s.history ∙ append_assoc old.history s.before (entry ∷ []);
+            config = asked.gained.config ∙ s.config;
+            limit = asked.gained.limit ∙ s.limit;
+            count = ap (λ n. n + 1) s.count;
+            within = omega arith;
+            ends = λ less. absurd (omega arith);
             asked = asked.asked;
-            result = asked.result (restart is.last (start_of is.last + 1)) refl;
+            result = asked.result s.now refl;
             next = asked.next;
           }

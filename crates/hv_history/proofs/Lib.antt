@@ -1,5 +1,4 @@
 pub mod Elements
-pub mod Justified
 pub mod Paired
 pub mod Rows
 pub mod Runs

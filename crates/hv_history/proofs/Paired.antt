@@ -1,6 +1,5 @@
 -- Two histories that are runs answer members alike.
-use Rattle.std.proofs.Common.{◌≡◌, ℕ, Bool, cond, List, [], ◌∷◌, ◌++◌, length, refl, sym, subst, ap, ◌∙◌, arith}
-use Rattle.std.proofs.lemmas.List.{length-map, map-append}
+use Rattle.std.proofs.Common.{◌≡◌, ℕ, Bool, cond, List, [], ◌∷◌, ◌++◌, refl, sym, subst, ap, ◌∙◌}
 use Rattle.hv_noninterference.proofs.Beside.{alike_of_same}
 use Rattle.hv_noninterference.proofs.Runs.{replies_matched}
 use Rattle.hv_noninterference.proofs.Sends.{chain}
@@ -9,31 +8,19 @@ use Rattle.hv_noninterference.specs.Turns.{AreAnsweredAlike, IsReached, events_h
 use Rattle.hv_policy.specs.Boot.{boot}
 use Rattle.hv_policy.specs.Flat.{Flat}
 use Rattle.hv_policy.specs.Step.{run, run_from, step}
-use Rattle.hv_policy.specs.declared.event.Event.{Event}
 use Rattle.hv_machine.proofs.Integrity.{flat_same}
 use Rattle.hv_machine.specs.IsFlat.{IsFlat}
+use Rattle.hv_history.proofs.Runs.{run_more}
 use Rattle.hv_history.specs.Beside.{AreSideBySide, replies_to}
 use Rattle.hv_history.specs.Kept.{Kept, IsRun}
 use Rattle.hv_history.specs.Row.{events_of, replies_of}
 use Rattle.hv_history.specs.declared.entry.Entry.{Entry}
 
-run-append : {A : Type 0} (f : Flat) (events more : List (Event A))
-    → ((run_from f (events ++ more)).0 ≡ (run_from (run_from f events).0 more).0)
-    × ((run_from f (events ++ more)).1 ≡ (run_from f events).1 ++ (run_from (run_from f events).0 more).1)
-run-append f [] more = (refl, refl)
-run-append f (e ∷ events) more = let rest = run-append (step f e).0 events more in (rest.0, ap (λ replies. (step f e).1 ∷ replies) rest.1)
-
--- a run has a reply for each event
-one_reply : {A : Type 0} (f : Flat) (events : List (Event A)) → length (run_from f events).1 ≡ length events
-one_reply f [] = refl
-one_reply f (e ∷ events) = let rest = one_reply (step f e).0 events in omega (arith, rest)
-
--- what comes behind first parts that are equally long
-behind : {X : Type 0} (first rest one more : List X) → length first ≡ length one → first ++ rest ≡ one ++ more → rest ≡ more
-behind [] rest [] more long same = same
-behind [] rest (y ∷ one) more long same = absurd (omega (arith, long))
-behind (x ∷ first) rest [] more long same = absurd (omega (arith, long))
-behind (x ∷ first) rest (y ∷ one) more long same = let tails : first ++ rest ≡ one ++ more = cc in behind first rest one more (omega (arith, long)) tails
+-- entries from some on have the replies of a run from the state that those before left
+told_after : {A : Type 0} (f : Flat) (before after : List (Entry A)) → replies_of (before ++ after) ≡ (run_from f (events_of (before ++ after))).1
+    → replies_of after ≡ (run_from (run_from f (events_of before)).0 (events_of after)).1
+told_after f [] after is = is
+told_after f (e ∷ before) after is = told_after (step f e.event).0 before after cc
 
 -- of entries, as of their events and replies
 own_is : {A : Type 0} (members : ℕ → Bool) (entries : List (Entry A)) → own_replies members (events_of entries) (replies_of entries) ≡ replies_to members entries
@@ -44,20 +31,12 @@ module _ {A : Type 0} (k : Kept A) (is_run : IsRun k) (before after : List (Entr
   abbrev at : Flat
   at = (run k.config (events_of before)).0
 
-  parted : events_of k.history ≡ events_of before ++ events_of after
-  parted = ap events_of is ∙ map-append (λ (entry : Entry A). entry.event) before after
-
-  -- the entries from some on have the replies of a run from the state that those before left
   told : replies_of after ≡ (run_from at (events_of after)).1
-  told =
-      let replies : replies_of k.history ≡ replies_of before ++ replies_of after = ap replies_of is ∙ map-append (λ (entry : Entry A). entry.reply) before after in
-      behind (replies_of before) (replies_of after) (run k.config (events_of before)).1 (run_from at (events_of after)).1
-      (omega (arith, length-map before (λ (entry : Entry A). entry.reply), length-map before (λ (entry : Entry A). entry.event), one_reply (boot k.config) (events_of before)))
-      (sym replies ∙ is_run.replies ∙ ap (λ events. (run k.config events).1) parted ∙ (run-append (boot k.config) (events_of before) (events_of after)).1)
+  told = told_after (boot k.config) before after (ap replies_of (sym is) ∙ is_run.replies ∙ ap (λ (es : List (Entry A)). (run k.config (events_of es)).1) is)
 
   -- and the machine stands for the state in which that ends
   ended : IsFlat k.machine (run_from at (events_of after)).0
-  ended = subst (IsFlat k.machine) (ap (λ events. (run k.config events).0) parted ∙ (run-append (boot k.config) (events_of before) (events_of after)).0) is_run.machine
+  ended = subst (IsFlat k.machine) (ap (λ (es : List (Entry A)). (run k.config (events_of es)).0) is ∙ run_more (boot k.config) before after) is_run.machine
 
   reached : IsReached A at
   reached = record { config = k.config; boots = is_run.boots; events = events_of before; is = refl }

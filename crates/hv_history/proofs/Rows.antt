@@ -1,19 +1,17 @@
 -- Rows of a history, once one comes or a head asks for another element.
-use Rattle.std.proofs.Common.{◌≡◌, ℕ, ◌+◌, ◌-◌, ◌<◌, ◌≤◌, inl, inr, List, [], ◌∷◌, ◌++◌, Some, length, take, drop, get_or, set, refl, sym, ap, subst, ◌∙◌, arith, append_assoc, length-append}
+use Rattle.std.proofs.Common.{◌≡◌, ℕ, ◌+◌, ◌-◌, ◌<◌, ◌≤◌, inl, inr, List, [], ◌∷◌, ◌++◌, Some, length, map, take, drop, get_or, set, refl, sym, ap, subst, ◌∙◌, arith, append_assoc, take_all}
+use Rattle.std.proofs.Common.{length-drop, get_or-drop, length-set, get_or-set_same, get_or-set_other, slice_get, option_map}
 use Rattle.std.proofs.Math.Seq.{drop-append_seam}
 use Rattle.std.proofs.lemmas.Bool.{cases_eq}
-use Rattle.std.proofs.lemmas.List.{length-map, take-append-le, drop-append-le, drop_more, take_all, length-drop, get_or-drop, map-append}
-use Rattle.std.proofs.lemmas.List.{get_or_append_left, get_or-append-add, length-set, get_or-set_same, get_or-set_other}
-use Rattle.std.proofs.lemmas.List.Elements.{All-head, All-push, All-tail, All-weaker}
-use Rattle.std.proofs.lemmas.Option.{get_or_from_slice_get, slice_get-get_or, slice_get-map}
-use Rattle.std.specs.List.{slice_get}
-use Rattle.std.specs.Prelude.{option_map}
+use Rattle.std.proofs.lemmas.List.{length-map, take-append-le, drop-append-le, drop_more, map-append, get_or_append_left}
+use Rattle.std.proofs.lemmas.List.Elements.{All-head, All-tail}
+use Rattle.std.proofs.lemmas.Option.{get_or_from_slice_get, slice_get_read, slice_get-map}
 use Rattle.hv_policy.specs.Parts.{reply_of}
 use Rattle.hv_policy.specs.declared.event.Action.{Action}
-use Rattle.hv_policy.specs.declared.event.Action.TheVariants.{Hypercall, ReadMsr, WriteMsr, ReadSlot, ClearSlot, ReadFlags, ClearFlag, TakeInterrupt}
+use Rattle.hv_policy.specs.declared.event.Action.TheVariants.{Hypercall}
 use Rattle.hv_policy.specs.declared.event.Event.{Event}
 use Rattle.hv_policy.specs.declared.reply.Reply.{Reply}
-use Rattle.hv_history.specs.Row.{ArePlaced, DifferInRcx, IsPlaced, asking, bytes_at, entries_of, entry_of, head_at, last_row, with_rcx}
+use Rattle.hv_history.specs.Row.{ArePlaced, DifferInRcx, IsPlaced, asking, bytes_at, entries_of, entry_of, head_at, with_rcx}
 use Rattle.hv_history.specs.declared.entry.Entry.{Entry}
 use Rattle.hv_history.specs.declared.row.Row.{Row}
 
@@ -32,53 +30,36 @@ bytes-last bytes more start len starts is =
 pub bytes-read : (bytes all : List ℕ) (start len : ℕ) → bytes ≡ all → take (start + len - start) (drop start bytes) ≡ bytes_at all start len
 bytes-read bytes all start len is = let many : start + len - start ≡ len = omega arith in λ i. take (many i) (drop start (is i))
 
--- rows stay placed among more heads and more bytes
-pub placed_in : (heads more_heads outputs more_outputs : ℕ) (rows : List Row) → heads ≤ more_heads → outputs ≤ more_outputs → ArePlaced heads outputs rows → ArePlaced more_heads more_outputs rows
-placed_in heads more_heads outputs more_outputs rows hs outs placed =
-    All-weaker (IsPlaced heads outputs) (IsPlaced more_heads more_outputs)
-    (λ row old. record {
-      head = (let head = old.head in omega arith);
-      output = (let output = old.output in omega arith);
-      most = old.most;
-      index = old.index;
-    }) rows placed
-
--- and one more is placed with them
-pub placed_more : (heads outputs more_outputs : ℕ) (rows : List Row) (row : Row) → outputs ≤ more_outputs → ArePlaced heads outputs rows → IsPlaced heads more_outputs row → ArePlaced heads
-    more_outputs (rows ++ row ∷ [])
-placed_more heads outputs more_outputs rows row outs placed is =
-    All-push (IsPlaced heads more_outputs) rows row (placed_in heads heads outputs more_outputs rows (omega arith) outs placed) is
-
 -- what was read of the rows is placed, too
 pub row_placed : (heads outputs : ℕ) (rows : List Row) (i : ℕ) (row : Row) → ArePlaced heads outputs rows → i < length rows → row ≡ get_or rows i row → IsPlaced heads outputs row
 row_placed heads outputs rows i row placed less is = subst (IsPlaced heads outputs) (sym is) (placed i row less)
 
--- the last row is the one at the last place
-pub last_is : (rows : List Row) (i : ℕ) (row : Row) → i + 1 ≡ length rows → row ≡ get_or rows i row → last_row rows ≡ row
-last_is rows i row at is =
-    let place : length rows - 1 ≡ i = omega arith in
-    ap (λ n. get_or rows n (last_row [])) place ∙ get_or_from_slice_get rows i row (last_row []) (slice_get-get_or rows i row (omega arith) ∙ ap Some (sym is))
+-- rows stand for the same where each that is placed does
+each_row : {X : Type 0} (f g : Row → X) (heads outputs : ℕ) (rows : List Row) → ArePlaced heads outputs rows → ((row : Row) → IsPlaced heads outputs row → f row ≡ g row) → map f rows ≡ map g rows
+each_row f g heads outputs [] placed same = refl
+each_row f g heads outputs (row ∷ rows) placed same =
+    let here = same row (All-head (IsPlaced heads outputs) row rows placed) in
+    let rest = each_row f g heads outputs rows (All-tail (IsPlaced heads outputs) row rows placed) same in
+    λ i. here i ∷ rest i
 
 module _ {A : Type 0} where
   -- rows stand for the same among more heads
   pub more_heads : (heads more : List (Event A)) (outputs : List ℕ) (count : ℕ) (rows : List Row) → ArePlaced (length heads) count rows
       → entries_of {A = A} (heads ++ more) outputs rows ≡ entries_of heads outputs rows
-  more_heads heads more outputs count [] placed = refl
-  more_heads heads more outputs count (row ∷ rows) placed =
-      let here = All-head (IsPlaced (length heads) count) row rows placed in
-      let head = get_or_append_left heads more (head_at [] 0) row.head here.head in
-      let rest = more_heads heads more outputs count rows (All-tail (IsPlaced (length heads) count) row rows placed) in
-      λ i. record { event = asking (head i) row.rcx; reply = reply_of row.answer (bytes_at outputs row.output row.output_len) } ∷ rest i
+  more_heads heads more outputs count rows placed =
+      each_row _ _ (length heads) count rows placed
+      (λ row is.
+      let head = get_or_append_left heads more (head_at [] 0) row.head is.head in
+      λ i. record { event = asking (head i) row.rcx; reply = reply_of row.answer (bytes_at outputs row.output row.output_len) })
 
   -- and among more outputs
   more_outputs : (heads : List (Event A)) (outputs more : List ℕ) (count : ℕ) (rows : List Row) → ArePlaced count (length outputs) rows
       → entries_of {A = A} heads (outputs ++ more) rows ≡ entries_of heads outputs rows
-  more_outputs heads outputs more count [] placed = refl
-  more_outputs heads outputs more count (row ∷ rows) placed =
-      let here = All-head (IsPlaced count (length outputs)) row rows placed in
-      let output = bytes-more outputs more row.output row.output_len here.output in
-      let rest = more_outputs heads outputs more count rows (All-tail (IsPlaced count (length outputs)) row rows placed) in
-      λ i. record { event = asking (head_at heads row.head) row.rcx; reply = reply_of row.answer (output i) } ∷ rest i
+  more_outputs heads outputs more count rows placed =
+      each_row _ _ count (length outputs) rows placed
+      (λ row is.
+      let output = bytes-more outputs more row.output row.output_len is.output in
+      λ i. record { event = asking (head_at heads row.head) row.rcx; reply = reply_of row.answer (output i) })
 
   -- one row more, whose output stands after the others, is one entry more
   pub pushed : (heads : List (Event A)) (outputs output : List ℕ) (count : ℕ) (rows : List Row) (row : Row) → ArePlaced count (length outputs) rows
@@ -92,15 +73,9 @@ module _ {A : Type 0} where
       ∙ (λ i. rest i ++ record { event = asking (head_at heads row.head) row.rcx; reply = reply_of row.answer (last i) } ∷ [])
 
   -- an event with one RCX and then another has the other
-  pub asks_again : (what : Action A) (one other : ℕ) → with_rcx (with_rcx what one) other ≡ with_rcx what other
+  asks_again : (what : Action A) (one other : ℕ) → with_rcx (with_rcx what one) other ≡ with_rcx what other
   asks_again (Hypercall frame) one other = refl
-  asks_again (ReadMsr msr) one other = refl
-  asks_again (WriteMsr msr value) one other = refl
-  asks_again (ReadSlot sint) one other = refl
-  asks_again (ClearSlot sint) one other = refl
-  asks_again (ReadFlags sint) one other = refl
-  asks_again (ClearFlag sint flag) one other = refl
-  asks_again TakeInterrupt one other = refl
+  asks_again what one other = refl
 
   again : (e : Event A) (one other : ℕ) → asking (asking e one) other ≡ asking e other
   again e one other = λ i. record { by = e.by; what = asks_again e.what one other i }
@@ -135,7 +110,7 @@ module _ {A : Type 0} where
 
   -- what was read from a place is the head there
   pub head_is : (heads : List (Event A)) (at : ℕ) (e : Event A) → at < length heads → e ≡ get_or heads at e → head_at heads at ≡ e
-  head_is heads at e less is = get_or_from_slice_get heads at e (head_at [] 0) (slice_get-get_or heads at e less ∙ ap Some (sym is))
+  head_is heads at e less is = get_or_from_slice_get heads at e (head_at [] 0) (slice_get_read heads (length heads) at e refl less is)
 
   -- a head that asks for another element is the event that it was under any other RCX
   asks : (heads : List (Event A)) (at place rcx : ℕ) (none event : Event A) → at < length heads → asking event rcx ≡ asking (head_at heads at) rcx
@@ -155,29 +130,11 @@ module _ {A : Type 0} where
   pub restarted : (heads : List (Event A)) (outputs : List ℕ) (rows : List Row) (at : ℕ) (none event : Event A) → at < length heads
       → ((rcx : ℕ) → asking event rcx ≡ asking (head_at heads at) rcx)
       → entries_of {A = A} (set (set heads at none) at event) outputs rows ≡ entries_of heads outputs rows
-  restarted heads outputs [] at none event less alike = refl
-  restarted heads outputs (row ∷ rows) at none event less alike =
-      let here = asks heads at row.head row.rcx none event less (alike row.rcx) in
-      let rest = restarted heads outputs rows at none event less alike in
-      λ i. record { event = here i; reply = reply_of row.answer (bytes_at outputs row.output row.output_len) } ∷ rest i
+  restarted heads outputs rows at none event less alike = λ i. map
+      (λ row. record { event = asks heads at row.head row.rcx none event less (alike row.rcx) i; reply = reply_of row.answer (bytes_at outputs row.output row.output_len) }) rows
 
   -- what a row stands for is the entry at its place
   pub entry_at : (heads : List (Event A)) (outputs : List ℕ) (rows : List Row) (at : ℕ) (row : Row) → at < length (entries_of {A = A} heads outputs rows) → row ≡ get_or rows at row
       → slice_get (entries_of heads outputs rows) at ≡ Some (entry_of {A = A} heads outputs row)
   entry_at heads outputs rows at row less is =
-      slice_get-map _ rows at
-      ∙ ap (option_map _) (slice_get-get_or rows at row (omega (arith, length-map rows (entry_of {A = A} heads outputs))) ∙ ap Some (sym is))
-
-  -- the last entry is what the last row stands for
-  pub last_entry : (heads : List (Event A)) (outputs : List ℕ) (rows : List Row) (i : ℕ) (before : List (Entry A)) (last : Entry A) (row : Row) → entries_of heads outputs rows ≡ before ++ last ∷ []
-      → i + 1 ≡ length rows → row ≡ get_or rows i row → last ≡ entry_of heads outputs row
-  last_entry heads outputs rows i before last row is at row_is =
-      let count = length-map rows (entry_of {A = A} heads outputs) in
-      let all = ap length is in
-      let len = length-append before (last ∷ []) in
-      let place : i ≡ length before + 0 = omega arith in
-      let there = entry_at heads outputs rows i row (omega arith) row_is in
-      let found = slice_get-get_or (entries_of {A = A} heads outputs rows) i last (omega arith) in
-      let seam : get_or (entries_of {A = A} heads outputs rows) i last ≡ last =
-      (λ j. get_or (is j) (place j) last) ∙ get_or-append-add before (last ∷ []) 0 last in
-      cc
+      slice_get-map _ rows at ∙ ap (option_map _) (slice_get_read rows _ at row (length-map rows (entry_of {A = A} heads outputs)) less is)

@@ -1,7 +1,6 @@
 -- What a history stands for.
 use Rattle.std.specs.Prelude.{ℕ, ◌-◌, ◌/◌, List, min, vec_len, vec_capacity}
-use Rattle.hv_policy.specs.declared.event.Event.{Event}
-use Rattle.hv_history.specs.Row.{entries_of, entry_from, head_at, last_row}
+use Rattle.hv_history.specs.Row.{entries_of, entry_from}
 use Rattle.hv_history.specs.declared.entry.Entry.{Entry}
 use Rattle.hv_history.specs.declared.entry.EntryRef.{EntryRef}
 use Rattle.hv_history.specs.declared.row.History.{History}
@@ -20,7 +19,3 @@ entry_by e = entry_from e.by e.asked e.input.now e.answer e.output.now
 abbrev pub room_of : {A : Type 0} → History A → ℕ
 room_of h = min (min (vec_capacity h.rows - vec_len h.rows) (vec_capacity h.heads - vec_len h.heads))
     ((vec_capacity h.outputs - vec_len h.outputs) / MOST_OUTPUT)
-
--- the head of the last event
-abbrev pub last_head : {A : Type 0} → History A → Event A
-last_head h = head_at h.heads.items (last_row h.rows.items).head

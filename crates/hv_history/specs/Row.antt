@@ -1,10 +1,8 @@
 -- The packed form of an event with its reply, and the entry that it stands for.
-use Rattle.std.specs.Prelude.{ℕ, ◌≡◌, ◌+◌, ◌-◌, ◌≤◌, ◌<◌, List, [], length, map, take, drop, slice_index_or}
-use Rattle.std.specs.List.{All}
+use Rattle.std.specs.Prelude.{ℕ, ◌≡◌, ◌+◌, ◌≤◌, ◌<◌, List, [], map, take, drop, slice_index_or, All}
 use Rattle.hv_defs.specs.declared.sizes.TheConstants.{REPS_END}
 use Rattle.hv_policy.specs.Parts.{next_in, reply_of}
 use Rattle.hv_policy.specs.declared.answer.Answer.{Answer}
-use Rattle.hv_policy.specs.declared.answer.Answer.TheVariants as answer
 use Rattle.hv_policy.specs.declared.event.Action.{Action}
 use Rattle.hv_policy.specs.declared.event.Action.TheVariants as action
 use Rattle.hv_policy.specs.declared.event.Caller.{Caller}
@@ -19,24 +17,12 @@ use Rattle.hv_history.specs.declared.row.TheConstants.{MOST_OUTPUT}
 -- RCX of a call; an access has none
 abbrev pub rcx_in : {A : Type 0} → Action A → ℕ
 rcx_in (action.Hypercall frame) = frame.rcx
-rcx_in (action.ReadMsr msr) = 0
-rcx_in (action.WriteMsr msr value) = 0
-rcx_in (action.ReadSlot sint) = 0
-rcx_in (action.ClearSlot sint) = 0
-rcx_in (action.ReadFlags sint) = 0
-rcx_in (action.ClearFlag sint flag) = 0
-rcx_in action.TakeInterrupt = 0
+rcx_in access = 0
 
 -- the action with this RCX, where it is a call
 abbrev pub with_rcx : {A : Type 0} → Action A → ℕ → Action A
 with_rcx (action.Hypercall frame) rcx = action.Hypercall (record frame { rcx = rcx })
-with_rcx (action.ReadMsr msr) rcx = action.ReadMsr msr
-with_rcx (action.WriteMsr msr value) rcx = action.WriteMsr msr value
-with_rcx (action.ReadSlot sint) rcx = action.ReadSlot sint
-with_rcx (action.ClearSlot sint) rcx = action.ClearSlot sint
-with_rcx (action.ReadFlags sint) rcx = action.ReadFlags sint
-with_rcx (action.ClearFlag sint flag) rcx = action.ClearFlag sint flag
-with_rcx action.TakeInterrupt rcx = action.TakeInterrupt
+with_rcx access rcx = access
 
 -- the event with this RCX, where it is a call
 abbrev pub asking : {A : Type 0} → Event A → ℕ → Event A
@@ -66,11 +52,6 @@ abbrev pub head_at : {A : Type 0} → List (Event A) → ℕ → Event A
 head_at heads at = slice_index_or heads at (record
     { by = record { part = 0; vp = 0 }; what = action.TakeInterrupt })
 
--- the last of some rows
-abbrev pub last_row : List Row → Row
-last_row rows = slice_index_or rows (length rows - 1)
-    (record { rcx = 0; head = 0; output = 0; output_len = 0; answer = answer.Served })
-
 -- `len` bytes from a place on
 abbrev pub bytes_at : List ℕ → ℕ → ℕ → List ℕ
 bytes_at bytes start len = take len (drop start bytes)
@@ -79,8 +60,7 @@ bytes_at bytes start len = take len (drop start bytes)
 abbrev pub entry_of : {A : Type 0} → List (Event A) → List ℕ → Row → Entry A
 entry_of heads outputs row = record {
   event = asking (head_at heads row.head) row.rcx;
-  reply = reply_of
-      row.answer (bytes_at outputs row.output row.output_len);
+  reply = reply_of row.answer (bytes_at outputs row.output row.output_len);
 }
 
 abbrev pub entries_of : {A : Type 0} → List (Event A) → List ℕ → List Row → List (Entry A)

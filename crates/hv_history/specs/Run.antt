@@ -10,7 +10,7 @@ use Rattle.hv_policy.specs.declared.event.Action.TheVariants.{Hypercall}
 use Rattle.hv_policy.specs.declared.event.Caller.{Caller}
 use Rattle.hv_policy.specs.declared.event.Event.{Event}
 use Rattle.hv_policy.specs.declared.reply.Reply.{Reply}
-use Rattle.hv_policy.specs.declared.reply.Reply.TheVariants.{Served, More, Denied, Fault}
+use Rattle.hv_policy.specs.declared.reply.Reply.TheVariants.{More}
 use Rattle.hv_history.specs.Kept.{Kept}
 use Rattle.hv_history.specs.declared.entry.Entry.{Entry}
 
@@ -29,16 +29,12 @@ element by frame = record { by = by; what = Hypercall frame }
 -- the call continues after this reply
 abbrev pub IsMore : Reply → Type 0
 IsMore (More next output) = Unit {0}
-IsMore (Served output) = ⊥
-IsMore (Denied rule status reps) = ⊥
-IsMore (Fault rule) = ⊥
+IsMore reply = ⊥
 
 -- the reply says that the call continues with the element at this index
 abbrev pub GoesOnAt : ℕ → Reply → Type 0
 GoesOnAt start (More next output) = (next ≡ start) × (start < REPS_END)
-GoesOnAt start (Served output) = ⊥
-GoesOnAt start (Denied rule status reps) = ⊥
-GoesOnAt start (Fault rule) = ⊥
+GoesOnAt start reply = ⊥
 
 -- One entry for each element of a call. The first asks for the element at the frame's start index, and each
 -- later one for the next element. Each reply says that the call continues with the next element, and `now` is

@@ -1,9 +1,9 @@
 // The history: events with their replies.
-ghost use Rattle.std.specs.Prelude.{◌≡◌, ◌+◌, ◌<◌, ◌≤◌, ◌++◌, [], ◌∷◌, ℕ, List, IsTrue, OnOk, Some};
+ghost use Rattle.std.specs.Prelude.{◌≡◌, ◌+◌, ◌-◌, ◌<◌, ◌≤◌, ◌++◌, [], ◌∷◌, ℕ, List, IsTrue, OnOk, Some};
 ghost use Rattle.std.specs.Prelude.{drop, length, slice_get, vec_len, vec_capacity};
 ghost use Rattle.hv_abi.specs.declared.frame.Frame.{Frame as CallFrame};
 ghost use Rattle.hv_defs.specs.declared.sizes.TheConstants.{REPS_END};
-ghost use Rattle.hv_history.specs.History.{entries, entry_by, last_head, room_of};
+ghost use Rattle.hv_history.specs.History.{entries, entry_by, room_of};
 ghost use Rattle.hv_history.specs.Row.{DifferInRcx, asking, head_at, rcx_in};
 ghost use Rattle.hv_history.specs.Run.{element, restart};
 ghost use Rattle.hv_history.specs.declared.entry.Entry.{Entry};
@@ -101,7 +101,8 @@ impl<A: Allocator> History<A> {
         requires from { from ≤ length (entries other.now) }
         requires alike { DifferInRcx event (drop from (entries other.now)) }
         requires room { length (entries other.now) ≤ from + room_of self.old }
-        ensures { entries self.new ≡ entries self.old ++ drop from (entries other.now) }
+        ensures pushed { entries self.new ≡ entries self.old ++ drop from (entries other.now) }
+        ensures room { room_of self.old ≤ room_of self.new + (length (entries other.now) - from) }
     {
         if from == other.len() {
             return;
@@ -163,45 +164,37 @@ impl<A: Allocator> History<A> {
         });
     }
 
-    // Makes the last event's head ask for another element of its call.
-    pub(crate) fn restart(&mut self, start: u16)
+    // Makes the last event's head ask for another element of its call. Returns the head's place.
+    pub(crate) fn restart(&mut self, start: u16) -> usize
         requires some { 0 < length (entries self.old) }
         requires index { start < REPS_END }
         ensures same { entries self.new ≡ entries self.old }
         ensures room { room_of self.new ≡ room_of self.old }
-        ensures head { (before : List (Entry A)) (last : Entry A) (frame : CallFrame A)
-            → entries self.old ≡ before ++ last ∷ [] → last.event.what ≡ Hypercall frame
-            → last_head self.new ≡ element last.event.by (restart frame start) }
+        ensures there { result < vec_len self.new.heads }
+        ensures head { (last : Entry A) (frame : CallFrame A)
+            → slice_get (entries self.old) (length (entries self.old) - 1) ≡ Some last
+            → last.event.what ≡ Hypercall frame
+            → head_at self.new.heads.items result ≡ element last.event.by (restart frame start) }
     {
         let row = self.rows[self.rows.len() - 1];
-        let nobody = Caller { part: 0, vp: 0 };
         let none = Event {
-            by: nobody,
+            by: Caller { part: 0, vp: 0 },
             what: Action::TakeInterrupt,
         };
         let event = mem::replace(&mut self.heads[row.head], none);
         self.heads[row.head] = at_element(event, row.rcx, start);
+        row.head
     }
 
-    // The last event's head.
-    pub(crate) fn last_head(&self) -> &Event<A>
-        requires { 0 < length (entries self.now) }
-        ensures { result.now ≡ last_head self.now }
-    {
-        let row = self.rows[self.rows.len() - 1];
-        &self.heads[row.head]
-    }
-
-    // Adds the event in the last event's head with its reply. There is room for it.
-    pub(crate) fn push_head(&mut self, answer: Answer, output: &[u8])
-        requires some { 0 < length (entries self.old) }
+    // Adds the event in a head with its reply. There is room for it.
+    pub(crate) fn push_head(&mut self, head: usize, answer: Answer, output: &[u8])
+        requires there { head < vec_len self.old.heads }
         requires room { 1 ≤ room_of self.old }
         requires most { length output.now ≤ MOST_OUTPUT }
         requires index { next_in (reply_of answer []) < REPS_END }
         ensures { entries self.new ≡ entries self.old
-            ++ record { event = last_head self.old; reply = reply_of answer output.now } ∷ [] }
+            ++ record { event = head_at self.old.heads.items head; reply = reply_of answer output.now } ∷ [] }
     {
-        let head = self.rows[self.rows.len() - 1].head;
         let rcx = rcx_of(&self.heads[head].what);
         self.push_row(head, rcx, answer, output);
     }
@@ -245,13 +238,7 @@ fn at_element<A: Allocator>(head: Event<A>, rcx: u64, start: u16) -> Event<A>
     let Event { by, what } = head;
     match what {
         Action::Hypercall(frame) => {
-            let Frame { rdx, r8, input, .. } = frame;
-            let frame = Frame {
-                rcx,
-                rdx,
-                r8,
-                input,
-            };
+            let frame = Frame { rcx, ..frame };
             Event {
                 by,
                 what: Action::Hypercall(frame.with_start(start)),

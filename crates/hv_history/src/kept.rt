@@ -1,6 +1,6 @@
 // The machine with its history.
-ghost use Rattle.std.specs.Prelude.{◌≡◌, ◌<◌, ◌↔◌, [], ◌∷◌, ◌++◌, ℕ, List, length, None, IsTrue, IfOk, OnErr};
-ghost use Rattle.std.specs.Prelude.{IfErr, IsErrOf};
+ghost use Rattle.std.specs.Prelude.{◌≡◌, ◌-◌, ◌<◌, ◌↔◌, [], ℕ, List, length, slice_get, None, Some, IsTrue};
+ghost use Rattle.std.specs.Prelude.{IfOk, OnErr, IfErr, IsErrOf};
 ghost use Rattle.hv_abi.specs.declared.frame.Frame.{Frame};
 ghost use Rattle.hv_defs.specs.declared.sizes.TheConstants.{REPS_END};
 ghost use Rattle.hv_machine.specs.Access.{access_reply};
@@ -130,8 +130,9 @@ impl<A: Allocator + Clone> Kept<A> {
     pub(crate) fn apply_next(&mut self, start: u16) -> Result<Reply, HostRefused>
         requires some { 0 < length self.old.history }
         requires index { start < REPS_END }
-        ensures applied { (before : List (Entry A)) (last : Entry A) (frame : Frame A)
-            → self.old.history ≡ before ++ last ∷ [] → last.event.what ≡ Hypercall frame
+        ensures applied { (last : Entry A) (frame : Frame A)
+            → slice_get self.old.history (length self.old.history - 1) ≡ Some last
+            → last.event.what ≡ Hypercall frame
             → IfOk result (λ r. IsTaken (element last.event.by (restart frame start)) r self.old self.new) }
         ensures run { IsRun self.new }
         ensures full { IsErrOf result HostRefused.HistoryFull ↔ (length self.old.history ≡ self.old.limit) }
@@ -143,12 +144,14 @@ impl<A: Allocator + Clone> Kept<A> {
         if self.history.reserve(1).is_err() {
             return Err(HostRefused::Memory);
         }
-        self.history.restart(start);
-        let Ok(reply) = self.machine.step(self.history.last_head()) else {
+        let head = self.history.restart(start);
+        let history = &self.history;
+        let event = &history.heads[head];
+        let Ok(reply) = self.machine.step(event) else {
             return Err(HostRefused::Memory);
         };
         let (answer, output) = reply.parts();
-        self.history.push_head(answer, output);
+        self.history.push_head(head, answer, output);
         Ok(reply)
     }
 }

@@ -1,17 +1,9 @@
--- What a step leaves is confined, whichever flat states the machine stands for.
-use Rattle.std.proofs.Common.{◌≡◌, ℕ, ◌==◌, ◌&&◌, not, Bool, true, false, cond, Option, None, Some, refl, sym, ap, ◌∙◌}
-use Rattle.std.proofs.lemmas.Bool.{eqb-true}
+-- The flat states that a machine stands for have the same of each partition.
+use Rattle.std.proofs.Common.{◌≡◌, ℕ, ◌==◌, ◌&&◌, not, Bool, true, false, cond, Option, None, Some, refl, sym, ap, ◌∙◌, eqb-true}
 use Rattle.std.specs.FinMap.{get}
-use Rattle.hv_integrity.proofs.Apart.{both}
-use Rattle.hv_integrity.proofs.Carried.{nothing_carried, step_carried}
-use Rattle.hv_integrity.specs.Integrity.{Integrity}
 use Rattle.hv_integrity.specs.Same.{HasSame, held_by}
-use Rattle.hv_integrity.proofs.Missing.{misses}
-use Rattle.hv_integrity.specs.Misses.{LeavesOthers}
 use Rattle.hv_partition.specs.Partition.{PartitionState}
 use Rattle.hv_policy.specs.Flat.{Flat, PageRow}
-use Rattle.hv_policy.specs.Step.{step}
-use Rattle.hv_policy.specs.declared.event.Event.{Event}
 use Rattle.hv_refine.specs.Tie.{PartitionRelation, is_held}
 use Rattle.hv_tree.specs.Rows.{Row}
 use Rattle.hv_machine.specs.IsFlat.{IsFlat}
@@ -50,18 +42,3 @@ shows_same id f g row s t = record {
 
 pub flat_same : (m : State) (f g : Flat) → IsFlat m f → IsFlat m g → (id : ℕ) → HasSame id f g
 flat_same m f g s t id = shows_same id f g (get m.rows id) (s.tied.rows id) (t.tied.rows id)
-
-module _ {A : Type 0} (n : State) (e : Event A) (f g : Flat) where
-  -- what the flat step leaves, and what is as it was
-  pub step_is_confined : IsFlat n (step f e).0 → IsFlat n g → Integrity e f g
-  step_is_confined s t = step_carried f g e (flat_same n (step f e).0 g s t)
-
-  pub nothing_is_confined : IsFlat n f → IsFlat n g → Integrity e f g
-  nothing_is_confined s t = nothing_carried f g e (flat_same n f g s t)
-
-  -- and what an event isn't about is as it was
-  pub step_leaves : IsFlat n (step f e).0 → IsFlat n g → LeavesOthers e f g
-  step_leaves s t id missed = both id f (step f e).0 g (misses f e id missed) (flat_same n (step f e).0 g s t id)
-
-  pub nothing_leaves : IsFlat n f → IsFlat n g → LeavesOthers e f g
-  nothing_leaves s t id missed = flat_same n f g s t id

@@ -1,9 +1,6 @@
 pub mod Accessing
 pub mod Booted
-pub mod Calls
 pub mod Integrity
 pub mod Root
-pub mod Serving
 pub mod Sound
-pub mod Staffed
 pub mod Steps

@@ -1,6 +1,5 @@
 -- The root that boot makes, step by step.
-use Rattle.std.proofs.Common.{◌≡◌, ℕ, ◌+◌, ◌&&◌, cond, nat_le, nat_lt, None, Some, sym, ap, ◌∙◌, arith}
-use Rattle.std.proofs.lemmas.Bool.{le-leb}
+use Rattle.std.proofs.Common.{◌≡◌, ℕ, ◌&&◌, cond, nat_le, nat_lt, None, Some, sym, ap, ◌∙◌, arith, le-leb}
 use Rattle.std.specs.FinMap as map
 use Rattle.std.specs.FinSet as set
 use Rattle.hv_defs.specs.declared.life.Life.TheVariants.{Active}
@@ -8,17 +7,15 @@ use Rattle.hv_pages.specs.PageSet.{PagesAndRoom}
 use Rattle.hv_partition.specs.Partition.{PartitionState, new_partition}
 use Rattle.hv_policy.specs.declared.config.Config.{Config}
 use Rattle.hv_vp.specs.Vp.{new_vp}
-use Rattle.hv_machine.specs.BootTree.{IsBootRoot}
+use Rattle.hv_machine.specs.BootRoot.{IsBootRoot}
 
 -- given its loose pages, then its pooled ones, then its processors
 pub root_made : (config : Config) (bare loose pooled staffed : PartitionState) → bare ≡ new_partition Active config.mask
     → loose ≡ record bare { loose = loose.loose } → pooled ≡ record loose { pooled = pooled.pooled } → staffed ≡ record pooled { vps = staffed.vps }
     → ((page : ℕ) → set.contains loose.loose.pages page ≡ nat_le config.pool page && nat_lt page config.pages)
     → ((page : ℕ) → set.contains pooled.pooled.pages page ≡ nat_le 0 page && nat_lt page config.pool)
-    → set.len pooled.pooled.pages + 0 ≡ config.pool
-    → ((index : ℕ) → map.get staffed.vps.vps index ≡ cond (nat_lt index config.vps) (Some (new_vp index)) None)
-    → map.len staffed.vps.vps ≡ config.vps → IsBootRoot config staffed
-root_made config bare loose pooled staffed new first second third from to pool vps count =
+    → ((index : ℕ) → map.get staffed.vps.vps index ≡ cond (nat_lt index config.vps) (Some (new_vp index)) None) → IsBootRoot config staffed
+root_made config bare loose pooled staffed new first second third from to vps =
     let same_pool : staffed.pooled ≡ pooled.pooled = ap (λ (p : PartitionState). p.pooled) third in
     let same_loose : staffed.loose ≡ loose.loose = ap (λ (p : PartitionState). p.loose) third ∙ ap (λ (p : PartitionState). p.loose) second in
     record {
@@ -27,7 +24,5 @@ root_made config bare loose pooled staffed new first second third from to pool v
           ∙ (λ i. record (new_partition Active config.mask) { loose = sym same_loose i; pooled = sym same_pool i; vps = staffed.vps });
       loose = λ page. ap (λ (s : PagesAndRoom). set.contains s.pages page) same_loose ∙ from page;
       pooled = λ page. ap (λ (s : PagesAndRoom). set.contains s.pages page) same_pool ∙ to page ∙ ap (λ b. b && nat_lt page config.pool) (le-leb 0 page (omega arith));
-      pool = ap (λ (s : PagesAndRoom). set.len s.pages) same_pool ∙ omega (arith, pool);
       vps = vps;
-      vp_count = count;
     }

@@ -1,8 +1,6 @@
 -- A machine that lasts is sound.
-use Rattle.std.proofs.Common.{◌≡◌, ℕ, true, Option, Some, None, is_some, refl, sym, ap, ◌∙◌}
-use Rattle.std.proofs.lemmas.Bool.{lt-ltb}
+use Rattle.std.proofs.Common.{◌≡◌, ℕ, true, Option, Some, None, is_some, refl, sym, ap, ◌∙◌, lt-ltb, option_map}
 use Rattle.std.specs.FinMap.{get}
-use Rattle.std.specs.Option.{option_map}
 use Rattle.hv_policy.specs.Flat.{PageRow}
 use Rattle.hv_refine.proofs.Held.{held_alone, held_by_owner}
 use Rattle.hv_refine.proofs.StateInvariant.{beyond, uses_within}

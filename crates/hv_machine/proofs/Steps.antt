@@ -1,32 +1,47 @@
 -- From what became of an event to a step.
-use Rattle.std.proofs.Common.{◌≡◌, ℕ, true, false, List, None, Some, refl, sym, ap, subst, ◌∙◌}
+use Rattle.std.proofs.Common.{◌≡◌, ℕ, ◌+◌, true, false, List, None, Some, refl, sym, ap, subst, ◌∙◌, Result, Ok, Err}
 use Rattle.std.specs.Option.{option_map_or}
-use Rattle.std.specs.declared.result.Result.{Result}
-use Rattle.std.specs.declared.result.Result.TheVariants.{Ok, Err}
+use Rattle.hv_abi.specs.Check.{call_of}
 use Rattle.hv_abi.specs.declared.frame.Frame.{Frame}
 use Rattle.hv_abi.specs.declared.frame.Shape.{Shape}
+use Rattle.hv_calls.specs.Call.{kind_of_call}
 use Rattle.hv_calls.specs.declared.call.Call.{Call}
+use Rattle.hv_calls.specs.declared.call.Call.TheVariants.{CreatePartition, SetVpRegisters, PostMessage, SignalEvent}
+use Rattle.hv_integrity.proofs.Apart.{both}
+use Rattle.hv_integrity.proofs.Carried.{nothing_carried, step_carried}
+use Rattle.hv_integrity.proofs.Missing.{misses}
+use Rattle.hv_invariants.proofs.Counted.{action_served}
+use Rattle.hv_invariants.proofs.Ended.{posted_counted, register_counted, signalled_counted}
+use Rattle.hv_invariants.proofs.Laws.{lawful_effect}
 use Rattle.hv_invariants.proofs.Replies.{has_result, names_asked}
-use Rattle.hv_policy.specs.Answer.{output_of, reply_with}
+use Rattle.hv_partition.specs.Partition.{PartitionState}
+use Rattle.hv_policy.proofs.Unmet.{all_met, caller_active, unmet_by_target, unmet_past_target}
+use Rattle.hv_policy.specs.Aim.{aim_of}
+use Rattle.hv_policy.specs.Answer.{answer, output_of, reply_with}
 use Rattle.hv_policy.specs.Call.{IsCall, call_event, may_take_memory}
-use Rattle.hv_policy.specs.Effect.{counted, served_effect}
+use Rattle.hv_policy.specs.Effect.{action_effect, call_effect, effect, served_effect}
 use Rattle.hv_policy.specs.Flat.{Flat}
-use Rattle.hv_policy.specs.Needs.{takes_memory}
+use Rattle.hv_policy.specs.Needs.{takes_memory, target_of}
 use Rattle.hv_policy.specs.Result.{HasResult}
-use Rattle.hv_policy.specs.Rules.{unmet}
+use Rattle.hv_policy.specs.Rules.{caller_asks, first_unmet, frame_asks, target_asks, unmet}
 use Rattle.hv_policy.specs.Step.{NamesAsked, refusal, step, step_by}
 use Rattle.hv_policy.specs.declared.event.Action.TheVariants.{Hypercall}
 use Rattle.hv_policy.specs.declared.event.Caller.{Caller}
 use Rattle.hv_policy.specs.declared.event.Event.{Event}
 use Rattle.hv_policy.specs.declared.reply.Reply.{Reply}
 use Rattle.hv_policy.specs.declared.rule.Rule.{Rule}
-use Rattle.hv_refine.specs.Served.{unmet_further}
+use Rattle.hv_refine.proofs.Room.{roomless_tied, same_roomless, tied_roomless}
+use Rattle.hv_refine.specs.Room.{IsSameButRoom, roomless}
+use Rattle.hv_refine.specs.Served.{IsAdmitted, IsOutcome, unmet_further}
+use Rattle.hv_refine.specs.Tie.{Refines}
+use Rattle.hv_refine.specs.declared.refused.CallError.{CallError}
 use Rattle.hv_refine.specs.declared.refused.CallError.TheVariants as refused
-use Rattle.hv_machine.proofs.Integrity.{nothing_is_confined, nothing_leaves, step_is_confined, step_leaves}
+use Rattle.hv_tree.specs.Rows.{Rows}
+use Rattle.hv_machine.proofs.Integrity.{flat_same}
 use Rattle.hv_machine.proofs.Sound.{sound}
 use Rattle.hv_machine.specs.IsFlat.{IsFlat}
 use Rattle.hv_machine.specs.MachineInvariant.{MachineInvariant}
-use Rattle.hv_machine.specs.Served.{IsDone, IsResult}
+use Rattle.hv_machine.specs.Next.{next_after}
 use Rattle.hv_machine.specs.State.{State}
 use Rattle.hv_machine.specs.Step.{IsStep}
 use Rattle.hv_machine.specs.declared.machine.HostRefused.{HostRefused}
@@ -36,73 +51,159 @@ use Rattle.hv_machine.specs.declared.machine.HostRefused.TheVariants.{Memory}
 pub same_event : {A : Type 0} {e event : Event A} {old new : State} {became : Result Reply HostRefused} → e ≡ event → IsStep e old became new → IsStep event old became new
 same_event {old = old} {new = new} {became = became} is made = subst (λ e. IsStep e old became new) is made
 
-module _ {A : Type 0} (event : Event A) (old : State) (was : MachineInvariant old) where
-  -- an event whose reply and state are those of the flat step was answered
-  pub answered : (reply : Reply) (new : State) → MachineInvariant new → new.pages ≡ old.pages
-      → ((f : Flat) → IsFlat old f → (reply ≡ (step f event).1) × IsFlat new (step f event).0) → IsStep event old (Ok reply) new
-  answered reply new now pages is =
-      let told : reply ≡ (step was.flat event).1 = (is was.flat was.stands).0 in
-      record {
-        reply = λ f flat. (is f flat).0;
-        state = λ f flat. (is f flat).1;
-        refused = λ f flat. tt;
-        memory = tt;
-        kept = tt;
-        confined = λ f g flat. step_is_confined new event f g (is f flat).1;
-        others = λ f g flat. step_leaves new event f g (is f flat).1;
-        asked = subst (NamesAsked event) (sym told) (names_asked was.flat event);
-        result = λ frame what. subst HasResult (sym (told ∙ ap (λ what. (step {A = A} was.flat (record { by = event.by; what = what })).1) what)) (has_result was.flat event.by frame);
-        lasting = now;
-        pages = pages;
-        sound = sound new now;
-      }
+-- an event whose action is the call of a frame is that frame's event
+pub call_event_is : {A : Type 0} (e : Event A) (frame : Frame A) → e.what ≡ Hypercall frame → call_event e.by frame ≡ e
+call_event_is e frame is = ap (λ what. record { by = e.by; what = what }) (sym is)
 
-  -- one that a rule refuses changes nothing
-  pub denied : (rule : Rule) (reply : Reply) (new : State) → ((f : Flat) → IsFlat old f → unmet f event ≡ Some rule) → reply ≡ refusal event.what rule → new ≡ old
-      → IsStep event old (Ok reply) new
-  denied rule reply new first told same =
-      let at = λ (f : Flat) (flat : IsFlat old f). ap (step_by f event) (first f flat) in
-      answered reply new (subst MachineInvariant (sym same) was) (ap (λ (m : State). m.pages) same)
-      (λ f flat. (told ∙ sym (ap (λ s. s.1) (at f flat)), subst (IsFlat new) (sym (ap (λ s. s.0) (at f flat))) (subst (λ m. IsFlat m f) (sym same) flat)))
+-- an event whose reply and state are those of the flat step was answered
+answered : {A : Type 0} (event : Event A) (old : State) → MachineInvariant old → (reply : Reply) (new : State) → MachineInvariant new → new.pages ≡ old.pages
+    → ((f : Flat) → IsFlat old f → (reply ≡ (step f event).1) × IsFlat new (step f event).0) → IsStep event old (Ok reply) new
+answered {A} event old was reply new now pages is =
+    let told : reply ≡ (step was.flat event).1 = (is was.flat was.stands).0 in
+    record {
+      reply = λ f flat. (is f flat).0;
+      state = λ f flat. (is f flat).1;
+      refused = λ f flat. tt;
+      memory = tt;
+      kept = tt;
+      confined = λ f g flat stands. step_carried f g event (flat_same new (step f event).0 g (is f flat).1 stands);
+      others = λ f g flat stands id missed. both id f (step f event).0 g (misses f event id missed) (flat_same new (step f event).0 g (is f flat).1 stands id);
+      asked = subst (NamesAsked event) (sym told) (names_asked was.flat event);
+      result = λ frame what. subst HasResult (sym (told ∙ ap (λ what. (step {A = A} was.flat (record { by = event.by; what = what })).1) what)) (has_result was.flat event.by frame);
+      lasting = now;
+      pages = pages;
+      sound = sound new now;
+    }
+
+-- a machine of this tree
+abbrev pub state_of : Rows PartitionState → ℕ → ℕ → ℕ → State
+state_of tree pages next served = record { rows = roomless tree; pages = pages; next = next; served = served }
+
+module _ {A : Type 0} (event : Event A) (tree new : Rows PartitionState) (pages next served : ℕ) (was : MachineInvariant (state_of tree pages next served)) where
+  abbrev old : State
+  old = state_of tree pages next served
+
+  -- an event that a rule refuses changes nothing
+  pub denied : (rule : Rule) (reply : Reply) → ((f : Flat) → IsFlat old f → (unmet f event ≡ Some rule) × (new ≡ tree)) → reply ≡ refusal event.what rule
+      → IsStep event old (Ok reply) (state_of new pages next served)
+  denied rule reply out told =
+      let at = λ (f : Flat) (flat : IsFlat old f). ap (step_by f event) (out f flat).0 in
+      subst (λ rows. IsStep event old (Ok reply) (state_of rows pages next served)) (sym (out was.flat was.stands).1)
+      (answered event old was reply old was refl (λ f flat. (told ∙ sym (ap (λ s. s.1) (at f flat)), subst (IsFlat old) (sym (ap (λ s. s.0) (at f flat))) flat)))
 
   -- nor does one for which the host has no memory
-  pub unserved : (new : State) → ((f : Flat) → IsFlat old f → unmet f event ≡ None) → may_take_memory event ≡ true → new ≡ old → IsStep event old (Err Memory) new
-  unserved new met takes same = record {
-    reply = λ f flat. tt;
-    state = λ f flat. tt;
-    refused = met;
-    memory = takes;
-    kept = same;
-    confined = λ f g flat. nothing_is_confined new event f g (subst (λ m. IsFlat m f) (sym same) flat);
-    others = λ f g flat. nothing_leaves new event f g (subst (λ m. IsFlat m f) (sym same) flat);
-    asked = tt;
-    result = λ frame what. tt;
-    lasting = subst MachineInvariant (sym same) was;
-    pages = ap (λ (m : State). m.pages) same;
-    sound = sound new (subst MachineInvariant (sym same) was);
-  }
+  unserved : ((f : Flat) → IsFlat old f → unmet f event ≡ None) → may_take_memory event ≡ true → IsSameButRoom tree new → IsStep event old (Err Memory) (state_of new pages next served)
+  unserved met takes same =
+      subst (λ rows. IsStep event old (Err Memory) (record { rows = rows; pages = pages; next = next; served = served })) (sym (same_roomless tree new same))
+      (record {
+        reply = λ f flat. tt;
+        state = λ f flat. tt;
+        refused = met;
+        memory = takes;
+        kept = refl;
+        confined = λ f g flat stands. nothing_carried f g event (flat_same old f g flat stands);
+        others = λ f g flat stands id missed. flat_same old f g flat stands id;
+        asked = tt;
+        result = λ frame what. tt;
+        lasting = was;
+        pages = refl;
+        sound = sound old was;
+      })
 
-module _ {A : Type 0} (by : Caller) (frame : Frame A) (old : State) (was : MachineInvariant old) (shape : Shape) (call : Call) (is : IsCall frame shape call)
-    (further : (f : Flat) → IsFlat old f → unmet f (call_event by frame) ≡ unmet_further f by.part call) where
-  -- a call for which P1 to P10 are met, as its call group served it
-  pub served_call : (reply : Reply) (bytes : List ℕ) (new : State) → ((f : Flat) → IsFlat old f → IsDone f by.part call bytes new) → reply ≡ reply_with frame bytes → MachineInvariant new → new.pages ≡
-      old.pages
-      → IsStep (call_event by frame) old (Ok reply) new
-  served_call reply bytes new done told now pages =
-      let at = λ (f : Flat) (flat : IsFlat old f). ap (step_by f (call_event by frame)) (further f flat ∙ (done f flat).met) in
-      answered (call_event by frame) old was reply new now pages
-      (λ f flat. (
-        told ∙ ap (reply_with frame) ((done f flat).output ∙ ap (output_of f by.part) (sym is.called)) ∙ sym (ap (λ s. s.1) (at f flat)),
-        subst (IsFlat new) (sym (ap (λ s. s.0) (at f flat) ∙ ap (λ call. counted (served_effect f by.part call)) is.called)) (done f flat).flat,
-      ))
+  -- what becomes of a flat state for which the machine stood, where the event is served
+  pub record IsMade (reply : Reply) (later : ℕ) (f : Flat) : Type 0 where
+    pub met : unmet f event ≡ None
+    pub told : reply ≡ answer f event
+    pub rows : Refines new (action_effect f event.by event.what)
+    pub follows : (action_effect f event.by event.what).next ≡ later
 
-  -- or refused it
-  pub denied_call : (rule : Rule) (reply : Reply) (new : State) → ((f : Flat) → IsFlat old f → IsResult f by.part call old (Err (refused.Unmet rule)) new) → reply ≡ refusal (Hypercall frame) rule
-      → IsStep (call_event by frame) old (Ok reply) new
-  denied_call rule reply new out told =
-      denied (call_event by frame) old was rule reply new (λ f flat. further f flat ∙ (out f flat).0) told (out was.flat was.stands).1
+  made_flat : (reply : Reply) (later : ℕ) (f : Flat) → IsFlat old f → IsMade reply later f → IsFlat (state_of new pages later (served + 1)) (effect f event)
+  made_flat reply later f flat is =
+      let shown = roomless_tied new (action_effect f event.by event.what) is.rows in
+      record {
+        tied = record { rows = λ id. (let row = shown.rows id in record { part = row.part; page = row.page; vp = row.vp; port = row.port; conn = row.conn; mail = row.mail }) };
+        next = is.follows;
+        served = ap (λ n. n + 1) (action_served event.what f event.by ∙ flat.served);
+      }
 
-  pub unserved_call : (new : State) → ((f : Flat) → IsFlat old f → IsResult f by.part call old (Err refused.Memory) new) → IsStep (call_event by frame) old (Err Memory) new
-  unserved_call new out =
-      let why = out was.flat was.stands in
-      unserved (call_event by frame) old was new (λ f flat. further f flat ∙ (out f flat).0) (ap (λ kind. option_map_or takes_memory kind false) is.named ∙ ap takes_memory (sym is.kind) ∙ why.1) why.2
+  -- an event that its call group served
+  pub served_step : (reply : Reply) (later : ℕ) → ((f : Flat) → IsFlat old f → IsMade reply later f) → IsStep event old (Ok reply) (state_of new pages later (served + 1))
+  served_step reply later made =
+      answered event old was reply (state_of new pages later (served + 1))
+      (record {
+        flat = effect was.flat event;
+        stands = made_flat reply later was.flat was.stands (made was.flat was.stands);
+        lawful = lawful_effect pages was.flat event was.lawful (made was.flat was.stands).met;
+        bounded = was.bounded;
+      }) refl
+      (λ f flat.
+      let step_is = ap (step_by f event) (made f flat).met in
+      ((made f flat).told ∙ sym (ap (λ s. s.1) step_is), subst (IsFlat (state_of new pages later (served + 1))) (sym (ap (λ s. s.0) step_is)) (made_flat reply later f flat (made f flat))))
+
+-- what a call leaves as the next id
+next_is : (call : Call) (f : Flat) (caller target : ℕ) → (call_effect call f caller target).next ≡ next_after call f.next
+next_is (CreatePartition flags) f caller target = refl
+next_is (SetVpRegisters partition vp name value) f caller target = (register_counted target vp name value f).next
+next_is (PostMessage connection message_type payload) f caller target = (posted_counted (aim_of f (target, connection)) message_type payload f).next
+next_is (SignalEvent connection flag) f caller target = (signalled_counted (aim_of f (target, connection)) flag f).next
+next_is call f caller target = refl
+
+-- a call for which P1 to P7 hold
+module _ {A : Type 0} (by : Caller) (frame : Frame A) (tree : Rows PartitionState) (shape : Shape) (call : Call) (is : IsCall frame shape call)
+    (caller_met : (f : Flat) → Refines tree f → first_unmet (caller_asks f by) ≡ None) (frame_met : first_unmet (frame_asks shape.kind frame) ≡ None) where
+  named : call_of frame ≡ Some (kind_of_call call)
+  named = is.named ∙ ap Some (sym is.kind)
+
+  kind_met : first_unmet (frame_asks (kind_of_call call) frame) ≡ None
+  kind_met = subst (λ kind. first_unmet (frame_asks kind frame) ≡ None) (sym is.kind) frame_met
+
+  -- one of P8 to P10 refuses it
+  pub target_unmet : (rule : Rule) (f : Flat) → Refines tree f → Some rule ≡ first_unmet (target_asks f by.part call) → unmet f (call_event by frame) ≡ Some rule
+  target_unmet rule f tied first = unmet_by_target f by frame (caller_met f tied) call named is.called kind_met rule (sym first)
+
+  -- or they hold, too
+  module _ (new : Rows PartitionState) (pages next served : ℕ) (was : MachineInvariant (state_of tree pages next served))
+      (target_met : (f : Flat) → Refines tree f → None ≡ first_unmet (target_asks f by.part call)) where
+    past : (f : Flat) → Refines tree f → unmet f (call_event by frame) ≡ unmet_further f by.part call
+    past f tied = unmet_past_target f by frame (caller_met f tied) call named is.called kind_met (sym (target_met f tied))
+
+    pub admitted : (a : IsAdmitted tree by.part call) × (a.rows.flat.next ≡ next)
+    admitted =
+        let tied = tied_roomless tree was.flat was.stands.tied in (
+          record {
+            rows = record { pages = pages; bounded = was.bounded; flat = was.flat; tied = tied; lawful = was.lawful };
+            active = caller_active was.flat by frame (caller_met was.flat tied);
+            target = all_met (target_asks was.flat by.part call) (sym (target_met was.flat tied));
+          },
+          was.stands.next,
+        )
+
+    -- what its call group made of it
+    module _ (became : Result (List ℕ) CallError) (out : (f : Flat) → Refines tree f → f.next ≡ next → f.served ≡ served → IsOutcome f by.part call tree became new) where
+      at : (other : Result (List ℕ) CallError) → became ≡ other → (f : Flat) → IsFlat (state_of tree pages next served) f → IsOutcome f by.part call tree other new
+      at other same f flat = subst (λ became. IsOutcome f by.part call tree became new) same (out f (tied_roomless tree f flat.tied) flat.next flat.served)
+
+      pub served_call : (reply : Reply) (bytes : List ℕ) → became ≡ Ok bytes → reply ≡ reply_with frame bytes
+          → IsStep (call_event by frame) (state_of tree pages next served) (Ok reply) (state_of new pages (next_after call next) (served + 1))
+      served_call reply bytes same told =
+          served_step (call_event by frame) tree new pages next served was reply (next_after call next)
+          (λ f flat.
+          let done = at (Ok bytes) same f flat in
+          record {
+            met = past f (tied_roomless tree f flat.tied) ∙ done.met;
+            told = told ∙ ap (reply_with frame) (done.output ∙ ap (output_of f by.part) (sym is.called));
+            rows = subst (λ call. Refines new (served_effect f by.part call)) (sym is.called) done.rows;
+            follows = ap (λ call. (served_effect f by.part call).next) is.called ∙ next_is call f by.part (target_of call by.part) ∙ ap (next_after call) flat.next;
+          })
+
+      pub denied_call : (rule : Rule) (reply : Reply) → became ≡ Err (refused.Unmet rule) → reply ≡ refusal (Hypercall frame) rule
+          → IsStep (call_event by frame) (state_of tree pages next served) (Ok reply) (state_of new pages next served)
+      denied_call rule reply same told =
+          denied (call_event by frame) tree new pages next served was rule reply
+          (λ f flat. let why = at (Err (refused.Unmet rule)) same f flat in (past f (tied_roomless tree f flat.tied) ∙ why.0, why.1)) told
+
+      pub unserved_call : became ≡ Err refused.Memory → IsStep (call_event by frame) (state_of tree pages next served) (Err Memory) (state_of new pages next served)
+      unserved_call same =
+          let why = at (Err refused.Memory) same was.flat was.stands in
+          unserved (call_event by frame) tree new pages next served was (λ f flat. past f (tied_roomless tree f flat.tied) ∙ (at (Err refused.Memory) same f flat).met)
+          (ap (λ kind. option_map_or takes_memory kind false) is.named ∙ ap takes_memory (sym is.kind) ∙ why.memory) why.rows

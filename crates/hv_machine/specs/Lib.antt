@@ -1,10 +1,9 @@
 pub mod Access
-pub mod BootTree
+pub mod BootRoot
 pub mod IsFlat
 pub mod MachineInvariant
 pub mod Masks
 pub mod Next
-pub mod Served
 pub mod Sound
 pub mod State
 pub mod Step

@@ -1,6 +1,5 @@
 -- The effect of one event on a machine.
-use Rattle.std.specs.Prelude.{◌≡◌, None, IsTrue, IfOk, OnOk, OnErr}
-use Rattle.std.specs.declared.result.Result.{Result}
+use Rattle.std.specs.Prelude.{◌≡◌, None, IsTrue, IfOk, OnOk, OnErr, Result}
 use Rattle.hv_abi.specs.declared.frame.Frame.{Frame}
 use Rattle.hv_integrity.specs.Integrity.{Integrity}
 use Rattle.hv_integrity.specs.Misses.{LeavesOthers}

@@ -1,12 +1,11 @@
 // Booting the machine.
-ghost use Rattle.std.specs.Prelude.{◌≡◌, ◌+◌, ◌≤◌, ◌&&◌, ℕ, Some, None, cond, nat_le, nat_lt, IfOk, IfErr};
-ghost use Rattle.std.specs.Prelude.{OnOk};
+ghost use Rattle.std.specs.Prelude.{◌≡◌, ◌≤◌, ◌&&◌, ℕ, Some, None, cond, nat_le, nat_lt, IfOk, IfErr, OnOk};
 ghost use Rattle.std.specs.FinMap as map;
 ghost use Rattle.std.specs.FinSet as set;
-ghost use Rattle.hv_partition.specs.Partition.{new_partition, pages_in, with_pages};
+ghost use Rattle.hv_partition.specs.Partition.{pages_in, with_pages};
 ghost use Rattle.hv_policy.specs.Boot.{boot as booted};
 ghost use Rattle.hv_policy.specs.BootFault.{boot_fault, IsBootRefusal};
-ghost use Rattle.hv_machine.specs.BootTree.{IsBootRoot, IsBootTree};
+ghost use Rattle.hv_machine.specs.BootRoot.{IsBootRoot};
 ghost use Rattle.hv_machine.specs.IsFlat.{IsFlat};
 ghost use Rattle.hv_machine.specs.MachineInvariant.{MachineInvariant};
 ghost use Rattle.hv_machine.specs.Sound.{IsSound};
@@ -34,7 +33,10 @@ impl<A: Allocator + Copy> Machine<A> {
         ensures sound { IfOk result IsSound }
     {
         check_config(config)?;
-        let Ok(tree) = make_tree(&alloc, config) else {
+        let Ok(root) = make_root(&alloc, config) else {
+            return Err(BootRefused::Memory);
+        };
+        let Ok(tree) = IdTree::new(alloc, ROOT_ID, root) else {
             return Err(BootRefused::Memory);
         };
         Ok(Machine {
@@ -67,45 +69,16 @@ fn check_config(config: Config) -> Result<(), BootRefused>
     Ok(())
 }
 
-// Makes the tree that holds only the root.
-fn make_tree<A: Allocator + Copy>(
-    alloc: &A,
-    config: Config,
-) -> Result<IdTree<Partition<A>, A>, AllocError>
-    requires { config.pool ≤ config.pages }
-    ensures { IfOk result (IsBootTree config) }
-{
-    let root = make_root(alloc, config)?;
-    match IdTree::new(*alloc, ROOT_ID, root) {
-        Ok(tree) => Ok(tree),
-        Err(_) => Err(AllocError),
-    }
-}
-
 // Makes the root partition: the first pages are pooled, the others are loose, and it has its processors.
 fn make_root<A: Allocator + Clone>(alloc: &A, config: Config) -> Result<Partition<A>, AllocError>
     requires { config.pool ≤ config.pages }
     ensures { IfOk result (IsBootRoot config) }
 {
     let mut root = Partition::new(alloc.clone()?, Life::Active, config.mask)?;
-    fill(&mut root, alloc, config)?;
+    give(&mut root, PageKind::Loose, config.pool, config.pages)?;
+    give(&mut root, PageKind::Pooled, 0, config.pool)?;
+    give_vps(&mut root, alloc, config.vps)?;
     Ok(root)
-}
-
-// Gives the new root its pages and its processors.
-fn fill<A: Allocator + Clone>(
-    root: &mut Partition<A>,
-    alloc: &A,
-    config: Config,
-) -> Result<(), AllocError>
-    requires order { config.pool ≤ config.pages }
-    requires new { root.old ≡ new_partition Life.Active config.mask }
-    ensures { OnOk result (IsBootRoot config root.new) }
-{
-    give(root, PageKind::Loose, config.pool, config.pages)?;
-    give(root, PageKind::Pooled, 0, config.pool)?;
-    give_vps(root, alloc, config.vps)?;
-    Ok(())
 }
 
 // Adds the pages from `from` up to but not including `to`, as one run.
@@ -119,7 +92,6 @@ fn give<A: Allocator>(
     requires none { (pages_in kind root.old).pages ≡ set.empty }
     ensures pages { OnOk result ((page : ℕ) → set.contains (pages_in kind root.new).pages page
         ≡ nat_le from page && nat_lt page to) }
-    ensures count { OnOk result (set.len (pages_in kind root.new).pages + from ≡ to) }
     ensures rest { root.new ≡ with_pages kind (pages_in kind root.new) root.old }
 {
     if from == to {
@@ -139,7 +111,6 @@ fn give_vps<A: Allocator + Clone>(
     requires { root.old.vps.vps ≡ map.empty }
     ensures vps { OnOk result ((index : ℕ) → map.get root.new.vps.vps index
         ≡ cond (nat_lt index to) (Some (new_vp index)) None) }
-    ensures count { OnOk result (map.len root.new.vps.vps ≡ to) }
     ensures rest { root.new ≡ record root.old { vps = root.new.vps } }
 {
     for index in 0..to {

@@ -14,7 +14,6 @@
 //! "Virtual Processor Management", "Inter-Partition Communication", "Synthetic Interrupt Controller".
 #![tactic(auto)]
 
-mod admit;
 mod boot;
 mod dispatch;
 mod machine;

@@ -1,22 +1,20 @@
 // The machine and its one step.
-ghost use Rattle.std.specs.Prelude.{◌≡◌, ◌<◌, [], None, IsTrue, IfOk, OnOk, OnErr};
+ghost use Rattle.std.specs.Prelude.{◌≡◌, ◌<◌, [], None, Some, IsTrue, IfOk, IfErr, OnOk, OnErr};
 ghost use Rattle.hv_abi.specs.Check.{IsShape, call_of};
 ghost use Rattle.hv_abi.specs.declared.frame.Frame.{Frame as CallFrame};
 ghost use Rattle.hv_integrity.specs.Integrity.{Integrity};
-ghost use Rattle.hv_invariants.specs.Bounded.{IsBounded};
 ghost use Rattle.hv_policy.specs.Call.{IsCall, call_event, may_take_memory};
 ghost use Rattle.hv_policy.specs.Flat.{Flat};
 ghost use Rattle.hv_integrity.specs.Misses.{LeavesOthers};
 ghost use Rattle.hv_policy.specs.Result.{HasResult};
 ghost use Rattle.hv_policy.specs.Step.{NamesAsked, step};
-ghost use Rattle.hv_policy.specs.Rules.{unmet};
+ghost use Rattle.hv_policy.specs.Rules.{caller_asks, first_unmet, frame_asks, target_asks, unmet};
 ghost use Rattle.hv_policy.specs.declared.event.Action.TheVariants.{Hypercall};
 ghost use Rattle.hv_refine.specs.Room.{roomless};
-ghost use Rattle.hv_refine.specs.Served.{unmet_further};
-ghost use Rattle.hv_machine.specs.Access.{HasAccess, access_event, access_reply};
+ghost use Rattle.hv_refine.specs.Tie.{Refines};
+ghost use Rattle.hv_machine.specs.Access.{access_event, access_reply};
 ghost use Rattle.hv_machine.specs.IsFlat.{IsFlat};
 ghost use Rattle.hv_machine.specs.MachineInvariant.{MachineInvariant};
-ghost use Rattle.hv_machine.specs.Served.{IsResult};
 ghost use Rattle.hv_machine.specs.Sound.{IsSound};
 ghost use Rattle.hv_machine.specs.Step.{IsStep};
 ghost use Rattle.hv_defs.specs.declared.sizes.TheConstants.{MAX_SERVED};
@@ -26,9 +24,9 @@ use hv_abi::{CallKind, Frame, InputValue, Shape};
 use hv_calls::Call;
 use hv_defs::MAX_SERVED;
 use hv_policy::{
-    Access, CallOutput, CallReply, Caller, Event, Output, Reply, Rule, refused_reply, served_reply,
+    Access, CallReply, Caller, Event, Output, Reply, Rule, ask_frame, refused_reply, served_reply,
 };
-use hv_refine::{CallError, Partitions};
+use hv_refine::{CallError, Partitions, caller_in, unmet_by_target};
 use std::alloc::Allocator;
 use std::marker::Model;
 
@@ -184,14 +182,23 @@ impl<A: Allocator + Clone> Machine<A> {
         requires named { call_of frame.now ≡ named }
         ensures { IsStep (call_event by frame.now) self.old result self.new }
     {
-        // proof: opens the machine, so its invariant holds of its fields.
-        let _ = &self.tree;
-        let (shape, call) = match self.admit(by, frame, named) {
+        let (shape, call) = match admit(&self.tree, by, frame, named) {
             Ok(admitted) => admitted,
             Err(rule) => return Ok(refused_reply(frame, rule)),
         };
-        match self.serve(by, &call) {
-            Ok(output) => Ok(served_reply(frame, shape, output)),
+        match dispatch(
+            &mut self.tree,
+            &self.alloc,
+            by.part,
+            self.next,
+            self.served,
+            &call,
+        ) {
+            Ok(output) => {
+                self.next = next_after(&call, self.next);
+                self.served += 1;
+                Ok(served_reply(frame, shape, output))
+            }
             Err(CallError::Unmet(rule)) => Ok(refused_reply(frame, rule)),
             Err(CallError::Memory) => Err(HostRefused::Memory),
         }
@@ -212,35 +219,6 @@ impl<A: Allocator + Clone> Machine<A> {
                 Ok(())
             }
             Err(rule) => Err(rule),
-        }
-    }
-
-    // Serves a call for which P1 to P10 hold if its own rules hold too.
-    // Inlined: calls for the own id in bench/embed.sh.
-    #[inline(always)]
-    fn serve(&mut self, by: Caller, call: &Call<'_>) -> Result<CallOutput, CallError>
-        requires count { self.old.served < MAX_SERVED }
-        requires bounded { IsBounded call.now }
-        requires access { (f : Flat) → IsFlat self.old f → HasAccess f by.part call.now }
-        ensures outcome { (f : Flat) → IsFlat self.old f
-            → IsResult f by.part call.now self.old result self.new }
-        ensures lasting { MachineInvariant self.new }
-        ensures pages { self.new.pages ≡ self.old.pages }
-    {
-        match dispatch(
-            &mut self.tree,
-            &self.alloc,
-            by.part,
-            self.next,
-            self.served,
-            call,
-        ) {
-            Ok(output) => {
-                self.next = next_after(call, self.next);
-                self.served += 1;
-                Ok(output)
-            }
-            Err(refused) => Err(refused),
         }
     }
 }
@@ -269,4 +247,39 @@ impl<A: Allocator> Machine<A> {
     {
         &self.tree
     }
+}
+
+// Checks P1 to P10 in the policy's order, and returns the call in a frame, together with the shape that its
+// input value gives. The error is the first of these rules that fails.
+// Inlined: calls for the own id in bench/embed.sh.
+#[inline(always)]
+fn admit<'f, A: Allocator>(
+    tree: &Partitions<A>,
+    by: Caller,
+    frame: &'f Frame<A>,
+    named: Option<CallKind>,
+) -> Result<(Shape, Call<'f>), Rule>
+    requires { call_of frame.now ≡ named }
+    ensures shape { IfOk result (λ asked. IsShape frame.now asked.0) }
+    ensures call { IfOk result (λ asked. IsCall frame.now asked.0 asked.1) }
+    ensures caller { IfOk result (λ asked. (f : Flat) → Refines tree.now f
+        → first_unmet (caller_asks f by) ≡ None) }
+    ensures frame { IfOk result (λ asked. first_unmet (frame_asks asked.0.kind frame.now) ≡ None) }
+    ensures target { IfOk result (λ asked. (f : Flat) → Refines tree.now f
+        → None ≡ first_unmet (target_asks f by.part asked.1)) }
+    ensures first { IfErr result (λ rule. (f : Flat) → Refines tree.now f
+        → unmet f (call_event by frame.now) ≡ Some rule) }
+{
+    let caller = match caller_in(tree, by) {
+        Ok(caller) => caller,
+        Err(rule) => return Err(rule),
+    };
+    let (shape, call) = match ask_frame(frame, named) {
+        Ok(asked) => asked,
+        Err(rule) => return Err(rule),
+    };
+    if let Some(rule) = unmet_by_target(tree, by, caller, &call) {
+        return Err(rule);
+    }
+    Ok((shape, call))
 }

@@ -1,7 +1,6 @@
-use Rattle.std.proofs.Common.{◌≡◌, ℕ, ◌+◌, ◌&&◌, ◌||◌, nat_le, nat_lt, false, refl, ap, ◌∙◌, arith}
-use Rattle.std.specs.Ordering.{nat_cmp}
+use Rattle.std.proofs.Common.{◌≡◌, ℕ, ◌+◌, ◌&&◌, ◌||◌, nat_le, nat_lt, false, refl, ap, ◌∙◌, arith, nat_cmp}
 use Rattle.std.specs.FinSet as set
-use Rattle.std.specs.FinSet.{contains-empty, len-empty}
+use Rattle.std.specs.FinSet.{contains-empty}
 use Rattle.hv_defs.proofs.Ranges.{no_range}
 use Rattle.hv_pages.specs.PageSet.{Pages}
 use Rattle.hv_partition.proofs.Written.{with_twice}
@@ -24,9 +23,6 @@ returns-then-from-to-clause-pages g c =
     (no_range (pages_in c.args.kind c.args.root.now).pages c.args.from c.requires.none).members page
     ∙ ap (λ e. nat_le c.args.from page && nat_lt page e) c.if-from-to.true
 
-pub returns-then-from-to-clause-count : goal.returns-then-from-to-clause-count
-returns-then-from-to-clause-count g c = (no_range (pages_in c.args.kind c.args.root.now).pages c.args.from c.requires.none).count ∙ c.if-from-to.true
-
 pub returns-then-from-to-clause-rest : goal.returns-then-from-to-clause-rest
 returns-then-from-to-clause-rest g c = with_same c.args.kind c.args.root.now
 
@@ -42,11 +38,6 @@ returns-clause-pages g c =
     c.put_run.ensures.pages page
     ∙ ap (λ b. b || (nat_le c.args.from page && nat_lt page (c.args.from + c.from.result))) absent
     ∙ ap (λ e. nat_le c.args.from page && nat_lt page e) end
-
-pub returns-clause-count : goal.returns-clause-count
-returns-clause-count g c =
-    let none = ap set.len (c.in_ok-reserve.ensures.pages ∙ c.requires.none) ∙ len-empty nat_cmp in
-    omega (arith, none, c.put_run.ensures.count, c.requires.order)
 
 pub returns-clause-rest : goal.returns-clause-rest
 returns-clause-rest g c =

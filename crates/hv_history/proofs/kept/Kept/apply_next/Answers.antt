@@ -1,10 +1,9 @@
-use Rattle.std.proofs.Common.{◌≡◌, [], ◌∷◌, ◌++◌, Ok, sym, ap, subst, ◌∙◌, arith}
-use Rattle.hv_machine.specs.Step.{IsStep}
-use Rattle.hv_policy.specs.declared.event.Event.{Event}
-use Rattle.hv_history.specs.History.{entries}
-use Rattle.hv_history.specs.Kept.{IsTaken, Kept}
+use Rattle.std.proofs.Common.{◌≡◌, ◌-◌, [], ◌∷◌, ◌++◌, List, Some, length, refl, sym, ap, subst, ◌∙◌, arith, slice_get}
+use Rattle.hv_history.proofs.Rows.{head_is}
+use Rattle.hv_history.proofs.Runs.{few, longer, on, reply_index, room}
+use Rattle.hv_history.specs.Kept.{Kept}
 use Rattle.hv_history.specs.Run.{element, restart}
-use Rattle.hv_history.proofs.Runs.{few, is_run, is_taken, new_of, reply_index, room}
+use Rattle.hv_history.specs.declared.entry.Entry.{Entry}
 use Rattle.hv_history.proofs.kept.Kept.apply_next.Goals as goal
 
 pub step-requires : goal.step-requires
@@ -17,61 +16,35 @@ step-requires g c =
 
 pub invariant_of-self-2 : goal.invariant_of-self-2
 invariant_of-self-2 g c =
-    let k : Kept g.row.A.Denot = record { config = c.self.inside.config; limit = c.self.inside.limit; history = entries c.self.inside.history; machine = c.self.inside.machine } in
     let e = c.in-Ok.ensures in
-    let event = c.last_head.result.now in
-    let step : IsStep event k.machine (Ok c.in-Ok.reply) c.step.new.self = record {
-      reply = e.reply;
-      state = e.state;
-      refused = e.refused;
-      memory = e.memory;
-      kept = e.kept;
-      confined = e.confined;
-      others = e.others;
-      asked = e.asked;
-      result = e.result;
-      lasting = e.lasting;
-      pages = e.pages;
-      sound = e.sound;
-    } in
-    let same = c.restart.ensures.same ∙ c.reserve.ensures.same in
-    let pushed : entries c.push_head.new.self ≡ k.history ++ record { event = event; reply = c.in-Ok.reply } ∷ [] =
-    c.push_head.ensures ∙ (λ i. same i ++ record { event = sym c.last_head.ensures i; reply = c.parts-answer.ensures.reply i } ∷ []) in
-    is_run k event c.in-Ok.reply c.step.new.self c.self.invariant step (entries c.push_head.new.self) pushed (room c.self.view_is c.self.invariant (c.if-is_full.ensures.1))
+    let h = c.restart-head.new.self in
+    let event = head_is h.heads.items c.restart-head.result c.index-event.result.now (omega (arith, h.heads.ok.0, c.restart-head.ensures.there)) c.index-event.ensures in
+    longer _ c.index-event.result.now c.in-Ok.reply c.self.invariant e.reply _ _
+    (c.push_head.ensures ∙ (λ i. (c.restart-head.ensures.same ∙ c.reserve.ensures.same) i ++ record { event = event i; reply = c.parts-answer.ensures.reply i } ∷ []))
+    (room c.self.view_is c.self.invariant (c.if-is_full.ensures.1)) e.state e.pages e.sound
 
 pub returns-clause-run : goal.returns-clause-run
 returns-clause-run g c = invariant_of-self-2 g c
 
 pub returns-clause-applied : goal.returns-clause-applied
-returns-clause-applied g c = λ before last frame is call.
-    let k : Kept g.row.A.Denot = record { config = c.self.inside.config; limit = c.self.inside.limit; history = entries c.self.inside.history; machine = c.self.inside.machine } in
+returns-clause-applied g c = λ last frame is call.
     let e = c.in-Ok.ensures in
-    let event = c.last_head.result.now in
-    let step : IsStep event k.machine (Ok c.in-Ok.reply) c.step.new.self = record {
-      reply = e.reply;
-      state = e.state;
-      refused = e.refused;
-      memory = e.memory;
-      kept = e.kept;
-      confined = e.confined;
-      others = e.others;
+    let h = c.restart-head.new.self in
+    let event = head_is h.heads.items c.restart-head.result c.index-event.result.now (omega (arith, h.heads.ok.0, c.restart-head.ensures.there)) c.index-event.ensures in
+    let was = sym (c.reserve.ensures.same ∙ ap (λ (k : Kept g.row.A.Denot). k.history) c.self.view_is) in
+    let ends = subst (λ (es : List (Entry g.row.A.Denot)). slice_get es (length es - 1) ≡ Some last) was is in
+    let asked : c.index-event.result.now ≡ element last.event.by (restart frame c.args.start) = sym event ∙ c.restart-head.ensures.head last frame ends call in
+    rw (← c.self.view_is, ← asked)
+    (record {
+      gained = record {
+        history = c.push_head.ensures ∙ (λ i. (c.restart-head.ensures.same ∙ c.reserve.ensures.same) i ++ record { event = event i; reply = c.parts-answer.ensures.reply i } ∷ []);
+        config = refl;
+        limit = refl;
+      };
       asked = e.asked;
       result = e.result;
-      lasting = e.lasting;
-      pages = e.pages;
-      sound = e.sound;
-    } in
-    let same = c.restart.ensures.same ∙ c.reserve.ensures.same in
-    let pushed : entries c.push_head.new.self ≡ k.history ++ record { event = event; reply = c.in-Ok.reply } ∷ [] =
-    c.push_head.ensures ∙ (λ i. same i ++ record { event = sym c.last_head.ensures i; reply = c.parts-answer.ensures.reply i } ∷ []) in
-    let new = new_of k event c.in-Ok.reply c.step.new.self c.self.invariant step (entries c.push_head.new.self) pushed in
-    let taken = is_taken k event c.in-Ok.reply c.step.new.self c.self.invariant step (entries c.push_head.new.self) pushed in
-    let ends = c.reserve.ensures.same ∙ ap (λ (x : Kept g.row.A.Denot). x.history) c.self.view_is ∙ is in
-    let asked : event ≡ element last.event.by (restart frame c.args.start) = c.last_head.ensures ∙ c.restart.ensures.head before last frame ends call in
-    subst (λ (x : Event g.row.A.Denot). IsTaken x c.in-Ok.reply c.args.self.now new) asked
-    (subst (λ (old : Kept g.row.A.Denot). IsTaken event c.in-Ok.reply old new) c.self.view_is taken)
+      next = on _ c.index-event.result.now c.in-Ok.reply c.self.invariant e.reply;
+    })
 
 pub push_head-requires-clause-index : goal.push_head-requires-clause-index
-push_head-requires-clause-index g c =
-    let k : Kept g.row.A.Denot = record { config = c.self.inside.config; limit = c.self.inside.limit; history = entries c.self.inside.history; machine = c.self.inside.machine } in
-    reply_index k c.last_head.result.now c.in-Ok.reply c.self.invariant (c.in-Ok.ensures.reply) c.parts-answer.result.0 c.parts-answer.result.1.now c.parts-answer.ensures.reply
+push_head-requires-clause-index g c = reply_index _ c.index-event.result.now c.in-Ok.reply c.self.invariant c.in-Ok.ensures.reply _ _ c.parts-answer.ensures.reply

@@ -1,5 +1,4 @@
-use Rattle.std.proofs.Common.{[], ◌∷◌, subst}
-use Rattle.std.specs.Vec.{vec_len}
+use Rattle.std.proofs.Common.{[], ◌∷◌, subst, vec_len}
 use Rattle.hv_history.proofs.Rows.{more_heads}
 use Rattle.hv_history.specs.Row.{ArePlaced}
 use Rattle.hv_history.proofs.row.History.place.Goals as goal

@@ -1,4 +1,4 @@
-use Rattle.std.proofs.Common.{◌≡◌, ◌<◌, ◌++◌, drop, length, sym, ap, ◌∙◌, arith}
+use Rattle.std.proofs.Common.{◌<◌, ◌++◌, drop, length, sym, ap, ◌∙◌, arith}
 use Rattle.hv_policy.specs.Parts.{reply_of}
 use Rattle.hv_history.proofs.Rows.{bytes-read, differs_at, entry_at, one_over, same_but}
 use Rattle.hv_history.specs.History.{entries}
@@ -30,5 +30,6 @@ loop-at-preserved g c =
       there = rw pushed.heads is.there;
       alike = rw pushed.heads is.alike;
       rows = (let was = is.rows in omega arith);
+      heads = rw pushed.heads is.heads;
       outputs = (let was = is.outputs in omega arith);
     }

@@ -1,5 +1,4 @@
-use Rattle.std.proofs.Common.{◌∙◌, arith, subst}
-use Rattle.std.specs.Vec.{vec_len}
+use Rattle.std.proofs.Common.{◌∙◌, arith, subst, vec_len}
 use Rattle.hv_history.proofs.Rows.{pushed}
 use Rattle.hv_history.specs.Row.{ArePlaced}
 use Rattle.hv_history.proofs.row.History.push_row.Goals as goal

@@ -1,20 +1,18 @@
-use Rattle.hv_machine.proofs.Accessing.{refused_step, served_step}
+use Rattle.hv_machine.proofs.Accessing.{access_refused, access_served}
 use Rattle.hv_machine.proofs.machine.Machine.access.Goals as goal
-
-pub invariant_of-self : goal.invariant_of-self
-invariant_of-self g c = (served_step g.row.A.Denot c.self.inside.tree c.dispatch_access.new.tree c.self.inside.pages c.self.inside.next c.self.inside.served c.args.by c.args.access c.self.invariant
-    c.dispatch_access.new.output c.in-Ok.ensures).lasting
-
-pub invariant_of-self-in-Err : goal.invariant_of-self-in-Err
-invariant_of-self-in-Err g c = (refused_step g.row.A.Denot c.self.inside.tree c.dispatch_access.new.tree c.self.inside.pages c.self.inside.next c.self.inside.served c.args.by c.args.access
-    c.self.invariant c.in-Err.rule c.in-Err.ensures).lasting
 
 pub returns-in-Ok : goal.returns-in-Ok
 returns-in-Ok g c =
-    rw (← c.self.view_is) (served_step g.row.A.Denot c.self.inside.tree c.dispatch_access.new.tree c.self.inside.pages c.self.inside.next c.self.inside.served c.args.by c.args.access c.self.invariant
-    c.dispatch_access.new.output c.in-Ok.ensures)
+    let s = c.self.inside in
+    rw (← c.self.view_is) (access_served g.row.A.Denot s.tree c.dispatch_access.new.tree s.pages s.next s.served c.args.by c.args.access c.self.invariant c.dispatch_access.new.output c.in-Ok.ensures)
 
 pub returns-in-Err : goal.returns-in-Err
 returns-in-Err g c =
-    rw (← c.self.view_is) (refused_step g.row.A.Denot c.self.inside.tree c.dispatch_access.new.tree c.self.inside.pages c.self.inside.next c.self.inside.served c.args.by c.args.access c.self.invariant
-    c.in-Err.rule c.in-Err.ensures)
+    let s = c.self.inside in
+    rw (← c.self.view_is) (access_refused g.row.A.Denot s.tree c.dispatch_access.new.tree s.pages s.next s.served c.args.by c.args.access c.self.invariant c.in-Err.rule c.in-Err.ensures)
+
+pub invariant_of-self : goal.invariant_of-self
+invariant_of-self g c = (returns-in-Ok g c).lasting
+
+pub invariant_of-self-in-Err : goal.invariant_of-self-in-Err
+invariant_of-self-in-Err g c = (returns-in-Err g c).lasting

@@ -1,8 +1,7 @@
 use Rattle.std.proofs.Common.{sym, subst}
 use Rattle.hv_policy.specs.Step.{NamesAsked}
 use Rattle.hv_machine.proofs.Accessing.{access_event_is}
-use Rattle.hv_machine.proofs.Calls.{call_event_is}
-use Rattle.hv_machine.proofs.Steps.{same_event}
+use Rattle.hv_machine.proofs.Steps.{call_event_is, same_event}
 use Rattle.hv_machine.proofs.machine.Machine.step.Goals as goal
 
 pub returns-in-Ok-access-clause-state : goal.returns-in-Ok-access-clause-state
