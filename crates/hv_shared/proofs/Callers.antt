@@ -1,10 +1,9 @@
 -- What each caller did, where a history is a merge of the receipts of passes whose callers differ.
-use Rattle.std.proofs.Common.{◌≡◌, ℕ, ◌+◌, ◌<◌, List, [], ◌∷◌, length, get_or, refl, sym, ap, ◌∙◌, subst, arith, Bool, true, false, ◌==◌, ◌&&◌}
-use Rattle.std.specs.Prelude.{All, if◌then◌else◌}
-use Rattle.std.specs.List.{Contains}
-use Rattle.std.proofs.lemmas.Bool.{eqb-true, eqb-false, eq-eqb, false≢true}
+use Rattle.std.proofs.Common.{◌≡◌, ℕ, ◌+◌, ◌<◌, List, [], ◌∷◌, length, get_or, refl, sym, ap, ◌∙◌, subst, inl, inr, arith, Bool, true, false, ◌==◌, All, if◌then◌else◌, Contains, eqb-true, eq-eqb}
+use Rattle.std.proofs.Common.{ne_eqb, Global}
+use Rattle.std.proofs.lemmas.Bool.{and_from, and_parts, cases_eq, false≢true}
+use Rattle.std.proofs.lemmas.List.{get_or_past}
 use Rattle.std.proofs.lemmas.List.Elements.{All-head, All-tail}
-use Rattle.std.specs.declared.alloc.Global.{Global}
 use Rattle.hv_history.specs.declared.entry.Entry.{Entry}
 use Rattle.hv_policy.specs.declared.event.Caller.{Caller}
 use Rattle.hv_shared.specs.ByCaller.{AreDifferent, is_caller, receipts_by}
@@ -12,23 +11,16 @@ use Rattle.hv_shared.specs.Merge.{IsMerge, owned}
 use Rattle.hv_shared.specs.Pass.{receipt}
 use Rattle.hv_shared.specs.declared.receipts.Receipt.{Receipt}
 
-both : (a b : Bool) → (a && b) ≡ true → (a ≡ true) × (b ≡ true)
-both true b h = (refl, h)
-both false b h = absurd (false≢true h)
-
 pub same_caller : (by other : Caller) → is_caller by other ≡ true → other ≡ by
 same_caller by other h =
-    let t = both (other.part == by.part) (other.vp == by.vp) h in
+    let t = and_parts (other.part == by.part) (other.vp == by.vp) h in
     let p = eqb-true other.part by.part t.0 in
     let v = eqb-true other.vp by.vp t.1 in
     (λ i. record { part = p i; vp = v i })
 
-both_true : (a b : Bool) → a ≡ true → b ≡ true → (a && b) ≡ true
-both_true a b p q = rw (p, q) refl
-
 pub is_itself : (by other : Caller) → other ≡ by → is_caller by other ≡ true
 is_itself by other e =
-    both_true (other.part == by.part) (other.vp == by.vp) (eq-eqb other.part by.part (ap (λ (c : Caller). c.part) e)) (eq-eqb other.vp by.vp (ap (λ (c : Caller). c.vp) e))
+    and_from (other.part == by.part) (other.vp == by.vp) (eq-eqb other.part by.part (ap (λ (c : Caller). c.part) e)) (eq-eqb other.vp by.vp (ap (λ (c : Caller). c.vp) e))
 
 is_another_at : (by other : Caller) (t : Bool) → (other ≡ by → ⊥) → is_caller by other ≡ t → t ≡ false
 is_another_at by other true h is = absurd (h (same_caller by other is))
@@ -56,37 +48,16 @@ module _ (callers : List Caller) (n o : ℕ) (owners : List ℕ) (e : Entry Glob
   by_owner : (d : Caller) → o < length callers → e.event.by ≡ get_or callers o d
   by_owner d h = first_is (λ r. r.event.by ≡ get_or callers o d) (o == o) (receipt n e.event e.reply) (owned o (n + 1) owners es) (eq-eqb o o refl) (own o d h)
 
-  agree_at : (once : AreDifferent callers) (i : ℕ) (c : Caller) (t : Bool) → i < length callers → o < length callers → c ≡ get_or callers i c → (o == i) ≡ t → is_caller c e.event.by ≡ t
-  agree_at once i c true h there is t = is_itself c e.event.by (by_owner c there ∙ ap (λ (k : ℕ). get_or callers k c) (eqb-true o i t) ∙ sym is)
-  agree_at once i c false h there is t = is_another c e.event.by (λ same. eqb-false o i t (once o i c there h (sym (by_owner c there) ∙ same ∙ is)))
-
-  agree : (once : AreDifferent callers) (i : ℕ) (c : Caller) → i < length callers → o < length callers → c ≡ get_or callers i c → is_caller c e.event.by ≡ (o == i)
-  agree once i c h there is = agree_at once i c (o == i) h there is refl
-
--- the receipts by the caller of a pass are that pass's
-by_pass : (callers : List Caller) (once : AreDifferent callers) (i : ℕ) (c : Caller) → i < length callers → c ≡ get_or callers i c
-    → (n : ℕ) (owners : List ℕ) (es : List (Entry Global)) → length owners ≡ length es → All (λ o. o < length callers) owners → AreOwn callers n owners es
-    → receipts_by c n es ≡ owned i n owners es
-by_pass callers once i c h is n [] [] count there own = refl
-by_pass callers once i c h is n [] (e ∷ es) count there own = absurd (omega arith)
-by_pass callers once i c h is n (o ∷ owners) [] count there own = absurd (omega arith)
-by_pass callers once i c h is n (o ∷ owners) (e ∷ es) count there own =
-    let rest = by_pass callers once i c h is (n + 1) owners es (omega arith) (All-tail (λ o. o < length callers) o owners there) (later callers n o owners e es own) in
-    ap (λ (b : Bool). if b then receipt n e.event e.reply ∷ receipts_by c (n + 1) es else receipts_by c (n + 1) es)
-    (agree callers n o owners e es own once i c h (All-head (λ o. o < length callers) o owners there) is)
-    ∙ ap (λ (rs : List Receipt). if o == i then receipt n e.event e.reply ∷ rs else rs) rest
-
--- one that is no pass's caller did nothing
-by_none : (callers : List Caller) (c : Caller) → (Contains callers c → ⊥) → (n : ℕ) (owners : List ℕ) (es : List (Entry Global)) → length owners ≡ length es
-    → All (λ o. o < length callers) owners → AreOwn callers n owners es → receipts_by c n es ≡ []
-by_none callers c none n [] [] count there own = refl
-by_none callers c none n [] (e ∷ es) count there own = absurd (omega arith)
-by_none callers c none n (o ∷ owners) [] count there own = absurd (omega arith)
-by_none callers c none n (o ∷ owners) (e ∷ es) count there own =
+-- the receipts of a caller's events are those of pass i, if the caller is that of this pass alone
+by_pass : (callers : List Caller) (c : Caller) (i : ℕ) → ((o : ℕ) → o < length callers → is_caller c (get_or callers o c) ≡ (o == i)) → (n : ℕ) (owners : List ℕ) (es : List (Entry Global))
+    → length owners ≡ length es → All (λ o. o < length callers) owners → AreOwn callers n owners es → receipts_by c n es ≡ owned i n owners es
+by_pass callers c i agree n [] [] count there own = refl
+by_pass callers c i agree n [] (e ∷ es) count there own = absurd (omega arith)
+by_pass callers c i agree n (o ∷ owners) [] count there own = absurd (omega arith)
+by_pass callers c i agree n (o ∷ owners) (e ∷ es) count there own =
     let here = All-head (λ o. o < length callers) o owners there in
-    let rest = by_none callers c none (n + 1) owners es (omega arith) (All-tail (λ o. o < length callers) o owners there) (later callers n o owners e es own) in
-    let other : e.event.by ≡ c → ⊥ = λ same. none (o, here, sym (by_owner callers n o owners e es own c here) ∙ same) in
-    ap (λ (b : Bool). if b then receipt n e.event e.reply ∷ receipts_by c (n + 1) es else receipts_by c (n + 1) es) (is_another c e.event.by other) ∙ rest
+    let rest = by_pass callers c i agree (n + 1) owners es (omega arith) (All-tail (λ o. o < length callers) o owners there) (later callers n o owners e es own) in
+    rw (rest, ap (is_caller c) (by_owner callers n o owners e es own c here) ∙ agree o here) refl
 
 module _ (callers : List Caller) (lists : List (List Receipt)) (history : List (Entry Global)) (count : length lists ≡ length callers) (merge : IsMerge history lists)
     (own : (j : ℕ) (d : Caller) → j < length callers → All (λ r. r.event.by ≡ get_or callers j d) (get_or lists j [])) where
@@ -98,8 +69,18 @@ module _ (callers : List Caller) (lists : List (List Receipt)) (history : List (
 
   -- what the caller of a pass did is what the pass has receipts of
   pub receipts_of_pass : AreDifferent callers → (i : ℕ) (c : Caller) → i < length callers → c ≡ get_or callers i c → receipts_by c 1 history ≡ get_or lists i []
-  receipts_of_pass once i c h is = by_pass callers once i c h is 1 merge.owners history merge.one_each within are_own ∙ sym (merge.each i)
+  receipts_of_pass once i c h is = by_pass callers c i agree 1 merge.owners history merge.one_each within are_own ∙ sym (merge.each i)
+    where
+      agree : (o : ℕ) → o < length callers → is_caller c (get_or callers o c) ≡ (o == i)
+      agree o there =
+          elim (cases_eq o i) [
+            | inl same ↦ is_itself c (get_or callers o c) (ap (λ (k : ℕ). get_or callers k c) same ∙ sym is) ∙ sym (eq-eqb o i same)
+            | inr other ↦ is_another c (get_or callers o c) (λ same. other (once o i c there h (same ∙ is))) ∙ sym (ne_eqb o i other)
+          ]
 
   -- and nobody else did anything
   pub no_receipts : (c : Caller) → (Contains callers c → ⊥) → receipts_by c 1 history ≡ []
-  no_receipts c none = by_none callers c none 1 merge.owners history merge.one_each within are_own
+  no_receipts c none =
+      by_pass callers c (length callers) (λ o there. is_another c (get_or callers o c) (λ same. none (o, there, same)) ∙ sym (ne_eqb o (length callers) (omega arith)))
+      1 merge.owners history merge.one_each within are_own
+      ∙ sym (merge.each (length callers)) ∙ get_or_past lists (length callers) [] (omega arith)

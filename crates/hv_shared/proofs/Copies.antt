@@ -1,9 +1,8 @@
 -- Copies of the events of a call are enough: a call continues only below its count.
-use Rattle.std.proofs.Common.{◌≡◌, ℕ, zero, suc, ◌+◌, ◌-◌, ◌<◌, ◌≤◌, ◌&&◌, ◌||◌, min, Bool, true, false, cond, not, if◌then◌else◌, nat_le, nat_lt, Option, None, Some, List, [], ◌∷◌, ◌++◌, length}
-use Rattle.std.proofs.Common.{take, drop, get_or, refl, sym, ap, subst, ◌∙◌, arith}
-use Rattle.std.proofs.lemmas.Bool.{and_from, and_parts, or_parts, leb-false, ltb-true}
-use Rattle.std.specs.FinMap.{contains_key}
-use Rattle.std.specs.declared.alloc.Global.{Global}
+use Rattle.std.proofs.Common.{◌≡◌, ℕ, ◌+◌, ◌-◌, ◌<◌, ◌≤◌, ◌&&◌, ◌||◌, min, max, Bool, true, false, cond, not, if◌then◌else◌, nat_le, Option, None, Some, List, [], ◌∷◌, ◌++◌, length, get_or, refl, sym}
+use Rattle.std.proofs.Common.{ap, subst, ◌∙◌, arith, leb-false, Global}
+use Rattle.std.proofs.lemmas.Bool.{and_from, or_parts}
+use Rattle.std.proofs.lemmas.Bool.Decides.{nat_tests}
 use Rattle.hv_abi.specs.CallRow.{row_of}
 use Rattle.hv_abi.specs.Check.{are_reps_valid, call_of, is_fast, is_input_valid}
 use Rattle.hv_abi.specs.InputValue.{is_reserved_zero}
@@ -15,69 +14,48 @@ use Rattle.hv_history.proofs.Elements.{start_restart}
 use Rattle.hv_history.specs.Row.{events_of, replies_of}
 use Rattle.hv_history.specs.Run.{AreElements, GoesOnAt, element, restart, start_of}
 use Rattle.hv_history.specs.declared.entry.Entry.{Entry}
+use Rattle.hv_policy.proofs.Unmet.{all_met}
 use Rattle.hv_policy.specs.Answer.{is_done, output_of}
 use Rattle.hv_policy.specs.Call.{called}
 use Rattle.hv_policy.specs.Flat.{Flat}
-use Rattle.hv_policy.specs.Met.{is_running}
 use Rattle.hv_policy.specs.Rule.{rule_status}
-use Rattle.hv_policy.specs.Rules.{Ask, first_unmet, hypercall_asks, unmet}
+use Rattle.hv_policy.specs.Rules.{AreMet, asks, hypercall_asks, unmet}
 use Rattle.hv_policy.specs.Step.{denied_with, run_from, step, step_by}
 use Rattle.hv_policy.specs.declared.event.Caller.{Caller}
 use Rattle.hv_policy.specs.declared.event.Event.{Event}
-use Rattle.hv_policy.specs.declared.reply.Reply.{Reply}
 use Rattle.hv_policy.specs.declared.reply.Reply.TheVariants.{Served, More}
 use Rattle.hv_policy.specs.declared.rule.Rule.{Rule}
-use Rattle.hv_policy.specs.declared.rule.Rule.TheVariants.{CallerExists, CallerActive, CallerVpExists, InputValue}
 use Rattle.hv_shared.specs.Copies.{AreAsking, AreCopies, elements_in, elements_of}
 
--- a rep call from the frame's start index on has more elements than so many
-pub record HasMore (frame : Frame Global) (count : ℕ) (kind : CallKind) : Type 0 where
-  pub named : call_of frame ≡ Some kind
-  pub takes : ((row_of kind).rep && is_input_valid (row_of kind) frame.rcx) ≡ true
-  pub more : bits frame.rcx 48 12 + count < bits frame.rcx 32 12
-
--- where none is unmet the first is met, and so are the others
-met : (ask : Ask) (rest : List Ask) → first_unmet (ask ∷ rest) ≡ None → (ask.1 ≡ true) × (first_unmet rest ≡ None)
-met (rule, true) rest is = (refl, is)
-met (rule, false) rest is = cc
+-- a rep call has an element after the one at the frame's start index
+record HasMore (frame : Frame Global) (kind : CallKind) : Type 0 where
+  named : call_of frame ≡ Some kind
+  takes : ((row_of kind).rep && is_input_valid (row_of kind) frame.rcx) ≡ true
+  more : bits frame.rcx 48 12 + 1 < bits frame.rcx 32 12
 
 module _ (f : Flat) (by : Caller) (frame : Frame Global) where
+  is_rep : (b : Bool) → not b ≡ false → b ≡ true
+  is_rep true e = refl
+  is_rep false e = cc
+
   -- a call that continues is a rep call with an element left
-  valid : (kind : CallKind) → first_unmet (hypercall_asks f by.part frame (Some kind)) ≡ None → is_input_valid (row_of kind) frame.rcx ≡ true
-  valid kind none = (met (InputValue, is_input_valid (row_of kind) frame.rcx) (drop 2 (hypercall_asks f by.part frame (Some kind))) none).0
-
-  last : (kind : CallKind) → call_of frame ≡ Some kind → first_unmet (hypercall_asks f by.part frame (Some kind)) ≡ None → is_done frame (Some kind) ≡ false → HasMore frame 1 kind
-  last kind named none is =
-      let parts = or_parts (not (row_of kind).rep) (nat_le (bits frame.rcx 32 12) (bits frame.rcx 48 12 + 1)) is in
-      let above = leb-false (bits frame.rcx 32 12) (bits frame.rcx 48 12 + 1) parts.1 in
-      let rep : (row_of kind).rep ≡ true = is_rep (row_of kind).rep parts.0 in
-      record { named = named; takes = and_from (row_of kind).rep (is_input_valid (row_of kind) frame.rcx) rep (valid kind none); more = above }
-    where
-      is_rep : (b : Bool) → not b ≡ false → b ≡ true
-      is_rep true e = refl
-      is_rep false e = cc
-
-  served : (n : ℕ) (named : Option CallKind) → call_of frame ≡ named → first_unmet (hypercall_asks f by.part frame named) ≡ None → (b : Bool) → is_done frame named ≡ b → (next : ℕ) (bytes : List ℕ)
-      → GoesOnAt n (cond b (Served bytes) (More next bytes)) → (kind : CallKind) × HasMore frame 1 kind
-  served n None is none b done next bytes goes = cc
-  served n (Some kind) is none true done next bytes goes = absurd goes
-  served n (Some kind) is none false done next bytes goes = (kind, last kind is none done)
+  served : (n : ℕ) (named : Option CallKind) → call_of frame ≡ named → AreMet (hypercall_asks f by.part frame named) → (b : Bool) → is_done frame named ≡ b → (next : ℕ) (bytes : List ℕ)
+      → GoesOnAt n (cond b (Served bytes) (More next bytes)) → (kind : CallKind) × HasMore frame kind
+  served n None is met b done next bytes goes = absurd cc
+  served n (Some kind) is met true done next bytes goes = absurd goes
+  served n (Some kind) is met false done next bytes goes =
+      let parts = or_parts (not (row_of kind).rep) (nat_le (bits frame.rcx 32 12) (bits frame.rcx 48 12 + 1)) done in
+      let takes = and_from (row_of kind).rep (is_input_valid (row_of kind) frame.rcx) (is_rep (row_of kind).rep parts.0) met.1.0 in
+      (kind, record { named = is; takes = takes; more = leb-false (bits frame.rcx 32 12) (bits frame.rcx 48 12 + 1) parts.1 })
 
   denied : (n : ℕ) (rule : Rule) (status : Option Status) → GoesOnAt n (denied_with frame rule status) → ⊥
   denied n rule None goes = goes
   denied n rule (Some status) goes = goes
 
-  by_rule : (n : ℕ) (rule : Option Rule) → unmet f (element by frame) ≡ rule → GoesOnAt n (step_by f (element by frame) rule).1 → (kind : CallKind) × HasMore frame 1 kind
-  by_rule n None is goes =
-      let call = hypercall_asks f by.part frame (call_of frame) in
-      let exists = met (CallerExists, contains_key f.part by.part) ((CallerActive, is_running f by.part) ∷ (CallerVpExists, contains_key f.vp (by.part, by.vp)) ∷ call) is in
-      let active = met (CallerActive, is_running f by.part) ((CallerVpExists, contains_key f.vp (by.part, by.vp)) ∷ call) exists.1 in
-      let vp = met (CallerVpExists, contains_key f.vp (by.part, by.vp)) call active.1 in
-      served n (call_of frame) refl vp.1 (is_done frame (call_of frame)) refl (bits frame.rcx 48 12 + 1) (output_of f by.part (called frame)) goes
-  by_rule n (Some rule) is goes = absurd (denied n rule (rule_status rule (call_of frame)) goes)
-
-  pub has_more : (n : ℕ) (reply : Reply) → reply ≡ (step f (element by frame)).1 → GoesOnAt n reply → (kind : CallKind) × HasMore frame 1 kind
-  has_more n reply is goes = by_rule n (unmet f (element by frame)) refl (subst (GoesOnAt n) is goes)
+  has_more : (n : ℕ) (rule : Option Rule) → unmet f (element by frame) ≡ rule → GoesOnAt n (step_by f (element by frame) rule).1 → (kind : CallKind) × HasMore frame kind
+  has_more n None is goes =
+      served n (call_of frame) refl (all_met (asks f (element by frame)) is).1.1.1 (is_done frame (call_of frame)) refl (bits frame.rcx 48 12 + 1) (output_of f by.part (called frame)) goes
+  has_more n (Some rule) is goes = absurd (denied n rule (rule_status rule (call_of frame)) goes)
 
 first : {X : Type 0} (x y : X) (xs ys : List X) → x ∷ xs ≡ y ∷ ys → x ≡ y
 first x y xs ys same = cc
@@ -98,70 +76,42 @@ sooner f (e ∷ es) last same =
     let rest = sooner (step f e.event).0 es last (rest_of _ _ _ _ same) in
     λ i. here i ∷ rest i
 
--- elements that are all answered that the call continues are fewer than there are
-bounded : (f : Flat) (by : Caller) (frame : Frame Global) (es : List (Entry Global)) (now : Frame Global) → AreElements by frame es now → replies_of es ≡ (run_from f (events_of es)).1 → 0 < length es
-    → (kind : CallKind) × HasMore frame (length es) kind
-bounded f by frame [] now is run some = absurd (omega arith)
-bounded f by frame (e ∷ []) now is run some =
-    has_more f by frame (start_of frame + 1) e.reply (first _ _ _ _ run ∙ ap (λ (x : Event Global). (step f x).1) is.0) is.1
-bounded f by frame (e ∷ d ∷ es) now is run some =
-    let here = has_more f by frame (start_of frame + 1) e.reply (first _ _ _ _ run ∙ ap (λ (x : Event Global). (step f x).1) is.0) is.1 in
-    let next = bounded (step f e.event).0 by (restart frame (start_of frame + 1)) (d ∷ es) now is.2 (rest_of _ _ _ _ run) (omega arith) in
-    let more = here.1.more in
-    let further = next.1.more in
-    let start : start_of (restart frame (start_of frame + 1)) ≡ start_of frame + 1 = start_restart frame (start_of frame + 1) (omega arith) in
-    let reps : bits (restart frame (start_of frame + 1)).rcx 32 12 ≡ bits frame.rcx 32 12 = omega arith in
-    (here.0, record { named = here.1.named; takes = here.1.takes; more = omega arith })
-
--- there is one at least, no more than there may be, and each has an index
+-- there is one at least, and no more than there may be
 some_of : (named : Option CallKind) (rcx most : ℕ) → 0 < most → 0 < elements_of named rcx most
 some_of None rcx most some = omega arith
-some_of (Some kind) rcx most some = by ((row_of kind).rep && is_input_valid (row_of kind) rcx) refl
+some_of (Some kind) rcx most some = counted (row_of kind).rep (is_reserved_zero rcx && (not (is_fast rcx) || (row_of kind).fast)) (bits rcx 32 12) (bits rcx 48 12)
   where
-    counted : (rep : Bool) (reps start : ℕ) → rep ≡ true → are_reps_valid rep reps start ≡ true → start < reps
-    counted true reps start is valid = ltb-true start reps (and_parts (nat_le 1 reps) (nat_lt start reps) valid).1
-    counted false reps start is valid = cc
+    counted : (rep a : Bool) (reps start : ℕ) → 0 < (if rep && (a && are_reps_valid rep reps start) then min (reps - start) most else 1)
+    counted true true reps start = grind (arith, nat_tests)
+    counted true false reps start = omega arith
+    counted false a reps start = omega arith
 
-    starts : (row_of kind).rep ≡ true → is_input_valid (row_of kind) rcx ≡ true → bits rcx 48 12 < bits rcx 32 12
-    starts rep valid =
-        let reps = (and_parts (is_reserved_zero rcx && (not (is_fast rcx) || (row_of kind).fast)) (are_reps_valid (row_of kind).rep (bits rcx 32 12) (bits rcx 48 12)) valid).1 in
-        counted (row_of kind).rep (bits rcx 32 12) (bits rcx 48 12) rep reps
-
-    by : (b : Bool) → ((row_of kind).rep && is_input_valid (row_of kind) rcx) ≡ b → 0 < (if b then min (bits rcx 32 12 - bits rcx 48 12) most else 1)
-    by true is = let both = and_parts (row_of kind).rep (is_input_valid (row_of kind) rcx) is in let less = starts both.0 both.1 in omega arith
-    by false is = omega arith
-
-pub few_of : (named : Option CallKind) (rcx most : ℕ) → 0 < most → elements_of named rcx most ≤ most
-few_of None rcx most some = omega arith
-few_of (Some kind) rcx most some = by ((row_of kind).rep && is_input_valid (row_of kind) rcx)
+pub few_of : (named : Option CallKind) (rcx most : ℕ) → elements_of named rcx most ≤ max 1 (min (bits rcx 32 12 - bits rcx 48 12) most)
+few_of None rcx most = omega arith
+few_of (Some kind) rcx most = by ((row_of kind).rep && is_input_valid (row_of kind) rcx)
   where
-    by : (b : Bool) → (if b then min (bits rcx 32 12 - bits rcx 48 12) most else 1) ≤ most
+    by : (b : Bool) → (if b then min (bits rcx 32 12 - bits rcx 48 12) most else 1) ≤ max 1 (min (bits rcx 32 12 - bits rcx 48 12) most)
     by true = omega arith
     by false = omega arith
 
-pub index_of : (named : Option CallKind) (rcx most i : ℕ) → i < elements_of named rcx most → bits rcx 48 12 + i < 4096
-index_of None rcx most i less = omega arith
-index_of (Some kind) rcx most i less = by ((row_of kind).rep && is_input_valid (row_of kind) rcx) less
-  where
-    by : (b : Bool) → i < (if b then min (bits rcx 32 12 - bits rcx 48 12) most else 1) → bits rcx 48 12 + i < 4096
-    by true less = omega arith
-    by false less = omega arith
-
--- and as many as there are elements before the last
-many_of : (frame : Frame Global) (most count : ℕ) (kind : CallKind) → HasMore frame count kind → count < most → count < elements_in frame.rcx most
-many_of frame most count kind is fewer =
-    let more = is.more in
-    rw (is.named, is.takes) (omega arith)
-
 -- so that there are copies of all that happen
+enough_in : (f : Flat) (by : Caller) (frame : Frame Global) (es : List (Entry Global)) (now : Frame Global) (most : ℕ) → AreElements by frame es now → replies_of es ≡ (run_from f (events_of es)).1
+    → length es < most → length es < elements_in frame.rcx most
+enough_in f by frame [] now most is run fewer = some_of (call_of frame) frame.rcx most fewer
+enough_in f by frame (e ∷ es) now most is run fewer =
+    let goes = subst (GoesOnAt (start_of frame + 1)) (first _ _ _ _ run ∙ ap (λ (x : Event Global). (step f x).1) is.0) is.1 in
+    let here = has_more f by frame (start_of frame + 1) (unmet f (element by frame)) refl goes in
+    let next = restart frame (start_of frame + 1) in
+    let rest = enough_in (step f e.event).0 by next es now (most - 1) is.2 (rest_of _ _ _ _ run) (omega arith) in
+    let few = few_of (call_of next) next.rcx (most - 1) in
+    let more = here.1.more in
+    let start : start_of next ≡ start_of frame + 1 = start_restart frame (start_of frame + 1) (omega arith) in
+    let reps : bits next.rcx 32 12 ≡ bits frame.rcx 32 12 = omega arith in
+    rw (here.1.named, here.1.takes) (omega arith)
+
 pub enough : (f : Flat) (by : Caller) (frame : Frame Global) (es : List (Entry Global)) (now : Frame Global) (most : ℕ) (copies : List (Event Global)) → AreCopies by frame most copies
     → AreElements by frame es now → replies_of es ≡ (run_from f (events_of es)).1 → length es < most → length es < length copies
-enough f by frame [] now most copies are is run fewer = let count = are.count in let some = some_of (call_of frame) frame.rcx most fewer in omega arith
-enough f by frame (e ∷ es) now most copies are is run fewer =
-    let more = bounded f by frame (e ∷ es) now is run (omega arith) in
-    let count = are.count in
-    let many = many_of frame most (length (e ∷ es)) more.0 more.1 fewer in
-    omega arith
+enough f by frame es now most copies are is run fewer = subst (λ (n : ℕ). length es < n) (sym are.count) (enough_in f by frame es now most is run fewer)
 
 -- there is one at least, and the first is of the frame
 pub some_copies : (by : Caller) (frame : Frame Global) (most : ℕ) (copies : List (Event Global)) → AreCopies by frame most copies → 0 < most → 0 < length copies

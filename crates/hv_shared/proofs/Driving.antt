@@ -1,9 +1,7 @@
 -- A call that continues from hold to hold.
-use Rattle.std.proofs.Common.{◌≡◌, ℕ, ◌+◌, ◌-◌, ◌≤◌, ◌<◌, IfOk, OnErr, Result, Ok, Err, List, [], ◌∷◌, ◌++◌, length, refl, sym, ap, ◌∙◌, subst, arith, append_assoc, append-nil}
-use Rattle.std.specs.Prelude.{map}
-use Rattle.std.proofs.lemmas.List.{length-append, length-map, map-append}
-use Rattle.std.specs.declared.alloc.Global.{Global}
-use Rattle.hv_abi.specs.InputValue.{input_value}
+use Rattle.std.proofs.Common.{◌≡◌, ℕ, ◌+◌, ◌-◌, ◌≤◌, ◌<◌, IfOk, OnErr, Result, Ok, Err, List, [], ◌∷◌, ◌++◌, length, refl, sym, ap, ◌∙◌, subst, arith, append_assoc, append-nil, map, length-append}
+use Rattle.std.proofs.Common.{Global}
+use Rattle.std.proofs.lemmas.List.{append_cancel_left, length-map, map-append}
 use Rattle.hv_abi.specs.declared.frame.Frame.{Frame}
 use Rattle.hv_defs.specs.declared.sizes.TheConstants.{REPS_END}
 use Rattle.hv_history.proofs.Elements.{as_many, start_restart}
@@ -18,9 +16,11 @@ use Rattle.hv_policy.specs.declared.reply.Reply.TheVariants.{Served, More, Denie
 use Rattle.hv_shared.specs.Drive.{AreElements, HasAsked, HasDriven, HasStopped, entry_in}
 use Rattle.hv_shared.specs.HeldValue.{HeldValue}
 use Rattle.hv_shared.specs.Hold.{HasHeld}
-use Rattle.hv_shared.specs.Pass.{HasReceipts, IsAsBefore, receipt}
+use Rattle.hv_shared.specs.Pass.{HasReceipts, receipt}
 use Rattle.hv_shared.specs.PassValue.{PassValue}
+use Rattle.hv_shared.specs.Receipts.{numbered}
 use Rattle.hv_shared.specs.declared.receipts.Receipt.{Receipt}
+use Rattle.hv_shared.proofs.Numbers.{count, entries_in, numbered-push}
 
 has_index_at : (n : ℕ) (reply : Reply) → GoesOnAt n reply → n < REPS_END
 has_index_at n (More next output) is = is.1
@@ -35,75 +35,40 @@ asked-append by frame mid now (e ∷ es) more is then = (is.0, is.1, asked-appen
 pub append : (by : Caller) (frame mid now : Frame Global) (rs more : List Receipt) → AreElements by frame rs mid → AreElements by mid more now → AreElements by frame (rs ++ more) now
 append by frame mid now rs more is then = rw (map-append entry_in rs more) (asked-append by frame mid now (map entry_in rs) (map entry_in more) is then)
 
--- the same receipts more, where the room alone changed before
-from_before : (more : List Receipt) (old mid new : PassValue) → IsAsBefore old mid → HasReceipts more mid new → HasReceipts more old new
-from_before more old mid new same is =
-    record {
-      receipts = is.receipts ∙ ap (λ (rs : List Receipt). rs ++ more) same.receipts;
-      share = is.share ∙ ap (λ (n : ℕ). n + length more) same.share;
-      caller = is.caller ∙ same.caller;
-    }
-
--- the element after so many has that start index
-pub at_end : (by : Caller) (frame : Frame Global) (es : List (Entry Global)) (now : Frame Global) (n : ℕ) → AreAsked by frame es now → n ≡ start_of frame + length es → now ≡ restart frame n
-at_end by frame [] now n is count =
-    let start : n ≡ start_of frame = count ∙ omega arith in
-    let rcx : frame.rcx ≡ (restart frame n).rcx = omega arith in
+-- the frame after some elements has their call, and another start index
+at_end : (by : Caller) (frame : Frame Global) (es : List (Entry Global)) (now : Frame Global) → AreAsked by frame es now → now ≡ restart frame (start_of now)
+at_end by frame [] now is =
+    let start = ap start_of is in
+    let rcx : frame.rcx ≡ (restart frame (start_of now)).rcx = omega arith in
     is ∙ (λ i. record frame { rcx = rcx i })
-at_end by frame (e ∷ es) now n is count =
+at_end by frame (e ∷ es) now is =
     let less = has_index_at (start_of frame + 1) e.reply is.1 in
-    let start : start_of (restart frame (start_of frame + 1)) ≡ start_of frame + 1 = start_restart frame (start_of frame + 1) less in
-    let rest = at_end by (restart frame (start_of frame + 1)) es now n is.2 (omega arith) in
-    let rcx : (restart (restart frame (start_of frame + 1)) n).rcx ≡ (restart frame n).rcx = omega arith in
-    rest ∙ (λ i. record frame { rcx = rcx i })
+    let rcx : (restart (restart frame (start_of frame + 1)) (start_of now)).rcx ≡ (restart frame (start_of now)).rcx = omega arith in
+    at_end by (restart frame (start_of frame + 1)) es now is.2 ∙ (λ i. record frame { rcx = rcx i })
 
--- receipts with the same entries as a list that ends in this one end in one of it
-record IsSplit (rs : List Receipt) (before : List (Entry Global)) (last : Entry Global) : Type 0 where
-  front : List Receipt
-  number : ℕ
-  entries : map entry_in front ≡ before
-  all : rs ≡ front ++ receipt number last.event last.reply ∷ []
-
-split : (rs : List Receipt) (before : List (Entry Global)) (last : Entry Global) → map entry_in rs ≡ before ++ last ∷ [] → IsSplit rs before last
-split [] [] last is = cc
-split [] (e ∷ before) last is = cc
-split (r ∷ []) [] last is =
-    let one : entry_in r ≡ last = cc in
+-- what a pass gained in two steps
+pub gained-twice : (a b : List Receipt) (old mid new : PassValue) → HasReceipts a old mid → HasReceipts b mid new → HasReceipts (a ++ b) old new
+gained-twice a b old mid new first second =
     record {
-      front = [];
-      number = r.number;
-      entries = refl;
-      all = λ i. receipt r.number (one i).event (one i).reply ∷ [];
+      receipts = second.receipts ∙ ap (λ (l : List Receipt). l ++ b) first.receipts ∙ append_assoc old.receipts a b;
+      share = let s = first.share in let t = second.share in omega (arith, length-append a b);
+      caller = second.caller ∙ first.caller;
     }
-split (r ∷ s ∷ rs) [] last is = cc
-split (r ∷ rs) (e ∷ before) last is =
-    let one : entry_in r ≡ e = cc in
-    let others : map entry_in rs ≡ before ++ last ∷ [] = cc in
-    let rest = split rs before last others in
-    record {
-      front = r ∷ rest.front;
-      number = rest.number;
-      entries = λ i. one i ∷ rest.entries i;
-      all = ap (λ (xs : List Receipt). r ∷ xs) rest.all;
-    }
-
-cancel : {X : Type 0} (xs ys zs : List X) → xs ++ ys ≡ xs ++ zs → ys ≡ zs
-cancel [] ys zs same = same
-cancel (x ∷ xs) ys zs same = cancel xs ys zs (cc)
 
 -- a hold that came to an answer
 pub asked_in : (frame : Frame Global) (reply : Reply) (events most : ℕ) (h k : HeldValue) (old new : PassValue) → HasHeld h k old new → HasRun old.caller frame reply events most h.kept k.kept →
     HasAsked frame reply events old new
 asked_in frame reply events most h k old new held run =
     let last : Entry Global = record { event = element old.caller run.last; reply = reply } in
-    let parts = split held.more run.before last (cancel h.kept.history _ _ (sym held.history ∙ run.history)) in
+    let n = length h.kept.history + 1 in
+    let all = append_cancel_left h.kept.history held.more (run.before ++ last ∷ []) (sym held.history ∙ run.history) in
     record {
-      before = parts.front;
+      before = numbered n run.before;
       last = run.last;
-      number = parts.number;
-      elements = subst (λ (es : List (Entry Global)). AreAsked old.caller frame es run.last) (sym parts.entries) run.elements;
-      gained = subst (λ (rs : List Receipt). HasReceipts rs old new) parts.all held.gained;
-      count = run.count ∙ ap (λ n. n + 1) (ap length (sym parts.entries) ∙ length-map parts.front entry_in);
+      number = n + length run.before;
+      elements = subst (λ (es : List (Entry Global)). AreAsked old.caller frame es run.last) (sym (entries_in n run.before)) run.elements;
+      gained = subst (λ (rs : List Receipt). HasReceipts rs old new) (ap (numbered n) all ∙ numbered-push n run.before last) held.gained;
+      count = run.count ∙ ap (λ (m : ℕ). m + 1) (sym (count n run.before));
       result = run.result;
       next = run.next;
     }
@@ -112,9 +77,10 @@ asked_in frame reply events most h k old new held run =
 pub stopped_in : (frame : Frame Global) (events most : ℕ) (h k : HeldValue) (old new : PassValue) → HasHeld h k old new → HasStoppedAt old.caller frame events most h.kept k.kept → HasStopped frame
     (start_of frame + events) old new
 stopped_in frame events most h k old new held run =
-    let same : map entry_in held.more ≡ run.before = cancel h.kept.history _ _ (sym held.history ∙ run.history) in
+    let n = length h.kept.history + 1 in
+    let same = entries_in n held.more ∙ append_cancel_left h.kept.history held.more run.before (sym held.history ∙ run.history) in
     record {
-      more = held.more;
+      more = numbered n held.more;
       now = run.now;
       elements = subst (λ (es : List (Entry Global)). AreAsked old.caller frame es run.now) (sym same) run.elements;
       next_is = let many = as_many old.caller frame run.before run.now run.elements in let count = run.count in omega arith;
@@ -130,51 +96,6 @@ pub if_stopped : {E : Type 0} (last : Result Reply E) (frame : Frame Global) (ev
     → OnErr last (HasStoppedAt old.caller frame events most h.kept k.kept) → OnErr last (HasStopped frame (start_of frame + events) old new)
 if_stopped (Ok reply) frame events most h k old new held run = run
 if_stopped (Err why) frame events most h k old new held run = stopped_in frame events most h k old new held run
-
--- where the room alone changed before
-pub asked_after : (frame : Frame Global) (reply : Reply) (events : ℕ) (old mid new : PassValue) → IsAsBefore old mid → HasAsked frame reply events mid new → HasAsked frame reply events old new
-asked_after frame reply events old mid new same is =
-    record {
-      before = is.before;
-      last = is.last;
-      number = is.number;
-      elements = subst (λ (by : Caller). AreElements by frame is.before is.last) same.caller is.elements;
-      gained = subst (λ (by : Caller). HasReceipts (is.before ++ receipt is.number (element by is.last) reply ∷ []) old new) same.caller
-          (from_before (is.before ++ receipt is.number (element mid.caller is.last) reply ∷ []) old mid new same is.gained);
-      count = is.count;
-      result = is.result;
-      next = is.next;
-    }
-
-pub stopped_after : (frame : Frame Global) (next : ℕ) (old mid new : PassValue) → IsAsBefore old mid → HasStopped frame next mid new → HasStopped frame next old new
-stopped_after frame next old mid new same is =
-    record {
-      more = is.more;
-      now = is.now;
-      elements = subst (λ (by : Caller). AreElements by frame is.more is.now) same.caller is.elements;
-      next_is = is.next_is;
-      gained = from_before is.more old mid new same is.gained;
-    }
-
--- no hold was begun
-pub not_begun : (frame : Frame Global) (start : ℕ) (old new : PassValue) → start ≡ (input_value frame.rcx).start → IsAsBefore old new → HasStopped frame start old new
-not_begun frame start old new start_is same =
-    record {
-      more = [];
-      now = frame;
-      elements = refl;
-      next_is = start_is;
-      gained = record { receipts = same.receipts ∙ sym (append-nil old.receipts); share = let s = same.share in omega arith; caller = same.caller };
-    }
-
--- what a pass gained in two steps
-pub gained-twice : (a b : List Receipt) (old mid new : PassValue) → HasReceipts a old mid → HasReceipts b mid new → HasReceipts (a ++ b) old new
-gained-twice a b old mid new first second =
-    record {
-      receipts = second.receipts ∙ ap (λ (l : List Receipt). l ++ b) first.receipts ∙ append_assoc old.receipts a b;
-      share = let s = first.share in let t = second.share in omega (arith, length-append a b);
-      caller = second.caller ∙ first.caller;
-    }
 
 -- the pass has the receipts more of the elements of a call up to the one that is to be asked now
 pub record IsDriving (frame now : Frame Global) (old pass : PassValue) : Type 0 where
@@ -205,7 +126,9 @@ module _ (frame now : Frame Global) (old mid : PassValue) (is : IsDriving frame 
     pub last_is : (n : ℕ) → n ≡ start_of now + events - 1 → restart now n ≡ asked.last
     last_is n at =
         let count = asked.count in
-        sym (at_end mid.caller now (map entry_in asked.before) asked.last n asked.elements (omega (arith, length-map asked.before entry_in)))
+        let many = as_many mid.caller now (map entry_in asked.before) asked.last asked.elements in
+        let own : n ≡ start_of asked.last = omega (arith, length-map asked.before entry_in) in
+        ap (restart now) own ∙ sym (at_end mid.caller now (map entry_in asked.before) asked.last asked.elements)
 
     pub has_index : start_of now + events ≤ 4096
     has_index =

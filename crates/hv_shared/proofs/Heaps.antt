@@ -1,10 +1,8 @@
 -- Numbers of which none stands above a lower one.
-use Rattle.std.proofs.Common.{◌≡◌, ℕ, zero, suc, ◌<◌, ◌≤◌, List, [], ◌∷◌, length, get_or, sym, ap, ◌∙◌, inl, inr, arith}
-use Rattle.std.specs.Prelude.{◌⊎◌, map}
-use Rattle.std.specs.List.{swap}
+use Rattle.std.proofs.Common.{◌≡◌, ℕ, zero, suc, ◌<◌, ◌≤◌, List, [], ◌∷◌, length, get_or, sym, ap, ◌∙◌, inl, inr, arith, ◌⊎◌, map, swap, get_or-set_other, length-set}
 use Rattle.std.proofs.Math.ListN.{set}
 use Rattle.std.proofs.lemmas.Bool.{cases_eq}
-use Rattle.std.proofs.lemmas.List.{get_or-map, get_or-set_other, length-map, length-set, map-set}
+use Rattle.std.proofs.lemmas.List.{get_or-map, length-map, map-set}
 use Rattle.std.proofs.lemmas.List.Edits.{Swapped, swap_is, swapped_from_swap}
 use Rattle.hv_shared.specs.Due.{IsHeap, IsHeapBut, IsLowestBelow, above}
 
@@ -37,58 +35,54 @@ pub record IsSinking (at : ℕ) (xs : List ℕ) : Type 0 where
   pub rest : IsHeapBut at xs
   pub over : 0 < at → (k : ℕ) → 0 < k → k < length xs → above k ≡ at → get_or xs (above at) 0 ≤ get_or xs k 0
 
-module _ (at c : ℕ) (xs ys : List ℕ) (sinking : IsSinking at xs) (low : IsLowestBelow at xs c) (long : length ys ≡ length xs)
-    (swapped : Swapped (λ k. get_or xs k 0) (λ k. get_or ys k 0) at c) where
-  kept : (k : ℕ) → (k ≡ at → ⊥) → (k ≡ c → ⊥) → get_or ys k 0 ≡ get_or xs k 0
-  kept = swapped.2
+-- it sinks by one step
+pub sinks : (at c : ℕ) (xs ys : List ℕ) → IsSinking at xs → IsLowestBelow at xs c → length ys ≡ length xs → Swapped (λ k. get_or xs k 0) (λ k. get_or ys k 0) at c → IsSinking c ys
+sinks at c xs ys sinking low long swapped = record { rest = rest; over = over }
+  where
+    below : above c ≡ at
+    below = low.below
 
-  here : get_or ys at 0 ≡ get_or xs c 0
-  here = swapped.0
+    further : at < c
+    further = let b = low.below in let s = low.some in omega arith
 
-  there : get_or ys c 0 ≡ get_or xs at 0
-  there = swapped.1
+    rest : IsHeapBut c ys
+    rest k some in_ys apart =
+        elim (cases_eq k c) [
+          | inl is ↦
+              let lower = low.lower in
+              let up : get_or ys (above k) 0 ≡ get_or xs c 0 = ap (λ (j : ℕ). get_or ys (above j) 0) is ∙ ap (λ (j : ℕ). get_or ys j 0) below ∙ swapped.0 in
+              let own : get_or ys k 0 ≡ get_or xs at 0 = ap (λ (j : ℕ). get_or ys j 0) is ∙ swapped.1 in
+              omega arith
+          | inr other ↦
+              elim (cases_eq k at) [
+                | inl is ↦
+                    let over = sinking.over (omega arith) c low.some low.there below in
+                    let up : get_or ys (above k) 0 ≡ get_or xs (above at) 0 = swapped.2 (above k) (omega arith) apart ∙ ap (λ (j : ℕ). get_or xs (above j) 0) is in
+                    let own : get_or ys k 0 ≡ get_or xs c 0 = ap (λ (j : ℕ). get_or ys j 0) is ∙ swapped.0 in
+                    omega arith
+                | inr not ↦
+                    let own = swapped.2 k not other in
+                    elim (cases_eq (above k) at) [
+                      | inl under ↦
+                          let lowest = low.lowest k some (omega arith) under in
+                          let up : get_or ys (above k) 0 ≡ get_or xs c 0 = ap (λ (j : ℕ). get_or ys j 0) under ∙ swapped.0 in
+                          omega arith
+                      | inr aside ↦
+                          let kept = sinking.rest k some (omega arith) aside in
+                          let up = swapped.2 (above k) aside apart in
+                          omega arith
+                    ]
+              ]
+        ]
 
-  further : at < c
-  further = let b = low.below in let s = low.some in omega arith
-
-  at_child : (k : ℕ) → 0 < k → k < length ys → (k ≡ c → ⊥) → (above k ≡ c → ⊥) → (k ≡ at) ⊎ (k ≡ at → ⊥) → (above k ≡ at) ⊎ (above k ≡ at → ⊥) → get_or ys (above k) 0 ≤ get_or ys k 0
-  at_child k some in_ys other apart (inl is) side =
-      let over = sinking.over (omega arith) c low.some low.there low.below in
-      let up : get_or ys (above k) 0 ≡ get_or xs (above at) 0 = kept (above k) (omega arith) apart ∙ ap (λ (j : ℕ). get_or xs (above j) 0) is in
-      let own : get_or ys k 0 ≡ get_or xs c 0 = ap (λ (j : ℕ). get_or ys j 0) is ∙ here in
-      omega arith
-  at_child k some in_ys other apart (inr not) (inl under) =
-      let lowest = low.lowest k some (omega arith) under in
-      let up : get_or ys (above k) 0 ≡ get_or xs c 0 = ap (λ (j : ℕ). get_or ys j 0) under ∙ here in
-      let own = kept k not other in
-      omega arith
-  at_child k some in_ys other apart (inr not) (inr aside) =
-      let rest = sinking.rest k some (omega arith) aside in
-      let up = kept (above k) aside apart in
-      let own = kept k not other in
-      omega arith
-
-  at_place : (k : ℕ) → 0 < k → k < length ys → (above k ≡ c → ⊥) → (k ≡ c) ⊎ (k ≡ c → ⊥) → get_or ys (above k) 0 ≤ get_or ys k 0
-  at_place k some in_ys apart (inl is) =
-      let lower = low.lower in
-      let up : get_or ys (above k) 0 ≡ get_or xs c 0 = ap (λ (j : ℕ). get_or ys (above j) 0) is ∙ ap (λ (j : ℕ). get_or ys j 0) low.below ∙ here in
-      let own : get_or ys k 0 ≡ get_or xs at 0 = ap (λ (j : ℕ). get_or ys j 0) is ∙ there in
-      omega arith
-  at_place k some in_ys apart (inr other) = at_child k some in_ys other apart (cases_eq k at) (cases_eq (above k) at)
-
-  -- it sinks by one step
-  pub sinks : IsSinking c ys
-  sinks =
-      record {
-        rest = λ k some in_ys apart. at_place k some in_ys apart (cases_eq k c);
-        over = λ _ k some in_ys under.
-            let below = further in
-            let rest = sinking.rest k some (omega arith) (omega arith) in
-            let up : get_or ys (above c) 0 ≡ get_or xs c 0 = ap (λ (j : ℕ). get_or ys j 0) low.below ∙ here in
-            let own = kept k (omega arith) (omega arith) in
-            let own_up : get_or xs (above k) 0 ≡ get_or xs c 0 = ap (λ (j : ℕ). get_or xs j 0) under in
-            omega arith;
-      }
+    over : 0 < c → (k : ℕ) → 0 < k → k < length ys → above k ≡ c → get_or ys (above c) 0 ≤ get_or ys k 0
+    over _ k some in_ys under =
+        let less = further in
+        let kept = sinking.rest k some (omega arith) (omega arith) in
+        let up : get_or ys (above c) 0 ≡ get_or xs c 0 = ap (λ (j : ℕ). get_or ys j 0) below ∙ swapped.0 in
+        let own = swapped.2 k (omega arith) (omega arith) in
+        let own_up : get_or xs (above k) 0 ≡ get_or xs c 0 = ap (λ (j : ℕ). get_or xs j 0) under in
+        omega arith
 
 -- it sinks no more where nothing lower stands below it
 pub sunk : (at : ℕ) (xs : List ℕ) → IsSinking at xs → ((k : ℕ) → 0 < k → k < length xs → above k ≡ at → get_or xs at 0 ≤ get_or xs k 0) → IsHeap xs

@@ -1,9 +1,7 @@
 -- Several elements of a call under the lock.
-use Rattle.std.proofs.Common.{◌≡◌, ℕ, ◌+◌, ◌≤◌, IfOk, OnErr, Result, Ok, Err, List, [], ◌∷◌, ◌++◌, length, drop, refl, sym, ap, subst, ◌∙◌, arith}
+use Rattle.std.proofs.Common.{◌≡◌, ℕ, ◌+◌, ◌≤◌, IfOk, OnErr, Result, Ok, Err, List, [], ◌∷◌, ◌++◌, length, drop, sym, ap, subst, ◌∙◌, arith, length-append, Global}
 use Rattle.std.proofs.Math.Seq.{drop-append_seam}
-use Rattle.std.proofs.lemmas.List.{length-append}
 use Rattle.std.proofs.lemmas.List.Elements.{All-push}
-use Rattle.std.specs.declared.alloc.Global.{Global}
 use Rattle.hv_abi.specs.declared.frame.Frame.{Frame}
 use Rattle.hv_history.specs.Kept.{IsRun, Kept}
 use Rattle.hv_history.specs.Row.{DifferInRcx, asking, events_of, replies_of}
@@ -21,7 +19,7 @@ use Rattle.hv_shared.specs.Hold.{HasHeld}
 use Rattle.hv_shared.specs.PassValue.{PassValue}
 use Rattle.hv_shared.specs.Receipts.{numbered}
 use Rattle.hv_shared.proofs.Copies.{enough, later, sooner}
-use Rattle.hv_shared.proofs.Numbers.{are_numbered, count, differ, differs, entries_in}
+use Rattle.hv_shared.proofs.Numbers.{count, differ, differs}
 
 -- the history has so many entries more, of events that differ from the frame's in RCX alone, and of each of which there is a copy
 pub record IsGained (by : Caller) (frame : Frame Global) (events : ℕ) (old new : Kept Global) (copies : List (Event Global)) : Type 0 where
@@ -81,17 +79,14 @@ pub held : (by : Caller) (frame : Frame Global) (events : ℕ) (copies : List (E
     → (all : List (Entry Global)) (from : ℕ) → all ≡ k.kept.history → from ≡ length h.kept.history → q.receipts ≡ p.receipts ++ numbered (from + 1) (drop from all) → q.share ≡ p.share + events →
     q.caller ≡ p.caller → HasHeld h k p q
 held by frame events copies h k p q is counted all from all_is at receipts share caller =
-    let n = length h.kept.history + 1 in
     let tail = tail_is all h.kept.history is.more from (all_is ∙ is.history) at in
-    let many : events ≡ length (numbered n is.more) = sym (count n is.more ∙ is.many) in
     record {
-      more = numbered n is.more;
-      history = is.history ∙ ap (λ (es : List (Entry Global)). h.kept.history ++ es) (sym (entries_in n is.more));
-      numbers = are_numbered n is.more;
-      count = counted ∙ ap (λ (m : ℕ). h.count + m) many;
+      more = is.more;
+      history = is.history;
+      count = counted ∙ ap (λ (m : ℕ). h.count + m) (sym is.many);
       gained = record {
         receipts = receipts ∙ (λ i. p.receipts ++ numbered (at i + 1) (tail i));
-        share = share ∙ ap (λ (m : ℕ). p.share + m) many;
+        share = share ∙ ap (λ (m : ℕ). p.share + m) (sym (count (length h.kept.history + 1) is.more ∙ is.many));
         caller = caller;
       };
     }

@@ -2,7 +2,6 @@ pub mod Heaps
 pub mod Moved
 pub mod Dues
 pub mod Looking
-pub mod Merging
 pub mod Merged
 pub mod Packed
 pub mod Passes

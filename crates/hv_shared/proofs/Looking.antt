@@ -1,54 +1,46 @@
 -- What the first pass tells of the others, where the passes are in the order in which they are due.
-use Rattle.std.proofs.Common.{◌≡◌, ℕ, ◌+◌, ◌<◌, List, [], ◌∷◌, length, get_or, sym, ap, ◌∙◌, subst, inl, inr, arith}
-use Rattle.std.specs.Prelude.{All, sum}
-use Rattle.std.specs.List.Sorted.{IsPermutation}
+use Rattle.std.proofs.Common.{◌≡◌, ℕ, ◌+◌, ◌<◌, ◌==◌, List, [], length, get_or, sym, ap, ◌∙◌, subst, inl, inr, arith, All, sum, IsPermutation, eqb-true, eq-eqb, get_or-set_other, get_or-set_same}
+use Rattle.std.proofs.Common.{length-set}
 use Rattle.std.proofs.Math.ListN.{set}
 use Rattle.std.proofs.lemmas.Bool.{cases_eq, cases_lt, false≢true}
-use Rattle.std.proofs.lemmas.List.{get_or-map, get_or-set_other, get_or-set_same, length-map, length-set}
+use Rattle.std.proofs.lemmas.List.{get_or-map, length-map}
 use Rattle.std.proofs.lemmas.List.Sorted.{IsPermutation-map, sum_by-IsPermutation}
 use Rattle.hv_shared.specs.Due.{IsDueAfter, IsHeap, dues_of}
 use Rattle.hv_shared.specs.Merge.{IsNext, next_is, rest_of, rests_of, shares_of}
 use Rattle.hv_shared.specs.PassValue.{PassValue}
 use Rattle.hv_shared.specs.declared.held.TheConstants.{NEVER}
 use Rattle.hv_shared.proofs.Heaps.{heap_first, heap_second}
-use Rattle.hv_shared.proofs.Packed.{no_number}
+use Rattle.hv_shared.proofs.Packed.{no_number, there_is}
 use Rattle.hv_shared.proofs.Passes.{next_there}
 
--- where there is a place, there is a pass
-some_pass : (ps : List PassValue) (i : ℕ) → i < length ps → PassValue
-some_pass [] i there = absurd (omega arith)
-some_pass (p ∷ ps) i there = p
-
 module _ (at : ℕ) (ps : List PassValue) (heap : IsHeap (dues_of ps)) (due : All (IsDueAfter at) ps) (few : at + 1 < NEVER) where
-  due_is : (i : ℕ) (there : i < length ps) → get_or (dues_of ps) i 0 ≡ (get_or ps i (some_pass ps i there)).due
-  due_is i there = get_or-map (λ (p : PassValue). p.due) ps i (some_pass ps i there) 0 there
+  due_is : (i : ℕ) (there : i < length ps) → get_or (dues_of ps) i 0 ≡ (get_or ps i ((there_is ps i there).0)).due
+  due_is i there = get_or-map (λ (p : PassValue). p.due) ps i ((there_is ps i there).0) 0 there
 
-  rest_is : (i : ℕ) (there : i < length ps) → get_or (rests_of ps) i [] ≡ rest_of (get_or ps i (some_pass ps i there))
-  rest_is i there = get_or-map rest_of ps i (some_pass ps i there) [] there
+  rest_is : (i : ℕ) (there : i < length ps) → get_or (rests_of ps) i [] ≡ rest_of (get_or ps i ((there_is ps i there).0))
+  rest_is i there = get_or-map rest_of ps i ((there_is ps i there).0) [] there
 
-  pub there_is : (i : ℕ) → IsNext (at + 1) (rests_of ps) i → i < length ps
-  there_is i next = let t = next_there (at + 1) (rests_of ps) i next in let m = length-map ps rest_of in omega arith
+  next_in : (i : ℕ) → IsNext (at + 1) (rests_of ps) i → i < length ps
+  next_in i next = let t = next_there (at + 1) (rests_of ps) i next in let m = length-map ps rest_of in omega arith
+
+  -- a pass continues with the next number just if it is due at it
+  is_next : (i : ℕ) → i < length ps → next_is (at + 1) (get_or (rests_of ps) i []) ≡ (get_or (dues_of ps) i 0 == at + 1)
+  is_next i there =
+      ap (next_is (at + 1)) (rest_is i there) ∙ (due i (there_is ps i there).0 there).found (at + 1) (omega arith) few ∙ ap (λ (d : ℕ). d == at + 1) (sym (due_is i there))
 
   due_next : (i : ℕ) → IsNext (at + 1) (rests_of ps) i → get_or (dues_of ps) i 0 ≡ at + 1
-  due_next i next =
-      let there = there_is i next in
-      due_is i there ∙ (due i (some_pass ps i there) there).found (at + 1) (omega arith) few (sym (ap (next_is (at + 1)) (rest_is i there)) ∙ next)
+  due_next i next = eqb-true _ _ (sym (is_next i (next_in i next)) ∙ next)
 
-  -- a pass that is due at the next number continues with it
   pub next_due : (i : ℕ) → i < length ps → get_or (dues_of ps) i 0 ≡ at + 1 → IsNext (at + 1) (rests_of ps) i
-  next_due i there is =
-      let p = get_or ps i (some_pass ps i there) in
-      let own : p.due ≡ at + 1 = sym (due_is i there) ∙ is in
-      let near : p.due < NEVER = subst (λ (n : ℕ). n < NEVER) (sym own) few in
-      ap (next_is (at + 1)) (rest_is i there) ∙ ap (λ (n : ℕ). next_is n (rest_of p)) (sym own) ∙ (due i (some_pass ps i there) there).next near
+  next_due i there is = is_next i there ∙ eq-eqb _ _ is
 
   later : (i : ℕ) → i < length ps → at < get_or (dues_of ps) i 0
-  later i there = let l = (due i (some_pass ps i there) there).later in let d = due_is i there in omega arith
+  later i there = let l = (due i ((there_is ps i there).0) there).later in let d = due_is i there in omega arith
 
   -- nobody continues where the first doesn't
   pub missing : ((0 < length ps) × (get_or (dues_of ps) 0 0 ≡ at + 1) → ⊥) → (i : ℕ) → IsNext (at + 1) (rests_of ps) i → ⊥
   missing not i next =
-      let there = there_is i next in
+      let there = next_in i next in
       let is = due_next i next in
       let m = length-map ps (λ (p : PassValue). p.due) in
       let low = heap_first (dues_of ps) heap i i (omega arith) (omega arith) in
@@ -58,7 +50,7 @@ module _ (at : ℕ) (ps : List PassValue) (heap : IsHeap (dues_of ps)) (due : Al
   -- nobody else continues where the two below the first don't
   pub alone : ((1 < length ps) × (get_or (dues_of ps) 1 0 ≡ at + 1) → ⊥) → ((2 < length ps) × (get_or (dues_of ps) 2 0 ≡ at + 1) → ⊥) → (j : ℕ) → IsNext (at + 1) (rests_of ps) j → j ≡ 0
   alone one two j next =
-      let there = there_is j next in
+      let there = next_in j next in
       let is = due_next j next in
       let m = length-map ps (λ (p : PassValue). p.due) in
       elim (cases_lt 0 j) [
@@ -87,8 +79,7 @@ module _ (at : ℕ) (ps : List PassValue) (heap : IsHeap (dues_of ps)) (due : Al
           let apart : (get_or ps i d).due ≡ at + 1 → ⊥ = λ is. other (only i (next_due i in_ps (get_or-map (λ (p : PassValue). p.due) ps i d 0 in_ps ∙ is))) in
           record {
             later = let l = was.later in omega (arith, apart);
-            found = λ m after less next. was.found m (omega arith) less next;
-            next = was.next;
+            found = λ m after less. was.found m (omega arith) less;
           }
 
 -- one pass more was begun

@@ -1,40 +1,39 @@
 -- A history that is gone through is a merge, and one that fails isn't.
-use Rattle.std.proofs.Common.{◌≡◌, ℕ, suc, ◌+◌, ◌<◌, List, [], ◌∷◌, length, drop, get_or, refl, sym, ap, ◌∙◌, subst, inl, inr, arith, Bool, true, false, ◌==◌}
-use Rattle.std.specs.Prelude.{All, if◌then◌else◌, ◌≢◌}
-use Rattle.std.proofs.lemmas.List.{length-set, get_or-set_same, get_or-set_other}
+use Rattle.std.proofs.Common.{◌≡◌, ℕ, suc, ◌+◌, ◌<◌, None, Some, List, [], ◌∷◌, length, drop, get_or, refl, sym, ap, ◌∙◌, subst, inl, inr, arith, Bool, true, false, ◌==◌, All, if◌then◌else◌, ◌≢◌}
+use Rattle.std.proofs.Common.{length-set, get_or-set_same, get_or-set_other, eqb-true, eq-eqb, ne_eqb, Global}
 use Rattle.std.proofs.lemmas.List.Elements.{All-nil, All-cons, All-head, All-tail}
-use Rattle.std.proofs.lemmas.Bool.{eqb-true, eqb-false, eq-eqb, false≢true}
-use Rattle.std.specs.declared.alloc.Global.{Global}
+use Rattle.std.proofs.lemmas.Bool.{eqb-false, false≢true}
+use Rattle.std.proofs.lemmas.Option.{none-some}
 use Rattle.hv_history.specs.declared.entry.Entry.{Entry}
 use Rattle.hv_history.specs.Kept.{Kept}
 use Rattle.hv_policy.specs.declared.config.Config.{Config}
 use Rattle.hv_shared.specs.Settle.{IsFault, IsMadeOf}
-use Rattle.hv_shared.specs.Merge.{IsOnlyNext, IsNext, IsOf, MergesFrom, FailsFrom, IsMergeFrom, owned, next_is, without}
+use Rattle.hv_shared.specs.Merge.{IsOnlyNext, IsNext, IsOf, IsMergeFrom, SettlesAs, owned, next_is, without}
 use Rattle.hv_shared.specs.Pass.{receipt}
 use Rattle.hv_shared.specs.declared.receipts.Receipt.{Receipt}
 use Rattle.hv_shared.specs.declared.fault.SettleFault.{SettleFault}
-
-equal : (a b : ℕ) → (a == b) ≡ true → a ≡ b
-equal a b h = eqb-true a b h
+use Rattle.hv_shared.specs.declared.fault.SettleFault.TheVariants.{Missing, Differs}
 
 head_is : (n : ℕ) (e : Entry Global) (l : List Receipt) → next_is n l ≡ true → IsOf e l → l ≡ receipt n e.event e.reply ∷ drop 1 l
 head_is n e [] h s = absurd s
-head_is n e (r ∷ rs) h s = let k = equal r.number n h in (λ i. record { number = k i; event = s.0 i; reply = s.1 i } ∷ rs)
+head_is n e (r ∷ rs) h s = let k = eqb-true r.number n h in (λ i. record { number = k i; event = s.0 i; reply = s.1 i } ∷ rs)
 
 merged_at : (n i : ℕ) (e : Entry Global) (es : List (Entry Global)) (lists : List (List Receipt)) (owners : List ℕ) → IsOnlyNext n e lists i
     → ((j : ℕ) → get_or (without lists i) j [] ≡ owned j (n + 1) owners es) → (j : ℕ) (b : Bool) → (i == j) ≡ b
     → get_or lists j [] ≡ (if b then receipt n e.event e.reply ∷ owned j (n + 1) owners es else owned j (n + 1) owners es)
 merged_at n i e es lists owners only each j true h =
-    let ij = equal i j h in
+    let ij = eqb-true i j h in
     ap (λ (k : ℕ). get_or lists k []) (sym ij) ∙ head_is n e (get_or lists i []) only.next only.same
     ∙ ap (λ (l : List Receipt). receipt n e.event e.reply ∷ l) (sym (get_or-set_same lists i (drop 1 (get_or lists i [])) [] only.there) ∙ each i ∙ ap (λ (k : ℕ). owned k (n + 1) owners es) ij)
 merged_at n i e es lists owners only each j false h =
     let other : j ≢ i = λ ji. eqb-false i j h (sym ji) in
     sym (get_or-set_other lists i j (drop 1 (get_or lists i [])) [] other) ∙ each j
 
-pub merged : (n : ℕ) (es : List (Entry Global)) (lists : List (List Receipt)) → MergesFrom n es lists → IsMergeFrom n es lists
+pub merged : (n : ℕ) (es : List (Entry Global)) (lists : List (List Receipt)) → SettlesAs n es lists None → IsMergeFrom n es lists
 merged n [] lists done = record { owners = []; one_each = refl; there = All-nil _; each = done }
-merged n (e ∷ es) lists (i, only, rest) =
+merged n (e ∷ es) lists (inl (inl fails)) = absurd (none-some Missing fails.0)
+merged n (e ∷ es) lists (inl (inr fails)) = absurd (none-some Differs fails.0)
+merged n (e ∷ es) lists (inr (i, only, rest)) =
     let m = merged (n + 1) es (without lists i) rest in
     record {
       owners = i ∷ m.owners;
@@ -43,16 +42,9 @@ merged n (e ∷ es) lists (i, only, rest) =
       each = λ j. merged_at n i e es lists m.owners only m.each j (i == j) refl;
     }
 
-differs_at : (a b : ℕ) → a ≢ b → (t : Bool) → (a == b) ≡ t → t ≡ false
-differs_at a b h true is = absurd (h (equal a b is))
-differs_at a b h false is = refl
-
-eqb_differs : (a b : ℕ) → a ≢ b → (a == b) ≡ false
-eqb_differs a b h = differs_at a b h (a == b) refl
-
 module _ (n m : ℕ) (less : n < m) (i : ℕ) where
   later_at : (e : Entry Global) (rest : List Receipt) (b : Bool) → next_is n rest ≡ false → next_is n (if b then receipt m e.event e.reply ∷ rest else rest) ≡ false
-  later_at e rest true h = eqb_differs m n (omega arith)
+  later_at e rest true h = ne_eqb m n (omega arith)
   later_at e rest false h = h
 
 -- no receipt of later entries has the number n
@@ -77,7 +69,7 @@ module _ (n o : ℕ) (e : Entry Global) (os : List ℕ) (es : List (Entry Global
   own_next each = ap (next_is n) (own each) ∙ eq-eqb n n refl
 
   alone_at : (j : ℕ) (b : Bool) → (o == j) ≡ b → next_is n (if b then receipt n e.event e.reply ∷ owned j (n + 1) os es else owned j (n + 1) os es) ≡ true → j ≡ o
-  alone_at j true is h = sym (equal o j is)
+  alone_at j true is h = sym (eqb-true o j is)
   alone_at j false is h = let no_more = later j n (n + 1) os es (omega arith) in absurd (false≢true (sym no_more ∙ h))
 
   alone : Each → (j : ℕ) → IsNext n lists j → j ≡ o
@@ -88,7 +80,7 @@ module _ (n o : ℕ) (e : Entry Global) (os : List ℕ) (es : List (Entry Global
 
   rest_is_at : Each → o < length lists → (j : ℕ) (b : Bool) → (o == j) ≡ b → get_or (without lists o) j [] ≡ owned j (n + 1) os es
   rest_is_at each there j true is =
-      let oj = equal o j is in
+      let oj = eqb-true o j is in
       ap (λ (k : ℕ). get_or (without lists o) k []) (sym oj) ∙ get_or-set_same lists o (drop 1 (get_or lists o [])) [] there ∙ ap (drop 1) (own each) ∙ ap (λ (k : ℕ). owned k (n + 1) os es) oj
   rest_is_at each there j false is = get_or-set_other lists o j (drop 1 (get_or lists o [])) [] (λ jo. eqb-false o j is (sym jo)) ∙ other_at each j is
 
@@ -96,7 +88,7 @@ is_of : (n : ℕ) (e : Entry Global) (l : List Receipt) (rest : List Receipt) �
 is_of n e l rest h = subst (IsOf e) (sym h) (refl, refl)
 
 -- receipts that fail are no merge
-pub fails_no_merge : (n : ℕ) (es : List (Entry Global)) (lists : List (List Receipt)) (f : SettleFault) → FailsFrom n es lists f → (owners : List ℕ) → length owners ≡ length es
+pub fails_no_merge : (n : ℕ) (es : List (Entry Global)) (lists : List (List Receipt)) (f : SettleFault) → SettlesAs n es lists (Some f) → (owners : List ℕ) → length owners ≡ length es
     → All (λ i. i < length lists) owners → ((i : ℕ) → get_or lists i [] ≡ owned i n owners es) → ⊥
 fails_no_merge n [] lists f fails owners one there each = fails.1 (λ i. each i ∙ owned_nil i n owners)
 fails_no_merge n (e ∷ es) lists f fails [] one there each = absurd (omega arith)
@@ -108,12 +100,12 @@ fails_no_merge n (e ∷ es) lists f (inl (inr (is, inr other))) (o ∷ os) one t
 fails_no_merge n (e ∷ es) lists f (inr (i, only, rest)) (o ∷ os) one there each =
     let here : o < length lists = All-head (λ (x : ℕ). x < length lists) o os there in
     let io = sym (only.alone o (own_next n o e os es lists each)) in
-    fails_no_merge (n + 1) es (without lists o) f (subst (λ (k : ℕ). FailsFrom (n + 1) es (without lists k) f) io rest) os (omega arith)
+    fails_no_merge (n + 1) es (without lists o) f (subst (λ (k : ℕ). SettlesAs (n + 1) es (without lists k) (Some f)) io rest) os (omega arith)
     (rw (length-set lists o (drop 1 (get_or lists o []))) (All-tail (λ (x : ℕ). x < length lists) o os there))
     (λ j. rest_is_at n o e os es lists each here j (o == j) refl)
 
-pub made : (config : Config) (limit : ℕ) (kept : Kept Global) (lists : List (List Receipt)) → kept.config ≡ config → kept.limit ≡ limit → MergesFrom 1 kept.history lists → IsMadeOf config limit kept
-    lists
+pub made : (config : Config) (limit : ℕ) (kept : Kept Global) (lists : List (List Receipt)) → kept.config ≡ config → kept.limit ≡ limit → SettlesAs 1 kept.history lists None
+    → IsMadeOf config limit kept lists
 made config limit kept lists c l m = record { same_config = c; same_limit = l; merge = merged 1 kept.history lists m }
 
 pub fault_not_made : (config : Config) (limit : ℕ) (kept : Kept Global) (lists : List (List Receipt)) (f : SettleFault) → IsFault config limit kept lists f → IsMadeOf config limit kept lists → ⊥

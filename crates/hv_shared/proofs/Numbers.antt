@@ -1,8 +1,6 @@
 -- Entries under their numbers.
-use Rattle.std.proofs.Common.{◌≡◌, ℕ, suc, ◌+◌, List, [], ◌∷◌, length, refl, ap}
+use Rattle.std.proofs.Common.{◌≡◌, ℕ, suc, ◌+◌, List, [], ◌∷◌, ◌++◌, ◌∙◌, length, refl, ap, arith, All, map, Global}
 use Rattle.std.proofs.lemmas.List.Elements.{All-cons, All-head, All-nil, All-tail}
-use Rattle.std.specs.Prelude.{All, map}
-use Rattle.std.specs.declared.alloc.Global.{Global}
 use Rattle.hv_history.specs.declared.entry.Entry.{Entry}
 use Rattle.hv_abi.specs.declared.frame.Frame.{Frame}
 use Rattle.hv_history.specs.Row.{DifferInRcx, asking}
@@ -10,7 +8,6 @@ use Rattle.hv_history.specs.Run.{AreElements, element, restart, start_of}
 use Rattle.hv_policy.specs.declared.event.Caller.{Caller}
 use Rattle.hv_policy.specs.declared.event.Event.{Event}
 use Rattle.hv_shared.specs.Drive.{entry_in}
-use Rattle.hv_shared.specs.Hold.{AreNumbered}
 use Rattle.hv_shared.specs.Pass.{receipt}
 use Rattle.hv_shared.specs.Receipts.{numbered}
 use Rattle.hv_shared.specs.declared.receipts.Receipt.{Receipt}
@@ -19,13 +16,15 @@ pub entries_in : (n : ℕ) (es : List (Entry Global)) → map entry_in (numbered
 entries_in n [] = refl
 entries_in n (e ∷ es) = ap (λ (xs : List (Entry Global)). e ∷ xs) (entries_in (n + 1) es)
 
-pub are_numbered : (n : ℕ) (es : List (Entry Global)) → AreNumbered n (numbered n es)
-are_numbered n [] = tt
-are_numbered n (e ∷ es) = (refl, are_numbered (n + 1) es)
-
 pub count : (n : ℕ) (es : List (Entry Global)) → length (numbered n es) ≡ length es
 count n [] = refl
 count n (e ∷ es) = ap suc (count (n + 1) es)
+
+pub numbered-push : (n : ℕ) (es : List (Entry Global)) (e : Entry Global) → numbered n (es ++ e ∷ []) ≡ numbered n es ++ receipt (n + length es) e.event e.reply ∷ []
+numbered-push n [] e = ap (λ (m : ℕ). receipt m e.event e.reply ∷ []) (omega arith)
+numbered-push n (x ∷ es) e =
+    let place : n + 1 + length es ≡ n + suc (length es) = omega arith in
+    ap (λ (rs : List Receipt). receipt n x.event x.reply ∷ rs) (numbered-push (n + 1) es e ∙ ap (λ (m : ℕ). numbered (n + 1) es ++ receipt m e.event e.reply ∷ []) place)
 
 -- each event that differs from one by the caller in RCX alone is by the caller
 pub owned : (event : Event Global) (es : List (Entry Global)) (n : ℕ) → DifferInRcx event es → All (λ (r : Receipt). r.event.by ≡ event.by) (numbered n es)

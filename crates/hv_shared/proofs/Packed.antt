@@ -1,11 +1,10 @@
 -- What stands in packed receipts.
-use Rattle.std.proofs.Common.{◌≡◌, ℕ, suc, zero, Some, ◌<◌, ◌≤◌, ◌==◌, List, [], ◌∷◌, ◌++◌, length, drop, get_or, false, refl, sym, ap, subst, ◌∙◌, ◌+◌, ◌-◌, arith, append_assoc, append-nil}
-use Rattle.std.proofs.lemmas.List.{drop_all, length-append}
+use Rattle.std.proofs.Common.{◌≡◌, ℕ, suc, zero, Some, ◌<◌, ◌≤◌, ◌==◌, List, [], ◌∷◌, ◌++◌, length, drop, get_or, false, refl, sym, ap, ◌∙◌, ◌+◌, ◌-◌, arith, append_assoc, append-nil, length-append}
+use Rattle.std.proofs.Common.{slice_get, All, option_map, Global}
+use Rattle.std.proofs.lemmas.List.{drop_all}
 use Rattle.std.proofs.lemmas.List.Elements.{All-append}
-use Rattle.std.proofs.lemmas.Option.{slice_get-get_or}
-use Rattle.std.specs.List.{range_with_len, slice_get}
-use Rattle.std.specs.Prelude.{All, option_map}
-use Rattle.std.specs.declared.alloc.Global.{Global}
+use Rattle.std.proofs.lemmas.Option.{none-some, same_Some, slice_get-get_or}
+use Rattle.std.specs.List.{range_with_len}
 use Rattle.hv_history.specs.declared.entry.Entry.{Entry}
 use Rattle.hv_policy.specs.declared.event.Caller.{Caller}
 use Rattle.hv_shared.specs.Merge.{IsOf, next_is}
@@ -72,8 +71,11 @@ number-push old now from at n above is so_far =
     ∙ ap (λ (k : ℕ). old ++ (range_with_len (from + 1) (at - from) ++ k ∷ [])) place
     ∙ sym (ap (λ (xs : List ℕ). old ++ xs) (ap (range_with_len (from + 1)) count ∙ range-more (from + 1) (at - from)))
 
-pub past_all : (rs : List Receipt) (k : ℕ) → length rs ≤ k → drop k rs ≡ []
-past_all rs k past = drop_all k rs past
+-- the element at a place, and those after it
+pub drop_at : {X : Type 0} (xs : List X) (k : ℕ) (x : X) → slice_get xs k ≡ Some x → drop k xs ≡ x ∷ drop (k + 1) xs
+drop_at [] k x h = absurd (none-some x h)
+drop_at (y ∷ xs) zero x h = λ i. same_Some y x h i ∷ xs
+drop_at (y ∷ xs) (suc k) x h = let place : suc k + 1 ≡ suc (k + 1) = omega arith in rw place (drop_at xs k x h)
 
 -- the number of the receipt that comes next is the one at its place
 pub next_number : (rs : List Receipt) (k m n : ℕ) → option_map (λ r. r.number) (slice_get rs k) ≡ Some m → next_is n (drop k rs) ≡ (m == n)
@@ -82,38 +84,26 @@ next_number (r ∷ rs) zero m n is = grind arith
 next_number (r ∷ rs) (suc k) m n is = next_number rs k m n is
 
 pub no_number : (rs : List Receipt) (k n : ℕ) → length rs ≤ k → next_is n (drop k rs) ≡ false
-no_number rs k n past = ap (next_is n) (past_all rs k past)
+no_number rs k n past = ap (next_is n) (drop_all k rs past)
 
--- the receipt that comes next is of an entry where the one at its place is
-pub next_of : (rs : List Receipt) (k n : ℕ) (own e : Entry Global) → slice_get rs k ≡ Some (receipt_of n own) → (own ≡ e → IsOf e (drop k rs)) × (IsOf e (drop k rs) → own ≡ e)
-next_of [] k n own e is = cc
-next_of (r ∷ rs) zero n own e is =
-    let same : r ≡ receipt_of n own = grind arith in
-    rw same (λ h. (ap (λ (x : Entry Global). x.event) h, ap (λ (x : Entry Global). x.reply) h), λ h. λ i. record { event = h.0 i; reply = h.1 i })
-next_of (r ∷ rs) (suc k) n own e is = next_of rs k n own e is
-
-pub one_value : (x y : Entry Global) → Some x ≡ Some y → x ≡ y
-one_value x y same = cc
-
--- and that one is of an entry where the packed entry beside its number is
+-- the receipt that comes next is of an entry where the packed entry beside its number is
 pub next_is_of : (ns : List ℕ) (es : List (Entry Global)) (k : ℕ) (e : Entry Global) → length ns ≡ length es → k < length es
     → (slice_get es k ≡ Some e → IsOf e (drop k (receipts_from ns es))) × (IsOf e (drop k (receipts_from ns es)) → slice_get es k ≡ Some e)
 next_is_of ns es k e same less =
     let own : slice_get es k ≡ Some (get_or es k e) = slice_get-get_or es k e less in
     let number : slice_get ns k ≡ Some (get_or ns k 0) = slice_get-get_or ns k 0 (omega arith) in
-    let next = next_of (receipts_from ns es) k (get_or ns k 0) (get_or es k e) e (place ns es k (get_or ns k 0) (get_or es k e) number own) in
-    (λ is. next.0 (one_value (get_or es k e) e (sym own ∙ is)), λ of. own ∙ ap Some (next.1 of))
-
-pub none_next : (rs : List Receipt) (k : ℕ) (e : Entry Global) → length rs ≤ k → IsOf e (drop k rs) → ⊥
-none_next rs k e past is = subst (IsOf e) (past_all rs k past) is
+    rw (drop_at (receipts_from ns es) k (receipt_of (get_or ns k 0) (get_or es k e)) (place ns es k (get_or ns k 0) (get_or es k e) number own)) (
+      λ is. let entry = same_Some (get_or es k e) e (sym own ∙ is) in (ap (λ (x : Entry Global). x.event) entry, ap (λ (x : Entry Global). x.reply) entry),
+      λ of. let entry : get_or es k e ≡ e = λ i. record { event = of.0 i; reply = of.1 i } in own ∙ ap Some entry,
+    )
 
 pub all_past : (rs : List Receipt) (k : ℕ) → drop k rs ≡ [] → length rs ≤ k
 all_past [] k none = omega arith
 all_past (r ∷ rs) zero none = cc
 all_past (r ∷ rs) (suc k) none = let rest = all_past rs k none in omega (arith, rest)
 
--- there is an entry at each place
-pub there_is : (es : List (Entry Global)) (k : ℕ) → k < length es → (e : Entry Global) × (slice_get es k ≡ Some e)
+-- there is an element at each place
+pub there_is : {X : Type 0} (es : List X) (k : ℕ) → k < length es → (e : X) × (slice_get es k ≡ Some e)
 there_is [] k less = absurd (omega arith)
 there_is (e ∷ es) zero less = (e, refl)
 there_is (e ∷ es) (suc k) less = there_is es k (omega arith)

@@ -1,16 +1,13 @@
 -- What the passes' rests are at one place, and after a change there.
-use Rattle.std.proofs.Common.{◌≡◌, ℕ, suc, zero, ◌+◌, ◌<◌, ◌≤◌, List, [], ◌∷◌, ◌++◌, length, drop, take, get_or, sym, ap, ◌∙◌, arith}
+use Rattle.std.proofs.Common.{◌≡◌, ℕ, suc, zero, ◌+◌, ◌<◌, List, [], ◌∷◌, ◌++◌, length, drop, take, get_or, sym, ap, ◌∙◌, arith, drop-drop}
 use Rattle.std.proofs.Math.ListN.{set}
-use Rattle.std.proofs.lemmas.List.{length-map, map-set, map-append, get_or-map, get_or_past, take_more_set, drop-drop}
+use Rattle.std.proofs.lemmas.List.{map-set, map-append, get_or-map, take_more_set}
 use Rattle.hv_shared.specs.Merge.{IsNext, receipts_of, rest_of, rests_of, without}
 use Rattle.hv_shared.specs.PassValue.{PassValue}
 use Rattle.hv_shared.specs.declared.receipts.Receipt.{Receipt}
 
 pub rest_at : (ps : List PassValue) (i : ℕ) (p : PassValue) → i < length ps → p ≡ get_or ps i p → get_or (rests_of ps) i [] ≡ rest_of p
 rest_at ps i p h e = get_or-map rest_of ps i p [] h ∙ ap rest_of (sym e)
-
-pub rest_past : (ps : List PassValue) (i : ℕ) → length ps ≤ i → get_or (rests_of ps) i [] ≡ []
-rest_past ps i h = get_or_past (rests_of ps) i [] (let e = length-map ps rest_of in omega arith)
 
 -- a list that continues with a number is there
 pub next_there : (n : ℕ) (lists : List (List Receipt)) (i : ℕ) → IsNext n lists i → i < length lists

@@ -1,14 +1,14 @@
 -- The order in which a settlement finds the passes' receipts.
-use Rattle.std.specs.Prelude.{ℕ, ◌≡◌, ◌≢◌, ◌-◌, ◌/◌, ◌<◌, ◌≤◌, true, List, length, map, slice_index}
+use Rattle.std.specs.Prelude.{ℕ, ◌≡◌, ◌≢◌, ◌-◌, ◌/◌, ◌<◌, ◌≤◌, ◌==◌, List, length, map, slice_index}
 use Rattle.hv_shared.specs.Merge.{next_is, rest_of}
 use Rattle.hv_shared.specs.PassValue.{PassValue}
 use Rattle.hv_shared.specs.declared.held.TheConstants.{NEVER}
 
--- after the event with number n, the settlement finds the pass's next receipt at the number `due`, or never
+-- After the event with number n, the settlement finds the pass's next receipt at the number `due`, or never:
+-- of the later numbers, `due` alone is that receipt's.
 pub record IsDueAfter (n : ℕ) (p : PassValue) : Type 0 where
   pub later : n < p.due
-  pub found : (m : ℕ) → n < m → m < NEVER → next_is m (rest_of p) ≡ true → p.due ≡ m
-  pub next : p.due < NEVER → next_is p.due (rest_of p) ≡ true
+  pub found : (m : ℕ) → n < m → m < NEVER → next_is m (rest_of p) ≡ (p.due == m)
 
 abbrev pub dues_of : List PassValue → List ℕ
 dues_of passes = map (λ p. p.due) passes

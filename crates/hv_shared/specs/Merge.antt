@@ -1,6 +1,6 @@
 -- The merge of the passes' receipts into a history.
 use Rattle.std.specs.Prelude.{ℕ, ◌≡◌, ◌≢◌, ◌+◌, ◌<◌, ◌==◌, Bool, true, false, ◌⊎◌, if◌then◌else◌, List, []}
-use Rattle.std.specs.Prelude.{◌∷◌, length, drop, map, All, slice_index_or, slice_set}
+use Rattle.std.specs.Prelude.{◌∷◌, Option, None, Some, length, drop, map, All, slice_index_or, slice_set}
 use Rattle.std.specs.declared.alloc.Global.{Global}
 use Rattle.hv_history.specs.declared.entry.Entry.{Entry}
 use Rattle.hv_shared.specs.Pass.{receipt}
@@ -61,23 +61,19 @@ without lists i = slice_set lists i (drop 1 (slice_index_or lists i []))
 abbrev pub AreDone : List (List Receipt) → Type 0
 AreDone lists = (i : ℕ) → slice_index_or lists i [] ≡ []
 
--- the fault at this number
-abbrev pub FailsAt : ℕ → Entry Global → List (List Receipt) → SettleFault → Type 0
-FailsAt n e lists fault = ((fault ≡ Missing) × ((i : ℕ) → IsNext n lists i → ⊥)) ⊎
-    ((fault ≡ Differs) × IsContested n e lists)
+-- the lists fail at this number, and this is the fault
+abbrev pub FailsAt : ℕ → Entry Global → List (List Receipt) → Option SettleFault → Type 0
+FailsAt n e lists found = ((found ≡ Some Missing) × ((i : ℕ) → IsNext n lists i → ⊥)) ⊎
+    ((found ≡ Some Differs) × IsContested n e lists)
 
--- The first fault of the lists against the history from number n on. It is at the least number that no list
--- has next, that two have next, or that one has with another event or reply; or receipts are left over.
-abbrev pub FailsFrom : ℕ → List (Entry Global) → List (List Receipt) → SettleFault → Type 0
-FailsFrom n [] lists fault = (fault ≡ Differs) × (AreDone lists → ⊥)
-FailsFrom n (e ∷ history) lists fault = FailsAt n e lists fault ⊎
-    ((i : ℕ) × IsOnlyNext n e lists i × FailsFrom (n + 1) history (without lists i) fault)
-
--- the lists merge into the history from number n on
-abbrev pub MergesFrom : ℕ → List (Entry Global) → List (List Receipt) → Type 0
-MergesFrom n [] lists = AreDone lists
-MergesFrom n (e ∷ history) lists = (i : ℕ) × IsOnlyNext n e lists i × MergesFrom (n + 1) history
-    (without lists i)
+-- The first fault of the lists against the history from number n on, or none if they merge into it. It is at
+-- the least number that no list has next, that two have next, or that one has with another event or reply; or
+-- receipts are left over.
+abbrev pub SettlesAs : ℕ → List (Entry Global) → List (List Receipt) → Option SettleFault → Type 0
+SettlesAs n [] lists None = AreDone lists
+SettlesAs n [] lists (Some fault) = (fault ≡ Differs) × (AreDone lists → ⊥)
+SettlesAs n (e ∷ history) lists found = FailsAt n e lists found ⊎
+    ((i : ℕ) × IsOnlyNext n e lists i × SettlesAs (n + 1) history (without lists i) found)
 
 -- the receipts of a pass that the settlement has still to find
 abbrev pub rest_of : PassValue → List Receipt

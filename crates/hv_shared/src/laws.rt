@@ -1,6 +1,5 @@
 // The laws of the definitions in `specs/`. The functions have no code: the contract of each is a theorem.
-ghost use Rattle.std.specs.Prelude.{◌≡◌, ◌<◌, ℕ, List, [], length, slice_index_or};
-ghost use Rattle.std.specs.List.{Contains};
+ghost use Rattle.std.specs.Prelude.{◌≡◌, ◌<◌, ℕ, List, [], length, slice_index_or, Contains};
 ghost use Rattle.hv_history.specs.declared.entry.Entry.{Entry};
 ghost use Rattle.hv_policy.specs.declared.event.Caller.{Caller};
 ghost use Rattle.hv_shared.specs.ByCaller.{AreDifferent, AreTheirs, receipts_by};

@@ -104,7 +104,7 @@ impl<L: Ledger> Shared<L> {
         }
         let turn = pass.receipts().len() as u64;
         gate.enter(rt, by, turn);
-        let told = self.hold(rt, pass, event, copy);
+        let told = self.held.lock(rt).hold(pass, event, copy);
         gate.leave(rt, by, turn);
         told
     }
@@ -117,28 +117,6 @@ impl<L: Ledger> Shared<L> {
         ensures some { 0 < L.parts }
     {
         (self.held.into_inner(), self.passes, self.config, self.limit)
-    }
-
-    // Takes the lock for one event.
-    // Inlined: messages in bench/largest.sh.
-    #[inline(always)]
-    fn hold<R: Wait>(
-        &self,
-        rt: &R,
-        pass: &mut Pass<L>,
-        event: Event<Global>,
-        copy: Event<Global>,
-    ) -> Result<Reply, HostRefused>
-        requires by { event.by ≡ pass.old.caller }
-        requires copy { copy ≡ event }
-        requires room { 1 ≤ pass.old.room }
-        ensures called { IfOk result (λ r. HasCalled event.what r pass.old pass.new) }
-        ensures refused { OnErr result (pass.new ≡ pass.old) }
-        ensures result { (frame : CallFrame Global) → event.what ≡ Hypercall frame
-            → IfOk result HasResult }
-        ensures next { IfOk result (λ r. GoesOn event.what r) }
-    {
-        self.held.lock(rt).hold(pass, event, copy)
     }
 
     // Takes the lock for those elements of a call that have copies.

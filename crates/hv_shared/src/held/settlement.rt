@@ -1,13 +1,12 @@
 // The settlement of a history with the passes' receipts.
-ghost use Rattle.std.specs.Prelude.{◌≡◌, ◌<◌, ◌≤◌, ◌+◌, ℕ, IsTrue, ◌↔◌, IfOk, IfErr, IfSome, IfNone, Some};
-ghost use Rattle.std.specs.Prelude.{length, slice_get, slice_index, vec_len, sum, All};
-ghost use Rattle.std.specs.List.Sorted.{IsPermutation};
+ghost use Rattle.std.specs.Prelude.{◌≡◌, ◌<◌, ◌≤◌, ◌+◌, ℕ, IsTrue, ◌↔◌, IfOk, IfErr, IfSome, IfNone, None};
+ghost use Rattle.std.specs.Prelude.{Some, length, slice_get, slice_index, vec_len, sum, All, IsPermutation};
 ghost use Rattle.hv_history.specs.History.{entries};
 ghost use Rattle.hv_history.specs.Kept.{IsRun};
 ghost use Rattle.hv_history.specs.declared.entry.Entry.{Entry};
 ghost use Rattle.hv_shared.specs.Due.{IsDueAfter, IsHeap, IsHeapBut, IsLowestBelow, above, dues_of};
-ghost use Rattle.hv_shared.specs.Merge.{IsOnlyNext, FailsAt, AreDone};
-ghost use Rattle.hv_shared.specs.Merge.{MergesFrom, FailsFrom, rests_of, receipts_of, shares_of};
+ghost use Rattle.hv_shared.specs.Merge.{AreDone, FailsAt, IsOnlyNext, SettlesAs, rests_of, receipts_of};
+ghost use Rattle.hv_shared.specs.Merge.{shares_of};
 ghost use Rattle.hv_shared.specs.Settle.{IsFault, IsMadeOf, kept_of};
 
 use super::{NEVER, Pass};
@@ -16,7 +15,7 @@ use crate::shared::Shared;
 use hv_history::{History, Kept};
 use hv_policy::Config;
 use std::alloc::Global;
-use std::sync::ledger::{Book, Ledger, Share};
+use std::sync::ledger::{Book, Ledger};
 
 // Whether no receipt is left to find.
 fn are_settled<L: Ledger>(passes: &[Pass<L>]) -> bool
@@ -41,14 +40,6 @@ fn begin_all<L: Ledger>(passes: &mut [Pass<L>])
         let pass = &mut passes[i];
         pass.begin();
     }
-}
-
-// Puts the passes into the order in which they are due.
-fn put_in_order<L: Ledger>(passes: &mut [Pass<L>])
-    ensures same { IsPermutation passes.old passes.new }
-    ensures heap { IsHeap (dues_of passes.new) }
-{
-    passes.sort_unstable_by_key(|pass| pass.due());
 }
 
 // Returns the place of the pass that is due first, of a place and the next one.
@@ -121,7 +112,7 @@ fn look_at_first<L: Ledger>(
     ensures ok { (entry : Entry Global) → slice_get (entries history.now) at ≡ Some entry
         → IfOk result (λ _. IsOnlyNext (at + 1) entry (rests_of passes.now) 0) }
     ensures err { (entry : Entry Global) → slice_get (entries history.now) at ≡ Some entry
-        → IfErr result (λ f. FailsAt (at + 1) entry (rests_of passes.now) f) }
+        → IfErr result (λ f. FailsAt (at + 1) entry (rests_of passes.now) (Some f)) }
 {
     let number = at as u64 + 1;
     if !is_due(passes, 0, number) {
@@ -140,12 +131,13 @@ fn look_at_first<L: Ledger>(
 // Returns the first fault of the receipts against the history, if there is one.
 fn first_fault<L: Ledger>(history: &History<Global>, passes: &mut [Pass<L>]) -> Option<SettleFault>
     requires { length (entries history.now) < NEVER }
-    ensures none { IfNone result (MergesFrom 1 (entries history.now) (receipts_of passes.old)) }
-    ensures some { IfSome result (λ f. FailsFrom 1 (entries history.now) (receipts_of passes.old) f) }
+    ensures none { IfNone result (SettlesAs 1 (entries history.now) (receipts_of passes.old) None) }
+    ensures some { IfSome result (λ f. SettlesAs 1 (entries history.now) (receipts_of passes.old)
+        (Some f)) }
     ensures shares { sum (shares_of passes.new) ≡ sum (shares_of passes.old) }
 {
     begin_all(passes);
-    put_in_order(passes);
+    passes.sort_unstable_by_key(|pass| pass.due());
     for k in 0..history.len() {
         if let Err(fault) = look_at_first(passes, history, k) {
             return Some(fault);
@@ -161,29 +153,21 @@ fn first_fault<L: Ledger>(history: &History<Global>, passes: &mut [Pass<L>]) -> 
     }
 }
 
-// Merges the shares of all passes.
-fn gather<L: Ledger>(passes: Vec<Pass<L>>) -> Option<Share<L>>
-    ensures some { IfSome result (λ s. (s.parts ≡ vec_len passes)
-        × (s.amount ≡ sum (shares_of passes.items))) }
-    ensures none { IfNone result (vec_len passes ≡ 0) }
-{
-    let mut passes = passes;
-    let mut all = passes.pop()?.into_share();
-    while let Some(pass) = passes.pop() {
-        all.merge(pass.into_share());
-    }
-    Some(all)
-}
-
 // Audits the book. With every pass present, its total is the sum of their shares.
 fn audit<L: Ledger>(book: Book<L>, passes: Vec<Pass<L>>)
     requires { 0 < L.parts }
     ensures { vec_len passes ≡ L.parts → book.total ≡ sum (shares_of passes.items) }
 {
     let mut book = book;
-    if let Some(mut all) = gather(passes) {
-        book.audit(&mut all);
+    let mut passes = passes;
+    let Some(first) = passes.pop() else {
+        return;
+    };
+    let mut all = first.into_share();
+    while let Some(pass) = passes.pop() {
+        all.merge(pass.into_share());
     }
+    book.audit(&mut all);
 }
 
 // Returns the first fault of a history and the receipts of these passes, if there is one.

@@ -1,5 +1,4 @@
-use Rattle.std.proofs.Common.{rules, ◌≡◌, ◌+◌, ◌<◌, ◌++◌, ◌∷◌, [], ◌∙◌, ℕ, ap, sym, subst, length, vec_len, arith}
-use Rattle.std.specs.declared.alloc.Global.{Global}
+use Rattle.std.proofs.Common.{rules, ◌≡◌, ◌+◌, ◌<◌, ◌++◌, ◌∷◌, [], ◌∙◌, ℕ, ap, sym, subst, length, vec_len, Global}
 use Rattle.hv_abi.specs.CallRow.{kind_of}
 use Rattle.hv_abi.specs.declared.frame.Frame.{Frame}
 use Rattle.hv_abi.specs.declared.input_value.InputValue.{InputValue}
@@ -19,7 +18,7 @@ loop-i-preserved g c =
     let start : c.read-start.result.start ≡ start_of frame = ap (λ (v : InputValue). v.start) c.read-start.ensures in
     let count : vec_len l.copies ≡ l.i = l.invariant.count in
     let len : vec_len l.copies ≡ length l.copies.items = l.copies.ok.0 in
-    let few = few_of (kind_of (bits frame.rcx 0 16)) frame.rcx 16 (omega arith) in
+    let few = few_of (kind_of (bits frame.rcx 0 16)) frame.rcx 16 in
     let at : n ≡ start_of frame + length l.copies.items = ap (λ (s : ℕ). s + l.i) start ∙ ap (λ (k : ℕ). start_of frame + k) (sym count ∙ len) in
     let less : n < 4096 = search rules in
     let event : element by c.with_start.result ≡ element by (restart frame n) = ap (element by) (c.with_start.ensures.frame ∙ ap (λ (f : Frame Global). restart f n) c.in_ok-copy.ensures) in

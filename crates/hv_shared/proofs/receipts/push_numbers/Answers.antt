@@ -1,4 +1,4 @@
-use Rattle.std.proofs.Common.{◌∙◌, ◌+◌, arith, refl, sym, append-nil}
+use Rattle.std.proofs.Common.{◌∙◌, ◌+◌, arith, refl}
 use Rattle.hv_shared.proofs.Packed.{number-push, no_numbers}
 use Rattle.hv_shared.proofs.receipts.push_numbers.Goals as goal
 

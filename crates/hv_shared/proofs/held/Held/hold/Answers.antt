@@ -1,6 +1,5 @@
-use Rattle.std.proofs.Common.{◌≡◌, [], ◌∷◌, ◌++◌, ◌∙◌, ap, sym}
+use Rattle.std.proofs.Common.{◌≡◌, [], ◌∷◌, ◌++◌, ◌∙◌, ap, sym, Global}
 use Rattle.std.proofs.lemmas.List.Elements.{All-cons, All-nil}
-use Rattle.std.specs.declared.alloc.Global.{Global}
 use Rattle.hv_policy.specs.Parts.{reply_of}
 use Rattle.hv_policy.specs.declared.event.Event.{Event}
 use Rattle.hv_shared.specs.Pass.{receipt}

@@ -1,6 +1,4 @@
-use Rattle.std.proofs.Common.{◌≡◌, ℕ, List, Some, refl, subst, ap}
-use Rattle.std.specs.List.{slice_get}
-use Rattle.std.specs.Prelude.{option_map}
+use Rattle.std.proofs.Common.{◌≡◌, ℕ, List, Some, refl, subst, ap, slice_get, option_map}
 use Rattle.hv_shared.specs.PassValue.{PassValue}
 use Rattle.hv_shared.specs.declared.held.TheConstants.{NEVER}
 use Rattle.hv_shared.specs.declared.receipts.Receipt.{Receipt}

@@ -1,5 +1,4 @@
-use Rattle.std.proofs.Common.{◌≡◌, ℕ, [], sym, ◌∙◌, refl}
-use Rattle.std.specs.Prelude.{slice_index_or}
+use Rattle.std.proofs.Common.{◌≡◌, ℕ, [], sym, ◌∙◌, refl, slice_index_or}
 use borrow.Author.Count.{below_more}
 use Rattle.hv_shared.specs.Merge.{rests_of}
 use Rattle.hv_shared.proofs.Passes.{rest_at}

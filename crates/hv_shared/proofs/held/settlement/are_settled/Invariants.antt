@@ -1,5 +1,4 @@
-use Rattle.std.proofs.Common.{◌≡◌, ℕ, ◌<◌, []}
-use Rattle.std.specs.Prelude.{slice_index_or}
+use Rattle.std.proofs.Common.{◌≡◌, ℕ, ◌<◌, [], slice_index_or}
 use Rattle.hv_shared.specs.Merge.{rests_of}
 use Rattle.hv_shared.proofs.held.settlement.are_settled.Given as goal
 

@@ -1,5 +1,4 @@
-use Rattle.std.proofs.Common.{◌≡◌, ℕ, ◌<◌, take}
-use Rattle.std.specs.Prelude.{slice_index_or}
+use Rattle.std.proofs.Common.{◌≡◌, ℕ, ◌<◌, take, slice_index_or}
 use Rattle.hv_shared.specs.Due.{IsDueAfter}
 use Rattle.hv_shared.specs.Merge.{rests_of, receipts_of, shares_of}
 use Rattle.hv_shared.specs.PassValue.{PassValue}

@@ -1,40 +1,47 @@
-use Rattle.std.proofs.Common.{◌+◌, ◌<◌, ap, sym, ◌∙◌, subst, List, drop, length, arith}
-use Rattle.std.specs.List.Sorted.{IsPermutation}
-use Rattle.std.specs.Prelude.{sum}
+use Rattle.std.proofs.Common.{rules, ◌≡◌, ℕ, Option, Some, ◌+◌, ◌<◌, ap, sym, ◌∙◌, subst, inl, inr, List, ◌∷◌, drop, arith, slice_get, IsPermutation, sum, Global}
 use Rattle.std.proofs.Math.ListN.{set}
 use Rattle.std.proofs.Math.Seq.{map-set_same}
 use Rattle.std.proofs.lemmas.List.{map-set}
-use Rattle.std.proofs.lemmas.List.Sorted.{All-permutation, IsPermutation-map, IsPermutation-sym}
+use Rattle.std.proofs.lemmas.List.Sorted.{All-permutation, IsNonDecreasingBy-from_sort_by_key, IsPermutation-map, IsPermutation-sym}
 use Rattle.hv_history.specs.History.{entries}
+use Rattle.hv_history.specs.declared.entry.Entry.{Entry}
 use Rattle.hv_shared.specs.Due.{IsDueAfter, IsHeapBut, dues_of}
-use Rattle.hv_shared.specs.Merge.{MergesFrom, FailsFrom, rest_of, rests_of}
+use Rattle.hv_shared.specs.Merge.{SettlesAs, rest_of, rests_of}
 use Rattle.hv_shared.specs.PassValue.{PassValue}
 use Rattle.hv_shared.specs.declared.held.TheConstants.{NEVER}
+use Rattle.hv_shared.specs.declared.fault.SettleFault.{SettleFault}
 use Rattle.hv_shared.specs.declared.receipts.Receipt.{Receipt}
+use Rattle.hv_shared.proofs.Dues.{in_order}
 use Rattle.hv_shared.proofs.Heaps.{first_changed}
 use Rattle.hv_shared.proofs.Looking.{due_behind, first_left, shares_permuted}
-use Rattle.hv_shared.proofs.Merging.{found, merges_on, fails_on, fails_here}
-use Rattle.hv_shared.proofs.Moved.{fails_permuted, merges_permuted}
-use Rattle.hv_shared.proofs.Packed.{there_is}
+use Rattle.hv_shared.proofs.Moved.{settles_permuted}
+use Rattle.hv_shared.proofs.Packed.{drop_at, there_is}
 use Rattle.hv_shared.proofs.Passes.{rests_after}
 use Rattle.hv_shared.proofs.held.settlement.first_fault.Goals as goal
 
--- the rests of passes in another order
-turned_back : (ps qs : List PassValue) → IsPermutation ps qs → IsPermutation (rests_of qs) (rests_of ps)
-turned_back ps qs moved = IsPermutation-map rest_of qs ps (IsPermutation-sym ps qs moved)
+-- the entry at a place comes first of those that are left
+here : (es : List (Entry Global)) (k : ℕ) (e : Entry Global) (lists : List (List Receipt)) (found : Option SettleFault) → slice_get es k ≡ Some e → SettlesAs (k + 1) (e ∷ drop (k + 1) es) lists found
+    → SettlesAs (k + 1) (drop k es) lists found
+here es k e lists found h settles = subst (λ (xs : List (Entry Global)). SettlesAs (k + 1) xs lists found) (sym (drop_at es k e h)) settles
+
+-- passes in another order, of which the rests are these
+turned_back : (n : ℕ) (es : List (Entry Global)) (ps qs : List PassValue) (lists : List (List Receipt)) (found : Option SettleFault) → IsPermutation ps qs → rests_of ps ≡ lists
+    → SettlesAs n es (rests_of qs) found → SettlesAs n es lists found
+turned_back n es ps qs lists found moved is settles =
+    subst (λ (ls : List (List Receipt)). SettlesAs n es ls found) is
+    (settles_permuted n es (rests_of qs) (rests_of ps) found (IsPermutation-map rest_of qs ps (IsPermutation-sym ps qs moved)) settles)
 
 pub loop-k-init : goal.loop-k-init
 loop-k-init g c =
-    let es = entries c.args.history.now in
     let begun = c.begin_all.ensures in
     let ps = c.begin_all.new.passes in
-    let qs = c.put_in_order.new.passes in
-    let moved = c.put_in_order.ensures.same in
+    let sorted = c.sort_unstable_by_key.ensures in
+    let qs = c.sort_unstable_by_key.new.self in
+    let moved = sorted.permutation in
     record {
-      merges = λ m. subst (MergesFrom 1 es) begun.rests (merges_permuted 1 es (rests_of qs) (rests_of ps) (turned_back ps qs moved) m);
-      fails = λ f m. subst (λ (ls : List (List Receipt)). FailsFrom 1 es ls f) begun.rests (fails_permuted 1 es (rests_of qs) (rests_of ps) f (turned_back ps qs moved) m);
+      settles = λ found s. turned_back 1 (entries c.args.history.now) ps qs _ found moved begun.rests s;
       shares = shares_permuted ps qs moved ∙ ap sum begun.shares;
-      heap = c.put_in_order.ensures.heap;
+      heap = in_order _ (IsNonDecreasingBy-from_sort_by_key (λ p. p.due) _ sorted.sorted (λ a r q k. search rules));
       due = All-permutation (IsDueAfter 0) ps qs moved begun.due;
     }
 
@@ -42,9 +49,8 @@ pub returns-in-Err-clause-some : goal.returns-in-Err-clause-some
 returns-in-Err-clause-some g c =
     let es = entries c.args.history.now in
     let k = c.loop-k.k in
-    let there : k < length es = let t = c.loop-k-test.true in let n = c.len-k-end.ensures in omega arith in
-    let e = there_is es k there in
-    c.loop-k.invariant.fails _ (fails_here es k _ _ _ there (found es k e.0 e.1) (c.in-Err.ensures.err e.0 e.1))
+    let e = there_is es k (let t = c.loop-k-test.true in let n = c.len-k-end.ensures in omega arith) in
+    c.loop-k.invariant.settles _ (here es k e.0 _ _ e.1 (inl (c.in-Err.ensures.err e.0 e.1)))
 
 pub advance-requires-clause-there : goal.advance-requires-clause-there
 advance-requires-clause-there g c =
@@ -70,22 +76,14 @@ loop-k-preserved g c =
     let q = c.advance.new.self in
     let mid = set ps 0 q in
     let qs = c.sink.new.passes in
-    let there : k < length es = let t = c.loop-k-test.true in let n = c.len-k-end.ensures in omega arith in
-    let few : k + 1 < NEVER = let r = c.requires in omega arith in
-    let e = there_is es k there in
-    let here = found es k e.0 e.1 in
+    let few : k + 1 < NEVER = let r = c.requires in let t = c.loop-k-test.true in let n = c.len-k-end.ensures in omega arith in
+    let e = there_is es k (let t = c.loop-k-test.true in let n = c.len-k-end.ensures in omega arith) in
     let only = c.in_default.ensures.ok e.0 e.1 in
     let is = c.advance.ensures.past in
     let moved = c.sink.ensures.same in
     let rests = rests_after ps 0 p q c.in_default.ensures.there c.index-passes-0.is is in
     record {
-      merges = λ m.
-          l.invariant.merges (merges_on es k 0 e.0 (rests_of ps) there here only
-          (subst (MergesFrom (k + 1 + 1) (drop (k + 1) es)) rests (merges_permuted (k + 1 + 1) (drop (k + 1) es) (rests_of qs) (rests_of mid) (turned_back mid qs moved) m)));
-      fails = λ f m.
-          l.invariant.fails f (fails_on es k 0 e.0 (rests_of ps) f there here only
-          (subst (λ (ls : List (List Receipt)). FailsFrom (k + 1 + 1) (drop (k + 1) es) ls f) rests
-          (fails_permuted (k + 1 + 1) (drop (k + 1) es) (rests_of qs) (rests_of mid) f (turned_back mid qs moved) m)));
+      settles = λ found s. l.invariant.settles found (here es k e.0 (rests_of ps) found e.1 (inr (0, only, turned_back (k + 1 + 1) (drop (k + 1) es) mid qs _ found moved rests s)));
       shares = shares_permuted mid qs moved ∙ ap sum (map-set_same (λ (x : PassValue). x.share) ps 0 q p (ap (λ (x : PassValue). x.share) is)) ∙ l.invariant.shares;
       heap = c.sink.ensures.heap;
       due = All-permutation (IsDueAfter (k + 1)) mid qs moved (due_behind k ps l.invariant.heap l.invariant.due few q c.advance.ensures.due only.alone);

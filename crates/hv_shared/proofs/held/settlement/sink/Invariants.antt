@@ -1,5 +1,4 @@
-use Rattle.std.proofs.Common.{◌-◌, ◌<◌, length}
-use Rattle.std.specs.List.Sorted.{IsPermutation}
+use Rattle.std.proofs.Common.{◌-◌, ◌<◌, length, IsPermutation}
 use Rattle.hv_shared.specs.Due.{dues_of}
 use Rattle.hv_shared.proofs.Heaps.{IsSinking}
 use Rattle.hv_shared.proofs.held.settlement.sink.Given as goal

@@ -1,6 +1,7 @@
 use Rattle.std.proofs.Common.{Some, ap, arith, sym, ◌∙◌}
+use Rattle.std.proofs.lemmas.Option.{same_Some}
 use Rattle.hv_history.specs.History.{entries}
-use Rattle.hv_shared.proofs.Packed.{count, next_is_of, one_value}
+use Rattle.hv_shared.proofs.Packed.{count, next_is_of}
 use Rattle.hv_shared.proofs.receipts.Receipts.is_of.Goals as goal
 
 pub entry-own-requires : goal.entry-own-requires
@@ -24,5 +25,5 @@ returns c = λ entry is.
     let own = c.entry-own.ensures.entry in
     let theirs = c.entry.ensures.entry in (
       λ t. next.0 (own ∙ ap Some (same.0 t) ∙ sym theirs ∙ is),
-      λ of. same.1 (one_value _ _ (sym own ∙ next.1 of ∙ sym is ∙ theirs)),
+      λ of. same.1 (same_Some _ _ (sym own ∙ next.1 of ∙ sym is ∙ theirs)),
     )

@@ -1,7 +1,6 @@
-use Rattle.std.proofs.Common.{◌≡◌, ◌+◌, vec_len}
-use Rattle.std.specs.Prelude.{sum}
+use Rattle.std.proofs.Common.{◌≡◌, ◌+◌, vec_len, sum}
 use Rattle.hv_shared.specs.Merge.{shares_of}
-use Rattle.hv_shared.proofs.held.settlement.gather.Given as goal
+use Rattle.hv_shared.proofs.held.settlement.audit.Given as goal
 
 abbrev pub invariant-loop-pass : goal.invariant-loop-pass
 invariant-loop-pass g l = record {
