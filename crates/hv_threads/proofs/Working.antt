@@ -1,18 +1,16 @@
 -- A work that continues by one action.
-use Rattle.std.proofs.Common.{◌≡◌, ℕ, ◌+◌, ◌<◌, List, [], ◌∷◌, ◌++◌, length, refl, sym, ap, ◌∙◌, subst, arith, append_assoc, append-nil}
-use Rattle.std.specs.Prelude.{reverse}
-use Rattle.std.proofs.lemmas.List.{length-append, reverse-append}
-use Rattle.std.specs.declared.alloc.Global.{Global}
+use Rattle.std.proofs.Common.{◌≡◌, ℕ, ◌+◌, List, [], ◌∷◌, ◌++◌, length, refl, sym, ap, ◌∙◌, subst, arith, append_assoc, append-nil, reverse, length-append, Global}
+use Rattle.std.proofs.lemmas.List.{reverse-append}
 use Rattle.hv_history.specs.declared.kept.HostRefused.{HostRefused}
 use Rattle.hv_policy.specs.declared.event.Action.{Action}
-use Rattle.hv_policy.specs.declared.event.Action.TheVariants.{Hypercall, ReadMsr, WriteMsr, ReadSlot, ClearSlot, ReadFlags, ClearFlag, TakeInterrupt}
 use Rattle.hv_policy.specs.declared.event.Caller.{Caller}
 use Rattle.hv_shared.specs.Pass.{HasReceipts}
 use Rattle.hv_shared.specs.PassValue.{PassValue}
 use Rattle.hv_threads.specs.Perform.{AreWhole, HasBegun, HasPerformed, IsStopped, IsWhole}
-use Rattle.hv_threads.specs.Phase.{IsDone}
+use Rattle.hv_threads.specs.Phase.{HasEnded, IsDone}
 use Rattle.hv_shared.proofs.Driving.{gained-twice}
 use Rattle.hv_shared.specs.declared.receipts.Receipt.{Receipt}
+use Rattle.hv_threads.specs.declared.phase.End.{End}
 use Rattle.hv_threads.specs.declared.phase.End.TheVariants.{Finished, Host}
 use Rattle.hv_threads.specs.declared.phase.Work.{Work}
 
@@ -40,10 +38,30 @@ pub fresh : {L : Type 0} (work : Work L) (left : List (Action Global)) → left 
 fresh work left is back =
     record { did = []; whole = []; in_order = back; count = refl; are_whole = refl; gained = gained-none work.pass }
 
+-- no action is left, or the host stopped the next one
+ended : {L : Type 0} (work : Work L) (mid new : PassValue) (done : ℕ) (left : List (Action Global)) (end : End) (part : List Receipt) → IsWorking work mid done left
+    → HasEnded work.pass.caller end (reverse left) part → HasReceipts part mid new → IsDone work new done end
+ended work mid new done left end part working over gained =
+    record {
+      more = working.whole ++ part;
+      account = record {
+        did = working.did;
+        left = reverse left;
+        whole = working.whole;
+        part = part;
+        in_order = working.in_order;
+        count = working.count;
+        are_whole = working.are_whole;
+        ended = over;
+        all = refl;
+      };
+      gained = gained-twice working.whole part work.pass mid new working.gained gained;
+    }
+
 module _ {L : Type 0} (work : Work L) (mid new : PassValue) (done : ℕ) (all left : List (Action Global)) (what : Action Global) (working : IsWorking work mid done all) (last : all ≡ left ++ what ∷ [])
   where
-    in_order : working.did ++ what ∷ reverse left ≡ work.actions.items
-    in_order = ap (λ (l : List (Action Global)). working.did ++ l) (sym (ap reverse last ∙ reverse-append left (what ∷ []))) ∙ working.in_order
+    back : reverse all ≡ what ∷ reverse left
+    back = ap reverse last ∙ reverse-append left (what ∷ [])
 
     -- one action more
     pub goes_on : HasPerformed what mid new → IsWorking work new (done + 1) left
@@ -52,7 +70,7 @@ module _ {L : Type 0} (work : Work L) (mid new : PassValue) (done : ℕ) (all le
         record {
           did = working.did ++ what ∷ [];
           whole = working.whole ++ performed.more;
-          in_order = append_assoc working.did (what ∷ []) (reverse left) ∙ in_order;
+          in_order = append_assoc working.did (what ∷ []) (reverse left) ∙ ap (λ (l : List (Action Global)). working.did ++ l) (sym back) ∙ working.in_order;
           count = let c = working.count in omega (arith, length-append working.did (what ∷ []));
           are_whole = whole-push work.pass.caller working.did working.whole what performed.more working.are_whole (subst (λ (by : Caller). IsWhole by what performed.more) same performed.whole);
           gained = gained-twice working.whole performed.more work.pass mid new working.gained performed.gained;
@@ -61,38 +79,10 @@ module _ {L : Type 0} (work : Work L) (mid new : PassValue) (done : ℕ) (all le
     -- the host refused it
     pub stops : (why : HostRefused) → HasBegun what mid new → IsDone work new done (Host why)
     stops why begun =
-        let same = working.gained.caller in
-        record {
-          more = working.whole ++ begun.more;
-          account = record {
-            did = working.did;
-            left = what ∷ reverse left;
-            whole = working.whole;
-            part = begun.more;
-            in_order = in_order;
-            count = working.count;
-            are_whole = working.are_whole;
-            ended = subst (λ (by : Caller). IsStopped by what begun.more) same begun.stopped;
-            all = refl;
-          };
-          gained = gained-twice working.whole begun.more work.pass mid new working.gained begun.gained;
-        }
+        let stopped = subst (λ (by : Caller). IsStopped by what begun.more) working.gained.caller begun.stopped in
+        ended work mid new done all (Host why) begun.more working
+        (subst (λ (l : List (Action Global)). HasEnded work.pass.caller (Host why) l begun.more) (sym back) stopped) begun.gained
 
 -- every action came to its end
 pub ends : {L : Type 0} (work : Work L) (pass : PassValue) (done : ℕ) (left : List (Action Global)) → IsWorking work pass done left → left ≡ [] → IsDone work pass done Finished
-ends work pass done left working none =
-    record {
-      more = working.whole;
-      account = record {
-        did = working.did;
-        left = [];
-        whole = working.whole;
-        part = [];
-        in_order = ap (λ (l : List (Action Global)). working.did ++ reverse l) (sym none) ∙ working.in_order;
-        count = working.count;
-        are_whole = working.are_whole;
-        ended = (refl, refl);
-        all = sym (append-nil working.whole);
-      };
-      gained = working.gained;
-    }
+ends work pass done left working none = ended work pass pass done left Finished [] working (ap reverse none, refl) (gained-none pass)

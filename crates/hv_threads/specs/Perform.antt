@@ -3,8 +3,7 @@ use Rattle.std.specs.Prelude.{ℕ, ◌≡◌, List, [], ◌∷◌, ◌++◌}
 use Rattle.std.specs.declared.alloc.Global.{Global}
 use Rattle.hv_abi.specs.declared.frame.Frame.{Frame}
 use Rattle.hv_policy.specs.declared.event.Action.{Action}
-use Rattle.hv_policy.specs.declared.event.Action.TheVariants.{Hypercall, ReadMsr, WriteMsr, ReadSlot}
-use Rattle.hv_policy.specs.declared.event.Action.TheVariants.{ClearSlot, ReadFlags, ClearFlag, TakeInterrupt}
+use Rattle.hv_policy.specs.declared.event.Action.TheVariants.{Hypercall}
 use Rattle.hv_policy.specs.declared.event.Caller.{Caller}
 use Rattle.hv_policy.specs.declared.reply.Reply.{Reply}
 use Rattle.hv_shared.specs.Drive.{AreElements, IsWholeCall}
@@ -27,13 +26,7 @@ pub record IsCall (by : Caller) (frame : Frame Global) (list : List Receipt) : T
 -- the receipts of an action that came to its end: one for each element of a hypercall, and one for an access
 abbrev pub IsWhole : Caller → Action Global → List Receipt → Type 0
 IsWhole by (Hypercall frame) list = IsCall by frame list
-IsWhole by (ReadMsr msr) list = IsAccess by (ReadMsr msr) list
-IsWhole by (WriteMsr msr value) list = IsAccess by (WriteMsr msr value) list
-IsWhole by (ReadSlot sint) list = IsAccess by (ReadSlot sint) list
-IsWhole by (ClearSlot sint) list = IsAccess by (ClearSlot sint) list
-IsWhole by (ReadFlags sint) list = IsAccess by (ReadFlags sint) list
-IsWhole by (ClearFlag sint flag) list = IsAccess by (ClearFlag sint flag) list
-IsWhole by TakeInterrupt list = IsAccess by TakeInterrupt list
+IsWhole by what list = IsAccess by what list
 
 -- the receipts of the elements of a call that the host stopped
 pub record IsPart (by : Caller) (frame : Frame Global) (list : List Receipt) : Type 0 where
@@ -43,13 +36,7 @@ pub record IsPart (by : Caller) (frame : Frame Global) (list : List Receipt) : T
 -- the receipts of an action that the host stopped: one for each element before, and none for an access
 abbrev pub IsStopped : Caller → Action Global → List Receipt → Type 0
 IsStopped by (Hypercall frame) list = IsPart by frame list
-IsStopped by (ReadMsr msr) list = list ≡ []
-IsStopped by (WriteMsr msr value) list = list ≡ []
-IsStopped by (ReadSlot sint) list = list ≡ []
-IsStopped by (ClearSlot sint) list = list ≡ []
-IsStopped by (ReadFlags sint) list = list ≡ []
-IsStopped by (ClearFlag sint flag) list = list ≡ []
-IsStopped by TakeInterrupt list = list ≡ []
+IsStopped by what list = list ≡ []
 
 -- the receipts of these actions, one after another, each to its end
 abbrev pub AreWhole : Caller → List (Action Global) → List Receipt → Type 0

@@ -25,13 +25,7 @@ pub(crate) fn perform<L: Ledger, R: Wait, G: Gate>(
             Ok(_) => Ok(()),
             Err(refused) => Err(refused.why),
         },
-        Action::ReadMsr(_)
-        | Action::WriteMsr(_, _)
-        | Action::ReadSlot(_)
-        | Action::ClearSlot(_)
-        | Action::ReadFlags(_)
-        | Action::ClearFlag(_, _)
-        | Action::TakeInterrupt => match shared.call(rt, pass, gate, action) {
+        action => match shared.call(rt, pass, gate, action) {
             Ok(_) => Ok(()),
             Err(why) => Err(why),
         },

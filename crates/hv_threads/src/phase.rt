@@ -1,6 +1,6 @@
 // Many threads, each with a pass.
-ghost use Rattle.std.specs.Prelude.{◌≡◌, ◌<◌, ◌≤◌, ◌+◌, [], ℕ, IfOk, IfErr, length};
-ghost use Rattle.std.specs.Prelude.{vec_len, vec_capacity, slice_index_or, map, reverse};
+ghost use Rattle.std.specs.Prelude.{◌≡◌, ◌<◌, ◌≤◌, ◌+◌, [], ℕ, IfOk, IfErr, length, vec_len, vec_capacity};
+ghost use Rattle.std.specs.Prelude.{slice_index_or, map, reverse};
 ghost use Rattle.hv_threads.specs.Phase.{IsDoneAt, EachDone, done_of};
 ghost use Rattle.hv_threads.specs.declared.phase.Task.{Task};
 
@@ -54,13 +54,13 @@ struct Task<L: Ledger> {
 }
 
 // Performs the actions in order, up to the first that the host refuses.
+#[tactic(auto, using(crate::proofs::Working::goes_on))]
 fn run_work<L: Ledger, R: Wait, G: Gate>(rt: &R, shared: &Shared<L>, gate: &G, task: &mut Task<L>)
     ensures { IsDoneAt task.old task.new }
 {
     let Task { work, done, end } = task;
     let Work { pass, actions } = work;
     *done = 0;
-    *end = End::Finished;
     actions.reverse();
     while let Some(action) = actions.pop() {
         if let Err(why) = perform(rt, shared, gate, pass, action) {
@@ -69,12 +69,13 @@ fn run_work<L: Ledger, R: Wait, G: Gate>(rt: &R, shared: &Shared<L>, gate: &G, t
         }
         *done += 1;
     }
+    *end = End::Finished;
 }
 
 // A task for each work, the last work first.
 fn tasks_of<L: Ledger>(works: Vec<Work<L>>, tasks: &mut Vec<Task<L>>)
     requires { (tasks.old.items ≡ []) × (vec_len works ≤ vec_capacity tasks.old) }
-    ensures { map (λ s. s.work) tasks.new.items ≡ reverse works.items }
+    ensures { works.items ≡ map (λ s. s.work) (reverse tasks.new.items) }
 {
     let mut works = works;
     while let Some(work) = works.pop() {
@@ -94,8 +95,7 @@ fn dones_of<L: Ledger>(tasks: Vec<Task<L>>, dones: &mut Vec<Done<L>>)
     let mut tasks = tasks;
     while let Some(task) = tasks.pop() {
         let Task { work, done, end } = task;
-        let Work { pass, actions } = work;
-        drop(actions);
+        let pass = work.pass;
         dones.push_reserved(Done { pass, done, end });
     }
 }
@@ -135,10 +135,7 @@ fn run_tasks<L: Ledger + Send + Sync, R: Threads + Wait + Sync, G: Gate>(
     ensures { (i : ℕ) (d : Task L) → i < length tasks.old
         → IsDoneAt (slice_index_or tasks.old i d) (slice_index_or tasks.new i d) }
 {
-    let count = tasks.len();
-    if count == 0 {
-        return;
-    }
+    let count = tasks.len().max(1);
     let one = |_: usize, task: &mut Task<L>|
         ensures { IsDoneAt task.entry.now task.exit.now }
     { run_work(rt, shared, gate, task) };
