@@ -1,23 +1,33 @@
 -- What lines ask of a processor, and what receipts it has of them.
-use Rattle.std.proofs.Common.{◌≡◌, ◌+◌, List, [], ◌∷◌, ◌++◌, refl, sym, ap, ◌∙◌, subst, append_assoc, Bool, cond}
-use Rattle.std.specs.Prelude.{map, filter, All}
-use Rattle.std.specs.List.{Contains}
+use Rattle.std.proofs.Common.{◌≡◌, ◌+◌, List, [], ◌∷◌, ◌++◌, refl, sym, ap, ◌∙◌, subst, append_assoc, Bool, cond, true, false, map, filter, All, Contains, Global}
+use Rattle.std.specs.Bool.{Decides}
+use Rattle.std.proofs.lemmas.Bool.{false≢true}
 use Rattle.std.proofs.lemmas.List.{map-append}
 use Rattle.std.proofs.lemmas.List.Elements.{filter-append, All-head, All-tail, All-append, All-cons, All-nil}
-use Rattle.std.specs.declared.alloc.Global.{Global}
 use Rattle.hv_abi.specs.declared.frame.Frame.{Frame}
 use Rattle.hv_policy.specs.declared.event.Action.{Action}
 use Rattle.hv_policy.specs.declared.event.Action.TheVariants.{Hypercall, ReadMsr, WriteMsr, ReadSlot, ClearSlot, ReadFlags, ClearFlag, TakeInterrupt}
 use Rattle.hv_policy.specs.declared.event.Caller.{Caller}
 use Rattle.hv_phases.specs.Lines.{asked_by}
 use Rattle.hv_script.specs.declared.line.Line.{Line}
-use Rattle.hv_shared.proofs.Callers.{is_another, is_itself}
+use Rattle.hv_shared.proofs.Callers.{is_another, is_itself, same_caller}
 use Rattle.hv_shared.specs.ByCaller.{is_caller}
 use Rattle.hv_history.specs.Run.{restart, start_of}
 use Rattle.hv_shared.specs.Drive.{AreElements}
 use Rattle.hv_shared.specs.Pass.{receipt}
 use Rattle.hv_threads.specs.Perform.{AreWhole, IsAccess, IsWhole}
 use Rattle.hv_shared.specs.declared.receipts.Receipt.{Receipt}
+
+pub decides : (a b : Caller) → Decides (is_caller a b) (a ≡ b)
+decides a b = ((λ is. sym (same_caller a b is)), (λ same. is_itself a b (sym same)))
+
+-- two processors are one or not
+pub either : {X : Type 0} (by c : Caller) → (c ≡ by → X) → ((c ≡ by → ⊥) → X) → X
+either {X} by c same other = go (is_caller by c) refl
+  where
+    go : (t : Bool) → is_caller by c ≡ t → X
+    go true is = same (same_caller by c is)
+    go false is = other (λ e. false≢true (sym is ∙ is_itself by c e))
 
 -- what holds of each of two lists together holds of each of one of them
 pub All-second : {X : Type 0} (P : X → Type 0) (xs ys : List X) → All P (xs ++ ys) → All P ys

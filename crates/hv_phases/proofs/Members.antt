@@ -1,38 +1,39 @@
--- A crew that changes at one processor.
-use Rattle.std.proofs.Common.{◌≡◌, ℕ, List, [], ◌∷◌, ◌++◌, drop, length, refl, sym, ap, ◌∙◌, subst, append-nil, Bool, false, Option, Some, None, inl, inr}
-use Rattle.std.specs.Prelude.{All, IfSome, IsSome, is_some}
-use Rattle.std.specs.List.{Contains}
-use Rattle.std.proofs.lemmas.Bool.{false≢true}
-use Rattle.std.proofs.lemmas.List.{drop_at}
+-- What a processor has run and is asked for, after one line or group more.
+use Rattle.std.proofs.Common.{◌≡◌, ℕ, List, [], ◌∷◌, ◌++◌, drop, length, refl, sym, ap, ◌∙◌, subst, ◌≤◌, arith, append-nil, Option, Some, None, All, IfSome, drop_at, Global}
 use Rattle.std.proofs.lemmas.List.Elements.{All-nil}
-use Rattle.std.specs.declared.alloc.Global.{Global}
+use Rattle.std.proofs.lemmas.Option.{none-some, same_Some}
 use Rattle.hv_policy.specs.declared.event.Action.{Action}
 use Rattle.hv_policy.specs.declared.event.Caller.{Caller}
-use Rattle.hv_phases.specs.PassMap.{AreBehind, PassMap, Each, HasGiven, HasJoined, HasRunGroups, HasRunLine, IsGiven, IsWithin, IsWorkOf, Past, StayThere, highest_above, last_in, member_of}
+use Rattle.hv_phases.specs.PassMap.{AreBehind, Each, HasGiven, HasJoined, HasRunGroup, HasRunGroups, IsAsked, IsBusy, IsIdle, IsWithin, PassMap, Past, is_key, key_of, last_in}
 use Rattle.hv_phases.specs.Lines.{asked_by}
-use Rattle.hv_phases.specs.declared.pass_map.PassEntry.{PassEntry}
 use Rattle.hv_phases.proofs.Asked.{asked_by-append, asked_by_other, asked_by_own}
 use Rattle.hv_phases.proofs.Behind.{behind-push}
-use Rattle.hv_phases.proofs.Named.{either}
-use Rattle.hv_phases.proofs.Numbers.{all_above}
+use Rattle.hv_phases.proofs.Maps.{each_written}
 use Rattle.hv_script.specs.declared.line.Line.{Line}
 use Rattle.hv_shared.specs.Pass.{HasReceipts}
 use Rattle.hv_shared.specs.PassValue.{PassValue}
-use Rattle.hv_threads.specs.Perform.{AreWhole, HasPerformed}
 use Rattle.hv_shared.specs.declared.receipts.Receipt.{Receipt}
+use Rattle.hv_threads.specs.Perform.{AreWhole, HasPerformed}
 use Rattle.hv_threads.specs.Phase.{HasEnded, IsDone}
 use Rattle.hv_threads.specs.declared.phase.Done.{Done}
 use Rattle.hv_threads.specs.declared.phase.End.{End}
 use Rattle.hv_threads.specs.declared.phase.End.TheVariants.{Finished}
 use Rattle.hv_threads.specs.declared.phase.Work.{Work}
+use Rattle.indexmap.specs.IndexMap.{IndexMap, UpdatesBy, get}
 
--- what a line adds to its processor's work, and to another's
-asked_more : (c : Caller) (taken : List (Line Global)) (line : Line Global) → line.by ≡ c → asked_by c (taken ++ line ∷ []) ≡ asked_by c taken ++ line.action ∷ []
-asked_more c taken line own = asked_by-append c taken (line ∷ []) ∙ ap (λ (acts : List (Action Global)). asked_by c taken ++ acts) (asked_by_own c line own)
+module _ (past : List Past) (taken : List (Line Global)) (line : Line Global) (c : Caller) (pass : PassValue) (actions : List (Action Global)) (was : IsAsked past taken c pass actions) where
+  -- a line more, of the processor
+  asked_own : line.by ≡ c → IsAsked past (taken ++ line ∷ []) c pass (actions ++ line.action ∷ [])
+  asked_own own =
+      let more = asked_by-append pass.caller taken (line ∷ []) ∙ ap (λ (acts : List (Action Global)). asked_by pass.caller taken ++ acts) (asked_by_own pass.caller line (own ∙ sym was.caller)) in
+      record { caller = was.caller; run = was.run; asked = ap (λ (acts : List (Action Global)). acts ++ line.action ∷ []) was.asked ∙ sym more }
 
-asked_still : (c : Caller) (taken : List (Line Global)) (line : Line Global) → (line.by ≡ c → ⊥) → asked_by c (taken ++ line ∷ []) ≡ asked_by c taken
-asked_still c taken line other =
-    asked_by-append c taken (line ∷ []) ∙ ap (λ (acts : List (Action Global)). asked_by c taken ++ acts) (asked_by_other c line other) ∙ append-nil (asked_by c taken)
+  -- and of another one
+  asked_still : (c ≡ line.by → ⊥) → IsAsked past (taken ++ line ∷ []) c pass actions
+  asked_still other =
+      let none = asked_by_other pass.caller line (λ same. other (sym was.caller ∙ sym same)) in
+      let more = asked_by-append pass.caller taken (line ∷ []) ∙ ap (λ (acts : List (Action Global)). asked_by pass.caller taken ++ acts) none ∙ append-nil (asked_by pass.caller taken) in
+      record { caller = was.caller; run = was.run; asked = was.asked ∙ sym more }
 
 -- a group of these lines, until whose end this number is the highest
 abbrev pub ended : List (Line Global) → ℕ → Past
@@ -50,8 +51,8 @@ gained_is : (more : List Receipt) (p q : PassValue) → HasReceipts more p q →
 gained_is more p q gained = ap (drop (length p.receipts)) gained.receipts ∙ drop_at p.receipts more (length p.receipts) refl
 
 -- what a thread did that the host didn't stop
-pub worked : {L : Type 0} (past : List Past) (taken : List (Line Global)) (now : ℕ) (work : Work L) (done : Done L) → IsDone work done.pass done.done done.end → done.end ≡ Finished → IsWorkOf past
-    taken work
+pub worked : {L : Type 0} (past : List Past) (taken : List (Line Global)) (now : ℕ) (work : Work L) (done : Done L) → IsDone work done.pass done.done done.end → done.end ≡ Finished
+    → IsBusy past taken work.pass.caller work
     → All (IsWithin (last_in 0 past) now) (drop (length work.pass.receipts) done.pass.receipts) → HasRunGroups (past ++ ended taken now ∷ []) done.pass
 worked past taken now work done did finished is within =
     let by = work.pass.caller in
@@ -64,127 +65,52 @@ worked past taken now work done did finished is within =
     (subst (All (IsWithin (last_in 0 past) now)) (gained_is did.more work.pass done.pass did.gained) within)
 
 -- nothing was asked of it
-pub idle_given : {L : Type 0} (past : List Past) (taken : List (Line Global)) (now : ℕ) (m : PassEntry L) → IsGiven past taken m → m.asked.items ≡ [] → IsGiven (past ++ ended taken now ∷ []) [] m
-idle_given past taken now m given idle =
-    let c = m.pass.caller in
-    let none : AreWhole c (asked_by c taken) [] = subst (λ (acts : List (Action Global)). AreWhole c acts []) (sym idle ∙ given.asked) refl in
+pub rested : (past : List Past) (taken : List (Line Global)) (now : ℕ) (c : Caller) (pass : PassValue) → IsIdle past taken c pass → IsIdle (past ++ ended taken now ∷ []) [] c pass
+rested past taken now c pass idle =
+    let none : AreWhole pass.caller (asked_by pass.caller taken) [] = subst (λ (acts : List (Action Global)). AreWhole pass.caller acts []) idle.asked refl in
     record {
-      run = subst (λ (rs : List Receipt). AreBehind c 0 (past ++ ended taken now ∷ []) rs) (append-nil m.pass.receipts)
-          (behind-push c 0 past m.pass.receipts (ended taken now) [] given.run none (All-nil (IsWithin (last_in 0 past) now)));
-      asked = idle;
-      going = given.going;
+      caller = idle.caller;
+      run = grown past taken now [] pass pass (record { receipts = sym (append-nil pass.receipts); share = omega arith; caller = refl }) idle.run none (All-nil (IsWithin (last_in 0 past) now));
+      asked = refl;
     }
 
-pub some_is : {X : Type 0} (a b : X) → Some a ≡ Some b → a ≡ b
-some_is a b is = cc
+-- a pass joined
+pub joined : {S : Type 0} (past : List Past) (pass : PassValue) (old new : PassMap S) → HasJoined pass old new → HasRunGroups past pass → Each (IsIdle past []) old
+    → Each (IsIdle past []) new
+joined past pass old new did run each =
+    each_written pass.caller (key_of pass.caller) refl (IsIdle past []) (IsIdle past []) old new (Some pass) did
+    (λ x same. subst (IsIdle past [] pass.caller) (same_Some pass x same) (record { caller = refl; run = run; asked = refl })) (λ c x other was. was) each
 
-pub some_there : {X : Type 0} (o : Option X) (x : X) → o ≡ Some x → IsSome o
-some_there o x is = ap is_some is
-
-pub there_is : {X : Type 0} (o : Option X) → IsSome o → (x : X) × (o ≡ Some x)
-there_is None there = absurd (false≢true there)
-there_is (Some x) there = (x, refl)
-
-pub none_there : {X : Type 0} (o : Option X) → o ≡ None → IsSome o → ⊥
-none_there o none there = let is = sym none ∙ (there_is o there).1 in cc
-
-module _ {L S : Type 0} (old new : PassMap L S) (by : Caller) (others : (c : Caller) → (c ≡ by → ⊥) → member_of c new ≡ member_of c old) where
-  -- what holds of each, where one was changed
-  pub each_changed : (P Q : PassEntry L → Type 0) (n : PassEntry L) → member_of by new ≡ Some n → n.pass.caller ≡ by → Q n
-      → ((c : Caller) (m : PassEntry L) → (c ≡ by → ⊥) → m.pass.caller ≡ c → P m → Q m) → Each P old → Each Q new
-  each_changed P Q n here keyed holds stays each = λ c m is.
-      either by c
-      (λ same.
-      let e : n ≡ m = some_is n m (sym here ∙ ap (λ (x : Caller). member_of x new) (sym same) ∙ is) in
-      subst (λ (x : PassEntry L). (x.pass.caller ≡ c) × Q x) e (keyed ∙ sym same, holds))
-      (λ other. let was = each c m (sym (others c other) ∙ is) in (was.0, stays c m other was.0 was.1))
-
-  -- what holds of each, where one was taken out
-  pub each_without : (P : PassEntry L → Type 0) → member_of by new ≡ None → Each P old → Each P new
-  each_without P none each = λ c m is.
-      either by c
-      (λ same. let wrong = sym none ∙ ap (λ (x : Caller). member_of x new) (sym same) ∙ is in cc)
-      (λ other. each c m (sym (others c other) ∙ is))
-
-  pub stay_changed : (n : PassEntry L) → member_of by new ≡ Some n → StayThere old new
-  stay_changed n here = λ c there.
-      either by c
-      (λ same. some_there (member_of c new) n (ap (λ (x : Caller). member_of x new) same ∙ here))
-      (λ other. subst (λ (o : Option (PassEntry L)). IsSome o) (sym (others c other)) there)
-
-module _ {L S : Type 0} (line : Line Global) (old new : PassMap L S) (m n : PassEntry L) (was : member_of line.by old ≡ Some m) (here : member_of line.by new ≡ Some n)
-    (others : (c : Caller) → (c ≡ line.by → ⊥) → member_of c new ≡ member_of c old) where
-  not_own : (c : Caller) (x : PassEntry L) → (c ≡ line.by → ⊥) → x.pass.caller ≡ c → line.by ≡ x.pass.caller → ⊥
-  not_own c x other keyed same = other (sym keyed ∙ sym same)
-
-  -- a line was handed to its processor
-  pub given_more : n.pass ≡ m.pass → n.stopped ≡ m.stopped → n.asked.items ≡ m.asked.items ++ line.action ∷ [] → (xs ys : List Caller) → ((c : Caller) → Contains xs c → Contains ys c)
-      → (m.asked.items ≡ [] → Contains ys line.by) → HasGiven line xs ys old new
-  given_more pass stopped asked xs ys kept noted =
-      record {
-        each = λ past taken each.
-            let g = each line.by m was in
-            let same : n.pass.caller ≡ m.pass.caller = ap (λ (p : PassValue). p.caller) pass in
-            each_changed old new line.by others (IsGiven past taken) (IsGiven past (taken ++ line ∷ [])) n here (same ∙ g.0)
-            (record {
-              run = subst (HasRunGroups past) (sym pass) g.1.run;
-              asked = asked ∙ ap (λ (l : List (Action Global)). l ++ line.action ∷ []) g.1.asked ∙ sym (asked_more m.pass.caller taken line (sym g.0))
-                  ∙ ap (λ (c : Caller). asked_by c (taken ++ line ∷ [])) (sym same);
-              going = stopped ∙ g.1.going;
-            })
-            (λ c x other keyed is. record { run = is.run; asked = is.asked ∙ sym (asked_still x.pass.caller taken line (not_own c x other keyed)); going = is.going })
-            each;
-        busy = λ busy c x is.
-            either line.by c
-            (λ same. inl (subst (Contains ys) (sym same) (elim (busy line.by m was) [
-              | inl there ↦ kept line.by there
-              | inr idle ↦ noted idle
-            ])))
-            (λ other. elim (busy c x (sym (others c other) ∙ is)) [
-              | inl there ↦ inl (kept c there)
-              | inr idle ↦ inr idle
-            ]);
-        there = stay_changed old new line.by others n here;
-      }
+module _ {S : Type 0} (line : Line Global) (key : ℕ × ℕ) (is : key ≡ key_of line.by) (old new : PassMap S) where
+  -- a line was handed to its processor, of which these actions were asked before
+  pub given : {L T : Type 0} (busy_old busy_new : IndexMap (ℕ × ℕ) (Work L) T) (work : Work L) (actions : List (Action Global)) → UpdatesBy is_key (is_key key) old new None
+      → UpdatesBy is_key (is_key key) busy_old busy_new (Some work) → work.actions.items ≡ actions ++ line.action ∷ []
+      → ((past : List Past) (taken : List (Line Global)) → Each (IsIdle past taken) old → Each (IsBusy past taken) busy_old → IsAsked past taken line.by work.pass actions)
+      → HasGiven line old new busy_old busy_new
+  given busy_old busy_new work actions out put asked was past taken idle busy =
+      let now = taken ++ line ∷ [] in
+      let own = subst (IsAsked past now line.by work.pass) (sym asked) (asked_own past taken line line.by work.pass actions (was past taken idle busy) refl) in (
+        each_written line.by key is (IsIdle past taken) (IsIdle past now) old new None out (λ x none. absurd (none-some x none)) (λ c x other i. asked_still past taken line c x [] i other) idle,
+        each_written line.by key is (IsBusy past taken) (IsBusy past now) busy_old busy_new (Some work) put (λ x same. subst (IsBusy past now line.by) (same_Some work x same) own)
+            (λ c x other b. asked_still past taken line c x.pass x.actions.items b other) busy,
+      )
 
   -- a line was run
-  line_run : (last now : ℕ) → HasPerformed line.action m.pass n.pass → highest_above last last (drop (length m.pass.receipts) n.pass.receipts) ≡ Some now → n.asked.items ≡ m.asked.items
-      → n.stopped ≡ false → HasRunLine line last now old new
-  line_run last now did above asked going =
-      let are = all_above last last now did.more (ap (highest_above last last) (sym (gained_is did.more m.pass n.pass did.gained)) ∙ above) in
+  pub line_run : (p q : PassValue) (last before : ℕ) (list : List Receipt) (told : Option ℕ) → get is_key old (key_of line.by) ≡ Some p → UpdatesBy is_key (is_key key) old new (Some q)
+      → HasPerformed line.action p q → before ≡ length p.receipts → list ≡ q.receipts → IfSome told (λ now. (last ≤ now) × All (IsWithin last now) (drop before list))
+      → IfSome told (λ now. HasRunGroup (line ∷ []) last now old new)
+  line_run p q last before list None was put did count list_is are = tt
+  line_run p q last before list (Some now) was put did count list_is are =
+      let more = ap (λ (n : ℕ). drop n list) count ∙ ap (drop (length p.receipts)) list_is ∙ gained_is did.more p q did.gained in
       record {
         rises = are.0;
-        each = λ past last_is there each.
-            let g = each line.by m was in
-            let whole : AreWhole m.pass.caller (asked_by m.pass.caller (line ∷ [])) did.more =
-            subst (λ (acts : List (Action Global)). AreWhole m.pass.caller acts did.more) (sym (asked_by_own m.pass.caller line (sym g.0)))
-            (did.more, [], sym (append-nil did.more), did.whole, refl) in (
-              each_changed old new line.by others (IsGiven past []) (IsGiven (past ++ ended (line ∷ []) now ∷ []) []) n here (did.gained.caller ∙ g.0)
-                  (record {
-                    run = grown past (line ∷ []) now did.more m.pass n.pass did.gained g.1.run whole (subst (λ (low : ℕ). All (IsWithin low now) did.more) (sym last_is) are.1);
-                    asked = asked ∙ g.1.asked;
-                    going = going;
-                  })
-                  (λ c x other keyed is.
-                  let given : IsGiven past (line ∷ []) x = record {
-                    run = is.run;
-                    asked = is.asked ∙ sym (asked_by_other x.pass.caller line (not_own c x other keyed));
-                    going = is.going;
-                  } in
-                  idle_given past (line ∷ []) now x given is.asked)
-                  each,
-              stay_changed old new line.by others n here,
-            );
+        each = λ past last_is each.
+            let one = each line.by p was in
+            let whole : AreWhole p.caller (asked_by p.caller (line ∷ [])) did.more = subst (λ (acts : List (Action Global)). AreWhole p.caller acts did.more)
+            (sym (asked_by_own p.caller line (sym one.caller))) (did.more, [], sym (append-nil did.more), did.whole, refl) in
+            let within = subst (λ (low : ℕ). All (IsWithin low now) did.more) (sym last_is) (subst (All (IsWithin last now)) more are.1) in
+            let all = past ++ ended (line ∷ []) now ∷ [] in
+            let own : IsIdle all [] line.by q = record { caller = did.gained.caller ∙ one.caller; run = grown past (line ∷ []) now did.more p q did.gained one.run whole within; asked = refl } in
+            each_written line.by key is (IsIdle past []) (IsIdle all []) old new (Some q) put (λ x same. subst (IsIdle all [] line.by) (same_Some q x same) own)
+            (λ c x other i. rested past (line ∷ []) now c x (asked_still past [] line c x [] i other)) each;
       }
-
-  pub line_told : (last : ℕ) (told : Option ℕ) → HasPerformed line.action m.pass n.pass → told ≡ highest_above last last (drop (length m.pass.receipts) n.pass.receipts)
-      → n.asked.items ≡ m.asked.items → n.stopped ≡ false → IfSome told (λ now. HasRunLine line last now old new)
-  line_told last None did is asked going = tt
-  line_told last (Some now) did is asked going = line_run last now did (sym is) asked going
-
--- a pass joined
-pub joined : {L S : Type 0} (P : PassEntry L → Type 0) (pass : PassValue) (stopped : Bool) (old new : PassMap L S) → HasJoined pass stopped old new
-    → ((m : PassEntry L) → m.pass ≡ pass → m.asked.items ≡ [] → m.stopped ≡ stopped → P m) → Each P old → Each P new
-joined P pass stopped old new is holds each =
-    each_changed old new pass.caller is.others P P is.member is.here (ap (λ (p : PassValue). p.caller) is.pass_is) (holds is.member is.pass_is is.idle is.stopped_is)
-    (λ c m other keyed so. so) each

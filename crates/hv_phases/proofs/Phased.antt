@@ -1,19 +1,15 @@
 -- Histories in which each group of lines stands behind the groups before it.
-use Rattle.std.proofs.Common.{◌≡◌, ℕ, ◌+◌, ◌<◌, ◌≤◌, List, [], ◌∷◌, ◌++◌, length, refl, sym, ap, ◌∙◌, subst, arith, append-nil, append_assoc, Bool, true, false, inl, inr}
-use Rattle.std.specs.Prelude.{◌⊎◌, nat_lt, All, if◌then◌else◌}
-use Rattle.std.specs.List.{Contains}
+use Rattle.std.proofs.Common.{◌≡◌, ℕ, ◌+◌, ◌<◌, ◌≤◌, List, [], ◌∷◌, ◌++◌, length, refl, sym, ap, ◌∙◌, subst, arith, append-nil, append_assoc, Bool, true, false, inl, inr, ◌⊎◌, nat_lt, All}
+use Rattle.std.proofs.Common.{if◌then◌else◌, Contains, length-append, Global}
 use Rattle.std.proofs.lemmas.Bool.Decides.{nat_tests}
-use Rattle.std.proofs.lemmas.List.{length-append}
 use Rattle.std.proofs.lemmas.List.Elements.{All-cons, All-head, All-nil, All-tail, All-weaker}
-use Rattle.std.specs.declared.alloc.Global.{Global}
 use Rattle.hv_history.specs.declared.entry.Entry.{Entry}
 use Rattle.hv_policy.specs.declared.event.Action.{Action}
 use Rattle.hv_policy.specs.declared.event.Caller.{Caller}
 use Rattle.hv_phases.specs.PassMap.{AreBehind, AreCallersOf, AreOfOne, ArePast, IsGroup, IsWithin, Past, lines_in}
-use Rattle.hv_phases.specs.Lines.{AreApart, AreInOrder, ArePhased, AreRun, asked_by}
-use Rattle.hv_phases.proofs.Asked.{All-second, asked_by-append, asked_by_other, asked_by_own, whole-append}
-use Rattle.hv_phases.proofs.Behind.{behind_above}
-use Rattle.hv_phases.proofs.Named.{either}
+use Rattle.hv_phases.specs.Lines.{AreApart, AreInOrder, ArePhased, AreRun, HasCut, asked_by}
+use Rattle.hv_phases.proofs.Asked.{All-second, asked_by-append, asked_by_other, asked_by_own, either, whole-append}
+use Rattle.hv_phases.proofs.Behind.{behind_above, behind_whole}
 use Rattle.hv_phases.proofs.Renumbered.{whole_from}
 use Rattle.hv_script.specs.declared.line.Line.{Line}
 use Rattle.hv_shared.proofs.Callers.{is_another, is_itself}
@@ -129,103 +125,96 @@ same_cut last (x ∷ xs) ys (z ∷ zs) ws is low high low_too high_too =
     high_too in
     ((λ i. one i ∷ more.0 i), more.1)
 
--- the entries of these groups from number n on, group by group
-abbrev pub AreGroups : ℕ → List Past → List (Entry Global) → Type 0
-AreGroups n [] es = es ≡ []
-AreGroups n (group ∷ past) es =
-    (own : List (Entry Global)) × (rest : List (Entry Global)) × (es ≡ own ++ rest) × ((c : Caller) → AreWhole c (asked_by c group.lines) (receipts_by c n own)) × AreGroups (n + length own) past rest
-
--- a history of groups of these lines
+-- a history of groups of these lines, in which each processor did its part of each group behind the groups before it
 pub record IsGrouped (serial : Bool) (lines : List (Line Global)) (history : List (Entry Global)) : Type 0 where
   pub past : List Past
   pub lines_are : lines_in past ≡ lines
   pub rises : ArePast serial 0 past
-  pub groups : AreGroups 1 past history
+  pub behind : (c : Caller) → AreBehind c 0 past (receipts_by c 1 history)
 
--- a history of which each processor's receipts are known by group is cut at the groups' last numbers
-pub groups_of : (serial : Bool) (n last : ℕ) (past : List Past) (es : List (Entry Global)) → ArePast serial last past → ((c : Caller) → AreBehind c last past (receipts_by c n es))
-    → AreGroups n past es
-groups_of serial n last [] es are behind = no_entries n es behind
-groups_of serial n last (group ∷ past) es are behind =
+pub all_run : (serial : Bool) (lines : List (Line Global)) (history : List (Entry Global)) → IsGrouped serial lines history → AreRun lines history
+all_run serial lines history are c =
+    subst (λ (ls : List (Line Global)). AreWhole c (asked_by c ls) (receipts_by c 1 history)) are.lines_are (behind_whole c 0 are.past (receipts_by c 1 history) (are.behind c))
+
+-- the entries of the first group, and the others behind them
+record HasFirst (n : ℕ) (group : Past) (past : List Past) (es : List (Entry Global)) : Type 0 where
+  own : List (Entry Global)
+  rest : List (Entry Global)
+  all : es ≡ own ++ rest
+  did : (c : Caller) → AreWhole c (asked_by c group.lines) (receipts_by c n own)
+  behind : (c : Caller) → AreBehind c group.last past (receipts_by c (n + length own) rest)
+
+has_first : (serial : Bool) (n last : ℕ) (group : Past) (past : List Past) (es : List (Entry Global)) → ArePast serial last (group ∷ past)
+    → ((c : Caller) → AreBehind c last (group ∷ past) (receipts_by c n es)) → HasFirst n group past es
+has_first serial n last group past es are behind =
     let cut = cut_by group.last n es in
     let same : (c : Caller) → (receipts_by c n cut.own ≡ (behind c).0) × (receipts_by c (n + length cut.own) cut.rest ≡ (behind c).1) = λ c.
     let b = behind c in
     same_cut group.last (receipts_by c n cut.own) (receipts_by c (n + length cut.own) cut.rest) b.0 b.1
     (sym (receipts-append c n cut.own cut.rest) ∙ ap (receipts_by c n) (sym cut.all) ∙ b.2) (cut.up_to c) (cut.above c)
-    (All-weaker (IsWithin last group.last) (λ (r : Receipt). r.number ≤ group.last) (λ r within. within.1) b.0 b.4) (behind_above serial c group.last past b.1 are.2 b.5) in (
-      cut.own,
-      cut.rest,
-      cut.all,
-      λ c. subst (AreWhole c (asked_by c group.lines)) (sym (same c).0) (behind c).3,
-      groups_of serial (n + length cut.own) group.last past cut.rest are.2 (λ c. subst (AreBehind c group.last past) (sym (same c).1) (behind c).5),
-    )
+    (All-weaker (IsWithin last group.last) (λ (r : Receipt). r.number ≤ group.last) (λ r within. within.1) b.0 b.4) (behind_above serial c group.last past b.1 are.2 b.5) in
+    record {
+      own = cut.own;
+      rest = cut.rest;
+      all = cut.all;
+      did = λ c. subst (AreWhole c (asked_by c group.lines)) (sym (same c).0) (behind c).3;
+      behind = λ c. subst (AreBehind c group.last past) (sym (same c).1) (behind c).5;
+    }
 
--- each processor did what the lines of the groups ask it for
-groups_whole : (c : Caller) (n : ℕ) (past : List Past) (es : List (Entry Global)) → AreGroups n past es → AreWhole c (asked_by c (lines_in past)) (receipts_by c n es)
-groups_whole c n [] es none = ap (receipts_by c n) none
-groups_whole c n (group ∷ past) es some =
-    let own = receipts_by c n some.0 in
-    let rest = receipts_by c (n + length some.0) some.1 in
-    subst (AreWhole c (asked_by c (group.lines ++ lines_in past))) (sym (ap (receipts_by c n) some.2 ∙ receipts-append c n some.0 some.1))
-    (subst (λ (acts : List (Action Global)). AreWhole c acts (own ++ rest)) (sym (asked_by-append c group.lines (lines_in past)))
-    (whole-append c (asked_by c group.lines) (asked_by c (lines_in past)) own rest (some.3 c) (groups_whole c (n + length some.0) past some.1 some.4)))
+-- each processor did what these lines ask for, from number n on
+abbrev DoLines : ℕ → List (Line Global) → List (Entry Global) → Type 0
+DoLines n lines es = (c : Caller) → AreWhole c (asked_by c lines) (receipts_by c n es)
 
-pub all_run : (serial : Bool) (lines : List (Line Global)) (history : List (Entry Global)) → IsGrouped serial lines history → AreRun lines history
-all_run serial lines history are c =
-    subst (λ (ls : List (Line Global)). AreWhole c (asked_by c ls) (receipts_by c 1 history)) are.lines_are (groups_whole c 1 are.past history are.groups)
+do-append : (n : ℕ) (xs ys : List (Line Global)) (own rest : List (Entry Global)) → DoLines n xs own → DoLines (n + length own) ys rest → DoLines n (xs ++ ys) (own ++ rest)
+do-append n xs ys own rest did more c =
+    subst (AreWhole c (asked_by c (xs ++ ys))) (sym (receipts-append c n own rest))
+    (subst (λ (acts : List (Action Global)). AreWhole c acts (receipts_by c n own ++ receipts_by c (n + length own) rest)) (sym (asked_by-append c xs ys))
+    (whole-append c (asked_by c xs) (asked_by c ys) (receipts_by c n own) (receipts_by c (n + length own) rest) (did c) (more c)))
 
--- the first groups and the others
-record AreCut (n : ℕ) (firsts others : List Past) (es : List (Entry Global)) : Type 0 where
+-- the entries of the lines before, and those of the lines after
+record HasParts (n : ℕ) (before after : List (Line Global)) (es : List (Entry Global)) : Type 0 where
   own : List (Entry Global)
   rest : List (Entry Global)
   all : es ≡ own ++ rest
-  first : AreGroups n firsts own
-  other : AreGroups (n + length own) others rest
+  first : DoLines n before own
+  second : DoLines (n + length own) after rest
 
-groups_cut : (n : ℕ) (firsts others : List Past) (es : List (Entry Global)) → AreGroups n (firsts ++ others) es → AreCut n firsts others es
-groups_cut n [] others es all =
-    let at : n ≡ n + 0 = omega arith in
-    record { own = []; rest = es; all = refl; first = refl; other = subst (λ (k : ℕ). AreGroups k others es) at all }
-groups_cut n (group ∷ firsts) others es some =
-    let more = groups_cut (n + length some.0) firsts others some.1 some.4 in
-    let at : (n + length some.0) + length more.own ≡ n + length (some.0 ++ more.own) = omega (arith, length-append some.0 more.own) in
+parts_none : (n : ℕ) (lines : List (Line Global)) (es : List (Entry Global)) → DoLines n lines es → HasParts n [] lines es
+parts_none n lines es did = record { own = []; rest = es; all = refl; first = λ c. refl; second = let at : n ≡ n + 0 = omega arith in subst (λ (k : ℕ). DoLines k lines es) at did }
+
+parts_more : (n : ℕ) (lines mid after : List (Line Global)) (own rest es : List (Entry Global)) → es ≡ own ++ rest → DoLines n lines own → HasParts (n + length own) mid after rest
+    → HasParts n (lines ++ mid) after es
+parts_more n lines mid after own rest es is did more =
+    let at : (n + length own) + length more.own ≡ n + length (own ++ more.own) = omega (arith, length-append own more.own) in
     record {
-      own = some.0 ++ more.own;
+      own = own ++ more.own;
       rest = more.rest;
-      all = some.2 ∙ ap (λ (l : List (Entry Global)). some.0 ++ l) more.all ∙ sym (append_assoc some.0 more.own more.rest);
-      first = (some.0, more.own, refl, some.3, more.first);
-      other = subst (λ (k : ℕ). AreGroups k others more.rest) at more.other;
+      all = is ∙ ap (λ (l : List (Entry Global)). own ++ l) more.all ∙ sym (append_assoc own more.own more.rest);
+      first = do-append n lines mid own more.own did more.first;
+      second = subst (λ (k : ℕ). DoLines k after more.rest) at more.second;
+    }
+
+has_cut : (before after : List (Line Global)) (history : List (Entry Global)) → HasParts 1 before after history → HasCut before after history
+has_cut before after history parts =
+    record {
+      own = parts.own;
+      rest = parts.rest;
+      all = parts.all;
+      before_run = parts.first;
+      after_run = λ c. whole_from c (asked_by c after) 1 (length parts.own) parts.rest (parts.second c);
     }
 
 -- two ways to cut a list: the first cut isn't behind the other, or it is
-record IsBefore {X : Type 0} (xs ys zs ws : List X) : Type 0 where
-  mid : List X
-  longer : zs ≡ xs ++ mid
-  rest : ys ≡ mid ++ ws
-
-record IsBehind {X : Type 0} (xs ys zs ws : List X) : Type 0 where
-  next : X
-  mid : List X
-  longer : xs ≡ zs ++ next ∷ mid
-  rest : ws ≡ next ∷ mid ++ ys
-
-compare : {X : Type 0} (xs ys zs ws : List X) → xs ++ ys ≡ zs ++ ws → IsBefore xs ys zs ws ⊎ IsBehind xs ys zs ws
-compare [] ys zs ws is = inl (record { mid = zs; longer = refl; rest = is })
-compare (x ∷ xs) ys [] ws is = inr (record { next = x; mid = xs; longer = refl; rest = sym is })
+compare : {X : Type 0} (xs ys zs ws : List X) → xs ++ ys ≡ zs ++ ws
+    → ((mid : List X) × (zs ≡ xs ++ mid) × (ys ≡ mid ++ ws)) ⊎ ((next : X) × (mid : List X) × (xs ≡ zs ++ next ∷ mid) × (ws ≡ next ∷ mid ++ ys))
+compare [] ys zs ws is = inl (zs, refl, is)
+compare (x ∷ xs) ys [] ws is = inr (x, xs, refl, sym is)
 compare (x ∷ xs) ys (z ∷ zs) ws is =
     let one : x ≡ z = first_of x z (xs ++ ys) (zs ++ ws) is in
     elim (compare xs ys zs ws (rest_of x z (xs ++ ys) (zs ++ ws) is)) [
-      | inl c ↦ inl (record { mid = c.mid; longer = λ i. (sym one) i ∷ c.longer i; rest = c.rest })
-      | inr c ↦ inr (record { next = c.next; mid = c.mid; longer = λ i. one i ∷ c.longer i; rest = c.rest })
+      | inl c ↦ inl (c.0, λ i. (sym one) i ∷ c.1 i, c.2)
+      | inr c ↦ inr (c.0, c.1, λ i. one i ∷ c.2 i, c.3)
     ]
-
--- a cut of lines between phases is one of the groups
-record IsCutOf (past : List Past) (before after : List (Line Global)) : Type 0 where
-  firsts : List Past
-  others : List Past
-  all : past ≡ firsts ++ others
-  before_is : lines_in firsts ≡ before
-  after_is : lines_in others ≡ after
 
 -- no cut between phases is within one
 not_within : (phase : ℕ) (lines : List (Line Global)) (first next : Line Global) (before mid after ys : List (Line Global)) → All (λ line. line.phase ≡ phase) lines
@@ -244,67 +233,51 @@ of_one true lines one =
     (one.0.phase, subst (All same) (sym one.1) (All-cons same one.0 [] refl (All-nil same)))
 of_one false lines one = one
 
-cut_of : (serial : Bool) (last : ℕ) (past : List Past) (before after : List (Line Global)) → ArePast serial last past → lines_in past ≡ before ++ after → AreApart before after
-    → IsCutOf past before after
-cut_of serial last [] [] after rises is apart = record { firsts = []; others = []; all = refl; before_is = refl; after_is = is }
-cut_of serial last [] (line ∷ before) after rises is apart = let wrong = is in cc
-cut_of serial last (group ∷ past) [] after rises is apart = record { firsts = []; others = group ∷ past; all = refl; before_is = refl; after_is = is }
-cut_of serial last (group ∷ past) (line ∷ before) after rises is apart =
+-- a history is cut between phases
+phased_parts : (serial : Bool) (n last : ℕ) (past : List Past) (es : List (Entry Global)) (before after : List (Line Global)) → ArePast serial last past → lines_in past ≡ before ++ after
+    → AreApart before after → ((c : Caller) → AreBehind c last past (receipts_by c n es)) → HasParts n before after es
+phased_parts serial n last past es [] after are is apart behind =
+    parts_none n after es (λ c. subst (λ (ls : List (Line Global)). AreWhole c (asked_by c ls) (receipts_by c n es)) is (behind_whole c last past (receipts_by c n es) (behind c)))
+phased_parts serial n last [] es (line ∷ before) after are is apart behind = let wrong = is in cc
+phased_parts serial n last (group ∷ past) es (line ∷ before) after are is apart behind =
     elim (compare group.lines (lines_in past) (line ∷ before) after is) [
       | inl c ↦
-          let rest = cut_of serial group.last past c.mid after rises.2 c.rest
-          (All-second (λ (l : Line Global). All (λ (n : Line Global). l.phase < n.phase) after) group.lines c.mid (subst (λ (ls : List (Line Global)). AreApart ls after) c.longer apart)) in
-          record {
-            firsts = group ∷ rest.firsts;
-            others = rest.others;
-            all = ap (λ (ps : List Past). group ∷ ps) rest.all;
-            before_is = ap (λ (ls : List (Line Global)). group.lines ++ ls) rest.before_is ∙ sym c.longer;
-            after_is = rest.after_is;
-          }
-      | inr c ↦ let one = of_one serial group.lines rises.0 in absurd (not_within one.0 group.lines line c.next before c.mid after (lines_in past) one.1 c.longer c.rest apart)
+          let f = has_first serial n last group past es are behind in
+          subst (λ (ls : List (Line Global)). HasParts n ls after es) (sym c.1)
+          (parts_more n group.lines c.0 after f.own f.rest es f.all f.did (phased_parts serial (n + length f.own) group.last past f.rest c.0 after are.2 c.2
+          (All-second (λ (l : Line Global). All (λ (n : Line Global). l.phase < n.phase) after) group.lines c.0 (subst (λ (ls : List (Line Global)). AreApart ls after) c.1 apart)) f.behind))
+      | inr c ↦ let one = of_one serial group.lines are.0 in absurd (not_within one.0 group.lines line c.0 before c.1 after (lines_in past) one.1 c.2 c.3 apart)
     ]
 
--- groups are in order of their phases
 pub all_phased : (serial : Bool) (lines : List (Line Global)) (history : List (Entry Global)) → IsGrouped serial lines history → ArePhased lines history
 all_phased serial lines history are before after is apart =
-    let cut = cut_of serial 0 are.past before after are.rises (are.lines_are ∙ is) apart in
-    let parts = groups_cut 1 cut.firsts cut.others history (subst (λ (ps : List Past). AreGroups 1 ps history) cut.all are.groups) in
-    record {
-      own = parts.own;
-      rest = parts.rest;
-      all = parts.all;
-      before_run = λ c. subst (λ (ls : List (Line Global)). AreWhole c (asked_by c ls) (receipts_by c 1 parts.own)) cut.before_is (groups_whole c 1 cut.firsts parts.own parts.first);
-      after_run = λ c.
-          whole_from c (asked_by c after) 1 (length parts.own) parts.rest
-          (subst (λ (ls : List (Line Global)). AreWhole c (asked_by c ls) (receipts_by c (1 + length parts.own) parts.rest)) cut.after_is
-          (groups_whole c (1 + length parts.own) cut.others parts.rest parts.other));
-    }
+    has_cut before after history (phased_parts serial 1 0 are.past history before after are.rises (are.lines_are ∙ is) apart are.behind)
 
 one_whole : (by : Caller) (what : Action Global) (list : List Receipt) → AreWhole by (what ∷ []) list → IsWhole by what list
 one_whole by what list some = subst (IsWhole by what) (sym (some.2 ∙ ap (λ (l : List Receipt). some.0 ++ l) some.4 ∙ append-nil some.0)) some.3
 
 -- groups of one line each are lines in order
-groups_in_order : (n last : ℕ) (past : List Past) (es : List (Entry Global)) → ArePast true last past → AreGroups n past es → AreInOrder n (lines_in past) es
-groups_in_order n last [] es are none = none
-groups_in_order n last (group ∷ past) es are some =
+lines_in_order : (n last : ℕ) (past : List Past) (es : List (Entry Global)) → ArePast true last past → ((c : Caller) → AreBehind c last past (receipts_by c n es)) → AreInOrder n (lines_in past) es
+lines_in_order n last [] es are behind = no_entries n es behind
+lines_in_order n last (group ∷ past) es are behind =
+    let f = has_first true n last group past es are behind in
     let line = are.0.0 in
-    let whole : (c : Caller) → AreWhole c (asked_by c (line ∷ [])) (receipts_by c n some.0) = λ c.
-    subst (λ (ls : List (Line Global)). AreWhole c (asked_by c ls) (receipts_by c n some.0)) are.0.1 (some.3 c) in
+    let whole : DoLines n (line ∷ []) f.own = subst (λ (ls : List (Line Global)). DoLines n ls f.own) are.0.1 f.did in
     subst (λ (ls : List (Line Global)). AreInOrder n (ls ++ lines_in past) es) (sym are.0.1) (
-      some.0,
-      some.1,
-      some.2,
-      all_by line.by n some.0
-          (λ c other. subst (λ (acts : List (Action Global)). AreWhole c acts (receipts_by c n some.0)) (asked_by_other c line (λ same. other (sym same))) (whole c)),
-      one_whole line.by line.action (receipts_by line.by n some.0)
-          (subst (λ (acts : List (Action Global)). AreWhole line.by acts (receipts_by line.by n some.0)) (asked_by_own line.by line refl) (whole line.by)),
-      groups_in_order (n + length some.0) group.last past some.1 are.2 some.4,
+      f.own,
+      f.rest,
+      f.all,
+      all_by line.by n f.own
+          (λ c other. subst (λ (acts : List (Action Global)). AreWhole c acts (receipts_by c n f.own)) (asked_by_other c line (λ same. other (sym same))) (whole c)),
+      one_whole line.by line.action (receipts_by line.by n f.own)
+          (subst (λ (acts : List (Action Global)). AreWhole line.by acts (receipts_by line.by n f.own)) (asked_by_own line.by line refl) (whole line.by)),
+      lines_in_order (n + length f.own) group.last past f.rest are.2 f.behind,
     )
 
 pub all_in_order : (lines : List (Line Global)) (history : List (Entry Global)) → IsGrouped true lines history → AreInOrder 1 lines history
-all_in_order lines history are = subst (λ (ls : List (Line Global)). AreInOrder 1 ls history) are.lines_are (groups_in_order 1 0 are.past history are.rises are.groups)
+all_in_order lines history are = subst (λ (ls : List (Line Global)). AreInOrder 1 ls history) are.lines_are (lines_in_order 1 0 are.past history are.rises are.behind)
 
--- lines in order are groups of one line each
+-- lines in order are cut between any two
 line_whole : (c : Caller) (line : Line Global) (n : ℕ) (own : List (Entry Global)) → All (IsBy line.by) own → IsWhole line.by line.action (receipts_by line.by n own)
     → AreWhole c (asked_by c (line ∷ [])) (receipts_by c n own)
 line_whole c line n own all whole =
@@ -316,25 +289,24 @@ line_whole c line n own all whole =
     let apart : line.by ≡ c → ⊥ = λ same. other (sym same) in
     subst (λ (acts : List (Action Global)). AreWhole c acts (receipts_by c n own)) (sym (asked_by_other c line apart)) (receipts_of_other c line.by apart n own all))
 
-order_grouped : (n last : ℕ) (lines : List (Line Global)) (es : List (Entry Global)) → AreInOrder n lines es
-    → (past : List Past) × (lines_in past ≡ lines) × ArePast true last past × AreGroups n past es
-order_grouped n last [] es none = ([], refl, tt, none)
-order_grouped n last (line ∷ lines) es some =
-    let more = order_grouped (n + length some.0) last lines some.1 some.5 in (
-      record { lines = line ∷ []; last = last } ∷ more.0,
-      ap (λ (ls : List (Line Global)). line ∷ ls) more.1,
-      ((line, refl), omega arith, more.2),
-      (some.0, some.1, some.2, λ c. line_whole c line n some.0 some.3 some.4, more.3),
-    )
+order_done : (n : ℕ) (lines : List (Line Global)) (es : List (Entry Global)) → AreInOrder n lines es → DoLines n lines es
+order_done n [] es none = λ c. ap (receipts_by c n) none
+order_done n (line ∷ lines) es some =
+    subst (DoLines n (line ∷ lines)) (sym some.2)
+    (do-append n (line ∷ []) lines some.0 some.1 (λ c. line_whole c line n some.0 some.3 some.4) (order_done (n + length some.0) lines some.1 some.5))
+
+order_parts : (n : ℕ) (before after : List (Line Global)) (es : List (Entry Global)) → AreInOrder n (before ++ after) es → HasParts n before after es
+order_parts n [] after es order = parts_none n after es (order_done n after es order)
+order_parts n (line ∷ before) after es some =
+    parts_more n (line ∷ []) before after some.0 some.1 es some.2 (λ c. line_whole c line n some.0 some.3 some.4) (order_parts (n + length some.0) before after some.1 some.5)
 
 pub in_order_phased : (lines : List (Line Global)) (history : List (Entry Global)) → AreInOrder 1 lines history → ArePhased lines history
-in_order_phased lines history order =
-    let are = order_grouped 1 0 lines history order in
-    all_phased true lines history (record { past = are.0; lines_are = are.1; rises = are.2; groups = are.3 })
+in_order_phased lines history order before after is apart =
+    has_cut before after history (order_parts 1 before after history (subst (λ (ls : List (Line Global)). AreInOrder 1 ls history) is order))
 
 -- there is nothing where nobody is named
 pub nothing : (lines : List (Line Global)) (callers : List Caller) (history : List (Entry Global)) → AreCallersOf lines callers → callers ≡ [] → history ≡ [] → IsGrouped true lines history
-nothing [] callers history of none empty = record { past = []; lines_are = refl; rises = tt; groups = empty }
+nothing [] callers history of none empty = record { past = []; lines_are = refl; rises = tt; behind = λ c. ap (receipts_by c 1) empty }
 nothing (line ∷ lines) callers history of none empty =
     let there : Contains callers line.by = All-head (λ (l : Line Global). Contains callers l.by) line lines of.named in
     let k = subst (λ (xs : List Caller). Contains xs line.by) none there in

@@ -1,14 +1,12 @@
 -- What the processors of a script hold while its lines run. Only contracts of private functions cite these
 -- words.
-use Rattle.std.specs.Prelude.{ℕ, ◌≡◌, ◌<◌, ◌≤◌, ◌==◌, ◌&&◌, ◌⊎◌, ◌↔◌, ⊤, max, nat_lt, false, true, Bool}
-use Rattle.std.specs.Prelude.{if◌then◌else◌, List, [], ◌∷◌, ◌++◌, drop, length, map, reverse, slice_index_or}
-use Rattle.std.specs.Prelude.{All, Option, None, Some, IsSome}
-use Rattle.std.specs.List.{Contains}
+use Rattle.std.specs.Prelude.{ℕ, ◌≡◌, ◌<◌, ◌≤◌, ◌==◌, ◌&&◌, ⊤, false, true, Bool, Some, List, [], ◌∷◌, ◌++◌}
+use Rattle.std.specs.Prelude.{All, drop, length, map, reverse, slice_index_or, Contains}
 use Rattle.std.specs.declared.alloc.Global.{Global}
+use Rattle.hv_policy.specs.declared.event.Action.{Action}
 use Rattle.hv_policy.specs.declared.event.Caller.{Caller}
 use Rattle.hv_script.specs.declared.line.Line.{Line}
 use Rattle.hv_phases.specs.Lines.{asked_by}
-use Rattle.hv_phases.specs.declared.pass_map.PassEntry.{PassEntry}
 use Rattle.hv_shared.specs.ByCaller.{AreDifferent}
 use Rattle.hv_shared.specs.PassValue.{PassValue}
 use Rattle.hv_shared.specs.declared.receipts.Receipt.{Receipt}
@@ -16,19 +14,12 @@ use Rattle.hv_threads.specs.Perform.{AreWhole}
 use Rattle.hv_threads.specs.declared.phase.Done.{Done}
 use Rattle.hv_threads.specs.declared.phase.End.TheVariants.{Finished}
 use Rattle.hv_threads.specs.declared.phase.Work.{Work}
-use Rattle.indexmap.specs.IndexMap.{IndexMap, get}
-use Rattle.indexmap.specs.IndexSet.{IndexSet, contains}
+use Rattle.indexmap.specs.IndexMap.{IndexMap, UpdatesBy, get}
 
 -- the callers all differ, and include each processor that a line names
 pub record AreCallersOf (lines : List (Line Global)) (callers : List Caller) : Type 0 where
   pub different : AreDifferent callers
   pub named : All (λ line. Contains callers line.by) lines
-
--- this caller is in the list, beside those that were, and the callers still differ
-pub record HasCaller (by : Caller) (old new : List Caller) : Type 0 where
-  pub different : AreDifferent old → AreDifferent new
-  pub there : Contains new by
-  pub kept : (c : Caller) → Contains old c → Contains new c
 
 -- the key of a processor, and whether two keys are equal
 abbrev pub key_of : Caller → ℕ × ℕ
@@ -36,10 +27,6 @@ key_of by = (by.part, by.vp)
 
 abbrev pub is_key : ℕ × ℕ → ℕ × ℕ → Bool
 is_key one other = (one.0 == other.0) && (one.1 == other.1)
-
--- these are the keys of these processors
-abbrev pub IsSetOf : {S : Type 0} → IndexSet (ℕ × ℕ) S → List Caller → Type 0
-IsSetOf seen callers = (c : Caller) → (contains is_key seen (key_of c) ≡ true) ↔ Contains callers c
 
 -- these lines are of one phase
 abbrev pub AreOfOne : List (Line Global) → Type 0
@@ -97,138 +84,91 @@ pub record HaveRun (serial : Bool) (lines : List (Line Global)) (passes : List P
   pub rises : ArePast serial 0 past
   pub run : All (HasRunGroups past) passes
 
--- the highest of this number and the numbers of these receipts, if each of those is above `last`
-abbrev pub highest_above : ℕ → ℕ → List Receipt → Option ℕ
-highest_above last highest [] = Some highest
-highest_above last highest (r ∷ receipts) = if nat_lt last r.number then highest_above last
-    (max highest r.number) receipts else None
+-- the processor's pass has run these groups, and these actions are what the lines ask of it
+pub record IsAsked (past : List Past) (taken : List (Line Global)) (by : Caller) (pass : PassValue)
+    (actions : List (Action Global)) : Type 0 where
+  pub caller : pass.caller ≡ by
+  pub run : HasRunGroups past pass
+  pub asked : actions ≡ asked_by pass.caller taken
 
--- the pass's processor has run these groups, is to do what these lines ask for, and wasn't stopped
-pub record IsGiven {L : Type 0} (past : List Past) (taken : List (Line Global)) (member : PassEntry L) : Type
-    0 where
-  pub run : HasRunGroups past member.pass
-  pub asked : member.asked.items ≡ asked_by member.pass.caller taken
-  pub going : member.stopped ≡ false
+-- the processor has run these groups, and these lines ask nothing of it
+abbrev pub IsIdle : List Past → List (Line Global) → Caller → PassValue → Type 0
+IsIdle past taken by pass = IsAsked past taken by pass []
 
 -- the work is what these lines ask of a processor that has run the groups before them
-pub record IsWorkOf {L : Type 0} (past : List Past) (taken : List (Line Global)) (work : Work L) : Type 0
-  where
-    pub run : HasRunGroups past work.pass
-    pub asked : work.actions.items ≡ asked_by work.pass.caller taken
+abbrev pub IsBusy : {L : Type 0} → List Past → List (Line Global) → Caller → Work L → Type 0
+IsBusy past taken by work = IsAsked past taken by work.pass work.actions.items
 
--- each receipt of these passes beyond its count has a number above `last` and not above `now`
-pub record HaveGained {L : Type 0} (counts : List ℕ) (last now : ℕ) (dones : List (Done L)) : Type 0 where
+abbrev pub AreBusy : {L : Type 0} → List Past → List (Line Global) → List (Work L) → Type 0
+AreBusy past taken works = All (λ work. IsBusy past taken work.pass.caller work) works
+
+-- each receipt of the first `at` passes beyond the pass's count has a number above `last` and not above `now`
+pub record HaveGained {L : Type 0} (counts : List ℕ) (last now at : ℕ) (dones : List (Done L)) : Type 0 where
   pub rises : last ≤ now
-  pub each : (i : ℕ) (d : Done L) → i < length dones → All (IsWithin last now)
+  pub each : (i : ℕ) (d : Done L) → i < at → i < length dones → All (IsWithin last now)
       (drop (slice_index_or counts i 0) (slice_index_or dones i d).pass.receipts)
 
--- the entry of each processor, by its key
-abbrev pub PassMap : Type 0 → Type 0 → Type 0
-PassMap L S = IndexMap (ℕ × ℕ) (PassEntry L) S
+-- the pass of each processor, by its key
+abbrev pub PassMap : Type 0 → Type 0
+PassMap S = IndexMap (ℕ × ℕ) PassValue S
 
-module _ {L S : Type 0} where
-  -- the entry of a processor
-  abbrev pub member_of : Caller → PassMap L S → Option (PassEntry L)
-  member_of by pass_map = get is_key pass_map (key_of by)
+module _ {X S : Type 0} where
+  -- what each processor has, by its key, has this property
+  abbrev pub Each : (Caller → X → Type 0) → IndexMap (ℕ × ℕ) X S → Type 0
+  Each P map = (by : Caller) (x : X) → get is_key map (key_of by) ≡ Some x → P by x
 
-  abbrev pub IsThere : PassMap L S → Caller → Type 0
-  IsThere pass_map c = IsSome (member_of c pass_map)
+module _ {S : Type 0} where
+  -- the pass was added
+  abbrev pub HasJoined : PassValue → PassMap S → PassMap S → Type 0
+  HasJoined pass old new = UpdatesBy is_key (is_key (key_of pass.caller)) old new (Some pass)
 
-  abbrev pub HaveMembers : List Caller → PassMap L S → Type 0
-  HaveMembers callers pass_map = (c : Caller) → Contains callers c → IsThere pass_map c
+  -- the passes are those of these processors, which have run what their passes in the map have run
+  abbrev pub IsBack : PassMap S → List Caller → List PassValue → Type 0
+  IsBack pass_map order passes = (past : List Past) → Each (IsIdle past []) pass_map → (map
+      (λ pass. pass.caller) passes ≡ order) × All (HasRunGroups past) passes
 
-  -- each entry has the pass of its processor, and this property
-  abbrev pub Each : (PassEntry L → Type 0) → PassMap L S → Type 0
-  Each P pass_map = (c : Caller) (m : PassEntry L) → member_of c pass_map ≡ Some m → (m.pass.caller ≡ c) × P m
-
-  abbrev pub AreKeyed : PassMap L S → Type 0
-  AreKeyed pass_map = (c : Caller) (m : PassEntry L) → member_of c pass_map ≡ Some m → m.pass.caller ≡ c
-
-  -- the pass was added, with nothing to do
-  pub record HasJoined (pass : PassValue) (stopped : Bool) (old new : PassMap L S) : Type 0 where
-    pub member : PassEntry L
-    pub here : member_of pass.caller new ≡ Some member
-    pub pass_is : member.pass ≡ pass
-    pub idle : member.asked.items ≡ []
-    pub stopped_is : member.stopped ≡ stopped
-    pub others : (c : Caller) → (c ≡ pass.caller → ⊥) → member_of c new ≡ member_of c old
-
-  -- some processor has the pass
-  pub record IsHeld (pass_map : PassMap L S) (pass : PassValue) : Type 0 where
-    pub by : Caller
-    pub member : PassEntry L
-    pub here : member_of by pass_map ≡ Some member
-    pub pass_is : member.pass ≡ pass
-
-  -- the passes are those of these processors, if each of them has one
-  pub record IsBack (pass_map : PassMap L S) (order : List Caller) (passes : List PassValue) : Type 0 where
-    pub callers : AreDifferent order → AreKeyed pass_map → HaveMembers order pass_map → map
-        (λ pass. pass.caller) passes ≡ order
-    pub each : All (IsHeld pass_map) passes
-
-  -- each processor that had an entry has one
-  abbrev pub StayThere : PassMap L S → PassMap L S → Type 0
-  StayThere old new = (c : Caller) → IsThere old c → IsThere new c
-
-  -- a line was run, with receipt numbers above `last` and up to `now`
-  pub record HasRunLine (line : Line Global) (last now : ℕ) (old new : PassMap L S) : Type 0 where
+  -- these lines were run as one group, with receipt numbers above `last` and up to `now`
+  pub record HasRunGroup (lines : List (Line Global)) (last now : ℕ) (old new : PassMap S) : Type 0 where
     pub rises : last ≤ now
-    pub each : (past : List Past) → last_in 0 past ≡ last → IsThere old line.by → Each (IsGiven past []) old →
-        Each (IsGiven (past ++ record { lines = line ∷ []; last = now } ∷ []) []) new × StayThere old new
-
-  -- only these processors have something to do
-  abbrev pub AreBusy : List Caller → PassMap L S → Type 0
-  AreBusy members pass_map = (c : Caller) (m : PassEntry L) → member_of c pass_map ≡ Some m → Contains members
-      c ⊎ (m.asked.items ≡ [])
+    pub each : (past : List Past) → last_in 0 past ≡ last → Each (IsIdle past []) old → Each
+        (IsIdle (past ++ record { lines = lines; last = now } ∷ []) []) new
 
   -- all lines were run group by group, each group after the one before it
-  pub record HasRunAll (serial : Bool) (lines : List (Line Global)) (old new : PassMap L S) : Type 0 where
+  pub record HasRunAll (serial : Bool) (lines : List (Line Global)) (new : PassMap S) : Type 0 where
     pub past : List Past
     pub lines_are : lines_in past ≡ lines
     pub rises : ArePast serial 0 past
-    pub run : Each (λ member. HasRunGroups past member.pass) new
-    pub there : StayThere old new
+    pub run : Each (IsIdle past []) new
 
+module _ {L S T : Type 0} where
   -- a line was handed to its processor
-  pub record HasGiven (line : Line Global) (members_old members_new : List Caller) (old new : PassMap L S) :
-      Type 0 where
-    pub each : (past : List Past) (taken : List (Line Global)) → Each (IsGiven past taken) old → Each
-        (IsGiven past (taken ++ line ∷ [])) new
-    pub busy : AreBusy members_old old → AreBusy members_new new
-    pub there : StayThere old new
+  abbrev pub HasGiven : Line Global → PassMap S → PassMap S → IndexMap (ℕ × ℕ) (Work L) T →
+      IndexMap (ℕ × ℕ) (Work L) T → Type 0
+  HasGiven line old new busy_old busy_new = (past : List Past) (taken : List (Line Global)) → Each
+      (IsIdle past taken) old → Each (IsBusy past taken) busy_old
+      → Each (IsIdle past (taken ++ line ∷ [])) new × Each (IsBusy past (taken ++ line ∷ [])) busy_new
 
-  -- The first line and the next ones of its phase were handed to their processors. The lines that are left
-  -- are in reverse order.
+module _ {S : Type 0} where
+  -- The first line and the next ones of its phase were handed to their processors, of whose work this holds.
+  -- The lines that are left are in reverse order.
   pub record HasHandedOut (first : Line Global) (left_old left_new : List (Line Global))
-      (members : List Caller) (old new : PassMap L S) : Type 0 where
+      (Out : List Past → List (Line Global) → Type 0) (old new : PassMap S) : Type 0 where
     pub more : List (Line Global)
     pub order : reverse left_old ≡ more ++ reverse left_new
     pub phase : All (λ line. line.phase ≡ first.phase) more
-    pub each : (past : List Past) → Each (IsGiven past []) old → Each (IsGiven past (first ∷ more)) new ×
-        AreBusy members new
-    pub there : StayThere old new
+    pub each : (past : List Past) → Each (IsIdle past []) old → Each (IsIdle past (first ∷ more)) new ×
+        Out past (first ∷ more)
 
-  -- the works of these processors were taken out, except those of `left`
-  pub record HasLent (members left : List Caller) (works : List (Work L)) (old new : PassMap L S) : Type 0
-    where
-      pub each : (past : List Past) (taken : List (Line Global)) → Each (IsGiven past taken) old → Each
-          (IsGiven past taken) new × All (IsWorkOf past taken) works
-      pub idle : AreBusy members old → AreBusy left new
-      pub there : AreKeyed old → AreKeyed new × ((c : Caller) → IsThere old c → IsThere new c ⊎ Contains
-          (map (λ work. work.pass.caller) works) c)
-
-  -- the outcomes were taken back, and the host stopped no processor
-  pub record HasTaken (dones : List (Done L)) (old new : PassMap L S) : Type 0 where
+module _ {L S : Type 0} where
+  -- these outcomes were taken back, and the host stopped no processor
+  pub record HasTaken (dones : List (Done L)) (old new : PassMap S) : Type 0 where
     pub ended : All (λ done. done.end ≡ Finished) dones
-    pub each : (past : List Past) → All (λ done. HasRunGroups past done.pass) dones → Each (IsGiven past [])
-        old → Each (IsGiven past []) new
-    pub there : (c : Caller) → IsThere old c ⊎ Contains (map (λ done. done.pass.caller) dones) c → IsThere new
-        c
+    pub each : (past : List Past) → All (λ done. HasRunGroups past done.pass) dones → Each (IsIdle past [])
+        old → Each (IsIdle past []) new
 
-  -- these processors performed what was handed to them, with event numbers above `last` and up to `now`
-  pub record HasRunPhase (members : List Caller) (last now : ℕ) (old new : PassMap L S) : Type 0 where
+  -- these works were done, with receipt numbers above `last` and up to `now`
+  pub record HasRunWorks (works : List (Work L)) (last now : ℕ) (old new : PassMap S) : Type 0 where
     pub rises : last ≤ now
     pub each : (past : List Past) (taken : List (Line Global)) → last_in 0 past ≡ last → Each
-        (IsGiven past taken) old → AreBusy members old
-        → Each (IsGiven (past ++ record { lines = taken; last = now } ∷ []) []) new
-    pub there : AreKeyed old → StayThere old new
+        (IsIdle past taken) old → AreBusy past taken works
+        → Each (IsIdle (past ++ record { lines = taken; last = now } ∷ []) []) new

@@ -1,6 +1,6 @@
 // Numbers of receipts, which show that a phase or a line began after the one before it had ended.
-ghost use Rattle.std.specs.Prelude.{◌≡◌, IfOk, IfSome, drop, length, map};
-ghost use Rattle.hv_phases.specs.PassMap.{HaveGained, highest_above};
+ghost use Rattle.std.specs.Prelude.{◌≡◌, ◌≤◌, All, IfOk, IfSome, drop, length, map};
+ghost use Rattle.hv_phases.specs.PassMap.{HaveGained, IsWithin};
 ghost use Rattle.hv_shared.specs.Receipts.{list_of};
 
 use hv_threads::{Done, Receipts, Work};
@@ -23,7 +23,7 @@ pub fn counts_of<L: Ledger>(alloc: Global, works: &[Work<L>]) -> Result<Vec<usiz
 /// `last` is the highest number before the phase, and `counts` has each pass's number of receipts then.
 pub fn end_of_phase<L: Ledger>(dones: &[Done<L>], counts: &[usize], last: u64) -> Option<u64>
     requires { length counts.now ≡ length dones.now }
-    ensures { IfSome result (λ now. HaveGained counts.now last now dones.now) }
+    ensures { IfSome result (λ now. HaveGained counts.now last now (length dones.now) dones.now) }
 {
     let mut highest = last;
     for at in 0..dones.len() {
@@ -35,7 +35,8 @@ pub fn end_of_phase<L: Ledger>(dones: &[Done<L>], counts: &[usize], last: u64) -
 /// Returns the highest of `highest` and the receipts' numbers from a place on, if each of those is above
 /// `last`.
 pub fn highest_above(receipts: &Receipts, from: usize, last: u64, highest: u64) -> Option<u64>
-    ensures { result ≡ highest_above last highest (drop from (list_of receipts.now)) }
+    ensures { IfSome result (λ now. (highest ≤ now) × All (IsWithin last now) (drop from
+        (list_of receipts.now))) }
 {
     let mut highest = highest;
     for at in from..receipts.len() {

@@ -1,6 +1,7 @@
 // The processors of a script.
-ghost use Rattle.std.specs.Prelude.{IfOk, OnOk};
-ghost use Rattle.hv_phases.specs.PassMap.{AreCallersOf, HasCaller, IsSetOf};
+ghost use Rattle.std.specs.Prelude.{◌≡◌, IfOk};
+ghost use Rattle.hv_phases.specs.PassMap.{AreCallersOf, is_key};
+ghost use Rattle.indexmap.specs.IndexSet.{IsUnique};
 
 use crate::pass_map::key_of;
 use hv_policy::Caller;
@@ -12,26 +13,26 @@ use std::alloc::{AllocError, Global};
 pub fn callers_of(alloc: Global, lines: &[Line<Global>]) -> Result<Vec<Caller>, AllocError>
     ensures { IfOk result (λ callers. AreCallersOf lines.now callers.items) }
 {
-    let mut callers = Vec::new(alloc);
     let mut seen = IndexSet::new(alloc);
     for at in 0..lines.len() {
-        add(&mut callers, &mut seen, lines[at].by)?;
+        seen.insert(key_of(lines[at].by))?;
+    }
+    let keys = keys_in(seen)?;
+    let mut callers = Vec::with_capacity(alloc, keys.len())?;
+    for place in 0..keys.len() {
+        let (part, vp) = keys[place];
+        callers.push(Caller { part, vp })?;
     }
     Ok(callers)
 }
 
-// Adds a processor, unless it is there.
-fn add(
-    callers: &mut Vec<Caller>,
-    seen: &mut IndexSet<(u64, u32)>,
-    by: Caller,
-) -> Result<(), AllocError>
-    requires { IsSetOf seen.old callers.old.items }
-    ensures added { OnOk result (HasCaller by callers.old.items callers.new.items) }
-    ensures seen { OnOk result (IsSetOf seen.new callers.new.items) }
+// Returns the keys of a set, in order.
+fn keys_in(seen: IndexSet<(u64, u32)>) -> Result<Vec<(u64, u32)>, AllocError>
+    ensures unique { IsUnique is_key seen }
+    ensures all { IfOk result (λ keys. keys.items ≡ seen.keys) }
 {
-    if seen.insert(key_of(by))? {
-        callers.push(by)?;
-    }
-    Ok(())
+    let alloc = *seen.allocator();
+    // proof: the keys differ.
+    let _count = seen.len();
+    seen.into_iter().collect(alloc)
 }

@@ -1,10 +1,10 @@
 // The lines of a script in its order, by one thread.
-ghost use Rattle.std.specs.Prelude.{◌≡◌, [], All, IfNone, IfOk, IfSome, IsSome, OnErr, OnOk, true};
-ghost use Rattle.hv_phases.specs.PassMap.{Each, HasRunAll, HasRunLine, IsGiven, member_of};
+ghost use Rattle.std.specs.Prelude.{[], ◌∷◌, IfNone, IfOk, IfSome, OnErr, OnOk, true};
+ghost use Rattle.hv_phases.specs.PassMap.{Each, HasRunAll, HasRunGroup, IsIdle};
 ghost use Rattle.hv_threads.specs.Perform.{HasBegun, HasPerformed};
 
 use crate::barrier::highest_above;
-use crate::pass_map::{PassMap, key_of};
+use crate::pass_map::{CallerMap, key_of};
 use crate::run::RunError;
 use hv_history::HostRefused;
 use hv_policy::Action;
@@ -24,12 +24,11 @@ pub fn run_in_order<L: Ledger, R: Wait, G: Gate>(
     rt: &R,
     gate: &G,
     shared: &Shared<L>,
-    pass_map: &mut PassMap<L>,
+    pass_map: &mut CallerMap<Pass<L>>,
     lines: Vec<Line<Global>>,
 ) -> Option<RunError>
-    requires ready { Each (IsGiven [] []) pass_map.old }
-    requires named { All (λ line. IsSome (member_of line.by pass_map.old)) lines.items }
-    ensures { IfNone result (HasRunAll true lines.items pass_map.old pass_map.new) }
+    requires { Each (IsIdle [] []) pass_map.old }
+    ensures { IfNone result (HasRunAll true lines.items pass_map.new) }
 {
     let mut left = lines;
     left.reverse();
@@ -44,10 +43,14 @@ pub fn run_in_order<L: Ledger, R: Wait, G: Gate>(
             }
             phase = line.phase;
         }
+        let by = line.by;
         match run_line(rt, gate, shared, pass_map, line, last) {
             Ok(Some(now)) => last = now,
             Ok(None) => differs = true,
-            Err(why) => stop = stop.or(Some(why)),
+            Err(why) => {
+                stop = stop.or(Some(why));
+                left.retain(|line| line.by != by);
+            }
         }
     }
     match (stop, differs) {
@@ -57,30 +60,27 @@ pub fn run_in_order<L: Ledger, R: Wait, G: Gate>(
     }
 }
 
-// Runs a line, unless its processor was stopped. Returns the highest receipt number after it, where `last` is
-// the highest before it, or `None` after a new receipt whose number isn't above `last`.
+// Runs a line. Returns the highest receipt number after it, where `last` is the highest before it, or `None`
+// after a new receipt whose number isn't above `last`, and without a pass of the line's processor.
 fn run_line<L: Ledger, R: Wait, G: Gate>(
     rt: &R,
     gate: &G,
     shared: &Shared<L>,
-    pass_map: &mut PassMap<L>,
+    pass_map: &mut CallerMap<Pass<L>>,
     line: Line<Global>,
     last: u64,
 ) -> Result<Option<u64>, HostRefused>
-    ensures { IfOk result (λ told. IfSome told (λ now. HasRunLine line last now pass_map.old pass_map.new)) }
+    ensures { IfOk result (λ told. IfSome told (λ now. HasRunGroup (line ∷ []) last now pass_map.old
+        pass_map.new)) }
 {
     let Line { by, action, .. } = line;
-    let Some(member) = pass_map.get_mut(&key_of(by)) else {
-        return Ok(Some(last));
+    let Some(pass) = pass_map.get_mut(&key_of(by)) else {
+        return Ok(None);
     };
-    if member.stopped {
-        return Ok(Some(last));
-    }
-    let before = member.pass.receipts().len();
-    let done = act(rt, shared, gate, &mut member.pass, action);
-    member.stopped = done.is_err();
+    let before = pass.receipts().len();
+    let done = act(rt, shared, gate, pass, action);
     match done {
-        Ok(()) => Ok(highest_above(member.pass.receipts(), before, last, last)),
+        Ok(()) => Ok(highest_above(pass.receipts(), before, last, last)),
         Err(why) => Err(why),
     }
 }

@@ -1,16 +1,16 @@
 // The phases of a script, each processor of a phase in a thread of its own.
-ghost use Rattle.std.specs.Prelude.{◌≡◌, ◌++◌, ◌∷◌, [], All, IfNone, IfOk, IfSome, IsNone, IsSome};
-ghost use Rattle.std.specs.Prelude.{Err, OnOk, Some, false};
-ghost use Rattle.hv_phases.specs.PassMap.{AreBusy, Each, HasGiven, HasHandedOut, HasLent, HasRunAll};
-ghost use Rattle.hv_phases.specs.PassMap.{HasRunPhase, HasTaken, IsGiven, member_of};
+ghost use Rattle.std.specs.Prelude.{◌≡◌, ◌++◌, ◌∷◌, [], Err, IfNone, IfOk, IfSome, IsNone, OnOk, Some, false};
+ghost use Rattle.hv_phases.specs.PassMap.{AreBusy, Each, HasGiven, HasHandedOut, HasRunAll, HasRunWorks};
+ghost use Rattle.hv_phases.specs.PassMap.{HasTaken, IsIdle, is_key};
+ghost use Rattle.indexmap.specs.IndexMap.{IsUnique, values};
 
 use crate::barrier::{counts_of, end_of_phase};
-use crate::pass_map::{PassEntry, PassMap, join, key_of};
+use crate::pass_map::{CallerMap, join, key_of};
 use crate::run::RunError;
 use hv_history::HostRefused;
-use hv_policy::Caller;
 use hv_script::Line;
-use hv_threads::{Done, End, Gate, SettleFault, Shared, Work, run_phase};
+use hv_threads::{Done, End, Gate, Pass, SettleFault, Shared, Work, run_phase};
+use indexmap::IndexMap;
 use std::alloc::{AllocError, Global};
 use std::sync::Wait;
 use std::sync::ledger::Ledger;
@@ -24,21 +24,20 @@ pub fn run_in_threads<L: Ledger + Send + Sync, R: Threads + Wait + Sync, G: Gate
     rt: &R,
     gate: &G,
     shared: &Shared<L>,
-    pass_map: &mut PassMap<L>,
+    pass_map: &mut CallerMap<Pass<L>>,
     lines: Vec<Line<Global>>,
 ) -> Option<RunError>
-    requires ready { Each (IsGiven [] []) pass_map.old }
-    requires named { All (λ line. IsSome (member_of line.by pass_map.old)) lines.items }
-    ensures { IfNone result (HasRunAll false lines.items pass_map.old pass_map.new) }
+    requires { Each (IsIdle [] []) pass_map.old }
+    ensures { IfNone result (HasRunAll false lines.items pass_map.new) }
 {
     let mut left = lines;
     left.reverse();
     let mut last = 0;
     while let Some(first) = left.pop() {
-        let Ok(members) = distribute(pass_map, first, &mut left) else {
+        let Ok(works) = works_of(pass_map, first, &mut left) else {
             return Some(RunError::Host(HostRefused::Memory));
         };
-        match run_members(rt, gate, shared, pass_map, &members, last) {
+        match run_works(rt, gate, shared, pass_map, works, last) {
             Ok(now) => last = now,
             Err(why) => return Some(why),
         }
@@ -46,33 +45,41 @@ pub fn run_in_threads<L: Ledger + Send + Sync, R: Threads + Wait + Sync, G: Gate
     None
 }
 
-// Hands out the lines of a phase, which begins with this one. Returns the processors that they name, in the
-// order of their first lines. The lines that are left are in reverse order.
-fn distribute<L: Ledger>(
-    pass_map: &mut PassMap<L>,
+// Hands out the lines of a phase, which begins with this one. Returns the work of the processors that they
+// name, in the order of their first lines. The lines that are left are in reverse order.
+fn works_of<L: Ledger>(
+    pass_map: &mut CallerMap<Pass<L>>,
     first: Line<Global>,
     left: &mut Vec<Line<Global>>,
-) -> Result<Vec<Caller>, AllocError>
-    requires first { IsSome (member_of first.by pass_map.old) }
-    requires left { All (λ line. IsSome (member_of line.by pass_map.old)) left.old.items }
-    ensures { IfOk result (λ members. HasHandedOut first left.old.items left.new.items members.items
-        pass_map.old
-        pass_map.new) }
+) -> Result<Vec<Work<L>>, AllocError>
+    ensures { IfOk result (λ works. HasHandedOut first left.old.items left.new.items
+        (λ past taken. AreBusy past taken works.items) pass_map.old pass_map.new) }
 {
     let phase = first.phase;
-    let mut members = Vec::new(*left.allocator());
-    give(pass_map, &mut members, first)?;
+    let mut busy = IndexMap::new(*left.allocator());
+    give(pass_map, &mut busy, first)?;
     while let Some(line) = next_of(left, phase) {
-        give(pass_map, &mut members, line)?;
+        give(pass_map, &mut busy, line)?;
     }
-    Ok(members)
+    Ok(works_in(busy)?)
+}
+
+// Returns the work in the map, in order.
+fn works_in<L: Ledger>(busy: CallerMap<Work<L>>) -> Result<Vec<Work<L>>, AllocError>
+    ensures unique { IsUnique is_key busy }
+    ensures all { IfOk result (λ works. works.items ≡ values busy) }
+{
+    let alloc = *busy.allocator();
+    // proof: the keys differ.
+    let _count = busy.len();
+    busy.into_values().collect(alloc)
 }
 
 // Takes out the next line, if there is one and it is of this phase.
 fn next_of(left: &mut Vec<Line<Global>>, phase: u32) -> Option<Line<Global>>
     ensures some { IfSome result (λ line. left.old.items ≡ left.new.items ++ line ∷ []) }
     ensures phase { IfSome result (λ line. line.phase ≡ phase) }
-    ensures none { IfNone result (left.new ≡ left.old) }
+    ensures none { IfNone result (left.new.items ≡ left.old.items) }
 {
     match left.last() {
         Some(line) if line.phase == phase => left.pop(),
@@ -80,46 +87,46 @@ fn next_of(left: &mut Vec<Line<Global>>, phase: u32) -> Option<Line<Global>>
     }
 }
 
-// Hands a line to its processor, and adds the processor to the members of the phase if it had nothing to do
-// yet.
+// Hands a line to its processor. With its first line, its pass is taken out of the map. It fails without
+// memory, and for a processor without a pass.
 fn give<L: Ledger>(
-    pass_map: &mut PassMap<L>,
-    members: &mut Vec<Caller>,
+    pass_map: &mut CallerMap<Pass<L>>,
+    busy: &mut CallerMap<Work<L>>,
     line: Line<Global>,
 ) -> Result<(), AllocError>
-    requires { IsSome (member_of line.by pass_map.old) }
-    ensures { OnOk result (HasGiven line members.old.items members.new.items pass_map.old pass_map.new) }
+    ensures { OnOk result (HasGiven line pass_map.old pass_map.new busy.old busy.new) }
 {
     let Line { by, action, .. } = line;
-    let Some(member) = pass_map.get_mut(&key_of(by)) else {
+    let key = key_of(by);
+    let Some(pass) = pass_map.swap_remove(&key) else {
+        let Some(work) = busy.get_mut(&key) else {
+            return Err(AllocError);
+        };
+        work.actions.push(action)?;
         return Ok(());
     };
-    if member.asked.is_empty() {
-        members.push(by)?;
+    let mut actions = Vec::new(*busy.allocator());
+    actions.push(action)?;
+    match busy.insert(key, Work { pass, actions }) {
+        Ok(_) => Ok(()),
+        Err(_) => Err(AllocError),
     }
-    member.asked.push(action)?;
-    Ok(())
 }
 
-// Performs what was handed to these processors, each in a thread of its own. Returns the highest receipt
-// number at the end of the phase, where `last` is the highest before it. Otherwise it returns why the run
-// isn't whole: why the host stopped the first of the processors that it stopped, or that a number isn't above
-// `last`.
-fn run_members<L: Ledger + Send + Sync, R: Threads + Wait + Sync, G: Gate>(
+// Performs these works, each in a thread of its own. Returns the highest receipt number at the end of the
+// phase, where `last` is the highest before it. Otherwise it returns why the run isn't whole: why the host
+// stopped the first of the processors that it stopped, or that a number isn't above `last`.
+fn run_works<L: Ledger + Send + Sync, R: Threads + Wait + Sync, G: Gate>(
     rt: &R,
     gate: &G,
     shared: &Shared<L>,
-    pass_map: &mut PassMap<L>,
-    members: &[Caller],
+    pass_map: &mut CallerMap<Pass<L>>,
+    works: Vec<Work<L>>,
     last: u64,
 ) -> Result<u64, RunError>
-    ensures { IfOk result (λ now. HasRunPhase members.now last now pass_map.old pass_map.new) }
+    ensures { IfOk result (λ now. HasRunWorks works.items last now pass_map.old pass_map.new) }
 {
-    let Ok(works) = works_of(pass_map, members) else {
-        return Err(RunError::Host(HostRefused::Memory));
-    };
     let Ok(counts) = counts_of(*pass_map.allocator(), &works) else {
-        put_back(pass_map, works);
         return Err(RunError::Host(HostRefused::Memory));
     };
     match run_phase(rt, shared, gate, works) {
@@ -127,10 +134,7 @@ fn run_members<L: Ledger + Send + Sync, R: Threads + Wait + Sync, G: Gate>(
             let now = end_of_phase(&dones, &counts, last);
             told(take_back(pass_map, dones), now)
         }
-        Err(refused) => {
-            put_back(pass_map, refused.work);
-            Err(RunError::Host(HostRefused::Memory))
-        }
+        Err(_) => Err(RunError::Host(HostRefused::Memory)),
     }
 }
 
@@ -147,57 +151,24 @@ fn told(stop: Option<HostRefused>, now: Option<u64>) -> Result<u64, RunError>
     }
 }
 
-// Takes the work of these processors out of the pass map.
-fn works_of<L: Ledger>(
-    pass_map: &mut PassMap<L>,
-    members: &[Caller],
-) -> Result<Vec<Work<L>>, AllocError>
-    ensures { IfOk result (λ works. HasLent members.now [] works.items pass_map.old
-        pass_map.new) }
-{
-    let mut works = Vec::with_capacity(*pass_map.allocator(), members.len())?;
-    for at in 0..members.len() {
-        if let Some(member) = pass_map.swap_remove(&key_of(members[at])) {
-            let PassEntry { pass, asked, .. } = member;
-            works.push(Work {
-                pass,
-                actions: asked,
-            })?;
-        }
-    }
-    Ok(works)
-}
-
 // Takes the outcomes back, and returns why the host stopped the first of the processors that it stopped.
-fn take_back<L: Ledger>(pass_map: &mut PassMap<L>, dones: Vec<Done<L>>) -> Option<HostRefused>
+fn take_back<L: Ledger>(
+    pass_map: &mut CallerMap<Pass<L>>,
+    dones: Vec<Done<L>>,
+) -> Option<HostRefused>
     ensures { IfNone result (HasTaken dones.items pass_map.old pass_map.new) }
 {
     let mut left = dones;
     let mut stop = None;
     while let Some(done) = left.pop() {
         let Done { pass, end, .. } = done;
-        let stopped = match end {
-            End::Finished => false,
-            End::Host(why) => {
-                stop = Some(why);
-                true
-            }
-        };
-        if join(pass_map, pass, stopped).is_err() {
+        match end {
+            End::Finished => {}
+            End::Host(why) => stop = Some(why),
+        }
+        if join(pass_map, pass).is_err() {
             stop = Some(HostRefused::Memory);
         }
     }
     stop
-}
-
-// Takes back the work that was not begun.
-fn put_back<L: Ledger>(pass_map: &mut PassMap<L>, works: Vec<Work<L>>) {
-    let mut left = works;
-    while let Some(work) = left.pop() {
-        let Work { pass, actions } = work;
-        drop(actions);
-        if join(pass_map, pass, true).is_err() {
-            return;
-        }
-    }
 }

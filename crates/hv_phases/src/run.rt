@@ -1,5 +1,5 @@
 // A whole run of lines, from a machine without events to the settlement.
-ghost use Rattle.std.specs.Prelude.{◌≡◌, ◌<◌, [], All, IfNone, IsNone, IsTrue, Some, map, vec_len};
+ghost use Rattle.std.specs.Prelude.{◌≡◌, ◌<◌, [], All, IfNone, IsNone, IsTrue, Some, vec_len};
 ghost use Rattle.hv_phases.specs.PassMap.{AreCallersOf, HaveRun};
 ghost use Rattle.hv_phases.specs.Lines.{AreInOrder, ArePhased, AreRun};
 ghost use Rattle.hv_shared.specs.Merge.{IsMerge, receipts_of};
@@ -106,7 +106,6 @@ fn run_on<L: Ledger + Send + Sync, R: Threads + Wait + Sync, G: Gate>(
     serial: bool,
 ) -> Option<RunError>
     requires callers { AreCallersOf lines.items callers.now }
-    requires passes { map (λ pass. pass.caller) passes.old.items ≡ callers.now }
     requires fresh { All (λ pass. pass.receipts ≡ []) passes.old.items }
     ensures { IfNone result (HaveRun serial lines.items passes.new.items) }
 {

@@ -1,5 +1,4 @@
-use Rattle.std.proofs.Common.{◌≡◌, length, take}
-use Rattle.std.specs.Prelude.{map}
+use Rattle.std.proofs.Common.{◌≡◌, length, take, map}
 use Rattle.hv_phases.proofs.barrier.counts_of.Given as goal
 
 abbrev pub invariant-loop-at : goal.invariant-loop-at

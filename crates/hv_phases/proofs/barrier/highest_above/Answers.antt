@@ -1,21 +1,26 @@
-use Rattle.std.proofs.Common.{◌≡◌, ◌+◌, ◌∙◌, ap, drop, max, ℕ, Some, rules, sym}
-use Rattle.std.specs.Prelude.{option_map, slice_get}
-use Rattle.hv_phases.specs.PassMap.{highest_above}
+use Rattle.std.proofs.Common.{◌≡◌, ℕ, arith, get_or, max, rules, subst, sym}
+use Rattle.hv_phases.specs.PassMap.{IsWithin}
 use Rattle.hv_shared.specs.Receipts.{list_of}
-use Rattle.hv_shared.specs.declared.receipts.Receipt.{Receipt}
-use Rattle.hv_phases.proofs.Numbers.{above_ends, above_goes_on}
+use Rattle.hv_phases.proofs.Numbers.{above_all, above_more}
 use Rattle.hv_phases.proofs.barrier.highest_above.Goals as goal
 
-pub returns-then-number-last : goal.returns-then-number-last
-returns-then-number-last c =
-    let l = c.loop-at in
-    let here : option_map (λ (r : Receipt). r.number) (slice_get (list_of c.args.receipts.now) l.at) ≡ Some c.number-number.result = c.number-number.ensures in
-    sym (sym l.invariant ∙ above_ends (list_of c.args.receipts.now) l.at c.args.last l.highest c.number-number.result here c.if-number-last.true)
+pub loop-at-init : goal.loop-at-init
+loop-at-init c = record { rises = omega arith; each = λ k d low less. absurd (omega (arith, low, less)) }
 
 pub loop-at-preserved : goal.loop-at-preserved
 loop-at-preserved c =
     let l = c.loop-at in
-    let here : option_map (λ (r : Receipt). r.number) (slice_get (list_of c.args.receipts.now) l.at) ≡ Some c.number-number.result = c.number-number.ensures in
+    let list = list_of c.args.receipts.now in
     let highest : c.max-highest.result ≡ max l.highest c.number-number.result = search rules in
-    ap (λ (k : ℕ). highest_above c.args.last k (drop (l.at + 1) (list_of c.args.receipts.now))) highest
-    ∙ above_goes_on (list_of c.args.receipts.now) l.at c.args.last l.highest c.number-number.result here c.if-number-last.false ∙ l.invariant
+    let was = l.invariant.rises in
+    record {
+      rises = omega (arith, highest, was);
+      each = λ k d low less. subst (λ (n : ℕ). IsWithin c.args.last n (get_or list k d)) (sym highest)
+          (above_more list c.args.from c.args.last l.highest l.at l.invariant.each c.number-number.result c.number-number.ensures c.if-number-last.false k d low less);
+    }
+
+pub returns : goal.returns
+returns c =
+    let l = c.loop-at in
+    let list = list_of c.args.receipts.now in
+    (l.invariant.rises, above_all list c.args.from c.args.last l.highest l.at l.invariant.each (omega (arith, c.loop-at-test.false, c.len-at-end.ensures)))

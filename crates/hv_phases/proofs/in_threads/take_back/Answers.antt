@@ -1,6 +1,5 @@
-use Rattle.std.proofs.Common.{◌≡◌, List, [], ◌∷◌, ◌++◌, None, false, ap, append_assoc, rules, ◌∙◌}
-use Rattle.hv_phases.proofs.Lending.{taken_more}
-use Rattle.hv_phases.proofs.Written.{on_not_err}
+use Rattle.std.proofs.Common.{◌≡◌, List, [], ◌∷◌, ◌++◌, None, ap, append_assoc, rules, ◌∙◌}
+use Rattle.hv_phases.proofs.Lending.{on_not_err, taken_more}
 use Rattle.hv_phases.proofs.in_threads.take_back.Goals as goal
 use Rattle.hv_phases.proofs.in_threads.take_back.Goals.{in-Finished, in-Host}
 use Rattle.hv_threads.specs.declared.phase.Done.{Done}
@@ -19,10 +18,9 @@ loop-done-preserved g c =
         so_far.1 ∙ ap (λ (l : List (Done g.row.L.Denot)). l ++ so_far.0) popped ∙ append_assoc rest (done ∷ []) so_far.0,
         λ none. elim c.match-end.branch [
           | in-Finished w ↦
-              let going : c.match-end.stopped ≡ false = search rules in
               let was : c.loop-done.stop ≡ None = search rules in
               let finished : done.end ≡ Finished = search rules in
-              taken_more done c.match-end.stopped so_far.0 _ _ _ (so_far.2 was) came finished going
+              taken_more done so_far.0 _ _ _ (so_far.2 was) came finished
           | in-Host w ↦ let is = w.stop-is in cc
         ],
       );

@@ -1,32 +1,18 @@
-use Rattle.std.proofs.Common.{◌≡◌, List, [], ◌∷◌, ◌++◌, ◌+◌, Some, None, arith, drop, refl, rules, sym, subst}
-use Rattle.hv_phases.specs.PassMap.{HasLent}
-use Rattle.hv_phases.proofs.Lending.{lent_more, lent_same}
-use Rattle.hv_phases.proofs.Written.{found_at, here, others}
+use Rattle.std.proofs.Common.{List, subst, sym, Global}
+use Rattle.hv_phases.specs.PassMap.{AreBusy, HasHandedOut}
+use Rattle.hv_phases.proofs.Handing.{handed_all, handed_first, handed_more}
 use Rattle.hv_phases.proofs.in_threads.works_of.Goals as goal
-use Rattle.hv_phases.proofs.in_threads.works_of.Goals.{in-Some+in_ok-push, in_default}
-use Rattle.hv_threads.specs.declared.phase.Work.{Work}
+use Rattle.hv_script.specs.declared.line.Line.{Line}
 
-pub loop-at-preserved : goal.loop-at-preserved
-loop-at-preserved g c =
-    let members = c.args.members.now in
-    let works = c.loop-at.works.items in
-    let all = c.match-swap_remove.works.items in
-    let now = c.loop-at.pass_map in
-    let new = c.swap_remove.new.self in
-    let left = drop (c.loop-at.at + 1) members in
-    let gone = here _ c.key_of.result c.key_of.ensures now new None c.swap_remove.ensures.updates in
-    let rest = others _ c.key_of.result c.key_of.ensures now new None c.swap_remove.ensures.updates in
-    elim c.match-swap_remove.branch [
-      | in-Some+in_ok-push w ↦
-          let m = w.in-Some.member in
-          let work : Work g.row.L.Denot = record { pass = m.pass; actions = m.asked } in
-          let is : all ≡ works ++ work ∷ [] = search rules in
-          subst (λ (ws : List (Work g.row.L.Denot)). HasLent members left ws c.args.pass_map.now new) (sym is)
-          (lent_more members c.loop-at.at _ (omega (arith, c.loop-at-test.true)) works c.args.pass_map.now now new c.loop-at.invariant gone rest m work
-          (found_at _ c.key_of.result c.key_of.ensures now (Some m) w.in-Some.ensures.value) refl refl)
-      | in_default w ↦
-          let is : all ≡ works = search rules in
-          subst (λ (ws : List (Work g.row.L.Denot)). HasLent members left ws c.args.pass_map.now new) (sym is)
-          (lent_same members c.loop-at.at _ (omega (arith, c.loop-at-test.true)) works c.args.pass_map.now now new c.loop-at.invariant gone rest
-          (found_at _ c.key_of.result c.key_of.ensures now None w.in_default.ensures.value))
-    ]
+pub loop-line-init : goal.loop-line-init
+loop-line-init g c = handed_first _ _ c.new-busy.result c.give.new.busy _ _ c.new-busy.ensures.empty c.in_ok-give.ensures
+
+pub loop-line-preserved : goal.loop-line-preserved
+loop-line-preserved g c =
+    handed_more _ c.in-Some.line _ _ _ c.loop-line.busy c.give-in-Some.new.busy _ _ _ c.loop-line.invariant c.in-Some.ensures.some c.in-Some.ensures.phase c.in_ok-give-2.ensures
+
+pub returns : goal.returns
+returns g c =
+    let works = c.in_ok-works_in.field-0.items in
+    subst (λ (ls : List (Line Global)). HasHandedOut c.args.first c.args.left.now.items ls (λ past taken. AreBusy past taken works) c.args.pass_map.now c.loop-line.pass_map)
+    (sym c.in_default.ensures.none) (handed_all _ _ _ c.loop-line.busy works _ _ c.loop-line.invariant c.works_in.ensures.unique c.in_ok-works_in.ensures.all)

@@ -1,6 +1,9 @@
-use Rattle.std.proofs.Common.{drop}
-use Rattle.hv_phases.specs.PassMap.{HasLent}
+use Rattle.std.proofs.Common.{length}
+use Rattle.hv_phases.specs.PassMap.{Each, HasHandedOut, IsBusy}
 use Rattle.hv_phases.proofs.in_threads.works_of.Given as goal
 
-abbrev pub invariant-loop-at : goal.invariant-loop-at
-invariant-loop-at g l = HasLent l.members (drop l.at l.members) l.works.items l.fn.pass_map l.pass_map
+abbrev pub invariant-loop-line : goal.invariant-loop-line
+invariant-loop-line g l = HasHandedOut l.fn.first l.fn.left.items l.left.items (λ past taken. Each (IsBusy past taken) l.busy) l.fn.pass_map l.pass_map
+
+abbrev pub decreases-loop-line : goal.decreases-loop-line
+decreases-loop-line g l = length l.left.items

@@ -1,5 +1,4 @@
-use Rattle.std.proofs.Common.{Bool, Option, Some, None, IfNone, subst}
-use Rattle.std.specs.Prelude.{IsNone}
+use Rattle.std.proofs.Common.{Bool, Option, Some, None, IfNone, subst, IsNone}
 use Rattle.hv_phases.proofs.Phased.{IsGrouped, all_in_order, all_phased, all_run}
 use Rattle.hv_phases.proofs.Settled.{settled}
 use Rattle.hv_phases.proofs.run.run_under.Goals as goal
