@@ -1,22 +1,17 @@
 // A whole run, from the script's bytes to the exit status.
-ghost use Rattle.std.specs.Prelude.{◌≡◌, ◌≢◌, ◌<◌, length, IfErr, IsErr, IsNone, IsSome, OnErr, OnOk};
+ghost use Rattle.std.specs.Prelude.{◌≡◌, ◌≢◌, ◌<◌, length, Err, IfErr, IsErr, IsNone, IsSome, OnErr, OnOk};
 ghost use Rattle.std.specs.Io.KnownBytes.{Appends};
 ghost use Rattle.hv_history.specs.Kept.{IsRun};
-ghost use Rattle.hv_history.specs.Row.{events_of};
-ghost use Rattle.hv_policy.specs.Step.{run};
-ghost use Rattle.hv_script.specs.Reading.{said};
 ghost use Rattle.hv_script.specs.declared.script.TheConstants.{MOST_BYTES as MOST};
-ghost use Rattle.hv_text.specs.Fault.{IsCut};
-ghost use Rattle.hv_text.specs.Table.{table_text};
 ghost use Rattle.hv_run.specs.Failure.{exit_of};
-ghost use Rattle.hv_run.specs.Written.{HasPart, HasWritten, HasWrittenOf, HasWrittenPart, told_by};
+ghost use Rattle.hv_run.specs.Written.{HasPart, HasWrittenOf, HasWrittenPart, told_by};
 
 use crate::failure::{Exit, Failure, tell};
 use hv_history::Kept;
 use hv_options::Options;
 use hv_phases::{RunError, run_lines};
-use hv_script::{Script, parse};
-use hv_text::{PrintFault, audit, table};
+use hv_script::{FaultKind, Script, parse};
+use hv_text::{audit, table};
 use hv_threads::{Gate, Open};
 use std::alloc::Global;
 use std::io::Write;
@@ -67,55 +62,33 @@ pub fn run_gated<T: Threads + Wait + Sync, G: Gate, W: Write, E: Write>(
     ensures silent { result ≡ Exit.Script → out.new ≡ out.old }
     ensures no_usage { result ≢ Exit.Usage }
 {
-    match parse(alloc, script) {
-        Ok(script) => finish(rt, alloc, script, options, gate, out, err),
-        Err(fault) => tell(Failure::from(fault), err),
-    }
-}
-
-// Runs a script that has no fault, and writes to `err` why it didn't all run.
-fn finish<T: Threads + Wait + Sync, G: Gate, W: Write, E: Write>(
-    rt: &T,
-    alloc: Global,
-    script: Script<Global>,
-    options: &Options<'_>,
-    gate: &G,
-    out: &mut W,
-    err: &mut E,
-) -> Exit
-    ensures told { result ≡ Exit.Done → HasWritten (said script) options.now.serial options.now.table
-        (W.contents out.old) (W.contents out.new) }
-    ensures unfinished { result ≡ Exit.Host → HasWrittenPart options.now.table (W.contents out.old)
-        (W.contents out.new) }
-    ensures silent { result ≡ Exit.Script → out.new ≡ out.old }
-    ensures no_usage { result ≢ Exit.Usage }
-{
     match run_script(rt, alloc, script, options, gate, out) {
         Ok(()) => Exit::Done,
         Err(failure) => tell(failure, err),
     }
 }
 
-// Boots a script's machine, runs the lines and prints what happened.
+// Reads a script, boots its machine, runs the lines and prints what happened.
 fn run_script<T: Threads + Wait + Sync, G: Gate, W: Write>(
     rt: &T,
     alloc: Global,
-    script: Script<Global>,
+    script: &[u8],
     options: &Options<'_>,
     gate: &G,
     out: &mut W,
 ) -> Result<(), Failure>
-    ensures told { OnOk result (HasWritten (said script) options.now.serial options.now.table
+    ensures told { OnOk result (HasWrittenOf script.now options.now.serial options.now.table
         (W.contents out.old) (W.contents out.new)) }
     ensures unfinished { OnErr result (HasWrittenPart options.now.table (W.contents out.old)
         (W.contents out.new)) }
+    ensures long { MOST < length script.now → result ≡ Err (Failure.Fault 0 FaultKind.Long) }
     ensures silent { IfErr result (λ failure. exit_of failure ≡ Exit.Script → out.new ≡ out.old) }
 {
     let Script {
         config,
         limit,
         lines,
-    } = script;
+    } = parse(alloc, script)?;
     let kept = Kept::boot(alloc, config, limit)?;
     let (kept, unfinished) = run_lines(rt, gate, kept, lines, options.serial);
     ended(unfinished, print(&kept, options.table, out))
@@ -133,21 +106,9 @@ fn print<W: Write>(kept: &Kept<Global>, with_table: bool, out: &mut W) -> Result
     let _history = kept.history();
     audit(out, kept)?;
     if with_table {
-        print_table(kept, out)?;
+        table(out, kept)?;
     }
     out.flush().map_err(|_| Failure::Write)
-}
-
-// Prints the table of the state in which the run of the history's events ends.
-fn print_table<W: Write>(kept: &Kept<Global>, out: &mut W) -> Result<(), PrintFault>
-    ensures ok { OnOk result (Appends (W.contents out.old) (W.contents out.new)
-        (table_text (run kept.now.config (events_of kept.now.history)).0)) }
-    ensures cut { IfErr result (IsCut (W.contents out.old) (W.contents out.new)
-        (table_text (run kept.now.config (events_of kept.now.history)).0)) }
-{
-    // proof: the kept history is a run.
-    let _history = kept.history();
-    table(out, kept)
 }
 
 // Returns the result of a run. Why it isn't whole comes before output that couldn't be written.

@@ -1,5 +1,6 @@
 use Rattle.std.proofs.Common.{◌≡◌, ◌∙◌, Option, None, Some, Result, Ok, Err, IfErr, IfNone, OnErr, OnOk, IsSome, IsNone, IsErr, inr, refl, subst, sym}
 use Rattle.hv_run.specs.Failure.{exit_of}
+use Rattle.hv_script.specs.Reading.{said}
 use Rattle.hv_run.specs.declared.failure.Exit.TheVariants.{Host, Script}
 use Rattle.hv_run.specs.declared.failure.Failure.{Failure}
 use Rattle.hv_run.proofs.run.run_script.Goals as goal
@@ -43,14 +44,18 @@ returns-clause-told g c =
     let unfinished = c.run_lines-kept.result.1 in
     on_ok _ _ _ _ _ c.ended.ensures.stopped c.ended.ensures.written c.print.ensures.told
     (λ none told. record {
-      kept = c.run_lines-kept.result.0;
-      run = c.print.ensures.run;
-      config = whole unfinished _ none ran.config ∙ c.in_ok-kept.ensures.config;
-      limit = whole unfinished _ none ran.limit ∙ c.in_ok-kept.ensures.limit;
-      lines = whole unfinished _ none ran.lines;
-      phases = whole unfinished _ none ran.phases;
-      order = λ serial. whole unfinished _ none (ran.order serial);
-      told = told;
+      said = said c.in_ok-config.field-0;
+      is = c.in_ok-config.ensures.script;
+      told = record {
+        kept = c.run_lines-kept.result.0;
+        run = c.print.ensures.run;
+        config = whole unfinished _ none ran.config ∙ c.in_ok-kept.ensures.config;
+        limit = whole unfinished _ none ran.limit ∙ c.in_ok-kept.ensures.limit;
+        lines = whole unfinished _ none ran.lines;
+        phases = whole unfinished _ none ran.phases;
+        order = λ serial. whole unfinished _ none (ran.order serial);
+        told = told;
+      };
     })
 
 pub returns-clause-silent : goal.returns-clause-silent
