@@ -1,7 +1,7 @@
 // Lines, cut into words.
-ghost use Rattle.std.specs.Prelude.{◌≡◌, ◌+◌, ◌<◌, ◌≤◌, ◌==◌, ◌++◌, ◌&&◌, ◌^◌, IfOk};
-ghost use Rattle.std.specs.Prelude.{[], length, map, take, drop, codes, nat_eq};
-ghost use Rattle.std.specs.List.{after_first, starts_with};
+ghost use Rattle.std.specs.Prelude.{◌≡◌, ◌+◌, ◌<◌, ◌≤◌, ◌==◌, ◌++◌, ◌&&◌, ◌^◌, IfOk, [], length, map, take};
+ghost use Rattle.std.specs.Prelude.{drop, codes, nat_eq};
+ghost use Rattle.std.specs.List.{after_first, before_first, starts_with};
 ghost use Rattle.hv_script.specs.declared.cut.TheConstants.{KEPT};
 ghost use Rattle.hv_script.specs.Cursor.{Runs, is_of_word, line_of, word_in, words_read};
 ghost use Rattle.hv_script.specs.Fault.{IsRead};
@@ -63,7 +63,8 @@ impl<'a> CutLine<'a> {
             let end = word_end(text, at);
             let run = &text[at..end];
             if begins_comment(count, run) {
-                return Ok(after_line(text));
+                let (_, rest) = around(text, b'\n');
+                return Ok(rest);
             }
             count = keep(&mut self.first, count, run);
             if end == text.len() || text[end] == b'\n' {
@@ -141,13 +142,14 @@ fn keep<'a>(first: &mut [&'a [u8]; KEPT], count: usize, run: &'a [u8]) -> usize
     count + 1
 }
 
-// Returns the text after the first line feed, or nothing if there is none.
-fn after_line(text: &[u8]) -> &[u8]
-    ensures { result.now ≡ after_first (λ byte. byte == 10) text.now }
+/// Splits a text at the first of this byte. Without one, nothing comes after it.
+pub fn around(text: &[u8], mark: u8) -> (&[u8], &[u8])
+    ensures before { result.0.now ≡ before_first (λ byte. byte == mark) text.now }
+    ensures after { result.1.now ≡ after_first (λ byte. byte == mark) text.now }
 {
-    match text.iter().position(|byte| *byte == b'\n') {
-        Some(end) => &text[end + 1..],
-        None => &[],
+    match text.iter().position(|byte| *byte == mark) {
+        Some(at) => (&text[..at], &text[at + 1..]),
+        None => (text, &[]),
     }
 }
 

@@ -1,16 +1,49 @@
 // Numbers and bytes, as words of a script.
-ghost use Rattle.std.specs.Prelude.{◌≡◌, ◌≢◌, ◌^◌, ◌<◌, ◌≤◌, length, option_and_then, IfSome};
-ghost use Rattle.std.specs.Option.{SomeIff};
-ghost use Rattle.std.specs.Str.Parse.{AllDigits, IsNumeral, digits_value};
+ghost use Rattle.std.specs.Prelude.{◌≡◌, ◌≢◌, ◌+◌, ◌*◌, ◌^◌, ◌<◌, ◌≤◌, option_and_then, IfOk, IfSome};
+ghost use Rattle.std.specs.Prelude.{SomeIff};
+ghost use Rattle.std.specs.Char.{digit_value};
+ghost use Rattle.std.specs.Str.Parse.{IsNumeral, digits_value};
+ghost use Rattle.hv_script.specs.declared.cut.TheConstants.{KEPT};
 ghost use Rattle.hv_script.specs.Fault.{IsRead};
+ghost use Rattle.hv_script.specs.Line.{number_at};
 ghost use Rattle.hv_script.specs.Number.{bytes_in, decimal_in, fitting, number_in};
+ghost use Rattle.hv_script.specs.Words.{word_at};
 
+use crate::cut::CutLine;
 use crate::fault::FaultKind;
 use hex::FromHexError;
 use std::alloc::Allocator;
 
 // The most digits of a word for bytes, two for each.
 const MOST_DIGITS: usize = 8192;
+
+impl<'a> CutLine<'a> {
+    /// Returns the 64-bit number at a place.
+    pub fn number(&self, place: usize) -> Result<u64, FaultKind>
+        requires { place < KEPT }
+        ensures { result ≡ number_at 64 self.now place }
+    {
+        number(self.word(place)).ok_or(FaultKind::Number)
+    }
+
+    /// Returns the number of `bits` bits, fewer than 64, at a place.
+    pub fn number_in(&self, bits: u32, place: usize) -> Result<u64, FaultKind>
+        requires place { place < KEPT }
+        requires fewer { bits < 64 }
+        ensures number { result ≡ number_at bits self.now place }
+        ensures fits { IfOk result (λ number. number < 2 ^ bits) }
+    {
+        number_in(self.word(place), bits).ok_or(FaultKind::Number)
+    }
+
+    /// Returns the bytes at a place.
+    pub fn bytes<A: Allocator>(&self, alloc: A, place: usize) -> Result<Vec<u8, A>, FaultKind>
+        requires { place < KEPT }
+        ensures { IsRead result (λ bytes. bytes.items) (bytes_in (word_at self.now place)) }
+    {
+        bytes(alloc, self.word(place))
+    }
+}
 
 /// Reads a 64-bit number in decimal digits, with any number of leading zeros.
 pub fn decimal(word: &[u8]) -> Option<u64>
@@ -102,8 +135,18 @@ fn digits(word: &[u8], base: u64) -> Option<u64>
     }
     let mut value = 0u64;
     for byte in word {
-        let digit = char::from(*byte).to_digit(base as u32)?;
-        value = value.checked_mul(base)?.checked_add(u64::from(digit))?;
+        value = with_digit(value, *byte, base)?;
     }
     Some(value)
+}
+
+// The number with one digit more, where it fits 64 bits.
+fn with_digit(value: u64, byte: u8, base: u64) -> Option<u64>
+    requires least { 2 ≤ base }
+    requires most { base ≤ 16 }
+    ensures { SomeIff result ((digit_value byte < base) × (value * base + digit_value byte < 2 ^ 64))
+        (value * base + digit_value byte) }
+{
+    let digit = char::from(byte).to_digit(base as u32)?;
+    value.checked_mul(base)?.checked_add(u64::from(digit))
 }

@@ -1,53 +1,28 @@
-use Rattle.std.proofs.Common.{◌≡◌, ◌+◌, ◌*◌, ◌<◌, ◌≤◌, None, length, get_or, take, arith, rules, tests, ap, sym, ◌∙◌}
-use Rattle.std.specs.Char.{digit_value}
+use Rattle.std.proofs.Common.{◌≡◌, ◌<◌, None, length, take, arith, rules, tests, sym, ◌∙◌, take_all}
 use Rattle.std.specs.Str.Parse.{AllDigits, digits_value}
 use Rattle.std.proofs.lemmas.Int.Digits.{digits_more, digits_value_more}
-use Rattle.std.proofs.lemmas.List.{take_all}
 use Rattle.hv_script.proofs.NumberLemmas.{all_digits_at, one_more_le}
 use Rattle.hv_script.proofs.number.digits.Goals as goal
 
-pub returns-in_err-digit : goal.returns-in_err-digit
-returns-in_err-digit c =
-    let none : c.from_residual.result ≡ None = search rules in
-    let lt : c.loop-byte.byte-index < length c.args.word.now = omega arith in
-    let byte : c.from.result ≡ get_or c.args.word.now c.loop-byte.byte-index 0 = search rules in
-    rw none (λ h. c.in_err-digit.ensures.value (rw byte (all_digits_at c.args.base c.args.word.now c.loop-byte.byte-index h.0.1 lt)))
-
-pub returns-in_err-checked_mul : goal.returns-in_err-checked_mul
-returns-in_err-checked_mul c =
-    let none : c.from_residual-in_err-checked_mul.result ≡ None = search rules in
-    let lt : c.loop-byte.byte-index < length c.args.word.now = omega arith in
-    let le = one_more_le c.args.base c.loop-byte.value c.args.word.now c.loop-byte.byte-index (omega arith) lt c.loop-byte.invariant.value in
-    rw none (λ h. c.in_err-checked_mul.ensures (omega (arith, le, h.1)))
-
 pub returns-in_err-value : goal.returns-in_err-value
 returns-in_err-value c =
-    let none : c.from_residual-in_err-value.result ≡ None = search rules in
-    let lt : c.loop-byte.byte-index < length c.args.word.now = omega arith in
-    let byte : c.from.result ≡ get_or c.args.word.now c.loop-byte.byte-index 0 = search rules in
-    let digit : c.in_ok-digit.digit ≡ digit_value (get_or c.args.word.now c.loop-byte.byte-index 0) =
-    c.in_ok-digit.ensures.value.1 ∙ ap digit_value byte in
-    let product : c.in_ok-checked_mul.field-0 ≡ c.loop-byte.value * c.args.base = c.in_ok-checked_mul.ensures.1 in
-    let wide : c.from-in-loop-byte.result ≡ c.in_ok-digit.digit = search rules in
-    let le = one_more_le c.args.base c.loop-byte.value c.args.word.now c.loop-byte.byte-index (omega arith) lt c.loop-byte.invariant.value in
-    let whole : c.in_ok-checked_mul.field-0 + c.from-in-loop-byte.result ≤ digits_value c.args.base c.args.word.now = rw (product, wide, digit) le in
-    rw none (λ h. c.in_err-value.ensures (omega (arith, whole, h.1)))
+    let word = c.args.word.now in
+    let at = c.loop-byte.byte-index in
+    let none : c.from_residual.result ≡ None = search rules in
+    let lt : at < length word = omega arith in
+    let le = one_more_le c.args.base c.loop-byte.value word at (omega arith) lt c.loop-byte.invariant.value in
+    rw none (λ h. c.in_err-value.ensures (all_digits_at c.args.base word at h.0.1 lt, omega (arith, le, h.1)))
 
 pub loop-byte-preserved : goal.loop-byte-preserved
 loop-byte-preserved c =
-    let lt : c.loop-byte.byte-index < length c.args.word.now = omega arith in
-    let byte : c.from.result ≡ get_or c.args.word.now c.loop-byte.byte-index 0 = search rules in
-    let digit : c.in_ok-digit.digit ≡ digit_value (get_or c.args.word.now c.loop-byte.byte-index 0) =
-    c.in_ok-digit.ensures.value.1 ∙ ap digit_value byte in
-    let product : c.in_ok-checked_mul.field-0 ≡ c.loop-byte.value * c.args.base = c.in_ok-checked_mul.ensures.1 in
-    let wide : c.from-in-loop-byte.result ≡ c.in_ok-digit.digit = search rules in
-    let sum : c.in_ok-value.value ≡ c.in_ok-checked_mul.field-0 + c.from-in-loop-byte.result = c.in_ok-value.ensures.1 in
-    let below : digit_value c.from.result < c.args.base = c.in_ok-digit.ensures.value.0 in
-    let more = digits_value_more c.args.base c.args.word.now c.loop-byte.byte-index lt in
+    let word = c.args.word.now in
+    let at = c.loop-byte.byte-index in
+    let lt : at < length word = omega arith in
+    let step = c.in_ok-value.ensures in
     record {
-      value = sum ∙ rw (product, wide, digit, c.loop-byte.invariant.value) (sym more);
-      small = rw sum c.in_ok-value.ensures.0;
-      digits = digits_more c.args.base c.args.word.now c.loop-byte.byte-index lt c.loop-byte.invariant.digits (rw byte at below);
+      value = step.1 ∙ rw c.loop-byte.invariant.value (sym (digits_value_more c.args.base word at lt));
+      small = rw step.1 step.0.1;
+      digits = digits_more c.args.base word at lt c.loop-byte.invariant.digits step.0.0;
     }
 
 pub returns : goal.returns

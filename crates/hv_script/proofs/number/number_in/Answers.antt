@@ -1,5 +1,4 @@
-use Rattle.std.proofs.Common.{◌∙◌, ap, sym, arith}
-use Rattle.std.proofs.Common.{option_and_then}
+use Rattle.std.proofs.Common.{◌∙◌, ap, sym, arith, option_and_then}
 use Rattle.hv_script.specs.Number.{fitting}
 use Rattle.hv_script.proofs.NumberLemmas.{narrower_number}
 use Rattle.hv_script.proofs.number.number_in.Goals as goal
