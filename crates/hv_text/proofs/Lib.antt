@@ -1,9 +1,4 @@
-pub mod Cuts
-pub mod Decimals
-pub mod Entries
 pub mod Outputs
-pub mod Pairs
 pub mod Rows
-pub mod Runs
 pub mod Sent
 pub mod Tied

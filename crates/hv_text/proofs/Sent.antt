@@ -1,79 +1,39 @@
--- A text of lines and an end, cut before and after one of the lines.
-use Rattle.std.proofs.Common.{◌≡◌, ℕ, zero, suc, ◌+◌, ◌*◌, ◌≤◌, List, [], ◌∷◌, ◌++◌, length, take, drop, Some, refl, sym, ap, ◌∙◌, arith, append_assoc, append-nil, length-append, take_all}
-use Rattle.std.specs.List.{slice_get}
-use Rattle.std.specs.Prelude.{Option}
-use Rattle.std.specs.Io.KnownBytes.{Appends}
-use Rattle.std.proofs.KnownBytes.{Appends-nil, Appends-trans}
-use Rattle.hv_text.specs.Fault.{IsCut, IsCutAfter}
-use Rattle.hv_text.specs.declared.fault.PrintFault.{PrintFault}
-use Rattle.hv_text.specs.declared.text.TheConstants.{LINE}
-use Rattle.hv_text.proofs.Cuts.{cut-in}
+-- What a writer has of a text, once more of it goes out.
+use Rattle.std.proofs.Common.{◌≡◌, ℕ, suc, ◌+◌, ◌-◌, ◌<◌, ◌≤◌, List, [], ◌∷◌, ◌++◌, length, take, drop, Some, refl, sym, ap, subst, ◌∙◌, arith, take-add, take_all, add-one, drop-cons, length-append}
+use Rattle.std.proofs.Common.{length-drop, drop-drop, slice_get, Option}
+use Rattle.std.proofs.lemmas.List.{drop-append-le, take-append-le, take_rest}
+use Rattle.std.proofs.lemmas.Option.{get_or_from_slice_get, slice_get_within}
+use Rattle.std.specs.Io.KnownBytes.{Appends, Keeps}
+use Rattle.std.proofs.KnownBytes.{Appends-kept, Appends-nil, Appends-trans}
+use Rattle.hv_text.specs.Fault.{HasSent, IsCut}
+use Rattle.hv_text.specs.declared.fault.PrintFault.TheVariants.{Write}
 
--- lines, one after another
-abbrev pub joined : List (List ℕ) → List ℕ
-joined [] = []
-joined (line ∷ lines) = line ++ joined lines
+-- nothing has gone out yet
+pub sent-none : (old : Option (List ℕ)) (text : List ℕ) → HasSent old old text text 0
+sent-none old text = record { gone = Appends-nil old; left = refl; within = omega arith }
 
--- a text with the three parts of its end
-pub ended : (text a b c : List ℕ) → ((text ++ a) ++ b) ++ c ≡ text ++ ((a ++ b) ++ c)
-ended text a b c = ap (λ t. t ++ c) (append_assoc text a b) ∙ append_assoc text (a ++ b) c
+-- and n bytes more
+pub sent-more : (n : ℕ) (old mid new : Option (List ℕ)) (text bytes more : List ℕ) (written : ℕ) → HasSent old mid text (bytes ++ more) written → n ≤ length bytes
+    → Appends mid new (take n bytes) → HasSent old new text (take (length bytes - n) (drop n bytes) ++ more) (written + n)
+sent-more n old mid new text bytes more written is fits sent =
+    record {
+      gone = rw (take-add written n text, is.left, take-append-le n bytes more fits) (Appends-trans old mid new _ _ is.gone sent);
+      left = sym (drop-drop n written text) ∙ ap (drop n) is.left ∙ drop-append-le n bytes more fits ∙ ap (λ t. t ++ more) (sym (take_rest bytes n));
+      within = omega (arith, is.within, ap length is.left, length-drop written text, length-append bytes more);
+    }
 
--- the first i lines, and the others
-split : (lines : List (List ℕ)) (i : ℕ) → joined lines ≡ joined (take i lines) ++ joined (drop i lines)
-split lines zero = refl
-split [] (suc i) = refl
-split (line ∷ lines) (suc i) = ap (λ t. line ++ t) (split lines i) ∙ sym (append_assoc line (joined (take i lines)) (joined (drop i lines)))
+-- a write that failed
+pub sent-same : (old mid new : Option (List ℕ)) (text rest : List ℕ) (written : ℕ) → HasSent old mid text rest written → Keeps mid new → HasSent old new text rest written
+sent-same old mid new text rest written is same = record { gone = Appends-kept old mid new _ is.gone same; left = is.left; within = is.within }
 
--- one line more
-grown : (lines : List (List ℕ)) (i : ℕ) (line : List ℕ) → slice_get lines i ≡ Some line → joined (take (i + 1) lines) ≡ joined (take i lines) ++ line
-grown [] i line is = absurd (cc)
-grown (first ∷ lines) zero line is =
-    let same : first ≡ line = cc in
-    rw same (append-nil line)
-grown (first ∷ lines) (suc i) line is =
-    let more : suc i + 1 ≡ suc (i + 1) = omega arith in
-    rw more (ap (λ t. first ++ t) (grown lines i line is) ∙ sym (append_assoc first (joined (take i lines)) line))
+-- where some bytes are left, the text is cut
+pub sent-part : (old new : Option (List ℕ)) (text bytes more : List ℕ) (written : ℕ) → HasSent old new text (bytes ++ more) written → 0 < length bytes → IsCut old new text (Write written)
+sent-part old new text bytes more written is some = (is.gone, omega (arith, ap length is.left, length-drop written text, length-append bytes more))
 
--- the first i lines went out, and their bytes were counted
-pub record HasSent (lines : List (List ℕ)) (old new : Option (List ℕ)) (i written : ℕ) : Type 0 where
-  pub gone : Appends old new (joined (take i lines))
-  pub count : written ≡ length (joined (take i lines))
-  pub few : written ≤ LINE * i
+-- where none are, all of it went out
+pub sent-all : (old new : Option (List ℕ)) (text : List ℕ) (written : ℕ) → HasSent old new text [] written → Appends old new text
+sent-all old new text written is = subst (Appends old new) (take_all written text (omega (arith, ap length is.left, length-drop written text))) is.gone
 
-module _ (lines : List (List ℕ)) where
-  pub sent-none : (old : Option (List ℕ)) → HasSent lines old old 0 0
-  sent-none old = record { gone = Appends-nil old; count = refl; few = omega arith }
-
-  -- and the next one
-  pub sent-more : (old mid new : Option (List ℕ)) (i written after : ℕ) (line part : List ℕ) → HasSent lines old mid i written → slice_get lines i ≡ Some line → part ≡ line
-      → Appends mid new part → after ≡ written + length part → length part ≤ LINE → HasSent lines old new (i + 1) after
-  sent-more old mid new i written after line part is at same more count fits =
-      let next = grown lines i line at ∙ ap (λ p. joined (take i lines) ++ p) (sym same) in
-      record {
-        gone = rw next (Appends-trans old mid new _ part is.gone more);
-        count = omega (arith, count, is.count, ap length next, length-append (joined (take i lines)) part);
-        few = omega (arith, count, is.few, fits);
-      }
-
-  module _ (text end : List ℕ) (whole : text ≡ joined lines ++ end) where
-    -- but the next one didn't, or not all of it
-    pub sent-cut : (old mid new : Option (List ℕ)) (i written : ℕ) (line part : List ℕ) (fault : PrintFault) → HasSent lines old mid i written → slice_get lines i ≡ Some line → part ≡ line
-        → IsCutAfter written mid new part fault → IsCut old new text fault
-    sent-cut old mid new i written line part fault is at same cut =
-        let rest : List ℕ = joined (drop (i + 1) lines) in
-        let next = grown lines i line at ∙ ap (λ p. joined (take i lines) ++ p) (sym same) in
-        cut-in old mid new text _ part (rest ++ end) written fault is.gone is.count
-        (whole ∙ ap (λ t. t ++ end) (split lines (i + 1) ∙ ap (λ t. t ++ rest) next) ∙ append_assoc (joined (take i lines) ++ part) rest end) cut
-
-    -- all lines are the text but for its end
-    last : (i : ℕ) (part : List ℕ) → length lines ≤ i → part ≡ end → text ≡ joined (take i lines) ++ part
-    last i part past same = whole ∙ ap (λ ls. joined ls ++ end) (sym (take_all i lines past)) ∙ ap (λ p. joined (take i lines) ++ p) (sym same)
-
-    pub end-cut : (old mid new : Option (List ℕ)) (i written : ℕ) (part : List ℕ) (fault : PrintFault) → HasSent lines old mid i written → length lines ≤ i → part ≡ end
-        → IsCutAfter written mid new part fault → IsCut old new text fault
-    end-cut old mid new i written part fault is past same cut =
-        cut-in old mid new text _ part [] written fault is.gone is.count (last i part past same ∙ sym (append-nil (joined (take i lines) ++ part))) cut
-
-    pub end-all : (old mid new : Option (List ℕ)) (i written : ℕ) (part : List ℕ) → HasSent lines old mid i written → length lines ≤ i → part ≡ end
-        → Appends mid new part → Appends old new text
-    end-all old mid new i written part is past same more = rw (last i part past same) (Appends-trans old mid new _ part is.gone more)
+-- what is left of a list, from an element on
+pub drop-at : {X : Type 0} (xs : List X) (i : ℕ) (x : X) → slice_get xs i ≡ Some x → drop i xs ≡ x ∷ drop (i + 1) xs
+drop-at xs i x is = rw add-one (drop-cons xs i x (slice_get_within xs i x is) ∙ ap (λ y. y ∷ drop (suc i) xs) (get_or_from_slice_get xs i x x is))

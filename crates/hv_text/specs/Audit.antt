@@ -42,13 +42,7 @@ output_text (byte ∷ bytes) = encode_lower (byte ∷ bytes)
 -- a space and the result value, for a hypercall alone
 abbrev pub result_text : {A : Type 0} → Action A → Reply → List ℕ
 result_text (Hypercall frame) reply = codes " " ++ hex_64 (result_of frame reply)
-result_text (ReadMsr msr) reply = []
-result_text (WriteMsr msr value) reply = []
-result_text (ReadSlot sint) reply = []
-result_text (ClearSlot sint) reply = []
-result_text (ReadFlags sint) reply = []
-result_text (ClearFlag sint flag) reply = []
-result_text TakeInterrupt reply = []
+result_text what reply = []
 
 -- the reply to an event
 abbrev pub reply_text : {A : Type 0} → Action A → Reply → List ℕ

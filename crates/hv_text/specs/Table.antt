@@ -28,16 +28,24 @@ pub record Counts : Type 0 where
   pub ports : ℕ
   pub conns : ℕ
 
--- the line of the partition with this id, without its line feed
-unfoldable pub partition_text : ℕ → PartRow → Counts → List ℕ
-partition_text id row counts =
+-- the first part of the line of the partition with this id, up to the mask
+abbrev pub head_text : ℕ → PartRow → List ℕ
+head_text id row =
     codes "partition " ++ decimal id ++ codes " parent " ++ parent_text row.parent ++ codes " " ++ life_text
     row.life
     ++ codes " mask " ++ hex_64 (bits_of row.mask)
-    ++ codes " loose " ++ decimal counts.loose ++ codes " pooled " ++ decimal counts.pooled ++ codes " inuse "
+
+-- the counts, as they stand in that line
+abbrev pub counts_text : Counts → List ℕ
+counts_text counts =
+    codes " loose " ++ decimal counts.loose ++ codes " pooled " ++ decimal counts.pooled ++ codes " inuse "
     ++ decimal counts.in_use
     ++ codes " vps " ++ decimal counts.vps ++ codes " ports " ++ decimal counts.ports ++ codes " connections "
     ++ decimal counts.conns
+
+-- the whole line, without its line feed
+unfoldable pub partition_text : ℕ → PartRow → Counts → List ℕ
+partition_text id row counts = head_text id row ++ counts_text counts
 
 -- a partition as a line shows it: its id, its row and its counts
 abbrev pub Line : Type 0

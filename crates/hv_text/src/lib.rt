@@ -10,14 +10,12 @@
 
 mod audit_text;
 mod fault;
-mod line;
 mod put;
 mod table_text;
 mod text;
 
-pub use audit_text::audit;
+pub use audit_text::{Scratch, audit, audit_line};
 pub use fault::PrintFault;
 pub use hv_script::{Line, Script, ScriptFault, parse};
-pub use line::{Scratch, audit_line};
 pub use table_text::{table, table_of};
 pub use text::LINE;

@@ -1,41 +1,46 @@
-// Writing bytes, with a count of those that went out.
-ghost use Rattle.std.specs.Prelude.{◌≡◌, ◌+◌, ◌^◌, ◌<◌, length, IfOk, IfErr};
-ghost use Rattle.std.specs.Io.KnownBytes.{Appends};
-ghost use Rattle.hv_text.specs.Fault.{IsCutAfter};
+// Writing lines, with a count of the bytes that went out.
+ghost use Rattle.std.specs.Prelude.{◌≡◌, ◌≢◌, ℕ, ◌+◌, ◌^◌, ◌<◌, ◌≤◌, List, ◌++◌, Option, Err, OnOk, IfErr};
+ghost use Rattle.hv_text.specs.Fault.{HasSent, IsCut};
+ghost use Rattle.hv_text.specs.declared.text.TheConstants.{LINE};
 
 use crate::fault::PrintFault;
+use crate::text::Text;
 use std::io::{ErrorKind, Write};
 
-// Writes these bytes of a text after its first `before` bytes, and returns how many of its bytes went out in
-// all. A write that takes nothing fails, and an interrupted write is tried again.
-pub(crate) fn put<W: Write>(out: &mut W, bytes: &[u8], before: u64) -> Result<u64, PrintFault>
-    requires { before + length bytes.now < 2 ^ 64 }
-    ensures ok { IfOk result (λ after. Appends (W.contents out.old) (W.contents out.new) bytes.now) }
-    ensures after { IfOk result (λ after. after ≡ before + length bytes.now) }
-    ensures cut { IfErr result (IsCutAfter before (W.contents out.old) (W.contents out.new) bytes.now) }
+// Writes a line of a text of which the first `written` bytes went out, and counts its bytes too. A write that
+// takes nothing fails, and an interrupted write is tried again.
+pub(crate) fn put<W: Write>(out: &mut W, line: &Text, written: &mut u64) -> Result<(), PrintFault>
+    requires { written.old + LINE < 2 ^ 64 }
+    ensures ok { (start : Option (List ℕ)) (text more : List ℕ)
+        → HasSent start (W.contents out.old) text (line.now ++ more) written.old
+        → OnOk result (HasSent start (W.contents out.new) text more written.new) }
+    ensures cut { (start : Option (List ℕ)) (text more : List ℕ)
+        → HasSent start (W.contents out.old) text (line.now ++ more) written.old
+        → IfErr result (IsCut start (W.contents out.new) text) }
+    ensures few { written.new ≤ written.old + LINE }
+    ensures write { result ≢ Err PrintFault.Memory }
 {
-    let mut rest = bytes;
-    let mut written = before;
+    let mut rest = line.as_slice();
     for _ in 0..u64::MAX {
         if rest.is_empty() {
             break;
         }
         match out.write(rest) {
-            Ok(0) => return Err(PrintFault::Write { written }),
+            Ok(0) => return Err(PrintFault::Write { written: *written }),
             Ok(count) => {
-                written += count as u64;
+                *written += count as u64;
                 rest = &rest[count..];
             }
             Err(error) => {
                 if error.kind() != ErrorKind::Interrupted {
-                    return Err(PrintFault::Write { written });
+                    return Err(PrintFault::Write { written: *written });
                 }
             }
         }
     }
     if rest.is_empty() {
-        Ok(written)
+        Ok(())
     } else {
-        Err(PrintFault::Write { written })
+        Err(PrintFault::Write { written: *written })
     }
 }

@@ -1,6 +1,6 @@
 // The table.
-ghost use Rattle.std.specs.Prelude.{◌≡◌, ◌+◌, ◌*◌, ◌^◌, ◌≤◌, ◌<◌, ◌++◌, length, Option, Some};
-ghost use Rattle.std.specs.Prelude.{IsSome, OnOk, IfErr, codes, decimal};
+ghost use Rattle.std.specs.Prelude.{◌≡◌, ◌+◌, ◌*◌, ◌^◌, ◌≤◌, ◌<◌, ◌++◌, length, Option, Some, IsSome, OnOk};
+ghost use Rattle.std.specs.Prelude.{IfErr, codes, decimal};
 ghost use Rattle.std.specs.FinMap as map;
 ghost use Rattle.std.specs.FinSet as set;
 ghost use Rattle.std.specs.Io.KnownBytes.{Appends};
@@ -13,7 +13,8 @@ ghost use Rattle.hv_tree.specs.Rows.{Row, children};
 ghost use Rattle.hv_text.specs.Audit.{hex_64};
 ghost use Rattle.hv_text.specs.Fault.{IsCut};
 ghost use Rattle.hv_text.specs.Rows.{kept_counts, pages_of, rows_text};
-ghost use Rattle.hv_text.specs.Table.{life_text, parent_text, partition_text, table_text};
+ghost use Rattle.hv_text.specs.Table.{counts_text, head_text, life_text, parent_text, partition_text};
+ghost use Rattle.hv_text.specs.Table.{table_text};
 ghost use Rattle.hv_text.specs.declared.table_text.TheConstants.{LIFE, PART};
 ghost use Rattle.hv_text.specs.declared.text.TheConstants.{LINE, MOST_DIGITS};
 
@@ -28,7 +29,7 @@ use hv_refine::Partitions;
 use std::alloc::Allocator;
 use std::io::Write;
 
-// More bytes than each of the three parts of a line has.
+// More bytes than the first part of a line has, and than half of its counts have.
 pub const PART: usize = 128;
 
 // The most bytes of a life state.
@@ -84,25 +85,17 @@ fn put_rows<W: Write, A: Allocator>(
     let mut pages = 0;
     for id in ids {
         pages += set_row(&mut line, tree, *id);
-        written = put(out, line.as_slice(), written)?;
+        put(out, &line, &mut written)?;
     }
-    set_end(&mut line, pages);
-    put(out, line.as_slice(), written)?;
-    Ok(())
-}
-
-// Sets the text to the last line, with its line feed.
-fn set_end(line: &mut Text, pages: u128)
-    ensures text { line.new ≡ codes "pages " ++ decimal pages ++ codes "\n" }
-    ensures most { length line.new ≤ LINE }
-{
     line.clear();
     line.push_text(b"pages ");
     line.push_wide(pages);
     line.push_text(b"\n");
+    put(out, &line, &mut written)
 }
 
 // Sets the text to the line of the partition with this id, with its line feed. Returns its number of pages.
+#[tactic(auto, unfolding(crate::specs::Table::partition_text))]
 fn set_row<A: Allocator>(line: &mut Text, tree: &Partitions<A>, id: u64) -> u128
     requires { IsSome (map.get tree.now id) }
     ensures text { (row : Row PartitionState) → map.get tree.now id ≡ Some row
@@ -118,38 +111,17 @@ fn set_row<A: Allocator>(line: &mut Text, tree: &Partitions<A>, id: u64) -> u128
     let Some(count) = tree.children_of(id) else {
         unreachable!()
     };
-    set_partition(line, id, tree.parent_of(id), count, partition);
+    set_head(line, id, tree.parent_of(id), partition);
+    push_counts(line, count, partition);
+    line.push_text(b"\n");
     let loose = partition.pages(PageKind::Loose).count();
     let pooled = partition.pages(PageKind::Pooled).count();
     u128::from(loose) + u128::from(pooled)
 }
 
-// Sets the text to the line of a partition with this id, this parent and `count` children, with its line
-// feed.
-fn set_partition<A: Allocator>(
-    line: &mut Text,
-    id: u64,
-    parent: Option<u64>,
-    count: u32,
-    partition: &Partition<A>,
-)
-    ensures text { line.new
-        ≡ partition_text id (part_row (parent, partition.now)) (kept_counts count partition.now)
-        ++ codes "\n" }
-    ensures most { length line.new ≤ LINE }
-{
-    set_head(line, id, parent, partition);
-    push_pages(line, count, partition);
-    push_counts(line, partition);
-    line.push_text(b"\n");
-}
-
 // Sets the text to the first part of that line, up to the mask.
 fn set_head<A: Allocator>(line: &mut Text, id: u64, parent: Option<u64>, partition: &Partition<A>)
-    ensures text { line.new
-        ≡ codes "partition " ++ decimal id ++ codes " parent " ++ parent_text parent ++ codes " "
-        ++ life_text partition.now.life
-        ++ codes " mask " ++ hex_64 (bits_of partition.now.mask) }
+    ensures text { line.new ≡ head_text id (part_row (parent, partition.now)) }
     ensures most { length line.new ≤ PART }
 {
     line.clear();
@@ -160,41 +132,21 @@ fn set_head<A: Allocator>(line: &mut Text, id: u64, parent: Option<u64>, partiti
     line.push_text(b" ");
     push_life(line, partition.life());
     line.push_text(b" mask ");
-    line.push_hex_64(partition.mask().bits());
+    line.push_bytes(&partition.mask().bits().to_be_bytes());
 }
 
-// Adds the numbers of pages of a partition with `count` children, and of those in use.
-fn push_pages<A: Allocator>(line: &mut Text, count: u32, partition: &Partition<A>)
-    requires { length line.old + PART ≤ LINE }
-    ensures text { line.new
-        ≡ line.old ++ codes " loose " ++ decimal (set.len partition.now.loose.pages)
-        ++ codes " pooled " ++ decimal (set.len partition.now.pooled.pages)
-        ++ codes " inuse " ++ decimal (in_use count partition.now) }
-    ensures most { length line.new ≤ length line.old + PART }
+// Adds the counts of a partition with `count` children.
+fn push_counts<A: Allocator>(line: &mut Text, count: u32, partition: &Partition<A>)
+    requires { length line.old ≤ PART }
+    ensures text { line.new ≡ line.old ++ counts_text (kept_counts count partition.now) }
+    ensures most { length line.new ≤ length line.old + 2 * PART }
 {
-    line.push_text(b" loose ");
-    line.push_decimal(partition.pages(PageKind::Loose).count());
-    line.push_text(b" pooled ");
-    line.push_decimal(partition.pages(PageKind::Pooled).count());
-    line.push_text(b" inuse ");
-    line.push_decimal(partition.in_use(count));
-}
-
-// Adds the numbers of a partition's processors, ports and connections.
-fn push_counts<A: Allocator>(line: &mut Text, partition: &Partition<A>)
-    requires { length line.old + PART ≤ LINE }
-    ensures text { line.new
-        ≡ line.old ++ codes " vps " ++ decimal (map.len partition.now.vps.vps)
-        ++ codes " ports " ++ decimal (map.len partition.now.ports.rows)
-        ++ codes " connections " ++ decimal (map.len partition.now.conns.rows) }
-    ensures most { length line.new ≤ length line.old + PART }
-{
-    line.push_text(b" vps ");
-    line.push_decimal(u64::from(partition.vp_count()));
-    line.push_text(b" ports ");
-    line.push_decimal(u64::from(partition.port_count()));
-    line.push_text(b" connections ");
-    line.push_decimal(u64::from(partition.conn_count()));
+    line.push_named(b" loose ", partition.pages(PageKind::Loose).count());
+    line.push_named(b" pooled ", partition.pages(PageKind::Pooled).count());
+    line.push_named(b" inuse ", partition.in_use(count));
+    line.push_named(b" vps ", u64::from(partition.vp_count()));
+    line.push_named(b" ports ", u64::from(partition.port_count()));
+    line.push_named(b" connections ", u64::from(partition.conn_count()));
 }
 
 // Adds the parent. The root has none.

@@ -1,6 +1,5 @@
 // A line on the stack.
 ghost use Rattle.std.specs.Prelude.{◌≡◌, ◌+◌, ◌*◌, ◌≤◌, [], ◌++◌, length, decimal};
-ghost use Rattle.std.specs.Int.{w32, w64, to_be_bytes};
 ghost use Rattle.hex.specs.Hex.{encode_lower};
 ghost use Rattle.hv_text.specs.declared.text.TheConstants.{LINE, MOST_DIGITS, MOST_WIDE_DIGITS};
 
@@ -100,6 +99,16 @@ impl Text {
         self.len = end;
     }
 
+    // Adds a word and a number in decimal.
+    pub(crate) fn push_named(&mut self, name: &[u8], number: u64)
+        requires { length self.old + length name.now + MOST_DIGITS ≤ LINE }
+        ensures text { self.new ≡ self.old ++ (name.now ++ decimal number) }
+        ensures most { length (decimal number) ≤ MOST_DIGITS }
+    {
+        self.push_text(name);
+        self.push_decimal(number);
+    }
+
     // Adds a number of up to 128 bits in decimal.
     pub(crate) fn push_wide(&mut self, number: u128)
         requires { length self.old + MOST_WIDE_DIGITS ≤ LINE }
@@ -120,29 +129,12 @@ impl Text {
         put_pairs(bytes, &mut self.bytes[self.len..end]);
         self.len = end;
     }
-
-    // Adds a number of 32 bits as 8 hexadecimal digits.
-    pub(crate) fn push_hex_32(&mut self, number: u32)
-        requires { length self.old + 8 ≤ LINE }
-        ensures text { self.new ≡ self.old ++ encode_lower (to_be_bytes w32 number) }
-        ensures most { length (encode_lower (to_be_bytes w32 number)) ≤ 8 }
-    {
-        self.push_bytes(&number.to_be_bytes());
-    }
-
-    // Adds a number of 64 bits as 16 hexadecimal digits.
-    pub(crate) fn push_hex_64(&mut self, number: u64)
-        requires { length self.old + 16 ≤ LINE }
-        ensures text { self.new ≡ self.old ++ encode_lower (to_be_bytes w64 number) }
-        ensures most { length (encode_lower (to_be_bytes w64 number)) ≤ 16 }
-    {
-        self.push_bytes(&number.to_be_bytes());
-    }
 }
 
 // The number of digits that a number has in decimal.
 fn digits_of(number: u64) -> usize
-    ensures { result ≡ length (decimal number) }
+    ensures is { result ≡ length (decimal number) }
+    ensures most { length (decimal number) ≤ MOST_DIGITS }
 {
     let mut count = 1;
     let mut rest = number;

@@ -1,6 +1,11 @@
--- So many of the first bytes went out, and the others are left.
-use Rattle.hv_text.proofs.Cuts.{HasGone}
+-- Some of the line's first bytes went out, were counted, and the others are left.
+use Rattle.std.proofs.Common.{◌≡◌, ℕ, ◌+◌, List, ◌++◌, length, Option}
+use Rattle.hv_text.specs.Fault.{HasSent}
 use Rattle.hv_text.proofs.put.put.Given as goal
 
 abbrev pub invariant-loop : goal.invariant-loop
-invariant-loop g l = HasGone l.before (g.W.Write.contents l.initial.out) (g.W.Write.contents l.out) l.bytes l.written l.rest
+invariant-loop g l = record {
+  sent : (start : Option (List ℕ)) (text more : List ℕ) → HasSent start (g.W.Write.contents l.initial.out) text (l.line ++ more) l.initial.written
+      → HasSent start (g.W.Write.contents l.out) text (l.rest ++ more) l.written;
+  count : l.written + length l.rest ≡ l.initial.written + length l.line;
+}
