@@ -4,29 +4,13 @@ use Rattle.std.proofs.Crossing.{crosses}
 use Rattle.std_heap.specs.contracts.Global as Heap
 use Rattle.std_heap.specs.contracts.GlobalAllocator.TheImpl.{ghosts}
 use Rattle.hv_machine.specs.contracts.machine.Machine as Machine
-use Rattle.hv_mail.specs.contracts.mailbox.Mailbox as Mailbox
-use Rattle.hv_pages.specs.contracts.page_set.PageSet as PageSet
 use Rattle.hv_partition.specs.contracts.partition.Partition as Partition
 use Rattle.hv_tree.proofs.node.Branch.TheLaws.TheKnot as knot
 use Rattle.hv_tree.specs.contracts.tree.IdTree as IdTree
-use Rattle.hv_vp.specs.contracts.vp.Vp as Vp
-use Rattle.hv_vp.specs.contracts.vps.Vps as Vps
 use Rattle.hv_embed.specs.Holds.{machine_row}
 
-pages-send : IsSend (PageSet.the_row Heap.the_row ghosts)
-pages-send = search (sendable, crosses) depth 40
-
-mailbox-send : IsSend (Mailbox.the_row Heap.the_row ghosts)
-mailbox-send = search (sendable, crosses) depth 40
-
-vp-send : IsSend (Vp.the_row Heap.the_row ghosts)
-vp-send = search (sendable, crosses, mailbox-send) depth 40
-
-vps-send : IsSend (Vps.the_row Heap.the_row ghosts)
-vps-send = search (sendable, crosses, vp-send) depth 40
-
 partition-send : IsSend (Partition.the_row Heap.the_row ghosts)
-partition-send = search (sendable, crosses, vps-send, pages-send) depth 60 fits 20000
+partition-send = search (sendable, crosses) depth 60 fits 20000
 
 tree-send : IsSend (IdTree.the_row (Partition.the_row Heap.the_row ghosts) Heap.the_row ghosts)
 tree-send = search (partition-send, crosses, knot.crosses, sendable) depth 60 fits 20000

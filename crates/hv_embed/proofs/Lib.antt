@@ -1,4 +1,3 @@
-mod AsBox
 mod Crosses
-mod Effects
 mod Elements
+mod Walk

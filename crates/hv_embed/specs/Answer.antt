@@ -9,8 +9,7 @@ use Rattle.hv_policy.specs.declared.config.BootRefused.{BootRefused}
 use Rattle.hv_policy.specs.declared.config.BootRefused.TheVariants as boot
 use Rattle.hv_policy.specs.declared.config.Config.{Config}
 use Rattle.hv_policy.specs.declared.event.Action.{Action}
-use Rattle.hv_policy.specs.declared.event.Action.TheVariants.{Hypercall, ReadMsr, WriteMsr, ReadSlot}
-use Rattle.hv_policy.specs.declared.event.Action.TheVariants.{ClearSlot, ReadFlags, ClearFlag, TakeInterrupt}
+use Rattle.hv_policy.specs.declared.event.Action.TheVariants.{Hypercall}
 use Rattle.hv_policy.specs.declared.event.Caller.{Caller}
 use Rattle.hv_policy.specs.declared.event.Event.{Event}
 use Rattle.hv_policy.specs.declared.reply.Reply.{Reply}
@@ -47,13 +46,7 @@ event_of by what = record { by = caller_of by; what = what }
 -- the result value of a call; an access has none
 abbrev pub result_in : Action Global → Reply → ℕ
 result_in (Hypercall frame) reply = result_of frame reply
-result_in (ReadMsr msr) reply = 0
-result_in (WriteMsr msr value) reply = 0
-result_in (ReadSlot sint) reply = 0
-result_in (ClearSlot sint) reply = 0
-result_in (ReadFlags sint) reply = 0
-result_in (ClearFlag sint flag) reply = 0
-result_in TakeInterrupt reply = 0
+result_in _ reply = 0
 
 -- a reply for C has exactly these output bytes
 pub record HasOutput (a : HvReply) (output : List ℕ) : Type 0 where

@@ -2,10 +2,9 @@
 use Rattle.std.specs.Prelude.{◌≡◌, ◌≢◌, ◌++◌, ◌&&◌, ◌==◌, ℕ, nat_le, nat_lt, List, length, take, drop, codes}
 use Rattle.std.specs.Prelude.{Option, None, Some, if◌then◌else◌}
 use Rattle.std.specs.Global.{Global}
-use Rattle.hv_policy.specs.Call.{action_of}
-use Rattle.hv_policy.specs.declared.event.Access.{Access}
-use Rattle.hv_policy.specs.declared.event.Access.TheVariants.{ReadMsr, WriteMsr, ReadSlot, ClearSlot}
-use Rattle.hv_policy.specs.declared.event.Access.TheVariants.{ReadFlags, ClearFlag, TakeInterrupt}
+use Rattle.hv_policy.specs.declared.event.Action.{Action}
+use Rattle.hv_policy.specs.declared.event.Action.TheVariants.{ReadMsr, WriteMsr, ReadSlot, ClearSlot}
+use Rattle.hv_policy.specs.declared.event.Action.TheVariants.{ReadFlags, ClearFlag, TakeInterrupt}
 use Rattle.hv_policy.specs.declared.event.Caller.{Caller}
 use Rattle.hv_record.specs.Recorded.{line_text}
 use Rattle.hv_embed.specs.declared.layout.TheConstants.{READ_MSR, WRITE_MSR, READ_SLOT, CLEAR_SLOT}
@@ -27,26 +26,22 @@ pub record IsPut (text : List ℕ) (status : ℕ) (old new : List ℕ) (old_len 
 abbrev pub readable : List ℕ → List ℕ
 readable input = take MOST_INPUT input
 
--- the access to a SINT that C names by these numbers
-abbrev pub access_at_sint : (access sint value : ℕ) → Option Access
-access_at_sint access sint value =
-    if access == READ_SLOT then Some (ReadSlot sint)
-    else if access == CLEAR_SLOT then Some (ClearSlot sint)
-    else if access == READ_FLAGS then Some (ReadFlags sint)
-    else if (access == CLEAR_FLAG) && nat_le value 0xFFFF then Some (ClearFlag sint value)
-    else None
-
 -- the access that C names by these numbers. The number of a SINT has 8 bits
-abbrev pub access_named : (access number value : ℕ) → Option Access
+abbrev pub access_named : (access number value : ℕ) → Option (Action Global)
 access_named access number value =
     if access == READ_MSR then Some (ReadMsr number)
     else if access == WRITE_MSR then Some (WriteMsr number value)
     else if access == TAKE_INTERRUPT then Some TakeInterrupt
-    else if nat_lt number 256 then access_at_sint access number value
+    else if nat_le 256 number then None
+    else if access == READ_SLOT then Some (ReadSlot number)
+    else if access == CLEAR_SLOT then Some (ClearSlot number)
+    else if access == READ_FLAGS then Some (ReadFlags number)
+    else if (access == CLEAR_FLAG) && nat_le value 0xFFFF then Some (ClearFlag number value)
     else None
 
 -- the line of an access is written, or there is no such access
-abbrev pub IsAccessLine : Caller → Option Access → ℕ → (old new : List ℕ) → (old_len new_len : ℕ) → Type 0
+abbrev pub IsAccessLine : Caller → Option (Action Global) → ℕ → (old new : List ℕ) → (old_len new_len : ℕ)
+    → Type 0
 IsAccessLine by None status old new old_len new_len = (status ≡ NONE) × (new ≡ old) × (new_len ≡ old_len)
 IsAccessLine by (Some access) status old new old_len new_len =
-    IsPut (line_text by (action_of {A = Global} access) ++ codes "\n") status old new old_len new_len
+    IsPut (line_text by access ++ codes "\n") status old new old_len new_len

@@ -6,6 +6,7 @@ ghost use Rattle.hv_history.specs.History.{entry_by};
 ghost use Rattle.hv_history.specs.Row.{action_of};
 ghost use Rattle.hv_policy.specs.Call.{action_of as action_by, call_event};
 ghost use Rattle.hv_policy.specs.Parts.{next_in, reply_of};
+ghost use Rattle.hv_policy.specs.Result.{HasResult};
 ghost use Rattle.hv_policy.specs.declared.event.Action.TheVariants.{Hypercall};
 ghost use Rattle.hv_embed.specs.Answer.{HasOutput, IsAnswer, Says, line_text, result_in as result_by};
 ghost use Rattle.hv_embed.specs.Taken.{HasLine, is_short as is_short_len};
@@ -13,7 +14,7 @@ ghost use Rattle.hv_embed.specs.Taken.{HasLine, is_short as is_short_len};
 use crate::layout::{DENIED, FAULT, HvReply, MORE, SERVED};
 use hv_abi::Frame;
 use hv_history::{EntryRef, Request};
-use hv_machine::{Access, Answer, Caller};
+use hv_machine::{Access, Answer, CallReply, Caller};
 use hv_policy::result_value;
 use hv_text::{LINE, Scratch, audit_line};
 use std::alloc::Global;
@@ -45,25 +46,23 @@ pub(crate) fn answer(
     };
 }
 
-// Fills the reply to a hypercall from its two parts, as `answer` does.
+// Fills the reply to a hypercall, as `answer` does.
 pub(crate) fn answer_call(
     by: Caller,
     frame: &Frame<Global>,
-    told: Answer,
-    output: &[u8],
+    told: &CallReply,
     number: u64,
     scratch: &mut Scratch,
     reply: &mut HvReply,
     line: &mut [u8],
 )
     requires room { is_short_len (length line.old) ≡ false }
-    requires most { length output.now ≤ 256 }
-    requires index { next_in (reply_of told []) < REPS_END }
-    ensures answer { IsAnswer reply.new (Hypercall frame.now) (reply_of told output.now) }
-    ensures line { HasLine line.new reply.new.line_len
-        (line_text number (call_event by frame.now) (reply_of told output.now)) }
+    requires index { HasResult told.now }
+    ensures answer { IsAnswer reply.new (Hypercall frame.now) told.now }
+    ensures line { HasLine line.new reply.new.line_len (line_text number (call_event by frame.now) told.now) }
     ensures effect { reply.new.effect ≡ reply.old.effect }
 {
+    let (told, output) = told.parts();
     let entry = EntryRef {
         by,
         asked: Request::Hypercall {
@@ -131,13 +130,7 @@ fn result_in(asked: Request, answer: Answer) -> u64
 {
     match asked {
         Request::Hypercall { rcx, .. } => result_value::<Global>(rcx, answer).bits(),
-        Request::ReadMsr(_)
-        | Request::WriteMsr(_, _)
-        | Request::ReadSlot(_)
-        | Request::ClearSlot(_)
-        | Request::ReadFlags(_)
-        | Request::ClearFlag(_, _)
-        | Request::TakeInterrupt => 0,
+        _ => 0,
     }
 }
 

@@ -1,9 +1,9 @@
 // The effect of an event, as C reads it.
-ghost use Rattle.std.specs.Prelude.{◌≡◌, ◌==◌, ◌<◌, ℕ, List, IfOk, OnErr, if◌then◌else◌};
+ghost use Rattle.std.specs.Prelude.{◌≡◌, ◌==◌, ◌<◌, ℕ, List, IfOk, OnErr};
 ghost use Rattle.hv_defs.specs.declared.sizes.TheConstants.{SINTS as MOST_SINTS};
 ghost use Rattle.hv_effects.specs.Effect.{has_bit, is_number};
 ghost use Rattle.hv_machine.specs.Access.{access_reply};
-ghost use Rattle.hv_embed.specs.Effect.{IsFlag, IsPort, IsShown, IsSynicShown, is_quiet_kind};
+ghost use Rattle.hv_embed.specs.Effect.{IsFlag, IsShown, IsSynicShown, is_quiet_kind};
 ghost use Rattle.hv_embed.specs.declared.layout.TheConstants.{EFFECT_NOTHING as NOTHING};
 
 use crate::layout::{
@@ -51,7 +51,7 @@ pub(crate) fn shown(effect: Effect) -> HvEffect
             told.kind = EFFECT_PAGE;
             told.page = page;
             told.part = owner;
-            told.pooled = one_if(pooled);
+            told.pooled = u8::from(pooled);
         }
         Effect::Pages { from, to } => {
             told.kind = EFFECT_PAGES;
@@ -89,21 +89,19 @@ fn shown_synic(synic: Synic) -> HvEffect
     ensures { IsSynicShown synic result }
 {
     let (flag, flag_sint, flag_is) = flag_parts(synic.flag);
-    let (port, freed) = port_parts(synic.freed);
     HvEffect {
         kind: EFFECT_SYNIC,
         vp: synic.vp,
         part: synic.part,
-        page: 0,
         raised: synic.raised.words(),
         shown: synic.shown,
         waiting: waiting_bits(synic.waiting),
         flag,
         flag_sint,
         flag_is,
-        port,
-        freed,
-        pooled: 0,
+        port: synic.freed.unwrap_or(0),
+        freed: u8::from(synic.freed.is_some()),
+        ..no_effect()
     }
 }
 
@@ -113,51 +111,20 @@ fn flag_parts(flag: Option<FlagChange>) -> (u16, u8, u8)
 {
     match flag {
         None => (0, 0, 0),
-        Some(change) => {
-            let is = if change.is_set {
-                FLAG_SET
-            } else {
-                FLAG_CLEARED
-            };
-            (change.flag, change.sint, is)
-        }
-    }
-}
-
-// Returns the port that has room, and 1 if there is one.
-fn port_parts(freed: Option<u32>) -> (u32, u8)
-    ensures { IsPort freed result.0 result.1 }
-{
-    match freed {
-        None => (0, 0),
-        Some(port) => (port, 1),
+        Some(change) if change.is_set => (change.flag, change.sint, FLAG_SET),
+        Some(change) => (change.flag, change.sint, FLAG_CLEARED),
     }
 }
 
 // Returns the SINT at which one more message waits, as a bit.
+#[tactic(auto, using(hv_effects::proofs::Made::mask_bit))]
 fn waiting_bits(waiting: Option<u8>) -> u16
     ensures { (k : ℕ) → k < MOST_SINTS → has_bit result k ≡ is_number waiting k }
 {
     match waiting {
-        None => 0,
-        Some(sint) => bit_of(sint),
+        Some(sint) if u32::from(sint) < SINTS => 1 << sint,
+        _ => 0,
     }
-}
-
-// Returns the bit of a SINT. Any other number has none.
-fn bit_of(sint: u8) -> u16
-    ensures { (k : ℕ) → k < MOST_SINTS → has_bit result k ≡ k == sint }
-{
-    if u32::from(sint) >= SINTS {
-        return 0;
-    }
-    1 << sint
-}
-
-fn one_if(is: bool) -> u8
-    ensures { result ≡ (if is then 1 else 0) }
-{
-    if is { 1 } else { 0 }
 }
 
 // Returns whether an effect names at most a page.

@@ -1,29 +1,23 @@
 // The functions that C calls to boot a machine, to take events, and to destroy it.
-ghost use Rattle.std.specs.Prelude.{◌≡◌, ◌≢◌, ◌≤◌, length, false, true, IfOk, IfErr};
-ghost use Rattle.hv_policy.specs.BootFault.{IsBootRefusal};
-ghost use Rattle.hv_policy.specs.declared.event.Action.TheVariants.{
-  ClearFlag,
-  ClearSlot,
-  Hypercall,
-  ReadFlags,
-  ReadMsr,
-  ReadSlot,
-  TakeInterrupt,
-  WriteMsr,
-};
+ghost use Rattle.std.specs.Prelude.{◌≡◌, ◌≢◌, ◌≤◌, length, false, true};
+ghost use Rattle.hv_policy.specs.declared.event.Action.TheVariants.{ClearFlag, ClearSlot, Hypercall};
+ghost use Rattle.hv_policy.specs.declared.event.Action.TheVariants.{ReadFlags, ReadMsr, ReadSlot};
+ghost use Rattle.hv_policy.specs.declared.event.Action.TheVariants.{TakeInterrupt, WriteMsr};
 ghost use Rattle.hv_embed.specs.Answer.{caller_of, config_of, event_of as event_by, frame_of};
 ghost use Rattle.hv_embed.specs.Run.{IsRunTaken, run_readiness};
-ghost use Rattle.hv_embed.specs.Taken.{IsAsBefore, IsBooted, IsRefused, IsStarted, IsTaken};
-ghost use Rattle.hv_embed.specs.Taken.{is_short as is_short_len, readiness};
+ghost use Rattle.hv_embed.specs.Taken.{IsAsBefore, IsBooted, IsRefused, IsTaken, is_short as is_short_len};
+ghost use Rattle.hv_embed.specs.Taken.{readiness};
 ghost use Rattle.hv_embed.specs.declared.layout.TheConstants.{ELEMENT_OUTPUT};
 ghost use Rattle.hv_embed.specs.declared.status.TheConstants.{DONE, MEMORY, OCCUPIED};
 
 use crate::answer::is_short;
-use crate::handle::HvMachine;
+use crate::handle::{HvMachine, state_of};
 use crate::layout::{ELEMENT_OUTPUT, HvCaller, HvConfig, HvRegisters, HvReply, HvRun};
 use crate::machine_state::MachineState;
+use crate::parts::Parts;
+use crate::raw_machine::RawMachine;
 use crate::run::step_run;
-use crate::status::{DONE, EMPTY, OCCUPIED, SHORT, status_of};
+use crate::status::{DONE, OCCUPIED, SHORT, status_of};
 use crate::take::{caller_of, step_call, take_access};
 use hv_machine::{Access, BootRefused, Config, Machine};
 use hv_privs::Privileges;
@@ -44,31 +38,24 @@ pub extern "C" fn hv_embed_boot(alloc: Global, machine: &mut HvMachine, config: 
     if machine.live {
         return OCCUPIED;
     }
-    match boot(alloc, config) {
-        Ok(boxed) => {
-            replace(machine, HvMachine::full(boxed, 0)).let_go();
-            DONE
-        }
-        Err(why) => status_of(why),
-    }
-}
-
-// Boots a machine in a block of its own.
-fn boot(alloc: Global, config: &HvConfig) -> Result<Box<MachineState>, BootRefused>
-    ensures booted { IfOk result (λ boxed. IsStarted (config_of config.now) boxed.value) }
-    ensures refused { IfErr result (IsBootRefusal (config_of config.now)) }
-{
     let wanted = Config {
         pages: config.pages,
         pool: config.pool,
         vps: config.vps,
         mask: Privileges::of(config.mask),
     };
-    let machine = Machine::boot(alloc, wanted)?;
-    match Box::new(alloc, MachineState::of(machine, alloc)) {
-        Ok(boxed) => Ok(boxed),
-        Err(_) => Err(BootRefused::Memory),
-    }
+    let booted = match Machine::boot(alloc, wanted) {
+        Ok(booted) => booted,
+        Err(why) => return status_of(why),
+    };
+    let Ok(boxed) = Box::new(alloc, MachineState::of(booted, alloc)) else {
+        return status_of(BootRefused::Memory);
+    };
+    let full = RawMachine::of_parts(Parts::of(boxed));
+    replace(&mut machine.raw_machine, full).let_go();
+    machine.live = true;
+    machine.events = 0;
+    DONE
 }
 
 /// Takes a hypercall of a processor with the bytes of its input list.
@@ -93,25 +80,14 @@ pub extern "C" fn hv_embed_hypercall(
     ensures memory { result ≡ MEMORY
         → (machine.old.live ≡ true) × (is_short_len (length line.old) ≡ false) }
 {
-    if !machine.live {
-        return EMPTY;
-    }
+    let state = state_of!(machine);
     if is_short(line) {
         return SHORT;
     }
-    let mut events = machine.events;
-    let mut machine_state = replace(machine, HvMachine::none(alloc)).open();
-    let status = step_call(
-        &mut machine_state,
-        &mut events,
-        caller_of(by),
-        registers,
-        input,
-        reply,
-        line,
-    );
-    machine_state.trim(alloc);
-    replace(machine, HvMachine::full(machine_state, events)).let_go();
+    let by = caller_of(by);
+    let events = &mut machine.events;
+    let status = step_call(state, events, by, registers, input, reply, line);
+    state.trim(alloc);
     status
 }
 
@@ -143,34 +119,22 @@ pub extern "C" fn hv_embed_run(
     ensures status { result ≢ MEMORY → result ≡ run_readiness machine.old (length outputs.old) }
     ensures memory { result ≡ MEMORY → (machine.old.live ≡ true) × (ELEMENT_OUTPUT ≤ length outputs.old) }
 {
-    if !machine.live {
-        return EMPTY;
-    }
+    let state = state_of!(machine);
     if outputs.len() < ELEMENT_OUTPUT {
         return SHORT;
     }
-    let mut events = machine.events;
-    let mut machine_state = replace(machine, HvMachine::none(alloc)).open();
+    let by = caller_of(by);
+    let events = &mut machine.events;
     let status = step_run(
-        alloc,
-        &mut machine_state,
-        &mut events,
-        caller_of(by),
-        registers,
-        input,
-        reply,
-        outputs,
-        done,
+        alloc, state, events, by, registers, input, reply, outputs, done,
     );
-    machine_state.trim(alloc);
-    replace(machine, HvMachine::full(machine_state, events)).let_go();
+    state.trim(alloc);
     status
 }
 
 /// Reads an MSR of a processor. The output has 8 bytes.
 #[unsafe(no_mangle)]
 pub extern "C" fn hv_embed_read_msr(
-    alloc: Global,
     machine: &mut HvMachine,
     by: HvCaller,
     msr: u32,
@@ -183,13 +147,12 @@ pub extern "C" fn hv_embed_read_msr(
     ensures unwritten { result ≢ DONE → (reply.new ≡ reply.old) × (line.new ≡ line.old) }
     ensures status { result ≡ readiness machine.old (length line.old) }
 {
-    take_access(alloc, machine, by, Access::ReadMsr(msr), reply, line)
+    take_access(machine, by, Access::ReadMsr(msr), reply, line)
 }
 
 /// Writes a value to an MSR of a processor.
 #[unsafe(no_mangle)]
 pub extern "C" fn hv_embed_write_msr(
-    alloc: Global,
     machine: &mut HvMachine,
     by: HvCaller,
     msr: u32,
@@ -203,20 +166,12 @@ pub extern "C" fn hv_embed_write_msr(
     ensures unwritten { result ≢ DONE → (reply.new ≡ reply.old) × (line.new ≡ line.old) }
     ensures status { result ≡ readiness machine.old (length line.old) }
 {
-    take_access(
-        alloc,
-        machine,
-        by,
-        Access::WriteMsr(msr, value),
-        reply,
-        line,
-    )
+    take_access(machine, by, Access::WriteMsr(msr, value), reply, line)
 }
 
 /// Reads the message slot of a SINT of a processor. The output has 256 bytes.
 #[unsafe(no_mangle)]
 pub extern "C" fn hv_embed_read_slot(
-    alloc: Global,
     machine: &mut HvMachine,
     by: HvCaller,
     sint: u8,
@@ -229,13 +184,12 @@ pub extern "C" fn hv_embed_read_slot(
     ensures unwritten { result ≢ DONE → (reply.new ≡ reply.old) × (line.new ≡ line.old) }
     ensures status { result ≡ readiness machine.old (length line.old) }
 {
-    take_access(alloc, machine, by, Access::ReadSlot(sint), reply, line)
+    take_access(machine, by, Access::ReadSlot(sint), reply, line)
 }
 
 /// Removes the message that a SINT of a processor shows.
 #[unsafe(no_mangle)]
 pub extern "C" fn hv_embed_clear_slot(
-    alloc: Global,
     machine: &mut HvMachine,
     by: HvCaller,
     sint: u8,
@@ -248,13 +202,12 @@ pub extern "C" fn hv_embed_clear_slot(
     ensures unwritten { result ≢ DONE → (reply.new ≡ reply.old) × (line.new ≡ line.old) }
     ensures status { result ≡ readiness machine.old (length line.old) }
 {
-    take_access(alloc, machine, by, Access::ClearSlot(sint), reply, line)
+    take_access(machine, by, Access::ClearSlot(sint), reply, line)
 }
 
 /// Reads the event flags of a SINT of a processor. The output has 256 bytes.
 #[unsafe(no_mangle)]
 pub extern "C" fn hv_embed_read_flags(
-    alloc: Global,
     machine: &mut HvMachine,
     by: HvCaller,
     sint: u8,
@@ -267,13 +220,12 @@ pub extern "C" fn hv_embed_read_flags(
     ensures unwritten { result ≢ DONE → (reply.new ≡ reply.old) × (line.new ≡ line.old) }
     ensures status { result ≡ readiness machine.old (length line.old) }
 {
-    take_access(alloc, machine, by, Access::ReadFlags(sint), reply, line)
+    take_access(machine, by, Access::ReadFlags(sint), reply, line)
 }
 
 /// Clears an event flag of a SINT of a processor.
 #[unsafe(no_mangle)]
 pub extern "C" fn hv_embed_clear_flag(
-    alloc: Global,
     machine: &mut HvMachine,
     by: HvCaller,
     sint: u8,
@@ -287,21 +239,13 @@ pub extern "C" fn hv_embed_clear_flag(
     ensures unwritten { result ≢ DONE → (reply.new ≡ reply.old) × (line.new ≡ line.old) }
     ensures status { result ≡ readiness machine.old (length line.old) }
 {
-    take_access(
-        alloc,
-        machine,
-        by,
-        Access::ClearFlag(sint, flag),
-        reply,
-        line,
-    )
+    take_access(machine, by, Access::ClearFlag(sint, flag), reply, line)
 }
 
 /// Takes the highest interrupt vector that is pending at a processor. The output is one byte, 0 if none is
 /// pending.
 #[unsafe(no_mangle)]
 pub extern "C" fn hv_embed_take_interrupt(
-    alloc: Global,
     machine: &mut HvMachine,
     by: HvCaller,
     reply: &mut HvReply,
@@ -313,7 +257,7 @@ pub extern "C" fn hv_embed_take_interrupt(
     ensures unwritten { result ≢ DONE → (reply.new ≡ reply.old) × (line.new ≡ line.old) }
     ensures status { result ≡ readiness machine.old (length line.old) }
 {
-    take_access(alloc, machine, by, Access::TakeInterrupt, reply, line)
+    take_access(machine, by, Access::TakeInterrupt, reply, line)
 }
 
 /// Destroys the machine of a handle, if there is one, and leaves the handle empty.
@@ -322,10 +266,12 @@ pub extern "C" fn hv_embed_destroy(alloc: Global, machine: &mut HvMachine)
     ensures live { machine.new.live ≡ false }
     ensures events { machine.new.events ≡ 0 }
 {
-    let old = replace(machine, HvMachine::none(alloc));
-    if old.live {
-        drop(old.open());
+    let old = replace(&mut machine.raw_machine, RawMachine::none(alloc));
+    if machine.live {
+        drop(old.into_parts().into_box());
     } else {
         old.let_go();
     }
+    machine.live = false;
+    machine.events = 0;
 }

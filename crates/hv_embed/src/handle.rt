@@ -1,10 +1,7 @@
 // The handle that C owns.
-ghost use Rattle.std.specs.Prelude.{◌≡◌, true, false};
+ghost use Rattle.std.specs.Prelude.{◌≡◌};
 
-use crate::machine_state::MachineState;
-use crate::parts::Parts;
 use crate::raw_machine::RawMachine;
-use std::alloc::Global;
 
 /// A machine, or nothing. C initializes it to zeros, which is an empty handle.
 #[repr(C)]
@@ -16,57 +13,17 @@ pub struct HvMachine {
     ghost tied: { raw_machine.full ≡ live },
 }
 
-impl HvMachine {
-    // Returns an empty handle.
-    pub(crate) fn none(alloc: Global) -> HvMachine
-        ensures live { result.live ≡ false }
-        ensures events { result.events ≡ 0 }
-    {
-        HvMachine {
-            live: false,
-            events: 0,
-            raw_machine: RawMachine::none(alloc),
+// The machine state of a handle. An empty handle ends the function with its status.
+macro_rules! state_of {
+    ($handle:ident) => {{
+        if !$handle.live {
+            return crate::status::EMPTY;
         }
-    }
-
-    // Returns a handle with this machine, which took this number of events.
-    pub(crate) fn full(machine: Box<MachineState>, events: u64) -> HvMachine
-        ensures live { result.live ≡ true }
-        ensures events { result.events ≡ events }
-        ensures machine { result.raw_machine.machine ≡ machine.value }
-    {
-        HvMachine {
-            live: true,
-            events,
-            raw_machine: RawMachine::of_parts(Parts::of(machine)),
-        }
-    }
-
-    // Returns the machine. The handle is full.
-    pub(crate) fn open(self) -> Box<MachineState>
-        requires { self.live ≡ true }
-        ensures { result.value ≡ self.raw_machine.machine }
-    {
-        let HvMachine {
-            live: _,
-            events: _,
-            raw_machine,
-        } = self;
-        raw_machine.into_parts().into_box()
-    }
-
-    // Drops a handle that is empty.
-    pub(crate) fn let_go(self)
-        requires { self.live ≡ false }
-    {
-        let HvMachine {
-            live: _,
-            events: _,
-            raw_machine,
-        } = self;
-        raw_machine.let_go();
-    }
+        $handle.raw_machine.look()
+    }};
 }
+
+pub(crate) use state_of;
 
 // Requires a type whose values may move to another thread.
 fn may_cross<T: Send>() {}

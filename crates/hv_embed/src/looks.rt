@@ -1,28 +1,25 @@
 // The functions that C calls to look at a machine. A look is not an event: it is not counted, has no line,
 // and takes no memory.
-ghost use Rattle.std.specs.Prelude.{◌≡◌, ◌≢◌, is_some};
-ghost use Rattle.std.specs.Option.{option_map};
+ghost use Rattle.std.specs.Prelude.{◌≡◌, ◌≢◌, is_some, option_map};
 ghost use Rattle.std.specs.FinMap.{get};
 ghost use Rattle.hv_abi.specs.CallRow.{kind_of};
 ghost use Rattle.hv_defs.specs.Registers.{name_of_msr};
 ghost use Rattle.hv_looks.specs.Look.{child_seen, features_seen, flags_seen, msr_seen, owner_seen};
 ghost use Rattle.hv_looks.specs.Look.{partition_seen, pending_seen, slot_seen};
-ghost use Rattle.hv_machine.specs.IsFlat.{IsFlat};
 ghost use Rattle.hv_mail.specs.Words.{numbers_of};
-ghost use Rattle.hv_policy.specs.Flat.{Flat};
 ghost use Rattle.hv_refine.specs.Tie.{conn_row_of, port_row_of};
 ghost use Rattle.hv_embed.specs.Answer.{caller_of as caller_by};
-ghost use Rattle.hv_embed.specs.Looks.{IsLook, Shows, aim_number, conn_shown, life_number};
-ghost use Rattle.hv_embed.specs.Looks.{partition_shown, port_shown, type_number};
+ghost use Rattle.hv_embed.specs.Looks.{IsLook, Shows, aim_number, conn_shown, life_number, partition_shown};
+ghost use Rattle.hv_embed.specs.Looks.{port_shown, type_number};
 ghost use Rattle.hv_embed.specs.Taken.{IsAsBefore};
 ghost use Rattle.hv_embed.specs.declared.status.TheConstants.{DONE};
 
-use crate::handle::HvMachine;
+use crate::handle::{HvMachine, state_of};
 use crate::layout::{
     HvCaller, HvConnection, HvPartition, HvPort, LIFE_ACTIVE, LIFE_CREATED, LIFE_FINALIZED,
     PORT_EVENTS, PORT_MESSAGES,
 };
-use crate::status::{DONE, EMPTY, NONE};
+use crate::status::{DONE, NONE};
 use crate::take::caller_of;
 use hv_defs::{ANY_VP, Aim, Life, PortKind};
 use hv_looks::{
@@ -42,13 +39,7 @@ pub extern "C" fn hv_embed_peek_slot(
     ensures look { IsLook machine.old (λ f. slot_seen f (caller_by of) sint) result out.old out.new }
     ensures kept { IsAsBefore machine.old machine.new }
 {
-    if !machine.live {
-        return EMPTY;
-    }
-    put(
-        slot(&machine.raw_machine.look().machine, caller_of(of), sint),
-        out,
-    )
+    put(slot(&state_of!(machine).machine, caller_of(of), sint), out)
 }
 
 /// Looks at the 256 bytes of the event flags of a SINT of a processor.
@@ -62,13 +53,7 @@ pub extern "C" fn hv_embed_peek_flags(
     ensures look { IsLook machine.old (λ f. flags_seen f (caller_by of) sint) result out.old out.new }
     ensures kept { IsAsBefore machine.old machine.new }
 {
-    if !machine.live {
-        return EMPTY;
-    }
-    put(
-        flags(&machine.raw_machine.look().machine, caller_of(of), sint),
-        out,
-    )
+    put(flags(&state_of!(machine).machine, caller_of(of), sint), out)
 }
 
 /// Looks at an MSR of a processor.
@@ -82,11 +67,8 @@ pub extern "C" fn hv_embed_peek_msr(
     ensures look { IsLook machine.old (λ f. msr_seen f (caller_by of) msr) result value.old value.new }
     ensures kept { IsAsBefore machine.old machine.new }
 {
-    if !machine.live {
-        return EMPTY;
-    }
     put(
-        hv_looks::msr(&machine.raw_machine.look().machine, caller_of(of), msr),
+        hv_looks::msr(&state_of!(machine).machine, caller_of(of), msr),
         value,
     )
 }
@@ -103,13 +85,7 @@ pub extern "C" fn hv_embed_peek_pending(
     ensures kept { IsAsBefore machine.old machine.new }
     ensures unwritten { result ≢ DONE → out.new ≡ out.old }
 {
-    if !machine.live {
-        return EMPTY;
-    }
-    put(
-        pending(&machine.raw_machine.look().machine, caller_of(of)),
-        out,
-    )
+    put(pending(&state_of!(machine).machine, caller_of(of)), out)
 }
 
 /// Looks at a partition.
@@ -123,16 +99,8 @@ pub extern "C" fn hv_embed_peek_partition(
         out.new }
     ensures kept { IsAsBefore machine.old machine.new }
 {
-    if !machine.live {
-        return EMPTY;
-    }
-    match partition(&machine.raw_machine.look().machine, id) {
-        Some(look) => {
-            *out = show_partition(look);
-            DONE
-        }
-        None => NONE,
-    }
+    let look = partition(&state_of!(machine).machine, id);
+    put(look.map(show_partition), out)
 }
 
 /// Looks up the least id above `previous` among the children of a partition. If there is none, the child is
@@ -147,11 +115,8 @@ pub extern "C" fn hv_embed_child_after(
     ensures look { IsLook machine.old (λ f. child_seen f parent previous) result child.old child.new }
     ensures kept { IsAsBefore machine.old machine.new }
 {
-    if !machine.live {
-        return EMPTY;
-    }
     put(
-        child_after(&machine.raw_machine.look().machine, parent, previous),
+        child_after(&state_of!(machine).machine, parent, previous),
         child,
     )
 }
@@ -162,10 +127,7 @@ pub extern "C" fn hv_embed_page_owner(machine: &mut HvMachine, page: u64, owner:
     ensures look { IsLook machine.old (λ f. owner_seen f page) result owner.old owner.new }
     ensures kept { IsAsBefore machine.old machine.new }
 {
-    if !machine.live {
-        return EMPTY;
-    }
-    put(page_owner(&machine.raw_machine.look().machine, page), owner)
+    put(page_owner(&state_of!(machine).machine, page), owner)
 }
 
 /// Looks at a port of a partition.
@@ -180,16 +142,8 @@ pub extern "C" fn hv_embed_peek_port(
         out.old out.new }
     ensures kept { IsAsBefore machine.old machine.new }
 {
-    if !machine.live {
-        return EMPTY;
-    }
-    match port(&machine.raw_machine.look().machine, part, id) {
-        Some(row) => {
-            *out = show_port(part, id, row);
-            DONE
-        }
-        None => NONE,
-    }
+    let row = port(&state_of!(machine).machine, part, id);
+    put(row.map(|row| show_port(part, id, row)), out)
 }
 
 /// Looks at a connection of a partition.
@@ -204,16 +158,8 @@ pub extern "C" fn hv_embed_peek_connection(
         out.old out.new }
     ensures kept { IsAsBefore machine.old machine.new }
 {
-    if !machine.live {
-        return EMPTY;
-    }
-    match connection(&machine.raw_machine.look().machine, part, id) {
-        Some(row) => {
-            *out = show_connection(part, id, row);
-            DONE
-        }
-        None => NONE,
-    }
+    let row = connection(&state_of!(machine).machine, part, id);
+    put(row.map(|row| show_connection(part, id, row)), out)
 }
 
 /// Looks at EAX, EBX, ECX and EDX of CPUID leaf 0x40000003 for a partition.
@@ -222,10 +168,7 @@ pub extern "C" fn hv_embed_features(machine: &mut HvMachine, part: u64, out: &mu
     ensures look { IsLook machine.old (λ f. features_seen f part) result out.old out.new }
     ensures kept { IsAsBefore machine.old machine.new }
 {
-    if !machine.live {
-        return EMPTY;
-    }
-    put(features(&machine.raw_machine.look().machine, part), out)
+    put(features(&state_of!(machine).machine, part), out)
 }
 
 /// Returns whether a machine keeps an MSR with this number.

@@ -37,7 +37,7 @@ use std::mem::replace;
 // each of them.
 pub(crate) fn step_run(
     alloc: Global,
-    machine_state: &mut MachineState,
+    state: &mut MachineState,
     events: &mut u64,
     by: Caller,
     registers: &HvRegisters,
@@ -47,60 +47,42 @@ pub(crate) fn step_run(
     done: &mut HvRun,
 ) -> u32
     requires { ELEMENT_OUTPUT ≤ length outputs.old }
-    ensures ran { (f : Flat) → IsFlat machine_state.old f → result ≡ DONE → HasRun by
-        (first f by (frame_by registers.now input.now))
-        events.old machine_state.new reply.new outputs.new done.new }
-    ensures effect { (f : Flat) → IsFlat machine_state.old f → AreTyped f → result ≡ DONE → IsRunEffect
-        done.new.events f by
-        (first f by (frame_by registers.now input.now)) reply.new.effect }
+    ensures ran { (f : Flat) → IsFlat state.old f → result ≡ DONE → HasRun by
+        (first f by (frame_by registers.now input.now)) events.old state.new reply.new outputs.new done.new }
+    ensures effect { (f : Flat) → IsFlat state.old f → AreTyped f → result ≡ DONE → IsRunEffect
+        done.new.events f by (first f by (frame_by registers.now input.now)) reply.new.effect }
     ensures line { result ≡ DONE → reply.new.line_len ≡ 0 }
-    ensures pages { machine_state.new.pages ≡ machine_state.old.pages }
-    ensures lasting { MachineInvariant machine_state.new }
-    ensures sound { result ≡ DONE → IsSound machine_state.new }
+    ensures pages { state.new.pages ≡ state.old.pages }
+    ensures lasting { MachineInvariant state.new }
+    ensures sound { result ≡ DONE → IsSound state.new }
     ensures some { result ≡ DONE → 0 < done.new.events }
     ensures count { result ≡ DONE → events.new ≡ events.old + done.new.events }
-    ensures kept { result ≢ DONE → (machine_state.new ≡ machine_state.old) × (events.new ≡ events.old) }
+    ensures kept { result ≢ DONE → (state.new ≡ state.old) × (events.new ≡ events.old) }
     ensures unwritten { result ≢ DONE → (reply.new ≡ reply.old) × (outputs.new ≡ outputs.old)
         × (done.new ≡ done.old) }
     ensures ready { result ≢ MEMORY
-        → result ≡ if is_used_up_at machine_state.old.served events.old then USED_UP else DONE }
+        → result ≡ if is_used_up_at state.old.served events.old then USED_UP else DONE }
 {
-    if is_used_up(&machine_state.machine, *events) {
+    if is_used_up(&state.machine, *events) {
         return USED_UP;
     }
-    let Ok(()) = refill(&mut machine_state.frame, registers, input) else {
+    let Ok(()) = refill(&mut state.frame, registers, input) else {
         return MEMORY;
     };
-    let Ok((mut last, effect)) = hypercall(&mut machine_state.machine, by, &machine_state.frame)
-    else {
+    let Ok((mut last, effect)) = hypercall(&mut state.machine, by, &state.frame) else {
         return MEMORY;
     };
-    let mut effect = shown(effect);
+    let mut told = shown(effect);
     *events += 1;
     let mut at = append_output(&last, outputs, 0);
+    let machine = &mut state.machine;
+    let frame = &mut state.frame;
     let more = run_on(
-        alloc,
-        &mut machine_state.machine,
-        events,
-        by,
-        &mut machine_state.frame,
-        &mut last,
-        &mut effect,
-        outputs,
-        &mut at,
+        alloc, machine, events, by, frame, &mut last, &mut told, outputs, &mut at,
     );
-    reply.effect = effect;
-    let (told, output) = last.parts();
-    answer_call(
-        by,
-        &machine_state.frame,
-        told,
-        output,
-        *events,
-        &mut machine_state.scratch,
-        reply,
-        &mut [],
-    );
+    reply.effect = told;
+    let scratch = &mut state.scratch;
+    answer_call(by, &state.frame, &last, *events, scratch, reply, &mut []);
     *done = HvRun {
         events: more + 1,
         output_len: at as u32,
@@ -149,10 +131,8 @@ fn run_on(
         let Some(next) = next_of(last.parts().0) else {
             return more;
         };
-        if !is_quiet(effect) {
-            return more;
-        }
-        if outputs.len() - *at < ELEMENT_OUTPUT || is_used_up(machine, *events) {
+        let is_full = outputs.len() - *at < ELEMENT_OUTPUT || is_used_up(machine, *events);
+        if is_full || !is_quiet(effect) {
             return more;
         }
         let rcx = frame.rcx;

@@ -1,6 +1,5 @@
 // Taking one event of a handle's machine.
 ghost use Rattle.std.specs.Prelude.{◌≡◌, ◌≢◌, ◌+◌, length, false, if◌then◌else◌};
-ghost use Rattle.hv_machine.specs.Access.{access_event};
 ghost use Rattle.hv_machine.specs.MachineInvariant.{MachineInvariant};
 ghost use Rattle.hv_policy.specs.Call.{action_of, call_event};
 ghost use Rattle.hv_embed.specs.Answer.{caller_of as caller_by, event_of as event_by, frame_of as frame_by};
@@ -10,20 +9,18 @@ ghost use Rattle.hv_embed.specs.declared.status.TheConstants.{DONE, USED_UP, MEM
 
 use crate::answer::{answer, answer_call, asked_of, is_short};
 use crate::effect::{parted, shown};
-use crate::handle::HvMachine;
+use crate::handle::{HvMachine, state_of};
 use crate::layout::{HvCaller, HvRegisters, HvReply};
 use crate::machine_state::{MachineState, refill};
-use crate::status::{DONE, EMPTY, MAX_EVENTS, MEMORY, SHORT, USED_UP};
+use crate::status::{DONE, MAX_EVENTS, MEMORY, SHORT, USED_UP};
 use hv_defs::MAX_SERVED;
 use hv_effects::{access as access_of, hypercall};
 use hv_history::{EntryRef, answer_of};
 use hv_machine::{Access, Caller, Machine};
 use std::alloc::Global;
-use std::mem::replace;
 
-// Takes an access with the machine of a handle.
+// Takes an access with the machine of a handle, and counts it.
 pub(crate) fn take_access(
-    alloc: Global,
     machine: &mut HvMachine,
     by: HvCaller,
     access: Access,
@@ -36,55 +33,17 @@ pub(crate) fn take_access(
     ensures unwritten { result ≢ DONE → (reply.new ≡ reply.old) × (line.new ≡ line.old) }
     ensures status { result ≡ readiness machine.old (length line.old) }
 {
-    if !machine.live {
-        return EMPTY;
-    }
+    let state = state_of!(machine);
     if is_short(line) {
         return SHORT;
     }
-    let mut events = machine.events;
-    let mut machine_state = replace(machine, HvMachine::none(alloc)).open();
-    let status = step_access(
-        &mut machine_state,
-        &mut events,
-        caller_of(by),
-        access,
-        reply,
-        line,
-    );
-    replace(machine, HvMachine::full(machine_state, events)).let_go();
-    status
-}
-
-// Takes an access with a machine, and counts it.
-fn step_access(
-    machine_state: &mut MachineState,
-    events: &mut u64,
-    by: Caller,
-    access: Access,
-    reply: &mut HvReply,
-    line: &mut [u8],
-) -> u32
-    requires { is_short_len (length line.old) ≡ false }
-    ensures taken { result ≡ DONE
-        → IsStepped (access_event by access) events.new machine_state.old machine_state.new reply.new
-        line.new }
-    ensures count { result ≡ DONE → events.new ≡ events.old + 1 }
-    ensures kept { result ≢ DONE → (machine_state.new ≡ machine_state.old) × (events.new ≡ events.old) }
-    ensures unwritten { result ≢ DONE → (reply.new ≡ reply.old) × (line.new ≡ line.old) }
-    ensures ready { result ≡ if is_used_up_at machine_state.old.served events.old then USED_UP else DONE }
-{
-    if is_used_up(&machine_state.machine, *events) {
+    if is_used_up(&state.machine, machine.events) {
         return USED_UP;
     }
-    machine_state.output.clear();
-    let became = access_of(
-        &mut machine_state.machine,
-        by,
-        access,
-        &mut machine_state.output,
-    );
-    *events += 1;
+    let by = caller_of(by);
+    state.output.clear();
+    let became = access_of(&mut state.machine, by, access, &mut state.output);
+    machine.events += 1;
     let (became, effect) = parted(became);
     reply.effect = effect;
     let entry = EntryRef {
@@ -92,15 +51,15 @@ fn step_access(
         asked: asked_of(access),
         input: &[],
         answer: answer_of(became),
-        output: machine_state.output.as_slice(),
+        output: state.output.as_slice(),
     };
-    answer(&entry, *events, &mut machine_state.scratch, reply, line);
+    answer(&entry, machine.events, &mut state.scratch, reply, line);
     DONE
 }
 
 // Takes a call with these registers and the bytes of its input list, and counts it.
 pub(crate) fn step_call(
-    machine_state: &mut MachineState,
+    state: &mut MachineState,
     events: &mut u64,
     by: Caller,
     registers: &HvRegisters,
@@ -110,35 +69,26 @@ pub(crate) fn step_call(
 ) -> u32
     requires { is_short_len (length line.old) ≡ false }
     ensures taken { result ≡ DONE → IsStepped (call_event by (frame_by registers.now input.now)) events.new
-        machine_state.old machine_state.new reply.new line.new }
+        state.old state.new reply.new line.new }
     ensures count { result ≡ DONE → events.new ≡ events.old + 1 }
-    ensures kept { result ≢ DONE → (machine_state.new ≡ machine_state.old) × (events.new ≡ events.old) }
+    ensures kept { result ≢ DONE → (state.new ≡ state.old) × (events.new ≡ events.old) }
     ensures unwritten { result ≢ DONE → (reply.new ≡ reply.old) × (line.new ≡ line.old) }
     ensures ready { result ≢ MEMORY
-        → result ≡ if is_used_up_at machine_state.old.served events.old then USED_UP else DONE }
+        → result ≡ if is_used_up_at state.old.served events.old then USED_UP else DONE }
 {
-    if is_used_up(&machine_state.machine, *events) {
+    if is_used_up(&state.machine, *events) {
         return USED_UP;
     }
-    let Ok(()) = refill(&mut machine_state.frame, registers, input) else {
+    let Ok(()) = refill(&mut state.frame, registers, input) else {
         return MEMORY;
     };
-    let Ok((told, effect)) = hypercall(&mut machine_state.machine, by, &machine_state.frame) else {
+    let Ok((told, effect)) = hypercall(&mut state.machine, by, &state.frame) else {
         return MEMORY;
     };
     *events += 1;
     reply.effect = shown(effect);
-    let (told, output) = told.parts();
-    answer_call(
-        by,
-        &machine_state.frame,
-        told,
-        output,
-        *events,
-        &mut machine_state.scratch,
-        reply,
-        line,
-    );
+    let scratch = &mut state.scratch;
+    answer_call(by, &state.frame, &told, *events, scratch, reply, line);
     DONE
 }
 

@@ -1,28 +1,25 @@
 // Texts for C: a machine's table, and events as lines of a script. Writing a text is not an event. Each
 // function reports the text's length, and writes the text if the buffer has room for it.
-ghost use Rattle.std.specs.Prelude.{◌≡◌, ◌≢◌, ◌++◌, codes, length, nat_lt, take, true, false};
-ghost use Rattle.std.specs.Prelude.{IfSome, if◌then◌else◌};
+ghost use Rattle.std.specs.Prelude.{◌≡◌, ◌≢◌, ◌++◌, ℕ, List, codes, true, false, IfSome};
 ghost use Rattle.hv_machine.specs.IsFlat.{IsFlat};
-ghost use Rattle.hv_policy.specs.Call.{action_of as action_by};
 ghost use Rattle.hv_policy.specs.Flat.{Flat};
 ghost use Rattle.hv_policy.specs.declared.event.Action.TheVariants.{Hypercall};
 ghost use Rattle.hv_record.specs.Recorded.{line_text};
 ghost use Rattle.hv_text.specs.Table.{table_text};
 ghost use Rattle.hv_embed.specs.Answer.{caller_of as caller_by, frame_of as frame_by};
 ghost use Rattle.hv_embed.specs.Taken.{IsAsBefore};
-ghost use Rattle.hv_embed.specs.Texts.{IsAccessLine, IsPut, access_at_sint, access_named};
-ghost use Rattle.hv_embed.specs.Texts.{readable as readable_of};
+ghost use Rattle.hv_embed.specs.Texts.{IsAccessLine, IsPut, access_named, readable as readable_of};
 ghost use Rattle.hv_embed.specs.declared.status.TheConstants.{DONE, EMPTY, SHORT};
 
-use crate::handle::HvMachine;
+use crate::handle::{HvMachine, state_of};
 use crate::layout::{
     CLEAR_FLAG, CLEAR_SLOT, HvCaller, HvRegisters, READ_FLAGS, READ_MSR, READ_SLOT, TAKE_INTERRUPT,
     WRITE_MSR,
 };
 use crate::machine_state::{no_frame, refill};
-use crate::status::{DONE, EMPTY, MEMORY, NONE, SHORT};
+use crate::status::{DONE, MEMORY, NONE, SHORT};
 use crate::take::caller_of;
-use hv_machine::{Access, Caller, Machine};
+use hv_machine::{Caller, Machine};
 use hv_policy::Action;
 use hv_record::script_line;
 use hv_text::table_of;
@@ -49,13 +46,7 @@ pub extern "C" fn hv_embed_table(
     ensures unwritten { result ≢ DONE → text.new ≡ text.old }
     ensures untold { result ≢ DONE → result ≢ SHORT → len.new ≡ len.old }
 {
-    if !machine.live {
-        return EMPTY;
-    }
-    match table_bytes(alloc, &machine.raw_machine.look().machine) {
-        Some(bytes) => put_text(&bytes, text, len),
-        None => MEMORY,
-    }
+    put_text(table_bytes(alloc, &state_of!(machine).machine), text, len)
 }
 
 /// Writes a hypercall of a processor as a line of a script.
@@ -74,10 +65,7 @@ pub extern "C" fn hv_embed_hypercall_line(
     ensures { IsPut (line_text (caller_by by) (Hypercall (frame_by registers.now (readable_of input.now)))
         ++ codes "\n") result text.old text.new len.old len.new }
 {
-    match call_line(alloc, by, registers, input) {
-        Some(bytes) => put_text(&bytes, text, len),
-        None => MEMORY,
-    }
+    put_text(call_line(alloc, by, registers, input), text, len)
 }
 
 /// Writes an access of a processor as a line of a script.
@@ -98,12 +86,9 @@ pub extern "C" fn hv_embed_access_line(
     ensures { IsAccessLine (caller_by by) (access_named access number value) result text.old text.new
         len.old len.new }
 {
-    let Some(access) = access_of(access, number, value) else {
-        return NONE;
-    };
-    match event_line(alloc, caller_of(by), &action_of(access)) {
-        Some(bytes) => put_text(&bytes, text, len),
-        None => MEMORY,
+    match access_of(access, number, value) {
+        Some(access) => put_text(event_line(alloc, caller_of(by), &access), text, len),
+        None => NONE,
     }
 }
 
@@ -112,10 +97,8 @@ fn table_bytes(alloc: Global, machine: &Machine<Global>) -> Option<Vec<u8>>
     ensures { (f : Flat) → IsFlat machine.now f → IfSome result (λ bytes. bytes.items ≡ table_text f) }
 {
     let mut bytes = Vec::new(alloc);
-    match table_of(&mut bytes, machine) {
-        Ok(()) => Some(bytes),
-        Err(_) => None,
-    }
+    table_of(&mut bytes, machine).ok()?;
+    Some(bytes)
 }
 
 // Returns the line of a call, or `None` if memory runs out.
@@ -125,97 +108,57 @@ fn call_line(alloc: Global, by: HvCaller, registers: &HvRegisters, input: &[u8])
         ++ codes "\n") }
 {
     let mut frame = no_frame(alloc);
-    let Ok(()) = refill(&mut frame, registers, readable(input)) else {
-        return None;
-    };
+    refill(&mut frame, registers, readable(input)).ok()?;
     event_line(alloc, caller_of(by), &Action::Hypercall(frame))
 }
 
 // Returns the bytes of an input list that a line has.
+#[tactic(auto, using(std::proofs::lemmas::List::take_min))]
 fn readable(input: &[u8]) -> &[u8]
     ensures { result.now ≡ readable_of input.now }
 {
-    if input.len() <= MOST_INPUT {
-        return input;
-    }
-    &input[..MOST_INPUT]
+    &input[..MOST_INPUT.min(input.len())]
 }
 
 // Returns the line of an event with its line feed, or `None` if memory runs out.
 fn event_line(alloc: Global, by: Caller, what: &Action<Global>) -> Option<Vec<u8>>
     ensures { IfSome result (λ line. line.items ≡ line_text by what.now ++ codes "\n") }
 {
-    let Ok(mut line) = script_line(alloc, by, what) else {
-        return None;
-    };
-    match line.push(b'\n') {
-        Ok(()) => Some(line),
-        Err(_) => None,
-    }
+    let mut line = script_line(alloc, by, what).ok()?;
+    line.push(b'\n').ok()?;
+    Some(line)
 }
 
 // Returns the access that C names by these numbers, if there is one.
-fn access_of(access: u32, number: u32, value: u64) -> Option<Access>
+fn access_of(access: u32, number: u32, value: u64) -> Option<Action<Global>>
     ensures { result ≡ access_named access number value }
 {
-    if access == READ_MSR {
-        return Some(Access::ReadMsr(number));
-    }
-    if access == WRITE_MSR {
-        return Some(Access::WriteMsr(number, value));
-    }
-    if access == TAKE_INTERRUPT {
-        return Some(Access::TakeInterrupt);
-    }
-    match u8::try_from(number) {
-        Ok(sint) => access_at(access, sint, value),
-        Err(_) => None,
-    }
-}
-
-// Returns the access to a SINT that C names by these numbers, if there is one.
-fn access_at(access: u32, sint: u8, value: u64) -> Option<Access>
-    ensures { result ≡ access_at_sint access sint value }
-{
-    if access == READ_SLOT {
-        return Some(Access::ReadSlot(sint));
-    }
-    if access == CLEAR_SLOT {
-        return Some(Access::ClearSlot(sint));
-    }
-    if access == READ_FLAGS {
-        return Some(Access::ReadFlags(sint));
-    }
-    if access == CLEAR_FLAG && value <= 0xFFFF {
-        return Some(Access::ClearFlag(sint, value as u16));
-    }
-    None
-}
-
-// Converts an access to the action of its processor.
-fn action_of(access: Access) -> Action<Global>
-    ensures { result ≡ action_by access }
-{
+    let sint = u8::try_from(number).ok();
     match access {
-        Access::ReadMsr(msr) => Action::ReadMsr(msr),
-        Access::WriteMsr(msr, value) => Action::WriteMsr(msr, value),
-        Access::ReadSlot(sint) => Action::ReadSlot(sint),
-        Access::ClearSlot(sint) => Action::ClearSlot(sint),
-        Access::ReadFlags(sint) => Action::ReadFlags(sint),
-        Access::ClearFlag(sint, flag) => Action::ClearFlag(sint, flag),
-        Access::TakeInterrupt => Action::TakeInterrupt,
+        READ_MSR => Some(Action::ReadMsr(number)),
+        WRITE_MSR => Some(Action::WriteMsr(number, value)),
+        TAKE_INTERRUPT => Some(Action::TakeInterrupt),
+        READ_SLOT => Some(Action::ReadSlot(sint?)),
+        CLEAR_SLOT => Some(Action::ClearSlot(sint?)),
+        READ_FLAGS => Some(Action::ReadFlags(sint?)),
+        CLEAR_FLAG if value <= 0xFFFF => Some(Action::ClearFlag(sint?, value as u16)),
+        _ => None,
     }
 }
 
-// Writes a text into a buffer that has room for it, and reports its length in bytes.
-fn put_text(bytes: &[u8], text: &mut [u8], len: &mut usize) -> u32
-    ensures put { IsPut bytes.now result text.old text.new len.old len.new }
-    ensures told { result ≡ if nat_lt (length text.old) (length bytes.now) then SHORT else DONE }
+// Writes a text into a buffer that has room for it, and reports its length in bytes. Without a text, memory
+// ran out.
+fn put_text(bytes: Option<Vec<u8>>, text: &mut [u8], len: &mut usize) -> u32
+    ensures put { (told : List ℕ) → IfSome bytes (λ b. b.items ≡ told)
+        → IsPut told result text.old text.new len.old len.new }
+    ensures unwritten { result ≢ DONE → text.new ≡ text.old }
+    ensures untold { result ≢ DONE → result ≢ SHORT → len.new ≡ len.old }
 {
+    let Some(bytes) = bytes else { return MEMORY };
     *len = bytes.len();
     if text.len() < bytes.len() {
         return SHORT;
     }
-    text[..bytes.len()].copy_from_slice(bytes);
+    text[..bytes.len()].copy_from_slice(&bytes);
     DONE
 }

@@ -4,8 +4,7 @@ use Rattle.hv_history.specs.Run.{IsMore, restart}
 use Rattle.hv_policy.specs.declared.reply.Reply.{Reply}
 use Rattle.hv_policy.specs.declared.reply.Reply.TheVariants.{More}
 use Rattle.hv_embed.specs.Run.{IsAtMore, IsLastEffect, run}
-use Rattle.hv_embed.proofs.Effects.{effect_on, one_more_effect, typed_more}
-use Rattle.hv_embed.proofs.Elements.{one_more}
+use Rattle.hv_embed.proofs.Elements.{one_more, effect_on, one_more_effect, typed_more}
 use Rattle.hv_embed.proofs.run.run_on.Goals as goal
 
 pub loop-more-preserved : goal.loop-more-preserved

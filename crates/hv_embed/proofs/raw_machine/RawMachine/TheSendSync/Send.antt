@@ -1,5 +1,5 @@
 -- A full handle crosses threads as a box of a machine does, and an empty one has nothing.
-use Rattle.std.specs.Prelude.{Bool, true, false}
+use Rattle.std.proofs.Common.{Bool, true, false, Global}
 use mir.Raw.{raw}
 use base.Shift.{Keyless}
 use denote.Memory.{lone}
@@ -8,7 +8,6 @@ use denote.Struct.Owning.{shape, fields, to}
 use denote.RawPtr.{Ptr}
 use denote.Param.Send.{IsSend, AllSend, owning_send, struct_send, sendable}
 use Rattle.std.proofs.Crossing as heap
-use Rattle.std.specs.Global.{Global}
 use Rattle.std_alloc.proofs.SendSync.{quiet, lies}
 use Rattle.std_heap.proofs.Global.TheSendSync as handle
 use Rattle.hv_machine.specs.State.{State}

@@ -1,82 +1,45 @@
 -- `none` keeps the handle of the allocator beside a null pointer.
-use mathlib.Core.Path.{refl, sym, subst}
-use mathlib.Core.List.{List, [], ◌∷◌, ◌++◌}
-use seplogic.Ra.Ura.{Ura}
-use mir.Val.{Val, vint, vstruct, vcons, vnil}
+use Rattle.hv_embed.proofs.Walk.{refl, sym, subst, List, [], ◌∷◌, ◌++◌, Val, vstruct, has_ty, SProp, ent, emp, id⊢, ftrue, fsep, WpFn, ‵, raw, ◌⊛◌, ◌$◌, ◌∵◌, !, qed, move, keep, drop, use1, join}
+use Rattle.hv_embed.proofs.Walk.{split, fsplit, fjoin, feq_i, suffices, done, agg, no_more, and_then, returns, enter, alloc_all, pass_all, free_all, look_at, get, sets, tables, yes, null_ptr, Slot}
+use Rattle.hv_embed.proofs.Walk.{plain, type_at, nothing, says, Stays, stay_dropped, walk_of, ends_at, Goes-dropped, α, handle_tells, proved_at, E}
 use mir.Syntax.{w64}
-use base.Logic.{SProp, ent, emp, id⊢}
-use base.Fml.{ftrue, fsep}
-use prog.Memory.{Memory}
-use prog.Routine.{Routine}
-use prog.Wp.{WpFn, Tables}
-use types.Logic.{Logic}
-use contract.Monad.{Fun}
-use contract.Running.{tables, tables_of}
-use sound.WpLaws.{WpFn-mono}
-use types.Kit.{Item, ‵, raw, ◌⊛◌, ◌$◌, ◌∵◌, !, qed, by, move, drop, use1, join, split, fsplit, fjoin, feq_i, fpack, suffices, done}
-use types.Part.{agg}
-use types.Run.{no_more, and_then, lit, returns, enter}
-use types.ByLocal.{alloc_all, pass_all, free_all, look_at, get, sets}
-use denote.Exit.{yes}
-use denote.Signature.{Slot, plain, type_at}
-use denote.Steps.{nothing}
-use denote.Triple.Spec.{triple_of}
-use denote.Triple.Table.{entered}
-use denote.Triple.Walked.{says, Stays, stay_dropped, walk_of, ends_at, Goes-dropped, walk_Meets}
-use Rattle.std.proofs.alloc.Calls.{α, handle_tells}
-use Rattle.std_alloc.proofs.ResultValues.{and_tt}
-use mir.Val.{has_ty}
+use mir.Val.{vint, vcons, vnil}
+use types.Kit.{fpack}
+use types.Run.{lit}
 use denote.RattleType.{Valss}
-use denote.RawPtr.{RawPtr, null_ptr}
+use denote.RawPtr.{RawPtr}
 use denote.Struct.Struct.{within}
 use denote.Struct.Owning.{shape, to}
 use Rattle.std.proofs.Common.{false, arith}
-use Rattle.hv_embed.proofs.AsBox.{E}
-use Rattle.std_heap.specs.contracts.Global as Heap
-use Rattle.hv_embed.specs.contracts.raw_machine.RawMachine as RawMachine
-use Rattle.hv_machine.specs.State.{State}
 use Rattle.std.specs.FinMap as map
+use Rattle.std_alloc.proofs.ResultValues.{and_tt}
+use Rattle.std_heap.specs.contracts.Global as Heap
+use Rattle.hv_machine.specs.State.{State}
+use Rattle.hv_embed.specs.contracts.raw_machine.RawMachine as RawMachine
 use Rattle.hv_embed.specs.contracts.raw_machine.RawMachine.none as F
 use Rattle.hv_embed.specs.contracts.raw_machine.RawMachine.none.Key.{name as #self}
 use Rattle.hv_embed.proofs.raw_machine.RawMachine.none.Statement as stated
 use Rattle.hv_embed.proofs.raw_machine.RawMachine.none.Code as code
 
-abbrev From : Slot 0
-From = plain (λ _. Heap.the_row)
-
-abbrev stayed : Stays (F.ended).signature.params (F.ended).kept
-stayed = (stay_dropped From yes, tt)
-
-module _ {M : Type 1} {𝓤 : Ura M} (𝓛 : Logic 𝓤) (at_mem : Memory → SProp 𝓤) (run : Routine → Fun 𝓤) (𝓣 : Tables 𝓤 𝓛.H) where
-  open 𝓛 use {H}
-
-  walk : (z : (walk_of 𝓛 F.ended stayed (F.clauses 𝓛 at_mem run)).Ghost)
-      → ent 𝓤 ((walk_of 𝓛 F.ended stayed (F.clauses 𝓛 at_mem run)).pre z) (WpFn 𝓤 H 𝓣.C 𝓣.Λ code.function (z.0.4.0 ++ []) ((walk_of 𝓛 F.ended stayed (F.clauses 𝓛 at_mem run)).post z))
-  walk z =
-      let Post = (walk_of 𝓛 F.ended stayed (F.clauses 𝓛 at_mem run)).post z in
-      let a : Heap.the_row.Denot = z.0.3.0 in
-      let To = type_at (F.signature).result tt in
-      let nobody : State = record { rows = map.empty; pages = 0; next = 0; served = 0 } in
-      let made : To.Denot = record { at = null_ptr; alloc = a; full = false; machine = nobody } in
-      qed 𝓛 ((‵ ftrue ⊛ ‵ (fsep (Heap.the_row.own_val a z.0.4.0) ftrue)) ∷ raw (emp 𝓤) ∷ []) ∵ split ! $ drop ! $ fsplit ! $
-      handle_tells E.al ! a z.0.4.0 (λ hw eh fw. move ! (1 ∷ 2 ∷ []) $ drop ! $ drop ! $
-      let w : Val = vstruct (vcons (vint w64 0) (vcons hw vnil)) in
-      let Γ : List (Item 𝓤) = ‵ (Heap.the_row.own_val a (hw ∷ [])) ∷ [] in
-      by ! (subst (λ (us : List Val). ent 𝓤 (types.Kit.⋆ 𝓛 Γ) (WpFn 𝓤 H 𝓣.C 𝓣.Λ code.function (us ++ []) Post)) (sym eh)
-      (qed 𝓛 Γ ∵ enter ! 𝓣.C 𝓣.Λ code.function (hw ∷ []) _ $ alloc_all ! (λ ls. pass_all ! refl (fw, tt) $
-      sets ! (agg ! (and_then ! (lit ! tt) (and_then ! (get ! refl) (no_more !)))) refl (and_tt (has_ty (α E.al) hw) fw.0, (record { fits = omega arith }, (fw.1, tt))) $ returns ! (look_at ! 0 refl) $
-      free_all ! refl $
-      nothing ! $ move ! (1 ∷ 0 ∷ []) $ fjoin ! $ feq_i ! (List Val) (vint w64 0 ∷ []) (vint w64 0 ∷ []) refl $ fjoin ! $ feq_i ! (List Val) (w ∷ []) (w ∷ []) refl $ fjoin ! $
-      fpack ! (Valss (RawPtr ∷ (Heap.the_field).row ∷ [])) (within (shape RawMachine.the_type) (to RawMachine.the_type made) (w ∷ [])) (vint w64 0 ∷ [], (hw ∷ [], tt)) $ nothing ! $ move !
-      (1 ∷ 0 ∷ []) $ fjoin ! $
-      use1 𝓛 (‵ (To.own_val made (w ∷ []))) (id⊢ 𝓤 _) $
-      suffices ! _ (ends_at 𝓛 F.ended stayed (F.clauses 𝓛 at_mem run) z w made (tt, tt) (tt, tt)) $ says ! refl $
-      nothing ! $ nothing ! $ fjoin ! $ join ! $ nothing ! $ join ! $ done !))))
-
 pub none_spec : {M : Type 1} → stated.statement M
-unfolding tables_of
 none_spec 𝓤 𝓛 𝓜 𝓡 wired =
-    let 𝓣 : Tables 𝓤 𝓛.H = tables_of 𝓤 𝓛.H 𝓜 (tables 𝓤 𝓛.H 𝓜 𝓡 𝓡.env) in
-    entered 𝓤 𝓛.H (triple_of 𝓛 F.signature (F.spec 𝓛 𝓜.mem 𝓡.returns)) 𝓣.C 𝓣.Λ #self code.function (code.unfolded 𝓤 𝓛.H 𝓜 𝓡 wired)
-    (walk_Meets 𝓛 F.ended stayed (Goes-dropped 𝓛 0 From yes (λ κs x f. refl), tt) (F.clauses 𝓛 𝓜.mem 𝓡.returns) (WpFn 𝓤 𝓛.H 𝓣.C 𝓣.Λ code.function) (WpFn-mono 𝓤 𝓛.H 𝓛.laws 𝓣 code.function)
-    (walk 𝓛 𝓜.mem 𝓡.returns 𝓣))
+    let From : Slot 0 = plain (λ _. Heap.the_row) in
+    let H = 𝓛.H in let 𝓣 = tables 𝓤 H 𝓜 𝓡 𝓡.env in let c = F.clauses 𝓛 𝓜.mem 𝓡.returns in
+    let hs : Stays (F.ended).signature.params (F.ended).kept = (stay_dropped From yes, tt) in
+    proved_at 𝓛 F.ended hs c 𝓜 𝓡 (Goes-dropped 𝓛 0 From yes (λ κs x f. refl), tt) #self code.function (code.unfolded 𝓤 H 𝓜 𝓡 wired) (λ z are.
+    let Post : Val → SProp 𝓤 = (walk_of 𝓛 F.ended hs c).post z in let Run : List Val → SProp 𝓤 = λ ws. WpFn 𝓤 H 𝓣.C 𝓣.Λ code.function ws Post in
+    let a : Heap.the_row.Denot = z.0.3.0 in
+    let To = type_at (F.signature).result tt in
+    let nobody : State = record { rows = map.empty; pages = 0; next = 0; served = 0 } in
+    let made : To.Denot = record { at = null_ptr; alloc = a; full = false; machine = nobody } in
+    qed 𝓛 ((‵ ftrue ⊛ ‵ (fsep (Heap.the_row.own_val a z.0.4.0) ftrue)) ∷ raw (emp 𝓤) ∷ []) ∵ split ! $ drop ! $ fsplit ! $
+    handle_tells E.al ! a z.0.4.0 (λ w ws fw. keep ! (0 ∷ []) $
+    let made_word : Val = vstruct (vcons (vint w64 0) (vcons w vnil)) in
+    suffices ! (Run (w ∷ [])) (subst (λ (us : List Val). ent 𝓤 (Run (w ∷ [])) (Run us)) (sym (λ i. ws i ++ [])) (id⊢ 𝓤 (Run (w ∷ [])))) $
+    enter ! 𝓣.C 𝓣.Λ code.function (w ∷ []) Post $ alloc_all ! (λ ls. pass_all ! refl (fw, tt) $
+    sets ! (agg ! (and_then ! (lit ! tt) (and_then ! (get ! refl) (no_more !)))) refl (and_tt (has_ty (α E.al) w) fw.0, (record { fits = omega arith }, (fw.1, tt))) $
+    returns ! (look_at ! 0 refl) $ free_all ! refl $
+    nothing ! $ move ! (1 ∷ 0 ∷ []) $ fjoin ! $ feq_i ! (List Val) (vint w64 0 ∷ []) (vint w64 0 ∷ []) refl $ fjoin ! $ feq_i ! (List Val) (made_word ∷ []) (made_word ∷ []) refl $ fjoin ! $
+    fpack ! (Valss (RawPtr ∷ (Heap.the_field).row ∷ [])) (within (shape RawMachine.the_type) (to RawMachine.the_type made) (made_word ∷ [])) (vint w64 0 ∷ [], (w ∷ [], tt)) $
+    nothing ! $ move ! (1 ∷ 0 ∷ []) $ fjoin ! $ use1 𝓛 (‵ (To.own_val made (made_word ∷ []))) (id⊢ 𝓤 _) $
+    suffices ! _ (ends_at 𝓛 F.ended hs c z made_word made (tt, tt) (tt, tt)) $ says ! refl $ nothing ! $ nothing ! $ fjoin ! $ join ! $ nothing ! $ join ! $ done !)))
