@@ -10,7 +10,7 @@ use Rattle.hv_abi.specs.declared.call_kind.TheConstants.{DEPOSIT_MEMORY, WITHDRA
 use Rattle.hv_abi.specs.declared.call_kind.TheConstants.{CREATE_VP, DELETE_VP, GET_VP_REGISTERS}
 use Rattle.hv_abi.specs.declared.call_kind.TheConstants.{SET_VP_REGISTERS, DELETE_PORT, DISCONNECT_PORT}
 use Rattle.hv_abi.specs.declared.call_kind.TheConstants.{POST_MESSAGE, SIGNAL_EVENT, CREATE_PORT}
-use Rattle.hv_abi.specs.declared.call_kind.TheConstants.{CONNECT_PORT}
+use Rattle.hv_abi.specs.declared.call_kind.TheConstants.{CONNECT_PORT, ALL_CALLS}
 use Rattle.hv_abi.specs.declared.call_kind.CallKind.{CallKind}
 use Rattle.hv_abi.specs.declared.call_kind.CallKind.TheVariants.{CreatePartition, InitializePartition}
 use Rattle.hv_abi.specs.declared.call_kind.CallKind.TheVariants.{FinalizePartition, DeletePartition}
@@ -21,7 +21,6 @@ use Rattle.hv_abi.specs.declared.call_kind.CallKind.TheVariants.{GetMemoryBalanc
 use Rattle.hv_abi.specs.declared.call_kind.CallKind.TheVariants.{GetVpRegisters, SetVpRegisters, DeletePort}
 use Rattle.hv_abi.specs.declared.call_kind.CallKind.TheVariants.{DisconnectPort, PostMessage, SignalEvent}
 use Rattle.hv_abi.specs.declared.call_kind.CallKind.TheVariants.{CreatePort, ConnectPort}
-use Rattle.hv_abi.specs.declared.call_kind.TheConstants.{ALL_CALLS}
 
 -- the row of a call in the table
 abbrev pub row_of : CallKind → CallRow

@@ -1,7 +1,7 @@
 -- A number and bytes read from a copy of some bytes.
-use Rattle.std.proofs.Common.{◌≡◌, ℕ, zero, suc, ◌+◌, ◌-◌, ◌<◌, ◌≤◌, List, [], ◌∷◌, ◌++◌, drop, length, take, slice_index, refl, sym, ap, ◌∙◌, arith}
+use Rattle.std.proofs.Common.{◌≡◌, ℕ, zero, suc, ◌+◌, ◌-◌, ◌<◌, ◌≤◌, List, [], ◌∷◌, ◌++◌, drop, length, take, slice_index, refl, sym, ap, ◌∙◌, arith, get_or-drop}
 use Rattle.std.proofs.Math.ListN.{replicate}
-use Rattle.std.proofs.lemmas.List.{get_or-drop, get_or_past, take-replicate}
+use Rattle.std.proofs.lemmas.List.{get_or_past, take-replicate}
 use Rattle.byteorder.specs.Endian.{little_from}
 use Rattle.hv_defs.specs.Field.{field}
 use Rattle.hv_calls.specs.Bytes.{bytes_at}

@@ -5,8 +5,7 @@ use Rattle.hv_abi.specs.declared.call_kind.CallKind.{CallKind}
 use Rattle.hv_abi.specs.declared.call_kind.CallKind.TheVariants as kind
 use Rattle.hv_abi.specs.declared.frame.Frame.{Frame}
 use Rattle.hv_defs.specs.Bits.{bits}
-use Rattle.hv_calls.specs.Call.{call_in}
-use Rattle.hv_calls.specs.Call.{kind_of_call}
+use Rattle.hv_calls.specs.Call.{call_in, kind_of_call}
 use Rattle.hv_calls.specs.Params.{Params, are_parameters_valid, decoded, element_at, parameters}
 use Rattle.hv_calls.specs.declared.call.Call.{Call}
 use Rattle.hv_calls.specs.declared.call.Malformed.{Malformed}

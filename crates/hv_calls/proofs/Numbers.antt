@@ -1,7 +1,6 @@
 -- Fields of the bytes of numbers, and of lists that end.
-use Rattle.std.proofs.Common.{◌≡◌, ℕ, zero, suc, ◌+◌, ◌-◌, ◌*◌, ◌/◌, ◌%◌, ◌^◌, ◌<◌, ◌≤◌, List, [], ◌++◌, length, slice_index, refl, sym, ap, ◌∙◌, arith, add-zero}
+use Rattle.std.proofs.Common.{◌≡◌, ℕ, zero, suc, ◌+◌, ◌-◌, ◌*◌, ◌/◌, ◌%◌, ◌^◌, ◌<◌, ◌≤◌, List, [], ◌++◌, length, slice_index, refl, sym, ap, ◌∙◌, arith, add-zero, pow-add, pow_pos}
 use Rattle.std.proofs.lemmas.List.{get_or_past, get_or-append_right}
-use Rattle.std.proofs.lemmas.Nat.{pow-add, pow_pos}
 use Rattle.std.proofs.Math.Nat.{pow-suc, mod-lt}
 use Rattle.std.proofs.Math.Pow.{pow_mono}
 use Rattle.std.specs.Int.{byte_at, bytes_low_first, to_le_bytes, w64}

@@ -5,8 +5,7 @@ use Rattle.hv_abi.specs.Check.{input_of, is_fast}
 use Rattle.hv_abi.specs.declared.call_kind.CallKind.{CallKind}
 use Rattle.hv_abi.specs.declared.frame.Frame.{Frame}
 use Rattle.hv_defs.specs.Bits.{bits}
-use Rattle.hv_calls.specs.Call.{call_in}
-use Rattle.hv_calls.specs.Call.{are_well_formed}
+use Rattle.hv_calls.specs.Call.{call_in, are_well_formed}
 use Rattle.hv_calls.specs.declared.call.Call.{Call}
 use Rattle.hv_calls.specs.declared.call.Malformed.{Malformed}
 

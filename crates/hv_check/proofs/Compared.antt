@@ -1,12 +1,10 @@
 -- A line beside the policy's.
 use Rattle.std.proofs.Common.{◌≡◌, ℕ, ◌+◌, ◌<◌, ◌≢◌, List, [], ◌∷◌, ◌++◌, refl, sym, ap, ◌∙◌, subst, arith, append_assoc, append-nil, length, length-append, take, drop, get_or, Bool, true, false}
-use Rattle.std.proofs.Common.{Option, None, Some, inl, inr}
-use Rattle.std.specs.Prelude.{◌⊎◌, All, codes, IfNone, IfSome, OnOk, Result, Ok, Err, is_some, nat_eq}
+use Rattle.std.proofs.Common.{Option, None, Some, inl, inr, ◌⊎◌, All, codes, IfNone, IfSome, OnOk, Result, Ok, Err, is_some, nat_eq, Global}
 use Rattle.std.specs.Cmp.Lexicographic.{bytes_decides, pointwise}
 use Rattle.std.proofs.lemmas.Bool.{false≢true}
 use Rattle.std.proofs.lemmas.List.{append_cancel_left}
 use Rattle.std.proofs.lemmas.List.Elements.{All-head}
-use Rattle.std.specs.declared.alloc.Global.{Global}
 use Rattle.hv_history.specs.declared.entry.Entry.{Entry}
 use Rattle.hv_policy.specs.Parts.{reply_of}
 use Rattle.hv_policy.specs.Rule.{rule_name}

@@ -1,6 +1,5 @@
 -- From a script's lines to its text.
-use Rattle.std.proofs.Common.{◌≡◌, ℕ, List, refl, sym, ap, ◌∙◌, subst, Bool, Ok, Err, None, Some, Option}
-use Rattle.std.specs.declared.alloc.Global.{Global}
+use Rattle.std.proofs.Common.{◌≡◌, ℕ, List, refl, sym, ap, ◌∙◌, subst, Bool, Ok, Err, None, Some, Option, Global}
 use Rattle.hv_history.specs.Kept.{IsRun, Kept}
 use Rattle.hv_policy.specs.BootFault.{IsBootRefusal, boot_fault}
 use Rattle.hv_policy.specs.declared.config.BootRefused.{BootRefused}

@@ -1,6 +1,5 @@
 -- The last entry of a history.
-use Rattle.std.proofs.Common.{◌≡◌, ℕ, ◌+◌, ◌-◌, List, [], ◌∷◌, ◌++◌, refl, sym, ap, ◌∙◌, subst, arith, length, length-append, Some, None}
-use Rattle.std.specs.Prelude.{slice_get}
+use Rattle.std.proofs.Common.{◌≡◌, ℕ, ◌+◌, ◌-◌, List, [], ◌∷◌, ◌++◌, refl, sym, ap, ◌∙◌, subst, arith, length, length-append, Some, None, slice_get}
 
 module _ {X : Type 0} where
   behind : (before : List X) (last : X) → slice_get (before ++ last ∷ []) (length before) ≡ Some last

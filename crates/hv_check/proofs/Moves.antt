@@ -1,9 +1,8 @@
 -- What is left behind a line.
-use Rattle.std.proofs.Common.{◌≡◌, ℕ, ◌+◌, ◌<◌, ◌≤◌, ◌≢◌, ◌^◌, List, [], ◌∷◌, ◌++◌, refl, sym, ap, ◌∙◌, subst, arith, append_assoc, length, length-append, Bool, true, false, inl, inr}
-use Rattle.std.specs.Prelude.{◌⊎◌, All, map}
+use Rattle.std.proofs.Common.{◌≡◌, ℕ, ◌+◌, ◌<◌, ◌≤◌, ◌≢◌, ◌^◌, List, [], ◌∷◌, ◌++◌, refl, sym, ap, ◌∙◌, subst, arith, append_assoc, length, length-append, Bool, true, false, inl, inr, ◌⊎◌, All, map}
+use Rattle.std.proofs.Common.{Global}
 use Rattle.std.proofs.lemmas.Bool.{false≢true}
 use Rattle.std.proofs.lemmas.List.Elements.{All-append, All-cons, All-head, All-nil, All-tail, All-weaker}
-use Rattle.std.specs.declared.alloc.Global.{Global}
 use Rattle.hv_abi.specs.declared.frame.Frame.{Frame}
 use Rattle.hv_history.specs.Kept.{HasGained, IsRun, Kept}
 use Rattle.hv_history.specs.Run.{restart, start_of}

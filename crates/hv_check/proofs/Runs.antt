@@ -1,6 +1,5 @@
 -- What a run fixes: the replies, and how a call continues.
-use Rattle.std.proofs.Common.{◌≡◌, ℕ, ◌+◌, ◌<◌, List, [], ◌∷◌, ◌++◌, refl, sym, ap, ◌∙◌, subst, arith}
-use Rattle.std.specs.declared.alloc.Global.{Global}
+use Rattle.std.proofs.Common.{◌≡◌, ℕ, ◌+◌, ◌<◌, List, [], ◌∷◌, ◌++◌, refl, sym, ap, ◌∙◌, subst, arith, Global}
 use Rattle.hv_abi.specs.declared.frame.Frame.{Frame}
 use Rattle.hv_history.specs.Kept.{IsRun, Kept}
 use Rattle.hv_history.specs.Row.{events_of, replies_of}

@@ -1,6 +1,5 @@
 -- An audit is legal where all of it is legal from the script's boot on.
-use Rattle.std.proofs.Common.{◌≡◌, ℕ, ◌+◌, List, [], ◌∷◌, ◌++◌, refl, sym, ap, ◌∙◌, subst, arith, length, zero-add, Bool, true, false}
-use Rattle.std.specs.declared.alloc.Global.{Global}
+use Rattle.std.proofs.Common.{◌≡◌, ℕ, ◌+◌, List, [], ◌∷◌, ◌++◌, refl, sym, ap, ◌∙◌, subst, arith, length, zero-add, Bool, true, false, Global}
 use Rattle.hv_history.specs.Kept.{IsRun, Kept}
 use Rattle.hv_history.specs.declared.entry.Entry.{Entry}
 use Rattle.hv_script.specs.Script.{Said}

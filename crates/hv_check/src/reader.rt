@@ -1,6 +1,6 @@
 // Reading the processor that a line of an audit names.
 ghost use Rattle.std.specs.Prelude.{◌≡◌, ◌<◌, ◌^◌, ℕ, ◌==◌, ◌++◌, ◌∷◌, IfNone, IfSome, Some, decimal};
-ghost use Rattle.std.specs.Option.{SomeIff};
+ghost use Rattle.std.specs.Prelude.{SomeIff};
 ghost use Rattle.std.specs.Str.Parse.{IsNumeral, digits_value};
 ghost use Rattle.hv_policy.specs.declared.event.Caller.{Caller as CallerValue};
 ghost use Rattle.hv_check.specs.From.{IsNamedIn};

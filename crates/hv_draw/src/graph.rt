@@ -3,8 +3,8 @@ ghost use Rattle.std.specs.Prelude.{◌≡◌, ◌++◌, IsSome, OnOk, Some};
 ghost use Rattle.std.specs.FinMap as map;
 ghost use Rattle.hv_partition.specs.Partition.{PartitionState};
 ghost use Rattle.hv_tree.specs.Rows.{Row};
-ghost use Rattle.hv_draw.specs.Graph.{HasBlock, HasBlocks, edge_text, name_text, opening_text};
-ghost use Rattle.hv_draw.specs.Graph.{pages_text, rank_text, use_text};
+ghost use Rattle.hv_draw.specs.Graph.{HasBlock, HasBlocks, edge_text, name_text, opening_text, pages_text};
+ghost use Rattle.hv_draw.specs.Graph.{rank_text, use_text};
 ghost use Rattle.hv_text.specs.Table.{life_text};
 
 use crate::inside::push_inside;

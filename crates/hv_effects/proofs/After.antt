@@ -20,7 +20,7 @@ use Rattle.hv_policy.specs.Effect.{action_effect, call_effect, counted, effect, 
 use Rattle.hv_policy.specs.Flat.{Flat}
 use Rattle.hv_policy.specs.Needs.{target_of}
 use Rattle.hv_policy.specs.Rules.{IsAllowed, caller_asks, first_unmet, hypercall_asks, unmet}
-use Rattle.hv_policy.specs.Step.{refusal, step, step_by}
+use Rattle.hv_policy.specs.Step.{refusal, step, step_by, denied_with}
 use Rattle.hv_policy.specs.declared.event.Action.{Action}
 use Rattle.hv_policy.specs.declared.event.Action.TheVariants.{Hypercall, ReadMsr, WriteMsr, ReadSlot, ClearSlot, ReadFlags, ClearFlag, TakeInterrupt}
 use Rattle.hv_policy.specs.declared.event.Caller.{Caller}
@@ -31,7 +31,6 @@ use Rattle.hv_policy.specs.declared.rule.Rule.{Rule}
 use Rattle.hv_policy.specs.declared.rule.Rule.TheVariants.{CallCode}
 use Rattle.hv_abi.specs.declared.status.Status.{Status}
 use Rattle.hv_policy.specs.Rule.{rule_status}
-use Rattle.hv_policy.specs.Step.{denied_with}
 use Rattle.hv_refine.proofs.Room.{tied_roomless}
 use Rattle.hv_refine.specs.Room.{roomless}
 use Rattle.hv_refine.specs.Served.{TreeInvariant}

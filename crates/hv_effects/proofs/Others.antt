@@ -1,11 +1,10 @@
 -- What calls tell that move pages, or make or end processors.
-use Rattle.std.proofs.Common.{◌≡◌, ℕ, ◌==◌, ◌&&◌, not, Bool, true, false, cond, List, [], ◌∷◌, map, Option, Some, None, refl, sym, ap, ◌∙◌}
-use Rattle.std.proofs.lemmas.Bool.{and_from, eq-eqb, eqb-true}
+use Rattle.std.proofs.Common.{◌≡◌, ℕ, ◌==◌, ◌&&◌, not, Bool, true, false, cond, List, [], ◌∷◌, map, Option, Some, None, refl, sym, ap, ◌∙◌, eq-eqb, eqb-true, option_map, nat_cmp}
+use Rattle.std.proofs.lemmas.Bool.{and_from}
 use Rattle.std.specs.Cmp.{unsigned_tied}
 use Rattle.std.specs.FinMap.{FinMap, entries, from_entries, get, get-insert, get-remove, insert, remove}
 use Rattle.std.specs.FinSet as set
-use Rattle.std.specs.Option.{option_map}
-use Rattle.std.specs.Ordering.{eq_by_cmp, nat_cmp}
+use Rattle.std.specs.Ordering.{eq_by_cmp}
 use Rattle.hv_integrity.specs.Same.{has_flag, has_vector, place}
 use Rattle.hv_defs.proofs.Maps.{get-mapped, get_at-insert}
 use Rattle.hv_defs.specs.Flags.{pair_cmp}

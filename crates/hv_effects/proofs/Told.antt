@@ -1,14 +1,13 @@
 -- Bits of flags and of SINTs, and what is read of a processor that a flat state has.
 use Rattle.std.proofs.Common.{◌≡◌, ℕ, zero, suc, ◌+◌, ◌*◌, ◌/◌, ◌%◌, ◌^◌, ◌<◌, ◌≤◌, ◌==◌, ◌&&◌, ◌||◌, nat_eq, nat_lt, is_some, Bool, true, false, cond, List, [], ◌∷◌, find, map, Option, Some, None}
-use Rattle.std.proofs.Common.{bit_and, get_or, refl, sym, ap, subst, ◌∙◌, arith}
-use Rattle.std.proofs.lemmas.Bool.{and_from, eq-eqb, le-ltb}
+use Rattle.std.proofs.Common.{bit_and, get_or, refl, sym, ap, subst, ◌∙◌, arith, eq-eqb, le-ltb, option_and_then, option_map}
+use Rattle.std.proofs.lemmas.Bool.{and_from}
 use Rattle.std.proofs.lemmas.List.FromFn.{get_or-map-range_with_len}
 use Rattle.std.proofs.lemmas.Nat.Bits.{bit_at_above, shr_and_one}
 use Rattle.std.specs.FinMap.{get}
 use Rattle.std.specs.FinSet as set
 use Rattle.std.specs.Int.{bit_at}
 use Rattle.std.specs.List.{AllByRecursion, list_any, range_with_len}
-use Rattle.std.specs.Option.{option_and_then, option_map}
 use Rattle.hv_integrity.specs.Same.{place}
 use Rattle.hv_defs.specs.Flags.{FlagSet, flag_bytes, number_where}
 use Rattle.hv_mail.specs.Mail.{SintMail, at}

@@ -1,7 +1,7 @@
 -- Reading a processor of the tree, and when it is the flat state's.
-use Rattle.std.specs.Prelude.{◌≡◌, ℕ, ◌%◌, ◌^◌, ◌<◌, is_some, Bool, true, Option, None, Some}
+use Rattle.std.specs.Prelude.{◌≡◌, ℕ, ◌%◌, ◌^◌, ◌<◌, is_some, Bool, true, Option, None, Some, option_and_then}
+use Rattle.std.specs.Prelude.{option_map}
 use Rattle.std.specs.FinMap.{get}
-use Rattle.std.specs.Option.{option_and_then, option_map}
 use Rattle.hv_calls.specs.Fields.{is_message_type}
 use Rattle.hv_integrity.specs.Same.{place}
 use Rattle.hv_defs.specs.declared.sizes.TheConstants.{SINTS}

@@ -1,9 +1,8 @@
 -- What a look at a partition shows, in a state that a machine stands for.
-use Rattle.std.proofs.Common.{◌≡◌, ℕ, length, Bool, true, false, Option, Some, None, is_some, refl, sym, ap, ◌∙◌}
+use Rattle.std.proofs.Common.{◌≡◌, ℕ, length, Bool, true, false, Option, Some, None, is_some, refl, sym, ap, ◌∙◌, option_map, option_and_then}
 use Rattle.std.specs.FinMap.{contains_key, get}
 use Rattle.std.specs.FinMap as map
 use Rattle.std.specs.FinSet as set
-use Rattle.std.specs.Option.{option_map, option_and_then}
 use Rattle.hv_partition_calls.proofs.Depths.{has_depth}
 use Rattle.hv_partition_calls.proofs.Listed.{next_is, id_or_0}
 use Rattle.hv_partition.specs.Partition.{PartitionState, in_use}

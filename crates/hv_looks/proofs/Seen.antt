@@ -1,8 +1,6 @@
 -- What a look at a processor shows, in a state that a machine stands for.
-use Rattle.std.proofs.Common.{◌≡◌, ℕ, ◌<◌, ◌≤◌, nat_lt, Bool, true, false, cond, Option, Some, None, is_some, refl, sym, ap, subst, ◌∙◌}
-use Rattle.std.proofs.lemmas.Bool.{le-ltb, lt-ltb}
+use Rattle.std.proofs.Common.{◌≡◌, ℕ, ◌<◌, ◌≤◌, nat_lt, Bool, true, false, cond, Option, Some, None, is_some, refl, sym, ap, subst, ◌∙◌, le-ltb, lt-ltb, option_map, option_and_then}
 use Rattle.std.specs.FinMap.{contains_key, get}
-use Rattle.std.specs.Option.{option_map, option_and_then}
 use Rattle.hv_defs.specs.Flags.{flag_bytes}
 use Rattle.hv_defs.specs.Registers.{name_of_msr}
 use Rattle.hv_defs.specs.declared.sizes.TheConstants.{SINTS}

@@ -1,7 +1,6 @@
 -- A look shows what the access would return, where that would be served.
-use Rattle.std.proofs.Common.{◌≡◌, ℕ, nat_lt, Bool, true, false, cond, List, [], ◌∷◌, Option, Some, None, is_some, IsSomeAnd, refl, sym, ap, ◌∙◌}
+use Rattle.std.proofs.Common.{◌≡◌, ℕ, nat_lt, Bool, true, false, cond, List, [], ◌∷◌, Option, Some, None, is_some, IsSomeAnd, refl, sym, ap, ◌∙◌, option_map, option_and_then}
 use Rattle.std.specs.Int.{w64, to_le_bytes}
-use Rattle.std.specs.Option.{option_map, option_and_then}
 use Rattle.hv_defs.specs.Flags.{flag_bytes}
 use Rattle.hv_defs.specs.Registers.{name_of_msr}
 use Rattle.hv_defs.specs.declared.sizes.TheConstants.{SINTS}

@@ -1,8 +1,8 @@
 -- What looks show of a flat state. A look is not an event: it needs no privilege, and changes nothing.
 use Rattle.std.specs.Prelude.{◌≡◌, ℕ, ◌^◌, ◌/◌, ◌%◌, nat_lt, if◌then◌else◌, List, [], ◌∷◌, Option, None, Some}
-use Rattle.std.specs.Prelude.{IsSomeAnd, option_and_then}
+use Rattle.std.specs.Prelude.{IsSomeAnd, option_and_then, option_map}
 use Rattle.std.specs.FinMap.{get}
-use Rattle.std.specs.Option.{option_map, option_map_or}
+use Rattle.std.specs.Option.{option_map_or}
 use Rattle.hv_defs.specs.Flags.{flag_bytes}
 use Rattle.hv_defs.specs.Registers.{name_of_msr}
 use Rattle.hv_defs.specs.Vectors.{VectorSet, highest}

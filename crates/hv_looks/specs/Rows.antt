@@ -1,8 +1,7 @@
 -- The rows of the tree that the functions here read.
-use Rattle.std.specs.Prelude.{ℕ, ◌||◌, Bool, false, Option, None, Some}
+use Rattle.std.specs.Prelude.{ℕ, ◌||◌, Bool, false, Option, None, Some, option_map}
 use Rattle.std.specs.FinMap.{get}
 use Rattle.std.specs.FinSet as set
-use Rattle.std.specs.Option.{option_map}
 use Rattle.hv_partition.specs.Partition.{PartitionState}
 use Rattle.hv_policy.specs.declared.event.Caller.{Caller}
 use Rattle.hv_tree.specs.Rows.{Rows, content}

@@ -1,7 +1,6 @@
 // Looks at the ports and connections of a partition.
-ghost use Rattle.std.specs.Prelude.{◌≡◌};
+ghost use Rattle.std.specs.Prelude.{◌≡◌, option_map};
 ghost use Rattle.std.specs.FinMap.{get};
-ghost use Rattle.std.specs.Option.{option_map};
 ghost use Rattle.hv_machine.specs.IsFlat.{IsFlat};
 ghost use Rattle.hv_policy.specs.Flat.{Flat};
 ghost use Rattle.hv_refine.specs.Tie.{conn_row_of, port_row_of};

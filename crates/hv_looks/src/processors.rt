@@ -1,7 +1,6 @@
 // Looks at a processor.
-ghost use Rattle.std.specs.Prelude.{◌≡◌};
+ghost use Rattle.std.specs.Prelude.{◌≡◌, option_map};
 ghost use Rattle.std.specs.Int.{w64, to_le_bytes};
-ghost use Rattle.std.specs.Option.{option_map};
 ghost use Rattle.hv_machine.specs.Access.{access_event};
 ghost use Rattle.hv_machine.specs.IsFlat.{IsFlat};
 ghost use Rattle.hv_mail.specs.Words.{numbers_of};

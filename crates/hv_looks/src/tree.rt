@@ -1,7 +1,6 @@
 // The partitions of a machine, and the processors among them.
-ghost use Rattle.std.specs.Prelude.{◌≡◌, ◌<◌, ℕ, true};
+ghost use Rattle.std.specs.Prelude.{◌≡◌, ◌<◌, ℕ, true, option_copied};
 ghost use Rattle.std.specs.FinMap.{contains_key};
-ghost use Rattle.std.specs.Option.{option_copied};
 ghost use Rattle.hv_machine.specs.IsFlat.{IsFlat};
 ghost use Rattle.hv_policy.specs.Flat.{Flat};
 ghost use Rattle.hv_refine.specs.Served.{TreeInvariant};

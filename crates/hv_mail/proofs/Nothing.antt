@@ -1,7 +1,6 @@
 -- A SINT at which nothing stands.
-use Rattle.std.proofs.Common.{◌≡◌, ℕ, suc, Bool, true, false, cond, ◌==◌, List, [], ◌∷◌, Option, Some, None, refl, sym, ap, ◌∙◌}
+use Rattle.std.proofs.Common.{◌≡◌, ℕ, suc, Bool, true, false, cond, ◌==◌, List, [], ◌∷◌, Option, Some, None, refl, sym, ap, ◌∙◌, nat_cmp}
 use Rattle.std.specs.FinMap.{get, get-empty}
-use Rattle.std.specs.Ordering.{nat_cmp}
 use Rattle.hv_mail.proofs.Queues.{same_absent}
 use Rattle.hv_mail.proofs.Rows.{get-with_at, row_of}
 use Rattle.hv_mail.specs.Mail.{Mail, SintMail, no_mail, mail_or_none, at, with_at, with_next}

@@ -1,7 +1,6 @@
 -- How many queues a mailbox with room has.
-use Rattle.std.proofs.Common.{◌≡◌, ℕ, ◌==◌, ◌<◌, true, ◌||◌, not, List, length, None, ◌≤◌, inl, inr, ◌⊎◌, ap, ◌∙◌, arith}
-use Rattle.std.proofs.lemmas.Bool.{eqb-true, or_cases, and_parts, and_from}
-use Rattle.std.proofs.lemmas.List.{length-set}
+use Rattle.std.proofs.Common.{◌≡◌, ℕ, ◌==◌, ◌<◌, true, ◌||◌, not, List, length, None, ◌≤◌, inl, inr, ◌⊎◌, ap, ◌∙◌, arith, eqb-true, length-set}
+use Rattle.std.proofs.lemmas.Bool.{or_cases, and_parts, and_from}
 use Rattle.std.proofs.Math.ListN.{get_or, set}
 use Rattle.std.specs.List.{list_all}
 use Rattle.std.specs.FinMap.{get}

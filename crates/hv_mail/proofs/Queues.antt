@@ -1,10 +1,9 @@
 -- The mail of a list of queues.
-use Rattle.std.proofs.Common.{◌≡◌, ℕ, zero, suc, ◌+◌, ◌<◌, true, cond, ◌&&◌, List, [], ◌∷◌, ◌++◌, length, take, None, refl, sym, ap, ◌∙◌, arith, add-zero, zero-add}
-use Rattle.std.proofs.lemmas.Bool.{ne_eqb, eq-eqb, and_parts, and_from}
+use Rattle.std.proofs.Common.{◌≡◌, ℕ, zero, suc, ◌+◌, ◌<◌, true, cond, ◌&&◌, List, [], ◌∷◌, ◌++◌, length, take, None, refl, sym, ap, ◌∙◌, arith, add-zero, zero-add, ne_eqb, eq-eqb, nat_cmp}
+use Rattle.std.proofs.lemmas.Bool.{and_parts, and_from}
 use Rattle.std.proofs.Math.ListN.{get_or, set}
 use Rattle.std.specs.FinMap.{get, empty, get-empty}
 use Rattle.std.specs.List.{list_all}
-use Rattle.std.specs.Ordering.{nat_cmp}
 use Rattle.hv_mail.proofs.Rows.{get-with_at, at-with_at, row_of, with_at-again, with_at-swap, with_at-same}
 use Rattle.hv_mail.specs.Mail.{Mail, SintMail, no_mail, mail_or_none, at, with_at}
 use Rattle.hv_mail.specs.Queue.{QueueState, mail_from}

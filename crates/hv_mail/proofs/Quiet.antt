@@ -1,8 +1,8 @@
 -- At which SINTs nothing stands, once one of them was written.
-use Rattle.std.proofs.Common.{◌≡◌, ℕ, ◌-◌, ◌*◌, ◌%◌, ◌^◌, ◌<◌, false, cond, List, [], ◌∷◌, None, refl, arith, inl, inr, sym, ap, ◌∙◌}
+use Rattle.std.proofs.Common.{◌≡◌, ℕ, ◌-◌, ◌*◌, ◌%◌, ◌^◌, ◌<◌, false, cond, List, [], ◌∷◌, None, refl, arith, inl, inr, sym, ap, ◌∙◌, ne_eqb, eq-eqb}
 use Rattle.std.specs.Int.{bit_at, w16}
 use Rattle.std.specs.Int.RustNames.{bit_and, bit_or}
-use Rattle.std.proofs.lemmas.Bool.{false≢true, cases_eq, ne_eqb, eq-eqb}
+use Rattle.std.proofs.lemmas.Bool.{false≢true, cases_eq}
 use Rattle.std.proofs.lemmas.Nat.Bits.{bit_at_set_same, bit_at_set_other, bit_at_clear_other}
 use Rattle.hv_mail.proofs.Rows.{at-with_at}
 use Rattle.hv_mail.specs.Mail.{Mail, SintMail, no_mail, at, with_at, cleared}

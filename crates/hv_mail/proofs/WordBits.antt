@@ -1,12 +1,13 @@
 -- One bit of words that is set or cleared.
 use Rattle.std.proofs.Common.{◌≡◌, ℕ, suc, ◌+◌, ◌-◌, ◌*◌, ◌/◌, ◌%◌, ◌^◌, ◌<◌, ◌≤◌, true, false, not, ◌||◌, ◌&&◌, ◌==◌, List, length, get_or, set as list_set, arith, inl, inr, sym, refl, ap, ◌∙◌}
+use Rattle.std.proofs.Common.{ne_eqb, eq-eqb, get_or-set_same, get_or-set_other, pow_pos}
 use Rattle.std.specs.Int.{bit_at, leading_zeros, w64}
 use lib.Count.{count_leading_zeros}
 use native.Mathlib.Numerals.{unary_clauses}
 use Rattle.std.specs.Int.RustNames.{bit_and, bit_or}
-use Rattle.std.proofs.lemmas.Bool.{cases_eq, cases_lt, ne_eqb, eq-eqb}
-use Rattle.std.proofs.lemmas.List.{get_or-set_same, get_or-set_other, get_or_past}
-use Rattle.std.proofs.lemmas.Nat.{one_shl, pow_pos, leading_top, le-div, div_below}
+use Rattle.std.proofs.lemmas.Bool.{cases_eq, cases_lt}
+use Rattle.std.proofs.lemmas.List.{get_or_past}
+use Rattle.std.proofs.lemmas.Nat.{one_shl, leading_top, le-div, div_below}
 use Rattle.std.proofs.lemmas.Nat.Bits.{and_pow, bit_at-lt, bit_at-zero, bit_at_above, bit_at_set_same, bit_at_set_other, bit_at_clear_same, bit_at_clear_other}
 use Rattle.hv_mail.specs.Words.{has_bit}
 

@@ -1,6 +1,5 @@
 -- What the clauses of clap give the program's command line.
-use Rattle.std.proofs.Common.{◌≡◌, ◌∙◌, true, List, refl, ap, subst}
-use Rattle.std.specs.Prelude.{Result}
+use Rattle.std.proofs.Common.{◌≡◌, ◌∙◌, true, List, refl, ap, subst, Result}
 use Rattle.clap.specs.Words.{App, FailsBy, HasMatchesOf, Text, fault_of, is_simple, is_simple_and_free, subcommand_of, subcommand_rows_of}
 use Rattle.clap.proofs.OnLiterals.{clap_on_literals}
 use Rattle.clap.specs.declared.parser.matches.ArgMatches.{ArgMatches}

@@ -1,7 +1,6 @@
 -- What the clauses of clap give the program.
-use Rattle.std.proofs.Common.{◌≡◌, ◌≢◌, ◌∙◌, Bool, true, false, List, [], ◌∷◌, Option, Some, None, refl, sym, ap, subst, codes, inl, inr, rules}
+use Rattle.std.proofs.Common.{◌≡◌, ◌≢◌, ◌∙◌, Bool, true, false, List, [], ◌∷◌, Option, Some, None, refl, sym, ap, subst, codes, inl, inr, rules, option_and_then, option_map, Result}
 use Rattle.std.proofs.Math.Bool.{or-true, and-false}
-use Rattle.std.specs.Prelude.{option_and_then, option_map, Result}
 use Rattle.clap.specs.Words.{App, HasKind, IsAmong, Kinds, HasMatchesOf, FailsBy, Row, Text, fault_of, first_of, first_value, is_simple, is_simple_and_free, kind_of, rows_of, subcommand_of}
 use Rattle.clap.specs.Words.{subcommand_rows_of}
 use Rattle.clap.proofs.OnLiterals.{clap_on_literals}

@@ -1,11 +1,9 @@
 -- Lists of blocks: their runs and their weight, where one block is changed, halved or taken out.
 use Rattle.std.proofs.Common.{◌≡◌, ℕ, zero, suc, ◌+◌, ◌-◌, ◌*◌, ◌<◌, ◌≤◌, List, [], ◌∷◌, ◌++◌, length, get_or, set as list_set, take, drop, arith, refl, ap, sym, subst, ◌∙◌, append_assoc, drop-cons}
-use Rattle.std.proofs.Common.{length-append, length-drop}
-use Rattle.std.specs.Prelude.{All}
-use Rattle.std.specs.List.{insert as list_insert, remove as list_remove}
+use Rattle.std.proofs.Common.{length-append, length-drop, All, insert as list_insert, remove as list_remove, drop-set-lt, append-nil, take-append-drop, length-take-le, get_or-append-add}
 use Rattle.std.proofs.Math.Seq.{take-append_seam, get_or-append_seam, take-append-add}
 use Rattle.std.proofs.lemmas.Grind.{flat_map-append}
-use Rattle.std.proofs.lemmas.List.{take_more_set, drop-set-lt, append-nil, take-append-drop, set_split, length-take-le, get_or-append-add}
+use Rattle.std.proofs.lemmas.List.{take_more_set, set_split}
 use Rattle.std.proofs.lemmas.List.Edits.{length-insert, length-remove, insert-append_left, insert-append_right, remove-append_left, remove-append_right}
 use Rattle.std.proofs.lemmas.List.Elements.{All-append, All-cons, All-set, All-take, All-drop}
 use Rattle.std.proofs.lemmas.List.Sums.{sum_by-cons, sum_by-append}

@@ -1,16 +1,13 @@
 // Runs of pages in blocks. Inserting or removing a run moves the runs of one block. A block that fills up
 // becomes two, and two neighbors that fit in half a block become one.
-ghost use Rattle.std.specs.Prelude.{◌≡◌, ℕ, ◌+◌, ◌-◌, ◌*◌, ◌^◌, ◌<◌, ◌≤◌, ◌++◌, ◌∷◌, [], ◌↔◌};
-ghost use Rattle.std.specs.Prelude.{length, take, drop, All, vec_len, slice_index_or, slice_set};
-ghost use Rattle.std.specs.Prelude.{IsOk, OnOk, OnErr, IsNone, IfNone, IfSome};
-ghost use Rattle.std.specs.List.{insert, remove};
-ghost use Rattle.std.specs.Vec.{vec_capacity};
+ghost use Rattle.std.specs.Prelude.{◌≡◌, ℕ, ◌+◌, ◌-◌, ◌*◌, ◌^◌, ◌<◌, ◌≤◌, ◌++◌, ◌∷◌, [], ◌↔◌, length, take};
+ghost use Rattle.std.specs.Prelude.{drop, All, vec_len, slice_index_or, slice_set, IsOk, OnOk, OnErr, IsNone};
+ghost use Rattle.std.specs.Prelude.{IfNone, IfSome, insert, remove, vec_capacity};
 ghost use Rattle.arrayvec.specs.ArrayVec.{ArrayVec as Items};
 ghost use Rattle.hv_pages.specs.declared.runs.Run.{Run as ARun};
 ghost use Rattle.hv_pages.specs.declared.blocks.Place.{Place as APlace};
-ghost use Rattle.hv_pages.specs.Blocks.{Block as ABlock, flat, lowest_of};
-ghost use Rattle.hv_pages.specs.Blocks.{AreBlocks, HasPlace, HasRun, HaveRoom, IsLoose, index_of, run_at};
-ghost use Rattle.hv_pages.specs.Blocks.{runs_above, runs_from, runs_in};
+ghost use Rattle.hv_pages.specs.Blocks.{Block as ABlock, flat, lowest_of, AreBlocks, HasPlace, HasRun};
+ghost use Rattle.hv_pages.specs.Blocks.{HaveRoom, IsLoose, index_of, run_at, runs_above, runs_from, runs_in};
 ghost use Rattle.hv_pages.specs.Runs.{AreRuns};
 
 use crate::runs::Run;

@@ -1,7 +1,6 @@
 // A partition's ports and connections.
-ghost use Rattle.std.specs.Prelude.{◌≡◌, ◌+◌, ◌≤◌, false, IsOk, OnOk, OnErr};
+ghost use Rattle.std.specs.Prelude.{◌≡◌, ◌+◌, ◌≤◌, false, IsOk, OnOk, OnErr, slice_get};
 ghost use Rattle.std.specs.FinMap as map;
-ghost use Rattle.std.specs.List.{slice_get};
 
 use crate::Partition;
 use hv_ports::{Conn, Port};

@@ -1,13 +1,13 @@
 // The partition, seen as the record of its parts.
-ghost use Rattle.std.specs.Prelude.{◌≡◌, ℕ, ◌+◌, ◌^◌, ◌<◌, ◌≤◌, ◌↔◌, ◌||◌, ◌&&◌, nat_le, nat_lt, false};
-ghost use Rattle.std.specs.Prelude.{IsOk, IsNone, IfOk, IfSome, IfNone, OnOk, OnErr, option_copied};
+ghost use Rattle.std.specs.Prelude.{◌≡◌, ℕ, ◌+◌, ◌^◌, ◌<◌, ◌≤◌, ◌↔◌, ◌||◌, ◌&&◌, nat_le, nat_lt, false, IsOk};
+ghost use Rattle.std.specs.Prelude.{IsNone, IfOk, IfSome, IfNone, OnOk, OnErr, option_copied};
 ghost use Rattle.std.specs.Borrow.{LendsIf, sem};
 ghost use Rattle.std.specs.FinMap as map;
 ghost use Rattle.std.specs.FinSet as set;
 ghost use Rattle.std.specs.Option.{option_copied_mut};
 ghost use Rattle.hv_pages.specs.PageSet.{IsDisjoint, IsLowest, runs_of};
-ghost use Rattle.hv_partition.specs.Partition.{new_partition, in_use, available, finalized};
-ghost use Rattle.hv_partition.specs.Partition.{pages_in, with_pages, with_vp_of};
+ghost use Rattle.hv_partition.specs.Partition.{new_partition, in_use, available, finalized, pages_in};
+ghost use Rattle.hv_partition.specs.Partition.{with_pages, with_vp_of};
 ghost use Rattle.hv_partition.specs.contracts.partition.Partition.{the_row};
 ghost use Rattle.hv_vp.specs.Vps.{is_ready, kept_by_all, lowest};
 ghost use Rattle.hv_vp.specs.contracts.vp.Vp.{the_row as vp_row};

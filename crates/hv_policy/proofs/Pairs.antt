@@ -1,6 +1,6 @@
 -- The order of pairs, counts over keys that are pairs, and the rows of one partition alone.
-use Rattle.std.proofs.Common.{◌≡◌, ℕ, ◌==◌, Bool, true, false, cond, ◌&&◌, ◌||◌, List, [], ◌∷◌, map, Some, T, find, refl, sym, ap, subst, ◌∙◌}
-use Rattle.std.proofs.lemmas.Bool.{eq-eqb, eqb-true}
+use Rattle.std.proofs.Common.{◌≡◌, ℕ, ◌==◌, Bool, true, false, cond, ◌&&◌, ◌||◌, List, [], ◌∷◌, map, Some, T, find, refl, sym, ap, subst, ◌∙◌, eq-eqb, eqb-true, option_map, filter, count_by, nat_cmp}
+use Rattle.std.proofs.Common.{is_eq, is_lt}
 use Rattle.std.proofs.lemmas.List.{length-map}
 use Rattle.std.proofs.lemmas.List.Sums.{length-filter}
 use Rattle.std.proofs.lemmas.Map.Made.{IsDistinct-keys_filter}
@@ -8,11 +8,10 @@ use Rattle.std.specs.Cmp.{IsTotalOrder, nat_cmp_total, on_total, then_total, tie
 use Rattle.std.specs.FinMap as finmap
 use Rattle.std.specs.FinMap.{FinMap, get, entries, entries_sorted, get-entries, is_sorted, IsAntisymmetric, nat_cmp-IsAntisymmetric}
 use Rattle.std.specs.FinMap.Entries.{below_all, same_entries}
-use Rattle.std.specs.Option.{option_map}
 use Rattle.std.specs.FinSet.{FinSet, contains, from_list, len, contains-from_list, same_set}
-use Rattle.std.specs.List.{AllByRecursion, IsDistinct, filter, list_any, count_by}
+use Rattle.std.specs.List.{AllByRecursion, IsDistinct, list_any}
 use Rattle.std.specs.Map.{keys_of}
-use Rattle.std.specs.Ordering.{nat_cmp, eq_by_cmp, is_eq, is_lt, ordering_then}
+use Rattle.std.specs.Ordering.{eq_by_cmp, ordering_then}
 use Rattle.std.proofs.lemmas.Map.Lookups.{exact_pairs}
 use Rattle.hv_defs.proofs.Counts.{both_parts, passes, distinct_keys, passing_keys, len-from_list}
 use Rattle.hv_defs.specs.Flags.{pair_cmp}

@@ -1,8 +1,8 @@
 -- What each change of the one list does at each place, by that place's messages alone.
-use Rattle.std.proofs.Common.{◌≡◌, ℕ, ◌==◌, Bool, true, false, cond, not, ◌&&◌, List, [], ◌∷◌, ◌++◌, refl, sym, ap, ◌∙◌, append-nil}
-use Rattle.std.proofs.lemmas.Bool.{eqb-true, eq-eqb, and_parts, and_from}
+use Rattle.std.proofs.Common.{◌≡◌, ℕ, ◌==◌, Bool, true, false, cond, not, ◌&&◌, List, [], ◌∷◌, ◌++◌, refl, sym, ap, ◌∙◌, append-nil, eqb-true, eq-eqb, filter}
+use Rattle.std.proofs.lemmas.Bool.{and_parts, and_from}
 use Rattle.std.proofs.lemmas.List.Elements.{filter-append}
-use Rattle.std.specs.List.{filter, list_any}
+use Rattle.std.specs.List.{list_any}
 use Rattle.hv_policy.proofs.Filters.{filter_kept, filter_gone, filter_swap}
 use Rattle.hv_policy.specs.Flat.{MailRow}
 use Rattle.hv_policy.specs.Mail.{Place, stands_at, mail_at, is_shown, as_shown, with_first_shown, shown_next, place_of, cleared, mail_but_at, mail_but}

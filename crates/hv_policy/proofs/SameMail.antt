@@ -1,8 +1,8 @@
 -- Lists that are the same place by place stay so, and are counted alike.
-use Rattle.std.proofs.Common.{◌≡◌, ℕ, zero, suc, ◌+◌, ◌≤◌, Bool, true, false, cond, not, List, [], ◌∷◌, ◌++◌, length, refl, sym, ap, subst, ◌∙◌, arith, count_by, find, nat_lt, zero-add}
+use Rattle.std.proofs.Common.{◌≡◌, ℕ, zero, suc, ◌+◌, ◌≤◌, Bool, true, false, cond, not, List, [], ◌∷◌, ◌++◌, length, refl, sym, ap, subst, ◌∙◌, arith, count_by, find, nat_lt, zero-add, filter}
 use Rattle.std.proofs.lemmas.List.Filters.{length-filter_both, sum_by-filter_both}
 use Rattle.std.proofs.lemmas.List.Sums.{sum_by-cons}
-use Rattle.std.specs.List.{AllByRecursion, filter}
+use Rattle.std.specs.List.{AllByRecursion}
 use Rattle.hv_policy.proofs.Filters.{filter_swap}
 use Rattle.hv_policy.proofs.Places.{is_place, is_place_true, is_place_same, next_rows, next_there, next_apart, posted, posted_there, posted_apart}
 use Rattle.hv_policy.specs.Flat.{MailRow}

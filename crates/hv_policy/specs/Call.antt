@@ -1,6 +1,6 @@
 -- What an event asks for.
-use Rattle.std.specs.Prelude.{◌≡◌, ◌+◌, ◌||◌, nat_le, not, Bool, false, Option, Some}
-use Rattle.std.specs.Option.{option_map, option_map_or}
+use Rattle.std.specs.Prelude.{◌≡◌, ◌+◌, ◌||◌, nat_le, not, Bool, false, Option, Some, option_map}
+use Rattle.std.specs.Option.{option_map_or}
 use Rattle.hv_defs.specs.Bits.{bits}
 use Rattle.hv_abi.specs.CallRow.{row_of}
 use Rattle.hv_abi.specs.Check.{call_of}

@@ -1,8 +1,8 @@
 -- Counts in a flat state, each over all rows.
 use Rattle.std.specs.Prelude.{ℕ, zero, suc, ◌+◌, ◌*◌, ◌-◌, ◌==◌, ◌&&◌, Bool, false, Option, None, Some}
-use Rattle.std.specs.Prelude.{count_by, find, option_and_then}
+use Rattle.std.specs.Prelude.{count_by, find, option_and_then, option_map}
 use Rattle.std.specs.FinMap.{get, entries}
-use Rattle.std.specs.Option.{option_map, option_map_or}
+use Rattle.std.specs.Option.{option_map_or}
 use Rattle.hv_defs.specs.declared.sizes.TheConstants.{PARTITION_CHARGE, VP_CHARGE, PORT_CHARGE}
 use Rattle.hv_defs.specs.declared.sizes.TheConstants.{CONNECTION_CHARGE}
 use Rattle.hv_policy.specs.Flat.{Flat}

@@ -1,7 +1,7 @@
 -- The messages of the flat state: one list in order of posting, and the messages at each place.
 use Rattle.std.specs.Prelude.{ℕ, ◌==◌, ◌&&◌, not, Bool, true, false, if◌then◌else◌, nat_lt, length, List, []}
-use Rattle.std.specs.Prelude.{◌∷◌, Option, None, Some, count_by, find}
-use Rattle.std.specs.List.{filter, list_any}
+use Rattle.std.specs.Prelude.{◌∷◌, Option, None, Some, count_by, find, filter}
+use Rattle.std.specs.List.{list_any}
 use Rattle.hv_defs.specs.Slot.{zeros, message_bytes}
 use Rattle.hv_policy.specs.declared.event.Caller.{Caller}
 use Rattle.hv_policy.specs.Flat.{MailRow}

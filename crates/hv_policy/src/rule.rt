@@ -16,7 +16,7 @@ pub enum Rule {
     CallerActive = 2,
     /// P3: the caller's virtual processor exists.
     CallerVpExists = 3,
-    /// P4: the call code is one of the 21.
+    /// P4: the call code is one of the profile.
     CallCode = 4,
     /// P5: reserved bits are zero; the fast bit is set only where it is accepted; a simple call has neither
     /// rep count nor start; a rep call has a count of at least 1 and starts below it.

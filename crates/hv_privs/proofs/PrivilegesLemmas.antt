@@ -1,7 +1,5 @@
 -- The bits of a mask, one by one.
-use Rattle.std.proofs.Common.{◌≡◌, ℕ, ◌*◌, ◌^◌, ◌<◌, min, IsTrue, ◌↔◌, arith, ap, sym, ◌∙◌, eq-eqb}
-use Rattle.std.proofs.lemmas.Bool.{eqb-true}
-use Rattle.std.proofs.lemmas.Nat.{pow_pos}
+use Rattle.std.proofs.Common.{◌≡◌, ℕ, ◌*◌, ◌^◌, ◌<◌, min, IsTrue, ◌↔◌, arith, ap, sym, ◌∙◌, eq-eqb, eqb-true, pow_pos}
 use Rattle.std.proofs.lemmas.Nat.Bits.{and_pow, bit_at_and, bit_at-lt, same_from_bits}
 use Rattle.std.specs.Int.{bit_at, IsBitSet}
 use Rattle.std.specs.Int.RustNames.{bit_and}

@@ -1,7 +1,6 @@
 -- What each entry of a history did to ports, connections, messages and event flags.
 use Rattle.std.specs.Prelude.{◌≡◌, ℕ, zero, suc, Bool, true, false, take, List, [], ◌∷◌, Option, None, Some}
-use Rattle.std.specs.Prelude.{count_by}
-use Rattle.std.specs.List.{slice_get}
+use Rattle.std.specs.Prelude.{count_by, slice_get}
 use Rattle.std.specs.Option.{option_map_or}
 use Rattle.hv_calls.specs.declared.call.Call.{Call}
 use Rattle.hv_calls.specs.declared.call.Call.TheVariants.{CreatePort, DeletePort, ConnectPort, DisconnectPort}

@@ -1,7 +1,6 @@
 -- What is known of the tree's rows once the rules of a call are met.
-use Rattle.std.proofs.Common.{◌≡◌, ℕ, Bool, true, Option, Some, None, is_some, refl, sym, ap, subst, ◌∙◌}
+use Rattle.std.proofs.Common.{◌≡◌, ℕ, Bool, true, Option, Some, None, is_some, refl, sym, ap, subst, ◌∙◌, option_map}
 use Rattle.std.specs.FinMap.{get}
-use Rattle.std.specs.Option.{option_map}
 use Rattle.hv_calls.specs.declared.call.Call.{Call}
 use Rattle.hv_invariants.proofs.Granted as granted
 use Rattle.hv_partition.specs.Partition.{PartitionState}

@@ -1,10 +1,10 @@
 -- The rows of one place through Show, a post, and a cleared slot.
 use Rattle.std.proofs.Common.{◌≡◌, ℕ, suc, ◌+◌, Bool, true, false, cond, not, ◌&&◌, nat_lt, List, [], ◌∷◌, ◌++◌, map, length, Option, Some, None, refl, sym, ap, ◌∙◌, count_by, find, arith, zero-add}
-use Rattle.std.proofs.lemmas.Bool.{eq-eqb, lt-ltb}
+use Rattle.std.proofs.Common.{eq-eqb, lt-ltb, filter}
 use Rattle.std.proofs.lemmas.List.{map-append}
 use Rattle.std.proofs.lemmas.List.Recursion.{is_count_by}
 use Rattle.std.proofs.lemmas.List.Sums.{sum_by-cons}
-use Rattle.std.specs.List.{filter, list_any}
+use Rattle.std.specs.List.{list_any}
 use Rattle.hv_defs.specs.Slot.{message_bytes}
 use Rattle.hv_mail.specs.Mail.{SintMail, with_next, show_next, has_next as box_has_next, is_next, with_last, posted as box_posted, cleared as box_cleared, is_of, count_shown, count_at}
 use Rattle.hv_mail.specs.Slot.{bytes_of, is_some_of, slot_bytes}

@@ -1,9 +1,6 @@
 -- The row that a look-up in the tree found.
-use Rattle.std.proofs.Common.{◌≡◌, ℕ, Option, Some, None, OnOk, refl}
-use Rattle.std.specs.declared.result.Result.{Result}
-use Rattle.std.specs.declared.result.Result.TheVariants.{Ok, Err}
+use Rattle.std.proofs.Common.{◌≡◌, ℕ, Option, Some, None, OnOk, refl, Result, Ok, Err, option_map, option_and_then}
 use Rattle.std.specs.FinMap.{get}
-use Rattle.std.specs.Option.{option_map, option_and_then}
 use Rattle.hv_partition.specs.Partition.{PartitionState}
 use Rattle.hv_tree.specs.Rows.{Row, Rows, content, parent}
 

@@ -1,14 +1,15 @@
 -- How many messages of a port are kept: the list's count is that of the mailbox at which the port aims, or of all
 -- mailboxes of its partition.
-use Rattle.std.proofs.Common.{◌≡◌, ℕ, ◌+◌, ◌==◌, Bool, true, false, cond, not, ◌&&◌, ◌||◌, List, [], ◌∷◌, Option, Some, None, is_some, refl, sym, ap, ◌∙◌, zero-add, add-zero}
-use Rattle.std.proofs.lemmas.Bool.{and_from, and_parts, eq-eqb, eqb-true}
+use Rattle.std.proofs.Common.{◌≡◌, ℕ, ◌+◌, ◌==◌, Bool, true, false, cond, not, ◌&&◌, ◌||◌, List, [], ◌∷◌, Option, Some, None, is_some, refl, sym, ap, ◌∙◌, zero-add, add-zero, eq-eqb, eqb-true, filter}
+use Rattle.std.proofs.Common.{sum_by, nat_cmp}
+use Rattle.std.proofs.lemmas.Bool.{and_from, and_parts}
 use Rattle.std.proofs.lemmas.List.Filters.{sum_by-filter_both}
 use Rattle.std.proofs.lemmas.List.Sums.{sum_by-cons}
 use Rattle.std.specs.Cmp.{unsigned_tied}
 use Rattle.std.specs.FinMap.{FinMap, get, entries, entries_sorted, get-entries, find}
-use Rattle.std.specs.List.{AllByRecursion, IsDistinct, filter, sum_by}
+use Rattle.std.specs.List.{AllByRecursion, IsDistinct}
 use Rattle.std.specs.Map.{keys_of}
-use Rattle.std.specs.Ordering.{nat_cmp, eq_by_cmp}
+use Rattle.std.specs.Ordering.{eq_by_cmp}
 use Rattle.hv_defs.proofs.Counts.{distinct_keys}
 use Rattle.hv_defs.specs.declared.aim.Aim.TheVariants.{One, Any}
 use Rattle.hv_invariants.specs.StateInvariant.{StateInvariant, is_aimed, is_placed, stands_where}

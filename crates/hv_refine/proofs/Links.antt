@@ -1,8 +1,6 @@
 -- Rows and flat states that are tied, once the ports or the connections of one partition changed.
-use Rattle.std.proofs.Common.{◌≡◌, ℕ, ◌==◌, Bool, true, false, cond, Some, refl, sym, ap, subst, ◌∙◌}
-use Rattle.std.proofs.lemmas.Bool.{eqb-true}
+use Rattle.std.proofs.Common.{◌≡◌, ℕ, ◌==◌, Bool, true, false, cond, Some, refl, sym, ap, subst, ◌∙◌, eqb-true, option_map}
 use Rattle.std.specs.FinMap.{FinMap, get, insert}
-use Rattle.std.specs.Option.{option_map}
 use Rattle.hv_defs.proofs.Maps.{get_at-insert}
 use Rattle.hv_partition.specs.Partition.{PartitionState}
 use Rattle.hv_defs.specs.Flags.{pair_cmp}

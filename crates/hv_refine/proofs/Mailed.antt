@@ -1,10 +1,10 @@
 -- Rows and flat states stay tied through what events make of a processor's messages, flags and registers.
-use Rattle.std.proofs.Common.{◌≡◌, ℕ, zero, suc, ◌==◌, Bool, true, false, cond, not, ◌&&◌, nat_lt, length, [], ◌∷◌, ◌++◌, Option, Some, None, find, refl, sym, ap, subst, ◌∙◌}
-use Rattle.std.proofs.lemmas.Bool.{eq-eqb}
+use Rattle.std.proofs.Common.{◌≡◌, ℕ, zero, suc, ◌==◌, Bool, true, false, cond, not, ◌&&◌, nat_lt, length, [], ◌∷◌, ◌++◌, Option, Some, None, find, refl, sym, ap, subst, ◌∙◌, eq-eqb, filter}
+use Rattle.std.proofs.Common.{option_map}
 use Rattle.std.specs.FinMap.{get}
 use Rattle.std.specs.FinSet as set
-use Rattle.std.specs.List.{filter, list_any}
-use Rattle.std.specs.Option.{option_map, option_map_or}
+use Rattle.std.specs.List.{list_any}
+use Rattle.std.specs.Option.{option_map_or}
 use Rattle.hv_defs.specs.Registers.{after_write, kept, row_of, takes_messages}
 use Rattle.hv_defs.specs.Vectors.{highest, without}
 use Rattle.hv_defs.specs.declared.registers.TheConstants.{EOM}

@@ -1,14 +1,13 @@
 -- Writing back the processor that is there changes nothing.
-use Rattle.std.proofs.Common.{◌≡◌, ℕ, Option, None, Some, IfSome, inl, inr, refl, sym, ap, ◌∙◌}
+use Rattle.std.proofs.Common.{◌≡◌, ℕ, Option, None, Some, IfSome, inl, inr, refl, sym, ap, ◌∙◌, nat_cmp, option_map}
 use Rattle.std.proofs.lemmas.Bool.{cases_Bool}
 use Rattle.std.specs.Cmp.{Equal-is, nat_cmp_total}
 use Rattle.std.specs.FinMap.{FinMap, get, insert, get-insert, same_map, nat_cmp-IsAntisymmetric}
-use Rattle.std.specs.Ordering.{nat_cmp, eq_by_cmp}
+use Rattle.std.specs.Ordering.{eq_by_cmp}
 use Rattle.hv_partition.specs.Partition.{PartitionState, with_vp_of}
 use Rattle.hv_tree.proofs.Laws.{change-of, change-unchanged}
 use Rattle.hv_tree.specs.Rows.{Row, Rows, change, changed_at, content}
 use Rattle.hv_vp.specs.Vp.{VpState}
-use Rattle.std.specs.Option.{option_map}
 
 same_vps : (vps : FinMap nat_cmp VpState) (index : ℕ) (vp : VpState) → get vps index ≡ Some vp → insert vps index vp ≡ vps
 same_vps vps index vp is = same_map nat_cmp_total nat_cmp-IsAntisymmetric (insert vps index vp) vps (λ n. get-insert nat_cmp_total vps index vp n ∙ (elim (cases_Bool (eq_by_cmp nat_cmp n index)) [

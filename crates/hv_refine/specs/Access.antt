@@ -1,7 +1,5 @@
 -- How a call group answers an access.
-use Rattle.std.specs.Prelude.{◌≡◌, ℕ, List, None, Some}
-use Rattle.std.specs.declared.result.Result.{Result}
-use Rattle.std.specs.declared.result.Result.TheVariants.{Ok, Err}
+use Rattle.std.specs.Prelude.{◌≡◌, ℕ, List, None, Some, Result, Ok, Err}
 use Rattle.hv_partition.specs.Partition.{PartitionState}
 use Rattle.hv_policy.specs.Answer.{action_answer}
 use Rattle.hv_policy.specs.Effect.{action_effect}

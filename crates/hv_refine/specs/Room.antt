@@ -1,7 +1,6 @@
 -- Equality of rows up to the room of their page sets, processors, ports and connections.
-use Rattle.std.specs.Prelude.{◌≡◌, ℕ, map}
+use Rattle.std.specs.Prelude.{◌≡◌, ℕ, map, option_map}
 use Rattle.std.specs.FinMap.{get, entries, from_entries}
-use Rattle.std.specs.Option.{option_map}
 use Rattle.hv_partition.specs.Partition.{PartitionState}
 use Rattle.hv_tree.specs.Rows.{Row, Rows}
 

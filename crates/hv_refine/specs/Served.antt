@@ -1,7 +1,5 @@
 -- The precondition of a call group's functions, and the possible outcomes of a call.
-use Rattle.std.specs.Prelude.{◌≡◌, ℕ, ◌≤◌, true, List, Option, None, Some}
-use Rattle.std.specs.declared.result.Result.{Result}
-use Rattle.std.specs.declared.result.Result.TheVariants.{Ok, Err}
+use Rattle.std.specs.Prelude.{◌≡◌, ℕ, ◌≤◌, true, List, Option, None, Some, Result, Ok, Err}
 use Rattle.hv_calls.specs.Call.{kind_of_call}
 use Rattle.hv_calls.specs.declared.call.Call.{Call}
 use Rattle.hv_defs.specs.declared.sizes.TheConstants.{MAX_PAGES}

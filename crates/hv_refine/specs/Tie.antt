@@ -1,8 +1,7 @@
 -- The refinement relation between the tree of partitions and the policy's flat state, key by key: the flat
 -- maps hold under a partition's id what the tree's row of that partition holds.
 use Rattle.std.specs.Prelude.{◌≡◌, ℕ, ◌==◌, ◌&&◌, Bool, true, false, not, List, [], ◌∷◌, ◌++◌, map, Option}
-use Rattle.std.specs.Prelude.{Some, None}
-use Rattle.std.specs.Option.{option_map}
+use Rattle.std.specs.Prelude.{Some, None, option_map}
 use Rattle.std.specs.FinMap.{get}
 use Rattle.std.specs.FinSet as set
 use Rattle.hv_mail.specs.Mail.{SintMail, at, no_mail}

@@ -5,13 +5,12 @@ ghost use Rattle.std.specs.FinMap.{get};
 ghost use Rattle.hv_partition.specs.Partition.{with_vp_of};
 ghost use Rattle.hv_partition.specs.contracts.partition.Partition.{the_row as partition_row};
 ghost use Rattle.hv_policy.specs.Flat.{Flat};
-ghost use Rattle.hv_tree.specs.Rows.{change};
+ghost use Rattle.hv_tree.specs.Rows.{change, content};
 ghost use Rattle.hv_tree.specs.contracts.tree.IdTree.{the_row as tree_row};
 ghost use Rattle.hv_vp.specs.contracts.vp.Vp.{the_row as vp_row};
 ghost use Rattle.hv_policy.specs.Met.{is_kin as is_kin_of};
 ghost use Rattle.hv_policy.specs.Needs.{target_at};
 ghost use Rattle.hv_policy.specs.Rules.{caller_asks, first_unmet, target_asks};
-ghost use Rattle.hv_tree.specs.Rows.{content};
 ghost use Rattle.hv_refine.specs.Tie.{Refines};
 
 use crate::partitions::Partitions;

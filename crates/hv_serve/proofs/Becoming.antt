@@ -1,6 +1,5 @@
 -- What becomes of a line, and what it is answered.
-use Rattle.std.proofs.Common.{◌≡◌, ◌≢◌, refl, sym, ap, subst, Option, Some, None, Result, Ok, Err, inl, inr}
-use Rattle.std.specs.Prelude.{MatchResult}
+use Rattle.std.proofs.Common.{◌≡◌, ◌≢◌, refl, sym, ap, subst, Option, Some, None, Result, Ok, Err, inl, inr, MatchResult}
 use Rattle.hv_script.specs.declared.fault.FaultKind.{FaultKind}
 use Rattle.hv_script.specs.declared.fault.FaultKind.TheVariants.{Long, Byte, NoBoot, BootTwice, Processor, Word, Count, Number, Hex, TooMany, Memory}
 use Rattle.hv_serve.specs.Bench.{HasBecome, HasTaken, IsToldAs, StandsFor, kept_in}

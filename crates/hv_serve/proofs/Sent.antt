@@ -1,6 +1,5 @@
 -- What went out, part by part.
-use Rattle.std.proofs.Common.{ℕ, List, ◌++◌, Option, Result, Ok, Err}
-use Rattle.std.specs.Prelude.{OnOk}
+use Rattle.std.proofs.Common.{ℕ, List, ◌++◌, Option, Result, Ok, Err, OnOk}
 use Rattle.std.specs.Io.KnownBytes.{Appends}
 use Rattle.std.proofs.KnownBytes.{Appends-trans}
 

@@ -1,7 +1,6 @@
 // A booted machine, and the effect of its lines.
 ghost use Rattle.std.specs.Prelude.{◌≡◌, ◌≢◌, ◌≤◌, Option, Some, None, IfErr, MatchResult, OnErr, OnOk};
-ghost use Rattle.std.specs.Prelude.{is_some};
-ghost use Rattle.std.specs.Prelude.{All, Err, List, Ok, ℕ, length, true, false};
+ghost use Rattle.std.specs.Prelude.{is_some, All, Err, List, Ok, ℕ, length, true, false};
 ghost use Rattle.hv_script.specs.Callers.{have_room, is_among, with_caller};
 ghost use Rattle.hv_script.specs.Cursor.{line_of};
 ghost use Rattle.hv_script.specs.Script.{SoFar, first_line, later_line, phase_line, processor_line};

@@ -1,9 +1,7 @@
 -- The masks of a state's partitions once one of them was given a mask, by a search through the rows that the state is made of.
-use Rattle.std.proofs.Common.{◌≡◌, ℕ, ◌==◌, ◌∙◌, Bool, true, false, cond, if◌then◌else◌, List, map, Option, Some, ap}
+use Rattle.std.proofs.Common.{◌≡◌, ℕ, ◌==◌, ◌∙◌, Bool, true, false, cond, if◌then◌else◌, List, map, Option, Some, ap, option_and_then, option_map, nat_cmp}
 use Rattle.std.specs.Cmp.{nat_cmp_total}
 use Rattle.std.specs.FinMap.{find, get, get-from_entries}
-use Rattle.std.specs.Option.{option_and_then, option_map}
-use Rattle.std.specs.Ordering.{nat_cmp}
 use Rattle.hv_defs.specs.declared.life.Life.{Life}
 use Rattle.hv_policy.proofs.Rows.{get-narrowed, get-with_row}
 use Rattle.hv_policy.specs.Boot.{root_row}

@@ -1,6 +1,6 @@
 -- What is found in the registers of a new processor.
-use Rattle.std.proofs.Common.{◌≡◌, ℕ, ◌∙◌, ap, map, cond, Some}
-use Rattle.std.specs.Ordering.{eq_by_cmp, nat_cmp}
+use Rattle.std.proofs.Common.{◌≡◌, ℕ, ◌∙◌, ap, map, cond, Some, nat_cmp}
+use Rattle.std.specs.Ordering.{eq_by_cmp}
 use Rattle.std.specs.Cmp.{nat_cmp_total}
 use Rattle.std.specs.FinMap.{find, from_entries, get, get-insert, get-from_entries}
 use Rattle.hv_defs.specs.Registers.{start_registers}

@@ -1,10 +1,9 @@
 -- The lines of the tables, made of the definitions and constants that contracts cite.
-use Rattle.std.specs.Prelude.{ℕ, ◌==◌, Bool, List, [], ◌∷◌, find, is_none, map, Option, Some}
+use Rattle.std.specs.Prelude.{ℕ, ◌==◌, Bool, List, [], ◌∷◌, find, is_none, map, Option, Some, filter}
+use Rattle.std.specs.Prelude.{option_map}
 use Rattle.std.specs.FinMap.{empty, from_entries, get}
 use Rattle.std.specs.FinSet as set
 use Rattle.std.specs.FinSet.{from_list}
-use Rattle.std.specs.List.{filter}
-use Rattle.std.specs.Option.{option_map}
 use Rattle.hv_abi.specs.CallRow.{row_of, input_len, output_len}
 use Rattle.hv_abi.specs.Check.{first_fault, input_of}
 use Rattle.hv_abi.specs.Status.{status_code, status_name}

@@ -1,6 +1,6 @@
 // Worked frames: the input value, the lists' addresses and the result value.
-ghost use Rattle.std.specs.Prelude.{◌≡◌, ◌^◌, [], ◌∷◌, not, true, false, None, Some};
-ghost use Rattle.std.specs.List.{filter, range_with_len};
+ghost use Rattle.std.specs.Prelude.{◌≡◌, ◌^◌, [], ◌∷◌, not, true, false, None, Some, filter};
+ghost use Rattle.std.specs.List.{range_with_len};
 ghost use Rattle.hv_abi.specs.InputValue.{input_value, is_reserved_zero, restarted, result_value};
 ghost use Rattle.hv_abi.specs.declared.frame.AbiFault.TheVariants.{UnknownCode, Input, Alignment};
 ghost use Rattle.hv_tables.specs.Lines.{fault_line, input_line};

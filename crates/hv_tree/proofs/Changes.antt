@@ -1,12 +1,10 @@
 -- What a change of the node where a way leads is to the rows of the tree.
-use Rattle.std.proofs.lemmas.Bool.{cases_Bool, eqb-true, eq-eqb}
-use Rattle.std.proofs.Common.{◌≡◌, ℕ, zero, suc, ◌<◌, ◌≤◌, Bool, true, false, cond, ◌==◌, inl, inr, Option, None, Some, List, [], ◌∷◌, ◌++◌, Box, Vec, length, map, set, get_or, refl, sym, ap, subst}
-use Rattle.std.proofs.Common.{◌∙◌, arith}
+use Rattle.std.proofs.lemmas.Bool.{cases_Bool}
+use Rattle.std.proofs.Common.{eqb-true, eq-eqb, ◌≡◌, ℕ, zero, suc, ◌<◌, ◌≤◌, Bool, true, false, cond, ◌==◌, inl, inr, Option, None, Some, List, [], ◌∷◌, ◌++◌, Box, Vec, length, map, set, get_or, refl}
+use Rattle.std.proofs.Common.{sym, ap, subst, ◌∙◌, arith, Contains, insert, remove, option_map, get_or-set_same}
 use Rattle.std.specs.Box.{with_value}
-use Rattle.std.specs.List.{Contains, insert, remove}
 use Rattle.std.specs.List.Sorted.{IsNonDecreasing, IsNonDecreasingBy}
-use Rattle.std.specs.Option.{option_map}
-use Rattle.std.proofs.lemmas.List.{get_or-set_same, length-map}
+use Rattle.std.proofs.lemmas.List.{length-map}
 use Rattle.hv_tree.specs.Rows.{children_in}
 use Rattle.hv_tree.specs.declared.node.Branch.{Branch}
 use Rattle.hv_tree.specs.declared.node.Node.{Node, out-Node, roll-Node, out-roll-Node}

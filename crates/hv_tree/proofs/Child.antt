@@ -1,11 +1,9 @@
 -- The rows of a node, around those of one child.
 use Rattle.std.proofs.lemmas.Bool.{cases_Bool}
 use Rattle.std.proofs.Common.{◌≡◌, ℕ, ◌+◌, ◌<◌, suc, true, false, ◌==◌, inl, inr, Option, None, Some, is_some, List, ◌∷◌, ◌++◌, Box, refl, sym, ap, ◌∙◌, arith, length, take, drop, set, get_or}
-use Rattle.std.proofs.Common.{append_assoc, append-nil}
-use Rattle.std.specs.Option.{option_or, option_map}
+use Rattle.std.proofs.Common.{append_assoc, append-nil, option_map, insert, take-append-drop}
+use Rattle.std.specs.Option.{option_or}
 use Rattle.std.specs.Box.{with_value}
-use Rattle.std.specs.List.{insert}
-use Rattle.std.proofs.lemmas.List.{take-append-drop}
 use Rattle.hv_tree.specs.Rows.{children_in}
 use Rattle.hv_tree.specs.Nest.{Line, has_row, look, uses, AreDistinct, hang, put_at, IsPart, IsGrownBy}
 use Rattle.hv_tree.specs.Below.{below, AreNests}

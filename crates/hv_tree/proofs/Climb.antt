@@ -1,7 +1,5 @@
 -- The ids above an id, and those on the way down to it, one step at a time.
-use Rattle.std.proofs.Common.{◌≡◌, ℕ, zero, suc, ◌+◌, ◌-◌, ◌<◌, Option, None, Some, [], ◌∷◌, ◌++◌, refl, sym, ap, ◌∙◌, arith}
-use Rattle.std.proofs.lemmas.List.{append_assoc}
-use Rattle.std.specs.Option.{unwrap_or}
+use Rattle.std.proofs.Common.{◌≡◌, ℕ, zero, suc, ◌+◌, ◌-◌, ◌<◌, Option, None, Some, [], ◌∷◌, ◌++◌, refl, sym, ap, ◌∙◌, arith, append_assoc, unwrap_or}
 use Rattle.hv_tree.specs.Way.{above, line, depth, depth_from}
 
 pub above-more : (up : ℕ → Option ℕ) (n at : ℕ) → above up (suc n) at ≡ above up n (unwrap_or (up at) at)

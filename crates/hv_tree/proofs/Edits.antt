@@ -1,7 +1,7 @@
 -- The rows of a node, once contents among them are edited.
 use Rattle.std.proofs.Common.{◌≡◌, ℕ, ◌<◌, ◌≤◌, suc, zero, Bool, true, false, ◌==◌, ◌&&◌, ◌⊎◌, inl, inr, Option, None, Some, List, [], ◌∷◌, ◌++◌, Box, refl, sym, ap, ◌∙◌, arith, length, take, drop}
-use Rattle.std.proofs.Common.{set, get_or, eq-eqb}
-use Rattle.std.specs.Option.{option_or, option_map}
+use Rattle.std.proofs.Common.{set, get_or, eq-eqb, option_map}
+use Rattle.std.specs.Option.{option_or}
 use Rattle.std.specs.Box.{with_value}
 use Rattle.std.proofs.lemmas.Bool.{cases_Bool}
 use Rattle.hv_tree.specs.Nest.{Line, AreDistinct, hang, has_row, look, top}

@@ -1,8 +1,7 @@
 -- The rows of a node, once a row without children is taken out.
 use Rattle.std.proofs.Common.{◌≡◌, ℕ, ◌<◌, ◌≤◌, zero, suc, Bool, true, false, ◌==◌, ◌||◌, Option, None, Some, List, [], ◌∷◌, ◌++◌, Box, refl, ap, ◌∙◌, arith, length, take, drop, set, get_or}
-use Rattle.std.proofs.Common.{append_assoc, eq-eqb}
+use Rattle.std.proofs.Common.{append_assoc, eq-eqb, remove}
 use Rattle.std.specs.Box.{with_value}
-use Rattle.std.specs.List.{remove}
 use Rattle.hv_tree.specs.Nest.{Line, has_row, top, AreDistinct, HasTop, hang, IsNest, IsWithout}
 use Rattle.hv_tree.specs.Below.{below, AreNests}
 use Rattle.hv_tree.proofs.Lines.{has-append, below-append, hang-append}

@@ -1,11 +1,11 @@
 -- What a tree keeps, once its rows change.
-use Rattle.std.proofs.Common.{◌≡◌, ℕ, Bool, true, false, ◌==◌, inl, inr, Option, None, Some, List, [], ◌∷◌, ◌++◌, refl, sym, ap, ◌∙◌, subst, is_some, eq-eqb, MutBor}
+use Rattle.std.proofs.Common.{◌≡◌, ℕ, Bool, true, false, ◌==◌, inl, inr, Option, None, Some, List, [], ◌∷◌, ◌++◌, refl, sym, ap, ◌∙◌, subst, is_some, eq-eqb, MutBor, IfSome, IfNone, option_map}
+use Rattle.std.proofs.Common.{nat_cmp, eqb-true}
 use borrow.Follows.Closed.{read_of}
-use Rattle.std.specs.Option.{ghost_name_of, option_copied_mut, IfSome, IfNone, option_map}
+use Rattle.std.specs.Option.{ghost_name_of, option_copied_mut}
 use Rattle.std.specs.List.Sorted.{IsNonDecreasing}
-use Rattle.std.specs.Ordering.{nat_cmp}
 use Rattle.std.specs.FinMap.{get, from_entries, contains_key}
-use Rattle.std.proofs.lemmas.Bool.{cases_Bool, eqb-true}
+use Rattle.std.proofs.lemmas.Bool.{cases_Bool}
 use Rattle.hv_tree.specs.declared.node.Branch.{Branch}
 use Rattle.hv_tree.specs.declared.node.Node.{Node, out-Node, roll-out-Node}
 use Rattle.hv_tree.specs.Rows.{Row, Rows, change, content, children_in}

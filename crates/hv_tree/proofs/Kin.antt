@@ -1,13 +1,10 @@
 -- The children of a row of a map are those in the list that it was made of.
-use Rattle.std.proofs.Common.{◌≡◌, ℕ, ◌+◌, Bool, true, false, cond, ◌==◌, Option, None, Some, List, [], ◌∷◌, refl, sym, ap, ◌∙◌, is_some, length, arith}
-use Rattle.std.specs.Ordering.{nat_cmp, is_eq}
-use Rattle.std.specs.declared.cmp.Ordering.TheVariants.{Less, Equal, Greater}
+use Rattle.std.proofs.Common.{◌≡◌, ℕ, ◌+◌, Bool, true, false, cond, ◌==◌, Option, None, Some, List, [], ◌∷◌, refl, sym, ap, ◌∙◌, is_some, length, arith, nat_cmp, is_eq, Less, Equal, Greater}
+use Rattle.std.proofs.Common.{IsPermutation, eq-eqb}
 use Rattle.std.specs.Cmp.{nat_cmp_total}
 use Rattle.std.specs.FinMap.{find, put, entries, from_entries, entries-insert, get-from_entries, get-entries, len-entries, len-empty, empty, keys}
 use Rattle.std.specs.FinMap.Entries.{by_order}
-use Rattle.std.specs.List.Sorted.{IsPermutation}
 use Rattle.std.proofs.lemmas.List.Sorted.{IsPermutation-refl, IsPermutation-cons, IsPermutation-trans, IsPermutation-sym, IsPermutation-map, length_permutation, Contains-permutation}
-use Rattle.std.proofs.lemmas.Bool.{eq-eqb}
 use Rattle.hv_tree.specs.Rows.{Row, Rows, is_parent, children_in, children, IsLeastAbove}
 use Rattle.hv_tree.specs.Nest.{Line, uses, AreDistinct}
 use Rattle.hv_tree.specs.Full.{add, full, IsWhole}

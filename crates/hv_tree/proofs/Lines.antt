@@ -1,7 +1,8 @@
 -- What the rows of a list answer once lists are joined, or hung below a node.
 use Rattle.std.proofs.lemmas.Bool.{cases_Bool}
 use Rattle.std.proofs.Common.{◌≡◌, ℕ, ◌+◌, ◌≤◌, Bool, true, false, cond, ◌==◌, ◌||◌, inl, inr, Option, None, Some, List, [], ◌∷◌, ◌++◌, Box, refl, sym, ap, ◌∙◌, is_some, arith, append_assoc}
-use Rattle.std.specs.Option.{option_or, option_map}
+use Rattle.std.proofs.Common.{option_map}
+use Rattle.std.specs.Option.{option_or}
 use Rattle.hv_tree.specs.Nest.{Line, has_row, look, uses, hang, put_at}
 use Rattle.hv_tree.specs.Below.{below}
 

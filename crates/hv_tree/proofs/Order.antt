@@ -1,7 +1,7 @@
 -- Where rows stand once lists are joined or hung, and that a parent stands before its children.
 use Rattle.std.proofs.lemmas.Bool.{cases_Bool, eqb-false}
-use Rattle.std.proofs.Common.{◌≡◌, ℕ, ◌+◌, ◌<◌, true, false, cond, ◌==◌, ◌⊎◌, inl, inr, Option, None, Some, List, [], ◌∷◌, ◌++◌, Box, refl, sym, ap, ◌∙◌, is_some, arith, length}
-use Rattle.std.specs.Option.{option_or, option_map}
+use Rattle.std.proofs.Common.{◌≡◌, ℕ, ◌+◌, ◌<◌, true, false, cond, ◌==◌, ◌⊎◌, inl, inr, Option, None, Some, List, [], ◌∷◌, ◌++◌, Box, refl, sym, ap, ◌∙◌, is_some, arith, length, option_map}
+use Rattle.std.specs.Option.{option_or}
 use Rattle.hv_tree.specs.Nest.{Line, has_row, look, hang, place}
 use Rattle.hv_tree.specs.Below.{below, AreNests, length-hang}
 use Rattle.hv_tree.proofs.Lines.{has-hang, has-look, look-none, look-append, look-hang, hung}

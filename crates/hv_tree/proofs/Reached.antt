@@ -1,7 +1,8 @@
 -- How deep a row is, and that the children of each node rise.
-use Rattle.std.proofs.lemmas.Bool.{cases_Bool, eqb-true, eqb-false, ltb-true, ltb-false}
+use Rattle.std.proofs.lemmas.Bool.{cases_Bool, eqb-false}
+use Rattle.std.proofs.Common.{eqb-true, ltb-true, ltb-false, ◌≡◌, ◌≢◌, ℕ, zero, suc, ◌+◌, ◌<◌, ◌≤◌, true, ◌==◌, inl, inr, Option, None, Some, List, [], ◌∷◌, Box, refl, sym, ap, subst, ◌∙◌, arith}
+use Rattle.std.proofs.Common.{length, map, get_or}
 use Rattle.std.proofs.Math.Dec.{ltb}
-use Rattle.std.proofs.Common.{◌≡◌, ◌≢◌, ℕ, zero, suc, ◌+◌, ◌<◌, ◌≤◌, true, ◌==◌, inl, inr, Option, None, Some, List, [], ◌∷◌, Box, refl, sym, ap, subst, ◌∙◌, arith, length, map, get_or}
 use Rattle.std.specs.List.Sorted.{IsNonDecreasing}
 use Rattle.std.proofs.lemmas.List.{length-map}
 use Rattle.hv_tree.specs.Rows.{children_in}

@@ -1,13 +1,11 @@
 -- What a binary search by an unsigned key finds in a list in which it does not fall.
-use Rattle.std.proofs.Common.{◌≡◌, ◌≢◌, ℕ, ◌+◌, ◌<◌, ◌≤◌, ◌==◌, false, inl, inr, Result, Ok, Err, List, [], ◌∷◌, map, zero, suc, length, get_or, IfOk, OnErr, refl, sym, ap, arith}
-use Rattle.std.specs.List.{All, HoldsAt, Contains}
+use Rattle.std.proofs.Common.{◌≡◌, ◌≢◌, ℕ, ◌+◌, ◌<◌, ◌≤◌, ◌==◌, false, inl, inr, Result, Ok, Err, List, [], ◌∷◌, map, zero, suc, length, get_or, IfOk, OnErr, refl, sym, ap, arith, All, HoldsAt}
+use Rattle.std.proofs.Common.{Contains, Less, Equal, Greater, nat_cmp, is_lt, ltb-false, ltb-true}
 use Rattle.std.specs.List.Sorted.{IsNonDecreasingBy, IsBinarySearchResult, IsSearchInRange, IsPartitionPoint}
-use Rattle.std.specs.declared.cmp.Ordering.TheVariants.{Less, Equal, Greater}
-use Rattle.std.specs.Ordering.{nat_cmp, is_lt}
 use Rattle.std.specs.Cmp.{nat_cmp_total, ranked}
 use Rattle.std.proofs.lemmas.List.{length-map}
 use Rattle.std.proofs.lemmas.List.Sorted.{searchable_from_sorted}
-use Rattle.std.proofs.lemmas.Bool.{cases_Bool, ltb-false, ltb-true}
+use Rattle.std.proofs.lemmas.Bool.{cases_Bool}
 use Rattle.std.proofs.Math.Dec.{ltb}
 use Rattle.hv_tree.proofs.Lists.{get_or_any}
 

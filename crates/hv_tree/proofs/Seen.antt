@@ -1,10 +1,9 @@
 -- The rows of a tree as the map that it is seen as.
-use Rattle.std.proofs.Common.{◌≡◌, ℕ, zero, suc, true, false, cond, ◌==◌, inl, inr, Option, None, Some, List, [], ◌∷◌, refl, sym, ap, ◌∙◌, is_some, arith}
-use Rattle.std.specs.Option.{option_map, option_and_then}
-use Rattle.std.specs.Ordering.{nat_cmp}
+use Rattle.std.proofs.Common.{◌≡◌, ℕ, zero, suc, true, false, cond, ◌==◌, inl, inr, Option, None, Some, List, [], ◌∷◌, refl, sym, ap, ◌∙◌, is_some, arith, option_map, option_and_then, nat_cmp}
+use Rattle.std.proofs.Common.{eqb-true, eq-eqb}
 use Rattle.std.specs.Cmp.{nat_cmp_total, unsigned_tied}
 use Rattle.std.specs.FinMap.{find, get, from_entries, get-from_entries, contains_key}
-use Rattle.std.proofs.lemmas.Bool.{cases_Bool, eqb-true, eq-eqb, eqb-false}
+use Rattle.std.proofs.lemmas.Bool.{cases_Bool, eqb-false}
 use Rattle.hv_tree.specs.Rows.{Row, Rows, parent, HasDepth, children_in, IsTree}
 use Rattle.hv_tree.specs.Nest.{Line, has_row, look, top, AreDistinct, orphans, HasTop, HasDepthIn}
 use Rattle.hv_tree.specs.Full.{add, full, IsFilled, IsWhole, IsSound}

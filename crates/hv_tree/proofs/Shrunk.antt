@@ -1,8 +1,8 @@
 -- A tree once a node is taken out.
-use Rattle.std.proofs.Common.{◌≡◌, ◌≢◌, ℕ, ◌+◌, ◌-◌, ◌≤◌, ◌<◌, ◌^◌, Bool, true, false, cond, ◌==◌, ◌&&◌, inl, inr, Option, None, Some, List, refl, sym, ap, ◌∙◌, is_some, arith, length}
-use Rattle.std.specs.Option.{option_map}
+use Rattle.std.proofs.Common.{◌≡◌, ◌≢◌, ℕ, ◌+◌, ◌-◌, ◌≤◌, ◌<◌, ◌^◌, Bool, true, false, cond, ◌==◌, ◌&&◌, inl, inr, Option, None, Some, List, refl, sym, ap, ◌∙◌, is_some, arith, length, option_map}
+use Rattle.std.proofs.Common.{eqb-true, eq-eqb, ne_eqb}
 use Rattle.std.specs.FinMap.{remove}
-use Rattle.std.proofs.lemmas.Bool.{cases_Bool, eqb-true, eq-eqb, ne_eqb}
+use Rattle.std.proofs.lemmas.Bool.{cases_Bool}
 use Rattle.hv_tree.specs.Rows.{Rows, parent, content, children, children_in, is_leaf}
 use Rattle.hv_tree.specs.Nest.{Line, has_row, look, uses, top, AreDistinct, IsNest, IsWithout}
 use Rattle.hv_tree.specs.Full.{full, IsWhole}

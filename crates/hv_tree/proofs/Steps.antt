@@ -1,9 +1,8 @@
 -- The places on the way down to a node, in two parts and one step between.
 use Rattle.std.proofs.Common.{◌≡◌, ◌≢◌, ℕ, zero, suc, ◌+◌, ◌<◌, ◌≤◌, ◌==◌, false, inl, inr, Option, None, Some, List, [], ◌∷◌, ◌++◌, Box, length, get_or, slice_get, refl, sym, ap, ◌∙◌, arith, eq-eqb}
-use Rattle.std.specs.List.{All}
+use Rattle.std.proofs.Common.{All, option_map, option_and_then, ne_eqb, ltb-true, ltb-false}
 use Rattle.std.specs.List.Sorted.{IsNonDecreasingBy}
-use Rattle.std.specs.Option.{option_map, option_and_then}
-use Rattle.std.proofs.lemmas.Bool.{cases_Bool, ne_eqb, ltb-true, ltb-false}
+use Rattle.std.proofs.lemmas.Bool.{cases_Bool}
 use Rattle.std.proofs.Math.Dec.{ltb}
 use Rattle.hv_tree.specs.declared.node.Branch.{Branch}
 use Rattle.hv_tree.specs.declared.node.Node.{Node}

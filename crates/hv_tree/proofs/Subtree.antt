@@ -1,8 +1,8 @@
 -- A tree, once the contents in a subtree are edited.
-use Rattle.std.proofs.Common.{◌≡◌, ℕ, ◌+◌, ◌<◌, zero, suc, Bool, true, false, cond, ◌==◌, inl, inr, Option, None, Some, is_some, List, [], ◌∷◌, refl, sym, ap, ◌∙◌, arith, length}
-use Rattle.std.specs.Option.{option_map, option_and_then}
+use Rattle.std.proofs.Common.{◌≡◌, ℕ, ◌+◌, ◌<◌, zero, suc, Bool, true, false, cond, ◌==◌, inl, inr, Option, None, Some, is_some, List, [], ◌∷◌, refl, sym, ap, ◌∙◌, arith, length, option_map}
+use Rattle.std.proofs.Common.{option_and_then, eqb-true}
 use Rattle.std.specs.FinMap.{get, from_entries, contains_key}
-use Rattle.std.proofs.lemmas.Bool.{cases_Bool, eqb-true}
+use Rattle.std.proofs.lemmas.Bool.{cases_Bool}
 use Rattle.hv_tree.specs.Rows.{Row, Rows, parent, children_in, is_parent, IsTree}
 use Rattle.hv_tree.specs.Nest.{Line, has_row, look, uses, place, IsNest}
 use Rattle.hv_tree.specs.Full.{full, IsFilled}

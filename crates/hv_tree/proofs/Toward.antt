@@ -1,8 +1,7 @@
 -- The parents of the rows of a node, as the index names them.
-use Rattle.std.proofs.lemmas.Bool.{cases_Bool, eqb-true, eq-eqb}
-use Rattle.std.proofs.Common.{◌≡◌, ℕ, zero, suc, ◌<◌, ◌≤◌, true, false, ◌==◌, ◌||◌, ◌⊎◌, inl, inr, Option, None, Some, IfSome, IfNone, List, [], ◌∷◌, Box, refl, sym, ap, ◌∙◌, is_some, arith, length}
-use Rattle.std.proofs.Common.{get_or}
-use Rattle.std.specs.Option.{option_map, option_and_then}
+use Rattle.std.proofs.lemmas.Bool.{cases_Bool}
+use Rattle.std.proofs.Common.{eqb-true, eq-eqb, ◌≡◌, ℕ, zero, suc, ◌<◌, ◌≤◌, true, false, ◌==◌, ◌||◌, ◌⊎◌, inl, inr, Option, None, Some, IfSome, IfNone, List, [], ◌∷◌, Box, refl, sym, ap, ◌∙◌}
+use Rattle.std.proofs.Common.{is_some, arith, length, get_or, option_map, option_and_then}
 use Rattle.hv_tree.specs.Nest.{Line, has_row, look, uses, top, place, hang, IsNest}
 use Rattle.hv_tree.specs.Below.{below}
 use Rattle.hv_tree.specs.Index.{IsIndexOf}

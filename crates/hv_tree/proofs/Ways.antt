@@ -1,8 +1,7 @@
 -- What is put in where a way leads.
-use Rattle.std.proofs.Common.{◌≡◌, ℕ, ◌≤◌, Option, None, Some, List, [], ◌∷◌, ◌++◌, length, slice_get, slice_set, Vec, Box, refl, sym, ap, ◌∙◌}
+use Rattle.std.proofs.Common.{◌≡◌, ℕ, ◌≤◌, Option, None, Some, List, [], ◌∷◌, ◌++◌, length, slice_get, slice_set, Vec, Box, refl, sym, ap, ◌∙◌, option_map, option_and_then}
 use Rattle.std.proofs.lemmas.Option.{get_or_from_slice_get}
 use Rattle.std.proofs.lemmas.List.{set-get_or}
-use Rattle.std.specs.Option.{option_map, option_and_then}
 use Rattle.std.specs.Vec.{with_item}
 use Rattle.std.specs.Box.{with_value}
 use mathlib.Core.HLevel.{is_prop→PathP}

@@ -1,7 +1,6 @@
 -- The rows once a content is written among them.
-use Rattle.std.proofs.Common.{◌≡◌, ℕ, ◌+◌, true, false, cond, ◌==◌, inl, inr, Option, List, [], ◌∷◌, refl, sym, ap, ◌∙◌, arith, length}
-use Rattle.std.specs.Option.{option_map}
-use Rattle.std.proofs.lemmas.Bool.{cases_Bool, eqb-true, ne_eqb, eqb-false}
+use Rattle.std.proofs.Common.{◌≡◌, ℕ, ◌+◌, true, false, cond, ◌==◌, inl, inr, Option, List, [], ◌∷◌, refl, sym, ap, ◌∙◌, arith, length, option_map, eqb-true, ne_eqb}
+use Rattle.std.proofs.lemmas.Bool.{cases_Bool, eqb-false}
 use Rattle.hv_tree.specs.Rows.{children_in, is_parent}
 use Rattle.hv_tree.specs.Nest.{Line, look, uses, AreDistinct, put_at}
 

@@ -1,6 +1,5 @@
 -- The rows of a node after an edit of the contents in the subtree of one of its rows.
-use Rattle.std.specs.Prelude.{◌≡◌, ℕ, Bool, true, false, cond, ◌==◌, Some, List, [], ◌∷◌}
-use Rattle.std.specs.Option.{option_map}
+use Rattle.std.specs.Prelude.{◌≡◌, ℕ, Bool, true, false, cond, ◌==◌, Some, List, [], ◌∷◌, option_map}
 use Rattle.hv_tree.specs.Nest.{Line, look, top}
 
 -- the rows, with f applied to each content whose id is in the part

@@ -1,8 +1,7 @@
 -- An index from each id to its parent, and the rows that it agrees with.
-use Rattle.std.specs.Prelude.{◌≡◌, ℕ, ◌<◌, ◌^◌, length, nat_eq, Option, List}
+use Rattle.std.specs.Prelude.{◌≡◌, ℕ, ◌<◌, ◌^◌, length, nat_eq, Option, List, option_and_then}
 use Rattle.std.specs.List.Sorted.{IsNonDecreasing}
 use Rattle.hv_tree.specs.Rows.{children_in}
-use Rattle.std.specs.Option.{option_and_then}
 use Rattle.indexmap.specs.IndexMap.{IndexMap, get}
 use Rattle.hv_tree.specs.Nest.{Line, AreDistinct, look}
 use Rattle.hv_tree.specs.Full.{IsSound}

@@ -1,7 +1,7 @@
 -- The rows of a node and of all that is below it, as a list in which a parent comes before its children.
 use Rattle.std.specs.Prelude.{◌≡◌, ℕ, zero, suc, ◌+◌, ◌≤◌, ◌<◌, Bool, true, false, cond, ◌||◌, ◌==◌, Option}
-use Rattle.std.specs.Prelude.{None, Some, is_some, List, [], ◌∷◌, ◌++◌}
-use Rattle.std.specs.Option.{option_or, option_map}
+use Rattle.std.specs.Prelude.{None, Some, is_some, List, [], ◌∷◌, ◌++◌, option_map}
+use Rattle.std.specs.Option.{option_or}
 use Rattle.hv_tree.specs.Rows.{children_in}
 
 -- a node's id, its parent if that is in the list, and its content, which every row of a tree has

@@ -1,6 +1,6 @@
 -- A tree with one part replaced at the end of a way.
-use Rattle.std.specs.Prelude.{◌≡◌, ℕ, List, [], ◌∷◌, Option, None, Some, slice_get, Box}
-use Rattle.std.specs.Option.{option_map, option_and_then}
+use Rattle.std.specs.Prelude.{◌≡◌, ℕ, List, [], ◌∷◌, Option, None, Some, slice_get, Box, option_map}
+use Rattle.std.specs.Prelude.{option_and_then}
 use Rattle.std.specs.Vec.{with_item}
 use Rattle.std.specs.Box.{with_value}
 use Rattle.hv_tree.specs.declared.node.Branch.{Branch, out-Branch, roll-Branch}

@@ -1,8 +1,6 @@
 -- The way down to a node, derived from an index of parents.
-use Rattle.std.specs.List.{remove}
-use Rattle.std.specs.Option.{unwrap_or}
-use Rattle.std.specs.Prelude.{◌≡◌, ℕ, zero, suc, ◌+◌, ◌<◌, ◌≤◌, ◌==◌, cond, length, List, [], ◌∷◌, ◌++◌}
-use Rattle.std.specs.Prelude.{Option, None, Some, Box, get_or}
+use Rattle.std.specs.Prelude.{remove, unwrap_or, ◌≡◌, ℕ, zero, suc, ◌+◌, ◌<◌, ◌≤◌, ◌==◌, cond, length, List}
+use Rattle.std.specs.Prelude.{[], ◌∷◌, ◌++◌, Option, None, Some, Box, get_or}
 use Rattle.hv_tree.specs.declared.node.Branch.{Branch}
 use Rattle.hv_tree.specs.declared.node.Node.{Node, out-Node}
 use Rattle.hv_tree.specs.declared.index.TheConstants.{MOST}

@@ -1,8 +1,7 @@
 //! Operations that change the nodes of a tree. Each one borrows its node through the way down to it.
 ghost use Rattle.std.specs.Prelude.{◌≡◌, ◌≢◌, ◌↔◌, ◌<◌, ◌≤◌, ℕ, ◌==◌, cond, length, true, false, None, Some};
-ghost use Rattle.std.specs.Prelude.{IfSome, IfNone, IfErr, OnOk, OnErr};
+ghost use Rattle.std.specs.Prelude.{IfSome, IfNone, IfErr, OnOk, OnErr, option_map};
 ghost use Rattle.std.specs.List.Sorted.{IsNonDecreasing};
-ghost use Rattle.std.specs.Option.{option_map};
 ghost use Rattle.hv_tree.specs.Rows.{children_in};
 ghost use Rattle.hv_tree.specs.Edited.{IsEditedFrom};
 ghost use Rattle.hv_tree.specs.Index.{parents, IsLaid};

@@ -1,9 +1,8 @@
 //! A node, which owns its children.
 ghost use Rattle.std.specs.Prelude.{◌≡◌, ◌≢◌, ◌<◌, ◌≤◌, ◌++◌, ◌∷◌, [], length, map, true, Some, None, IfSome};
-ghost use Rattle.std.specs.Prelude.{IfNone, IfOk, OnOk, OnErr};
+ghost use Rattle.std.specs.Prelude.{IfNone, IfOk, OnOk, OnErr, All, HoldsAt};
 ghost use Rattle.std.specs.Borrow.{Lends, LendsIf, sem};
 ghost use Rattle.std.specs.Option.{option_copied_mut};
-ghost use Rattle.std.specs.List.{All, HoldsAt};
 ghost use Rattle.std.specs.List.Sorted.{IsNonDecreasingBy, IsPartitionPoint};
 ghost use Rattle.hv_tree.specs.contracts.node.Branch.{the_row as branch_row};
 ghost use Rattle.hv_tree.specs.contracts.node.Node.{the_row as node_row};

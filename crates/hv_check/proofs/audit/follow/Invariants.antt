@@ -1,5 +1,4 @@
-use Rattle.std.proofs.Common.{List, length}
-use Rattle.std.specs.declared.alloc.Global.{Global}
+use Rattle.std.proofs.Common.{List, length, Global}
 use Rattle.hv_script.specs.declared.line.Line.{Line}
 use Rattle.hv_check.specs.From.{HasMoved}
 use Rattle.hv_check.specs.Replay.{IsBegun, StandsFor}

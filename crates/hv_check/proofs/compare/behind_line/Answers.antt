@@ -1,5 +1,5 @@
 use Rattle.std.proofs.Common.{◌≡◌, ◌<◌, ◌≤◌, ◌≢◌, ℕ, ◌+◌, ◌-◌, List, [], ◌∷◌, ◌++◌, length, get_or, take, drop, refl, sym, ap, ◌∙◌, subst, arith, inl, inr, true, false, Bool, None, Some, append-nil}
-use Rattle.std.specs.Prelude.{codes}
+use Rattle.std.proofs.Common.{codes}
 use Rattle.hv_policy.specs.Rule.{rule_name}
 use Rattle.hv_check.specs.Legal.{bare_text}
 use Rattle.hv_check.specs.Tail.{IsBehindName, name_in}

@@ -1,8 +1,7 @@
-use Rattle.std.proofs.Common.{◌≡◌, ◌+◌, ◌*◌, ◌<◌, ◌≤◌, None, length, get_or, take, arith, rules, tests, ap, sym, ◌∙◌}
+use Rattle.std.proofs.Common.{◌≡◌, ◌+◌, ◌*◌, ◌<◌, ◌≤◌, None, length, get_or, take, arith, rules, tests, ap, sym, ◌∙◌, take_all}
 use Rattle.std.specs.Char.{digit_value}
 use Rattle.std.specs.Str.Parse.{AllDigits, digits_value}
 use Rattle.std.proofs.lemmas.Int.Digits.{digits_more, digits_value_more}
-use Rattle.std.proofs.lemmas.List.{take_all}
 use Rattle.hv_check.proofs.Digits.{all_digits_at, one_more_le}
 use Rattle.hv_check.proofs.reader.decimal.Goals as goal
 

@@ -1,4 +1,4 @@
-use Rattle.std.specs.Prelude.{reverse}
+use Rattle.std.proofs.Common.{reverse}
 use Rattle.hv_check.proofs.Handed.{handed_more}
 use Rattle.hv_check.proofs.replay.begin_with.Goals as goal
 

@@ -1,5 +1,4 @@
-use Rattle.std.proofs.Common.{◌≡◌, ◌+◌, List, ◌∷◌, ◌++◌}
-use Rattle.std.specs.Prelude.{All, reverse, vec_len}
+use Rattle.std.proofs.Common.{◌≡◌, ◌+◌, List, ◌∷◌, ◌++◌, All, reverse, vec_len}
 use Rattle.hv_phases.specs.Lines.{asked_by}
 use Rattle.hv_policy.specs.declared.event.Caller.{Caller}
 use Rattle.hv_check.specs.Replay.{todo_of}

@@ -1,7 +1,6 @@
-use Rattle.std.proofs.Common.{◌≡◌, true, None, Some, refl, sym, ap, subst, ◌∙◌, rules}
+use Rattle.std.proofs.Common.{◌≡◌, true, None, Some, refl, sym, ap, subst, ◌∙◌, rules, nat_cmp}
 use Rattle.std.specs.FinMap.{get}
 use Rattle.std.specs.FinSet as set
-use Rattle.std.specs.Ordering.{nat_cmp}
 use Rattle.hv_pages.specs.PageSet.{PagesAndRoom, IsLowest}
 use Rattle.hv_partition.specs.Partition.{PartitionState}
 use Rattle.hv_refine.proofs.Found.{content_row}

@@ -1,5 +1,5 @@
-use Rattle.std.proofs.Common.{◌≡◌, ◌<◌, ℕ, Bool, is_some, nat_lt, inl, inr, sym, ap, ◌∙◌, ◌&&◌, arith, refl}
-use Rattle.std.proofs.lemmas.Bool.{cases_lt, le-ltb}
+use Rattle.std.proofs.Common.{◌≡◌, ◌<◌, ℕ, Bool, is_some, nat_lt, inl, inr, sym, ap, ◌∙◌, ◌&&◌, arith, refl, le-ltb}
+use Rattle.std.proofs.lemmas.Bool.{cases_lt}
 use Rattle.hv_mail.proofs.PartitionRelation.{keep_more, none_set, set_more}
 use Rattle.hv_mail.specs.Mail.{at}
 use Rattle.hv_effects.proofs.Told.{one_bit}

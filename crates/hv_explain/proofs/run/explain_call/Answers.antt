@@ -1,5 +1,4 @@
-use Rattle.std.proofs.Common.{ℕ, subst}
-use Rattle.std.specs.Prelude.{Option}
+use Rattle.std.proofs.Common.{ℕ, subst, Option}
 use Rattle.hv_explain.specs.Written.{HasWrittenElement}
 use Rattle.hv_explain.proofs.Whole.{begun_ends, begun_more}
 use Rattle.hv_explain.proofs.run.explain_call.Goals as goal

@@ -1,5 +1,4 @@
-use Rattle.std.proofs.Common.{◌≡◌, ◌+◌, ◌<◌, List, [], ◌∷◌, ◌++◌, length, take, suc, sym, ap, ◌∙◌, subst, arith, take-suc}
-use Rattle.std.specs.declared.alloc.Global.{Global}
+use Rattle.std.proofs.Common.{◌≡◌, ◌+◌, ◌<◌, List, [], ◌∷◌, ◌++◌, length, take, suc, sym, ap, ◌∙◌, subst, arith, take-suc, Global}
 use Rattle.hv_script.specs.declared.line.Line.{Line}
 use Rattle.hv_explain.specs.Written.{HasWrittenLines}
 use Rattle.hv_explain.proofs.Lines.{lines_more}

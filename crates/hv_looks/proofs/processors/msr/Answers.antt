@@ -1,6 +1,5 @@
-use Rattle.std.proofs.Common.{Option, subst, sym, ℕ}
+use Rattle.std.proofs.Common.{Option, subst, sym, ℕ, option_map}
 use Rattle.std.specs.Int.{w64, to_le_bytes}
-use Rattle.std.specs.Option.{option_map}
 use Rattle.hv_machine.specs.Access.{access_event}
 use Rattle.hv_policy.specs.declared.event.Access.TheVariants.{ReadMsr}
 use Rattle.hv_looks.specs.Look.{ShowsServed}

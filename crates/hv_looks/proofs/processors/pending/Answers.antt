@@ -1,5 +1,4 @@
-use Rattle.std.proofs.Common.{List, Option, Some, None, ap, refl, subst, sym, ℕ, ◌≡◌, ◌∙◌}
-use Rattle.std.specs.Option.{option_map}
+use Rattle.std.proofs.Common.{List, Option, Some, None, ap, refl, subst, sym, ℕ, ◌≡◌, ◌∙◌, option_map}
 use Rattle.hv_defs.specs.Vectors.{VectorSet}
 use Rattle.hv_machine.specs.Access.{access_event}
 use Rattle.hv_mail.specs.Words.{numbers_of}

@@ -1,5 +1,4 @@
-use Rattle.std.proofs.Common.{◌≡◌, ◌*◌, length, ◌∙◌, sym, arith}
-use Rattle.std.proofs.lemmas.List.{take_all}
+use Rattle.std.proofs.Common.{◌≡◌, ◌*◌, length, ◌∙◌, sym, arith, take_all}
 use Rattle.hv_mail.proofs.WordBytes.{word_more}
 use Rattle.hv_mail.proofs.words.copy_words.Goals as goal
 

@@ -1,5 +1,4 @@
-use Rattle.std.proofs.Common.{◌≡◌, ◌∙◌, map, sym, [], subst}
-use Rattle.std.specs.Prelude.{Ok, Err}
+use Rattle.std.proofs.Common.{◌≡◌, ◌∙◌, map, sym, [], subst, Ok, Err}
 use Rattle.std.proofs.lemmas.Result.{IfErr-weaker, IfOk-weaker}
 use Rattle.clap.specs.Words.{HasKind, Kinds}
 use Rattle.clap.specs.declared.parser.matches.ArgMatches.{ArgMatches}

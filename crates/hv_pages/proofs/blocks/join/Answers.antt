@@ -1,5 +1,4 @@
-use Rattle.std.proofs.Common.{◌≡◌, suc, ◌+◌, ◌<◌, ◌++◌, ◌∷◌, List, length, get_or, set as list_set, take, drop, arith, ap, ◌∙◌}
-use Rattle.std.specs.List.{remove as list_remove}
+use Rattle.std.proofs.Common.{◌≡◌, suc, ◌+◌, ◌<◌, ◌++◌, ◌∷◌, List, length, get_or, set as list_set, take, drop, arith, ap, ◌∙◌, remove as list_remove}
 use Rattle.std.proofs.lemmas.List.{get_or_read}
 use Rattle.hv_pages.specs.declared.runs.Run.{Run}
 use Rattle.hv_pages.specs.Blocks.{Block}

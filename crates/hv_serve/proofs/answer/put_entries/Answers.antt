@@ -1,6 +1,5 @@
-use Rattle.std.proofs.Common.{◌+◌, ◌-◌, ◌++◌, codes, drop, subst, sym, take}
+use Rattle.std.proofs.Common.{◌+◌, ◌-◌, ◌++◌, codes, drop, subst, sym, take, Global}
 use Rattle.std.specs.Io.KnownBytes.{Appends}
-use Rattle.std.specs.declared.alloc.Global.{Global}
 use Rattle.std.proofs.KnownBytes.{Appends-trans}
 use Rattle.hv_history.specs.History.{entries, entry_by}
 use Rattle.hv_text.specs.Audit.{entries_text, entry_text}

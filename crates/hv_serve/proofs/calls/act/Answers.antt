@@ -1,6 +1,4 @@
-use Rattle.std.proofs.Common.{◌≡◌, length, subst, sym}
-use Rattle.std.specs.Prelude.{◌↔◌}
-use Rattle.std.specs.declared.alloc.Global.{Global}
+use Rattle.std.proofs.Common.{◌≡◌, length, subst, sym, ◌↔◌, Global}
 use Rattle.hv_history.specs.Kept.{Kept}
 use Rattle.hv_history.specs.declared.kept.HostRefused.TheVariants.{HistoryFull}
 use Rattle.hv_serve.proofs.Acts.{access_stopped, accessed, err_is, no_call}

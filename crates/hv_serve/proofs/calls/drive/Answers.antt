@@ -1,5 +1,4 @@
-use Rattle.std.proofs.Common.{◌≡◌, ◌<◌, length, arith}
-use Rattle.std.specs.Prelude.{◌↔◌}
+use Rattle.std.proofs.Common.{◌≡◌, ◌<◌, length, arith, ◌↔◌}
 use Rattle.std.proofs.lemmas.Result.{IfErr-at_err, IfOk-at_ok}
 use Rattle.hv_history.specs.Run.{HasRun, HasStopped}
 use Rattle.hv_history.specs.declared.kept.HostRefused.TheVariants.{HistoryFull}

@@ -1,15 +1,13 @@
-use Rattle.std.proofs.Common.{◌≡◌, ◌∙◌, false, sym, ap, subst}
+use Rattle.std.proofs.Common.{◌≡◌, ◌∙◌, false, sym, ap, subst, Some}
 use Rattle.std.specs.List.Sorted.{IsNonDecreasing, IsNonDecreasingBy}
 use Rattle.hv_tree.specs.Rows.{children_in}
 use Rattle.hv_tree.specs.Index.{parents}
 use Rattle.hv_tree.specs.Lines.{lines}
 use Rattle.hv_tree.specs.Nest.{has_row, AreDistinct, IsWithout}
 use Rattle.hv_tree.specs.Put.{put_far}
-use Rattle.hv_tree.specs.Way.{id_of, children_of, way_to, IsReached}
+use Rattle.hv_tree.specs.Way.{id_of, children_of, way_to, IsReached, IsShorn, HasParent}
 use Rattle.hv_tree.proofs.Steps.{rising-non_decreasing}
 use Rattle.hv_tree.proofs.Changes.{lines-shorn, kids-changed, kids-refused, child-named}
-use Rattle.hv_tree.specs.Way.{IsShorn, HasParent}
-use Rattle.std.proofs.Common.{Some}
 use Rattle.hv_tree.proofs.Lists.{rising-remove}
 use Rattle.hv_tree.proofs.Nested.{nest}
 use Rattle.hv_tree.proofs.Seen.{kid_there}

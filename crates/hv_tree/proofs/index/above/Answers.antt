@@ -1,5 +1,4 @@
-use Rattle.std.proofs.Common.{◌≡◌, ◌+◌, ◌-◌, sym, ap, ◌∙◌, arith}
-use Rattle.std.specs.Option.{unwrap_or}
+use Rattle.std.proofs.Common.{◌≡◌, ◌+◌, ◌-◌, sym, ap, ◌∙◌, arith, unwrap_or}
 use Rattle.hv_tree.specs.Index.{parents}
 use Rattle.hv_tree.specs.Way.{above}
 use Rattle.hv_tree.proofs.Climb.{above-zero, above-on}

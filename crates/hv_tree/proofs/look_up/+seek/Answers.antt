@@ -1,5 +1,4 @@
-use Rattle.std.proofs.Common.{◌≡◌, None, Some, true, get_or, sym, ap, ◌∙◌, arith}
-use Rattle.std.specs.Option.{option_map}
+use Rattle.std.proofs.Common.{◌≡◌, None, Some, true, get_or, sym, ap, ◌∙◌, arith, option_map}
 use Rattle.hv_tree.specs.Index.{parents}
 use Rattle.hv_tree.specs.Lines.{lines}
 use Rattle.hv_tree.specs.Nest.{has_row}

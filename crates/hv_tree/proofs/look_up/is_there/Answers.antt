@@ -1,5 +1,4 @@
-use Rattle.std.proofs.Common.{◌≡◌, ◌==◌, false, is_some, ap, ◌∙◌}
-use Rattle.std.proofs.lemmas.Bool.{ne_eqb}
+use Rattle.std.proofs.Common.{◌≡◌, ◌==◌, false, is_some, ap, ◌∙◌, ne_eqb}
 use Rattle.hv_tree.specs.Index.{parents}
 use Rattle.hv_tree.specs.Lines.{lines}
 use Rattle.hv_tree.specs.Nest.{top}

@@ -1,7 +1,6 @@
-use Rattle.std.proofs.Common.{◌≡◌, ℕ, false, ap, ◌∙◌}
+use Rattle.std.proofs.Common.{◌≡◌, ℕ, false, ap, ◌∙◌, nat_cmp}
 use Rattle.std.specs.FinSet.{contains, contains-empty}
 use Rattle.std.specs.FinSet as set
-use Rattle.std.specs.Ordering.{nat_cmp}
 use Rattle.hv_pages.specs.PageSet.{Pages, PagesAndRoom}
 use Rattle.test_growth.proofs.pages.run_of.Goals as goal
 

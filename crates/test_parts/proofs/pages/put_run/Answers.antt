@@ -1,7 +1,6 @@
-use Rattle.std.proofs.Common.{◌≡◌, ℕ, false, ap, ◌∙◌}
+use Rattle.std.proofs.Common.{◌≡◌, ℕ, false, ap, ◌∙◌, nat_cmp}
 use Rattle.std.specs.FinSet.{contains, contains-empty}
 use Rattle.std.specs.FinSet as set
-use Rattle.std.specs.Ordering.{nat_cmp}
 use Rattle.hv_pages.specs.PageSet.{Pages, PagesAndRoom, IsDisjoint}
 use Rattle.test_parts.proofs.pages.put_run.Goals as goal
 

@@ -1,6 +1,4 @@
-use Rattle.std.proofs.Common.{◌≡◌, ◌<◌, ◌-◌, ◌+◌, List, ◌++◌, length, ap, ◌∙◌, subst, arith, Some}
-use Rattle.std.specs.Prelude.{codes, slice_get}
-use Rattle.std.specs.declared.alloc.Global.{Global}
+use Rattle.std.proofs.Common.{◌≡◌, ◌<◌, ◌-◌, ◌+◌, List, ◌++◌, length, ap, ◌∙◌, subst, arith, Some, codes, slice_get, Global}
 use Rattle.hv_history.specs.History.{entry_by}
 use Rattle.hv_history.specs.declared.entry.Entry.{Entry}
 use Rattle.hv_text.specs.Audit.{entry_text}

@@ -4,8 +4,8 @@ use Rattle.hv_pages.specs.Blocks.{Block}
 use Rattle.hv_pages.proofs.BlockLists.{joined_flat}
 use Rattle.hv_pages.proofs.Dense.{dense_apart, dense_before, dense_next}
 use Rattle.hv_pages.proofs.blocks.Blocks.join_around.Goals as goal
-use Rattle.hv_pages.proofs.blocks.Blocks.join_around.Goals.{else-next-len-via-then-next-len+else-len-le-HALF, else-next-len-via-else-next-len}
-use Rattle.hv_pages.proofs.blocks.Blocks.join_around.Goals.{else-block-gt0-via-then-block-gt0+else-len-le-HALF-2, else-block-gt0-via-else-block-gt0}
+use Rattle.hv_pages.proofs.blocks.Blocks.join_around.Goals.{else-next-len-via-then-next-len+else-len-le-HALF, else-next-len-via-else-next-len, else-block-gt0-via-then-block-gt0+else-len-le-HALF-2}
+use Rattle.hv_pages.proofs.blocks.Blocks.join_around.Goals.{else-block-gt0-via-else-block-gt0}
 
 pub returns-then-len-le-HALF-clause-blocks : goal.returns-then-len-le-HALF-clause-blocks
 returns-then-len-le-HALF-clause-blocks g c =

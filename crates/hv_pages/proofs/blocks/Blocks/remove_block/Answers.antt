@@ -1,5 +1,4 @@
-use Rattle.std.proofs.Common.{◌≡◌, ◌+◌, ◌<◌, [], length, take, arith, ap, ◌∙◌}
-use Rattle.std.specs.List.{remove as list_remove}
+use Rattle.std.proofs.Common.{◌≡◌, ◌+◌, ◌<◌, [], length, take, arith, ap, ◌∙◌, remove as list_remove}
 use Rattle.hv_pages.specs.Blocks.{Block, flat}
 use Rattle.hv_pages.proofs.BlockLists.{removed_block, weight_low}
 use Rattle.hv_pages.proofs.Dense.{dense_without}

@@ -1,6 +1,5 @@
-use Rattle.std.proofs.Common.{◌≡◌, ◌<◌, List, length, get_or, set as list_set, arith, ap, subst, sym, ◌∙◌}
+use Rattle.std.proofs.Common.{◌≡◌, ◌<◌, List, length, get_or, set as list_set, arith, ap, subst, sym, ◌∙◌, remove as list_remove}
 use Rattle.hv_pages.specs.declared.blocks.Blocks.{Blocks}
-use Rattle.std.specs.List.{remove as list_remove}
 use Rattle.std.proofs.lemmas.List.Edits.{length-remove}
 use Rattle.hv_pages.specs.declared.runs.Run.{Run}
 use Rattle.hv_pages.specs.Blocks.{Block, IsLoose}

@@ -1,5 +1,4 @@
-use Rattle.std.proofs.Common.{◌≡◌, codes, false, rules, subst, sym, tests, true}
-use Rattle.std.specs.Prelude.{Some}
+use Rattle.std.proofs.Common.{◌≡◌, codes, false, rules, subst, sym, tests, true, Some}
 use Rattle.hv_script.specs.Words.{begins_with}
 use Rattle.hv_serve.specs.Bench.{HasTaken}
 use Rattle.hv_serve.proofs.Benches.{boots_twice, is_phase, is_processor}

@@ -1,7 +1,7 @@
-use Rattle.std.proofs.Common.{true, ◌≡◌, ◌<◌, ◌≤◌, ◌++◌, ◌∷◌, ◌∙◌, None, Some, refl, sym, ap, length, get_or, take, drop, set, map, arith, add-one, append-nil}
+use Rattle.std.proofs.Common.{true, ◌≡◌, ◌<◌, ◌≤◌, ◌++◌, ◌∷◌, ◌∙◌, None, Some, refl, sym, ap, length, get_or, take, drop, set, map, arith, add-one, append-nil, get_or-set_other}
 use Rattle.std.specs.Box.{with_value}
 use Rattle.std.specs.Vec.{with_item}
-use Rattle.std.proofs.lemmas.List.{get_or-set_other, length-map}
+use Rattle.std.proofs.lemmas.List.{length-map}
 use Rattle.hv_tree.specs.declared.node.Node.{out-Node, roll-Node, out-roll-Node}
 use Rattle.hv_tree.specs.Below.{below}
 use Rattle.hv_tree.specs.Edited.{edited_in}

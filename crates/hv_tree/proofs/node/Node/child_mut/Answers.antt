@@ -1,7 +1,6 @@
-use Rattle.std.proofs.lemmas.Bool.{cases_Bool, ltb-true, ltb-false}
+use Rattle.std.proofs.lemmas.Bool.{cases_Bool}
+use Rattle.std.proofs.Common.{ltb-true, ltb-false, length, ◌≤◌, ◌≡◌, Some, None, slice_get, refl, sym, ap, ◌∙◌, inl, inr, arith, option_map}
 use Rattle.std.proofs.Math.Dec.{ltb}
-use Rattle.std.proofs.Common.{length, ◌≤◌, ◌≡◌, Some, None, slice_get, refl, sym, ap, ◌∙◌, inl, inr, arith}
-use Rattle.std.specs.Option.{option_map}
 use Rattle.std.proofs.lemmas.Option.{slice_get-get_or}
 use Rattle.hv_tree.specs.declared.node.Node.{out-Node, roll-out-Node}
 use Rattle.hv_tree.specs.Put.{child_of}

@@ -33,7 +33,7 @@ use types.ByLocal.{alloc_all, pass_all, free_all, look_at, get, through, sets, l
 use denote.RawPtr.{block_ptr}
 use denote.Builtin.{usize, RefOf}
 use denote.Triple.Call.{calls_at}
-use Rattle.std.proofs.alloc.Calls.{Al, α, seen, Answer, answer_val, Answer-typed, Answer-Ok, Answer-err, takes_key, Takes, at_takes, Answered, Takes-goes, Takes-gives, answers}
+use Rattle.std.proofs.alloc.Calls.{Al, α, seen, Answer, answer_val, Answer-typed, Answer-Ok, Answer-err, takes_key, Takes, at_takes, Answered, Takes-goes, Takes-gives, answers, token}
 use Rattle.test_growth.proofs.Spends.{Spend, at_spend, Spend-goes, Spend-gives}
 use Rattle.test_growth.proofs.rationed.spend.Symbol as c_sym
 use Rattle.test_growth.proofs.rationed.spend.Met as c_met
@@ -54,7 +54,6 @@ use types.Kit.{by, at_ret, some, pick, rewrite, ⋆}
 use types.ByLocal.{env, lands_last, sets_last}
 use prog.Wp.{Env}
 use denote.Triple.Call.{calls_at_last}
-use Rattle.std.proofs.alloc.Calls.{token}
 use Rattle.std.proofs.alloc.Shapes.{after}
 
 module _ (Z : Al) where
