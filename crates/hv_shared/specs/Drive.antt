@@ -1,13 +1,11 @@
 -- The receipts and the result of a call that is driven to its end.
-use Rattle.std.specs.Prelude.{ℕ, ◌≡◌, ◌+◌, List, [], ◌∷◌, ◌++◌, length, map}
+use Rattle.std.specs.Prelude.{ℕ, ◌≡◌, List, [], ◌∷◌, ◌++◌, map}
 use Rattle.std.specs.declared.alloc.Global.{Global}
 use Rattle.hv_abi.specs.InputValue.{input_value}
 use Rattle.hv_abi.specs.declared.frame.Frame.{Frame}
 use Rattle.hv_history.specs.Run.{AreElements as AreAsked, IsMore, element}
 use Rattle.hv_history.specs.declared.entry.Entry.{Entry}
-use Rattle.hv_policy.specs.Next.{GoesOn}
-use Rattle.hv_policy.specs.Result.{HasResult, result_of}
-use Rattle.hv_policy.specs.declared.event.Action.TheVariants.{Hypercall}
+use Rattle.hv_policy.specs.Result.{result_of}
 use Rattle.hv_policy.specs.declared.event.Caller.{Caller}
 use Rattle.hv_policy.specs.declared.reply.Reply.{Reply}
 use Rattle.hv_shared.specs.Pass.{HasReceipts, receipt}
@@ -48,15 +46,3 @@ pub record HasStopped (frame : Frame Global) (next : ℕ) (old new : PassValue) 
   pub elements : AreElements old.caller frame more now
   pub next_is : next ≡ (input_value now.rcx).start
   pub gained : HasReceipts more old new
-
--- the pass has gained `events` receipts of the elements of a call from this frame on, and the last has this
--- reply
-pub record HasAsked (frame : Frame Global) (reply : Reply) (events : ℕ) (old new : PassValue) : Type 0 where
-  pub before : List Receipt
-  pub last : Frame Global
-  pub number : ℕ
-  pub elements : AreElements old.caller frame before last
-  pub gained : HasReceipts (before ++ receipt number (element old.caller last) reply ∷ []) old new
-  pub count : events ≡ length before + 1
-  pub result : HasResult reply
-  pub next : GoesOn (Hypercall last) reply

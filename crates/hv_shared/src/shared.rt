@@ -1,21 +1,19 @@
 // The one lock.
-ghost use Rattle.std.specs.Prelude.{◌≡◌, ◌<◌, ◌≤◌, ◌+◌, [], IfOk, IfErr, OnErr, vec_len};
+ghost use Rattle.std.specs.Prelude.{◌≡◌, ◌<◌, [], IfOk, IfErr, OnErr, vec_len};
 ghost use Rattle.hv_abi.specs.declared.frame.Frame.{Frame as CallFrame};
-ghost use Rattle.hv_history.specs.Run.{start_of};
 ghost use Rattle.hv_policy.specs.Next.{GoesOn};
 ghost use Rattle.hv_policy.specs.Result.{HasResult};
 ghost use Rattle.hv_policy.specs.declared.event.Action.TheVariants.{Hypercall};
-ghost use Rattle.hv_shared.specs.Copies.{AreCopies};
-ghost use Rattle.hv_shared.specs.Drive.{HasAsked, HasStopped};
+ghost use Rattle.hv_shared.specs.Drive.{HasDriven, HasStopped};
 ghost use Rattle.hv_shared.specs.Pass.{HasCalled, IsAsBefore};
 ghost use Rattle.hv_shared.specs.Shared.{AreOpened};
 
-use crate::drive::MOST_IN_A_HOLD;
+use crate::drive::{DriveRefused, MOST_IN_A_HOLD, prepare};
 use crate::gate::Gate;
 use crate::held::{Held, Pass};
-use hv_abi::Frame;
-use hv_history::{HostRefused, Kept, RunDone};
-use hv_policy::{Action, Caller, Config, Event, Reply};
+use hv_abi::{Frame, InputValue, ResultValue};
+use hv_history::{HostRefused, Kept, next_of};
+use hv_policy::{Action, Caller, Config, Event, Reply, result_of};
 use std::alloc::Global;
 use std::marker::Model;
 use std::sync::ledger::{Blank, Ledger};
@@ -119,25 +117,49 @@ impl<L: Ledger> Shared<L> {
         (self.held.into_inner(), self.passes, self.config, self.limit)
     }
 
-    // Takes the lock for those elements of a call that have copies.
+    /// Drives a hypercall to its end, and returns its result value and the reply to its last event.
+    ///
+    /// The elements of a rep call happen one after another from its start index on. Each is an event of its
+    /// own, to which all rules apply. Up to 16 of them share one critical section. The call ends with its
+    /// last element, or with the first that a rule refuses. The result value is that of the whole call.
     // Inlined: calls for the own id in bench/largest.sh.
     #[inline(always)]
-    pub(crate) fn hold_run<R: Wait>(
+    pub fn drive<R: Wait, G: Gate>(
         &self,
         rt: &R,
         pass: &mut Pass<L>,
+        gate: &G,
         frame: Frame<Global>,
-        copies: Vec<Event<Global>>,
-    ) -> RunDone
-        requires copies { AreCopies pass.old.caller frame MOST_IN_A_HOLD copies.items }
-        requires room { vec_len copies ≤ pass.old.room }
-        ensures asked { IfOk result.last (λ r. HasAsked frame r result.events pass.old pass.new) }
-        ensures refused { OnErr result.last (HasStopped frame (start_of frame + result.events) pass.old
-            pass.new) }
-        ensures few { result.events ≤ MOST_IN_A_HOLD }
+    ) -> Result<(ResultValue, Reply), DriveRefused>
+        ensures driven { IfOk result (λ r. HasDriven frame r.0 r.1 pass.old pass.new) }
+        ensures refused { IfErr result (λ e. HasStopped frame e.next pass.old pass.new) }
     {
-        self.held
-            .lock(rt)
-            .hold_run(pass, frame, copies, MOST_IN_A_HOLD)
+        let mut frame = frame;
+        loop {
+            let start = InputValue::read(frame.rcx).start;
+            let Ok((own, copies)) = prepare(pass, &frame) else {
+                return Err(DriveRefused {
+                    why: HostRefused::Memory,
+                    next: start,
+                });
+            };
+            let turn = pass.receipts().len() as u64;
+            gate.enter(rt, pass.caller(), turn);
+            let done = self
+                .held
+                .lock(rt)
+                .hold_run(pass, own, copies, MOST_IN_A_HOLD);
+            gate.leave(rt, pass.caller(), turn);
+            let next = start + done.events as u16;
+            let reply = match done.last {
+                Ok(reply) => reply,
+                Err(why) => return Err(DriveRefused { why, next }),
+            };
+            let last = frame.with_start(next - 1);
+            let Some(next) = next_of(reply.parts().0) else {
+                return Ok((result_of(&last, &reply), reply));
+            };
+            frame = last.with_start(next);
+        }
     }
 }

@@ -1,61 +1,49 @@
-use Rattle.std.proofs.Common.{rules, ◌≡◌, ◌+◌, ◌-◌, ◌∙◌, ℕ, ap, sym, subst, arith}
+use Rattle.std.proofs.Common.{◌∙◌, ap, sym, subst, arith}
+use Rattle.std.proofs.lemmas.Result.{IfErr-at_err, IfOk-at_ok}
 use Rattle.hv_abi.specs.declared.input_value.InputValue.{InputValue}
-use Rattle.hv_history.specs.Run.{IsMore, start_of}
-use Rattle.hv_policy.specs.declared.reply.Reply.TheVariants.{More}
-use Rattle.hv_shared.proofs.Driving.{driven, further, goes_on, has_index, last_is, some, stopped}
+use Rattle.hv_history.specs.Run.{IsMore}
+use Rattle.hv_shared.proofs.Driving.{driven, fits, goes_on, nearer, stopped}
 use Rattle.hv_shared.proofs.shared.Shared.drive.Goals as goal
 
-pub returns-in_err-events-clause-refused : goal.returns-in_err-events-clause-refused
-returns-in_err-events-clause-refused g c =
-    let l = c.loop-frame in
-    let part = stopped c.args.frame l.frame c.args.pass.now l.pass l.invariant _ c.ask.new.pass c.in_err-events.ensures.refused in
-    search rules
-
-pub overflow_add-start : goal.overflow_add-start
-overflow_add-start g c =
-    let l = c.loop-frame in
-    let start : c.read-start.result.start ≡ start_of l.frame = ap (λ (v : InputValue). v.start) c.read-start.ensures in
-    let index = has_index c.args.frame l.frame c.args.pass.now l.pass l.invariant c.in_ok-events.reply c.in_ok-events.events c.ask.new.pass c.in_ok-events.ensures.asked in
-    omega (arith, start, index)
+pub returns-in-Err-clause-refused : goal.returns-in-Err-clause-refused
+returns-in-Err-clause-refused g c =
+    let l = c.loop-own in
+    let start = ap (λ (v : InputValue). v.start) c.read-start.ensures in
+    let run = IfErr-at_err _ c.in-Err.is c.hold_run-done.ensures.stopped in
+    stopped c.args.frame l.frame c.args.pass.now l.pass _ l.invariant c.prepare.ensures.same c.in-Ok.own c.in-Ok.ensures.frame _ start _ _ _ c.hold_run-done.ensures.held _ _ run
 
 pub with_start-last-requires : goal.with_start-last-requires
 with_start-last-requires g c =
-    let l = c.loop-frame in
-    let start : c.read-start.result.start ≡ start_of l.frame = ap (λ (v : InputValue). v.start) c.read-start.ensures in
-    let index = has_index c.args.frame l.frame c.args.pass.now l.pass l.invariant c.in_ok-events.reply c.in_ok-events.events c.ask.new.pass c.in_ok-events.ensures.asked in
-    let one = some c.args.frame l.frame c.args.pass.now l.pass l.invariant c.in_ok-events.reply c.in_ok-events.events c.ask.new.pass c.in_ok-events.ensures.asked in
-    omega (arith, start, index, one)
+    let l = c.loop-own in
+    let start = ap (λ (v : InputValue). v.start) c.read-start.ensures in
+    let run = IfOk-at_ok _ c.in-Ok-last.is c.hold_run-done.ensures.ran in
+    fits c.args.frame l.frame c.args.pass.now l.pass _ l.invariant c.prepare.ensures.same c.in-Ok.own c.in-Ok.ensures.frame _ start _ _ _ c.hold_run-done.ensures.held _ _ _ run
 
-pub returns-in_default-clause-driven : goal.returns-in_default-clause-driven
-returns-in_default-clause-driven g c =
-    let l = c.loop-frame in
-    let asked = c.in_ok-events.ensures.asked in
-    let start : c.read-start.result.start ≡ start_of l.frame = ap (λ (v : InputValue). v.start) c.read-start.ensures in
-    let at = ap (λ (s : ℕ). s + c.in_ok-events.events - 1) start in
-    let same = c.with_start-last.ensures.frame ∙ last_is c.args.frame l.frame c.args.pass.now l.pass l.invariant c.in_ok-events.reply c.in_ok-events.events c.ask.new.pass asked _ at in
-    driven c.args.frame l.frame c.args.pass.now l.pass l.invariant c.in_ok-events.reply c.in_ok-events.events c.ask.new.pass asked c.with_start-last.result c.result_of.result same
-    (λ more. c.in_default.ensures.none c.parts.result.1.now (subst IsMore (sym c.parts.ensures.reply) more)) c.result_of.ensures
+pub returns-in_default-next_of-clause-driven : goal.returns-in_default-next_of-clause-driven
+returns-in_default-next_of-clause-driven g c =
+    let l = c.loop-own in
+    let start = ap (λ (v : InputValue). v.start) c.read-start.ensures in
+    let run = rw (sym c.in-Ok-last.reply-is) at (IfOk-at_ok _ c.in-Ok-last.is c.hold_run-done.ensures.ran) in
+    driven c.args.frame l.frame c.args.pass.now l.pass _ l.invariant c.prepare.ensures.same c.in-Ok.own c.in-Ok.ensures.frame _ start _ _ _ c.hold_run-done.ensures.held _ _ _ run
+    c.with_start-last.result c.result_of.result c.with_start-last.ensures.frame
+    (λ more. c.in_default-next_of.ensures.none c.parts.result.1.now (subst IsMore (sym c.parts.ensures.reply) more)) c.result_of.ensures
 
-pub loop-frame-smaller : goal.loop-frame-smaller
-loop-frame-smaller g c =
-    let l = c.loop-frame in
-    let asked = c.in_ok-events.ensures.asked in
-    let start : c.read-start.result.start ≡ start_of l.frame = ap (λ (v : InputValue). v.start) c.read-start.ensures in
-    let at = ap (λ (s : ℕ). s + c.in_ok-events.events - 1) start in
-    let same = c.with_start-last.ensures.frame ∙ last_is c.args.frame l.frame c.args.pass.now l.pass l.invariant c.in_ok-events.reply c.in_ok-events.events c.ask.new.pass asked _ at in
-    let more : c.in_ok-events.reply ≡ More c.in-Some.next c.parts.result.1.now = sym c.parts.ensures.reply ∙ c.in-Some.ensures.some c.parts.result.1.now in
-    let further = further c.args.frame l.frame c.args.pass.now l.pass l.invariant c.in_ok-events.reply c.in_ok-events.events c.ask.new.pass asked c.in-Some.next c.parts.result.1.now more
-    c.with_start-last.result
-    c.with_start-frame.result same c.with_start-frame.ensures.frame in
+pub loop-own-smaller : goal.loop-own-smaller
+loop-own-smaller g c =
+    let l = c.loop-own in
+    let start = ap (λ (v : InputValue). v.start) c.read-start.ensures in
+    let run = rw (sym c.in-Ok-last.reply-is) at (IfOk-at_ok _ c.in-Ok-last.is c.hold_run-done.ensures.ran) in
+    let more = sym c.parts.ensures.reply ∙ c.in-Some.ensures.some c.parts.result.1.now in
+    let further =
+    nearer c.args.frame l.frame c.args.pass.now l.pass _ l.invariant c.prepare.ensures.same c.in-Ok.own c.in-Ok.ensures.frame _ start _ _ _ c.hold_run-done.ensures.held _ _ _ run
+    c.in-Some.next c.parts.result.1.now c.with_start-last.result c.with_start-frame.result more c.with_start-last.ensures.frame c.with_start-frame.ensures.frame in
     omega (arith, further)
 
-pub loop-frame-preserved : goal.loop-frame-preserved
-loop-frame-preserved g c =
-    let l = c.loop-frame in
-    let asked = c.in_ok-events.ensures.asked in
-    let start : c.read-start.result.start ≡ start_of l.frame = ap (λ (v : InputValue). v.start) c.read-start.ensures in
-    let at = ap (λ (s : ℕ). s + c.in_ok-events.events - 1) start in
-    let same = c.with_start-last.ensures.frame ∙ last_is c.args.frame l.frame c.args.pass.now l.pass l.invariant c.in_ok-events.reply c.in_ok-events.events c.ask.new.pass asked _ at in
-    let more : c.in_ok-events.reply ≡ More c.in-Some.next c.parts.result.1.now = sym c.parts.ensures.reply ∙ c.in-Some.ensures.some c.parts.result.1.now in
-    goes_on c.args.frame l.frame c.args.pass.now l.pass l.invariant c.in_ok-events.reply c.in_ok-events.events c.ask.new.pass asked c.in-Some.next c.parts.result.1.now more c.with_start-last.result
-    c.with_start-frame.result same c.with_start-frame.ensures.frame
+pub loop-own-preserved : goal.loop-own-preserved
+loop-own-preserved g c =
+    let l = c.loop-own in
+    let start = ap (λ (v : InputValue). v.start) c.read-start.ensures in
+    let run = rw (sym c.in-Ok-last.reply-is) at (IfOk-at_ok _ c.in-Ok-last.is c.hold_run-done.ensures.ran) in
+    let more = sym c.parts.ensures.reply ∙ c.in-Some.ensures.some c.parts.result.1.now in
+    goes_on c.args.frame l.frame c.args.pass.now l.pass _ l.invariant c.prepare.ensures.same c.in-Ok.own c.in-Ok.ensures.frame _ start _ _ _ c.hold_run-done.ensures.held _ _ _ run
+    c.in-Some.next c.parts.result.1.now c.with_start-last.result c.with_start-frame.result more c.with_start-last.ensures.frame c.with_start-frame.ensures.frame

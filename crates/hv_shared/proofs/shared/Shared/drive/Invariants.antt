@@ -3,9 +3,9 @@ use Rattle.hv_defs.specs.Bits.{bits}
 use Rattle.hv_shared.proofs.Driving.{IsDriving}
 use Rattle.hv_shared.proofs.shared.Shared.drive.Given as goal
 
-abbrev pub invariant-loop-frame : goal.invariant-loop-frame
-invariant-loop-frame g l = IsDriving l.fn.frame l.frame l.fn.pass l.pass
+abbrev pub invariant-loop-own : goal.invariant-loop-own
+invariant-loop-own g l = IsDriving l.fn.frame l.frame l.fn.pass l.pass
 
 -- the start index grows
-abbrev pub decreases-loop-frame : goal.decreases-loop-frame
-decreases-loop-frame g l = 4096 - bits l.frame.rcx 48 12
+abbrev pub decreases-loop-own : goal.decreases-loop-own
+decreases-loop-own g l = 4096 - bits l.frame.rcx 48 12
