@@ -1,5 +1,5 @@
 -- Runs: one that continues by an event, and one that continues another.
-use Rattle.std.proofs.Common.{◌≡◌, ℕ, ◌≤◌, ◌<◌, List, [], ◌∷◌, ◌++◌, length, None, false, true, IsTrue, refl, sym, subst, ap, ◌∙◌, arith, length-append}
+use Rattle.std.proofs.Common.{◌≡◌, ℕ, ◌≤◌, ◌<◌, List, [], ◌∷◌, ◌++◌, length, None, Ok, false, true, IsTrue, refl, sym, subst, ap, ◌∙◌, arith, length-append}
 use Rattle.std.proofs.lemmas.List.{length-map}
 use Rattle.std.specs.Option.{option_map_or}
 use Rattle.hv_defs.specs.declared.sizes.TheConstants.{REPS_END}
@@ -27,8 +27,9 @@ use Rattle.hv_refine.specs.Tie.{here}
 use Rattle.hv_machine.specs.IsFlat.{IsFlat}
 use Rattle.hv_machine.specs.Sound.{IsSound}
 use Rattle.hv_machine.specs.State.{State}
+use Rattle.hv_machine.specs.Step.{IsStep}
 use Rattle.hv_history.specs.Justified.{operations_in, states_in}
-use Rattle.hv_history.specs.Kept.{IsRun, Kept}
+use Rattle.hv_history.specs.Kept.{IsRun, IsTaken, Kept}
 use Rattle.hv_history.specs.Row.{events_of, replies_of}
 use Rattle.hv_history.specs.declared.entry.Entry.{Entry}
 
@@ -99,22 +100,28 @@ any_output : (answer : Answer) (output : List ℕ) → next_in (reply_of answer 
 any_output (answer.More next) output = refl
 any_output answer output = refl
 
--- a machine answers an event as the run does
-module _ {A : Type 0} (k : Kept A) (event : Event A) (reply : Reply) (is : IsRun k) (told : (f : Flat) → IsFlat k.machine f → reply ≡ (step f event).1) where
-  -- so that the run continues by that event
-  pub longer : (m : State) (history : List (Entry A)) → history ≡ k.history ++ record { event = event; reply = reply } ∷ [] → length k.history < k.limit
-      → ((f : Flat) → IsFlat k.machine f → IsFlat m (step f event).0) → m.pages ≡ k.machine.pages → IsSound m
-      → IsRun (record { config = k.config; limit = k.limit; history = history; machine = m })
-  longer m history pushed room made pages sound =
-      let e : Entry A = record { event = event; reply = reply } in
-      subst (λ (history : List (Entry A)). IsRun (record { config = k.config; limit = k.limit; history = history; machine = m })) (sym pushed)
-      (is_run (record { config = k.config; limit = k.limit; history = k.history ++ e ∷ []; machine = m })
-      (subst (IsFlat m) (sym (run_more (boot k.config) k.history (e ∷ []))) (made _ is.machine)) (told_more (boot k.config) k.history e is.replies (told _ is.machine))
-      (omega (arith, length-append k.history (e ∷ []))) is.boots (pages ∙ is.pages) sound)
-
+-- a machine takes an event
+module _ {A : Type 0} (k : Kept A) (event : Event A) (reply : Reply) (m : State) (is : IsRun k) (took : IsStep event k.machine (Ok reply) m) where
   -- a call continues with the element after the one that was served
-  pub on : GoesOn event.what reply
-  on = subst (GoesOn event.what) (sym (told _ is.machine)) (goes_on (run k.config (events_of k.history)).0 event)
+  on : GoesOn event.what reply
+  on = subst (GoesOn event.what) (sym (took.reply _ is.machine)) (goes_on (run k.config (events_of k.history)).0 event)
 
   pub reply_index : (answer : Answer) (output : List ℕ) → reply_of answer output ≡ reply → next_in (reply_of answer []) < REPS_END
   reply_index answer output same = subst (λ n. n < REPS_END) (ap next_in (sym same) ∙ any_output answer output) (has_index event.what reply on)
+
+  -- and the history has it more
+  module _ (history : List (Entry A)) (pushed : history ≡ k.history ++ record { event = event; reply = reply } ∷ []) where
+    abbrev new : Kept A
+    new = record { config = k.config; limit = k.limit; history = history; machine = m }
+
+    pub taken : IsTaken event reply k new
+    taken = record { gained = record { history = pushed; config = refl; limit = refl }; asked = took.asked; result = took.result; next = on }
+
+    -- so that the run continues by that event
+    pub longer : length k.history < k.limit → IsRun new
+    longer room =
+        let e : Entry A = record { event = event; reply = reply } in
+        subst (λ (history : List (Entry A)). IsRun (record { config = k.config; limit = k.limit; history = history; machine = m })) (sym pushed)
+        (is_run (record { config = k.config; limit = k.limit; history = k.history ++ e ∷ []; machine = m })
+        (subst (IsFlat m) (sym (run_more (boot k.config) k.history (e ∷ []))) (took.state _ is.machine)) (told_more (boot k.config) k.history e is.replies (took.reply _ is.machine))
+        (omega (arith, length-append k.history (e ∷ []))) is.boots (took.pages ∙ is.pages) took.sound)

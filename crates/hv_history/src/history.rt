@@ -217,14 +217,16 @@ fn are_alike<A: Allocator>(head: &Event<A>, event: &Event<A>) -> bool
     if head.by != event.by {
         return false;
     }
-    match (head.what.as_access(), event.what.as_access()) {
-        (Ok(one), Ok(other)) => one == other,
-        (Err(one), Err(other)) => {
+    match (&head.what, &event.what) {
+        (Action::Hypercall(one), Action::Hypercall(other)) => {
             one.rdx == other.rdx
                 && one.r8 == other.r8
                 && one.input.as_slice() == other.input.as_slice()
         }
-        _ => false,
+        (one, other) => match (one.as_access(), other.as_access()) {
+            (Ok(one), Ok(other)) => one == other,
+            _ => false,
+        },
     }
 }
 

@@ -1,13 +1,12 @@
 // The machine with its history.
-ghost use Rattle.std.specs.Prelude.{◌≡◌, ◌-◌, ◌<◌, ◌↔◌, [], ℕ, List, length, slice_get, None, Some, IsTrue};
+ghost use Rattle.std.specs.Prelude.{◌≡◌, ◌-◌, ◌<◌, ◌↔◌, [], length, slice_get, None, Some, IsTrue};
 ghost use Rattle.std.specs.Prelude.{IfOk, OnErr, IfErr, IsErrOf};
 ghost use Rattle.hv_abi.specs.declared.frame.Frame.{Frame};
 ghost use Rattle.hv_defs.specs.declared.sizes.TheConstants.{REPS_END};
-ghost use Rattle.hv_machine.specs.Access.{access_reply};
 ghost use Rattle.hv_machine.specs.Masks.{AreMasksWithin};
 ghost use Rattle.hv_policy.specs.BootFault.{boot_fault, IsBootRefusal};
 ghost use Rattle.hv_policy.specs.Next.{GoesOn};
-ghost use Rattle.hv_policy.specs.Parts.{next_in, reply_of};
+ghost use Rattle.hv_policy.specs.Parts.{reply_of};
 ghost use Rattle.hv_policy.specs.Result.{HasResult};
 ghost use Rattle.hv_policy.specs.Step.{NamesAsked};
 ghost use Rattle.hv_policy.specs.declared.event.Action.TheVariants.{Hypercall};
@@ -18,7 +17,7 @@ ghost use Rattle.hv_history.specs.Run.{element, restart};
 ghost use Rattle.hv_history.specs.declared.entry.Entry.{Entry};
 
 use crate::row::History;
-use hv_machine::{Answer, BootRefused, Config, Event, Machine, Reply, Rule};
+use hv_machine::{Answer, BootRefused, Config, Event, Machine, Output, Reply};
 use std::alloc::Allocator;
 use std::marker::Model;
 
@@ -112,28 +111,53 @@ impl<A: Allocator + Clone> Kept<A> {
             → IfOk result (λ r. HasResult r.1) }
         ensures next { IfOk result (λ r. GoesOn event.what r.1) }
     {
+        let mut output = Output::new();
+        let answer = self.answer(event, &mut output)?;
+        Ok((
+            self.history.len() as u64,
+            Reply::of(answer, output.as_slice()),
+        ))
+    }
+
+    /// Applies one event as [`Kept::apply`] does, and returns the answer.
+    ///
+    /// The event appends its output to `output`, which must be empty.
+    // Inlined: calls for the own id in bench/largest.sh.
+    #[inline(always)]
+    pub fn answer(&mut self, event: Event<A>, output: &mut Output) -> Result<Answer, HostRefused>
+        requires empty { output.old ≡ [] }
+        ensures taken { IfOk result (λ answer. IsTaken event (reply_of answer output.new) self.old self.new) }
+        ensures run { IsRun self.new }
+        ensures full { IsErrOf result HostRefused.HistoryFull ↔ (length self.old.history ≡ self.old.limit) }
+        ensures refused { OnErr result (self.new ≡ self.old) }
+    {
         if self.is_full() {
             return Err(HostRefused::HistoryFull);
         }
         if self.history.reserve(1).is_err() {
             return Err(HostRefused::Memory);
         }
-        let Ok(reply) = self.machine.step(&event) else {
+        let Ok(answer) = self.machine.answer(&event, output) else {
             return Err(HostRefused::Memory);
         };
-        let (answer, output) = reply.parts();
-        self.history.push(event, answer, output);
-        Ok((self.history.len() as u64, reply))
+        self.history.push(event, answer, output.as_slice());
+        Ok(answer)
     }
 
-    // Applies the element of the last event's call with this start index, as `apply` does.
-    pub(crate) fn apply_next(&mut self, start: u16) -> Result<Reply, HostRefused>
+    // Applies the element of the last event's call with this start index, as `answer` does.
+    pub(crate) fn answer_next(
+        &mut self,
+        start: u16,
+        output: &mut Output,
+    ) -> Result<Answer, HostRefused>
+        requires empty { output.old ≡ [] }
         requires some { 0 < length self.old.history }
         requires index { start < REPS_END }
         ensures applied { (last : Entry A) (frame : Frame A)
             → slice_get self.old.history (length self.old.history - 1) ≡ Some last
             → last.event.what ≡ Hypercall frame
-            → IfOk result (λ r. IsTaken (element last.event.by (restart frame start)) r self.old self.new) }
+            → IfOk result (λ answer. IsTaken (element last.event.by (restart frame start))
+            (reply_of answer output.new) self.old self.new) }
         ensures run { IsRun self.new }
         ensures full { IsErrOf result HostRefused.HistoryFull ↔ (length self.old.history ≡ self.old.limit) }
         ensures refused { OnErr result (self.new ≡ self.old) }
@@ -147,12 +171,11 @@ impl<A: Allocator + Clone> Kept<A> {
         let head = self.history.restart(start);
         let history = &self.history;
         let event = &history.heads[head];
-        let Ok(reply) = self.machine.step(event) else {
+        let Ok(answer) = self.machine.answer(event, output) else {
             return Err(HostRefused::Memory);
         };
-        let (answer, output) = reply.parts();
-        self.history.push_head(head, answer, output);
-        Ok(reply)
+        self.history.push_head(head, answer, output.as_slice());
+        Ok(answer)
     }
 }
 
@@ -202,16 +225,5 @@ impl<A: Allocator> Kept<A> {
         ensures { IsTrue result ↔ (length self.now.history ≡ self.now.limit) }
     {
         self.history.len() == self.limit as usize
-    }
-}
-
-/// Returns the answer to an access with this outcome.
-pub fn answer_of(became: Result<(), Rule>) -> Answer
-    ensures reply { (output : List ℕ) → reply_of result output ≡ access_reply became output }
-    ensures index { next_in (reply_of result []) < REPS_END }
-{
-    match became {
-        Ok(()) => Answer::Served,
-        Err(rule) => Answer::Fault { rule },
     }
 }

@@ -7,7 +7,7 @@ ghost use Rattle.hv_history.specs.Run.{HasRun, HasStopped, IsMore};
 
 use crate::kept::{HostRefused, Kept};
 use hv_abi::Frame;
-use hv_machine::{Action, Answer, Caller, Event, Reply};
+use hv_machine::{Action, Answer, Caller, Event, Output, Reply};
 use std::alloc::Allocator;
 
 /// The outcome of several elements of one call.
@@ -42,8 +42,9 @@ impl<A: Allocator + Clone> Kept<A> {
             by,
             what: Action::Hypercall(frame),
         };
-        let mut last = match self.apply(first) {
-            Ok((_, reply)) => reply,
+        let mut output = Output::new();
+        let mut answer = match self.answer(first, &mut output) {
+            Ok(answer) => answer,
             Err(why) => {
                 return RunDone {
                     events: 0,
@@ -53,20 +54,21 @@ impl<A: Allocator + Clone> Kept<A> {
         };
         let mut events = 1;
         loop {
-            let Some(next) = next_of(last.parts().0) else {
+            let Some(next) = next_of(answer) else {
                 return RunDone {
                     events,
-                    last: Ok(last),
+                    last: Ok(Reply::of(answer, output.as_slice())),
                 };
             };
             if events == most {
                 return RunDone {
                     events,
-                    last: Ok(last),
+                    last: Ok(Reply::of(answer, output.as_slice())),
                 };
             }
-            match self.apply_next(next) {
-                Ok(reply) => last = reply,
+            output.clear();
+            match self.answer_next(next, &mut output) {
+                Ok(now) => answer = now,
                 Err(why) => {
                     return RunDone {
                         events,

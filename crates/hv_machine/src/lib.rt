@@ -22,4 +22,4 @@ pub use hv_policy::{
     Access, Action, Answer, BootRefused, CallReply, Caller, Config, Event, Output, Reply, Rule,
     result_of,
 };
-pub use machine::{HostRefused, Machine};
+pub use machine::{HostRefused, Machine, answer_of};

@@ -1,11 +1,13 @@
 // The machine and its one step.
-ghost use Rattle.std.specs.Prelude.{◌≡◌, ◌<◌, [], None, Some, IsTrue, IfOk, IfErr, OnOk, OnErr};
+ghost use Rattle.std.specs.Prelude.{◌≡◌, ◌<◌, [], ℕ, List, None, Some, IsTrue, IfOk, IfErr, OnOk, OnErr};
+ghost use Rattle.std.specs.Result.{result_map_both};
 ghost use Rattle.hv_abi.specs.Check.{IsShape, call_of};
 ghost use Rattle.hv_abi.specs.declared.frame.Frame.{Frame as CallFrame};
 ghost use Rattle.hv_integrity.specs.Integrity.{Integrity};
 ghost use Rattle.hv_policy.specs.Call.{IsCall, call_event, may_take_memory};
 ghost use Rattle.hv_policy.specs.Flat.{Flat};
 ghost use Rattle.hv_integrity.specs.Misses.{LeavesOthers};
+ghost use Rattle.hv_policy.specs.Parts.{next_in, reply_of};
 ghost use Rattle.hv_policy.specs.Result.{HasResult};
 ghost use Rattle.hv_policy.specs.Step.{NamesAsked, step};
 ghost use Rattle.hv_policy.specs.Rules.{caller_asks, first_unmet, frame_asks, target_asks, unmet};
@@ -17,14 +19,15 @@ ghost use Rattle.hv_machine.specs.IsFlat.{IsFlat};
 ghost use Rattle.hv_machine.specs.MachineInvariant.{MachineInvariant};
 ghost use Rattle.hv_machine.specs.Sound.{IsSound};
 ghost use Rattle.hv_machine.specs.Step.{IsStep};
-ghost use Rattle.hv_defs.specs.declared.sizes.TheConstants.{MAX_SERVED};
+ghost use Rattle.hv_defs.specs.declared.sizes.TheConstants.{MAX_SERVED, REPS_END};
 
 use crate::dispatch::{dispatch, dispatch_access, next_after};
 use hv_abi::{CallKind, Frame, InputValue, Shape};
 use hv_calls::Call;
 use hv_defs::MAX_SERVED;
 use hv_policy::{
-    Access, CallReply, Caller, Event, Output, Reply, Rule, ask_frame, refused_reply, served_reply,
+    Access, Answer, CallReply, Caller, Event, Output, Reply, Rule, ask_frame, refused_reply,
+    served_reply,
 };
 use hv_refine::{CallError, Partitions, caller_in, unmet_by_target};
 use std::alloc::Allocator;
@@ -113,18 +116,32 @@ impl<A: Allocator + Clone> Machine<A> {
         ensures pages { self.new.pages ≡ self.old.pages }
         ensures sound { IsSound self.new }
     {
+        let mut output = Output::new();
+        match self.answer(event, &mut output) {
+            Ok(answer) => Ok(Reply::of(answer, output.as_slice())),
+            Err(why) => Err(why),
+        }
+    }
+
+    /// Takes one event, with the promises of [`Machine::step`], and returns the answer.
+    ///
+    /// The event appends its output to `output`, which must be empty.
+    // Inlined: calls for the own id in bench/largest.sh.
+    #[inline(always)]
+    pub fn answer(&mut self, event: &Event<A>, output: &mut Output) -> Result<Answer, HostRefused>
+        requires count { self.old.served < MAX_SERVED }
+        requires empty { output.old ≡ [] }
+        ensures { IsStep event.now self.old
+            (result_map_both (λ answer. reply_of answer output.new) (λ why. why) result) self.new }
+    {
         match event.what.as_access() {
-            Ok(access) => {
-                let mut output = Output::new();
-                match self.access(event.by, access, &mut output) {
-                    Ok(()) => Ok(Reply::Served(output)),
-                    Err(rule) => Ok(Reply::Fault { rule }),
-                }
+            Ok(access) => Ok(answer_of(self.access(event.by, access, output))),
+            Err(frame) => {
+                let reply = self.hypercall(event.by, frame)?;
+                let (answer, bytes) = reply.parts();
+                output.extend_from_slice(bytes);
+                Ok(answer)
             }
-            Err(frame) => match self.hypercall(event.by, frame) {
-                Ok(reply) => Ok(reply.to_reply()),
-                Err(why) => Err(why),
-            },
         }
     }
 
@@ -246,6 +263,17 @@ impl<A: Allocator> Machine<A> {
         ensures { roomless result.now ≡ self.now.rows }
     {
         &self.tree
+    }
+}
+
+/// Returns the answer to an access with this outcome.
+pub fn answer_of(became: Result<(), Rule>) -> Answer
+    ensures reply { (output : List ℕ) → reply_of result output ≡ access_reply became output }
+    ensures index { next_in (reply_of result []) < REPS_END }
+{
+    match became {
+        Ok(()) => Answer::Served,
+        Err(rule) => Answer::Fault { rule },
     }
 }
 

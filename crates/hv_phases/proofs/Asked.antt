@@ -3,7 +3,7 @@ use Rattle.std.proofs.Common.{◌≡◌, ◌+◌, List, [], ◌∷◌, ◌++◌,
 use Rattle.std.specs.Bool.{Decides}
 use Rattle.std.proofs.lemmas.Bool.{false≢true}
 use Rattle.std.proofs.lemmas.List.{map-append}
-use Rattle.std.proofs.lemmas.List.Elements.{filter-append, All-head, All-tail, All-append, All-cons, All-nil}
+use Rattle.std.proofs.lemmas.List.Elements.{filter-append, All-head, All-tail, All-append, All-cons, All-nil, All-push}
 use Rattle.hv_abi.specs.declared.frame.Frame.{Frame}
 use Rattle.hv_policy.specs.declared.event.Action.{Action}
 use Rattle.hv_policy.specs.declared.event.Action.TheVariants.{Hypercall, ReadMsr, WriteMsr, ReadSlot, ClearSlot, ReadFlags, ClearFlag, TakeInterrupt}
@@ -14,8 +14,7 @@ use Rattle.hv_shared.proofs.Callers.{is_another, is_itself, same_caller}
 use Rattle.hv_shared.specs.ByCaller.{is_caller}
 use Rattle.hv_history.specs.Run.{restart, start_of}
 use Rattle.hv_shared.specs.Drive.{AreElements}
-use Rattle.hv_shared.specs.Pass.{receipt}
-use Rattle.hv_threads.specs.Perform.{AreWhole, IsAccess, IsWhole}
+use Rattle.hv_threads.specs.Perform.{AreWhole, IsAccess, IsCall, IsWhole}
 use Rattle.hv_shared.specs.declared.receipts.Receipt.{Receipt}
 
 pub decides : (a b : Caller) → Decides (is_caller a b) (a ≡ b)
@@ -65,6 +64,18 @@ whole-append by [] bs xs ys none more = subst (λ (l : List Receipt). AreWhole b
 whole-append by (a ∷ acts) bs xs ys some more =
     (some.0, some.1 ++ ys, ap (λ (l : List Receipt). l ++ ys) some.2 ∙ append_assoc some.0 some.1 ys, some.3, whole-append by acts bs some.1 ys some.4 more)
 
+-- an action is a hypercall or an access
+pub by_kind : (P : (List Receipt → Type 0) → Type 0) (by : Caller) → ((frame : Frame Global) → P (IsCall by frame)) → ((what : Action Global) → P (IsAccess by what)) → (what : Action Global)
+    → P (IsWhole by what)
+by_kind P by call access (Hypercall frame) = call frame
+by_kind P by call access (ReadMsr msr) = access (ReadMsr msr)
+by_kind P by call access (WriteMsr msr value) = access (WriteMsr msr value)
+by_kind P by call access (ReadSlot sint) = access (ReadSlot sint)
+by_kind P by call access (ClearSlot sint) = access (ClearSlot sint)
+by_kind P by call access (ReadFlags sint) = access (ReadFlags sint)
+by_kind P by call access (ClearFlag sint flag) = access (ClearFlag sint flag)
+by_kind P by call access TakeInterrupt = access TakeInterrupt
+
 abbrev IsBy : Caller → Receipt → Type 0
 IsBy by r = r.event.by ≡ by
 
@@ -73,27 +84,18 @@ elements_by by frame [] now elements = All-nil (IsBy by)
 elements_by by frame (r ∷ rs) now elements =
     All-cons (IsBy by) r rs (ap (λ e. e.by) elements.0) (elements_by by (restart frame (start_of frame + 1)) rs now elements.2)
 
-access_by : (by : Caller) (what : Action Global) (list : List Receipt) → IsAccess by what list → All (IsBy by) list
-access_by by what list access =
-    subst (All (IsBy by)) (sym access.all) (All-cons (IsBy by) (receipt access.number (record { by = by; what = what }) access.reply) [] refl (All-nil (IsBy by)))
+call_by : (by : Caller) (frame : Frame Global) (list : List Receipt) → IsCall by frame list → All (IsBy by) list
+call_by by frame list call =
+    let w = call.whole in
+    subst (All (IsBy by)) (sym w.all) (All-push (IsBy by) w.before _ (elements_by by frame w.before call.last w.elements) refl)
 
--- receipts of a whole action are by its caller
-pub action_by : (by : Caller) (what : Action Global) (list : List Receipt) → IsWhole by what list → All (IsBy by) list
-action_by by (Hypercall frame) list whole =
-    let w = whole.whole in
-    let last = receipt w.number (record { by = by; what = Hypercall whole.last }) whole.reply in
-    subst (All (IsBy by)) (sym w.all)
-    (All-append (IsBy by) w.before (last ∷ []) (elements_by by frame w.before whole.last w.elements) (All-cons (IsBy by) last [] refl (All-nil (IsBy by))))
-action_by by (ReadMsr msr) list whole = access_by by (ReadMsr msr) list whole
-action_by by (WriteMsr msr value) list whole = access_by by (WriteMsr msr value) list whole
-action_by by (ReadSlot sint) list whole = access_by by (ReadSlot sint) list whole
-action_by by (ClearSlot sint) list whole = access_by by (ClearSlot sint) list whole
-action_by by (ReadFlags sint) list whole = access_by by (ReadFlags sint) list whole
-action_by by (ClearFlag sint flag) list whole = access_by by (ClearFlag sint flag) list whole
-action_by by TakeInterrupt list whole = access_by by TakeInterrupt list whole
+access_by : (by : Caller) (what : Action Global) (list : List Receipt) → IsAccess by what list → All (IsBy by) list
+access_by by what list access = subst (All (IsBy by)) (sym access.all) (All-push (IsBy by) [] _ (All-nil (IsBy by)) refl)
 
 -- receipts of whole actions are by their caller
 pub whole_by : (by : Caller) (actions : List (Action Global)) (list : List Receipt) → AreWhole by actions list → All (IsBy by) list
 whole_by by [] list none = subst (All (IsBy by)) (sym none) (All-nil (IsBy by))
 whole_by by (a ∷ actions) list some =
-    subst (All (IsBy by)) (sym some.2) (All-append (IsBy by) some.0 some.1 (action_by by a some.0 some.3) (whole_by by actions some.1 some.4))
+    subst (All (IsBy by)) (sym some.2)
+    (All-append (IsBy by) some.0 some.1 (by_kind (λ (W : List Receipt → Type 0). (list : List Receipt) → W list → All (IsBy by) list) by (call_by by) (access_by by) a some.0 some.3)
+    (whole_by by actions some.1 some.4))

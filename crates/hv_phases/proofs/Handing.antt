@@ -1,10 +1,9 @@
 -- Lines that are handed out or run one after the other.
-use Rattle.std.proofs.Common.{◌≡◌, ℕ, ◌+◌, ◌<◌, Bool, true, false, List, [], ◌∷◌, ◌++◌, length, refl, sym, ap, ◌∙◌, subst, arith, append-nil, append_assoc, Option, Some, None, IfNone, reverse}
-use Rattle.std.proofs.Common.{length-append, Global}
-use Rattle.std.proofs.lemmas.List.{length-reverse, reverse-append, reverse-reverse}
+use Rattle.std.proofs.Common.{◌≡◌, ℕ, ◌+◌, Bool, true, false, List, [], ◌∷◌, ◌++◌, refl, sym, ap, ◌∙◌, subst, arith, append_assoc, Option, Some, None, IfNone, reverse}
+use Rattle.std.proofs.Common.{Global}
+use Rattle.std.proofs.lemmas.List.{reverse-append, reverse-reverse}
 use Rattle.std.proofs.lemmas.List.Elements.{All-cons, All-nil, All-push}
-use Rattle.hv_phases.specs.PassMap.{AreBusy, ArePast, Each, HasGiven, HasHandedOut, HasRunAll, HasRunGroup, HasRunWorks, IsBusy, IsGroup, IsIdle, PassMap, Past, is_key, last_in, lines_in}
-use Rattle.hv_phases.proofs.Behind.{last_in-push, lines_in-push, past-push}
+use Rattle.hv_phases.specs.PassMap.{AreBusy, Each, HasGiven, HasHandedOut, HasRunGroup, HasRunUpTo, HasRunWorks, IsBusy, IsGroup, IsIdle, PassMap, is_key, lines_in}
 use Rattle.hv_phases.proofs.Maps.{each_empty, each_value}
 use Rattle.hv_phases.proofs.Members.{ended}
 use Rattle.hv_script.specs.declared.line.Line.{Line}
@@ -63,60 +62,34 @@ module _ {L S T : Type 0} where
       }
 
 module _ {S : Type 0} where
-  -- fewer are left
-  pub handed_fewer : (first : Line Global) (left after : List (Line Global)) (Out : List Past → List (Line Global) → Type 0) (old new : PassMap S)
-      → HasHandedOut first left after Out old new → length after < length left + 1
-  handed_fewer first left after Out old new handed =
-      omega (arith, ap length handed.order, length-append handed.more (reverse after), length-reverse after, length-reverse left)
+  pub up_to_none : (serial : Bool) (lines left : List (Line Global)) (old : PassMap S) → left ≡ reverse lines → Each (IsIdle [] []) old → HasRunUpTo serial lines left 0 old
+  up_to_none serial lines left old is each =
+      record { past = []; order = ap reverse is ∙ reverse-reverse lines; rises = tt; last_is = refl; run = each }
 
-  -- these groups were run, one behind the other up to the last number, and the other lines are left, the first of them last
-  pub record IsBetween (serial : Bool) (lines left : List (Line Global)) (last : ℕ) (now : PassMap S) : Type 0 where
-    pub past : List Past
-    pub order : lines_in past ++ reverse left ≡ lines
-    pub rises : ArePast serial 0 past
-    pub last_is : last_in 0 past ≡ last
-    pub each : Each (IsIdle past []) now
-
-  pub between_first : (serial : Bool) (lines left : List (Line Global)) (old : PassMap S) → left ≡ reverse lines → Each (IsIdle [] []) old → IsBetween serial lines left 0 old
-  between_first serial lines left old is each =
-      record { past = []; order = ap reverse is ∙ reverse-reverse lines; rises = tt; last_is = refl; each = each }
-
-  module _ (serial : Bool) (lines left : List (Line Global)) (last : ℕ) (now : PassMap S) (at : IsBetween serial lines left last now) where
-    -- a group was run
-    group_more : (after taken : List (Line Global)) (number : ℕ) (new : PassMap S) → reverse left ≡ taken ++ reverse after → IsGroup serial taken
-        → HasRunGroup taken last number now new → IsBetween serial lines after number new
-    group_more after taken number new is one ran =
-        let last_is = at.last_is in
-        let up = ran.rises in
-        record {
-          past = at.past ++ ended taken number ∷ [];
-          order = ap (λ (ls : List (Line Global)). ls ++ reverse after) (lines_in-push at.past (ended taken number)) ∙ append_assoc (lines_in at.past) taken (reverse after)
-              ∙ ap (λ (ls : List (Line Global)). lines_in at.past ++ ls) (sym is) ∙ at.order;
-          rises = past-push serial 0 at.past (ended taken number) at.rises one (omega (arith, up, last_is));
-          last_is = last_in-push 0 at.past (ended taken number);
-          each = ran.each at.past at.last_is at.each;
-        }
-
-    -- all groups were run
-    pub between_ends : left ≡ [] → HasRunAll serial lines now
-    between_ends none =
-        record {
-          past = at.past;
-          lines_are = sym (append-nil (lines_in at.past)) ∙ ap (λ (ls : List (Line Global)). lines_in at.past ++ reverse ls) (sym none) ∙ at.order;
-          rises = at.rises;
-          run = at.each;
-        }
+  -- a group was run
+  group_more : (serial : Bool) (lines left after taken : List (Line Global)) (last number : ℕ) (now new : PassMap S) → HasRunUpTo serial lines left last now
+      → reverse left ≡ taken ++ reverse after → IsGroup serial taken → HasRunGroup taken last number now new → HasRunUpTo serial lines after number new
+  group_more serial lines left after taken last number now new at is one ran =
+      let last_is = at.last_is in
+      let up = ran.rises in
+      record {
+        past = ended taken number ∷ at.past;
+        order = append_assoc (lines_in at.past) taken (reverse after) ∙ ap (λ (ls : List (Line Global)). lines_in at.past ++ ls) (sym is) ∙ at.order;
+        rises = (one, omega (arith, up, last_is), at.rises);
+        last_is = refl;
+        run = ran.each at.past at.last_is at.run;
+      }
 
   -- a phase was run
   pub phase_more : {L : Type 0} (lines left rest after : List (Line Global)) (first : Line Global) (works : List (Work L)) (last number : ℕ) (now mid new : PassMap S)
-      → IsBetween false lines left last now
-      → left ≡ rest ++ first ∷ [] → HasHandedOut first rest after (λ past taken. AreBusy past taken works) now mid → HasRunWorks works last number mid new → IsBetween false lines after number new
+      → HasRunUpTo false lines left last now
+      → left ≡ rest ++ first ∷ [] → HasHandedOut first rest after (λ past taken. AreBusy past taken works) now mid → HasRunWorks works last number mid new → HasRunUpTo false lines after number new
   phase_more lines left rest after first works last number now mid new at is handed done =
-      group_more false lines left last now at after (first ∷ handed.more) number new (turned left rest first is ∙ ap (λ (ls : List (Line Global)). first ∷ ls) handed.order)
+      group_more false lines left after (first ∷ handed.more) last number now new at (turned left rest first is ∙ ap (λ (ls : List (Line Global)). first ∷ ls) handed.order)
       (first.phase, All-cons (λ (line : Line Global). line.phase ≡ first.phase) first handed.more refl handed.phase)
       (record { rises = done.rises; each = λ past last_is each. let was = handed.each past each in done.each past (first ∷ handed.more) last_is was.0 was.1 })
 
   -- a line was run
-  pub line_more : (lines left rest : List (Line Global)) (line : Line Global) (last number : ℕ) (now new : PassMap S) → IsBetween true lines left last now
-      → left ≡ rest ++ line ∷ [] → HasRunGroup (line ∷ []) last number now new → IsBetween true lines rest number new
-  line_more lines left rest line last number now new at is ran = group_more true lines left last now at rest (line ∷ []) number new (turned left rest line is) (line, refl) ran
+  pub line_more : (lines left rest : List (Line Global)) (line : Line Global) (last number : ℕ) (now new : PassMap S) → HasRunUpTo true lines left last now
+      → left ≡ rest ++ line ∷ [] → HasRunGroup (line ∷ []) last number now new → HasRunUpTo true lines rest number new
+  line_more lines left rest line last number now new at is ran = group_more true lines left rest (line ∷ []) last number now new at (turned left rest line is) (line, refl) ran

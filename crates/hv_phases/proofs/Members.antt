@@ -7,7 +7,6 @@ use Rattle.hv_policy.specs.declared.event.Caller.{Caller}
 use Rattle.hv_phases.specs.PassMap.{AreBehind, Each, HasGiven, HasJoined, HasRunGroup, HasRunGroups, IsAsked, IsBusy, IsIdle, IsWithin, PassMap, Past, is_key, key_of, last_in}
 use Rattle.hv_phases.specs.Lines.{asked_by}
 use Rattle.hv_phases.proofs.Asked.{asked_by-append, asked_by_other, asked_by_own}
-use Rattle.hv_phases.proofs.Behind.{behind-push}
 use Rattle.hv_phases.proofs.Maps.{each_written}
 use Rattle.hv_script.specs.declared.line.Line.{Line}
 use Rattle.hv_shared.specs.Pass.{HasReceipts}
@@ -42,10 +41,9 @@ ended lines last = record { lines = lines; last = last }
 -- what a processor did of these lines, behind all that was done before
 grown : (past : List Past) (taken : List (Line Global)) (now : ℕ) (more : List Receipt) (p q : PassValue) → HasReceipts more p q → HasRunGroups past p → AreWhole p.caller
     (asked_by p.caller taken) more
-    → All (IsWithin (last_in 0 past) now) more → HasRunGroups (past ++ ended taken now ∷ []) q
+    → All (IsWithin (last_in past) now) more → HasRunGroups (ended taken now ∷ past) q
 grown past taken now more p q gained run whole within =
-    subst (λ (c : Caller). AreBehind c 0 (past ++ ended taken now ∷ []) q.receipts) (sym gained.caller)
-    (subst (AreBehind p.caller 0 (past ++ ended taken now ∷ [])) (sym gained.receipts) (behind-push p.caller 0 past p.receipts (ended taken now) more run whole within))
+    subst (λ (c : Caller). AreBehind c (ended taken now ∷ past) q.receipts) (sym gained.caller) (p.receipts, more, gained.receipts, run, whole, within)
 
 gained_is : (more : List Receipt) (p q : PassValue) → HasReceipts more p q → drop (length p.receipts) q.receipts ≡ more
 gained_is more p q gained = ap (drop (length p.receipts)) gained.receipts ∙ drop_at p.receipts more (length p.receipts) refl
@@ -53,7 +51,7 @@ gained_is more p q gained = ap (drop (length p.receipts)) gained.receipts ∙ dr
 -- what a thread did that the host didn't stop
 pub worked : {L : Type 0} (past : List Past) (taken : List (Line Global)) (now : ℕ) (work : Work L) (done : Done L) → IsDone work done.pass done.done done.end → done.end ≡ Finished
     → IsBusy past taken work.pass.caller work
-    → All (IsWithin (last_in 0 past) now) (drop (length work.pass.receipts) done.pass.receipts) → HasRunGroups (past ++ ended taken now ∷ []) done.pass
+    → All (IsWithin (last_in past) now) (drop (length work.pass.receipts) done.pass.receipts) → HasRunGroups (ended taken now ∷ past) done.pass
 worked past taken now work done did finished is within =
     let by = work.pass.caller in
     let a = did.account in
@@ -62,15 +60,15 @@ worked past taken now work done did finished is within =
     let more : a.whole ≡ did.more = sym (append-nil a.whole) ∙ ap (λ (l : List Receipt). a.whole ++ l) (sym e.1) ∙ sym a.all in
     grown past taken now did.more work.pass done.pass did.gained is.run
     (subst (λ (acts : List (Action Global)). AreWhole by acts did.more) actions (subst (AreWhole by a.did) more a.are_whole))
-    (subst (All (IsWithin (last_in 0 past) now)) (gained_is did.more work.pass done.pass did.gained) within)
+    (subst (All (IsWithin (last_in past) now)) (gained_is did.more work.pass done.pass did.gained) within)
 
 -- nothing was asked of it
-pub rested : (past : List Past) (taken : List (Line Global)) (now : ℕ) (c : Caller) (pass : PassValue) → IsIdle past taken c pass → IsIdle (past ++ ended taken now ∷ []) [] c pass
+pub rested : (past : List Past) (taken : List (Line Global)) (now : ℕ) (c : Caller) (pass : PassValue) → IsIdle past taken c pass → IsIdle (ended taken now ∷ past) [] c pass
 rested past taken now c pass idle =
     let none : AreWhole pass.caller (asked_by pass.caller taken) [] = subst (λ (acts : List (Action Global)). AreWhole pass.caller acts []) idle.asked refl in
     record {
       caller = idle.caller;
-      run = grown past taken now [] pass pass (record { receipts = sym (append-nil pass.receipts); share = omega arith; caller = refl }) idle.run none (All-nil (IsWithin (last_in 0 past) now));
+      run = grown past taken now [] pass pass (record { receipts = sym (append-nil pass.receipts); share = omega arith; caller = refl }) idle.run none (All-nil (IsWithin (last_in past) now));
       asked = refl;
     }
 
@@ -109,7 +107,7 @@ module _ {S : Type 0} (line : Line Global) (key : ℕ × ℕ) (is : key ≡ key_
             let whole : AreWhole p.caller (asked_by p.caller (line ∷ [])) did.more = subst (λ (acts : List (Action Global)). AreWhole p.caller acts did.more)
             (sym (asked_by_own p.caller line (sym one.caller))) (did.more, [], sym (append-nil did.more), did.whole, refl) in
             let within = subst (λ (low : ℕ). All (IsWithin low now) did.more) (sym last_is) (subst (All (IsWithin last now)) more are.1) in
-            let all = past ++ ended (line ∷ []) now ∷ [] in
+            let all = ended (line ∷ []) now ∷ past in
             let own : IsIdle all [] line.by q = record { caller = did.gained.caller ∙ one.caller; run = grown past (line ∷ []) now did.more p q did.gained one.run whole within; asked = refl } in
             each_written line.by key is (IsIdle past []) (IsIdle all []) old new (Some q) put (λ x same. subst (IsIdle all [] line.by) (same_Some q x same) own)
             (λ c x other i. rested past (line ∷ []) now c x (asked_still past [] line c x [] i other)) each;

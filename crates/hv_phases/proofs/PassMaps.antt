@@ -1,12 +1,12 @@
 -- A map of fresh passes, and its passes that go back.
-use Rattle.std.proofs.Common.{◌≡◌, ℕ, ◌+◌, ◌<◌, List, [], ◌∷◌, ◌++◌, length, get_or, take, sym, ap, ◌∙◌, subst, Bool, Some, None, All, map, Global}
+use Rattle.std.proofs.Common.{◌≡◌, ℕ, ◌+◌, ◌<◌, List, [], ◌∷◌, ◌++◌, length, get_or, take, sym, ap, ◌∙◌, subst, append-nil, Bool, Some, None, All, map, Global}
 use Rattle.std.proofs.lemmas.List.{map-append, take_more}
 use Rattle.std.proofs.lemmas.List.Elements.{All-head, All-push}
 use Rattle.std.proofs.lemmas.Option.{none-some}
 use Rattle.hv_policy.specs.declared.event.Caller.{Caller}
-use Rattle.hv_phases.specs.PassMap.{AreCallersOf, Each, HasJoined, HasRunAll, HasRunGroups, HaveRun, IsBack, IsIdle, PassMap, Past, is_key, key_of}
+use Rattle.hv_phases.specs.PassMap.{AreCallersOf, Each, HasJoined, HasRunAll, HasRunGroups, HaveRun, IsBack, IsIdle, PassMap, Past, is_key, key_of, lines_in}
 use Rattle.hv_phases.proofs.Asked.{All-first, All-second}
-use Rattle.hv_phases.proofs.Maps.{each_empty, each_written}
+use Rattle.hv_phases.proofs.Maps.{each_written}
 use Rattle.hv_phases.proofs.Members.{joined}
 use Rattle.hv_script.specs.declared.line.Line.{Line}
 use Rattle.hv_shared.specs.PassValue.{PassValue}
@@ -17,9 +17,6 @@ module _ {S : Type 0} where
   pub record AreFresh (left : List PassValue) (pass_map : PassMap S) : Type 0 where
     pub ready : Each (IsIdle [] []) pass_map
     pub fresh : All (λ pass. pass.receipts ≡ []) left
-
-  pub fresh_first : (left : List PassValue) (pass_map : PassMap S) → pass_map.entries ≡ [] → All (λ pass. pass.receipts ≡ []) left → AreFresh left pass_map
-  fresh_first left pass_map none fresh = record { ready = each_empty (IsIdle [] []) pass_map none; fresh = fresh }
 
   pub fresh_more : (left rest : List PassValue) (pass : PassValue) (old new : PassMap S) → AreFresh left old → left ≡ rest ++ pass ∷ [] → HasJoined pass old new → AreFresh rest new
   fresh_more left rest pass old new at is did =
@@ -52,5 +49,6 @@ module _ {S : Type 0} where
   pub have_run : (serial : Bool) (lines : List (Line Global)) (callers : List Caller) (passes : List PassValue) (new : PassMap S) → AreCallersOf lines callers
       → HasRunAll serial lines new → IsBack new callers passes → HaveRun serial lines passes
   have_run serial lines callers passes new of ran back =
-      let b = back ran.past ran.run in
-      record { callers = subst (AreCallersOf lines) (sym b.0) of; past = ran.past; lines_are = ran.lines_are; rises = ran.rises; run = b.1 }
+      let r = ran.1 in
+      let b = back r.past r.run in
+      record { callers = subst (AreCallersOf lines) (sym b.0) of; past = r.past; lines_are = sym (append-nil (lines_in r.past)) ∙ r.order; rises = r.rises; run = b.1 }

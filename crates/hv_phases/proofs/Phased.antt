@@ -1,16 +1,16 @@
 -- Histories in which each group of lines stands behind the groups before it.
-use Rattle.std.proofs.Common.{◌≡◌, ℕ, ◌+◌, ◌<◌, ◌≤◌, List, [], ◌∷◌, ◌++◌, length, refl, sym, ap, ◌∙◌, subst, arith, append-nil, append_assoc, Bool, true, false, inl, inr, ◌⊎◌, nat_lt, All}
-use Rattle.std.proofs.Common.{if◌then◌else◌, Contains, length-append, Global}
-use Rattle.std.proofs.lemmas.Bool.Decides.{nat_tests}
+use Rattle.std.proofs.Common.{◌≡◌, ℕ, ◌+◌, ◌<◌, ◌≤◌, List, [], ◌∷◌, ◌++◌, length, take, drop, refl, sym, ap, ◌∙◌, subst, arith, append-nil, append_assoc, Bool, true, false, inl, inr, ◌⊎◌, All, get_or}
+use Rattle.std.proofs.Common.{if◌then◌else◌, Contains, length-append, length-drop, Global}
+use Rattle.std.proofs.lemmas.List.{length-take, take-append-drop}
 use Rattle.std.proofs.lemmas.List.Elements.{All-cons, All-head, All-nil, All-tail, All-weaker}
 use Rattle.hv_history.specs.declared.entry.Entry.{Entry}
 use Rattle.hv_policy.specs.declared.event.Action.{Action}
 use Rattle.hv_policy.specs.declared.event.Caller.{Caller}
-use Rattle.hv_phases.specs.PassMap.{AreBehind, AreCallersOf, AreOfOne, ArePast, IsGroup, IsWithin, Past, lines_in}
+use Rattle.hv_phases.specs.PassMap.{AreBehind, AreCallersOf, ArePast, IsWithin, Past, last_in, lines_in}
 use Rattle.hv_phases.specs.Lines.{AreApart, AreInOrder, ArePhased, AreRun, HasCut, asked_by}
-use Rattle.hv_phases.proofs.Asked.{All-second, asked_by-append, asked_by_other, asked_by_own, either, whole-append}
-use Rattle.hv_phases.proofs.Behind.{behind_above, behind_whole}
-use Rattle.hv_phases.proofs.Renumbered.{whole_from}
+use Rattle.hv_phases.proofs.Asked.{All-first, All-second, asked_by-append, asked_by_other, asked_by_own, either, whole-append}
+use Rattle.hv_phases.proofs.Behind.{behind_within}
+use Rattle.hv_phases.proofs.Renumbered.{whole_at}
 use Rattle.hv_script.specs.declared.line.Line.{Line}
 use Rattle.hv_shared.proofs.Callers.{is_another, is_itself}
 use Rattle.hv_shared.specs.ByCaller.{is_caller, receipts_by}
@@ -36,173 +36,94 @@ receipts-append by n (e ∷ xs) ys =
 receipts_of_other : (by other : Caller) → (other ≡ by → ⊥) → (n : ℕ) (es : List (Entry Global)) → All (IsBy other) es → receipts_by by n es ≡ []
 receipts_of_other by other apart n [] all = refl
 receipts_of_other by other apart n (e ∷ es) all =
-    ap (λ (b : Bool). if b then receipt n e.event e.reply ∷ receipts_by by (n + 1) es else receipts_by by (n + 1) es)
-    (is_another by e.event.by (λ same. apart (sym (All-head (IsBy other) e es all) ∙ same)))
-    ∙ receipts_of_other by other apart (n + 1) es (All-tail (IsBy other) e es all)
+    rw (is_another by e.event.by (λ same. apart (sym (All-head (IsBy other) e es all) ∙ same))) (receipts_of_other by other apart (n + 1) es (All-tail (IsBy other) e es all))
 
-own_first : (by : Caller) (n : ℕ) (e : Entry Global) (es : List (Entry Global)) → e.event.by ≡ by → receipts_by by n (e ∷ es) ≡ receipt n e.event e.reply ∷ receipts_by by (n + 1) es
-own_first by n e es own =
-    ap (λ (b : Bool). if b then receipt n e.event e.reply ∷ receipts_by by (n + 1) es else receipts_by by (n + 1) es) (is_itself by e.event.by own)
+-- who has no receipt has no entry
+none_by : (c : Caller) (n : ℕ) (es : List (Entry Global)) → receipts_by c n es ≡ [] → All (λ e. e.event.by ≡ c → ⊥) es
+none_by c n [] none = All-nil (λ (e : Entry Global). e.event.by ≡ c → ⊥)
+none_by c n (e ∷ es) none =
+    either c e.event.by (λ same. let some = rw (is_itself c e.event.by same) at none in cc)
+    (λ other. All-cons (λ (e : Entry Global). e.event.by ≡ c → ⊥) e es other (none_by c (n + 1) es (rw (is_another c e.event.by other) at none)))
 
--- the numbers of receipts grow
+no_entries : (n : ℕ) (es : List (Entry Global)) → ((c : Caller) → receipts_by c n es ≡ []) → es ≡ []
+no_entries n [] none = refl
+no_entries n (e ∷ es) none = absurd (none_by e.event.by n (e ∷ es) (none e.event.by) 0 e (omega arith) refl)
+
+all_by : (by : Caller) (n : ℕ) (es : List (Entry Global)) → ((c : Caller) → (c ≡ by → ⊥) → receipts_by c n es ≡ []) → All (IsBy by) es
+all_by by n es none k d less =
+    let c = (get_or es k d).event.by in
+    either by c (λ same. same) (λ other. absurd (none_by c n es (none c other) k d less refl))
+
+-- the numbers of receipts are those of the entries
 all_if : (P : Receipt → Type 0) (b : Bool) (r : Receipt) (rs : List Receipt) → P r → All P rs → All P (if b then r ∷ rs else rs)
 all_if P true r rs p all = All-cons P r rs p all
 all_if P false r rs p all = all
 
-later : (c : Caller) (n k : ℕ) (es : List (Entry Global)) → n < k → All (λ r. n < r.number) (receipts_by c k es)
-later c n k [] less = All-nil (λ (r : Receipt). n < r.number)
-later c n k (e ∷ es) less =
-    all_if (λ (r : Receipt). n < r.number) (is_caller c e.event.by) (receipt k e.event e.reply) (receipts_by c (k + 1) es) less (later c n (k + 1) es (omega (arith, less)))
+within : (c : Caller) (low high n : ℕ) (es : List (Entry Global)) → (0 < length es → low < n) → n + length es ≤ high + 1 → All (IsWithin low high) (receipts_by c n es)
+within c low high n [] above up_to = All-nil (IsWithin low high)
+within c low high n (e ∷ es) above up_to =
+    let here : low < n = above (omega arith) in
+    all_if (IsWithin low high) (is_caller c e.event.by) (receipt n e.event e.reply) (receipts_by c (n + 1) es) (here, omega (arith, up_to))
+    (within c low high (n + 1) es (λ _. omega (arith, here)) (omega (arith, up_to)))
 
-first_of : {X : Type 0} (x y : X) (xs ys : List X) → x ∷ xs ≡ y ∷ ys → x ≡ y
-first_of x y xs ys same = cc
-
-rest_of : {X : Type 0} (x y : X) (xs ys : List X) → x ∷ xs ≡ y ∷ ys → xs ≡ ys
-rest_of x y xs ys same = cc
-
-not_empty : {X : Type 0} (x : X) (xs : List X) → x ∷ xs ≡ [] → ⊥
-not_empty x xs same = cc
-
-rest_none : (b : Bool) (r : Receipt) (rs : List Receipt) → (if b then r ∷ rs else rs) ≡ [] → rs ≡ []
-rest_none true r rs is = absurd (not_empty r rs is)
-rest_none false r rs is = is
-
--- entries of which nobody, or nobody but one, has a receipt
-no_entries : (n : ℕ) (es : List (Entry Global)) → ((c : Caller) → receipts_by c n es ≡ []) → es ≡ []
-no_entries n [] none = refl
-no_entries n (e ∷ es) none = absurd (not_empty _ _ (sym (own_first e.event.by n e es refl) ∙ none e.event.by))
-
-all_by : (by : Caller) (n : ℕ) (es : List (Entry Global)) → ((c : Caller) → (c ≡ by → ⊥) → receipts_by c n es ≡ []) → All (IsBy by) es
-all_by by n [] none = All-nil (IsBy by)
-all_by by n (e ∷ es) none =
-    All-cons (IsBy by) e es
-    (either by e.event.by (λ same. same) (λ other. absurd (not_empty _ _ (sym (own_first e.event.by n e es refl) ∙ none e.event.by other))))
-    (all_by by (n + 1) es (λ c other. rest_none (is_caller c e.event.by) (receipt n e.event e.reply) (receipts_by c (n + 1) es) (none c other)))
-
--- entries up to a number, and those above it
-record AreCutBy (last n : ℕ) (es : List (Entry Global)) : Type 0 where
-  own : List (Entry Global)
-  rest : List (Entry Global)
-  all : es ≡ own ++ rest
-  up_to : (c : Caller) → All (λ r. r.number ≤ last) (receipts_by c n own)
-  above : (c : Caller) → All (λ r. last < r.number) (receipts_by c (n + length own) rest)
-
-cut_by : (last n : ℕ) (es : List (Entry Global)) → AreCutBy last n es
-cut_by last n [] =
-    record { own = []; rest = []; all = refl; up_to = λ c. All-nil (λ (r : Receipt). r.number ≤ last); above = λ c. All-nil (λ (r : Receipt). last < r.number) }
-cut_by last n (e ∷ es) = by (nat_lt last n) refl (cut_by last (n + 1) es)
-  where
-    by : (t : Bool) → nat_lt last n ≡ t → AreCutBy last (n + 1) es → AreCutBy last n (e ∷ es)
-    by true is more =
-        let less : last < n + 0 = grind (arith, nat_tests) in
-        record { own = []; rest = e ∷ es; all = refl; up_to = λ c. All-nil (λ (r : Receipt). r.number ≤ last); above = λ c. later c last (n + 0) (e ∷ es) less }
-    by false is more =
-        let least : n ≤ last = grind (arith, nat_tests) in
-        let at : (n + 1) + length more.own ≡ n + length (e ∷ more.own) = omega arith in
-        record {
-          own = e ∷ more.own;
-          rest = more.rest;
-          all = ap (λ (l : List (Entry Global)). e ∷ l) more.all;
-          up_to = λ c. all_if (λ (r : Receipt). r.number ≤ last) (is_caller c e.event.by) (receipt n e.event e.reply) (receipts_by c (n + 1) more.own) least (more.up_to c);
-          above = λ c. subst (λ (k : ℕ). All (λ (r : Receipt). last < r.number) (receipts_by c k more.rest)) at (more.above c);
-        }
-
--- a list is cut at a number in one way
-same_cut : (last : ℕ) (xs ys zs ws : List Receipt) → xs ++ ys ≡ zs ++ ws → All (λ r. r.number ≤ last) xs → All (λ r. last < r.number) ys → All (λ r. r.number ≤ last) zs → All (λ r. last < r.number) ws
-    → (xs ≡ zs) × (ys ≡ ws)
-same_cut last [] ys [] ws is low high low_too high_too = (refl, is)
-same_cut last [] ys (z ∷ zs) ws is low high low_too high_too =
-    let above : last < z.number = All-head (λ (r : Receipt). last < r.number) z (zs ++ ws) (subst (All (λ (r : Receipt). last < r.number)) is high) in
-    let below : z.number ≤ last = All-head (λ (r : Receipt). r.number ≤ last) z zs low_too in
-    absurd (omega (arith, above, below))
-same_cut last (x ∷ xs) ys [] ws is low high low_too high_too =
-    let above : last < x.number = All-head (λ (r : Receipt). last < r.number) x (xs ++ ys) (subst (All (λ (r : Receipt). last < r.number)) (sym is) high_too) in
-    let below : x.number ≤ last = All-head (λ (r : Receipt). r.number ≤ last) x xs low in
-    absurd (omega (arith, above, below))
-same_cut last (x ∷ xs) ys (z ∷ zs) ws is low high low_too high_too =
-    let one : x ≡ z = first_of x z (xs ++ ys) (zs ++ ws) is in
-    let more = same_cut last xs ys zs ws (rest_of x z (xs ++ ys) (zs ++ ws) is) (All-tail (λ (r : Receipt). r.number ≤ last) x xs low) high (All-tail (λ (r : Receipt). r.number ≤ last) z zs low_too)
-    high_too in
+-- a list is cut between these and those in one way
+same_cut : {X : Type 0} (P Q : X → Type 0) → ((x : X) → P x → Q x → ⊥) → (xs ys zs ws : List X) → xs ++ ys ≡ zs ++ ws → All P xs → All Q ys → All P zs → All Q ws → (xs ≡ zs) × (ys ≡ ws)
+same_cut P Q not_both [] ys [] ws is p q r s = (refl, is)
+same_cut P Q not_both [] ys (z ∷ zs) ws is p q r s = absurd (not_both z (All-head P z zs r) (All-head Q z (zs ++ ws) (subst (All Q) is q)))
+same_cut P Q not_both (x ∷ xs) ys [] ws is p q r s = absurd (not_both x (All-head P x xs p) (All-head Q x (xs ++ ys) (subst (All Q) (sym is) s)))
+same_cut P Q not_both (x ∷ xs) ys (z ∷ zs) ws is p q r s =
+    let one : x ≡ z = cc in
+    let more = same_cut P Q not_both xs ys zs ws (cc) (All-tail P x xs p) q (All-tail P z zs r) s in
     ((λ i. one i ∷ more.0 i), more.1)
 
--- a history of groups of these lines, in which each processor did its part of each group behind the groups before it
+-- the entries of these groups, each group behind the one before it
+abbrev AreCut : List Past → List (Entry Global) → Type 0
+AreCut [] es = es ≡ []
+AreCut (group ∷ past) es = (before : List (Entry Global)) × (own : List (Entry Global)) × (es ≡ before ++ own) × AreCut past before × AreRun group.lines own
+
+pub cut_of : (serial : Bool) (past : List Past) (es : List (Entry Global)) → ArePast serial past → ((c : Caller) → AreBehind c past (receipts_by c 1 es)) → AreCut past es
+cut_of serial [] es are behind = no_entries 1 es behind
+cut_of serial (group ∷ past) es are behind =
+    let last = last_in past in
+    let before = take last es in
+    let own = drop last es in
+    let n = 1 + length before in
+    let P : Receipt → Type 0 = IsWithin 0 last in
+    let Q : Receipt → Type 0 = λ (r : Receipt). last < r.number in
+    let same : (c : Caller) → (receipts_by c 1 before ≡ (behind c).0) × (receipts_by c n own ≡ (behind c).1) = λ c.
+    let b = behind c in
+    same_cut P Q (λ r low high. omega (arith, low.1, high)) (receipts_by c 1 before) (receipts_by c n own) b.0 b.1
+    (sym (receipts-append c 1 before own) ∙ ap (receipts_by c 1) (take-append-drop last es) ∙ b.2) (within c 0 last 1 before (λ _. omega arith) (omega (arith, length-take last es)))
+    (All-weaker (IsWithin last (length es)) Q (λ r is. is.0) (receipts_by c n own)
+    (within c last (length es) n own (λ some. omega (arith, some, length-take last es, length-drop last es)) (omega (arith, length-take last es, length-drop last es))))
+    (behind_within serial c past b.0 are.2 b.3) (All-weaker (IsWithin last group.last) Q (λ r is. is.0) b.1 b.5) in (
+      before,
+      own,
+      sym (take-append-drop last es),
+      cut_of serial past before are.2 (λ c. subst (AreBehind c past) (sym (same c).0) (behind c).3),
+      λ c. whole_at n 1 c (asked_by c group.lines) own (subst (AreWhole c (asked_by c group.lines)) (sym (same c).1) (behind c).4),
+    )
+
+-- a history of groups of these lines
 pub record IsGrouped (serial : Bool) (lines : List (Line Global)) (history : List (Entry Global)) : Type 0 where
   pub past : List Past
   pub lines_are : lines_in past ≡ lines
-  pub rises : ArePast serial 0 past
-  pub behind : (c : Caller) → AreBehind c 0 past (receipts_by c 1 history)
+  pub rises : ArePast serial past
+  pub cut : AreCut past history
+
+run-append : (xs ys : List (Line Global)) (own rest : List (Entry Global)) → AreRun xs own → AreRun ys rest → AreRun (xs ++ ys) (own ++ rest)
+run-append xs ys own rest did more c =
+    let n = 1 + length own in
+    subst (AreWhole c (asked_by c (xs ++ ys))) (sym (receipts-append c 1 own rest))
+    (subst (λ (acts : List (Action Global)). AreWhole c acts (receipts_by c 1 own ++ receipts_by c n rest)) (sym (asked_by-append c xs ys))
+    (whole-append c (asked_by c xs) (asked_by c ys) (receipts_by c 1 own) (receipts_by c n rest) (did c) (whole_at 1 n c (asked_by c ys) rest (more c))))
+
+cut_run : (past : List Past) (es : List (Entry Global)) → AreCut past es → AreRun (lines_in past) es
+cut_run [] es none = λ c. ap (receipts_by c 1) none
+cut_run (group ∷ past) es cut = subst (AreRun (lines_in past ++ group.lines)) (sym cut.2) (run-append (lines_in past) group.lines cut.0 cut.1 (cut_run past cut.0 cut.3) cut.4)
 
 pub all_run : (serial : Bool) (lines : List (Line Global)) (history : List (Entry Global)) → IsGrouped serial lines history → AreRun lines history
-all_run serial lines history are c =
-    subst (λ (ls : List (Line Global)). AreWhole c (asked_by c ls) (receipts_by c 1 history)) are.lines_are (behind_whole c 0 are.past (receipts_by c 1 history) (are.behind c))
-
--- the entries of the first group, and the others behind them
-record HasFirst (n : ℕ) (group : Past) (past : List Past) (es : List (Entry Global)) : Type 0 where
-  own : List (Entry Global)
-  rest : List (Entry Global)
-  all : es ≡ own ++ rest
-  did : (c : Caller) → AreWhole c (asked_by c group.lines) (receipts_by c n own)
-  behind : (c : Caller) → AreBehind c group.last past (receipts_by c (n + length own) rest)
-
-has_first : (serial : Bool) (n last : ℕ) (group : Past) (past : List Past) (es : List (Entry Global)) → ArePast serial last (group ∷ past)
-    → ((c : Caller) → AreBehind c last (group ∷ past) (receipts_by c n es)) → HasFirst n group past es
-has_first serial n last group past es are behind =
-    let cut = cut_by group.last n es in
-    let same : (c : Caller) → (receipts_by c n cut.own ≡ (behind c).0) × (receipts_by c (n + length cut.own) cut.rest ≡ (behind c).1) = λ c.
-    let b = behind c in
-    same_cut group.last (receipts_by c n cut.own) (receipts_by c (n + length cut.own) cut.rest) b.0 b.1
-    (sym (receipts-append c n cut.own cut.rest) ∙ ap (receipts_by c n) (sym cut.all) ∙ b.2) (cut.up_to c) (cut.above c)
-    (All-weaker (IsWithin last group.last) (λ (r : Receipt). r.number ≤ group.last) (λ r within. within.1) b.0 b.4) (behind_above serial c group.last past b.1 are.2 b.5) in
-    record {
-      own = cut.own;
-      rest = cut.rest;
-      all = cut.all;
-      did = λ c. subst (AreWhole c (asked_by c group.lines)) (sym (same c).0) (behind c).3;
-      behind = λ c. subst (AreBehind c group.last past) (sym (same c).1) (behind c).5;
-    }
-
--- each processor did what these lines ask for, from number n on
-abbrev DoLines : ℕ → List (Line Global) → List (Entry Global) → Type 0
-DoLines n lines es = (c : Caller) → AreWhole c (asked_by c lines) (receipts_by c n es)
-
-do-append : (n : ℕ) (xs ys : List (Line Global)) (own rest : List (Entry Global)) → DoLines n xs own → DoLines (n + length own) ys rest → DoLines n (xs ++ ys) (own ++ rest)
-do-append n xs ys own rest did more c =
-    subst (AreWhole c (asked_by c (xs ++ ys))) (sym (receipts-append c n own rest))
-    (subst (λ (acts : List (Action Global)). AreWhole c acts (receipts_by c n own ++ receipts_by c (n + length own) rest)) (sym (asked_by-append c xs ys))
-    (whole-append c (asked_by c xs) (asked_by c ys) (receipts_by c n own) (receipts_by c (n + length own) rest) (did c) (more c)))
-
--- the entries of the lines before, and those of the lines after
-record HasParts (n : ℕ) (before after : List (Line Global)) (es : List (Entry Global)) : Type 0 where
-  own : List (Entry Global)
-  rest : List (Entry Global)
-  all : es ≡ own ++ rest
-  first : DoLines n before own
-  second : DoLines (n + length own) after rest
-
-parts_none : (n : ℕ) (lines : List (Line Global)) (es : List (Entry Global)) → DoLines n lines es → HasParts n [] lines es
-parts_none n lines es did = record { own = []; rest = es; all = refl; first = λ c. refl; second = let at : n ≡ n + 0 = omega arith in subst (λ (k : ℕ). DoLines k lines es) at did }
-
-parts_more : (n : ℕ) (lines mid after : List (Line Global)) (own rest es : List (Entry Global)) → es ≡ own ++ rest → DoLines n lines own → HasParts (n + length own) mid after rest
-    → HasParts n (lines ++ mid) after es
-parts_more n lines mid after own rest es is did more =
-    let at : (n + length own) + length more.own ≡ n + length (own ++ more.own) = omega (arith, length-append own more.own) in
-    record {
-      own = own ++ more.own;
-      rest = more.rest;
-      all = is ∙ ap (λ (l : List (Entry Global)). own ++ l) more.all ∙ sym (append_assoc own more.own more.rest);
-      first = do-append n lines mid own more.own did more.first;
-      second = subst (λ (k : ℕ). DoLines k after more.rest) at more.second;
-    }
-
-has_cut : (before after : List (Line Global)) (history : List (Entry Global)) → HasParts 1 before after history → HasCut before after history
-has_cut before after history parts =
-    record {
-      own = parts.own;
-      rest = parts.rest;
-      all = parts.all;
-      before_run = parts.first;
-      after_run = λ c. whole_from c (asked_by c after) 1 (length parts.own) parts.rest (parts.second c);
-    }
+all_run serial lines history are = subst (λ (ls : List (Line Global)). AreRun ls history) are.lines_are (cut_run are.past history are.cut)
 
 -- two ways to cut a list: the first cut isn't behind the other, or it is
 compare : {X : Type 0} (xs ys zs ws : List X) → xs ++ ys ≡ zs ++ ws
@@ -210,103 +131,112 @@ compare : {X : Type 0} (xs ys zs ws : List X) → xs ++ ys ≡ zs ++ ws
 compare [] ys zs ws is = inl (zs, refl, is)
 compare (x ∷ xs) ys [] ws is = inr (x, xs, refl, sym is)
 compare (x ∷ xs) ys (z ∷ zs) ws is =
-    let one : x ≡ z = first_of x z (xs ++ ys) (zs ++ ws) is in
-    elim (compare xs ys zs ws (rest_of x z (xs ++ ys) (zs ++ ws) is)) [
+    let one : x ≡ z = cc in
+    elim (compare xs ys zs ws (cc)) [
       | inl c ↦ inl (c.0, λ i. (sym one) i ∷ c.1 i, c.2)
       | inr c ↦ inr (c.0, c.1, λ i. one i ∷ c.2 i, c.3)
     ]
 
--- no cut between phases is within one
-not_within : (phase : ℕ) (lines : List (Line Global)) (first next : Line Global) (before mid after ys : List (Line Global)) → All (λ line. line.phase ≡ phase) lines
-    → lines ≡ (first ∷ before) ++ next ∷ mid → after ≡ next ∷ mid ++ ys → AreApart (first ∷ before) after → ⊥
-not_within phase lines first next before mid after ys one is rest apart =
-    let all = subst (All (λ (l : Line Global). l.phase ≡ phase)) is one in
-    let here : first.phase ≡ phase = All-head (λ (l : Line Global). l.phase ≡ phase) first (before ++ next ∷ mid) all in
-    let there : next.phase ≡ phase = All-head (λ (l : Line Global). l.phase ≡ phase) next mid (All-second (λ (l : Line Global). l.phase ≡ phase) (first ∷ before) (next ∷ mid) all) in
-    let later_than = All-head (λ (l : Line Global). All (λ (n : Line Global). l.phase < n.phase) after) first before apart in
-    let less : first.phase < next.phase = All-head (λ (n : Line Global). first.phase < n.phase) next (mid ++ ys) (subst (All (λ (n : Line Global). first.phase < n.phase)) rest later_than) in
-    omega (arith, here, there, less)
-
-of_one : (serial : Bool) (lines : List (Line Global)) → IsGroup serial lines → AreOfOne lines
-of_one true lines one =
-    let same : Line Global → Type 0 = λ (l : Line Global). l.phase ≡ one.0.phase in
-    (one.0.phase, subst (All same) (sym one.1) (All-cons same one.0 [] refl (All-nil same)))
-of_one false lines one = one
-
--- a history is cut between phases
-phased_parts : (serial : Bool) (n last : ℕ) (past : List Past) (es : List (Entry Global)) (before after : List (Line Global)) → ArePast serial last past → lines_in past ≡ before ++ after
-    → AreApart before after → ((c : Caller) → AreBehind c last past (receipts_by c n es)) → HasParts n before after es
-phased_parts serial n last past es [] after are is apart behind =
-    parts_none n after es (λ c. subst (λ (ls : List (Line Global)). AreWhole c (asked_by c ls) (receipts_by c n es)) is (behind_whole c last past (receipts_by c n es) (behind c)))
-phased_parts serial n last [] es (line ∷ before) after are is apart behind = let wrong = is in cc
-phased_parts serial n last (group ∷ past) es (line ∷ before) after are is apart behind =
-    elim (compare group.lines (lines_in past) (line ∷ before) after is) [
+-- a history of phases is cut between any two
+phased : (past : List Past) (es : List (Entry Global)) (before after : List (Line Global)) → ArePast false past → AreCut past es → lines_in past ≡ before ++ after → AreApart before after
+    → HasCut before after es
+phased past es before [] are cut is apart =
+    let run = subst (λ (ls : List (Line Global)). AreRun ls es) (is ∙ append-nil before) (cut_run past es cut) in
+    record { own = es; rest = []; all = sym (append-nil es); before_run = run; after_run = λ c. refl }
+phased [] es before (line ∷ after) are cut is apart = absurd (omega (arith, ap length is, length-append before (line ∷ after)))
+phased (group ∷ past) es before (line ∷ after) are cut is apart =
+    elim (compare before (line ∷ after) (lines_in past) group.lines (sym is)) [
       | inl c ↦
-          let f = has_first serial n last group past es are behind in
-          subst (λ (ls : List (Line Global)). HasParts n ls after es) (sym c.1)
-          (parts_more n group.lines c.0 after f.own f.rest es f.all f.did (phased_parts serial (n + length f.own) group.last past f.rest c.0 after are.2 c.2
-          (All-second (λ (l : Line Global). All (λ (n : Line Global). l.phase < n.phase) after) group.lines c.0 (subst (λ (ls : List (Line Global)). AreApart ls after) c.1 apart)) f.behind))
-      | inr c ↦ let one = of_one serial group.lines are.0 in absurd (not_within one.0 group.lines line c.0 before c.1 after (lines_in past) one.1 c.2 c.3 apart)
+          let later = λ (k : ℕ) (d : Line Global) (less : k < length before).
+          let P : Line Global → Type 0 = λ (next : Line Global). (get_or before k d).phase < next.phase in
+          All-first P c.0 group.lines (subst (All P) c.2 (apart k d less)) in
+          let first = phased past cut.0 before c.0 are.2 cut.3 c.1 later in
+          record {
+            own = first.own;
+            rest = first.rest ++ cut.1;
+            all = cut.2 ∙ ap (λ (l : List (Entry Global)). l ++ cut.1) first.all ∙ append_assoc first.own first.rest cut.1;
+            before_run = first.before_run;
+            after_run = subst (λ (ls : List (Line Global)). AreRun ls (first.rest ++ cut.1)) (sym c.2) (run-append c.0 group.lines first.rest cut.1 first.after_run cut.4);
+          }
+      | inr c ↦
+          let next = c.0 in
+          let P : Line Global → Type 0 = λ (l : Line Global). l.phase ≡ are.0.0 in
+          let Q : Line Global → Type 0 = λ (l : Line Global). All (λ (n : Line Global). l.phase < n.phase) (line ∷ after) in
+          let all = subst (All P) c.3 are.0.1 in
+          let here : next.phase ≡ are.0.0 = All-head P next (c.1 ++ line ∷ after) all in
+          let there : line.phase ≡ are.0.0 = All-head P line after (All-second P (next ∷ c.1) (line ∷ after) all) in
+          let less : next.phase < line.phase = All-head Q next c.1 (All-second Q (lines_in past) (next ∷ c.1) (subst (All Q) c.2 apart)) 0 line (omega arith) in
+          absurd (omega (arith, here, there, less))
     ]
-
-pub all_phased : (serial : Bool) (lines : List (Line Global)) (history : List (Entry Global)) → IsGrouped serial lines history → ArePhased lines history
-all_phased serial lines history are before after is apart =
-    has_cut before after history (phased_parts serial 1 0 are.past history before after are.rises (are.lines_are ∙ is) apart are.behind)
 
 one_whole : (by : Caller) (what : Action Global) (list : List Receipt) → AreWhole by (what ∷ []) list → IsWhole by what list
 one_whole by what list some = subst (IsWhole by what) (sym (some.2 ∙ ap (λ (l : List Receipt). some.0 ++ l) some.4 ∙ append-nil some.0)) some.3
 
+-- a line more in order
+order-push : (n : ℕ) (lines : List (Line Global)) (line : Line Global) (es own : List (Entry Global)) → AreInOrder n lines es → All (IsBy line.by) own
+    → ((k : ℕ) → IsWhole line.by line.action (receipts_by line.by k own)) → AreInOrder n (lines ++ line ∷ []) (es ++ own)
+order-push n [] line es own none all whole = (own, [], ap (λ (l : List (Entry Global)). l ++ own) none ∙ sym (append-nil own), all, whole n, refl)
+order-push n (first ∷ lines) line es own some all whole =
+    let more = order-push (n + length some.0) lines line some.1 own some.5 all whole in
+    (some.0, some.1 ++ own, ap (λ (l : List (Entry Global)). l ++ own) some.2 ∙ append_assoc some.0 some.1 own, some.3, some.4, more)
+
 -- groups of one line each are lines in order
-lines_in_order : (n last : ℕ) (past : List Past) (es : List (Entry Global)) → ArePast true last past → ((c : Caller) → AreBehind c last past (receipts_by c n es)) → AreInOrder n (lines_in past) es
-lines_in_order n last [] es are behind = no_entries n es behind
-lines_in_order n last (group ∷ past) es are behind =
-    let f = has_first true n last group past es are behind in
+in_order : (past : List Past) (es : List (Entry Global)) → ArePast true past → AreCut past es → AreInOrder 1 (lines_in past) es
+in_order [] es are none = none
+in_order (group ∷ past) es are cut =
     let line = are.0.0 in
-    let whole : DoLines n (line ∷ []) f.own = subst (λ (ls : List (Line Global)). DoLines n ls f.own) are.0.1 f.did in
-    subst (λ (ls : List (Line Global)). AreInOrder n (ls ++ lines_in past) es) (sym are.0.1) (
-      f.own,
-      f.rest,
-      f.all,
-      all_by line.by n f.own
-          (λ c other. subst (λ (acts : List (Action Global)). AreWhole c acts (receipts_by c n f.own)) (asked_by_other c line (λ same. other (sym same))) (whole c)),
-      one_whole line.by line.action (receipts_by line.by n f.own)
-          (subst (λ (acts : List (Action Global)). AreWhole line.by acts (receipts_by line.by n f.own)) (asked_by_own line.by line refl) (whole line.by)),
-      lines_in_order (n + length f.own) group.last past f.rest are.2 f.behind,
-    )
+    let own = cut.1 in
+    let run : AreRun (line ∷ []) own = subst (λ (ls : List (Line Global)). AreRun ls own) are.0.1 cut.4 in
+    let others = λ (c : Caller) (other : c ≡ line.by → ⊥). subst (λ (acts : List (Action Global)). AreWhole c acts (receipts_by c 1 own)) (asked_by_other c line (λ same. other (sym same))) (run c) in
+    let whole = subst (λ (acts : List (Action Global)). AreWhole line.by acts (receipts_by line.by 1 own)) (asked_by_own line.by line refl) (run line.by) in
+    subst (AreInOrder 1 (lines_in past ++ group.lines)) (sym cut.2)
+    (subst (λ (ls : List (Line Global)). AreInOrder 1 (lines_in past ++ ls) (cut.0 ++ own)) (sym are.0.1)
+    (order-push 1 (lines_in past) line cut.0 own (in_order past cut.0 are.2 cut.3) (all_by line.by 1 own others)
+    (λ k. one_whole line.by line.action (receipts_by line.by k own) (whole_at 1 k line.by (line.action ∷ []) own whole))))
 
 pub all_in_order : (lines : List (Line Global)) (history : List (Entry Global)) → IsGrouped true lines history → AreInOrder 1 lines history
-all_in_order lines history are = subst (λ (ls : List (Line Global)). AreInOrder 1 ls history) are.lines_are (lines_in_order 1 0 are.past history are.rises are.behind)
+all_in_order lines history are = subst (λ (ls : List (Line Global)). AreInOrder 1 ls history) are.lines_are (in_order are.past history are.rises are.cut)
 
 -- lines in order are cut between any two
-line_whole : (c : Caller) (line : Line Global) (n : ℕ) (own : List (Entry Global)) → All (IsBy line.by) own → IsWhole line.by line.action (receipts_by line.by n own)
-    → AreWhole c (asked_by c (line ∷ [])) (receipts_by c n own)
-line_whole c line n own all whole =
+line_run : (line : Line Global) (n : ℕ) (own : List (Entry Global)) → All (IsBy line.by) own → IsWhole line.by line.action (receipts_by line.by n own) → AreRun (line ∷ []) own
+line_run line n own all whole c =
     either line.by c
     (λ same.
-    subst (λ (acts : List (Action Global)). AreWhole c acts (receipts_by c n own)) (sym (asked_by_own c line (sym same)))
-    (receipts_by c n own, [], sym (append-nil (receipts_by c n own)), subst (λ (x : Caller). IsWhole x line.action (receipts_by x n own)) (sym same) whole, refl))
+    subst (λ (acts : List (Action Global)). AreWhole c acts (receipts_by c 1 own)) (sym (asked_by_own c line (sym same)))
+    (whole_at n 1 c (line.action ∷ []) own
+    (receipts_by c n own, [], sym (append-nil (receipts_by c n own)), subst (λ (x : Caller). IsWhole x line.action (receipts_by x n own)) (sym same) whole, refl)))
     (λ other.
     let apart : line.by ≡ c → ⊥ = λ same. other (sym same) in
-    subst (λ (acts : List (Action Global)). AreWhole c acts (receipts_by c n own)) (sym (asked_by_other c line apart)) (receipts_of_other c line.by apart n own all))
+    subst (λ (acts : List (Action Global)). AreWhole c acts (receipts_by c 1 own)) (sym (asked_by_other c line apart)) (receipts_of_other c line.by apart 1 own all))
 
-order_done : (n : ℕ) (lines : List (Line Global)) (es : List (Entry Global)) → AreInOrder n lines es → DoLines n lines es
-order_done n [] es none = λ c. ap (receipts_by c n) none
-order_done n (line ∷ lines) es some =
-    subst (DoLines n (line ∷ lines)) (sym some.2)
-    (do-append n (line ∷ []) lines some.0 some.1 (λ c. line_whole c line n some.0 some.3 some.4) (order_done (n + length some.0) lines some.1 some.5))
+order_run : (n : ℕ) (lines : List (Line Global)) (es : List (Entry Global)) → AreInOrder n lines es → AreRun lines es
+order_run n [] es none = λ c. ap (receipts_by c 1) none
+order_run n (line ∷ lines) es some =
+    subst (AreRun (line ∷ lines)) (sym some.2)
+    (run-append (line ∷ []) lines some.0 some.1 (line_run line n some.0 some.3 some.4) (order_run (n + length some.0) lines some.1 some.5))
 
-order_parts : (n : ℕ) (before after : List (Line Global)) (es : List (Entry Global)) → AreInOrder n (before ++ after) es → HasParts n before after es
-order_parts n [] after es order = parts_none n after es (order_done n after es order)
-order_parts n (line ∷ before) after es some =
-    parts_more n (line ∷ []) before after some.0 some.1 es some.2 (λ c. line_whole c line n some.0 some.3 some.4) (order_parts (n + length some.0) before after some.1 some.5)
+order_cut : (n : ℕ) (before after : List (Line Global)) (es : List (Entry Global)) → AreInOrder n (before ++ after) es → HasCut before after es
+order_cut n [] after es order = record { own = []; rest = es; all = refl; before_run = λ c. refl; after_run = order_run n after es order }
+order_cut n (line ∷ before) after es some =
+    let more = order_cut (n + length some.0) before after some.1 some.5 in
+    record {
+      own = some.0 ++ more.own;
+      rest = more.rest;
+      all = some.2 ∙ ap (λ (l : List (Entry Global)). some.0 ++ l) more.all ∙ sym (append_assoc some.0 more.own more.rest);
+      before_run = run-append (line ∷ []) before some.0 more.own (line_run line n some.0 some.3 some.4) more.before_run;
+      after_run = more.after_run;
+    }
 
 pub in_order_phased : (lines : List (Line Global)) (history : List (Entry Global)) → AreInOrder 1 lines history → ArePhased lines history
-in_order_phased lines history order before after is apart =
-    has_cut before after history (order_parts 1 before after history (subst (λ (ls : List (Line Global)). AreInOrder 1 ls history) is order))
+in_order_phased lines history order before after is apart = order_cut 1 before after history (subst (λ (ls : List (Line Global)). AreInOrder 1 ls history) is order)
+
+pub all_phased : (serial : Bool) (lines : List (Line Global)) (history : List (Entry Global)) → IsGrouped serial lines history → ArePhased lines history
+all_phased true lines history are = in_order_phased lines history (all_in_order lines history are)
+all_phased false lines history are = λ before after is apart. phased are.past history before after are.rises are.cut (are.lines_are ∙ is) apart
 
 -- there is nothing where nobody is named
 pub nothing : (lines : List (Line Global)) (callers : List Caller) (history : List (Entry Global)) → AreCallersOf lines callers → callers ≡ [] → history ≡ [] → IsGrouped true lines history
-nothing [] callers history of none empty = record { past = []; lines_are = refl; rises = tt; behind = λ c. ap (receipts_by c 1) empty }
+nothing [] callers history of none empty = record { past = []; lines_are = refl; rises = tt; cut = empty }
 nothing (line ∷ lines) callers history of none empty =
     let there : Contains callers line.by = All-head (λ (l : Line Global). Contains callers l.by) line lines of.named in
     let k = subst (λ (xs : List Caller). Contains xs line.by) none there in

@@ -28,16 +28,13 @@ key_of by = (by.part, by.vp)
 abbrev pub is_key : ℕ × ℕ → ℕ × ℕ → Bool
 is_key one other = (one.0 == other.0) && (one.1 == other.1)
 
--- these lines are of one phase
-abbrev pub AreOfOne : List (Line Global) → Type 0
-AreOfOne lines = (phase : ℕ) × All (λ line. line.phase ≡ phase) lines
-
 -- what runs as a group: a line with `serial`, and otherwise lines of one phase
 abbrev pub IsGroup : Bool → List (Line Global) → Type 0
 IsGroup true lines = (line : Line Global) × (lines ≡ line ∷ [])
-IsGroup false lines = AreOfOne lines
+IsGroup false lines = (phase : ℕ) × All (λ line. line.phase ≡ phase) lines
 
--- a group that has ended: its lines, and the highest receipt number at its end
+-- A group that has ended: its lines, and the highest receipt number at its end. A list of groups begins with
+-- the last one.
 pub record Past : Type 0 where
   pub lines : List (Line Global)
   pub last : ℕ
@@ -45,18 +42,17 @@ pub record Past : Type 0 where
 -- the lines of these groups
 abbrev pub lines_in : List Past → List (Line Global)
 lines_in [] = []
-lines_in (group ∷ past) = group.lines ++ lines_in past
+lines_in (group ∷ past) = lines_in past ++ group.lines
 
--- the highest receipt number at the end of these groups, where this one is the highest before them
-abbrev pub last_in : ℕ → List Past → ℕ
-last_in last [] = last
-last_in last (group ∷ past) = last_in group.last past
+-- the highest receipt number at the end of these groups
+abbrev pub last_in : List Past → ℕ
+last_in [] = 0
+last_in (group ∷ past) = group.last
 
 -- these are groups, and the highest number never falls
-abbrev pub ArePast : Bool → ℕ → List Past → Type 0
-ArePast serial last [] = ⊤
-ArePast serial last (group ∷ past) = IsGroup serial group.lines × (last ≤ group.last) × ArePast serial
-    group.last past
+abbrev pub ArePast : Bool → List Past → Type 0
+ArePast serial [] = ⊤
+ArePast serial (group ∷ past) = IsGroup serial group.lines × (last_in past ≤ group.last) × ArePast serial past
 
 -- the receipt's number is above one and not above another
 abbrev pub IsWithin : ℕ → ℕ → Receipt → Type 0
@@ -64,16 +60,15 @@ IsWithin low high r = (low < r.number) × (r.number ≤ high)
 
 -- a processor's receipts in these groups: in each, what its lines ask for, after the last receipt of the
 -- groups before it
-abbrev pub AreBehind : Caller → ℕ → List Past → List Receipt → Type 0
-AreBehind by last [] receipts = receipts ≡ []
-AreBehind by last (group ∷ past) receipts =
-    (own : List Receipt) × (rest : List Receipt) × (receipts ≡ own ++ rest) × AreWhole by
-    (asked_by by group.lines) own × All (IsWithin last group.last) own
-    × AreBehind by group.last past rest
+abbrev pub AreBehind : Caller → List Past → List Receipt → Type 0
+AreBehind by [] receipts = receipts ≡ []
+AreBehind by (group ∷ past) receipts =
+    (before : List Receipt) × (own : List Receipt) × (receipts ≡ before ++ own) × AreBehind by past before
+    × AreWhole by (asked_by by group.lines) own × All (IsWithin (last_in past) group.last) own
 
 -- the pass's processor has run these groups, each after the one before it
 abbrev pub HasRunGroups : List Past → PassValue → Type 0
-HasRunGroups past pass = AreBehind pass.caller 0 past pass.receipts
+HasRunGroups past pass = AreBehind pass.caller past pass.receipts
 
 -- the passes of these lines' processors, which have run them group by group, each group after the one before
 -- it
@@ -81,7 +76,7 @@ pub record HaveRun (serial : Bool) (lines : List (Line Global)) (passes : List P
   pub callers : AreCallersOf lines (map (λ pass. pass.caller) passes)
   pub past : List Past
   pub lines_are : lines_in past ≡ lines
-  pub rises : ArePast serial 0 past
+  pub rises : ArePast serial past
   pub run : All (HasRunGroups past) passes
 
 -- the processor's pass has run these groups, and these actions are what the lines ask of it
@@ -102,11 +97,11 @@ IsBusy past taken by work = IsAsked past taken by work.pass work.actions.items
 abbrev pub AreBusy : {L : Type 0} → List Past → List (Line Global) → List (Work L) → Type 0
 AreBusy past taken works = All (λ work. IsBusy past taken work.pass.caller work) works
 
--- each receipt of the first `at` passes beyond the pass's count has a number above `last` and not above `now`
-pub record HaveGained {L : Type 0} (counts : List ℕ) (last now at : ℕ) (dones : List (Done L)) : Type 0 where
-  pub rises : last ≤ now
-  pub each : (i : ℕ) (d : Done L) → i < at → i < length dones → All (IsWithin last now)
-      (drop (slice_index_or counts i 0) (slice_index_or dones i d).pass.receipts)
+-- the host didn't stop the processor, and its receipts beyond a count have numbers above one and not above
+-- another
+abbrev pub HasFinished : {L : Type 0} → ℕ → ℕ → Done L → ℕ → Type 0
+HasFinished low high done count =
+    (done.end ≡ Finished) × All (IsWithin low high) (drop count done.pass.receipts)
 
 -- the pass of each processor, by its key
 abbrev pub PassMap : Type 0 → Type 0
@@ -130,15 +125,22 @@ module _ {S : Type 0} where
   -- these lines were run as one group, with receipt numbers above `last` and up to `now`
   pub record HasRunGroup (lines : List (Line Global)) (last now : ℕ) (old new : PassMap S) : Type 0 where
     pub rises : last ≤ now
-    pub each : (past : List Past) → last_in 0 past ≡ last → Each (IsIdle past []) old → Each
-        (IsIdle (past ++ record { lines = lines; last = now } ∷ []) []) new
+    pub each : (past : List Past) → last_in past ≡ last → Each (IsIdle past []) old → Each
+        (IsIdle (record { lines = lines; last = now } ∷ past) []) new
 
-  -- all lines were run group by group, each group after the one before it
-  pub record HasRunAll (serial : Bool) (lines : List (Line Global)) (new : PassMap S) : Type 0 where
+  -- Lines were run group by group, each group after the one before it, with receipt numbers up to this one.
+  -- Those that are left are in reverse order.
+  pub record HasRunUpTo (serial : Bool) (lines left : List (Line Global)) (last : ℕ) (new : PassMap S) : Type
+      0 where
     pub past : List Past
-    pub lines_are : lines_in past ≡ lines
-    pub rises : ArePast serial 0 past
+    pub order : lines_in past ++ reverse left ≡ lines
+    pub rises : ArePast serial past
+    pub last_is : last_in past ≡ last
     pub run : Each (IsIdle past []) new
+
+  -- all lines were run
+  abbrev pub HasRunAll : Bool → List (Line Global) → PassMap S → Type 0
+  HasRunAll serial lines new = (last : ℕ) × HasRunUpTo serial lines [] last new
 
 module _ {L S T : Type 0} where
   -- a line was handed to its processor
@@ -160,15 +162,19 @@ module _ {S : Type 0} where
         Out past (first ∷ more)
 
 module _ {L S : Type 0} where
-  -- these outcomes were taken back, and the host stopped no processor
-  pub record HasTaken (dones : List (Done L)) (old new : PassMap S) : Type 0 where
-    pub ended : All (λ done. done.end ≡ Finished) dones
+  -- these outcomes were taken back: the host stopped no processor, and the receipts beyond the counts have
+  -- numbers above `last` and up to `now`
+  pub record HasTaken (dones : List (Done L)) (counts : List ℕ) (last now : ℕ) (old new : PassMap S) : Type
+      0 where
+    pub rises : last ≤ now
+    pub ended : (high : ℕ) → now ≤ high → (k : ℕ) (d : Done L) → k < length dones → HasFinished last high
+        (slice_index_or dones k d) (slice_index_or counts k 0)
     pub each : (past : List Past) → All (λ done. HasRunGroups past done.pass) dones → Each (IsIdle past [])
         old → Each (IsIdle past []) new
 
   -- these works were done, with receipt numbers above `last` and up to `now`
   pub record HasRunWorks (works : List (Work L)) (last now : ℕ) (old new : PassMap S) : Type 0 where
     pub rises : last ≤ now
-    pub each : (past : List Past) (taken : List (Line Global)) → last_in 0 past ≡ last → Each
+    pub each : (past : List Past) (taken : List (Line Global)) → last_in past ≡ last → Each
         (IsIdle past taken) old → AreBusy past taken works
-        → Each (IsIdle (past ++ record { lines = taken; last = now } ∷ []) []) new
+        → Each (IsIdle (record { lines = taken; last = now } ∷ past) []) new

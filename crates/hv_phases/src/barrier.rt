@@ -1,9 +1,9 @@
 // Numbers of receipts, which show that a phase or a line began after the one before it had ended.
 ghost use Rattle.std.specs.Prelude.{◌≡◌, ◌≤◌, All, IfOk, IfSome, drop, length, map};
-ghost use Rattle.hv_phases.specs.PassMap.{HaveGained, IsWithin};
+ghost use Rattle.hv_phases.specs.PassMap.{IsWithin};
 ghost use Rattle.hv_shared.specs.Receipts.{list_of};
 
-use hv_threads::{Done, Receipts, Work};
+use hv_threads::{Receipts, Work};
 use std::alloc::{AllocError, Global};
 use std::sync::ledger::Ledger;
 
@@ -16,20 +16,6 @@ pub fn counts_of<L: Ledger>(alloc: Global, works: &[Work<L>]) -> Result<Vec<usiz
         counts.push(works[at].pass.receipts().len())?;
     }
     Ok(counts)
-}
-
-/// Returns the highest receipt number at the end of a phase, if each new receipt has a number above `last`.
-///
-/// `last` is the highest number before the phase, and `counts` has each pass's number of receipts then.
-pub fn end_of_phase<L: Ledger>(dones: &[Done<L>], counts: &[usize], last: u64) -> Option<u64>
-    requires { length counts.now ≡ length dones.now }
-    ensures { IfSome result (λ now. HaveGained counts.now last now (length dones.now) dones.now) }
-{
-    let mut highest = last;
-    for at in 0..dones.len() {
-        highest = highest_above(dones[at].pass.receipts(), counts[at], last, highest)?;
-    }
-    Some(highest)
 }
 
 /// Returns the highest of `highest` and the receipts' numbers from a place on, if each of those is above

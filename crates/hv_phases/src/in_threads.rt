@@ -1,10 +1,10 @@
 // The phases of a script, each processor of a phase in a thread of its own.
-ghost use Rattle.std.specs.Prelude.{◌≡◌, ◌++◌, ◌∷◌, [], Err, IfNone, IfOk, IfSome, IsNone, OnOk, Some, false};
+ghost use Rattle.std.specs.Prelude.{◌≡◌, ◌++◌, ◌∷◌, [], IfNone, IfOk, IfSome, OnOk, false, length, vec_len};
 ghost use Rattle.hv_phases.specs.PassMap.{AreBusy, Each, HasGiven, HasHandedOut, HasRunAll, HasRunWorks};
 ghost use Rattle.hv_phases.specs.PassMap.{HasTaken, IsIdle, is_key};
 ghost use Rattle.indexmap.specs.IndexMap.{IsUnique, values};
 
-use crate::barrier::{counts_of, end_of_phase};
+use crate::barrier::{counts_of, highest_above};
 use crate::pass_map::{CallerMap, join, key_of};
 use crate::run::RunError;
 use hv_history::HostRefused;
@@ -130,45 +130,40 @@ fn run_works<L: Ledger + Send + Sync, R: Threads + Wait + Sync, G: Gate>(
         return Err(RunError::Host(HostRefused::Memory));
     };
     match run_phase(rt, shared, gate, works) {
-        Ok(dones) => {
-            let now = end_of_phase(&dones, &counts, last);
-            told(take_back(pass_map, dones), now)
-        }
+        Ok(dones) => take_back(pass_map, dones, &counts, last),
         Err(_) => Err(RunError::Host(HostRefused::Memory)),
     }
 }
 
-// Returns the result of a phase. A stop by the host comes before numbers that aren't above the last one.
-fn told(stop: Option<HostRefused>, now: Option<u64>) -> Result<u64, RunError>
-    ensures none { IfOk result (λ _. IsNone stop) }
-    ensures now { IfOk result (λ number. now ≡ Some number) }
-    ensures first { IfSome stop (λ why. result ≡ Err (RunError.Host why)) }
-{
-    match (stop, now) {
-        (Some(why), _) => Err(RunError::Host(why)),
-        (None, None) => Err(RunError::Settlement(SettleFault::Differs)),
-        (None, Some(number)) => Ok(number),
-    }
-}
-
-// Takes the outcomes back, and returns why the host stopped the first of the processors that it stopped.
+// Takes the outcomes back. Returns the highest receipt number after them, where `last` is the highest before
+// them and `counts` has each pass's number of receipts then. Otherwise it returns why the host stopped the
+// first of the processors that it stopped, or else that a new number isn't above `last`.
 fn take_back<L: Ledger>(
     pass_map: &mut CallerMap<Pass<L>>,
     dones: Vec<Done<L>>,
-) -> Option<HostRefused>
-    ensures { IfNone result (HasTaken dones.items pass_map.old pass_map.new) }
+    counts: &[usize],
+    last: u64,
+) -> Result<u64, RunError>
+    requires { length counts.now ≡ vec_len dones }
+    ensures { IfOk result (λ now. HasTaken dones.items counts.now last now pass_map.old pass_map.new) }
 {
     let mut left = dones;
+    let mut now = last;
+    let mut differs = false;
     let mut stop = None;
     while let Some(done) = left.pop() {
         let Done { pass, end, .. } = done;
-        match end {
-            End::Finished => {}
-            End::Host(why) => stop = Some(why),
-        }
-        if join(pass_map, pass).is_err() {
-            stop = Some(HostRefused::Memory);
+        let highest = highest_above(pass.receipts(), counts[left.len()], last, now);
+        match (end, join(pass_map, pass), highest) {
+            (End::Finished, Ok(()), Some(number)) => now = number,
+            (End::Finished, Ok(()), None) => differs = true,
+            (End::Finished, Err(_), _) => stop = Some(HostRefused::Memory),
+            (End::Host(why), _, _) => stop = Some(why),
         }
     }
-    stop
+    match (stop, differs) {
+        (None, false) => Ok(now),
+        (None, true) => Err(RunError::Settlement(SettleFault::Differs)),
+        (Some(why), _) => Err(RunError::Host(why)),
+    }
 }

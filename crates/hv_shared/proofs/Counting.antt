@@ -143,17 +143,14 @@ module _ (history : List (Entry Global)) (lists : List (List Receipt)) (merge : 
       let q = g.number in
       let places : f.place ≡ g.place = omega arith in
       let ij = same_Some i j (sym f.owner ∙ ap (λ (m : ℕ). slice_get merge.owners m) places ∙ g.owner) in
-      let other = subst (λ (x : ℕ). StandsAt lists x l s) (sym ij) hs in
-      let kl : k ≡ l =
-      elim (cases_order k l) [
-        | inl is ↦ is
-        | inr apart ↦
-            elim apart [
-              | inl less ↦ let up = rising i k l r s hr other less in absurd (omega arith)
-              | inr less ↦ let up = rising i l k s r other hr less in absurd (omega arith)
-            ]
-      ] in
-      (ij, kl)
+      let other = subst (λ (x : ℕ). StandsAt lists x l s) (sym ij) hs in (
+        ij,
+        elim (cases_order k l) [
+          | inl is ↦ is
+          | inr (inl less) ↦ let up = rising i k l r s hr other less in absurd (omega arith)
+          | inr (inr less) ↦ let up = rising i l k s r other hr less in absurd (omega arith)
+        ],
+      )
 
   pub counted : IsCounted history lists
   counted =

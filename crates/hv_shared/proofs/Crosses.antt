@@ -15,6 +15,7 @@ use Rattle.hv_partition.specs.contracts.partition.Partition as Partition
 use Rattle.hv_policy.proofs.config.Config.TheSendSync as config
 use Rattle.hv_shared.specs.contracts.held.Held as Held
 use Rattle.hv_shared.specs.contracts.held.Held.TheInside as InHeld
+use Rattle.hv_shared.specs.contracts.held.settlement.Rest as Rest
 use Rattle.hv_shared.specs.contracts.shared.Shared.TheInside as InShared
 use Rattle.std.proofs.sync.ledger.Book.TheSendSync as book
 use Rattle.hv_shared.specs.contracts.shared.Shared as Shared
@@ -51,6 +52,12 @@ history-send = search (crosses, sendable) depth 60 fits 20000
 pub kept-send : IsSend (Kept.the_row Heap.the_row ghosts)
 kept-send = search (machine-send, history-send, crosses, sendable) depth 60 fits 20000
 
+pub history-sync : IsSync (History.the_field Heap.the_row ghosts).row
+history-sync = search (crosses, sendable) depth 60 fits 20000
+
+pub rest-sync : IsSync Rest.the_row
+rest-sync = search (history-sync, crosses, sendable) depth 60 fits 20000
+
 module _ (T : RattleType) (g : Ledger.Ghosts T.Denot) where
   pub held-send : IsSend (Held.the_row T g)
   held-send =
@@ -62,4 +69,5 @@ module _ (T : RattleType) (g : Ledger.Ghosts T.Denot) where
   shared-sync =
       view_sync (InShared.the_row T g) _ _ _ _
       (recorded_sync (InShared.the_field T g).row _ _ (InShared.the_type T g).to_one
-      (struct_sync (shape (InShared.the_type T g)) (search (held-send, crosses) depth 10, (plain_sync _ _ _ _ _, (config.the_field_sync, (plain_sync _ _ _ _ _, tt))))))
+      (struct_sync (shape (InShared.the_type T g))
+      (search (held-send, crosses) depth 10, (plain_sync _ _ _ _ _, (config.the_field_sync, (plain_sync _ _ _ _ _, (search (rest-sync, crosses) depth 10, tt)))))))

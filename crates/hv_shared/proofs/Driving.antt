@@ -1,7 +1,9 @@
 -- A call that continues from hold to hold.
-use Rattle.std.proofs.Common.{◌≡◌, ℕ, ◌+◌, ◌-◌, ◌<◌, List, [], ◌∷◌, ◌++◌, length, refl, sym, ap, ◌∙◌, subst, arith, append_assoc, append-nil, map, length-append, Global}
+use Rattle.std.proofs.Common.{◌≡◌, ℕ, ◌+◌, ◌-◌, ◌<◌, List, [], ◌∷◌, ◌++◌, length, refl, sym, ap, ◌∙◌, subst, arith, append_assoc, map, length-append, Global}
 use Rattle.std.proofs.lemmas.List.{append_cancel_left, map-append}
+use Rattle.hv_abi.specs.InputValue.{input_value}
 use Rattle.hv_abi.specs.declared.frame.Frame.{Frame}
+use Rattle.hv_abi.specs.declared.input_value.InputValue.{InputValue}
 use Rattle.hv_defs.specs.declared.sizes.TheConstants.{REPS_END}
 use Rattle.hv_history.proofs.Elements.{as_many, start_restart}
 use Rattle.hv_history.specs.Run.{AreElements as AreAsked, GoesOnAt, HasRun, HasStopped as HasStoppedAt, IsMore, element, restart, start_of}
@@ -11,7 +13,7 @@ use Rattle.hv_policy.specs.Result.{result_of}
 use Rattle.hv_policy.specs.declared.event.Action.TheVariants.{Hypercall}
 use Rattle.hv_policy.specs.declared.event.Caller.{Caller}
 use Rattle.hv_policy.specs.declared.reply.Reply.{Reply}
-use Rattle.hv_policy.specs.declared.reply.Reply.TheVariants.{Served, More, Denied, Fault}
+use Rattle.hv_policy.specs.declared.reply.Reply.TheVariants.{More}
 use Rattle.hv_shared.specs.Drive.{AreElements, HasDriven, HasStopped, entry_in}
 use Rattle.hv_shared.specs.HeldValue.{HeldValue}
 use Rattle.hv_shared.specs.Hold.{HasHeld}
@@ -23,9 +25,7 @@ use Rattle.hv_shared.proofs.Numbers.{entries_in, numbered-push}
 
 has_index_at : (n : ℕ) (reply : Reply) → GoesOnAt n reply → n < REPS_END
 has_index_at n (More next output) is = is.1
-has_index_at n (Served output) is = absurd is
-has_index_at n (Denied rule status reps) is = absurd is
-has_index_at n (Fault rule) is = absurd is
+has_index_at n reply is = absurd is
 
 asked-append : (by : Caller) (frame mid now : Frame Global) (es more : List (Entry Global)) → AreAsked by frame es mid → AreAsked by mid more now → AreAsked by frame (es ++ more) now
 asked-append by frame mid now [] more is then = subst (λ (f : Frame Global). AreAsked by f more now) is then
@@ -61,10 +61,7 @@ pub record IsDriving (frame now : Frame Global) (old pass : PassValue) : Type 0 
   pub elements : AreElements old.caller frame so_far now
   pub gained : HasReceipts so_far old pass
 
-pub begun : (frame : Frame Global) (pass : PassValue) → IsDriving frame frame pass pass
-begun frame pass = record { so_far = []; elements = refl; gained = record { receipts = sym (append-nil pass.receipts); share = omega arith; caller = refl } }
-
-module _ (frame now : Frame Global) (old pass mid : PassValue) (driving : IsDriving frame now old pass) (same : IsAsBefore pass mid) where
+module _ {frame now : Frame Global} {old pass mid : PassValue} (driving : IsDriving frame now old pass) (same : IsAsBefore pass mid) where
   -- the room alone changed
   is : HasReceipts driving.so_far old mid
   is =
@@ -74,12 +71,11 @@ module _ (frame now : Frame Global) (old pass mid : PassValue) (driving : IsDriv
         caller = same.caller ∙ driving.gained.caller;
       }
 
-  -- no hold was begun
-  pub not_begun : (start : ℕ) → start ≡ start_of now → HasStopped frame start old mid
-  not_begun start start_is = record { more = driving.so_far; now = now; elements = driving.elements; next_is = start_is; gained = is }
-
   -- a hold of the elements from a frame on
-  module _ (own : Frame Global) (own_is : own ≡ now) (start : ℕ) (start_is : start ≡ start_of now) (h k : HeldValue) (new : PassValue) (held : HasHeld h k mid new) where
+  module _ {own : Frame Global} (own_is : own ≡ now) {input : InputValue} (read : input ≡ input_value now.rcx) {h k : HeldValue} {new : PassValue} (held : HasHeld h k mid new) where
+    start_is : input.start ≡ start_of now
+    start_is = ap (λ (v : InputValue). v.start) read
+
     abbrev n : ℕ
     n = length h.kept.history + 1
 
@@ -93,8 +89,8 @@ module _ (frame now : Frame Global) (old pass mid : PassValue) (driving : IsDriv
         (asked-append old.caller frame now later (map entry_in driving.so_far) es driving.elements elements)
 
     -- the host refused an element
-    pub stopped : (events most : ℕ) → HasStoppedAt mid.caller own events most h.kept k.kept → HasStopped frame (start + events) old new
-    stopped events most run =
+    pub stopped : {events most : ℕ} → HasStoppedAt mid.caller own events most h.kept k.kept → HasStopped frame (input.start + events) old new
+    stopped run =
         let elements = subst (λ (by : Caller). AreAsked by now run.before run.now) is.caller (subst (λ (f : Frame Global). AreAsked mid.caller f run.before run.now) own_is run.elements) in
         record {
           more = driving.so_far ++ numbered n held.more;
@@ -104,7 +100,7 @@ module _ (frame now : Frame Global) (old pass mid : PassValue) (driving : IsDriv
           gained = gained;
         }
 
-    module _ (reply : Reply) (events most : ℕ) (asked : HasRun mid.caller own reply events most h.kept k.kept) where
+    module _ {reply : Reply} {events most : ℕ} (asked : HasRun mid.caller own reply events most h.kept k.kept) where
       run : HasRun old.caller now reply events most h.kept k.kept
       run =
           subst (λ (by : Caller). HasRun by now reply events most h.kept k.kept) is.caller
@@ -113,20 +109,22 @@ module _ (frame now : Frame Global) (old pass mid : PassValue) (driving : IsDriv
       abbrev final : Entry Global
       final = record { event = element old.caller run.last; reply = reply }
 
-      pub fits : start + events - 1 < 4096
-      fits = let many = as_many old.caller now run.before run.last run.elements in let count = run.count in omega (arith, start_is)
+      many : length run.before + start_of now ≡ start_of run.last
+      many = as_many old.caller now run.before run.last run.elements
+
+      pub fits : input.start + events - 1 < 4096
+      fits = let count = run.count in omega (arith, start_is, many)
 
       -- the last element has the index before the next
-      last_is : (last : Frame Global) → last ≡ restart now (start + events - 1) → last ≡ run.last
-      last_is last is =
-          let many = as_many old.caller now run.before run.last run.elements in
+      last_is : {last : Frame Global} → last ≡ restart now (input.start + events - 1) → last ≡ run.last
+      last_is is =
           let count = run.count in
-          let at : start + events - 1 ≡ start_of run.last = omega (arith, start_is) in
+          let at : input.start + events - 1 ≡ start_of run.last = omega (arith, start_is, many) in
           is ∙ ap (restart now) at ∙ sym (at_end old.caller now run.before run.last run.elements)
 
       -- it was the last of the call
-      pub driven : (last : Frame Global) (value : ℕ) → last ≡ restart now (start + events - 1) → (IsMore reply → ⊥) → value ≡ result_of last reply → HasDriven frame value reply old new
-      driven last value at ends value_is =
+      pub driven : {last : Frame Global} {value : ℕ} → last ≡ restart now (input.start + events - 1) → (IsMore reply → ⊥) → value ≡ result_of last reply → HasDriven frame value reply old new
+      driven at ends value_is =
           let all = append_cancel_left h.kept.history held.more (run.before ++ final ∷ []) (sym held.history ∙ run.history) in
           record {
             more = driving.so_far ++ numbered n held.more;
@@ -142,20 +140,20 @@ module _ (frame now : Frame Global) (old pass mid : PassValue) (driving : IsDriv
                   ∙ sym (append_assoc driving.so_far (numbered n run.before) (receipt (n + length run.before) final.event reply ∷ []));
               ends = ends;
             };
-            value_is = value_is ∙ ap (λ (f : Frame Global). result_of f reply) (last_is last at);
+            value_is = value_is ∙ ap (λ (f : Frame Global). result_of f reply) (last_is at);
             gained = gained;
           }
 
       -- the call continues
-      module _ (next : ℕ) (output : List ℕ) (last later : Frame Global) (more : reply ≡ More next output) (at : last ≡ restart now (start + events - 1)) (later_at : later ≡ restart last next) where
+      module _ {next : ℕ} {output : List ℕ} {last later : Frame Global} (more : reply ≡ More next output) (at : last ≡ restart now (input.start + events - 1)) (then : later ≡ restart last next) where
         goes : GoesOn (Hypercall run.last) (More next output)
         goes = subst (GoesOn (Hypercall run.last)) more run.next
 
         pub goes_on : IsDriving frame later old new
         goes_on =
-            let same = last_is last at in
+            let same = last_is at in
             let goes_at = subst (GoesOnAt (start_of run.last + 1)) (sym more) (goes.0, (let less = goes.1 in let same = goes.0 in omega arith)) in
-            let to_later = later_at ∙ (λ i. restart (same i) (goes.0 i)) in
+            let to_later = then ∙ (λ i. restart (same i) (goes.0 i)) in
             record {
               so_far = driving.so_far ++ numbered n held.more;
               elements = further (run.before ++ final ∷ []) later run.history (asked-append old.caller now run.last later run.before (final ∷ []) run.elements (refl, goes_at, to_later));
@@ -164,7 +162,6 @@ module _ (frame now : Frame Global) (old pass mid : PassValue) (driving : IsDriv
 
         pub nearer : start_of now < start_of later
         nearer =
-            let many = as_many old.caller now run.before run.last run.elements in
-            let start : start_of later ≡ next = ap start_of later_at ∙ start_restart last next goes.1 in
+            let start : start_of later ≡ next = ap start_of then ∙ start_restart last next goes.1 in
             let is_next = goes.0 in
-            omega arith
+            omega (arith, many)

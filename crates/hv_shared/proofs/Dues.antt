@@ -1,34 +1,22 @@
--- When the settlement finds the passes' next receipts.
-use Rattle.std.proofs.Common.{◌≡◌, ℕ, Some, ◌<◌, ◌≤◌, ◌==◌, List, [], ◌∷◌, false, sym, ap, ◌∙◌, subst, arith, option_map, slice_get, ne_eqb}
-use Rattle.std.specs.List.Sorted.{IsNonDecreasingBy}
-use Rattle.std.proofs.lemmas.List.{get_or-map, length-map}
-use Rattle.hv_shared.specs.Due.{IsDueAfter, IsHeap, above, dues_of}
-use Rattle.hv_shared.specs.Merge.{next_is, rest_of}
-use Rattle.hv_shared.specs.PassValue.{PassValue}
-use Rattle.hv_shared.specs.declared.held.TheConstants.{NEVER}
-use Rattle.hv_shared.proofs.Packed.{next_number}
+-- When the settlement finds the next receipt of a list.
+use Rattle.std.proofs.Common.{◌≡◌, ℕ, Some, ◌<◌, ◌≤◌, List, false, length, sym, ◌∙◌, drop, arith, option_map, slice_get, ne_eqb}
+use Rattle.hv_shared.specs.Due.{IsDue}
+use Rattle.hv_shared.specs.Merge.{next_is}
+use Rattle.hv_shared.specs.declared.held.settlement.TheConstants.{NEVER}
+use Rattle.hv_shared.specs.declared.receipts.Receipt.{Receipt}
+use Rattle.hv_shared.proofs.Packed.{next_number, no_number}
 
--- the next receipt has a later number
-pub due_later : (n : ℕ) (p : PassValue) (m : ℕ) → n < m → option_map (λ r. r.number) (slice_get p.receipts p.settled) ≡ Some m → p.due ≡ m → IsDueAfter n p
-due_later n p m later at is = record { later = omega arith; found = λ x _ _. next_number p.receipts p.settled m x at ∙ ap (λ (d : ℕ). d == x) (sym is) }
+-- it has a later number
+pub due_later : (n m at : ℕ) (rs : List Receipt) → n < m → option_map (λ r. r.number) (slice_get rs at) ≡ Some m → IsDue n m (drop at rs)
+due_later n m at rs later is = record { later = later; found = λ x _ _. next_number rs at m x is }
 
-never : (n : ℕ) (p : PassValue) → n < NEVER → p.due ≡ NEVER → ((x : ℕ) → n < x → next_is x (rest_of p) ≡ false) → IsDueAfter n p
-never n p few is none =
-    record {
-      later = subst (λ (x : ℕ). n < x) (sym is) few;
-      found = λ x later less. none x later ∙ sym (ap (λ (d : ℕ). d == x) is ∙ ne_eqb NEVER x (λ same. let not : x < x = subst (λ (d : ℕ). x < d) same less in omega arith));
-    }
+never : (n : ℕ) (list : List Receipt) → n < NEVER → ((x : ℕ) → n < x → next_is x list ≡ false) → IsDue n NEVER list
+never n list few none = record { later = few; found = λ x after less. none x after ∙ sym (ne_eqb NEVER x (omega arith)) }
 
 -- it has an earlier one
-pub due_past : (n : ℕ) (p : PassValue) (m : ℕ) → n < NEVER → m ≤ n → option_map (λ r. r.number) (slice_get p.receipts p.settled) ≡ Some m → p.due ≡ NEVER → IsDueAfter n p
-due_past n p m few past at is = never n p few is (λ x later. next_number p.receipts p.settled m x at ∙ ne_eqb m x (omega arith))
+pub due_past : (n m at : ℕ) (rs : List Receipt) → n < NEVER → m ≤ n → option_map (λ r. r.number) (slice_get rs at) ≡ Some m → IsDue n NEVER (drop at rs)
+due_past n m at rs few past is = never n (drop at rs) few (λ x after. next_number rs at m x is ∙ ne_eqb m x (omega arith))
 
--- passes in the order in which they are due
-pub in_order : (ps : List PassValue) → IsNonDecreasingBy (λ p. p.due) ps → IsHeap (dues_of ps)
-in_order [] up k some there = absurd (omega arith)
-in_order (p ∷ ps) up k some there =
-    let m = length-map (p ∷ ps) (λ (x : PassValue). x.due) in
-    let top = get_or-map (λ (x : PassValue). x.due) (p ∷ ps) (above k) p 0 (omega arith) in
-    let own = get_or-map (λ (x : PassValue). x.due) (p ∷ ps) k p 0 (omega arith) in
-    let rises = up (above k) k p (omega arith) (omega arith) in
-    omega arith
+-- there is none
+pub due_none : (n at : ℕ) (rs : List Receipt) → n < NEVER → length rs ≤ at → IsDue n NEVER (drop at rs)
+due_none n at rs few past = never n (drop at rs) few (λ x after. no_number rs at x past)

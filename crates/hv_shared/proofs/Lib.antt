@@ -1,10 +1,8 @@
-pub mod Heaps
 pub mod Moved
 pub mod Dues
 pub mod Looking
 pub mod Merged
 pub mod Packed
-pub mod Passes
 pub mod Opened
 pub mod Copies
 pub mod Numbers

@@ -1,105 +1,105 @@
--- What the first pass tells of the others, where the passes are in the order in which they are due.
-use Rattle.std.proofs.Common.{◌≡◌, ℕ, ◌+◌, ◌<◌, ◌==◌, List, [], length, get_or, sym, ap, ◌∙◌, subst, inl, inr, arith, All, sum, IsPermutation, eqb-true, eq-eqb, get_or-set_other, get_or-set_same}
-use Rattle.std.proofs.Common.{length-set}
-use Rattle.std.proofs.Math.ListN.{set}
-use Rattle.std.proofs.lemmas.Bool.{cases_eq, cases_lt, false≢true}
-use Rattle.std.proofs.lemmas.List.{get_or-map, length-map}
-use Rattle.std.proofs.lemmas.List.Sorted.{IsPermutation-map, sum_by-IsPermutation}
-use Rattle.hv_shared.specs.Due.{IsDueAfter, IsHeap, dues_of}
-use Rattle.hv_shared.specs.Merge.{IsNext, next_is, rest_of, rests_of, shares_of}
-use Rattle.hv_shared.specs.PassValue.{PassValue}
-use Rattle.hv_shared.specs.declared.held.TheConstants.{NEVER}
-use Rattle.hv_shared.proofs.Heaps.{heap_first, heap_second}
-use Rattle.hv_shared.proofs.Packed.{no_number, there_is}
-use Rattle.hv_shared.proofs.Passes.{next_there}
+-- What the first of the settlement's heap tells of the others.
+use Rattle.std.proofs.Common.{◌≡◌, ℕ, zero, suc, ◌+◌, ◌<◌, ◌≤◌, List, [], ◌∷◌, Option, Some, length, drop, get_or, refl, true, sym, ◌∙◌, subst, inl, inr, arith, All, IsPermutation, eq-eqb, ne_eqb}
+use Rattle.std.proofs.Common.{slice_get, Global}
+use Rattle.std.proofs.lemmas.Bool.{false≢true}
+use Rattle.std.proofs.lemmas.List.Elements.{All-cons, All-head, All-nil, All-tail}
+use Rattle.std.proofs.lemmas.List.Sorted.{All-permutation, IsPermutation-map, IsPermutation-sym}
+use Rattle.std.proofs.lemmas.Map.Keys.{ge_from_not_lt}
+use Rattle.std.specs.BinaryHeap.{IsUpperBound}
+use Rattle.hv_history.specs.declared.entry.Entry.{Entry}
+use Rattle.hv_shared.specs.Due.{IsDueAfter, left_of, lefts_of}
+use Rattle.hv_shared.specs.Merge.{IsNext, IsOf, SettlesAs, next_is}
+use Rattle.hv_shared.specs.contracts.held.settlement.RestOrd.TheImpl as order
+use Rattle.hv_shared.specs.declared.fault.SettleFault.{SettleFault}
+use Rattle.hv_shared.specs.declared.fault.SettleFault.TheVariants.{Differs, Missing}
+use Rattle.hv_shared.specs.declared.held.settlement.Rest.{Rest}
+use Rattle.hv_shared.specs.declared.held.settlement.TheConstants.{NEVER}
+use Rattle.hv_shared.specs.declared.receipts.Receipt.{Receipt}
+use Rattle.hv_shared.proofs.Moved.{settles_permuted}
+use Rattle.hv_shared.proofs.Packed.{drop_at}
 
-module _ (at : ℕ) (ps : List PassValue) (heap : IsHeap (dues_of ps)) (due : All (IsDueAfter at) ps) (few : at + 1 < NEVER) where
-  due_is : (i : ℕ) (there : i < length ps) → get_or (dues_of ps) i 0 ≡ (get_or ps i ((there_is ps i there).0)).due
-  due_is i there = get_or-map (λ (p : PassValue). p.due) ps i ((there_is ps i there).0) 0 there
+-- the top of a heap is due first
+pub lowest : (x : Rest) (ys : List Rest) → IsUpperBound (order.ghosts).cmp x ys → All (λ y. x.due.0 ≤ y.due.0) ys
+lowest x [] h = All-nil (λ y. x.due.0 ≤ y.due.0)
+lowest x (y ∷ ys) h = All-cons (λ z. x.due.0 ≤ z.due.0) y ys (ge_from_not_lt y.due.0 x.due.0 h.0) (lowest x ys h.1)
 
-  rest_is : (i : ℕ) (there : i < length ps) → get_or (rests_of ps) i [] ≡ rest_of (get_or ps i ((there_is ps i there).0))
-  rest_is i there = get_or-map rest_of ps i ((there_is ps i there).0) [] there
+-- and if it is due later than a number, so are all
+pub all_later : (n : ℕ) (x : Rest) (ys : List Rest) → IsUpperBound (order.ghosts).cmp x ys → n < x.due.0 → All (λ y. n < y.due.0) ys
+all_later n x ys low later = λ i d there. let l = lowest x ys low i d there in omega arith
 
-  next_in : (i : ℕ) → IsNext (at + 1) (rests_of ps) i → i < length ps
-  next_in i next = let t = next_there (at + 1) (rests_of ps) i next in let m = length-map ps rest_of in omega arith
+module _ (at : ℕ) (few : at + 1 < NEVER) where
+  next_due : (r : Rest) → IsDueAfter at r → r.due.0 ≡ at + 1 → next_is (at + 1) (left_of r) ≡ true
+  next_due r due is = due.found (at + 1) (omega arith) few ∙ eq-eqb _ _ is
 
-  -- a pass continues with the next number just if it is due at it
-  is_next : (i : ℕ) → i < length ps → next_is (at + 1) (get_or (rests_of ps) i []) ≡ (get_or (dues_of ps) i 0 == at + 1)
-  is_next i there =
-      ap (next_is (at + 1)) (rest_is i there) ∙ (due i (there_is ps i there).0 there).found (at + 1) (omega arith) few ∙ ap (λ (d : ℕ). d == at + 1) (sym (due_is i there))
+  first_next : (rs : List Rest) → All (IsDueAfter at) rs → 0 < length rs → ((d : Rest) → (get_or rs 0 d).due.0 ≡ at + 1) → IsNext (at + 1) (lefts_of rs) 0
+  first_next [] due some first = absurd (omega arith)
+  first_next (r ∷ rs) due some first = next_due r (All-head (IsDueAfter at) r rs due) (first r)
 
-  due_next : (i : ℕ) → IsNext (at + 1) (rests_of ps) i → get_or (dues_of ps) i 0 ≡ at + 1
-  due_next i next = eqb-true _ _ (sym (is_next i (next_in i next)) ∙ next)
+  -- none of those that are due later has the next number
+  nobody : (rs : List Rest) → All (IsDueAfter at) rs → All (λ r. at + 1 < r.due.0) rs → (i : ℕ) → IsNext (at + 1) (lefts_of rs) i → ⊥
+  nobody [] due later i next = cc
+  nobody (r ∷ rs) due later zero next =
+      let here = All-head (IsDueAfter at) r rs due in
+      let after = All-head (λ (x : Rest). at + 1 < x.due.0) r rs later in
+      false≢true (sym (here.found (at + 1) (omega arith) few ∙ ne_eqb r.due.0 (at + 1) (omega arith)) ∙ next)
+  nobody (r ∷ rs) due later (suc i) next = nobody rs (All-tail (IsDueAfter at) r rs due) (All-tail (λ (x : Rest). at + 1 < x.due.0) r rs later) i next
 
-  pub next_due : (i : ℕ) → i < length ps → get_or (dues_of ps) i 0 ≡ at + 1 → IsNext (at + 1) (rests_of ps) i
-  next_due i there is = is_next i there ∙ eq-eqb _ _ is
+  -- they are due behind it, too
+  pub behind : (rs : List Rest) → All (IsDueAfter at) rs → All (λ r. at + 1 < r.due.0) rs → All (IsDueAfter (at + 1)) rs
+  behind rs due later = λ i d there. record { later = later i d there; found = λ m after less. (due i d there).found m (omega arith) less }
 
-  later : (i : ℕ) → i < length ps → at < get_or (dues_of ps) i 0
-  later i there = let l = (due i ((there_is ps i there).0) there).later in let d = due_is i there in omega arith
+  module _ (es : List (Entry Global)) (e : Entry Global) (is : slice_get es at ≡ Some e) where
+    here : (lists : List (List Receipt)) (fault : Option SettleFault) → SettlesAs (at + 1) (e ∷ drop (at + 1) es) lists fault → SettlesAs (at + 1) (drop at es) lists fault
+    here lists fault s = subst (λ (l : List (Entry Global)). SettlesAs (at + 1) l lists fault) (sym (drop_at es at e is)) s
 
-  -- nobody continues where the first doesn't
-  pub missing : ((0 < length ps) × (get_or (dues_of ps) 0 0 ≡ at + 1) → ⊥) → (i : ℕ) → IsNext (at + 1) (rests_of ps) i → ⊥
-  missing not i next =
-      let there = next_in i next in
-      let is = due_next i next in
-      let m = length-map ps (λ (p : PassValue). p.due) in
-      let low = heap_first (dues_of ps) heap i i (omega arith) (omega arith) in
-      let up = later 0 (omega arith) in
-      not (omega arith, omega arith)
+    -- nothing is left
+    pub empty : (old : List Rest) → length old ≡ 0 → SettlesAs (at + 1) (drop at es) (lefts_of old) (Some Missing)
+    empty old none = here (lefts_of old) (Some Missing) (inl (inl (refl, nobody old (λ i d there. absurd (omega arith)) (λ i d there. absurd (omega arith)))))
 
-  -- nobody else continues where the two below the first don't
-  pub alone : ((1 < length ps) × (get_or (dues_of ps) 1 0 ≡ at + 1) → ⊥) → ((2 < length ps) × (get_or (dues_of ps) 2 0 ≡ at + 1) → ⊥) → (j : ℕ) → IsNext (at + 1) (rests_of ps) j → j ≡ 0
-  alone one two j next =
-      let there = next_in j next in
-      let is = due_next j next in
-      let m = length-map ps (λ (p : PassValue). p.due) in
-      elim (cases_lt 0 j) [
-        | inl some ↦
-            elim (heap_second (dues_of ps) heap j j (omega arith) some (omega arith)) [
-              | inl low ↦ let up = later 1 (omega arith) in absurd (one (omega arith, omega arith))
-              | inr low ↦ let l = low.1 in let up = later 2 (let t = low.0 in omega arith) in absurd (two (let t = low.0 in omega arith, omega arith))
-            ]
-        | inr none ↦ omega arith
-      ]
+    module _ (old new : List Rest) (x : Rest) (moved : IsPermutation old (x ∷ new)) (due : All (IsDueAfter at) old) (low : IsUpperBound (order.ghosts).cmp x new) where
+      first : IsDueAfter at x
+      first = All-head (IsDueAfter at) x new (All-permutation (IsDueAfter at) old (x ∷ new) moved due)
 
-  -- once the first came past its receipt, the passes are due behind it
-  pub due_behind : (q : PassValue) → IsDueAfter (at + 1) q → ((j : ℕ) → IsNext (at + 1) (rests_of ps) j → j ≡ 0) → All (IsDueAfter (at + 1)) (set ps 0 q)
-  due_behind q own only i d there =
-      let in_ps : i < length ps = let s = length-set ps 0 q in omega arith in
-      elim (cases_eq i 0) [
-        | inl is ↦
-            subst (λ (k : ℕ). IsDueAfter (at + 1) (get_or (set ps 0 q) k d)) (sym is)
-            (subst (IsDueAfter (at + 1)) (sym (get_or-set_same ps 0 q d (omega arith))) own)
-        | inr other ↦ subst (IsDueAfter (at + 1)) (sym (get_or-set_other ps 0 i q d other)) (still i d in_ps other)
-      ]
-    where
-      still : (i : ℕ) (d : PassValue) → i < length ps → (i ≡ 0 → ⊥) → IsDueAfter (at + 1) (get_or ps i d)
-      still i d in_ps other =
-          let was = due i d in_ps in
-          let apart : (get_or ps i d).due ≡ at + 1 → ⊥ = λ is. other (only i (next_due i in_ps (get_or-map (λ (p : PassValue). p.due) ps i d 0 in_ps ∙ is))) in
-          record {
-            later = let l = was.later in omega (arith, apart);
-            found = λ m after less. was.found m (omega arith) less;
-          }
+      others : All (IsDueAfter at) new
+      others = All-tail (IsDueAfter at) x new (All-permutation (IsDueAfter at) old (x ∷ new) moved due)
 
--- one pass more was begun
-pub due_more : (n i : ℕ) (ps : List PassValue) (q : PassValue) → i < length ps → IsDueAfter n q → ((j : ℕ) (d : PassValue) → j < i → IsDueAfter n (get_or ps j d))
-    → (j : ℕ) (d : PassValue) → j < i + 1 → IsDueAfter n (get_or (set ps i q) j d)
-due_more n i ps q there own so_far j d less =
-    elim (cases_eq j i) [
-      | inl is ↦ subst (λ (k : ℕ). IsDueAfter n (get_or (set ps i q) k d)) (sym is) (subst (IsDueAfter n) (sym (get_or-set_same ps i q d there)) own)
-      | inr other ↦ subst (IsDueAfter n) (sym (get_or-set_other ps i j q d other)) (so_far j d (omega arith))
-    ]
+      -- with this one first, what is left decides as in any order
+      settles : (fault : Option SettleFault) → SettlesAs (at + 1) (e ∷ drop (at + 1) es) (lefts_of (x ∷ new)) fault → SettlesAs (at + 1) (drop at es) (lefts_of old) fault
+      settles fault s =
+          here (lefts_of old) fault
+          (settles_permuted (at + 1) (e ∷ drop (at + 1) es) (lefts_of (x ∷ new)) (lefts_of old) fault (IsPermutation-map left_of (x ∷ new) old (IsPermutation-sym old (x ∷ new) moved)) s)
 
--- the shares together are the same in any order
-pub shares_permuted : (ps qs : List PassValue) → IsPermutation ps qs → sum (shares_of qs) ≡ sum (shares_of ps)
-shares_permuted ps qs moved = sum_by-IsPermutation (λ (n : ℕ). n) (shares_of ps) (shares_of qs) (IsPermutation-map (λ (p : PassValue). p.share) ps qs moved)
+      pub missing : (x.due.0 ≡ at + 1 → ⊥) → SettlesAs (at + 1) (drop at es) (lefts_of old) (Some Missing)
+      missing other =
+          let after : at + 1 < x.due.0 = let l = first.later in omega (arith, other) in
+          settles (Some Missing)
+          (inl (inl (refl, nobody (x ∷ new) (All-cons (IsDueAfter at) x new first others) (All-cons (λ r. at + 1 < r.due.0) x new after (all_later (at + 1) x new low after)))))
 
--- a pass that continues has a receipt to continue with
-pub first_left : (n : ℕ) (ps : List PassValue) (d : PassValue) → 0 < length ps → IsNext n (rests_of ps) 0 → (get_or ps 0 d).settled < length (get_or ps 0 d).receipts
-first_left n ps d there next =
-    let p = get_or ps 0 d in
-    elim (cases_lt p.settled (length p.receipts)) [
-      | inl less ↦ less
-      | inr past ↦ absurd (false≢true (sym (no_number p.receipts p.settled n past) ∙ sym (ap (next_is n) (get_or-map rest_of ps 0 d [] there)) ∙ next))
-    ]
+      module _ (now : x.due.0 ≡ at + 1) where
+        pub none_before : All (λ r. at + 1 ≤ r.due.0) new
+        none_before = λ i d there. let l = lowest x new low i d there in omega arith
+
+        pub contested : 0 < length new → ((d : Rest) → (get_or new 0 d).due.0 ≡ at + 1) → SettlesAs (at + 1) (drop at es) (lefts_of old) (Some Differs)
+        contested some second = settles (Some Differs) (inl (inr (refl, inl (0, 1, λ same. omega arith, next_due x first now, first_next new others some second))))
+
+        pub differs : (IsOf e (left_of x) → ⊥) → SettlesAs (at + 1) (drop at es) (lefts_of old) (Some Differs)
+        differs not = settles (Some Differs) (inl (inr (refl, inr (0, next_due x first now, not))))
+
+        -- it is put back with the next receipt
+        module _ (z : Rest) (zs : List Rest) (alone : All (λ r. at + 1 < r.due.0) new) (put : IsPermutation (z ∷ new) zs) where
+          pub due_behind : IsDueAfter (at + 1) z → All (IsDueAfter (at + 1)) zs
+          due_behind own = All-permutation (IsDueAfter (at + 1)) (z ∷ new) zs put (All-cons (IsDueAfter (at + 1)) z new own (behind new others alone))
+
+          pub goes_on : IsOf e (left_of x) → left_of z ≡ drop 1 (left_of x) → (fault : Option SettleFault) → SettlesAs (at + 1 + 1) (drop (at + 1) es) (lefts_of zs) fault
+              → SettlesAs (at + 1) (drop at es) (lefts_of old) fault
+          goes_on of left fault s =
+              settles fault (inr (
+                0,
+                record { there = omega arith; next = next_due x first now; alone = only; same = of },
+                rw (sym left)
+                    (settles_permuted (at + 1 + 1) (drop (at + 1) es) (lefts_of zs) (lefts_of (z ∷ new)) fault (IsPermutation-map left_of zs (z ∷ new) (IsPermutation-sym (z ∷ new) zs put)) s),
+              ))
+            where
+              only : (j : ℕ) → IsNext (at + 1) (lefts_of (x ∷ new)) j → j ≡ 0
+              only zero own = refl
+              only (suc j) own = absurd (nobody new others alone j own)

@@ -1,6 +1,6 @@
 -- A history that is gone through is a merge, and one that fails isn't.
-use Rattle.std.proofs.Common.{◌≡◌, ℕ, suc, ◌+◌, ◌<◌, None, Some, List, [], ◌∷◌, length, drop, get_or, refl, sym, ap, ◌∙◌, subst, inl, inr, arith, Bool, true, false, ◌==◌, All, if◌then◌else◌, ◌≢◌}
-use Rattle.std.proofs.Common.{length-set, get_or-set_same, get_or-set_other, eqb-true, eq-eqb, ne_eqb, Global}
+use Rattle.std.proofs.Common.{◌≡◌, ℕ, suc, ◌+◌, ◌<◌, None, Some, Option, IfNone, List, [], ◌∷◌, length, drop, get_or, refl, sym, ap, ◌∙◌, subst, inl, inr, arith, Bool, true, false, ◌==◌}
+use Rattle.std.proofs.Common.{All, if◌then◌else◌, ◌≢◌, length-set, get_or-set_same, get_or-set_other, eqb-true, eq-eqb, ne_eqb, Global}
 use Rattle.std.proofs.lemmas.List.Elements.{All-nil, All-cons, All-head, All-tail}
 use Rattle.std.proofs.lemmas.Bool.{eqb-false, false≢true}
 use Rattle.std.proofs.lemmas.Option.{none-some}
@@ -104,9 +104,10 @@ fails_no_merge n (e ∷ es) lists f (inr (i, only, rest)) (o ∷ os) one there e
     (rw (length-set lists o (drop 1 (get_or lists o []))) (All-tail (λ (x : ℕ). x < length lists) o os there))
     (λ j. rest_is_at n o e os es lists each here j (o == j) refl)
 
-pub made : (config : Config) (limit : ℕ) (kept : Kept Global) (lists : List (List Receipt)) → kept.config ≡ config → kept.limit ≡ limit → SettlesAs 1 kept.history lists None
-    → IsMadeOf config limit kept lists
-made config limit kept lists c l m = record { same_config = c; same_limit = l; merge = merged 1 kept.history lists m }
+pub made : (config : Config) (limit : ℕ) (kept : Kept Global) (lists : List (List Receipt)) (fault : Option SettleFault) → kept.config ≡ config → kept.limit ≡ limit
+    → IfNone fault (SettlesAs 1 kept.history lists None) → IfNone fault (IsMadeOf config limit kept lists)
+made config limit kept lists None c l m = record { same_config = c; same_limit = l; merge = merged 1 kept.history lists m }
+made config limit kept lists (Some f) c l m = tt
 
 pub fault_not_made : (config : Config) (limit : ℕ) (kept : Kept Global) (lists : List (List Receipt)) (f : SettleFault) → IsFault config limit kept lists f → IsMadeOf config limit kept lists → ⊥
 fault_not_made config limit kept lists f (inl (inl other, is)) m = other m.same_config

@@ -1,6 +1,6 @@
 -- Lists of receipts in another order settle in the same way.
-use Rattle.std.proofs.Common.{◌≡◌, ℕ, ◌+◌, ◌<◌, Option, None, Some, List, [], ◌∷◌, length, drop, get_or, refl, sym, ap, ◌∙◌, subst, inl, inr, arith, ◌==◌, if◌then◌else◌, ◌⊎◌, ◌≢◌, swap, IsPermutation}
-use Rattle.std.proofs.Common.{get_or-set_same, get_or-set_other, Global}
+use Rattle.std.proofs.Common.{◌≡◌, ℕ, zero, suc, ◌+◌, ◌<◌, Option, None, Some, List, [], ◌∷◌, length, drop, get_or, refl, sym, ap, ◌∙◌, subst, inl, inr, arith, ◌==◌, if◌then◌else◌, ◌⊎◌, ◌≢◌, swap}
+use Rattle.std.proofs.Common.{IsPermutation, get_or-set_same, get_or-set_other, Global}
 use Rattle.std.proofs.lemmas.Bool.{cases_eq}
 use Rattle.std.proofs.lemmas.Bool.Decides.{nat_tests}
 use Rattle.std.proofs.lemmas.List.Edits.{swapped_from_swap}
@@ -9,7 +9,12 @@ use Rattle.hv_history.specs.declared.entry.Entry.{Entry}
 use Rattle.hv_shared.specs.Merge.{AreDone, FailsAt, IsNext, IsOf, IsOnlyNext, SettlesAs, next_is, without}
 use Rattle.hv_shared.specs.declared.receipts.Receipt.{Receipt}
 use Rattle.hv_shared.specs.declared.fault.SettleFault.{SettleFault}
-use Rattle.hv_shared.proofs.Passes.{next_there}
+
+-- a list that continues with a number is there
+next_there : (n : ℕ) (lists : List (List Receipt)) (i : ℕ) → IsNext n lists i → i < length lists
+next_there n [] i h = cc
+next_there n (x ∷ xs) zero h = omega arith
+next_there n (x ∷ xs) (suc i) h = let r = next_there n xs i h in omega arith
 
 -- list k of the ones is list `to k` of the others, and the other way round
 record AreTurned (to : ℕ → ℕ) (xs ys : List (List Receipt)) : Type 0 where

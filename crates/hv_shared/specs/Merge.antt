@@ -75,15 +75,8 @@ SettlesAs n [] lists (Some fault) = (fault ≡ Differs) × (AreDone lists → �
 SettlesAs n (e ∷ history) lists found = FailsAt n e lists found ⊎
     ((i : ℕ) × IsOnlyNext n e lists i × SettlesAs (n + 1) history (without lists i) found)
 
--- the receipts of a pass that the settlement has still to find
-abbrev pub rest_of : PassValue → List Receipt
-rest_of p = drop p.settled p.receipts
-
 abbrev pub receipts_of : List PassValue → List (List Receipt)
 receipts_of passes = map (λ p. p.receipts) passes
-
-abbrev pub rests_of : List PassValue → List (List Receipt)
-rests_of passes = map rest_of passes
 
 abbrev pub shares_of : List PassValue → List ℕ
 shares_of passes = map (λ p. p.share) passes

@@ -27,8 +27,6 @@ pub record IsAsBefore (old new : PassValue) : Type 0 where
   pub receipts : new.receipts ≡ old.receipts
   pub share : new.share ≡ old.share
   pub caller : new.caller ≡ old.caller
-  pub settled : new.settled ≡ old.settled
-  pub due : new.due ≡ old.due
 
 -- the pass has gained a receipt of this action by its caller
 abbrev pub HasCalled : Action Global → Reply → PassValue → PassValue → Type 0

@@ -3,14 +3,11 @@ use Rattle.std.specs.Prelude.{ℕ, ◌≡◌, List, length, All}
 use Rattle.hv_policy.specs.declared.event.Caller.{Caller}
 use Rattle.hv_shared.specs.declared.receipts.Receipt.{Receipt}
 
--- a caller, the receipts of its events, its share of the count, the number of receipts that the settlement
--- has passed, the number at which it finds the next one, and the room for further receipts
+-- a caller, the receipts of its events, its share of the count, and the room for further receipts
 pub record PassValue : Type 0 where
   pub caller : Caller
   pub receipts : List Receipt
   pub share : ℕ
-  pub settled : ℕ
-  pub due : ℕ
   pub room : ℕ
 
 -- invariant: a pass has one part of the count, which counts its receipts, and each of them is of an event by

@@ -1,28 +1,24 @@
 // What the lock protects, what each thread owns, and the steps that change both. The fields of `Held` and
 // `Pass` are private to this file and the settlement.
-ghost use Rattle.std.specs.Prelude.{◌≡◌, ◌<◌, ◌≤◌, ◌+◌, [], IsTrue, ◌↔◌, IfOk, OnOk, OnErr, IsErrOf, IfErr};
-ghost use Rattle.std.specs.Prelude.{Some, length, slice_get, vec_len, vec_capacity};
+ghost use Rattle.std.specs.Prelude.{◌≡◌, ◌<◌, ◌≤◌, ◌+◌, [], ◌↔◌, IfOk, OnOk, OnErr, IsErrOf, IfErr, length};
+ghost use Rattle.std.specs.Prelude.{vec_len, vec_capacity};
 ghost use Rattle.hv_abi.specs.declared.frame.Frame.{Frame};
 ghost use Rattle.hv_policy.specs.Next.{GoesOn};
 ghost use Rattle.hv_policy.specs.Result.{HasResult};
 ghost use Rattle.hv_policy.specs.Step.{NamesAsked};
 ghost use Rattle.hv_policy.specs.declared.event.Action.TheVariants.{Hypercall};
-ghost use Rattle.hv_history.specs.History.{entries};
 ghost use Rattle.hv_history.specs.Kept.{HasGained, IsRun};
 ghost use Rattle.hv_history.specs.Run.{HasRun, HasStopped};
-ghost use Rattle.hv_history.specs.declared.entry.Entry.{Entry};
 ghost use Rattle.hv_shared.specs.Copies.{AreCopies};
-ghost use Rattle.hv_shared.specs.Due.{IsDueAfter};
 ghost use Rattle.hv_shared.specs.Hold.{HasHeld};
-ghost use Rattle.hv_shared.specs.Merge.{IsOf, rest_of};
 ghost use Rattle.hv_shared.specs.Pass.{HasReceipt, IsAsBefore};
 ghost use Rattle.hv_shared.specs.Receipts.{list_of};
 ghost use Rattle.hv_shared.specs.Shared.{AreOpened};
 
 use crate::receipts::Receipts;
 use hv_abi::Frame;
-use hv_history::{History, HostRefused, Kept, RunDone};
-use hv_policy::{Caller, Event, Reply};
+use hv_history::{HostRefused, Kept, RunDone};
+use hv_policy::{Caller, Event, Output, Reply};
 use std::alloc::{AllocError, Global};
 use std::marker::Model;
 use std::mem;
@@ -30,22 +26,16 @@ use std::sync::ledger::{Blank, Book, Ledger, Share};
 
 mod settlement;
 
+pub(crate) use settlement::Rest;
 pub use settlement::settle;
-
-// Not the number of any event.
-pub(crate) const NEVER: u64 = u64::MAX;
 
 /// What one thread owns: its caller, the receipts of its events, and its share of the count of all events.
 #[derive(Drop)]
 pub struct Pass<L: Ledger> {
     caller: Caller,
-    // In a block of their own: the settlement reorders passes, and so moves little.
+    // In a block of their own, so a pass, and what a settlement has to find of it, are small to move.
     receipts: Box<Receipts>,
     share: Share<L>,
-    // The number of receipts that the settlement has passed.
-    settled: usize,
-    // The number at which it finds the next one, or `NEVER`.
-    due: u64,
     // The copies that no receipt of the last hold took. The next hold uses their block again.
     copies: Vec<Event<Global>>,
 }
@@ -60,8 +50,6 @@ impl<L: Ledger> Model for Pass<L> {
       caller = p.caller;
       receipts = list_of p.receipts.value;
       share = p.share.amount;
-      settled = p.settled;
-      due = p.due;
       room = room_in p.receipts.value;
     } };
 
@@ -145,80 +133,15 @@ impl<L: Ledger> Pass<L> {
             caller,
             receipts,
             share,
-            settled: 0,
-            due: NEVER,
             copies: Vec::new(alloc),
         })
     }
 
-    // The number at which the settlement finds the next receipt, or `NEVER`.
-    fn due(&self) -> u64
-        ensures { result ≡ self.now.due }
+    fn into_parts(self) -> (Share<L>, Box<Receipts>)
+        ensures share { (result.0.parts ≡ 1) × (result.0.amount ≡ self.share) }
+        ensures receipts { list_of result.1.value ≡ self.receipts }
     {
-        self.due
-    }
-
-    // Whether the next receipt has the event and the reply at this place of a history.
-    fn agrees(&self, history: &History<Global>, at: usize) -> bool
-        requires { at < length (entries history.now) }
-        ensures { (entry : Entry Global) → slice_get (entries history.now) at ≡ Some entry
-            → (IsTrue result ↔ IsOf entry (rest_of self.now)) }
-    {
-        if self.settled < self.receipts.len() {
-            self.receipts.is_of(self.settled, history, at)
-        } else {
-            false
-        }
-    }
-
-    // Whether the settlement has passed all receipts.
-    fn is_settled(&self) -> bool
-        ensures { IsTrue result ↔ (rest_of self.now ≡ []) }
-    {
-        self.receipts().len() <= self.settled
-    }
-
-    // Passes the next receipt, which is that of the event with this number.
-    fn advance(&mut self, number: u64)
-        requires there { self.old.settled < length self.old.receipts }
-        requires never { number < NEVER }
-        ensures past { self.new ≡ record self.old { settled = self.old.settled + 1; due = self.new.due } }
-        ensures due { IsDueAfter number self.new }
-    {
-        // proof: the number of receipts fits a `usize`.
-        let _count = self.receipts.len();
-        self.settled += 1;
-        self.due = self.next_after(number);
-    }
-
-    // Goes back to the first receipt.
-    fn begin(&mut self)
-        ensures back { self.new ≡ record self.old { settled = 0; due = self.new.due } }
-        ensures due { IsDueAfter 0 self.new }
-    {
-        self.settled = 0;
-        self.due = self.next_after(0);
-    }
-
-    // Returns the number of the next receipt if it is above this one, and otherwise `NEVER`: the settlement
-    // doesn't return to a lower number.
-    fn next_after(&self, number: u64) -> u64
-        requires { number < NEVER }
-        ensures { IsDueAfter number (record self.now { due = result }) }
-    {
-        let receipts = self.receipts();
-        if self.settled < receipts.len() {
-            let next = receipts.number(self.settled);
-            if number < next { next } else { NEVER }
-        } else {
-            NEVER
-        }
-    }
-
-    fn into_share(self) -> Share<L>
-        ensures { (result.parts ≡ 1) × (result.amount ≡ self.share) }
-    {
-        self.share
+        (self.share, self.receipts)
     }
 }
 
@@ -285,14 +208,15 @@ impl<L: Ledger> Held<L> {
         ensures result { (frame : Frame Global) → event.what ≡ Hypercall frame → IfOk result HasResult }
         ensures next { IfOk result (λ r. GoesOn event.what r) }
     {
-        match self.kept.apply(event) {
-            Ok((number, reply)) => {
+        let mut output = Output::new();
+        match self.kept.answer(event, &mut output) {
+            Ok(answer) => {
                 self.count.add(&mut pass.share, 1);
                 // proof: a history's length fits 32 bits.
                 let _limit = self.kept.limit();
-                let (answer, output) = reply.parts();
-                pass.receipts.push(number as u32, copy, answer, output);
-                Ok(reply)
+                let number = self.kept.history().len() as u32;
+                pass.receipts.push(number, copy, answer, output.as_slice());
+                Ok(Reply::of(answer, output.as_slice()))
             }
             Err(why) => Err(why),
         }

@@ -1,5 +1,5 @@
 // The one lock.
-ghost use Rattle.std.specs.Prelude.{◌≡◌, ◌<◌, [], IfOk, IfErr, OnErr, vec_len};
+ghost use Rattle.std.specs.Prelude.{◌≡◌, ◌<◌, ◌≤◌, [], IfOk, IfErr, OnErr, vec_len, vec_capacity};
 ghost use Rattle.hv_abi.specs.declared.frame.Frame.{Frame as CallFrame};
 ghost use Rattle.hv_policy.specs.Next.{GoesOn};
 ghost use Rattle.hv_policy.specs.Result.{HasResult};
@@ -10,7 +10,7 @@ ghost use Rattle.hv_shared.specs.Shared.{AreOpened};
 
 use crate::drive::{DriveRefused, MOST_IN_A_HOLD, prepare};
 use crate::gate::Gate;
-use crate::held::{Held, Pass};
+use crate::held::{Held, Pass, Rest};
 use hv_abi::{Frame, InputValue, ResultValue};
 use hv_history::{HostRefused, Kept, next_of};
 use hv_policy::{Action, Caller, Config, Event, Reply, result_of};
@@ -28,17 +28,20 @@ pub struct Shared<L: Ledger> {
     passes: usize,
     config: Config,
     limit: u32,
+    // Room for the receipts of each pass, for the settlement.
+    room: Vec<Rest>,
 }
 
 impl<L: Ledger> Model for Shared<L> {
-    ghost use Rattle.std.specs.Prelude.{◌≡◌, ◌<◌};
+    ghost use Rattle.std.specs.Prelude.{◌≡◌, ◌<◌, ◌≤◌, [], vec_capacity};
     ghost use Rattle.hv_shared.specs.SharedValue.{SharedValue};
 
     ghost Value = { SharedValue };
 
     ghost view = { λ s. record { passes = s.passes; config = s.config; limit = s.limit } };
 
-    ghost invariant = { λ s. (s.passes ≡ L.parts) × (0 < s.passes) };
+    ghost invariant = { λ s. (s.passes ≡ L.parts) × (0 < s.passes) × (s.room.items ≡ [])
+        × (L.parts ≤ vec_capacity s.room) };
 }
 
 impl<L: Ledger> Shared<L> {
@@ -62,12 +65,16 @@ impl<L: Ledger> Shared<L> {
         let passes = callers.len();
         let config = kept.config();
         let limit = kept.limit();
+        let Ok(room) = Vec::with_capacity(*callers.allocator(), passes) else {
+            return Err(kept);
+        };
         let (held, opened) = Held::open(kept, blank, callers)?;
         let shared = Shared {
             held: Mutex::new(held),
             passes,
             config,
             limit,
+            room,
         };
         Ok((shared, opened))
     }
@@ -107,14 +114,14 @@ impl<L: Ledger> Shared<L> {
         told
     }
 
-    // Returns the lock's contents, the number of passes, and the configuration and limit of the history.
-    pub(crate) fn into_parts(self) -> (Held<L>, usize, Config, u32)
-        ensures passes { (result.1 ≡ self.passes) × (result.1 ≡ L.parts) }
+    // Returns the lock's contents, room for the settlement, and the configuration and limit of the history.
+    pub(crate) fn into_parts(self) -> (Held<L>, Vec<Rest>, Config, u32)
+        ensures room { (result.1.items ≡ []) × (L.parts ≤ vec_capacity result.1) }
         ensures config { result.2 ≡ self.config }
         ensures limit { result.3 ≡ self.limit }
-        ensures some { 0 < L.parts }
+        ensures passes { (self.passes ≡ L.parts) × (0 < L.parts) }
     {
-        (self.held.into_inner(), self.passes, self.config, self.limit)
+        (self.held.into_inner(), self.room, self.config, self.limit)
     }
 
     /// Drives a hypercall to its end, and returns its result value and the reply to its last event.

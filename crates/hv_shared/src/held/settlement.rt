@@ -1,192 +1,226 @@
 // The settlement of a history with the passes' receipts.
-ghost use Rattle.std.specs.Prelude.{◌≡◌, ◌<◌, ◌≤◌, ◌+◌, ℕ, IsTrue, ◌↔◌, IfOk, IfErr, IfSome, IfNone, None};
-ghost use Rattle.std.specs.Prelude.{Some, length, slice_get, slice_index, vec_len, sum, All, IsPermutation};
+ghost use Rattle.std.specs.Prelude.{◌≡◌, ◌<◌, ◌≤◌, ◌+◌, [], IsTrue, false, ◌↔◌, IfErr, IfNone, IfOk};
+ghost use Rattle.std.specs.Prelude.{IfSome, None, OnOk, Option, Some, drop, length, reverse, slice_get};
+ghost use Rattle.std.specs.Prelude.{slice_index_or, vec_len, vec_capacity, sum, All};
+ghost use Rattle.std.specs.BinaryHeap.{heap_items};
 ghost use Rattle.hv_history.specs.History.{entries};
 ghost use Rattle.hv_history.specs.Kept.{IsRun};
 ghost use Rattle.hv_history.specs.declared.entry.Entry.{Entry};
-ghost use Rattle.hv_shared.specs.Due.{IsDueAfter, IsHeap, IsHeapBut, IsLowestBelow, above, dues_of};
-ghost use Rattle.hv_shared.specs.Merge.{AreDone, FailsAt, IsOnlyNext, SettlesAs, rests_of, receipts_of};
-ghost use Rattle.hv_shared.specs.Merge.{shares_of};
+ghost use Rattle.hv_shared.specs.Due.{AreHeap, IsDue, IsDueAfter, left_of, lefts_of};
+ghost use Rattle.hv_shared.specs.Merge.{AreDone, IsOf, SettlesAs, receipts_of, shares_of};
+ghost use Rattle.hv_shared.specs.Receipts.{list_of};
 ghost use Rattle.hv_shared.specs.Settle.{IsFault, IsMadeOf, kept_of};
 
-use super::{NEVER, Pass};
+use super::Pass;
 use crate::fault::{SettleFault, SettleRefused};
+use crate::receipts::Receipts;
 use crate::shared::Shared;
 use hv_history::{History, Kept};
 use hv_policy::Config;
 use std::alloc::Global;
+use std::cmp::Reverse;
+use std::collections::BinaryHeap;
 use std::sync::ledger::{Book, Ledger};
 
-// Whether no receipt is left to find.
-fn are_settled<L: Ledger>(passes: &[Pass<L>]) -> bool
-    ensures { IsTrue result ↔ AreDone (rests_of passes.now) }
-{
-    for pass in passes {
-        if !pass.is_settled() {
-            return false;
+// The number of no event.
+pub(crate) const NEVER: u64 = u64::MAX;
+
+// The receipts of a pass, of which the settlement has found the first. Of two, the one that is due first is
+// the greater, so it comes first out of a heap.
+#[derive(Drop)]
+#[derive_where(PartialEq, Eq, PartialOrd, Ord)]
+pub(crate) struct Rest {
+    // The number of the next receipt, or `NEVER`.
+    due: Reverse<u64>,
+    #[derive_where(skip(EqHashOrd))]
+    receipts: Box<Receipts>,
+    // The number of receipts that were found.
+    #[derive_where(skip(EqHashOrd))]
+    found: usize,
+}
+
+impl Rest {
+    // Returns a pass's receipts, of which none was found.
+    fn new(receipts: Box<Receipts>) -> Rest
+        ensures left { left_of result ≡ list_of receipts.value }
+        ensures due { IsDueAfter 0 result }
+    {
+        let due = Reverse(due_after(&receipts, 0, 0));
+        Rest {
+            due,
+            receipts,
+            found: 0,
         }
     }
-    true
-}
 
-// Puts every pass back to its first receipt.
-fn begin_all<L: Ledger>(passes: &mut [Pass<L>])
-    ensures rests { rests_of passes.new ≡ receipts_of passes.old }
-    ensures receipts { receipts_of passes.new ≡ receipts_of passes.old }
-    ensures shares { shares_of passes.new ≡ shares_of passes.old }
-    ensures due { All (IsDueAfter 0) passes.new }
-{
-    for i in 0..passes.len() {
-        let pass = &mut passes[i];
-        pass.begin();
+    // Whether no receipt is left.
+    fn is_empty(&self) -> bool
+        ensures { IsTrue result ↔ (left_of self.now ≡ []) }
+    {
+        self.receipts.len() <= self.found
     }
-}
 
-// Returns the place of the pass that is due first, of a place and the next one.
-fn earlier<L: Ledger>(passes: &[Pass<L>], left: usize) -> usize
-    requires { left < length passes.now }
-    ensures there { (left ≤ result) × (result ≤ left + 1) × (result < length passes.now) }
-    ensures first { (k : ℕ) → left ≤ k → k ≤ left + 1 → k < length passes.now
-        → slice_index (dues_of passes.now) result ≤ slice_index (dues_of passes.now) k }
-{
-    let right = left + 1;
-    if right < passes.len() && passes[right].due() < passes[left].due() {
-        right
-    } else {
-        left
+    // Whether the next receipt has the event and the reply at this place of a history.
+    fn agrees(&self, history: &History<Global>, at: usize) -> bool
+        requires { at < length (entries history.now) }
+        ensures { (entry : Entry Global) → slice_get (entries history.now) at ≡ Some entry
+            → (IsTrue result ↔ IsOf entry (left_of self.now)) }
+    {
+        !self.is_empty() && self.receipts.is_of(self.found, history, at)
     }
-}
 
-// Returns the place of the pass that is due first, of the two below a place, if it is due before the pass
-// there.
-fn first_below<L: Ledger>(passes: &[Pass<L>], at: usize) -> Option<usize>
-    requires { at < length passes.now }
-    ensures some { IfSome result (IsLowestBelow at (dues_of passes.now)) }
-    ensures none { IfNone result ((k : ℕ) → 0 < k → k < length passes.now → above k ≡ at
-        → slice_index (dues_of passes.now) at ≤ slice_index (dues_of passes.now) k) }
-{
-    if passes.len() / 2 <= at {
-        return None;
-    }
-    let child = earlier(passes, 2 * at + 1);
-    if passes[child].due() < passes[at].due() {
-        Some(child)
-    } else {
-        None
-    }
-}
-
-// Lets the first pass sink below those that are due before it.
-fn sink<L: Ledger>(passes: &mut [Pass<L>])
-    requires some { 0 < length passes.old }
-    requires rest { IsHeapBut 0 (dues_of passes.old) }
-    ensures same { IsPermutation passes.old passes.new }
-    ensures heap { IsHeap (dues_of passes.new) }
-{
-    let mut at = 0;
-    while let Some(child) = first_below(passes, at) {
-        passes.swap(at, child);
-        at = child;
-    }
-}
-
-// Whether there is a pass at a place and it is due at this number.
-fn is_due<L: Ledger>(passes: &[Pass<L>], at: usize, number: u64) -> bool
-    ensures { IsTrue result ↔ (at < length passes.now) × (slice_index (dues_of passes.now) at ≡ number) }
-{
-    at < passes.len() && passes[at].due() == number
-}
-
-// Checks that the first pass alone has the event and the reply at this place of a history next, under their
-// number. Otherwise it returns the fault. Another pass with that number next would be right below the first.
-fn look_at_first<L: Ledger>(
-    passes: &[Pass<L>],
-    history: &History<Global>,
-    at: usize,
-) -> Result<(), SettleFault>
-    requires place { at < length (entries history.now) }
-    requires never { at + 1 < NEVER }
-    requires heap { IsHeap (dues_of passes.now) }
-    requires due { All (IsDueAfter at) passes.now }
-    ensures there { IfOk result (λ _. 0 < length passes.now) }
-    ensures ok { (entry : Entry Global) → slice_get (entries history.now) at ≡ Some entry
-        → IfOk result (λ _. IsOnlyNext (at + 1) entry (rests_of passes.now) 0) }
-    ensures err { (entry : Entry Global) → slice_get (entries history.now) at ≡ Some entry
-        → IfErr result (λ f. FailsAt (at + 1) entry (rests_of passes.now) (Some f)) }
-{
-    let number = at as u64 + 1;
-    if !is_due(passes, 0, number) {
-        return Err(SettleFault::Missing);
-    }
-    if is_due(passes, 1, number) || is_due(passes, 2, number) {
-        return Err(SettleFault::Differs);
-    }
-    if passes[0].agrees(history, at) {
-        Ok(())
-    } else {
-        Err(SettleFault::Differs)
-    }
-}
-
-// Returns the first fault of the receipts against the history, if there is one.
-fn first_fault<L: Ledger>(history: &History<Global>, passes: &mut [Pass<L>]) -> Option<SettleFault>
-    requires { length (entries history.now) < NEVER }
-    ensures none { IfNone result (SettlesAs 1 (entries history.now) (receipts_of passes.old) None) }
-    ensures some { IfSome result (λ f. SettlesAs 1 (entries history.now) (receipts_of passes.old)
-        (Some f)) }
-    ensures shares { sum (shares_of passes.new) ≡ sum (shares_of passes.old) }
-{
-    begin_all(passes);
-    passes.sort_unstable_by_key(|pass| pass.due());
-    for k in 0..history.len() {
-        if let Err(fault) = look_at_first(passes, history, k) {
-            return Some(fault);
+    // Passes the next receipt, which is that of the event with this number.
+    fn advance(&mut self, number: u64)
+        requires { number < NEVER }
+        ensures left { left_of self.new ≡ drop 1 (left_of self.old) }
+        ensures due { IsDueAfter number self.new }
+    {
+        if self.found < self.receipts.len() {
+            self.found += 1;
         }
-        let first = &mut passes[0];
-        first.advance(k as u64 + 1);
-        sink(passes);
-    }
-    if are_settled(passes) {
-        None
-    } else {
-        Some(SettleFault::Differs)
+        self.due = Reverse(due_after(&self.receipts, self.found, number));
     }
 }
 
-// Audits the book. With every pass present, its total is the sum of their shares.
-fn audit<L: Ledger>(book: Book<L>, passes: Vec<Pass<L>>)
-    requires { 0 < L.parts }
-    ensures { vec_len passes ≡ L.parts → book.total ≡ sum (shares_of passes.items) }
+// Returns the number of the receipt at a place if it is above this one, and otherwise `NEVER`: the settlement
+// doesn't return to a lower number.
+fn due_after(receipts: &Receipts, at: usize, number: u64) -> u64
+    requires { number < NEVER }
+    ensures { IsDue number result (drop at (list_of receipts.now)) }
+{
+    if at < receipts.len() {
+        let next = receipts.number(at);
+        if number < next { next } else { NEVER }
+    } else {
+        NEVER
+    }
+}
+
+// Takes the passes apart: adds the receipts of each, the last pass first, and audits the book. With every
+// pass present, its total is the sum of their shares.
+fn take_apart<L: Ledger>(book: Book<L>, passes: Vec<Pass<L>>, rests: &mut Vec<Rest>)
+    requires some { 0 < L.parts }
+    requires empty { rests.old.items ≡ [] }
+    requires room { L.parts ≤ vec_capacity rests.old }
+    ensures lists { lefts_of (reverse rests.new.items) ≡ receipts_of passes.items }
+    ensures due { All (IsDueAfter 0) rests.new.items }
+    ensures total { vec_len passes ≡ L.parts → book.total ≡ sum (shares_of passes.items) }
 {
     let mut book = book;
     let mut passes = passes;
     let Some(first) = passes.pop() else {
         return;
     };
-    let mut all = first.into_share();
+    let (mut all, receipts) = first.into_parts();
+    rests.push_reserved(Rest::new(receipts));
     while let Some(pass) = passes.pop() {
-        all.merge(pass.into_share());
+        let (share, receipts) = pass.into_parts();
+        all.merge(share);
+        rests.push_reserved(Rest::new(receipts));
     }
     book.audit(&mut all);
 }
 
-// Returns the first fault of a history and the receipts of these passes, if there is one.
-#[tactic(auto, using(crate::proofs::Merged::made, crate::proofs::Merged::fault_not_made))]
-fn fault_of<L: Ledger>(
+// Finds the receipt of the event at this place of a history: one rest alone has its number next, with the
+// event and the reply. What is left then decides.
+fn find_next(
+    heap: &mut BinaryHeap<Rest>,
+    history: &History<Global>,
+    at: usize,
+) -> Result<(), SettleFault>
+    requires place { at < length (entries history.now) }
+    requires never { at + 1 < NEVER }
+    requires heap { AreHeap (heap_items heap.old) }
+    requires due { All (IsDueAfter at) (heap_items heap.old) }
+    ensures heap { OnOk result (AreHeap (heap_items heap.new)) }
+    ensures due { OnOk result (All (IsDueAfter (at + 1)) (heap_items heap.new)) }
+    ensures found { OnOk result ((fault : Option SettleFault)
+        → SettlesAs (at + 1 + 1) (drop (at + 1) (entries history.now)) (lefts_of (heap_items heap.new)) fault
+        → SettlesAs (at + 1) (drop at (entries history.now)) (lefts_of (heap_items heap.old)) fault) }
+    ensures fault { IfErr result (λ f. SettlesAs (at + 1) (drop at (entries history.now))
+        (lefts_of (heap_items heap.old)) (Some f)) }
+{
+    let number = at as u64 + 1;
+    let Some(mut rest) = heap.pop() else {
+        return Err(SettleFault::Missing);
+    };
+    if rest.due.0 != number {
+        return Err(SettleFault::Missing);
+    }
+    if is_due(heap, number) || !rest.agrees(history, at) {
+        return Err(SettleFault::Differs);
+    }
+    rest.advance(number);
+    let Ok(()) = heap.push(rest) else {
+        unreachable!()
+    };
+    Ok(())
+}
+
+// Whether the first of the heap is due at this number.
+fn is_due(heap: &BinaryHeap<Rest>, number: u64) -> bool
+    requires { AreHeap (heap_items heap.now) }
+    ensures first { IsTrue result → (0 < length (heap_items heap.now))
+        × ((d : Rest) → (slice_index_or (heap_items heap.now) 0 d).due.0 ≡ number) }
+    ensures later { result ≡ false → All (λ rest. number ≤ rest.due.0) (heap_items heap.now)
+        → All (λ rest. number < rest.due.0) (heap_items heap.now) }
+{
+    match heap.peek() {
+        Some(rest) => rest.due.0 == number,
+        None => false,
+    }
+}
+
+// Returns the first fault of the receipts against the history, if there is one.
+fn first_fault(history: &History<Global>, rests: Vec<Rest>) -> Option<SettleFault>
+    requires never { length (entries history.now) < NEVER }
+    requires due { All (IsDueAfter 0) rests.items }
+    ensures none { IfNone result (SettlesAs 1 (entries history.now) (lefts_of (reverse rests.items)) None) }
+    ensures some { IfSome result (λ f. SettlesAs 1 (entries history.now) (lefts_of (reverse rests.items))
+        (Some f)) }
+{
+    let mut heap = BinaryHeap::from(rests);
+    for at in 0..history.len() {
+        if let Err(fault) = find_next(&mut heap, history, at) {
+            return Some(fault);
+        }
+    }
+    if are_empty(heap.as_slice()) {
+        None
+    } else {
+        Some(SettleFault::Differs)
+    }
+}
+
+// Whether no receipt is left to find.
+fn are_empty(rests: &[Rest]) -> bool
+    ensures { IsTrue result ↔ AreDone (lefts_of rests.now) }
+{
+    for rest in rests {
+        if !rest.is_empty() {
+            return false;
+        }
+    }
+    true
+}
+
+// Returns the first fault of a history and these receipts, if there is one.
+#[tactic(auto, using(crate::proofs::Merged::fault_not_made))]
+fn fault_of(
     kept: &Kept<Global>,
     config: Config,
     limit: u32,
-    passes: &mut [Pass<L>],
+    rests: Vec<Rest>,
 ) -> Option<SettleFault>
-    ensures none { IfNone result (IsMadeOf config limit kept.now (receipts_of passes.old)) }
-    ensures only { IfSome result (λ _. IsMadeOf config limit kept.now (receipts_of passes.old) → ⊥) }
-    ensures some { IfSome result (λ f. IsFault config limit kept.now (receipts_of passes.old) f) }
-    ensures shares { sum (shares_of passes.new) ≡ sum (shares_of passes.old) }
+    requires { All (IsDueAfter 0) rests.items }
+    ensures none { IfNone result (IsMadeOf config limit kept.now (lefts_of (reverse rests.items))) }
+    ensures only { IfSome result (λ _. IsMadeOf config limit kept.now (lefts_of (reverse rests.items)) → ⊥) }
+    ensures some { IfSome result (λ f. IsFault config limit kept.now (lefts_of (reverse rests.items)) f) }
 {
     if kept.config() != config || kept.limit() != limit {
         return Some(SettleFault::Differs);
     }
-    first_fault(kept.history(), passes)
+    first_fault(kept.history(), rests)
 }
 
 /// Checks that the history is a merge of the passes' receipts, and was begun as `shared` says.
@@ -205,13 +239,12 @@ pub fn settle<L: Ledger>(
         ≡ sum (shares_of passes.items) }
     ensures run { IsRun (kept_of result) }
 {
-    let mut passes = passes;
-    let (held, _, config, limit) = shared.into_parts();
+    let (held, room, config, limit) = shared.into_parts();
     let (kept, book) = held.into_parts();
     let _history = kept.history();
-    let fault = fault_of(&kept, config, limit, passes.as_mut_slice());
-    audit(book, passes);
-    match fault {
+    let mut rests = room;
+    take_apart(book, passes, &mut rests);
+    match fault_of(&kept, config, limit, rests) {
         None => Ok(kept),
         Some(fault) => Err(SettleRefused { fault, kept }),
     }

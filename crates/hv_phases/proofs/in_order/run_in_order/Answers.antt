@@ -1,10 +1,11 @@
-use Rattle.std.proofs.Common.{◌≡◌, None, [], ◌∷◌, false, true, rules}
-use Rattle.hv_phases.specs.PassMap.{HasRunGroup}
-use Rattle.hv_phases.proofs.Handing.{between_ends, between_first, line_more}
+use Rattle.std.proofs.Common.{◌≡◌, List, None, [], ◌∷◌, subst, false, true, rules, Global}
+use Rattle.hv_phases.specs.PassMap.{HasRunGroup, HasRunUpTo}
+use Rattle.hv_phases.proofs.Handing.{line_more, up_to_none}
 use Rattle.hv_phases.proofs.in_order.run_in_order.Goals as goal
+use Rattle.hv_script.specs.declared.line.Line.{Line}
 
 pub loop-line-init : goal.loop-line-init
-loop-line-init g c = λ none same. between_first true c.args.lines.items c.reverse.new.self.items c.args.pass_map.now c.reverse.ensures.items c.requires
+loop-line-init g c = λ none same. up_to_none true c.args.lines.items c.reverse.new.self.items c.args.pass_map.now c.reverse.ensures.items c.requires
 
 pub loop-line-preserved-in-Ok-Some : goal.loop-line-preserved-in-Ok-Some
 loop-line-preserved-in-Ok-Some g c = λ none same.
@@ -16,4 +17,4 @@ returns-in-None-false g c =
     let none : c.loop-line.left.items ≡ [] = search rules in
     let was : c.loop-line.stop ≡ None = search rules in
     let well : c.loop-line.differs ≡ false = search rules in
-    between_ends _ _ _ _ _ (c.loop-line.invariant was well) none
+    (c.loop-line.last, subst (λ (left : List (Line Global)). HasRunUpTo true c.args.lines.items left c.loop-line.last c.loop-line.pass_map) none (c.loop-line.invariant was well))

@@ -1,9 +1,11 @@
-use Rattle.std.proofs.Common.{◌≡◌, [], false, rules}
-use Rattle.hv_phases.proofs.Handing.{between_ends, between_first, phase_more}
+use Rattle.std.proofs.Common.{◌≡◌, List, [], subst, false, rules, Global}
+use Rattle.hv_phases.proofs.Handing.{phase_more, up_to_none}
+use Rattle.hv_phases.specs.PassMap.{HasRunUpTo}
 use Rattle.hv_phases.proofs.in_threads.run_in_threads.Goals as goal
+use Rattle.hv_script.specs.declared.line.Line.{Line}
 
 pub loop-first-init : goal.loop-first-init
-loop-first-init g c = between_first false c.args.lines.items c.reverse.new.self.items c.args.pass_map.now c.reverse.ensures.items c.requires
+loop-first-init g c = up_to_none false c.args.lines.items c.reverse.new.self.items c.args.pass_map.now c.reverse.ensures.items c.requires
 
 pub loop-first-preserved : goal.loop-first-preserved
 loop-first-preserved g c =
@@ -13,4 +15,4 @@ loop-first-preserved g c =
 pub returns : goal.returns
 returns g c =
     let none : c.loop-first.left.items ≡ [] = search rules in
-    between_ends _ _ _ _ _ c.loop-first.invariant none
+    (c.loop-first.last, subst (λ (left : List (Line Global)). HasRunUpTo false c.args.lines.items left c.loop-first.last c.loop-first.pass_map) none c.loop-first.invariant)

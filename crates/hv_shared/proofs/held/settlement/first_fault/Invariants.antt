@@ -1,15 +1,16 @@
-use Rattle.std.proofs.Common.{◌≡◌, ◌+◌, Option, drop, All, sum}
+use Rattle.std.proofs.Common.{◌+◌, Option, drop, All, reverse}
+use Rattle.std.specs.BinaryHeap.{heap_items}
 use Rattle.hv_history.specs.History.{entries}
-use Rattle.hv_shared.specs.Due.{IsDueAfter, IsHeap, dues_of}
-use Rattle.hv_shared.specs.Merge.{rests_of, receipts_of, shares_of, SettlesAs}
+use Rattle.hv_shared.specs.Due.{AreHeap, IsDueAfter, lefts_of}
+use Rattle.hv_shared.specs.Merge.{SettlesAs}
 use Rattle.hv_shared.specs.declared.fault.SettleFault.{SettleFault}
 use Rattle.hv_shared.proofs.held.settlement.first_fault.Given as goal
 
 -- what is left decides
-abbrev pub invariant-loop-k : goal.invariant-loop-k
-invariant-loop-k g l = record {
-  settles : (found : Option SettleFault) → SettlesAs (l.k + 1) (drop l.k (entries l.history)) (rests_of l.passes) found → SettlesAs 1 (entries l.history) (receipts_of l.fn.passes) found;
-  shares : sum (shares_of l.passes) ≡ sum (shares_of l.fn.passes);
-  heap : IsHeap (dues_of l.passes);
-  due : All (IsDueAfter l.k) l.passes;
+abbrev pub invariant-loop-at : goal.invariant-loop-at
+invariant-loop-at l = record {
+  settles : (fault : Option SettleFault) → SettlesAs (l.at + 1) (drop l.at (entries l.history)) (lefts_of (heap_items l.heap)) fault
+      → SettlesAs 1 (entries l.history) (lefts_of (reverse l.fn.rests.items)) fault;
+  heap : AreHeap (heap_items l.heap);
+  due : All (IsDueAfter l.at) (heap_items l.heap);
 }
