@@ -1,40 +1,23 @@
--- The first bytes of a text, once more of it goes out.
-use Rattle.std.proofs.Common.{ℕ, List, [], ◌++◌, take, drop, refl, sym, ap, ◌∙◌, append_assoc, append-nil, take-append-drop, Option}
-use Rattle.std.specs.Io.KnownBytes.{Appends, Keeps}
+-- The first bytes of two texts, one after the other, where a write failed.
+use Rattle.std.proofs.Common.{ℕ, List, [], ◌++◌, take, length, Option, arith, ◌+◌, ◌≤◌}
+use Rattle.std.proofs.Math.Seq.{take-append-add, take-append_seam}
+use Rattle.std.proofs.lemmas.List.{take-append-le}
+use Rattle.std.specs.Io.KnownBytes.{Appends}
 use Rattle.std.proofs.KnownBytes.{Appends-kept, Appends-nil, Appends-trans}
 use Rattle.hv_text.specs.Fault.{IsCut}
 use Rattle.hv_text.specs.declared.fault.PrintFault.{PrintFault}
 use Rattle.hv_text.specs.declared.fault.PrintFault.TheVariants.{Memory, Write}
 use Rattle.hv_run.specs.Written.{HasPart}
 
--- all of it went out
-pub all-part : (text : List ℕ) (a b : Option (List ℕ)) → Appends a b text → HasPart text a b
-all-part text a b told = record { part = text; rest = []; whole = append-nil text; told = told }
+-- in the first text
+pub part_of_first : (first text : List ℕ) (a b : Option (List ℕ)) (fault : PrintFault) → IsCut a b first fault → HasPart (first ++ text) a b
+part_of_first first text a b (Write written) cut =
+    let within : written ≤ length first = omega (arith, cut.1) in
+    record { count = written; told = rw take-append-le cut.0 }
+part_of_first first text a b Memory cut = record { count = 0; told = Appends-kept a a b [] (Appends-nil a) cut }
 
--- a write failed
-pub cut-part : (text : List ℕ) (a b : Option (List ℕ)) (fault : PrintFault) → IsCut a b text fault → HasPart text a b
-cut-part text a b (Write written) cut =
-    record { part = take written text; rest = drop written text; whole = take-append-drop written text; told = cut.0 }
-cut-part text a b Memory cut = record { part = []; rest = text; whole = refl; told = Appends-kept a a b [] (Appends-nil a) cut }
-
--- nothing of a second text goes out after the first bytes of the first
-pub part-first : (text more : List ℕ) (a b : Option (List ℕ)) → HasPart text a b → HasPart (text ++ more) a b
-part-first text more a b is = record {
-  part = is.part;
-  rest = is.rest ++ more;
-  whole = sym (append_assoc is.part is.rest more) ∙ ap (λ l. l ++ more) is.whole;
-  told = is.told;
-}
-
--- the first bytes of a second text go out after all of the first
-pub part-then : (text more : List ℕ) (a b c : Option (List ℕ)) → Appends a b text → HasPart more b c → HasPart (text ++ more) a c
-part-then text more a b c first is = record {
-  part = text ++ is.part;
-  rest = is.rest;
-  whole = append_assoc text is.part is.rest ∙ ap (λ l. text ++ l) is.whole;
-  told = Appends-trans a b c text is.part first is.told;
-}
-
--- the bytes are flushed
-pub part-kept : (text : List ℕ) (a b c : Option (List ℕ)) → HasPart text a b → Keeps b c → HasPart text a c
-part-kept text a b c is same = record { part = is.part; rest = is.rest; whole = is.whole; told = Appends-kept a b c is.part is.told same }
+-- in the second, after all of the first
+pub part_of_second : (first text : List ℕ) (a b c : Option (List ℕ)) (fault : PrintFault) → Appends a b first → IsCut b c text fault → HasPart (first ++ text) a c
+part_of_second first text a b c (Write written) told cut =
+    record { count = length first + written; told = rw take-append-add (Appends-trans a b c first (take written text) told cut.0) }
+part_of_second first text a b c Memory told cut = record { count = length first; told = rw take-append_seam (Appends-kept a b c first told cut) }

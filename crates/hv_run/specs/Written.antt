@@ -1,5 +1,5 @@
 -- The output of a run.
-use Rattle.std.specs.Prelude.{◌≡◌, ◌⊎◌, ℕ, Bool, List, [], ◌++◌, if◌then◌else◌, IsTrue, Option, Ok}
+use Rattle.std.specs.Prelude.{◌≡◌, ◌⊎◌, ℕ, Bool, List, [], ◌++◌, if◌then◌else◌, IsTrue, take, Option, Ok}
 use Rattle.std.specs.Io.KnownBytes.{Appends}
 use Rattle.std.specs.declared.alloc.Global.{Global}
 use Rattle.hv_history.specs.Kept.{Kept, IsRun}
@@ -16,34 +16,27 @@ told_by with_table kept =
     audit_text kept.history ++ (if with_table then table_text (run kept.config (events_of kept.history)).0
     else [])
 
--- The writer got the audit of a history, and with `with_table` its table. The history is a run from the
--- script's boot, with at most as many events as its limit. In its machine each page has one owner, and no
--- mask exceeds the parent's. Each processor's events are those that its lines ask for, in their order, and
--- those of a phase come after those of all phases before it. With `--serial`, those of each line come after
--- those of the line before it.
-pub record HasWritten (said : Said Global) (serial with_table : Bool) (old new : Option (List ℕ)) : Type 0
-  where
-    pub kept : Kept Global
-    pub run : IsRun kept
-    pub config : kept.config ≡ said.config
-    pub limit : kept.limit ≡ said.limit
-    pub lines : AreRun said.lines kept.history
-    pub phases : ArePhased said.lines kept.history
-    pub order : IsTrue serial → AreInOrder 1 said.lines kept.history
-    pub told : Appends old new (told_by with_table kept)
-
--- the writer got this output of the script that a text says
-pub record HasWrittenOf (text : List ℕ) (serial with_table : Bool) (old new : Option (List ℕ)) : Type 0 where
+-- The writer got the audit of a history, and with `with_table` its table. The history is a run from the boot
+-- of the script that a text says, with at most as many events as its limit. In its machine each page has one
+-- owner, and no mask exceeds the parent's. Each processor's events are those that its lines ask for, in their
+-- order, and those of a phase come after those of all phases before it. With `--serial`, those of each line
+-- come after those of the line before it.
+pub record HasWritten (text : List ℕ) (serial with_table : Bool) (old new : Option (List ℕ)) : Type 0 where
   pub said : Said Global
   pub is : script_of text ≡ Ok said
-  pub told : HasWritten said serial with_table old new
+  pub kept : Kept Global
+  pub run : IsRun kept
+  pub config : kept.config ≡ said.config
+  pub limit : kept.limit ≡ said.limit
+  pub lines : AreRun said.lines kept.history
+  pub phases : ArePhased said.lines kept.history
+  pub order : IsTrue serial → AreInOrder 1 said.lines kept.history
+  pub told : Appends old new (told_by with_table kept)
 
--- the writer got the first bytes of a text, and all of them if no write failed
+-- the writer got the first `count` bytes of a text
 pub record HasPart (text : List ℕ) (old new : Option (List ℕ)) : Type 0 where
-  pub part : List ℕ
-  pub rest : List ℕ
-  pub whole : part ++ rest ≡ text
-  pub told : Appends old new part
+  pub count : ℕ
+  pub told : Appends old new (take count text)
 
 -- the writer got the first bytes of the audit of a history that is a run, and with `with_table` of its table
 pub record HasWrittenKept (with_table : Bool) (old new : Option (List ℕ)) : Type 0 where

@@ -18,11 +18,10 @@ pub fn read_script<R: Read + Drop>(alloc: Global, reader: R) -> Result<Vec<u8>, 
     ensures unread { IfErr result IsUnread }
 {
     let mut script = Vec::new(alloc);
-    reader
-        .take(MOST_BYTES as u64 + 1)
-        .read_to_end(&mut script)
-        .map_err(|error| unread(&error))?;
-    Ok(script)
+    match reader.take(MOST_BYTES as u64 + 1).read_to_end(&mut script) {
+        Ok(_) => Ok(script),
+        Err(error) => Err(unread(&error)),
+    }
 }
 
 /// Why a script can't be read: out of memory, or anything else.

@@ -1,15 +1,15 @@
 // A whole run, from the script's bytes to the exit status.
-ghost use Rattle.std.specs.Prelude.{◌≡◌, ◌≢◌, ◌<◌, length, Err, IfErr, IsErr, IsNone, IsSome, OnErr, OnOk};
+ghost use Rattle.std.specs.Prelude.{◌≡◌, ◌≢◌, ◌<◌, length, Err, IfErr, OnErr, OnOk};
 ghost use Rattle.std.specs.Io.KnownBytes.{Appends};
 ghost use Rattle.hv_history.specs.Kept.{IsRun};
 ghost use Rattle.hv_script.specs.declared.script.TheConstants.{MOST_BYTES as MOST};
 ghost use Rattle.hv_run.specs.Failure.{exit_of};
-ghost use Rattle.hv_run.specs.Written.{HasPart, HasWrittenOf, HasWrittenPart, told_by};
+ghost use Rattle.hv_run.specs.Written.{HasPart, HasWritten, HasWrittenPart, told_by};
 
 use crate::failure::{Exit, Failure, tell};
 use hv_history::Kept;
 use hv_options::Options;
-use hv_phases::{RunError, run_lines};
+use hv_phases::run_lines;
 use hv_script::{FaultKind, Script, parse};
 use hv_text::{audit, table};
 use hv_threads::{Gate, Open};
@@ -31,7 +31,7 @@ pub fn run_text<T: Threads + Wait + Sync, W: Write, E: Write>(
     out: &mut W,
     err: &mut E,
 ) -> Exit
-    ensures told { result ≡ Exit.Done → HasWrittenOf script.now options.now.serial options.now.table
+    ensures told { result ≡ Exit.Done → HasWritten script.now options.now.serial options.now.table
         (W.contents out.old) (W.contents out.new) }
     ensures unfinished { result ≡ Exit.Host → HasWrittenPart options.now.table (W.contents out.old)
         (W.contents out.new) }
@@ -54,7 +54,7 @@ pub fn run_gated<T: Threads + Wait + Sync, G: Gate, W: Write, E: Write>(
     out: &mut W,
     err: &mut E,
 ) -> Exit
-    ensures told { result ≡ Exit.Done → HasWrittenOf script.now options.now.serial options.now.table
+    ensures told { result ≡ Exit.Done → HasWritten script.now options.now.serial options.now.table
         (W.contents out.old) (W.contents out.new) }
     ensures unfinished { result ≡ Exit.Host → HasWrittenPart options.now.table (W.contents out.old)
         (W.contents out.new) }
@@ -77,7 +77,7 @@ fn run_script<T: Threads + Wait + Sync, G: Gate, W: Write>(
     gate: &G,
     out: &mut W,
 ) -> Result<(), Failure>
-    ensures told { OnOk result (HasWrittenOf script.now options.now.serial options.now.table
+    ensures told { OnOk result (HasWritten script.now options.now.serial options.now.table
         (W.contents out.old) (W.contents out.new)) }
     ensures unfinished { OnErr result (HasWrittenPart options.now.table (W.contents out.old)
         (W.contents out.new)) }
@@ -91,7 +91,12 @@ fn run_script<T: Threads + Wait + Sync, G: Gate, W: Write>(
     } = parse(alloc, script)?;
     let kept = Kept::boot(alloc, config, limit)?;
     let (kept, unfinished) = run_lines(rt, gate, kept, lines, options.serial);
-    ended(unfinished, print(&kept, options.table, out))
+    let written = print(&kept, options.table, out);
+    match unfinished {
+        // Why the lines didn't all run comes before output that couldn't be written.
+        Some(why) => Err(Failure::from(why)),
+        None => written,
+    }
 }
 
 // Prints the audit, and with `with_table` the table.
@@ -109,16 +114,4 @@ fn print<W: Write>(kept: &Kept<Global>, with_table: bool, out: &mut W) -> Result
         table(out, kept)?;
     }
     out.flush().map_err(|_| Failure::Write)
-}
-
-// Returns the result of a run. Why it isn't whole comes before output that couldn't be written.
-fn ended(unfinished: Option<RunError>, written: Result<(), Failure>) -> Result<(), Failure>
-    ensures stop { IsSome unfinished → IfErr result (λ failure. exit_of failure ≡ Exit.Host) }
-    ensures stopped { IsSome unfinished → IsErr result }
-    ensures written { IsNone unfinished → result ≡ written }
-{
-    match unfinished {
-        Some(why) => Err(Failure::from(why)),
-        None => written,
-    }
 }

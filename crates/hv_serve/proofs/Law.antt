@@ -10,7 +10,7 @@ use Rattle.hv_history.specs.Kept.{IsRun}
 use Rattle.hv_history.specs.declared.entry.Entry.{Entry}
 use Rattle.hv_phases.proofs.Phased.{in_order_phased}
 use Rattle.hv_phases.specs.Lines.{AreInOrder}
-use Rattle.hv_run.specs.Written.{HasWrittenOf}
+use Rattle.hv_run.specs.Written.{HasWritten}
 use Rattle.hv_script.specs.Line.{◌>>=◌}
 use Rattle.hv_script.specs.Script.{SoFar, at_line, read_line, read_lines, said_by, script_of}
 use Rattle.hv_script.specs.Words.{lines_of, words_of}
@@ -252,7 +252,7 @@ scripted text lines read most cut same =
 
 -- the lines that were done are a script, and what they were answered is its audit
 pub serial : (turns : List Turn) (now : Served) → AreTurns 1 None turns (Some now) → All WasServed turns → length (script_in turns) ≤ MOST_BYTES
-    → (old new : Option (List ℕ)) → Appends old new (told_in turns ++ end_text (length now.kept.history)) → HasWrittenOf (script_in turns) true false old new
+    → (old new : Option (List ℕ)) → Appends old new (told_in turns ++ end_text (length now.kept.history)) → HasWritten (script_in turns) true false old new
 serial turns now are served most old new told =
     let all = comes 1 None turns (Some now) tt are served in
     let lines = lines_in (done_in turns) in
@@ -264,16 +264,14 @@ serial turns now are served most old new told =
     record {
       said = record { config = now.read.boot.config; limit = now.read.boot.limit; lines = now.read.lines };
       is = scripted (script_in turns) lines now.read most cut read;
-      told = record {
-        kept = now.kept;
-        run = is.run;
-        config = is.config;
-        limit = is.limit;
-        lines = run_in_order now.read.lines now.kept.history is.order;
-        phases = in_order_phased now.read.lines now.kept.history is.order;
-        order = λ _. is.order;
-        told = subst (Appends old new) text told;
-      };
+      kept = now.kept;
+      run = is.run;
+      config = is.config;
+      limit = is.limit;
+      lines = run_in_order now.read.lines now.kept.history is.order;
+      phases = in_order_phased now.read.lines now.kept.history is.order;
+      order = λ _. is.order;
+      told = subst (Appends old new) text told;
     }
 
 abbrev WasDone : Turn → Type 0
@@ -298,11 +296,11 @@ all_served (turn ∷ turns) all =
 
 -- all that was written is, where all lines were done
 pub whole : (text : List ℕ) (turns : List Turn) (now : Served) → AreTurns 1 None turns (Some now) → All WasDone turns → length text ≤ MOST_BYTES → text ≡ join_with_byte 10 (lines_in turns)
-    → (old new : Option (List ℕ)) → Appends old new (answers_in turns ++ end_text (length now.kept.history)) → HasWrittenOf text true false old new
+    → (old new : Option (List ℕ)) → Appends old new (answers_in turns ++ end_text (length now.kept.history)) → HasWritten text true false old new
 whole text turns now are all most is old new told =
     let same = all_done turns all in
     let script : script_in turns ≡ text = ap (λ (d : List Turn). join_with_byte 10 (lines_in d)) same ∙ sym is in
     let answers : answers_in turns ++ end_text (length now.kept.history) ≡ told_in turns ++ end_text (length now.kept.history) =
     ap (λ (d : List Turn). answers_in d ++ end_text (length now.kept.history)) (sym same) in
-    subst (λ (t : List ℕ). HasWrittenOf t true false old new) script
+    subst (λ (t : List ℕ). HasWritten t true false old new) script
     (serial turns now are (all_served turns all) (subst (λ (t : List ℕ). length t ≤ MOST_BYTES) (sym script) most) old new (subst (Appends old new) answers told))

@@ -1,7 +1,7 @@
 // A session compared with a run of a script.
 ghost use Rattle.std.specs.Prelude.{◌≡◌, ◌≤◌, ◌++◌, ℕ, List, Option, Some, None, All, length, true, false};
 ghost use Rattle.std.specs.Io.KnownBytes.{Appends};
-ghost use Rattle.hv_run.specs.Written.{HasWrittenOf};
+ghost use Rattle.hv_run.specs.Written.{HasWritten};
 ghost use Rattle.hv_script.specs.declared.script.TheConstants.{MOST_BYTES as MOST};
 ghost use Rattle.hv_serve.specs.Law.{IsServed, is_done, script_in, told_in};
 ghost use Rattle.hv_serve.specs.Session.{AreTurns, HasServed, Served, Turn, end_text, history_of};
@@ -16,8 +16,8 @@ pub fn a_session_is_a_serial_run()
     ensures done { (turns : List Turn) (now : Served) → AreTurns 1 None turns (Some now)
         → All (λ turn. IsServed turn.outcome) turns → length (script_in turns) ≤ MOST
         → (old new : Option (List ℕ)) → Appends old new (told_in turns ++ end_text (length now.kept.history))
-        → HasWrittenOf (script_in turns) true false old new }
+        → HasWritten (script_in turns) true false old new }
     ensures whole { (text : List ℕ) (old new : Option (List ℕ)) (session : HasServed (Some text) old new)
         (now : Served) → session.now ≡ Some now → All (λ turn. is_done turn.outcome ≡ true) session.turns
-        → length text ≤ MOST → HasWrittenOf text true false old new }
+        → length text ≤ MOST → HasWritten text true false old new }
 {}
