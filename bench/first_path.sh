@@ -2,6 +2,7 @@
 # How long `hvpm` takes, and how much memory, for scripts of growing size up to the largest: 1,048,576 bytes.
 # Time and memory should grow with the size, and the audit should have one line for each call.
 set -eu
+[[ ${1:-} != --help ]] || { sed -n '2,/^[^#]/s/^# \{0,1\}//p' -- "${BASH_SOURCE[0]}"; exit; }
 
 root=$(cd -- "$(dirname -- "${BASH_SOURCE[0]}")/.." && pwd)
 folder=$(mktemp -d)

@@ -7,6 +7,7 @@
 # one line and twenty times the script's bytes, and no event should be refused. Of the last each is, since the
 # processors aren't there.
 set -eu
+[[ ${1:-} != --help ]] || { sed -n '2,/^[^#]/s/^# \{0,1\}//p' -- "${BASH_SOURCE[0]}"; exit; }
 
 root=$(cd -- "$(dirname -- "${BASH_SOURCE[0]}")/.." && pwd)
 folder=$(mktemp -d)

@@ -6,6 +6,7 @@
 # stay level but for two things: a look-up of a partition walks the tree, and a post counts its port's
 # messages among all that are kept at the port's processor. No event should be refused.
 set -eu
+[[ ${1:-} != --help ]] || { sed -n '2,/^[^#]/s/^# \{0,1\}//p' -- "${BASH_SOURCE[0]}"; exit; }
 
 root=$(cd -- "$(dirname -- "${BASH_SOURCE[0]}")/.." && pwd)
 folder=$(mktemp -d)

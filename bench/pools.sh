@@ -5,6 +5,7 @@
 # lie alone on both sides. Last, loose pages are deposited in a random order from a fixed seed. An event of
 # 65,536 pages takes at most twice the time of one of 4,096.
 set -eu
+[[ ${1:-} != --help ]] || { sed -n '2,/^[^#]/s/^# \{0,1\}//p' -- "${BASH_SOURCE[0]}"; exit; }
 
 root=$(cd -- "$(dirname -- "${BASH_SOURCE[0]}")/.." && pwd)
 folder=$(mktemp -d)

@@ -12,6 +12,7 @@
 # line is 'N passed, M failed', and the status is 1 where a run failed. It is 1, too, where a run before these
 # starts no thread for each processor but one, which the main thread may run, or with --serial any.
 set -eu
+[[ ${1:-} != --help ]] || { sed -n '2,/^[^#]/s/^# \{0,1\}//p' -- "${BASH_SOURCE[0]}"; exit; }
 
 root=$(cd -- "$(dirname -- "${BASH_SOURCE[0]}")/.." && pwd)
 runs=${1:-1000}
