@@ -7,6 +7,10 @@ NAME is one of largest, threads, pools, embed, registers and messages. bench/NAM
 becomes the table. With OUTPUT, a file with what bench/NAME.sh printed before, nothing runs. Without a word
 all six run.
 
+    bench/tables.py gate FILE
+
+prints what each crate's proof, tests and wrong edits took in the gate, as .ci/times noted it in FILE.
+
     bench/tables.py build
 
 times a new clone of the repository: compiling and running the program unproved, proving it, and the gate.
@@ -165,6 +169,19 @@ def messages(text):
                  "instructions"), rows)
 
 
+def gate(text):
+    """The crates by the time that they took, the longest first, and all of them together."""
+    kinds = ("proof", "tests", "edits")
+    taken = {}
+    for crate, kind, seconds in re.findall(r"^(\w+) (\w+) (\d+)$", text, re.M):
+        taken.setdefault(crate, dict.fromkeys(kinds, 0))[kind] += int(seconds)
+    taken = dict(sorted(taken.items(), key=lambda it: -sum(it[1].values())))
+    taken["all crates"] = {kind: sum(it[kind] for it in taken.values()) for kind in kinds}
+    rows = [(crate, *(f"{seconds:,}" if seconds else "-" for seconds in (*parts.values(), sum(parts.values()))))
+            for crate, parts in taken.items()]
+    print_table(("crate", "proof, s", "tests, s", "wrong edits, s", "together, s"), rows)
+
+
 TABLES = {table.__name__: table for table in (largest, threads, pools, embed, registers, messages)}
 
 
@@ -210,6 +227,11 @@ def main():
     words = sys.argv[1:]
     if words == ["--help"]:
         print(__doc__.strip())
+        return 0
+    if words[:1] == ["gate"] and len(words) == 2:
+        print(machine())
+        print()
+        gate(pathlib.Path(words[1]).read_text())
         return 0
     if len(words) > 2 or (words and words[0] not in TABLES and words != ["build"]):
         print(__doc__.strip(), file=sys.stderr)
