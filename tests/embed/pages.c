@@ -20,8 +20,8 @@
 #include <time.h>
 
 enum {
-    PROCESSORS = 3, SINTS = 16, FLAG_SINT = 3, FLAGS = 64, STALL_SECONDS = 10, MSR_EOM = 0x40000084,
-    PAGE = 4096
+    PROCESSORS = 3, SINTS = 16, FLAG_SINT = 3, FLAGS = 64, ALL_FLAGS_SINT = 5, ALL_FLAGS = 2048,
+    STALL_SECONDS = 10, MSR_EOM = 0x40000084, PAGE = 4096
 };
 
 static hvpm_machine machine = HVPM_EMPTY;
@@ -51,8 +51,7 @@ static void served(const char *what, uint32_t status, const hvpm_reply *reply) {
 
 static struct processor {
     hvpm_pages pages;
-    uint64_t injected;                  /* vectors from 0x40 on that its interrupt controller has,
-                                           and it didn't take */
+    uint64_t injected[4];               /* vectors that its interrupt controller has, and it didn't take */
     uint64_t rooms;                     /* how often a message was let go here */
     uint64_t posted[SINTS];             /* how many messages were posted at each SINT */
     uint64_t got[SINTS];                /* how many of them it got */
@@ -64,6 +63,15 @@ static struct processor {
 static uint8_t memory[PROCESSORS][2][PAGE] __attribute__((aligned(4096)));
 
 static const hvpm_caller root = {1, 0};
+
+/* The vector of a SINT. Those of four SINTs in a row stand in the library's four words of 64. */
+static uint32_t vector_of(uint32_t sint) {
+    return 64 * (sint % 4) + 0x10 + sint;
+}
+
+static uint32_t sint_of(uint32_t vector) {
+    return vector % 16;
+}
 
 /* The header tells each event that it makes, with its line of the audit. */
 static void record(void *context, hvpm_caller by, enum hvpm_access event, uint32_t number, uint64_t value,
@@ -90,8 +98,8 @@ static void settle(const hvpm_effect *effect) {
         for (;;) {
             holds("a vector is taken", hvpm_pages_vector(&machine, &at->pages, &vector) == HVPM_STATUS_OK);
             if (vector == 0) break;
-            holds("a vector of a SINT", vector / 64 == 1);
-            __atomic_fetch_or(&at->injected, UINT64_C(1) << vector % 64, __ATOMIC_SEQ_CST);
+            holds("a vector of a SINT", vector >= 16);
+            __atomic_fetch_or(&at->injected[vector / 64], UINT64_C(1) << vector % 64, __ATOMIC_SEQ_CST);
         }
         if (at->pages.freed) __atomic_fetch_add(&at->rooms, 1, __ATOMIC_SEQ_CST);
         at->pages.freed = false;
@@ -182,7 +190,8 @@ static void set_up(void) {
         write_msr(self->pages.of, 0x40000080, 1);
         write_page(self, 0x40000083, PAGE * (2 * i + 1) | 1);
         write_page(self, 0x40000082, PAGE * (2 * i + 2) | 1);
-        for (uint32_t sint = 2; sint <= 4; sint++) write_msr(self->pages.of, 0x40000090 + sint, 0x50 + sint);
+        for (uint32_t sint = 2; sint <= 4; sint++)
+            write_msr(self->pages.of, 0x40000090 + sint, vector_of(sint));
     }
     for (size_t i = 0; i < LINKS; i++) {
         const struct link *link = &links[i];
@@ -275,12 +284,15 @@ static void take_flags(struct processor *self) {
 
 /* The highest vector that was injected, or 0. */
 static uint32_t take_vector(struct processor *self) {
-    const uint64_t word = __atomic_load_n(&self->injected, __ATOMIC_ACQUIRE);
-    if (word == 0) return 0;
-    uint32_t bit = 63;
-    while (!(word >> bit & 1)) bit--;
-    __atomic_fetch_and(&self->injected, ~(UINT64_C(1) << bit), __ATOMIC_SEQ_CST);
-    return 64 + bit;
+    for (uint32_t quarter = 4; quarter-- > 0;) {
+        const uint64_t word = __atomic_load_n(&self->injected[quarter], __ATOMIC_ACQUIRE);
+        if (word == 0) continue;
+        uint32_t bit = 63;
+        while (!(word >> bit & 1)) bit--;
+        __atomic_fetch_and(&self->injected[quarter], ~(UINT64_C(1) << bit), __ATOMIC_SEQ_CST);
+        return 64 * quarter + bit;
+    }
+    return 0;
 }
 
 /* ---- Cases ---- */
@@ -291,7 +303,7 @@ static uint8_t pending(const struct processor *self, uint32_t sint) {
 
 /* Takes the message of a SINT, which is there with its vector and with MessagePending or not. */
 static void gets(const char *what, struct processor *self, uint32_t sint, bool is_pending) {
-    holds(what, take_vector(self) == 0x50 + sint);
+    holds(what, take_vector(self) == vector_of(sint));
     holds(what, pending(self, sint) == is_pending && take_message(self, sint) == is_pending);
 }
 
@@ -348,19 +360,45 @@ static void flag_cases(void) {
     for (uint32_t i = 0; i < 2; i++) {
         signal_flag(&links[5], 4);
         holds("a flag goes over, and others stay", flags[0] == 0x90);
-        holds("each signal raises anew", take_vector(self) == 0x53);
+        holds("each signal raises anew", take_vector(self) == vector_of(FLAG_SINT));
     }
     write_page(self, 0x40000082, PAGE * 6 | 1);
     holds("flags move along", memory[2][1][256 * FLAG_SINT] == 0x90);
     write_page(self, 0x40000082, PAGE * 400 | 1);
     holds("an address that isn't the guest's", self->pages.flags == NULL);
     signal_flag(&links[5], 9);
-    holds("it raises", take_vector(self) == 0x53);
+    holds("it raises", take_vector(self) == vector_of(FLAG_SINT));
     flags[0] = flags[1] = 0x40;
     write_page(self, 0x40000082, PAGE * 4 | 1);
     holds("what was signalled meanwhile goes over", flags[0] == 0 && flags[1] == 2);
     signal_flag(&links[5], 9);
-    holds("and raises anew", take_vector(self) == 0x53);
+    holds("and raises anew", take_vector(self) == vector_of(FLAG_SINT));
+}
+
+/*
+ * Each of a SINT's flags has its own bit of the page, signalled there or while there is no page. The SINT has
+ * another vector each time, and so all of them.
+ */
+static void all_flags_cases(void) {
+    const hvpm_port port = {2, 20, 1, HVPM_PORT_EVENTS, ALL_FLAGS_SINT, 0, 0, ALL_FLAGS};
+    const hvpm_connection connection = {1, 20, 2, 20, HVPM_PORT_EVENTS};
+    const struct link link = {20, 0, 1, HVPM_PORT_EVENTS, ALL_FLAGS_SINT, 0, ALL_FLAGS};
+    struct processor *self = &processors[1];
+    uint8_t *flags = memory[1][1] + 256 * ALL_FLAGS_SINT, wanted[256] = {0};
+    hvpm_reply reply;
+    served("a port", hvpm_create_port(&machine, root, &port, &reply, NULL, 0), &reply);
+    served("a connection", hvpm_connect_port(&machine, root, &connection, &reply, NULL, 0), &reply);
+    for (uint32_t flag = 0; flag < ALL_FLAGS; flag++) {
+        const bool has_page = flag % 3 != 0;
+        const uint32_t vector = 16 + flag % 240;
+        write_msr(self->pages.of, 0x40000090 + ALL_FLAGS_SINT, vector);
+        if (!has_page) write_page(self, 0x40000082, PAGE * 400 | 1), memset(wanted, 0, sizeof wanted);
+        signal_flag(&link, (uint16_t)flag);
+        if (!has_page) write_page(self, 0x40000082, PAGE * 4 | 1);
+        wanted[flag / 8] |= (uint8_t)(1u << flag % 8);
+        holds("each flag has its bit", memcmp(flags, wanted, sizeof wanted) == 0);
+        holds("each vector is taken", take_vector(self) == vector && take_vector(self) == 0);
+    }
 }
 
 static void processor_cases(void) {
@@ -386,6 +424,7 @@ static void cases(void) {
     set_up();
     message_cases();
     flag_cases();
+    all_flags_cases();
     processor_cases();
     holds("each event was told", machine.events == events);
     hvpm_destroy(&machine);
@@ -466,10 +505,10 @@ static void *run(void *of) {
     while (!__atomic_load_n(&is_over, __ATOMIC_RELAXED)) {
         const uint32_t vector = take_vector(self);
         bool acted = vector != 0, ends = false;
-        if (vector == 0x50 + FLAG_SINT)
+        if (vector == vector_of(FLAG_SINT))
             take_flags(self);
         else if (vector != 0)
-            ends = take_message(self, vector - 0x50);
+            ends = take_message(self, sint_of(vector));
         else if (polls(self))
             ends = take_message(self, 2);
         if (vector == 0 && !ends && polls(self)) ends = take_message(self, 4);

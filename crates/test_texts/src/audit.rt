@@ -6,7 +6,7 @@ use hv_history::Kept;
 use hv_policy::{Action, Caller, Config, Event};
 use hv_privs::Privileges;
 use hv_text::{PrintFault, audit, table};
-use std::alloc::Global;
+use std::alloc::{AllocError, Global};
 use std::io;
 use std::io::{ErrorKind, Write};
 use std::process::Abort;
@@ -114,10 +114,11 @@ fn lines(rt: HostRuntime) -> Result<(), Fail> {
     Ok(())
 }
 
-// A writer that takes a few bytes at a time, and a limited number in all.
+// A writer that takes a few bytes at a time, and a limited number in all. Every second write is interrupted.
 #[derive(Drop)]
 struct Short {
     taken: Vec<u8>,
+    is_interrupted: bool,
     step: usize,
     left: usize,
     // Whether it then takes 0 bytes instead of returning an error.
@@ -126,6 +127,10 @@ struct Short {
 
 impl Write for Short {
     fn write(&mut self, bytes: &[u8]) -> io::Result<usize> {
+        self.is_interrupted = !self.is_interrupted;
+        if self.is_interrupted {
+            return Err(io::Error::from(ErrorKind::Interrupted));
+        }
         let len = bytes.len().min(self.step).min(self.left);
         if len == 0 {
             if self.takes_none {
@@ -178,6 +183,7 @@ fn assert_cuts(rt: &impl Abort, kept: &Kept<Global>, alloc: Global, step: usize)
 fn taking(alloc: Global, step: usize, left: usize, takes_none: bool) -> Short {
     Short {
         taken: Vec::new(alloc),
+        is_interrupted: false,
         step,
         left,
         takes_none,
@@ -192,5 +198,27 @@ fn cut_texts(rt: HostRuntime) -> Result<(), Fail> {
     for step in [1, 7, 1000] {
         assert_cuts(&rt, &kept, alloc, step);
     }
+    Ok(())
+}
+
+// The line of an empty slot, which has 512 digits.
+fn slot_text(alloc: Global) -> Result<Vec<u8>, AllocError> {
+    let mut text = Vec::from_slice(alloc, b"1 1.0 slot 2 ok ".as_slice())?;
+    for _ in 0..512 {
+        text.push(b'0')?;
+    }
+    text.extend_from_slice(b"\nevents 1\n")?;
+    Ok(text)
+}
+
+// A line takes as many writes as it has bytes.
+#[test]
+fn slow_texts(rt: HostRuntime) -> Result<(), Fail> {
+    let alloc = rt.alloc();
+    let mut kept = boot(alloc, 1)?;
+    happens(&mut kept, ROOT, Action::ReadSlot(2))?;
+    let mut out = taking(alloc, 1, usize::MAX, false);
+    assert_eq!(rt; audit(&mut out, &kept), Ok(()));
+    assert_eq!(rt; out.taken.as_slice(), slot_text(alloc)?.as_slice());
     Ok(())
 }
