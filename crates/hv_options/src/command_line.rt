@@ -11,6 +11,16 @@ use clap::{Arg, ArgAction, ArgMatches, Command, Error as ClapError};
 use std::alloc::{AllocError, Global};
 use std::convert::AsStr;
 
+// What `run --help` shows last.
+const RUN_NOTES: &str = "\
+Exit status:
+  0  the audit is complete
+  1  the script has a fault or can't be read, or the boot is refused
+  2  the command line is wrong
+  3  out of memory, the history is full, or a write failed
+
+Example: hvpm run examples/life.hv --serial --table";
+
 // What `--version` shows after the program's name.
 pub(crate) const VERSION: &str = "0.1.0";
 
@@ -52,6 +62,7 @@ pub(crate) fn run_command<'a>(alloc: Global) -> Result<Command<'a>, AllocError>
 {
     Command::new(alloc, "run")
         .about("Runs a script of calls, accesses and phases, and prints its audit")
+        .after_help(RUN_NOTES)
         .arg(script_argument(alloc))?
         .arg(serial_flag(alloc))?
         .arg(table_flag(alloc))

@@ -39,6 +39,14 @@ Options:
       --serial  Run the lines in the script's order, and start no thread
       --table   Print the table of partitions after the audit
   -h, --help    Print help
+
+Exit status:
+  0  the audit is complete
+  1  the script has a fault or can't be read, or the boot is refused
+  2  the command line is wrong
+  3  out of memory, the history is full, or a write failed
+
+Example: hvpm run examples/life.hv --serial --table
 ";
 
 const NO_COMMAND: &str = "error: 'hvpm' requires a subcommand but one was not provided

@@ -6,7 +6,7 @@ use Rattle.hv_options.proofs.command_line.run_command.Goals as goal
 
 pub returns-clause-shape : goal.returns-clause-shape
 returns-clause-shape c =
-    let named_is : app_of c.about.result ≡ app_of c.new.result = ap app_of_fields c.about.ensures in
+    let named_is : app_of c.after_help.result ≡ app_of c.new.result = ap app_of_fields c.after_help.ensures ∙ ap app_of_fields c.about.ensures in
     IfOk-weaker c.arg-3.result _ _ (λ m h. h.shape c.table_flag.ensures.local
     ∙ ap₂ with_rule (c.in_ok-arg-2.ensures.shape c.serial_flag.ensures.local
     ∙ ap₂ with_rule (c.in_ok-arg.ensures.shape c.script_argument.ensures.local
