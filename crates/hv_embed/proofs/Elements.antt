@@ -1,6 +1,6 @@
 -- Where the elements of a call have come to after one more, and what their effects say.
-use Rattle.std.proofs.Common.{IsTrue, true, false, ◌<◌, ◌≡◌, ℕ, ◌+◌, ◌≤◌, List, [], ◌++◌, length, take, refl, sym, subst, ap, ◌∙◌, arith, add-one, below_more, length-take, zero, suc, Global, IfOk}
-use Rattle.std.proofs.Common.{OnErr, Result, Ok, Err}
+use Rattle.std.proofs.Common.{IsTrue, Bool, true, false, if◌then◌else◌, Option, Some, None}
+use Rattle.std.proofs.Common.{◌<◌, ◌≡◌, ℕ, ◌+◌, ◌≤◌, List, [], ◌++◌, length, take, refl, sym, subst, ap, ◌∙◌, arith, add-one, below_more, length-take, suc, Global}
 use Rattle.hv_abi.specs.declared.frame.Frame.{Frame}
 use Rattle.hv_defs.specs.declared.sizes.TheConstants.{REPS_END}
 use Rattle.hv_policy.specs.Parts.{next_in}
@@ -18,16 +18,21 @@ use Rattle.hv_embed.specs.Effect.{is_quiet_kind, IsCalm, IsEffect, IsShown}
 use Rattle.hv_embed.specs.Run.{HasRun, IsAt, IsAtMore, Ran, first, on, output_in, run, IsLastEffect, flat_before}
 use Rattle.hv_embed.specs.Taken.{is_used_up}
 use Rattle.hv_embed.specs.declared.layout.HvReply.{HvReply}
-use Rattle.hv_embed.specs.declared.layout.TheConstants.{ELEMENT_OUTPUT, EFFECT_NOTHING}
-use Rattle.hv_effects.proofs.After.{unserved, unserved_same}
-use Rattle.hv_effects.proofs.Types.{step_typed}
-use Rattle.hv_effects.specs.Effect.{Tells}
-use Rattle.hv_effects.specs.Typed.{AreTyped}
-use Rattle.hv_effects.specs.declared.effect.Effect.{Effect}
-use Rattle.hv_effects.specs.declared.effect.Effect.TheVariants as variant
-use Rattle.hv_machine.specs.Access.{access_reply}
-use Rattle.hv_policy.specs.declared.event.Event.{Event}
-use Rattle.hv_policy.specs.declared.reply.Reply.TheVariants.{Fault}
+use Rattle.hv_embed.specs.declared.layout.TheConstants.{ELEMENT_OUTPUT}
+use Rattle.hv_abi.specs.Check.{call_of}
+use Rattle.hv_abi.specs.declared.status.Status.{Status}
+use Rattle.hv_defs.specs.Bits.{bits}
+use Rattle.hv_effect.specs.Effect.{Tells}
+use Rattle.hv_effect.specs.declared.effect.Effect.{Effect}
+use Rattle.hv_effect.specs.declared.effect.Effect.TheVariants as variant
+use Rattle.hv_invariants.proofs.Replies.{few_output_of}
+use Rattle.hv_machine.specs.MachineInvariant.{MachineInvariant}
+use Rattle.hv_policy.specs.Answer.{is_done, output_of}
+use Rattle.hv_policy.specs.Call.{called}
+use Rattle.hv_policy.specs.Rule.{rule_status}
+use Rattle.hv_policy.specs.Rules.{unmet}
+use Rattle.hv_policy.specs.Step.{denied_with, step_by}
+use Rattle.hv_policy.specs.declared.reply.Reply.TheVariants.{Served, More}
 use Rattle.hv_policy.specs.declared.rule.Rule.{Rule}
 use Rattle.hv_embed.specs.declared.layout.HvEffect.{HvEffect}
 
@@ -83,20 +88,28 @@ has_run by start before n m last told answer outputs at is within says stopped =
           (stopped (subst IsMore (sym now.reply) more) quiet (omega arith) free few);
     }
 
--- an access that a rule refuses has no effect
-pub refused_effect : (f : Flat) (event : Event Global) (rule : Rule) (told : HvEffect) → told.kind ≡ EFFECT_NOTHING → Fault rule ≡ (step f event).1 → IsEffect told f (step f event).0
-refused_effect f event rule told nothing is = record {
-  effect = variant.Nothing;
-  shown = nothing;
-  tells = unserved f (step f event).0 (unserved_same f event (Fault rule) is refl);
-}
+-- the output of an element has at most 16 bytes
+few_bytes : (f : Flat) (by : Caller) (frame : Frame Global) → length (output_in (step f (call_event by frame)).1) ≤ ELEMENT_OUTPUT
+few_bytes f by frame = of_step (unmet f (call_event by frame))
+  where
+    bytes : List ℕ
+    bytes = output_of f by.part (called frame)
 
--- and what is shown of an access, whichever it became, is its effect
-pub access_effect : (f : Flat) (event : Event Global) (became : Result Effect Rule) (output : List ℕ) (told : HvEffect) → access_reply became output ≡ (step f event).1 → IfOk became
-    (λ e. IsShown e told) → OnErr became (told.kind ≡ EFFECT_NOTHING)
-    → IfOk became (λ e. Tells e f (step f event).0) → IsEffect told f (step f event).0
-access_effect f event (Ok e) output told is shown nothing tells = record { effect = e; shown = shown; tells = tells }
-access_effect f event (Err rule) output told is shown nothing tells = refused_effect f event rule told nothing is
+    served : (last : Bool) → length (output_in (if last then Served bytes else More (bits frame.rcx 48 12 + 1) bytes)) ≤ ELEMENT_OUTPUT
+    served true = few_output_of f by.part (called frame)
+    served false = few_output_of f by.part (called frame)
+
+    refused : (rule : Rule) (status : Option Status) → length (output_in (denied_with frame rule status)) ≤ ELEMENT_OUTPUT
+    refused rule None = omega arith
+    refused rule (Some status) = omega arith
+
+    of_step : (rule : Option Rule) → length (output_in (step_by f (call_event by frame) rule).1) ≤ ELEMENT_OUTPUT
+    of_step None = served (is_done frame (call_of frame))
+    of_step (Some rule) = refused rule (rule_status rule (call_of frame))
+
+pub few_told : (m : State) (by : Caller) (frame : Frame Global) (reply : Reply) → MachineInvariant m → ((f : Flat) → IsFlat m f → reply ≡ (step f (call_event by frame)).1) → length (output_in reply) ≤
+    ELEMENT_OUTPUT
+few_told m by frame reply lasting told = subst (λ (r : Reply). length (output_in r) ≤ ELEMENT_OUTPUT) (sym (told lasting.flat lasting.stands)) (few_bytes lasting.flat by frame)
 
 -- an effect that names at most a page leaves messages, event flags and pending vectors as they were
 pub quiet_calm : (told : HvEffect) (f g : Flat) → IsEffect told f g → is_quiet_kind told.kind ≡ true → IsCalm f g
@@ -131,22 +144,16 @@ calm_on f g h first last = record {
   vectors = λ part vp vector. last.vectors part vp vector ∙ first.vectors part vp vector;
 }
 
--- each element leaves messages that have types
-pub typed_more : (n : ℕ) (by : Caller) (ran : Ran) → AreTyped ran.flat → AreTyped (run n by ran).flat
-typed_more zero by ran typed = typed
-typed_more (suc n) by ran typed =
-    step_typed (run n by ran).flat (typed_more n by ran typed) (call_event by (restart (run n by ran).frame (next_in (run n by ran).reply)))
-
 -- the effect of the element with which a call continues
 pub effect_on : (by : Caller) (m : State) (last next : Frame Global) (reply : Reply) (out : List ℕ) (ran : Ran) (e : Effect) (told : HvEffect) → IsAt ran m last reply out → next ≡ restart last
-    (next_in reply) → AreTyped ran.flat → IsShown e told
-    → ((f : Flat) → IsFlat m f → AreTyped f → Tells e f (step f (call_event by next)).0) → IsEffect told ran.flat (on by ran).flat
-effect_on by m last next reply out ran e told at is typed shown tells =
+    (next_in reply) → IsShown e told
+    → ((f : Flat) → IsFlat m f → Tells e f (step f (call_event by next)).0) → IsEffect told ran.flat (on by ran).flat
+effect_on by m last next reply out ran e told at is shown tells =
     let same : next ≡ restart ran.frame (next_in ran.reply) = is ∙ ap (λ (f : Frame Global). restart f (next_in reply)) at.frame ∙ ap (λ (r : Reply). restart ran.frame (next_in r)) at.reply in
     record {
       effect = e;
       shown = shown;
-      tells = subst (λ (f : Frame Global). Tells e ran.flat (step ran.flat (call_event by f)).0) same (tells ran.flat at.state typed);
+      tells = subst (λ (f : Frame Global). Tells e ran.flat (step ran.flat (call_event by f)).0) same (tells ran.flat at.state);
     }
 
 -- one more element, after one whose effect names at most a page

@@ -1,16 +1,16 @@
 -- The effect of an event, as C sees it.
 use Rattle.std.specs.Prelude.{◌≡◌, ℕ, ◌<◌, ◌==◌, ◌||◌, Bool, if◌then◌else◌, Option, None, Some}
 use Rattle.std.specs.FinMap.{get}
-use Rattle.hv_integrity.specs.Same.{has_flag, has_vector}
 use Rattle.hv_defs.specs.declared.sizes.TheConstants.{SINTS}
-use Rattle.hv_effects.specs.Effect.{Tells, has_bit, is_number}
-use Rattle.hv_effects.specs.declared.effect.Effect.{Effect}
-use Rattle.hv_effects.specs.declared.effect.Effect.TheVariants as effect
-use Rattle.hv_effects.specs.declared.effect.FlagChange.{FlagChange}
-use Rattle.hv_effects.specs.declared.effect.Synic.{Synic}
+use Rattle.hv_effect.specs.Effect.{Tells, has_bit, is_number}
+use Rattle.hv_effect.specs.declared.effect.Effect.{Effect}
+use Rattle.hv_effect.specs.declared.effect.Effect.TheVariants as effect
+use Rattle.hv_effect.specs.declared.effect.FlagChange.{FlagChange}
+use Rattle.hv_effect.specs.declared.effect.Synic.{Synic}
 use Rattle.hv_mail.specs.Words.{numbers_of}
 use Rattle.hv_policy.specs.Flat.{Flat}
 use Rattle.hv_policy.specs.Mail.{Place, mail_at}
+use Rattle.hv_policy.specs.Reading.{has_flag, has_vector}
 use Rattle.hv_embed.specs.declared.layout.HvEffect.{HvEffect}
 use Rattle.hv_embed.specs.declared.layout.TheConstants.{EFFECT_NOTHING, EFFECT_SYNIC, EFFECT_PAGE}
 use Rattle.hv_embed.specs.declared.layout.TheConstants.{EFFECT_PAGES, EFFECT_PROCESSOR, EFFECT_PARTITION}

@@ -17,7 +17,6 @@ use Rattle.hv_policy.specs.declared.event.Action.TheVariants.{Hypercall}
 use Rattle.hv_policy.specs.declared.event.Caller.{Caller}
 use Rattle.hv_policy.specs.declared.reply.Reply.{Reply}
 use Rattle.hv_policy.specs.declared.reply.Reply.TheVariants.{Served, More, Denied, Fault}
-use Rattle.hv_effects.specs.Typed.{AreTyped}
 use Rattle.hv_embed.specs.Answer.{IsAnswer}
 use Rattle.hv_embed.specs.Effect.{IsCalm, IsEffect, is_quiet_kind}
 use Rattle.hv_embed.specs.Taken.{is_used_up}
@@ -131,7 +130,7 @@ pub record IsRunTaken (by : Caller) (frame : Frame Global) (old new : HvMachine)
     (buffer : List ℕ) (done : HvRun) : Type 0 where
   pub ran : (f : Flat) → IsFlat old.raw_machine.machine f → HasRun by (first f by frame) old.events
       new.raw_machine.machine answer buffer done
-  pub effect : (f : Flat) → IsFlat old.raw_machine.machine f → AreTyped f
+  pub effect : (f : Flat) → IsFlat old.raw_machine.machine f
       → IsRunEffect done.events f by (first f by frame) answer.effect
   pub line : answer.line_len ≡ 0
   pub pages : new.raw_machine.machine.pages ≡ old.raw_machine.machine.pages

@@ -14,7 +14,6 @@ use Rattle.hv_policy.specs.Step.{step}
 use Rattle.hv_policy.specs.declared.config.BootRefused.{BootRefused}
 use Rattle.hv_policy.specs.declared.config.Config.{Config}
 use Rattle.hv_policy.specs.declared.event.Event.{Event}
-use Rattle.hv_effects.specs.Typed.{AreTyped}
 use Rattle.hv_text.specs.declared.text.TheConstants.{LINE}
 use Rattle.hv_embed.specs.Answer.{IsAnswer, line_text, refusal_status}
 use Rattle.hv_embed.specs.Effect.{IsEffect}
@@ -50,16 +49,16 @@ pub record HasLine (buffer : List ℕ) (count : ℕ) (line : List ℕ) : Type 0 
   pub len : 0 < length buffer → count ≡ length line
 
 -- The machine took the event. For each flat state that it stood for, the reply and the line with the event's
--- number are those of the flat step's reply, and the new machine stands for that step's state. If the
--- messages have types, as in each run, the effect describes the step's change. The new machine satisfies the
--- invariant, is sound, and has the old number of pages.
+-- number are those of the flat step's reply, the new machine stands for that step's state, and the effect
+-- describes the step's change. The new machine satisfies the invariant, is sound, and has the old number of
+-- pages.
 pub record IsStepped (event : Event Global) (number : ℕ) (old new : State) (answer : HvReply)
     (buffer : List ℕ) : Type 0 where
   pub reply : (f : Flat) → IsFlat old f → IsAnswer answer event.what (step f event).1
   pub line : (f : Flat) → IsFlat old f → HasLine buffer answer.line_len
       (line_text number event (step f event).1)
   pub state : (f : Flat) → IsFlat old f → IsFlat new (step f event).0
-  pub effect : (f : Flat) → IsFlat old f → AreTyped f → IsEffect answer.effect f (step f event).0
+  pub effect : (f : Flat) → IsFlat old f → IsEffect answer.effect f (step f event).0
   pub pages : new.pages ≡ old.pages
   pub lasting : MachineInvariant new
   pub sound : IsSound new

@@ -4,18 +4,19 @@ ghost use Rattle.std.specs.Global.{Global};
 ghost use Rattle.hv_defs.specs.declared.sizes.TheConstants.{REPS_END};
 ghost use Rattle.hv_history.specs.History.{entry_by};
 ghost use Rattle.hv_history.specs.Row.{action_of};
+ghost use Rattle.hv_machine.specs.Access.{access_reply, effect_in};
 ghost use Rattle.hv_policy.specs.Call.{action_of as action_by, call_event};
 ghost use Rattle.hv_policy.specs.Parts.{next_in, reply_of};
-ghost use Rattle.hv_policy.specs.Result.{HasResult};
 ghost use Rattle.hv_policy.specs.declared.event.Action.TheVariants.{Hypercall};
 ghost use Rattle.hv_embed.specs.Answer.{HasOutput, IsAnswer, Says, line_text, result_in as result_by};
 ghost use Rattle.hv_embed.specs.Taken.{HasLine, is_short as is_short_len};
 
 use crate::layout::{DENIED, FAULT, HvReply, MORE, SERVED};
 use hv_abi::Frame;
+use hv_effect::Effect;
 use hv_history::{EntryRef, Request};
-use hv_machine::{Access, Answer, CallReply, Caller};
-use hv_policy::result_value;
+use hv_machine::{Access, Answer, Caller, Output};
+use hv_policy::{Rule, result_value};
 use hv_text::{LINE, Scratch, audit_line};
 use std::alloc::Global;
 
@@ -46,24 +47,20 @@ pub(crate) fn answer(
     };
 }
 
-// Fills the reply to a hypercall, as `answer` does.
-pub(crate) fn answer_call(
+// Returns the entry of a hypercall with this answer and output.
+pub(crate) fn call_entry<'t>(
     by: Caller,
-    frame: &Frame<Global>,
-    told: &CallReply,
-    number: u64,
-    scratch: &mut Scratch,
-    reply: &mut HvReply,
-    line: &mut [u8],
-)
-    requires room { is_short_len (length line.old) ≡ false }
-    requires index { HasResult told.now }
-    ensures answer { IsAnswer reply.new (Hypercall frame.now) told.now }
-    ensures line { HasLine line.new reply.new.line_len (line_text number (call_event by frame.now) told.now) }
-    ensures effect { reply.new.effect ≡ reply.old.effect }
+    frame: &'t Frame<Global>,
+    answer: Answer,
+    output: &'t Output,
+) -> EntryRef<'t>
+    ensures event { (entry_by result).event ≡ call_event by frame.now }
+    ensures asked { action_of result.asked result.input.now ≡ Hypercall frame.now }
+    ensures answer { result.answer ≡ answer }
+    ensures output { result.output.now ≡ output.now }
+    ensures most { length result.output.now ≤ 256 }
 {
-    let (told, output) = told.parts();
-    let entry = EntryRef {
+    EntryRef {
         by,
         asked: Request::Hypercall {
             rcx: frame.rcx,
@@ -71,10 +68,21 @@ pub(crate) fn answer_call(
             r8: frame.r8,
         },
         input: frame.input.as_slice(),
-        answer: told,
-        output,
-    };
-    answer(&entry, number, scratch, reply, line);
+        answer,
+        output: output.as_slice(),
+    }
+}
+
+// Returns the answer and the effect of an access with this outcome. One that a rule refuses has no effect.
+pub(crate) fn parted(became: Result<Effect, Rule>) -> (Answer, Effect)
+    ensures reply { (output : List ℕ) → reply_of result.0 output ≡ access_reply became output }
+    ensures effect { result.1 ≡ effect_in became }
+    ensures index { next_in (reply_of result.0 []) < REPS_END }
+{
+    match became {
+        Ok(effect) => (Answer::Served, effect),
+        Err(rule) => (Answer::Fault { rule }, Effect::Nothing),
+    }
 }
 
 // Returns the request of an access.

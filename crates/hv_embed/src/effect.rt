@@ -1,48 +1,23 @@
 // The effect of an event, as C reads it.
-ghost use Rattle.std.specs.Prelude.{◌≡◌, ◌==◌, ◌<◌, ℕ, List, IfOk, OnErr};
+ghost use Rattle.std.specs.Prelude.{◌≡◌, ◌<◌, ℕ};
 ghost use Rattle.hv_defs.specs.declared.sizes.TheConstants.{SINTS as MOST_SINTS};
-ghost use Rattle.hv_effects.specs.Effect.{has_bit, is_number};
-ghost use Rattle.hv_machine.specs.Access.{access_reply};
+ghost use Rattle.hv_effect.specs.Effect.{has_bit, is_number};
 ghost use Rattle.hv_embed.specs.Effect.{IsFlag, IsShown, IsSynicShown, is_quiet_kind};
-ghost use Rattle.hv_embed.specs.declared.layout.TheConstants.{EFFECT_NOTHING as NOTHING};
 
 use crate::layout::{
     EFFECT_NOTHING, EFFECT_PAGE, EFFECT_PAGES, EFFECT_PARTITION, EFFECT_PROCESSOR, EFFECT_SYNIC,
     FLAG_CLEARED, FLAG_SET, HvEffect,
 };
 use hv_defs::SINTS;
-use hv_effects::{Effect, FlagChange, Synic};
-use hv_policy::Rule;
+use hv_effect::{Effect, FlagChange, Synic};
 
-// Returns the effect in which no message, event flag, pending vector or page changed.
-fn no_effect() -> HvEffect
-    ensures { result.kind ≡ NOTHING }
+// Writes an effect for C. Only the fields that its kind has are written.
+pub(crate) fn show(effect: Effect, told: &mut HvEffect)
+    ensures { IsShown effect told.new }
 {
-    HvEffect {
-        kind: EFFECT_NOTHING,
-        vp: 0,
-        part: 0,
-        page: 0,
-        raised: [0; 4],
-        shown: 0,
-        waiting: 0,
-        flag: 0,
-        flag_sint: 0,
-        flag_is: 0,
-        port: 0,
-        freed: 0,
-        pooled: 0,
-    }
-}
-
-// Converts an effect for C.
-pub(crate) fn shown(effect: Effect) -> HvEffect
-    ensures { IsShown effect result }
-{
-    let mut told = no_effect();
     match effect {
-        Effect::Nothing => {}
-        Effect::Synic(synic) => told = shown_synic(synic),
+        Effect::Nothing => told.kind = EFFECT_NOTHING,
+        Effect::Synic(synic) => show_synic(&synic, told),
         Effect::Page {
             page,
             owner,
@@ -68,41 +43,24 @@ pub(crate) fn shown(effect: Effect) -> HvEffect
             told.part = part;
         }
     }
-    told
 }
 
-// Splits the result of an access into its reply and its effect for C. An access that a rule refuses has no
-// effect.
-pub(crate) fn parted(became: Result<Effect, Rule>) -> (Result<(), Rule>, HvEffect)
-    ensures reply { (output : List ℕ) → access_reply result.0 output ≡ access_reply became output }
-    ensures shown { IfOk became (λ effect. IsShown effect result.1) }
-    ensures refused { OnErr became (result.1.kind ≡ NOTHING) }
-{
-    match became {
-        Ok(effect) => (Ok(()), shown(effect)),
-        Err(rule) => (Err(rule), no_effect()),
-    }
-}
-
-// Converts the effect at one processor for C.
-fn shown_synic(synic: Synic) -> HvEffect
-    ensures { IsSynicShown synic result }
+// Writes the effect at one processor for C.
+fn show_synic(synic: &Synic, told: &mut HvEffect)
+    ensures { IsSynicShown synic.now told.new }
 {
     let (flag, flag_sint, flag_is) = flag_parts(synic.flag);
-    HvEffect {
-        kind: EFFECT_SYNIC,
-        vp: synic.vp,
-        part: synic.part,
-        raised: synic.raised.words(),
-        shown: synic.shown,
-        waiting: waiting_bits(synic.waiting),
-        flag,
-        flag_sint,
-        flag_is,
-        port: synic.freed.unwrap_or(0),
-        freed: u8::from(synic.freed.is_some()),
-        ..no_effect()
-    }
+    told.kind = EFFECT_SYNIC;
+    told.part = synic.part;
+    told.vp = synic.vp;
+    told.raised = synic.raised.words();
+    told.shown = synic.shown;
+    told.waiting = waiting_bits(synic.waiting);
+    told.flag = flag;
+    told.flag_sint = flag_sint;
+    told.flag_is = flag_is;
+    told.port = synic.freed.unwrap_or(0);
+    told.freed = u8::from(synic.freed.is_some());
 }
 
 // Returns the event flag that changed, its SINT, and how it changed.
@@ -117,7 +75,7 @@ fn flag_parts(flag: Option<FlagChange>) -> (u16, u8, u8)
 }
 
 // Returns the SINT at which one more message waits, as a bit.
-#[tactic(auto, using(hv_effects::proofs::Made::mask_bit))]
+#[tactic(auto, using(hv_effect::proofs::Seen::mask_bit))]
 fn waiting_bits(waiting: Option<u8>) -> u16
     ensures { (k : ℕ) → k < MOST_SINTS → has_bit result k ≡ is_number waiting k }
 {

@@ -15,13 +15,14 @@ const MOST_SPARE: usize = 8192;
 
 /// A machine, and the memory that its events reuse.
 ///
-/// The memory holds a call's frame, an access's output, and the audit's next line. Contracts see the machine
-/// alone.
+/// The memory holds a call's frame, an event's output, the output of a run's next element, and the audit's
+/// next line. Contracts see the machine alone.
 #[derive(Drop)]
 pub struct MachineState {
     pub(crate) machine: Machine<Global>,
     pub(crate) frame: Frame<Global>,
     pub(crate) output: Output,
+    pub(crate) spare: Output,
     pub(crate) scratch: Scratch,
 }
 
@@ -44,6 +45,7 @@ impl MachineState {
             machine,
             frame: no_frame(alloc),
             output: Output::new(),
+            spare: Output::new(),
             scratch: Scratch::new(),
         }
     }

@@ -2,7 +2,7 @@
 ghost use Rattle.std.specs.Prelude.{◌≡◌, ◌≢◌, ◌+◌, ◌*◌, ◌<◌, ◌≤◌, ◌++◌, length, take, false, true, IsTrue};
 ghost use Rattle.std.specs.Prelude.{if◌then◌else◌};
 ghost use Rattle.hv_defs.specs.declared.sizes.TheConstants.{REPS_END};
-ghost use Rattle.hv_policy.specs.Parts.{next_in};
+ghost use Rattle.hv_policy.specs.Parts.{next_in, reply_of};
 ghost use Rattle.hv_history.specs.Run.{IsMore, restart as restarted_at};
 ghost use Rattle.hv_machine.specs.IsFlat.{IsFlat};
 ghost use Rattle.hv_machine.specs.MachineInvariant.{MachineInvariant};
@@ -10,7 +10,6 @@ ghost use Rattle.hv_machine.specs.Sound.{IsSound};
 ghost use Rattle.hv_policy.specs.Call.{call_event, may_take_memory};
 ghost use Rattle.hv_policy.specs.Flat.{Flat};
 ghost use Rattle.hv_policy.specs.Result.{HasResult};
-ghost use Rattle.hv_effects.specs.Typed.{AreTyped};
 ghost use Rattle.hv_embed.specs.Answer.{frame_of as frame_by};
 ghost use Rattle.hv_embed.specs.Effect.{is_quiet_kind};
 ghost use Rattle.hv_embed.specs.Run.{HasRun, IsAt, IsAtMore, IsLastEffect, IsRunEffect, Ran, first};
@@ -19,17 +18,16 @@ ghost use Rattle.hv_embed.specs.Taken.{is_used_up as is_used_up_at};
 ghost use Rattle.hv_embed.specs.declared.layout.TheConstants.{ELEMENT_OUTPUT};
 ghost use Rattle.hv_embed.specs.declared.status.TheConstants.{DONE, USED_UP, MEMORY};
 
-use crate::answer::answer_call;
-use crate::effect::{is_quiet, shown};
+use crate::answer::{answer, call_entry};
+use crate::effect::{is_quiet, show};
 use crate::layout::{ELEMENT_OUTPUT, HvEffect, HvRegisters, HvReply, HvRun};
 use crate::machine_state::{MachineState, no_frame, refill};
 use crate::status::{DONE, MEMORY, USED_UP};
 use crate::take::is_used_up;
 use hv_abi::Frame;
 use hv_defs::REPS_END;
-use hv_effects::hypercall;
 use hv_history::next_of;
-use hv_machine::{Answer, CallReply, Caller, Machine};
+use hv_machine::{Answer, Caller, Machine, Output};
 use std::alloc::Global;
 use std::mem::replace;
 
@@ -49,8 +47,8 @@ pub(crate) fn step_run(
     requires { ELEMENT_OUTPUT ≤ length outputs.old }
     ensures ran { (f : Flat) → IsFlat state.old f → result ≡ DONE → HasRun by
         (first f by (frame_by registers.now input.now)) events.old state.new reply.new outputs.new done.new }
-    ensures effect { (f : Flat) → IsFlat state.old f → AreTyped f → result ≡ DONE → IsRunEffect
-        done.new.events f by (first f by (frame_by registers.now input.now)) reply.new.effect }
+    ensures effect { (f : Flat) → IsFlat state.old f → result ≡ DONE → IsRunEffect done.new.events f by
+        (first f by (frame_by registers.now input.now)) reply.new.effect }
     ensures line { result ≡ DONE → reply.new.line_len ≡ 0 }
     ensures pages { state.new.pages ≡ state.old.pages }
     ensures lasting { MachineInvariant state.new }
@@ -69,20 +67,28 @@ pub(crate) fn step_run(
     let Ok(()) = refill(&mut state.frame, registers, input) else {
         return MEMORY;
     };
-    let Ok((mut last, effect)) = hypercall(&mut state.machine, by, &state.frame) else {
+    state.output.clear();
+    let Ok((mut last, effect)) = state.machine.hypercall(by, &state.frame, &mut state.output) else {
         return MEMORY;
     };
-    let mut told = shown(effect);
     *events += 1;
-    let mut at = append_output(&last, outputs, 0);
-    let machine = &mut state.machine;
-    let frame = &mut state.frame;
+    show(effect, &mut reply.effect);
+    let mut at = append_output(last, &state.output, outputs, 0);
     let more = run_on(
-        alloc, machine, events, by, frame, &mut last, &mut told, outputs, &mut at,
+        alloc,
+        &mut state.machine,
+        events,
+        by,
+        &mut state.frame,
+        &mut last,
+        &mut state.output,
+        &mut state.spare,
+        &mut reply.effect,
+        outputs,
+        &mut at,
     );
-    reply.effect = told;
-    let scratch = &mut state.scratch;
-    answer_call(by, &state.frame, &last, *events, scratch, reply, &mut []);
+    let entry = call_entry(by, &state.frame, last, &state.output);
+    answer(&entry, *events, &mut state.scratch, reply, &mut []);
     *done = HvRun {
         events: more + 1,
         output_len: at as u32,
@@ -93,42 +99,46 @@ pub(crate) fn step_run(
 // Takes the elements after the last one, one after another, and returns how many it took. It stops after the
 // call's last element, or after one that isn't served or whose effect names more than a page. It also stops
 // when the buffer has no room for an output, or no more events are counted. An element that the host refuses
-// didn't happen.
+// didn't happen, so each writes its output to `spare`, and `output` keeps that of the last one that did.
 fn run_on(
     alloc: Global,
     machine: &mut Machine<Global>,
     events: &mut u64,
     by: Caller,
     frame: &mut Frame<Global>,
-    last: &mut CallReply,
+    last: &mut Answer,
+    output: &mut Output,
+    spare: &mut Output,
     effect: &mut HvEffect,
     outputs: &mut [u8],
     at: &mut usize,
 ) -> u32
     requires place { at.old ≤ length outputs.old }
-    requires index { HasResult last.old }
+    requires index { HasResult (reply_of last.old output.old) }
     requires lasting { MachineInvariant machine.old }
     requires sound { IsSound machine.old }
-    ensures ran { (ran : Ran) → IsAt ran machine.old frame.old last.old (take at.old outputs.old)
-        → IsAtMore result by ran machine.new frame.new last.new (take at.new outputs.new) }
-    ensures effect { (ran : Ran) (f : Flat) → IsAt ran machine.old frame.old last.old
+    ensures ran { (ran : Ran) → IsAt ran machine.old frame.old (reply_of last.old output.old)
         (take at.old outputs.old)
-        → AreTyped ran.flat → IsLastEffect 0 f by ran effect.old → IsLastEffect result f by ran effect.new }
+        → IsAtMore result by ran machine.new frame.new (reply_of last.new output.new)
+        (take at.new outputs.new) }
+    ensures effect { (ran : Ran) (f : Flat) → IsAt ran machine.old frame.old (reply_of last.old output.old)
+        (take at.old outputs.old)
+        → IsLastEffect 0 f by ran effect.old → IsLastEffect result f by ran effect.new }
     ensures most { result ≤ REPS_END }
     ensures count { events.new ≡ events.old + result }
-    ensures stopped { IsMore last.new → is_quiet_kind effect.new.kind ≡ true → at.new + ELEMENT_OUTPUT ≤
-        length outputs.new
-        → is_used_up_at machine.new.served events.new ≡ false → result < REPS_END
-        → IsTrue (may_take_memory (call_event by (restarted_at frame.new (next_in last.new)))) }
+    ensures stopped { IsMore (reply_of last.new output.new) → is_quiet_kind effect.new.kind ≡ true
+        → at.new + ELEMENT_OUTPUT ≤ length outputs.new → is_used_up_at machine.new.served events.new ≡ false
+        → result < REPS_END → IsTrue (may_take_memory
+        (call_event by (restarted_at frame.new (next_in (reply_of last.new output.new))))) }
     ensures place { at.new ≤ length outputs.old }
     ensures few { at.new ≤ at.old + ELEMENT_OUTPUT * result }
-    ensures index { HasResult last.new }
+    ensures index { HasResult (reply_of last.new output.new) }
     ensures pages { machine.new.pages ≡ machine.old.pages }
     ensures lasting { MachineInvariant machine.new }
     ensures sound { IsSound machine.new }
 {
     for more in 0..u32::from(REPS_END) {
-        let Some(next) = next_of(last.parts().0) else {
+        let Some(next) = next_of(*last) else {
             return more;
         };
         let is_full = outputs.len() - *at < ELEMENT_OUTPUT || is_used_up(machine, *events);
@@ -137,14 +147,17 @@ fn run_on(
         }
         let rcx = frame.rcx;
         restart(alloc, frame, next);
-        let Ok((reply, told)) = hypercall(machine, by, frame) else {
+        spare.clear();
+        let Ok((told, change)) = machine.hypercall(by, frame, spare) else {
             frame.rcx = rcx;
             return more;
         };
-        *at = append_output(&reply, outputs, *at);
-        *last = reply;
-        *effect = shown(told);
         *events += 1;
+        *at = append_output(told, spare, outputs, *at);
+        *last = told;
+        output.clear();
+        output.extend_from_slice(spare.as_slice());
+        show(change, effect);
     }
     u32::from(REPS_END)
 }
@@ -158,14 +171,15 @@ fn restart(alloc: Global, frame: &mut Frame<Global>, start: u16)
 }
 
 // Appends the output of a reply to a buffer at a place, and returns the place after it.
-fn append_output(reply: &CallReply, outputs: &mut [u8], at: usize) -> usize
-    requires { at + ELEMENT_OUTPUT ≤ length outputs.old }
-    ensures bytes { take result outputs.new ≡ take at outputs.old ++ output_in reply.now }
+fn append_output(answer: Answer, output: &Output, outputs: &mut [u8], at: usize) -> usize
+    requires place { at + ELEMENT_OUTPUT ≤ length outputs.old }
+    requires most { length (output_in (reply_of answer output.now)) ≤ ELEMENT_OUTPUT }
+    ensures bytes { take result outputs.new ≡ take at outputs.old ++ output_in (reply_of answer output.now) }
     ensures most { result ≤ at + ELEMENT_OUTPUT }
 {
-    let (answer, output) = reply.parts();
     match answer {
         Answer::Served | Answer::More { .. } => {
+            let output = output.as_slice();
             let end = at + output.len();
             outputs[at..end].copy_from_slice(output);
             end

@@ -7,15 +7,14 @@ ghost use Rattle.hv_embed.specs.Taken.{IsAsBefore, IsStepped, IsTaken, is_short 
 ghost use Rattle.hv_embed.specs.Taken.{is_used_up as is_used_up_at, readiness};
 ghost use Rattle.hv_embed.specs.declared.status.TheConstants.{DONE, USED_UP, MEMORY};
 
-use crate::answer::{answer, answer_call, asked_of, is_short};
-use crate::effect::{parted, shown};
+use crate::answer::{answer, asked_of, call_entry, is_short, parted};
+use crate::effect::show;
 use crate::handle::{HvMachine, state_of};
 use crate::layout::{HvCaller, HvRegisters, HvReply};
 use crate::machine_state::{MachineState, refill};
 use crate::status::{DONE, MAX_EVENTS, MEMORY, SHORT, USED_UP};
 use hv_defs::MAX_SERVED;
-use hv_effects::{access as access_of, hypercall};
-use hv_history::{EntryRef, answer_of};
+use hv_history::EntryRef;
 use hv_machine::{Access, Caller, Machine};
 use std::alloc::Global;
 
@@ -42,15 +41,14 @@ pub(crate) fn take_access(
     }
     let by = caller_of(by);
     state.output.clear();
-    let became = access_of(&mut state.machine, by, access, &mut state.output);
+    let (told, effect) = parted(state.machine.access(by, access, &mut state.output));
     machine.events += 1;
-    let (became, effect) = parted(became);
-    reply.effect = effect;
+    show(effect, &mut reply.effect);
     let entry = EntryRef {
         by,
         asked: asked_of(access),
         input: &[],
-        answer: answer_of(became),
+        answer: told,
         output: state.output.as_slice(),
     };
     answer(&entry, machine.events, &mut state.scratch, reply, line);
@@ -82,13 +80,14 @@ pub(crate) fn step_call(
     let Ok(()) = refill(&mut state.frame, registers, input) else {
         return MEMORY;
     };
-    let Ok((told, effect)) = hypercall(&mut state.machine, by, &state.frame) else {
+    state.output.clear();
+    let Ok((told, effect)) = state.machine.hypercall(by, &state.frame, &mut state.output) else {
         return MEMORY;
     };
     *events += 1;
-    reply.effect = shown(effect);
-    let scratch = &mut state.scratch;
-    answer_call(by, &state.frame, &told, *events, scratch, reply, line);
+    show(effect, &mut reply.effect);
+    let entry = call_entry(by, &state.frame, told, &state.output);
+    answer(&entry, *events, &mut state.scratch, reply, line);
     DONE
 }
 

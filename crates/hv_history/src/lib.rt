@@ -15,7 +15,7 @@ mod run;
 
 pub use beside::members_are_answered_alike;
 pub use entry::{Entry, EntryRef, Request};
-pub use hv_machine::{Answer, answer_of};
+pub use hv_machine::Answer;
 pub use kept::{HostRefused, Kept};
 pub use row::History;
 pub use run::{RunDone, next_of};

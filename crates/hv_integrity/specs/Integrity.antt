@@ -35,7 +35,7 @@ abbrev pub reach_to : ResolvedPort → Option ℕ → Reach
 reach_to aim vp = option_map_or (λ vp. AndPlace (aimed_place aim vp)) vp CallerAndChildren
 
 abbrev pub reach_through : (ResolvedPort → Option ℕ) → Option ResolvedPort → Reach
-reach_through select_vp aim = option_map_or (λ aim. reach_to aim (select_vp aim)) aim CallerAndChildren
+reach_through taker aim = option_map_or (λ aim. reach_to aim (taker aim)) aim CallerAndChildren
 
 -- the reach of a call. A post and a signal send through a connection of the caller, to the processor that
 -- takes it in this state. A mask that is given to an Active partition narrows its subtree

@@ -7,6 +7,8 @@ use Rattle.hv_policy.specs.Effect.{narrowed_row}
 use Rattle.hv_policy.specs.Flat.{Flat, MailRow, PageRow, VpRow}
 use Rattle.hv_policy.specs.Mail.{Place, as_shown, mail_at}
 use Rattle.hv_policy.specs.Met.{is_kin}
+pub use Rattle.hv_policy.specs.Mail.{place}
+pub use Rattle.hv_policy.specs.Reading.{has_flag, has_vector}
 use Rattle.hv_policy.specs.declared.need.Kin.TheVariants.{CallerOrChild}
 use Rattle.hv_privs.specs.declared.Privileges.{Privileges}
 
@@ -18,10 +20,6 @@ is_relative f caller id = is_kin CallerOrChild f caller id
 abbrev pub held_by : ℕ → Option PageRow → Option PageRow
 held_by id None = None
 held_by id (Some row) = if row.owner == id then Some row else None
-
--- a SINT of a processor of a partition
-abbrev pub place : ℕ → ℕ → ℕ → Place
-place part vp sint = record { part = part; vp = vp; sint = sint }
 
 -- two states are equal in all that a partition has: its row, its pages, processors, ports and connections,
 -- and the messages at each of its SINTs
@@ -39,15 +37,6 @@ is_at place part vp = (part == place.part) && (vp == place.vp)
 
 abbrev pub is_place : Place → Place → Bool
 is_place place other = (other.part == place.part) && ((other.vp == place.vp) && (other.sint == place.sint))
-
--- whether an event flag is set at the processor with this row, and whether a vector is pending there
-abbrev pub has_flag : Option VpRow → ℕ → ℕ → Bool
-has_flag None sint flag = false
-has_flag (Some row) sint flag = set.contains row.flags (sint, flag)
-
-abbrev pub has_vector : Option VpRow → ℕ → Bool
-has_vector None vector = false
-has_vector (Some row) vector = set.contains row.pending vector
 
 -- two states are equal in all that a partition has, except what is at one place: its messages, its event
 -- flags and its processor's pending vectors

@@ -1,5 +1,6 @@
 -- What each reply of the flat machine tells of its event.
-use Rattle.std.proofs.Common.{◌≡◌, ℕ, zero, suc, ◌+◌, ◌<◌, ◌/◌, ◌^◌, ◌&&◌, Bool, true, false, cond, not, List, [], ◌∷◌, Option, Some, None, is_some, nat_le, refl, sym, ap, subst, ◌∙◌, arith}
+use Rattle.std.proofs.Common.{◌≡◌, ℕ, zero, suc, ◌+◌, ◌<◌, ◌≤◌, length, ◌/◌, ◌^◌, ◌&&◌, Bool, true, false, cond, not, List, [], ◌∷◌, Option}
+use Rattle.std.proofs.Common.{Some, None, is_some, nat_le, refl, sym, ap, subst, ◌∙◌, arith}
 use Rattle.std.proofs.Common.{leb-false, Contains}
 use Rattle.std.proofs.Math.Nat.{mod-lt}
 use Rattle.std.proofs.lemmas.Bool.{and_parts, or_parts}
@@ -10,9 +11,11 @@ use Rattle.hv_abi.specs.declared.frame.Frame.{Frame}
 use Rattle.hv_abi.specs.declared.status.Status.{Status}
 use Rattle.hv_calls.specs.Params.{parameters}
 use Rattle.hv_calls.specs.declared.call.Call.{Call}
-use Rattle.hv_calls.specs.declared.call.Call.TheVariants.{CreatePartition}
+use Rattle.hv_calls.specs.declared.call.Call.TheVariants.{CreatePartition, InitializePartition, FinalizePartition, DeletePartition, GetPartitionProperty, SetPartitionProperty, GetPartitionId}
+use Rattle.hv_calls.specs.declared.call.Call.TheVariants.{GetNextChildPartition, DepositMemory, WithdrawMemory, GetMemoryBalance, CreateVp, DeleteVp, GetVpRegisters, SetVpRegisters, CreatePort}
+use Rattle.hv_calls.specs.declared.call.Call.TheVariants.{DeletePort, ConnectPort, DisconnectPort, PostMessage, SignalEvent}
 use Rattle.hv_defs.specs.Bits.{bits}
-use Rattle.hv_policy.specs.Answer.{is_done}
+use Rattle.hv_policy.specs.Answer.{is_done, output, output_of}
 use Rattle.hv_policy.specs.Call.{call_event}
 use Rattle.hv_policy.specs.Flat.{Flat}
 use Rattle.hv_policy.specs.Needs.{charge_of, needs_of, target_of}
@@ -164,3 +167,32 @@ module _ {A : Type 0} (f : Flat) where
 
   pub goes_on : (e : Event A) → GoesOn e.what (step f e).1
   goes_on e = went_on e.by e.what (unmet f e)
+
+-- the output of a call has at most 16 bytes
+few_output : (call : Call) (f : Flat) (caller target : ℕ) → length (output call f caller target) ≤ 16
+few_output (CreatePartition flags) f caller target = omega arith
+few_output (InitializePartition partition) f caller target = omega arith
+few_output (FinalizePartition partition) f caller target = omega arith
+few_output (DeletePartition partition) f caller target = omega arith
+few_output (GetPartitionProperty partition code) f caller target = omega arith
+few_output (SetPartitionProperty partition code value) f caller target = omega arith
+few_output GetPartitionId f caller target = omega arith
+few_output (GetNextChildPartition partition previous) f caller target = omega arith
+few_output (DepositMemory partition page) f caller target = omega arith
+few_output (WithdrawMemory partition) f caller target = omega arith
+few_output (GetMemoryBalance partition) f caller target = omega arith
+few_output (CreateVp partition vp) f caller target = omega arith
+few_output (DeleteVp partition vp) f caller target = omega arith
+few_output (GetVpRegisters partition vp name) f caller target = omega arith
+few_output (SetVpRegisters partition vp name value) f caller target = omega arith
+few_output (CreatePort partition port peer kind sint vp base count) f caller target = omega arith
+few_output (DeletePort partition port) f caller target = omega arith
+few_output (ConnectPort partition connection home port kind) f caller target = omega arith
+few_output (DisconnectPort partition connection) f caller target = omega arith
+few_output (PostMessage connection type payload) f caller target = omega arith
+few_output (SignalEvent connection flag) f caller target = omega arith
+
+-- so has that of a call of a frame
+pub few_output_of : (f : Flat) (caller : ℕ) (call : Option Call) → length (output_of f caller call) ≤ 16
+few_output_of f caller None = omega arith
+few_output_of f caller (Some call) = few_output call f caller (target_of call caller)

@@ -4,14 +4,13 @@ use Rattle.std.specs.Int.{w64, to_le_bytes}
 use Rattle.hv_defs.specs.Flags.{flag_bytes}
 use Rattle.hv_defs.specs.Registers.{name_of_msr}
 use Rattle.hv_defs.specs.declared.sizes.TheConstants.{SINTS}
-use Rattle.hv_machine.proofs.Accessing.{served_access}
 use Rattle.hv_machine.specs.Access.{access_event}
 use Rattle.hv_policy.proofs.Unmet.{all_met}
 use Rattle.hv_policy.specs.Answer.{answer, flags_at, msr_of, register_of, vector_of}
 use Rattle.hv_policy.specs.Flat.{Flat, VpRow}
 use Rattle.hv_policy.specs.Mail.{place_at, slot_at}
 use Rattle.hv_policy.specs.Rules.{asks, unmet}
-use Rattle.hv_policy.specs.Step.{step}
+use Rattle.hv_policy.specs.Step.{step, step_by}
 use Rattle.hv_policy.specs.declared.event.Access.{Access}
 use Rattle.hv_policy.specs.declared.event.Access.TheVariants.{ReadFlags, ReadMsr, ReadSlot, TakeInterrupt}
 use Rattle.hv_policy.specs.declared.event.Caller.{Caller}
@@ -25,7 +24,7 @@ module _ (A : Type 0) (f : Flat) (of : Caller) where
   event access = access_event of access
 
   told : (access : Access) → unmet f (event access) ≡ None → (step f (event access)).1 ≡ answer f (event access)
-  told access met = ap (λ s. s.1) (served_access A f of access met)
+  told access met = ap (λ rule. (step_by f (event access) rule).1) met
 
   pub slot_served : (sint : ℕ) → ShowsServed f (event (ReadSlot sint)) (slot_seen f of sint)
   slot_served sint met = (let all = all_met (asks f (event (ReadSlot sint))) met in by (vp_at f of) (nat_lt sint SINTS) all.1.1.0 all.1.1.1.0)

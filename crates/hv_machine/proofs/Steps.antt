@@ -1,12 +1,18 @@
 -- From what became of an event to a step.
-use Rattle.std.proofs.Common.{◌≡◌, ℕ, ◌+◌, true, false, List, None, Some, refl, sym, ap, subst, ◌∙◌, Result, Ok, Err}
+use Rattle.std.proofs.Common.{◌≡◌, ℕ, ◌+◌, true, false, List, ◌++◌, None, Some, refl, sym, ap, subst, ◌∙◌, option_map, Result, Ok, Err}
 use Rattle.std.specs.Option.{option_map_or}
 use Rattle.hv_abi.specs.Check.{call_of}
 use Rattle.hv_abi.specs.declared.frame.Frame.{Frame}
 use Rattle.hv_abi.specs.declared.frame.Shape.{Shape}
 use Rattle.hv_calls.specs.Call.{kind_of_call}
+use Rattle.hv_calls.specs.Params.{parameters}
 use Rattle.hv_calls.specs.declared.call.Call.{Call}
 use Rattle.hv_calls.specs.declared.call.Call.TheVariants.{CreatePartition, SetVpRegisters, PostMessage, SignalEvent}
+use Rattle.hv_effect.proofs.Others.{untold}
+use Rattle.hv_effect.proofs.Seen.{once_counted}
+use Rattle.hv_effect.specs.Effect.{Tells}
+use Rattle.hv_effect.specs.declared.effect.Effect.{Effect}
+use Rattle.hv_effect.specs.declared.effect.Effect.TheVariants as variant
 use Rattle.hv_integrity.proofs.Apart.{both}
 use Rattle.hv_integrity.proofs.Carried.{nothing_carried, step_carried}
 use Rattle.hv_integrity.proofs.Missing.{misses}
@@ -15,7 +21,7 @@ use Rattle.hv_invariants.proofs.Ended.{posted_counted, register_counted, signall
 use Rattle.hv_invariants.proofs.Laws.{lawful_effect}
 use Rattle.hv_invariants.proofs.Replies.{has_result, names_asked}
 use Rattle.hv_partition.specs.Partition.{PartitionState}
-use Rattle.hv_policy.proofs.Unmet.{all_met, caller_active, unmet_by_target, unmet_past_target}
+use Rattle.hv_policy.proofs.Unmet.{first_of_ends}
 use Rattle.hv_policy.specs.Aim.{aim_of}
 use Rattle.hv_policy.specs.Answer.{answer, output_of, reply_with}
 use Rattle.hv_policy.specs.Call.{IsCall, call_event, may_take_memory}
@@ -23,7 +29,7 @@ use Rattle.hv_policy.specs.Effect.{action_effect, call_effect, effect, served_ef
 use Rattle.hv_policy.specs.Flat.{Flat}
 use Rattle.hv_policy.specs.Needs.{takes_memory, target_of}
 use Rattle.hv_policy.specs.Result.{HasResult}
-use Rattle.hv_policy.specs.Rules.{caller_asks, first_unmet, frame_asks, target_asks, unmet}
+use Rattle.hv_policy.specs.Rules.{Ask, caller_asks, first_unmet, frame_asks, further_asks, hypercall_asks, target_asks, unmet}
 use Rattle.hv_policy.specs.Step.{NamesAsked, refusal, step, step_by}
 use Rattle.hv_policy.specs.declared.event.Action.TheVariants.{Hypercall}
 use Rattle.hv_policy.specs.declared.event.Caller.{Caller}
@@ -31,8 +37,9 @@ use Rattle.hv_policy.specs.declared.event.Event.{Event}
 use Rattle.hv_policy.specs.declared.reply.Reply.{Reply}
 use Rattle.hv_policy.specs.declared.rule.Rule.{Rule}
 use Rattle.hv_refine.proofs.Room.{roomless_tied, same_roomless, tied_roomless}
+use Rattle.hv_refine.specs.Done.{IsCalled, unmet_in_tree}
 use Rattle.hv_refine.specs.Room.{IsSameButRoom, roomless}
-use Rattle.hv_refine.specs.Served.{IsAdmitted, IsOutcome, unmet_further}
+use Rattle.hv_refine.specs.Served.{TreeInvariant}
 use Rattle.hv_refine.specs.Tie.{Refines}
 use Rattle.hv_refine.specs.declared.refused.CallError.{CallError}
 use Rattle.hv_refine.specs.declared.refused.CallError.TheVariants as refused
@@ -78,6 +85,13 @@ answered {A} event old was reply new now pages is =
 -- a machine of this tree
 abbrev pub state_of : Rows PartitionState → ℕ → ℕ → ℕ → State
 state_of tree pages next served = record { rows = roomless tree; pages = pages; next = next; served = served }
+
+-- and the invariant of its tree
+pub invariant : (tree : Rows PartitionState) (pages next served : ℕ) (was : MachineInvariant (state_of tree pages next served)) → (t : TreeInvariant tree) × (t.flat.next ≡ next)
+invariant tree pages next served was = (
+  record { pages = pages; bounded = was.bounded; flat = was.flat; tied = tied_roomless tree was.flat was.stands.tied; lawful = was.lawful },
+  was.stands.next,
+)
 
 module _ {A : Type 0} (event : Event A) (tree new : Rows PartitionState) (pages next served : ℕ) (was : MachineInvariant (state_of tree pages next served)) where
   abbrev old : State
@@ -148,62 +162,75 @@ next_is (PostMessage connection message_type payload) f caller target = (posted_
 next_is (SignalEvent connection flag) f caller target = (signalled_counted (aim_of f (target, connection)) flag f).next
 next_is call f caller target = refl
 
--- a call for which P1 to P7 hold
-module _ {A : Type 0} (by : Caller) (frame : Frame A) (tree : Rows PartitionState) (shape : Shape) (call : Call) (is : IsCall frame shape call)
-    (caller_met : (f : Flat) → Refines tree f → first_unmet (caller_asks f by) ≡ None) (frame_met : first_unmet (frame_asks shape.kind frame) ≡ None) where
+-- an effect of an event, of the flat step that it makes
+pub step_told : {A : Type 0} (event : Event A) (e : Effect) (f : Flat) → unmet f event ≡ None → Tells e f (action_effect f event.by event.what) → Tells e f (step f event).0
+step_told event e f met told = subst (λ rule. Tells e f (step_by f event rule).0) (sym met) (once_counted e f (action_effect f event.by event.what) told)
+
+pub nothing_told : {A : Type 0} (event : Event A) (f : Flat) (rule : Rule) → unmet f event ≡ Some rule → Tells variant.Nothing f (step f event).0
+nothing_told event f rule broken = subst (λ rule. Tells variant.Nothing f (step_by f event rule).0) (sym broken) (untold f f refl refl refl)
+
+-- a frame for which P4 to P7 don't hold
+pub frame_unmet : {A : Type 0} (by : Caller) (frame : Frame A) (tree : Rows PartitionState) (rule first : Rule)
+    → ((f : Flat) (caller : ℕ) → first_unmet (hypercall_asks f caller frame (call_of frame)) ≡ Some rule)
+    → ((f : Flat) (asks : List Ask) → Refines tree f → first_unmet asks ≡ Some rule → first_unmet (caller_asks f by ++ asks) ≡ Some first)
+    → (f : Flat) → Refines tree f → unmet f (call_event by frame) ≡ Some first
+frame_unmet by frame tree rule first broken found f tied = found f (hypercall_asks f by.part frame (call_of frame)) tied (broken f by.part)
+
+-- a call of a frame for which P4 to P7 hold
+module _ {A : Type 0} (by : Caller) (frame : Frame A) (shape : Shape) (call : Call) (is : IsCall frame shape call) (frame_met : first_unmet (frame_asks shape.kind frame) ≡ None) where
   named : call_of frame ≡ Some (kind_of_call call)
   named = is.named ∙ ap Some (sym is.kind)
 
   kind_met : first_unmet (frame_asks (kind_of_call call) frame) ≡ None
   kind_met = subst (λ kind. first_unmet (frame_asks kind frame) ≡ None) (sym is.kind) frame_met
 
-  -- one of P8 to P10 refuses it
-  pub target_unmet : (rule : Rule) (f : Flat) → Refines tree f → Some rule ≡ first_unmet (target_asks f by.part call) → unmet f (call_event by frame) ≡ Some rule
-  target_unmet rule f tied first = unmet_by_target f by frame (caller_met f tied) call named is.called kind_met rule (sym first)
+  unmet_is : (f : Flat) → unmet f (call_event by frame) ≡ unmet_in_tree f by call
+  unfolding unmet_in_tree
+  unmet_is f =
+      let made : Some (parameters (kind_of_call call) frame) ≡ Some call = sym (ap (option_map (λ kind. parameters kind frame)) named) ∙ is.called in
+      let held : parameters (kind_of_call call) frame ≡ call = cc in
+      ap (λ kind. first_unmet (caller_asks f by ++ hypercall_asks f by.part frame kind)) named
+      ∙ first_of_ends (caller_asks f by) (frame_asks (kind_of_call call) frame)
+      (target_asks f by.part (parameters (kind_of_call call) frame) ++ further_asks f by.part (parameters (kind_of_call call) frame)) kind_met
+      ∙ ap (λ call. first_unmet (caller_asks f by ++ (target_asks f by.part call ++ further_asks f by.part call))) held
 
-  -- or they hold, too
-  module _ (new : Rows PartitionState) (pages next served : ℕ) (was : MachineInvariant (state_of tree pages next served))
-      (target_met : (f : Flat) → Refines tree f → None ≡ first_unmet (target_asks f by.part call)) where
-    past : (f : Flat) → Refines tree f → unmet f (call_event by frame) ≡ unmet_further f by.part call
-    past f tied = unmet_past_target f by frame (caller_met f tied) call named is.called kind_met (sym (target_met f tied))
-
-    pub admitted : (a : IsAdmitted tree by.part call) × (a.rows.flat.next ≡ next)
-    admitted =
-        let tied = tied_roomless tree was.flat was.stands.tied in (
-          record {
-            rows = record { pages = pages; bounded = was.bounded; flat = was.flat; tied = tied; lawful = was.lawful };
-            active = caller_active was.flat by frame (caller_met was.flat tied);
-            target = all_met (target_asks was.flat by.part call) (sym (target_met was.flat tied));
-          },
-          was.stands.next,
-        )
-
+  module _ (tree new : Rows PartitionState) (pages next served : ℕ) (was : MachineInvariant (state_of tree pages next served)) where
     -- what its call group made of it
-    module _ (became : Result (List ℕ) CallError) (out : (f : Flat) → Refines tree f → f.next ≡ next → f.served ≡ served → IsOutcome f by.part call tree became new) where
-      at : (other : Result (List ℕ) CallError) → became ≡ other → (f : Flat) → IsFlat (state_of tree pages next served) f → IsOutcome f by.part call tree other new
-      at other same f flat = subst (λ became. IsOutcome f by.part call tree became new) same (out f (tied_roomless tree f flat.tied) flat.next flat.served)
+    module _ (became : Result (List ℕ × Effect) CallError) (out : (f : Flat) → Refines tree f → f.next ≡ next → f.served ≡ served → IsCalled f by call tree became new) where
+      at : (other : Result (List ℕ × Effect) CallError) → became ≡ other → (f : Flat) → IsFlat (state_of tree pages next served) f → IsCalled f by call tree other new
+      at other same f flat = subst (λ became. IsCalled f by call tree became new) same (out f (tied_roomless tree f flat.tied) flat.next flat.served)
 
-      pub served_call : (reply : Reply) (bytes : List ℕ) → became ≡ Ok bytes → reply ≡ reply_with frame bytes
-          → IsStep (call_event by frame) (state_of tree pages next served) (Ok reply) (state_of new pages (next_after call next) (served + 1))
-      served_call reply bytes same told =
-          served_step (call_event by frame) tree new pages next served was reply (next_after call next)
-          (λ f flat.
-          let done = at (Ok bytes) same f flat in
-          record {
-            met = past f (tied_roomless tree f flat.tied) ∙ done.met;
-            told = told ∙ ap (reply_with frame) (done.output ∙ ap (output_of f by.part) (sym is.called));
-            rows = subst (λ call. Refines new (served_effect f by.part call)) (sym is.called) done.rows;
-            follows = ap (λ call. (served_effect f by.part call).next) is.called ∙ next_is call f by.part (target_of call by.part) ∙ ap (next_after call) flat.next;
-          })
+      module _ (bytes : List ℕ) (e : Effect) (same : became ≡ Ok (bytes, e)) where
+        pub served_call : (reply : Reply) → reply ≡ reply_with frame bytes
+            → IsStep (call_event by frame) (state_of tree pages next served) (Ok reply) (state_of new pages (next_after call next) (served + 1))
+        served_call reply told =
+            served_step (call_event by frame) tree new pages next served was reply (next_after call next)
+            (λ f flat.
+            let done = at (Ok (bytes, e)) same f flat in
+            record {
+              met = unmet_is f ∙ done.0;
+              told = told ∙ ap (reply_with frame) (done.1.output ∙ ap (output_of f by.part) (sym is.called));
+              rows = subst (λ call. Refines new (served_effect f by.part call)) (sym is.called) done.1.rows;
+              follows = ap (λ call. (served_effect f by.part call).next) is.called ∙ next_is call f by.part (target_of call by.part) ∙ ap (next_after call) flat.next;
+            })
 
-      pub denied_call : (rule : Rule) (reply : Reply) → became ≡ Err (refused.Unmet rule) → reply ≡ refusal (Hypercall frame) rule
-          → IsStep (call_event by frame) (state_of tree pages next served) (Ok reply) (state_of new pages next served)
-      denied_call rule reply same told =
-          denied (call_event by frame) tree new pages next served was rule reply
-          (λ f flat. let why = at (Err (refused.Unmet rule)) same f flat in (past f (tied_roomless tree f flat.tied) ∙ why.0, why.1)) told
+        pub call_told : (f : Flat) → IsFlat (state_of tree pages next served) f → Tells e f (step f (call_event by frame)).0
+        call_told f flat =
+            let done = at (Ok (bytes, e)) same f flat in
+            step_told (call_event by frame) e f (unmet_is f ∙ done.0) (subst (λ call. Tells e f (served_effect f by.part call)) (sym is.called) done.1.told)
+
+      module _ (rule : Rule) (same : became ≡ Err (refused.Unmet rule)) where
+        pub denied_call : (reply : Reply) → reply ≡ refusal (Hypercall frame) rule
+            → IsStep (call_event by frame) (state_of tree pages next served) (Ok reply) (state_of new pages next served)
+        denied_call reply told =
+            denied (call_event by frame) tree new pages next served was rule reply
+            (λ f flat. let why = at (Err (refused.Unmet rule)) same f flat in (unmet_is f ∙ why.0, why.1)) told
+
+        pub denied_told : (f : Flat) → IsFlat (state_of tree pages next served) f → Tells variant.Nothing f (step f (call_event by frame)).0
+        denied_told f flat = nothing_told (call_event by frame) f rule (unmet_is f ∙ (at (Err (refused.Unmet rule)) same f flat).0)
 
       pub unserved_call : became ≡ Err refused.Memory → IsStep (call_event by frame) (state_of tree pages next served) (Err Memory) (state_of new pages next served)
       unserved_call same =
           let why = at (Err refused.Memory) same was.flat was.stands in
-          unserved (call_event by frame) tree new pages next served was (λ f flat. past f (tied_roomless tree f flat.tied) ∙ (at (Err refused.Memory) same f flat).met)
-          (ap (λ kind. option_map_or takes_memory kind false) is.named ∙ ap takes_memory (sym is.kind) ∙ why.memory) why.rows
+          unserved (call_event by frame) tree new pages next served was (λ f flat. unmet_is f ∙ (at (Err refused.Memory) same f flat).0)
+          (ap (λ kind. option_map_or takes_memory kind false) is.named ∙ ap takes_memory (sym is.kind) ∙ why.1.memory) why.1.rows

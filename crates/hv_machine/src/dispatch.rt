@@ -5,11 +5,13 @@ ghost use Rattle.hv_defs.specs.declared.sizes.TheConstants.{MAX_SERVED};
 ghost use Rattle.hv_policy.specs.Call.{action_of};
 ghost use Rattle.hv_policy.specs.Flat.{Flat};
 ghost use Rattle.hv_refine.specs.Access.{IsAnswered};
-ghost use Rattle.hv_refine.specs.Served.{IsAdmitted, IsOutcome};
+ghost use Rattle.hv_refine.specs.Done.{IsCalled};
+ghost use Rattle.hv_refine.specs.Served.{TreeInvariant};
 ghost use Rattle.hv_refine.specs.Tie.{Refines};
 ghost use Rattle.hv_machine.specs.Next.{next_after as next_id_after};
 
 use hv_calls::Call;
+use hv_effect::Effect;
 use hv_messages::{
     clear_flag, clear_slot, post_message, read_flags, read_slot, signal_event, take_interrupt,
 };
@@ -17,7 +19,7 @@ use hv_partition_calls::{
     create_partition, delete_partition, finalize_partition, get_next_child_partition,
     get_partition_id, initialize_partition,
 };
-use hv_policy::{Access, CallOutput, Caller, Output, Rule};
+use hv_policy::{Access, Caller, Output, Rule};
 use hv_pools::{deposit_memory, get_memory_balance, withdraw_memory};
 use hv_port_calls::{NewPort, connect_port, create_port, delete_port, disconnect_port};
 use hv_processors::{
@@ -27,62 +29,66 @@ use hv_properties::{get_partition_property, set_partition_property};
 use hv_refine::{CallError, Partitions};
 use std::alloc::Allocator;
 
-// Dispatches a call for which P1 to P10 hold to its call group. `next` is the id that the next partition
-// gets, and `served` is the count of served events.
+// Dispatches a call for which P4 to P7 hold to its call group, which checks all other rules. The call appends
+// its output to `output`, which must be empty. `next` is the id that the next partition gets, and `served` is
+// the count of served events.
 // Inlined: calls for the own id in bench/embed.sh.
 #[inline(always)]
 pub fn dispatch<A: Allocator + Clone>(
     tree: &mut Partitions<A>,
     alloc: &A,
-    caller: u64,
+    by: Caller,
     next: u64,
     served: u64,
     call: &Call<'_>,
-) -> Result<CallOutput, CallError>
-    requires admitted { (a : IsAdmitted tree.old caller call.now) × (a.rows.flat.next ≡ next) }
+    output: &mut Output,
+) -> Result<Effect, CallError>
+    requires rows { (t : TreeInvariant tree.old) × (t.flat.next ≡ next) }
     requires count { served < MAX_SERVED }
+    requires empty { output.old ≡ [] }
     ensures { (f : Flat) → Refines tree.old f → f.next ≡ next → f.served ≡ served
-        → IsOutcome f caller call.now tree.old result tree.new }
+        → IsCalled f by call.now tree.old
+        (result_map_both (λ effect. (output.new, effect)) (λ why. why) result) tree.new }
 {
     match *call {
-        Call::CreatePartition { flags } => create_partition(tree, alloc, caller, next, flags),
-        Call::InitializePartition { partition } => initialize_partition(tree, caller, partition),
-        Call::FinalizePartition { partition } => finalize_partition(tree, caller, partition),
-        Call::DeletePartition { partition } => delete_partition(tree, caller, partition),
+        Call::CreatePartition { flags } => create_partition(tree, alloc, by, next, flags, output),
+        Call::InitializePartition { partition } => initialize_partition(tree, by, partition),
+        Call::FinalizePartition { partition } => finalize_partition(tree, by, partition),
+        Call::DeletePartition { partition } => delete_partition(tree, by, partition),
         Call::GetPartitionProperty { partition, code } => get_partition_property(
-            tree, caller, partition, code,
+            tree, by, partition, code, output,
         ),
         Call::SetPartitionProperty {
             partition,
             code,
             value,
-        } => set_partition_property(tree, caller, partition, code, value),
-        Call::GetPartitionId => get_partition_id(tree, caller),
+        } => set_partition_property(tree, by, partition, code, value),
+        Call::GetPartitionId => get_partition_id(tree, by, output),
         Call::GetNextChildPartition {
             partition,
             previous,
-        } => get_next_child_partition(tree, caller, partition, previous),
-        Call::DepositMemory { partition, page } => deposit_memory(tree, caller, partition, page),
-        Call::WithdrawMemory { partition } => withdraw_memory(tree, caller, partition),
-        Call::GetMemoryBalance { partition } => get_memory_balance(tree, caller, partition),
-        Call::CreateVp { partition, vp } => create_vp(tree, alloc, caller, partition, vp),
-        Call::DeleteVp { partition, vp } => delete_vp(tree, caller, partition, vp),
+        } => get_next_child_partition(tree, by, partition, previous, output),
+        Call::DepositMemory { partition, page } => deposit_memory(tree, by, partition, page),
+        Call::WithdrawMemory { partition } => withdraw_memory(tree, by, partition, output),
+        Call::GetMemoryBalance { partition } => get_memory_balance(tree, by, partition, output),
+        Call::CreateVp { partition, vp } => create_vp(tree, alloc, by, partition, vp),
+        Call::DeleteVp { partition, vp } => delete_vp(tree, by, partition, vp),
         Call::GetVpRegisters {
             partition,
             vp,
             name,
-        } => get_vp_registers(tree, caller, partition, vp, name),
+        } => get_vp_registers(tree, by, partition, vp, name, output),
         Call::SetVpRegisters {
             partition,
             vp,
             name,
             value,
-        } => set_vp_registers(tree, caller, partition, vp, name, value),
-        Call::DeletePort { partition, port } => delete_port(tree, caller, partition, port),
+        } => set_vp_registers(tree, by, partition, vp, name, value),
+        Call::DeletePort { partition, port } => delete_port(tree, by, partition, port),
         Call::DisconnectPort {
             partition,
             connection,
-        } => disconnect_port(tree, caller, partition, connection),
+        } => disconnect_port(tree, by, partition, connection),
         Call::CreatePort {
             partition,
             port,
@@ -102,7 +108,7 @@ pub fn dispatch<A: Allocator + Clone>(
                 base,
                 count,
             };
-            create_port(tree, caller, served, partition, new)
+            create_port(tree, by, served, partition, new)
         }
         Call::ConnectPort {
             partition,
@@ -110,21 +116,13 @@ pub fn dispatch<A: Allocator + Clone>(
             port_partition,
             port,
             kind,
-        } => connect_port(
-            tree,
-            caller,
-            partition,
-            connection,
-            port_partition,
-            port,
-            kind,
-        ),
+        } => connect_port(tree, by, partition, connection, port_partition, port, kind),
         Call::PostMessage {
             connection,
             message_type,
             ref payload,
-        } => post_message(tree, caller, connection, message_type, payload),
-        Call::SignalEvent { connection, flag } => signal_event(tree, caller, connection, flag),
+        } => post_message(tree, by, call, connection, message_type, payload),
+        Call::SignalEvent { connection, flag } => signal_event(tree, by, connection, flag),
     }
 }
 
@@ -135,10 +133,10 @@ pub fn dispatch_access<A: Allocator>(
     by: Caller,
     access: Access,
     output: &mut Output,
-) -> Result<(), Rule>
+) -> Result<Effect, Rule>
     requires { output.old ≡ [] }
     ensures { (f : Flat) → Refines tree.old f → IsAnswered {A = A} f by (action_of access) tree.old
-        (result_map_both (λ _. output.new) (λ rule. rule) result) tree.new }
+        (result_map_both (λ effect. (output.new, effect)) (λ rule. rule) result) tree.new }
 {
     match access {
         Access::ReadMsr(msr) => read_msr(tree, by, msr, output),

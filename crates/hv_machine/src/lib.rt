@@ -2,8 +2,9 @@
 //!
 //! The partitions form a tree. Each has its pages, its ports, its connections, and its processors with
 //! their registers, messages, event flags and pending vectors. [`Machine::boot`] makes the root partition,
-//! and [`Machine::step`] takes one event. A call must meet P1 to P10 and an access P1 to P3; its call group
-//! checks the remaining rules, and serves it exactly when all of them hold.
+//! and [`Machine::step`] takes one event. The machine checks P4 to P7, which look at a call's frame alone.
+//! The call group checks all other rules of a call or an access, serves it exactly when all of them hold, and
+//! returns its effect.
 //!
 //! `IsFlat` in `specs/` relates a machine to the flat states that it stands for. The contract of `step`
 //! ensures that its reply and its new state are those of the flat step. Every machine stands for a lawful
@@ -19,7 +20,6 @@ mod dispatch;
 mod machine;
 
 pub use hv_policy::{
-    Access, Action, Answer, BootRefused, CallReply, Caller, Config, Event, Output, Reply, Rule,
-    result_of,
+    Access, Action, Answer, BootRefused, Caller, Config, Event, Output, Reply, Rule, result_of,
 };
-pub use machine::{HostRefused, Machine, answer_of};
+pub use machine::{HostRefused, Machine};

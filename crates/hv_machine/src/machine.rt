@@ -1,35 +1,34 @@
 // The machine and its one step.
-ghost use Rattle.std.specs.Prelude.{◌≡◌, ◌<◌, [], ℕ, List, None, Some, IsTrue, IfOk, IfErr, OnOk, OnErr};
+ghost use Rattle.std.specs.Prelude.{◌≡◌, ◌<◌, [], None, Ok, IsTrue, IfOk, OnOk, OnErr};
 ghost use Rattle.std.specs.Result.{result_map_both};
-ghost use Rattle.hv_abi.specs.Check.{IsShape, call_of};
+ghost use Rattle.hv_abi.specs.Check.{call_of};
 ghost use Rattle.hv_abi.specs.declared.frame.Frame.{Frame as CallFrame};
 ghost use Rattle.hv_integrity.specs.Integrity.{Integrity};
-ghost use Rattle.hv_policy.specs.Call.{IsCall, call_event, may_take_memory};
+ghost use Rattle.hv_effect.specs.Effect.{Tells};
+ghost use Rattle.hv_policy.specs.Call.{call_event, may_take_memory};
 ghost use Rattle.hv_policy.specs.Flat.{Flat};
 ghost use Rattle.hv_integrity.specs.Misses.{LeavesOthers};
-ghost use Rattle.hv_policy.specs.Parts.{next_in, reply_of};
+ghost use Rattle.hv_policy.specs.Parts.{reply_of};
 ghost use Rattle.hv_policy.specs.Result.{HasResult};
 ghost use Rattle.hv_policy.specs.Step.{NamesAsked, step};
-ghost use Rattle.hv_policy.specs.Rules.{caller_asks, first_unmet, frame_asks, target_asks, unmet};
+ghost use Rattle.hv_policy.specs.Rules.{unmet};
 ghost use Rattle.hv_policy.specs.declared.event.Action.TheVariants.{Hypercall};
 ghost use Rattle.hv_refine.specs.Room.{roomless};
-ghost use Rattle.hv_refine.specs.Tie.{Refines};
-ghost use Rattle.hv_machine.specs.Access.{access_event, access_reply};
+ghost use Rattle.hv_machine.specs.Access.{access_event, access_reply, effect_in};
 ghost use Rattle.hv_machine.specs.IsFlat.{IsFlat};
 ghost use Rattle.hv_machine.specs.MachineInvariant.{MachineInvariant};
 ghost use Rattle.hv_machine.specs.Sound.{IsSound};
 ghost use Rattle.hv_machine.specs.Step.{IsStep};
-ghost use Rattle.hv_defs.specs.declared.sizes.TheConstants.{MAX_SERVED, REPS_END};
+ghost use Rattle.hv_defs.specs.declared.sizes.TheConstants.{MAX_SERVED};
 
 use crate::dispatch::{dispatch, dispatch_access, next_after};
-use hv_abi::{CallKind, Frame, InputValue, Shape};
-use hv_calls::Call;
+use hv_abi::{CallKind, Frame, InputValue};
 use hv_defs::MAX_SERVED;
+use hv_effect::Effect;
 use hv_policy::{
-    Access, Answer, CallReply, Caller, Event, Output, Reply, Rule, ask_frame, refused_reply,
-    served_reply,
+    Access, Answer, Caller, Event, Output, Reply, Rule, ask_frame, refused_answer, served_answer,
 };
-use hv_refine::{CallError, Partitions, caller_in, unmet_by_target};
+use hv_refine::{CallError, Partitions, first_rule};
 use std::alloc::Allocator;
 use std::marker::Model;
 
@@ -135,22 +134,33 @@ impl<A: Allocator + Clone> Machine<A> {
             (result_map_both (λ answer. reply_of answer output.new) (λ why. why) result) self.new }
     {
         match event.what.as_access() {
-            Ok(access) => Ok(answer_of(self.access(event.by, access, output))),
-            Err(frame) => {
-                let reply = self.hypercall(event.by, frame)?;
-                let (answer, bytes) = reply.parts();
-                output.extend_from_slice(bytes);
-                Ok(answer)
-            }
+            Ok(access) => match self.access(event.by, access, output) {
+                Ok(_) => Ok(Answer::Served),
+                Err(rule) => Ok(Answer::Fault { rule }),
+            },
+            Err(frame) => match self.hypercall(event.by, frame, output) {
+                Ok((answer, _)) => Ok(answer),
+                Err(why) => Err(why),
+            },
         }
     }
 
-    /// Takes one hypercall of a processor, with the promises of [`Machine::step`] for that event.
+    /// Takes one hypercall of a processor, with the promises of [`Machine::step`] for that event, and returns
+    /// the answer and the effect.
     ///
-    /// A [`CallReply`] has no room for the output of an access.
-    pub fn hypercall(&mut self, by: Caller, frame: &Frame<A>) -> Result<CallReply, HostRefused>
-        requires { self.old.served < MAX_SERVED }
-        ensures { IsStep (call_event by frame.now) self.old result self.new }
+    /// The event appends its output to `output`, which must be empty.
+    pub fn hypercall(
+        &mut self,
+        by: Caller,
+        frame: &Frame<A>,
+        output: &mut Output,
+    ) -> Result<(Answer, Effect), HostRefused>
+        requires count { self.old.served < MAX_SERVED }
+        requires empty { output.old ≡ [] }
+        ensures step { IsStep (call_event by frame.now) self.old
+            (result_map_both (λ done. reply_of done.0 output.new) (λ why. why) result) self.new }
+        ensures effect { (f : Flat) → IsFlat self.old f
+            → IfOk result (λ done. Tells done.1 f (step f (call_event by frame.now)).0) }
     {
         // Each frequent call has an arm with a constant call kind, so the compiler can specialize `take` for
         // it. All other calls share the last arm.
@@ -159,30 +169,69 @@ impl<A: Allocator + Clone> Machine<A> {
                 by,
                 frame,
                 Some(CallKind::GetPartitionProperty),
+                output,
             ),
             Some(CallKind::SetPartitionProperty) => self.take(
                 by,
                 frame,
                 Some(CallKind::SetPartitionProperty),
+                output,
             ),
-            Some(CallKind::GetPartitionId) => self.take(by, frame, Some(CallKind::GetPartitionId)),
+            Some(CallKind::GetPartitionId) => self.take(
+                by,
+                frame,
+                Some(CallKind::GetPartitionId),
+                output,
+            ),
             Some(CallKind::GetNextChildPartition) => self.take(
                 by,
                 frame,
                 Some(CallKind::GetNextChildPartition),
+                output,
             ),
-            Some(CallKind::DepositMemory) => self.take(by, frame, Some(CallKind::DepositMemory)),
-            Some(CallKind::WithdrawMemory) => self.take(by, frame, Some(CallKind::WithdrawMemory)),
+            Some(CallKind::DepositMemory) => self.take(
+                by,
+                frame,
+                Some(CallKind::DepositMemory),
+                output,
+            ),
+            Some(CallKind::WithdrawMemory) => self.take(
+                by,
+                frame,
+                Some(CallKind::WithdrawMemory),
+                output,
+            ),
             Some(CallKind::GetMemoryBalance) => self.take(
                 by,
                 frame,
                 Some(CallKind::GetMemoryBalance),
+                output,
             ),
-            Some(CallKind::GetVpRegisters) => self.take(by, frame, Some(CallKind::GetVpRegisters)),
-            Some(CallKind::SetVpRegisters) => self.take(by, frame, Some(CallKind::SetVpRegisters)),
-            Some(CallKind::PostMessage) => self.take(by, frame, Some(CallKind::PostMessage)),
-            Some(CallKind::SignalEvent) => self.take(by, frame, Some(CallKind::SignalEvent)),
-            named => self.take(by, frame, named),
+            Some(CallKind::GetVpRegisters) => self.take(
+                by,
+                frame,
+                Some(CallKind::GetVpRegisters),
+                output,
+            ),
+            Some(CallKind::SetVpRegisters) => self.take(
+                by,
+                frame,
+                Some(CallKind::SetVpRegisters),
+                output,
+            ),
+            Some(CallKind::PostMessage) => self.take(
+                by,
+                frame,
+                Some(CallKind::PostMessage),
+                output,
+            ),
+            Some(CallKind::SignalEvent) => self.take(
+                by,
+                frame,
+                Some(CallKind::SignalEvent),
+                output,
+            ),
+            named => self.take(by, frame, named, output),
         }
     }
 
@@ -194,46 +243,64 @@ impl<A: Allocator + Clone> Machine<A> {
         by: Caller,
         frame: &Frame<A>,
         named: Option<CallKind>,
-    ) -> Result<CallReply, HostRefused>
+        output: &mut Output,
+    ) -> Result<(Answer, Effect), HostRefused>
         requires count { self.old.served < MAX_SERVED }
         requires named { call_of frame.now ≡ named }
-        ensures { IsStep (call_event by frame.now) self.old result self.new }
+        requires empty { output.old ≡ [] }
+        ensures step { IsStep (call_event by frame.now) self.old
+            (result_map_both (λ done. reply_of done.0 output.new) (λ why. why) result) self.new }
+        ensures effect { (f : Flat) → IsFlat self.old f
+            → IfOk result (λ done. Tells done.1 f (step f (call_event by frame.now)).0) }
     {
-        let (shape, call) = match admit(&self.tree, by, frame, named) {
-            Ok(admitted) => admitted,
-            Err(rule) => return Ok(refused_reply(frame, rule)),
+        // P4 to P7 look at the frame alone. They are checked first, and reported behind P1 to P3.
+        let (shape, call) = match ask_frame(frame, named) {
+            Ok(asked) => asked,
+            Err(rule) => {
+                let first = first_rule(&self.tree, by, rule);
+                return Ok((refused_answer(frame, first), Effect::Nothing));
+            }
         };
         match dispatch(
             &mut self.tree,
             &self.alloc,
-            by.part,
+            by,
             self.next,
             self.served,
             &call,
+            output,
         ) {
-            Ok(output) => {
+            Ok(effect) => {
                 self.next = next_after(&call, self.next);
                 self.served += 1;
-                Ok(served_reply(frame, shape, output))
+                Ok((served_answer(frame, shape), effect))
             }
-            Err(CallError::Unmet(rule)) => Ok(refused_reply(frame, rule)),
+            Err(CallError::Unmet(rule)) => Ok((refused_answer(frame, rule), Effect::Nothing)),
             Err(CallError::Memory) => Err(HostRefused::Memory),
         }
     }
 
-    /// Takes one access of a processor, with the promises of [`Machine::step`] for that event.
+    /// Takes one access of a processor, with the promises of [`Machine::step`] for that event, and returns
+    /// its effect.
     ///
     /// The access appends its result to `output`, which must be empty. The host never refuses an access.
-    pub fn access(&mut self, by: Caller, access: Access, output: &mut Output) -> Result<(), Rule>
+    pub fn access(
+        &mut self,
+        by: Caller,
+        access: Access,
+        output: &mut Output,
+    ) -> Result<Effect, Rule>
         requires count { self.old.served < MAX_SERVED }
         requires empty { output.old ≡ [] }
-        ensures { IsStep {A = A} (access_event by access) self.old
+        ensures step { IsStep {A = A} (access_event by access) self.old
             (Ok (access_reply result output.new)) self.new }
+        ensures effect { (f : Flat) → IsFlat self.old f
+            → Tells (effect_in result) f (step {A = A} f (access_event by access)).0 }
     {
         match dispatch_access(&mut self.tree, by, access, output) {
-            Ok(()) => {
+            Ok(effect) => {
                 self.served += 1;
-                Ok(())
+                Ok(effect)
             }
             Err(rule) => Err(rule),
         }
@@ -264,50 +331,4 @@ impl<A: Allocator> Machine<A> {
     {
         &self.tree
     }
-}
-
-/// Returns the answer to an access with this outcome.
-pub fn answer_of(became: Result<(), Rule>) -> Answer
-    ensures reply { (output : List ℕ) → reply_of result output ≡ access_reply became output }
-    ensures index { next_in (reply_of result []) < REPS_END }
-{
-    match became {
-        Ok(()) => Answer::Served,
-        Err(rule) => Answer::Fault { rule },
-    }
-}
-
-// Checks P1 to P10 in the policy's order, and returns the call in a frame, together with the shape that its
-// input value gives. The error is the first of these rules that fails.
-// Inlined: calls for the own id in bench/embed.sh.
-#[inline(always)]
-fn admit<'f, A: Allocator>(
-    tree: &Partitions<A>,
-    by: Caller,
-    frame: &'f Frame<A>,
-    named: Option<CallKind>,
-) -> Result<(Shape, Call<'f>), Rule>
-    requires { call_of frame.now ≡ named }
-    ensures shape { IfOk result (λ asked. IsShape frame.now asked.0) }
-    ensures call { IfOk result (λ asked. IsCall frame.now asked.0 asked.1) }
-    ensures caller { IfOk result (λ asked. (f : Flat) → Refines tree.now f
-        → first_unmet (caller_asks f by) ≡ None) }
-    ensures frame { IfOk result (λ asked. first_unmet (frame_asks asked.0.kind frame.now) ≡ None) }
-    ensures target { IfOk result (λ asked. (f : Flat) → Refines tree.now f
-        → None ≡ first_unmet (target_asks f by.part asked.1)) }
-    ensures first { IfErr result (λ rule. (f : Flat) → Refines tree.now f
-        → unmet f (call_event by frame.now) ≡ Some rule) }
-{
-    let caller = match caller_in(tree, by) {
-        Ok(caller) => caller,
-        Err(rule) => return Err(rule),
-    };
-    let (shape, call) = match ask_frame(frame, named) {
-        Ok(asked) => asked,
-        Err(rule) => return Err(rule),
-    };
-    if let Some(rule) = unmet_by_target(tree, by, caller, &call) {
-        return Err(rule);
-    }
-    Ok((shape, call))
 }

@@ -3,7 +3,7 @@ use Rattle.std.proofs.Common.{◌≡◌, ℕ, zero, suc, ◌+◌, ◌*◌, ◌%�
 use Rattle.std.specs.Int.{bit_at, w16}
 use Rattle.std.specs.Int.RustNames.{bit_or}
 use Rattle.std.proofs.lemmas.Bool.{cases_eq, cases_lt}
-use Rattle.std.proofs.lemmas.Nat.Bits.{bit_at-zero, bit_at_set_same, bit_at_set_other}
+use Rattle.std.proofs.lemmas.Nat.Bits.{bit_at-zero, bit_at_above, bit_at_set_same, bit_at_set_other}
 use Rattle.hv_mail.proofs.Rows.{at-with_at}
 use Rattle.hv_mail.specs.Mail.{Mail, all_next, at, with_at, with_next}
 
@@ -28,6 +28,10 @@ at-all_next (suc n) mail k above =
 -- no bit is set at first
 pub none_set : (test : ℕ → Bool) (k : ℕ) → (bit_at 0 k == 1) ≡ (nat_lt k 0 && test k)
 none_set test k = rw (bit_at-zero k, le-ltb k 0 (omega arith)) refl
+
+-- a mask of 16 bits has no bit from 16 on
+pub no_bit_above : (mask k : ℕ) → mask < 2 ^ 16 → 16 ≤ k → (bit_at mask k == 1) ≡ false
+no_bit_above mask k fits past = ap (λ n. n == 1) (bit_at_above mask 16 k fits past)
 
 -- the bits of the SINTs below one, and then with its own
 module _ (test : ℕ → Bool) (shown sint : ℕ) (fits : sint < 16) (so_far : (k : ℕ) → k < 16 → (bit_at shown k == 1) ≡ (nat_lt k sint && test k)) where

@@ -4,7 +4,7 @@ ghost use Rattle.std.specs.FinSet as set;
 ghost use Rattle.hv_defs.specs.Flags.{flag_bytes};
 ghost use Rattle.hv_defs.specs.declared.sizes.TheConstants.{EVENT_FLAGS, SINTS};
 
-use crate::words::{clear_bit, copy_words, set_bit};
+use crate::words::{clear_bit, copy_words, is_bit_set, set_bit};
 use hv_defs::EVENT_FLAGS;
 use std::marker::Model;
 
@@ -58,6 +58,16 @@ impl Flags {
     {
         let at = place(sint, flag);
         clear_bit(&mut self.words, at);
+    }
+
+    /// Whether a flag below 2,048 of a SINT below 16 is set.
+    pub fn has_flag(&self, sint: u8, flag: u16) -> bool
+        requires sint { sint < SINTS }
+        requires flag { flag < EVENT_FLAGS }
+        ensures { result ≡ set.contains self.now (sint, flag) }
+    {
+        let at = place(sint, flag);
+        is_bit_set(&self.words, at)
     }
 
     /// The 256 bytes of the flags of a SINT below 16: flag f is bit f % 8 of byte f / 8.

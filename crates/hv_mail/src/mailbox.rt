@@ -1,5 +1,6 @@
 // The messages of one processor: a queue for each SINT, created with the room for the first message.
-ghost use Rattle.std.specs.Prelude.{◌≡◌, ◌<◌, ◌≤◌, ◌==◌, ◌^◌, ℕ, true, IfOk, IsOk, OnOk, length, sum_by};
+ghost use Rattle.std.specs.Prelude.{◌≡◌, ◌<◌, ◌≤◌, ◌==◌, ◌&&◌, ◌^◌, ℕ, true, IfOk, IsOk, OnOk, length};
+ghost use Rattle.std.specs.Prelude.{nat_lt, option_map, sum_by};
 ghost use Rattle.std.specs.Int.{bit_at};
 ghost use Rattle.std.specs.List.{list_all};
 ghost use Rattle.std.specs.FinMap as map;
@@ -116,6 +117,19 @@ impl<A: Allocator> Mailbox<A> {
         }
     }
 
+    /// The id of the port of the message that a SINT below 16 shows, if it shows one.
+    pub fn shown(&self, sint: u8) -> Option<u32>
+        requires { sint < SINTS }
+        ensures { result ≡ option_map (λ message. message.port) (at self.now.mail sint).slot }
+    {
+        let at = usize::from(sint);
+        if at < self.queues.len() {
+            self.queues[at].shown()
+        } else {
+            None
+        }
+    }
+
     /// Removes the message that a SINT below 16 shows, if any. No other message takes its place.
     pub fn clear(&mut self, sint: u8)
         requires { sint < SINTS }
@@ -148,6 +162,35 @@ impl<A: Allocator> Mailbox<A> {
             }
         }
         shown
+    }
+
+    /// The SINTs at which a message waits and none is shown: where `advance_all` shows one.
+    ///
+    /// Bit n of the result is 1 if SINT n is one of them.
+    pub fn due(&self) -> u16
+        ensures { (sint : ℕ) → (bit_at result sint == 1)
+            ≡ (nat_lt sint SINTS && has_next (at self.now.mail sint)) }
+    {
+        let mut due = 0;
+        for sint in 0..SINTS as u8 {
+            if self.is_due(sint) {
+                due |= 1 << sint;
+            }
+        }
+        due
+    }
+
+    // Whether a message waits at a SINT and none is shown there.
+    fn is_due(&self, sint: u8) -> bool
+        requires { sint < SINTS }
+        ensures { result ≡ has_next (at self.now.mail sint) }
+    {
+        // Most SINTs have none.
+        if self.busy >> sint & 1 == 0 {
+            return false;
+        }
+        let at = usize::from(sint);
+        at < self.queues.len() && self.queues[at].is_due()
     }
 
     // Shows the oldest waiting message at a SINT, if one waits and none is shown. Returns `true` if one

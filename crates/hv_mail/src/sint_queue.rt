@@ -1,5 +1,5 @@
 // The queue of one SINT: a ring of messages, the first of which may be shown.
-ghost use Rattle.std.specs.Prelude.{◌≡◌, ◌≤◌, ◌^◌, true, IfOk, OnOk};
+ghost use Rattle.std.specs.Prelude.{◌≡◌, ◌≤◌, ◌^◌, true, IfOk, OnOk, option_map};
 ghost use Rattle.hv_mail.specs.Mail.{no_mail, with_next, has_next, with_last, posted, cleared, count_at};
 ghost use Rattle.hv_mail.specs.Slot.{is_some_of, slot_bytes};
 
@@ -84,11 +84,11 @@ impl<A: Allocator> SintQueue<A> {
         ensures shown { result ≡ has_next self.old.mail }
         ensures kept { self.old.room ≡ true → self.new.room ≡ true }
     {
-        if self.is_shown || self.messages.is_empty() {
-            return false;
+        let due = self.is_due();
+        if due {
+            self.is_shown = true;
         }
-        self.is_shown = true;
-        true
+        due
     }
 
     // Removes the shown message.
@@ -100,6 +100,23 @@ impl<A: Allocator> SintQueue<A> {
             self.is_shown = false;
             drop(self.messages.pop_front());
         }
+    }
+
+    // The id of the port of the shown message.
+    pub(crate) fn shown(&self) -> Option<u32>
+        ensures { result ≡ option_map (λ message. message.port) self.now.mail.slot }
+    {
+        match self.messages.front() {
+            Some(message) if self.is_shown => Some(message.port),
+            _ => None,
+        }
+    }
+
+    // Whether a message waits and none is shown.
+    pub(crate) fn is_due(&self) -> bool
+        ensures { result ≡ has_next self.now.mail }
+    {
+        !self.is_shown && !self.messages.is_empty()
     }
 
     // Whether a message waits.

@@ -4,6 +4,15 @@ ghost use Rattle.std.specs.Prelude.{length, map, IfSome, IsNone};
 ghost use Rattle.std.specs.List.{range_with_len};
 ghost use Rattle.hv_mail.specs.Words.{has_bit, byte_of};
 
+// Whether the bit is set.
+#[tactic(auto, using(crate::proofs::WordBits::clear_tested))]
+pub(crate) fn is_bit_set(words: &[u64], at: usize) -> bool
+    requires { at / 64 < length words.now }
+    ensures { result ≡ has_bit words.now at }
+{
+    words[at / 64] & 1u64 << (at % 64) != 0
+}
+
 // Sets the bit. Returns `true` if it was clear.
 #[tactic(auto, using(crate::proofs::WordBits::bit_set, crate::proofs::WordBits::clear_tested))]
 pub(crate) fn set_bit(words: &mut [u64], at: usize) -> bool

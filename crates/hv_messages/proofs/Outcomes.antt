@@ -1,40 +1,43 @@
 -- The calls and accesses of this call group, carried over to the flat state.
-use Rattle.std.proofs.Common.{◌≡◌, ℕ, ◌+◌, ◌<◌, true, false, Bool, is_some, List, [], ◌∷◌, Option, Some, None, refl, sym, ap, subst, ◌∙◌, eqb-true, IfSome, option_map}
+use Rattle.std.proofs.Common.{◌≡◌, ℕ, ◌+◌, true, false, Bool, is_some, List, [], ◌∷◌, Option, Some, None, refl, sym, ap, subst, ◌∙◌, eqb-true, IfSome, option_map}
 use Rattle.std.proofs.lemmas.Bool.{false≢true}
 use Rattle.std.specs.FinMap.{contains_key, get}
-use Rattle.std.specs.FinSet as set
 use Rattle.hv_calls.specs.declared.call.Call.TheVariants.{PostMessage, SignalEvent}
-use Rattle.hv_defs.specs.declared.aim.Aim.{Aim}
 use Rattle.hv_defs.specs.declared.aim.Aim.TheVariants.{One, Any}
 use Rattle.hv_defs.specs.declared.port_kind.PortKind.{PortKind}
 use Rattle.hv_defs.specs.declared.port_kind.PortKind.TheVariants as port_type
-use Rattle.hv_defs.specs.Vectors.{highest, without}
-use Rattle.hv_defs.specs.declared.sizes.TheConstants.{SINTS}
+use Rattle.hv_effect.specs.Effect.{Tells}
+use Rattle.hv_effect.specs.declared.effect.Effect.{Effect}
 use Rattle.hv_mail.specs.Mail.{count_of}
 use Rattle.hv_mail.specs.declared.message.Message.{Message}
-use Rattle.hv_partition.specs.Partition.{PartitionState}
-use Rattle.hv_policy.specs.Aim.{ResolvedPort, flag_taker, is_ready_for_flags, is_ready_for_messages, message_taker, select_vp}
-use Rattle.hv_policy.specs.Effect.{call_effect, post, post_at, post_to, signal_at, signal_to, with_vp}
+use Rattle.hv_partition.specs.Partition.{PartitionState, with_vp_of}
+use Rattle.hv_policy.specs.Aim.{is_ready_for_flags, is_ready_for_messages, is_same_birth, on_aim, select_vp}
+use Rattle.hv_policy.specs.Effect.{call_effect, post, post_at, post_to, row_signalled, signal_at, signal_to, with_vp}
 use Rattle.hv_policy.specs.Flat.{Flat, MailRow, VpRow}
-use Rattle.hv_policy.specs.Met.{is_running}
-use Rattle.hv_policy.specs.Rules.{caller_asks, first_unmet}
-use Rattle.hv_policy.specs.declared.rule.Rule.TheVariants.{CallerActive, CallerExists, CallerVpExists}
+use Rattle.hv_policy.specs.Met.{has_message_room, has_message_taker, is_aimed_at_vp, is_for_messages, is_running}
+use Rattle.hv_policy.specs.Rules.{Ask, action_asks, caller_asks, first_unmet, unmet}
+use Rattle.hv_policy.specs.declared.event.Action.{Action}
+use Rattle.hv_policy.specs.declared.rule.Rule.{Rule}
+use Rattle.hv_policy.specs.declared.rule.Rule.TheVariants.{CallerActive, CallerExists, CallerVpExists, Connection, Operand, Port as PortRule, PortRoom, VpExists, VpReady}
 use Rattle.hv_policy.proofs.SameMail.{kept_same}
-use Rattle.hv_policy.specs.Mail.{cleared, kept_of, place_at}
+use Rattle.hv_policy.proofs.Unmet.{past_caller}
+use Rattle.hv_policy.specs.Mail.{kept_of}
 use Rattle.hv_policy.specs.declared.event.Caller.{Caller}
 use Rattle.hv_ports.specs.declared.ports.Conn.{Conn}
 use Rattle.hv_ports.specs.declared.ports.Port.{Port}
 use Rattle.hv_refine.proofs.Kept.{kept_by_any, kept_by_one}
-use Rattle.hv_refine.proofs.Mailed.{flag_cleared_tied, interrupted_tied, posted_tied, signalled_tied, slot_cleared_tied}
-use Rattle.hv_refine.proofs.Staff.{vp_in, vp_there}
+use Rattle.hv_refine.proofs.Staff.{rows_there, vp_in, vp_there}
 use Rattle.hv_refine.proofs.Takers.{lowest_there, taker_there}
-use Rattle.hv_refine.specs.Served.{TreeInvariant}
-use Rattle.hv_refine.specs.Tie.{Refines, here, mail_row, port_row_of, vp_row_of}
-use Rattle.hv_refine.specs.Vp.{with_state_of}
+use Rattle.hv_refine.proofs.Written.{vp_kept}
+use Rattle.hv_refine.specs.Done.{HasServed}
+use Rattle.hv_refine.specs.Served.{TreeInvariant, unmet_further}
+use Rattle.hv_refine.specs.Tie.{Refines, here, mail_row, port_row_of, rows_of, sint_mail, vp_row_of}
 use Rattle.hv_tree.specs.Rows.{Row, Rows, change, content}
 use Rattle.hv_vp.specs.Vps.{is_ready, kept_by_all, lowest}
-use Rattle.hv_vp.specs.Vp.{VpState, flag_cleared, interrupted, posted, signalled, slot_cleared}
-use Rattle.hv_messages.specs.ResolvedPort.{IsReached, aim_row, taker_of}
+use Rattle.hv_vp.specs.Vp.{VpState}
+use Rattle.hv_messages.specs.Processor.{HasState}
+use Rattle.hv_messages.specs.ResolvedPort.{IsAimed, IsReached, aim_row, reach_asks, taker_of}
+use Rattle.hv_messages.specs.declared.aims.Aimed.{Aimed}
 
 -- where P3 is met, the processor that was looked up is the one that makes the access
 module _ (rows : Rows PartitionState) (f : Flat) (flat : Refines rows f) (by : Caller) (v : VpState) where
@@ -53,45 +56,77 @@ module _ (rows : Rows PartitionState) (f : Flat) (flat : Refines rows f) (by : C
           absurd (false≢true (sym none ∙ p3_met (contains_key f.part by.part) (is_running f by.part) (contains_key f.vp (by.part, by.vp)) met))
       found (Some r) is there = there
 
-module _ (rows new : Rows PartitionState) (f : Flat) (flat : Refines rows f) (by : Caller) where
-  pub slot_gone : (sint : ℕ) → new ≡ change rows by.part (with_state_of by.vp (slot_cleared sint)) → Refines new (record f { mail = cleared (place_at by sint) f.mail })
-  slot_gone sint is = subst (λ r. Refines r (record f { mail = cleared (place_at by sint) f.mail })) (sym is) (slot_cleared_tied rows f flat by.part by.vp sint)
+-- a processor of the tree has its state in the flat state
+pub has_state : (rows : Rows PartitionState) (f : Flat) → Refines rows f → (id index : ℕ) (v : VpState) → vp_in index (get rows id) ≡ Some v → HasState f id index v
+has_state rows f flat id index v there = record {
+  row = vp_there rows f flat id index ∙ ap (option_map vp_row_of) there;
+  mail = λ sint. rows_there rows f flat id index sint ∙ ap (λ o. rows_of (here id index sint) (sint_mail sint o)) there;
+}
 
-  pub flag_gone : (sint flag : ℕ) → new ≡ change rows by.part (with_state_of by.vp (flag_cleared sint flag)) → Refines new
-      (record f { vp = with_vp f.vp (by.part, by.vp) (λ row. record row { flags = set.remove row.flags (sint, flag) }) })
-  flag_gone sint flag is = subst (λ r. Refines r (record f { vp = with_vp f.vp (by.part, by.vp) (λ row. record row { flags = set.remove row.flags (sint, flag) }) })) (sym is)
-      (flag_cleared_tied rows f flat by.part by.vp sint flag)
+-- the processor that was looked up in its partition is the row's
+pub looked_up : (rows : Rows PartitionState) (id index : ℕ) (p : PartitionState) (o : Option VpState) → Some p ≡ content rows id → o ≡ get p.vps.vps index → vp_in index (get rows id) ≡ o
+looked_up rows id index p o = by (get rows id)
+  where
+    by : (r : Option (Row PartitionState)) → Some p ≡ option_map (λ (r : Row PartitionState). r.1) r → o ≡ get p.vps.vps index → vp_in index r ≡ o
+    by None there is = cc
+    by (Some r) there is = (let same : p ≡ r.1 = cc in ap {A = PartitionState} (λ p. get p.vps.vps index) (sym same) ∙ sym is)
 
-  pub vector_gone : new ≡ change rows by.part (with_state_of by.vp interrupted) → Refines new
-      (record f { vp = with_vp f.vp (by.part, by.vp) (λ row. record row { pending = without row.pending (highest row.pending) }) })
-  vector_gone is = subst (λ r. Refines r (record f { vp = with_vp f.vp (by.part, by.vp) (λ row. record row { pending = without row.pending (highest row.pending) }) })) (sym is)
-      (interrupted_tied rows f flat by.part by.vp)
+-- rows that are these refine what these do
+pub carried : (new rows : Rows PartitionState) (g : Flat) → new ≡ rows → Refines rows g → Refines new g
+carried new rows g is flat = subst (λ rows. Refines rows g) (sym is) flat
 
-module _ (rows new : Rows PartitionState) (f : Flat) (flat : Refines rows f) (caller connection vp : ℕ) (conn : Conn) (port : Port) (reached : IsReached f (caller, connection) conn port) where
-  abbrev aim : ResolvedPort
-  aim = aim_row conn port
+-- an access whose operand is none changes nothing, the processor that it looked up included
+pub refused : {A : Type 0} (rows : Rows PartitionState) (f : Flat) (by : Caller) (what : Action A) (v : VpState) → first_unmet (caller_asks f by) ≡ None
+    → first_unmet (action_asks f by.part what) ≡ Some Operand → IfSome (content rows by.part) (λ p. get p.vps.vps by.vp ≡ Some v)
+    → (unmet f (record { by = by; what = what }) ≡ Some Operand) × (change rows by.part (λ p. with_vp_of p by.vp v) ≡ rows)
+refused rows f by what v met broken there = (past_caller f (record { by = by; what = what }) met ∙ broken, vp_kept rows by.part by.vp v there)
 
-  pub flag_set : (sint flag at : ℕ) → flag_taker f aim ≡ Some vp → sint ≡ port.sint → at ≡ port.base + flag → new ≡ change rows conn.part
-      (with_state_of vp (signalled sint at)) → Refines new (call_effect (SignalEvent connection flag) f caller caller)
-  flag_set sint flag at taken same sum is =
-      subst (λ aim. Refines new (signal_to aim flag f)) (sym reached.aim)
-      (subst (λ to. Refines new (signal_at aim to flag f)) (sym taken)
-      (subst (λ r. Refines r (signal_at aim (Some vp) flag f)) (sym (is ∙ ap (λ s. change rows conn.part (with_state_of vp (signalled s at))) same ∙ ap
-      (λ n. change rows conn.part (with_state_of vp (signalled port.sint n))) sum))
-      (signalled_tied rows f flat conn.part vp port.sint (port.base + flag))))
+-- what is delivered through a connection
+module _ (f : Flat) (caller connection : ℕ) (aimed : Aimed) (effect : Effect) (new : Rows PartitionState) where
+  pub post_served : (type : ℕ) (payload : List ℕ) (sint : ℕ) (message : Message) → IsAimed f (caller, connection) port_type.Message aimed → sint ≡ aimed.to.port.sint
+      → message.port ≡ aimed.to.conn.port → message.born ≡ aimed.to.conn.born → message.kind ≡ type → message.payload.items ≡ payload
+      → Refines new (post (mail_row (here aimed.to.conn.part aimed.vp sint) false message) f) → Tells effect f (post (mail_row (here aimed.to.conn.part aimed.vp sint) false message) f)
+      → HasServed f caller (PostMessage connection type payload) [] effect new
+  post_served type payload sint message aims at from born kind bytes rows told = record { output = refl; rows = subst (Refines new) is rows; told = subst (Tells effect f) is told }
+    where
+      row : MailRow
+      row = record {
+        part = aimed.to.conn.part;
+        vp = aimed.vp;
+        sint = aimed.to.port.sint;
+        port = aimed.to.conn.port;
+        born = aimed.to.conn.born;
+        type = type;
+        payload = payload;
+        shown = false;
+      }
 
-  pub message_posted : (sint type : ℕ) (payload : List ℕ) (message : Message) → message_taker f aim ≡ Some vp → sint ≡ port.sint → message.port ≡ conn.port → message.born ≡
-      conn.born → message.kind ≡ type → message.payload.items ≡ payload → new ≡ change rows conn.part (with_state_of vp (posted sint message)) → Refines new
-      (call_effect (PostMessage connection type payload) f caller caller)
-  message_posted sint type payload message taken at from born kind bytes is =
-      let (v, there) = taker_there rows f flat conn.part is_ready_for_messages port.vp vp taken in
-      let row : MailRow = mail_row (here conn.part vp sint) false message in
-      let same : row ≡ record { part = conn.part; vp = vp; sint = port.sint; port = conn.port; born = conn.born; type = type; payload = payload; shown = false } =
-      (λ i. record { part = conn.part; vp = vp; sint = at i; port = from i; born = born i; type = kind i; payload = bytes i; shown = false }) in
-      subst (λ aim. Refines new (post_to aim type payload f)) (sym reached.aim)
-      (subst (λ to. Refines new (post_at aim to type payload f)) (sym taken)
-      (subst (λ row. Refines new (post row f)) same
-      (subst (λ r. Refines r (post row f)) (sym is) (posted_tied rows f flat conn.part vp sint v there message))))
+      same : mail_row (here aimed.to.conn.part aimed.vp sint) false message ≡ row
+      same = (λ i. record { part = aimed.to.conn.part; vp = aimed.vp; sint = at i; port = from i; born = born i; type = kind i; payload = bytes i; shown = false })
+
+      is : post (mail_row (here aimed.to.conn.part aimed.vp sint) false message) f ≡ call_effect (PostMessage connection type payload) f caller caller
+      is =
+          ap (λ row. post row f) same
+          ∙ sym (ap (λ aim. post_to aim type payload f) aims.reached.aim ∙ ap (λ vp. post_at (aim_row aimed.to.conn aimed.to.port) vp type payload f) aims.taker)
+
+  pub signal_served : (flag sint place : ℕ) → IsAimed f (caller, connection) port_type.Event aimed → sint ≡ aimed.to.port.sint → place ≡ aimed.to.port.base + flag
+      → Refines new (record f { vp = with_vp f.vp (aimed.to.conn.part, aimed.vp) (row_signalled sint place) })
+      → Tells effect f (record f { vp = with_vp f.vp (aimed.to.conn.part, aimed.vp) (row_signalled sint place) }) → HasServed f caller (SignalEvent connection flag) [] effect new
+  signal_served flag sint place aims at sum rows told = record { output = refl; rows = subst (Refines new) is rows; told = subst (Tells effect f) is told }
+    where
+      is : record f { vp = with_vp f.vp (aimed.to.conn.part, aimed.vp) (row_signalled sint place) } ≡ call_effect (SignalEvent connection flag) f caller caller
+      is =
+          (λ i. record f { vp = with_vp f.vp (aimed.to.conn.part, aimed.vp) (row_signalled (at i) (sum i)) })
+          ∙ sym (ap (λ aim. signal_to aim flag f) aims.reached.aim ∙ ap (λ vp. signal_at (aim_row aimed.to.conn aimed.to.port) vp flag f) aims.taker)
+
+-- where it goes, there is a processor
+pub aimed_there : (rows : Rows PartitionState) (f : Flat) → Refines rows f → (key : ℕ × ℕ) (kind : PortKind) (aimed : Aimed) → IsAimed f key kind aimed
+    → (v : VpState) × (vp_in aimed.vp (get rows aimed.to.conn.part) ≡ Some v)
+aimed_there rows f flat key kind aimed aims = by kind aims.taker
+  where
+    by : (kind : PortKind) → taker_of kind f (aim_row aimed.to.conn aimed.to.port) ≡ Some aimed.vp → (v : VpState) × (vp_in aimed.vp (get rows aimed.to.conn.part) ≡ Some v)
+    by port_type.Message taken = taker_there rows f flat aimed.to.conn.part is_ready_for_messages aimed.to.port.vp aimed.vp taken
+    by port_type.Event taken = taker_there rows f flat aimed.to.conn.part is_ready_for_flags aimed.to.port.vp aimed.vp taken
 
 -- the processor that takes what comes to a port, as the tree has it
 module _ (rows : Rows PartitionState) (f : Flat) (flat : Refines rows f) (conn : Conn) (port : Port) (p : PartitionState) (is : content rows conn.part ≡ Some p) where
@@ -113,12 +148,9 @@ module _ (rows : Rows PartitionState) (f : Flat) (flat : Refines rows f) (conn :
           by_kind port_type.Message = by_aim is_ready_for_messages
           by_kind port_type.Event = by_aim is_ready_for_flags
 
--- where a connection leads, the law says what its port may keep
+-- where a connection leads, the law says where its port's messages are
 module _ (rows : Rows PartitionState) (a : TreeInvariant rows) (key : ℕ × ℕ) (conn : Conn) (port : Port) (reached : (f : Flat) → Refines rows f → IsReached f key conn port) where
-  pub sint_bound : port.sint < SINTS
-  sint_bound = (a.lawful.ports (conn.part, conn.port) _ (reached a.flat a.tied).row).sint
-
-  -- and that the messages that came through it are those of its processor's mailbox, or of all its partition's
+  -- the messages that came through it are those of its processor's mailbox, or of all its partition's
   module _ (f : Flat) (flat : Refines rows f) (p : PartitionState) (is : content rows conn.part ≡ Some p) where
     kept_is : (n : ℕ → ℕ) → ((r : Row PartitionState) → get rows conn.part ≡ Some r → r.1 ≡ p → kept_of conn.part conn.port port.born a.flat.mail ≡ n port.born) → kept_of conn.part conn.port conn.born
         f.mail ≡ n conn.born
@@ -143,3 +175,16 @@ module _ (rows : Rows PartitionState) (a : TreeInvariant rows) (key : ℕ × ℕ
         kept_is (λ b. kept_by_all conn.port b p.vps.vps)
         (λ r there same. kept_by_any rows a.flat a.tied a.pages a.lawful conn.part conn.port (port_row_of port) (reached a.flat a.tied).row r there ∙ ap {A = PartitionState}
         (λ p. kept_by_all conn.port port.born p.vps.vps) same)
+
+-- where P16, P17 or P19 fails, it is the first rule of a post that does
+three : (x y z : Rule) (a b c : Bool) (rest : List Ask) (rule : Rule) → first_unmet ((x, a) ∷ (y, b) ∷ (z, c) ∷ []) ≡ Some rule → first_unmet ((x, a) ∷ (y, b) ∷ (z, c) ∷ rest) ≡ Some rule
+three x y z false b c rest rule h = h
+three x y z true false c rest rule h = h
+three x y z true true false rest rule h = h
+three x y z true true true rest rule h = cc
+
+pub post_unreached : (f : Flat) (by connection type : ℕ) (payload : List ℕ) (rule : Rule) → first_unmet (reach_asks f (by, connection)) ≡ Some rule
+    → unmet_further f by (PostMessage connection type payload) ≡ Some rule
+post_unreached f by connection type payload rule broken =
+    three Connection PortRule VpExists (contains_key f.conn (by, connection)) (on_aim f (by, connection) is_same_birth) (on_aim f (by, connection) (is_aimed_at_vp f))
+    ((Operand, on_aim f (by, connection) is_for_messages) ∷ (VpReady, on_aim f (by, connection) (has_message_taker f)) ∷ (PortRoom, on_aim f (by, connection) (has_message_room f)) ∷ []) rule broken

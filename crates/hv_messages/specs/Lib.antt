@@ -1,1 +1,2 @@
+pub mod Processor
 pub mod ResolvedPort

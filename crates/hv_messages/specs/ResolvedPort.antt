@@ -9,7 +9,12 @@ use Rattle.hv_policy.specs.Flat.{Flat}
 use Rattle.hv_policy.specs.Met.{is_aimed_at_vp}
 use Rattle.hv_policy.specs.Rules.{Ask}
 use Rattle.hv_policy.specs.declared.rule.Rule.TheVariants as rule
-use Rattle.hv_refine.specs.Tie.{conn_row_of, port_row_of}
+use Rattle.hv_calls.specs.declared.call.Call.{Call}
+use Rattle.hv_messages.specs.declared.aims.Aimed.{Aimed}
+use Rattle.hv_partition.specs.Partition.{PartitionState}
+use Rattle.hv_refine.specs.Asked.{IsGranted}
+use Rattle.hv_refine.specs.Tie.{Refines, conn_row_of, port_row_of}
+use Rattle.hv_tree.specs.Rows.{Rows}
 use Rattle.hv_ports.specs.declared.ports.Conn.{Conn}
 use Rattle.hv_ports.specs.declared.ports.Port.{Port}
 
@@ -35,3 +40,14 @@ pub record IsReached (f : Flat) (key : ℕ × ℕ) (conn : Conn) (port : Port) :
 abbrev pub taker_of : PortKind → Flat → ResolvedPort → Option ℕ
 taker_of port_type.Message f aim = message_taker f aim
 taker_of port_type.Event f aim = flag_taker f aim
+
+-- what goes through the connection with this key to a port of this kind goes to this processor
+pub record IsAimed (f : Flat) (key : ℕ × ℕ) (kind : PortKind) (aimed : Aimed) : Type 0 where
+  pub reached : IsReached f key aimed.to.conn aimed.to.port
+  pub taker : taker_of kind f (aim_row aimed.to.conn aimed.to.port) ≡ Some aimed.vp
+
+-- precondition of a delivery: the rules of this call hold, and the call delivers to this processor
+pub record MayDeliver (rows : Rows PartitionState) (caller connection : ℕ) (kind : PortKind) (call : Call)
+    (aimed : Aimed) : Type 0 where
+  pub granted : IsGranted rows caller call
+  pub aims : (f : Flat) → Refines rows f → IsAimed f (caller, connection) kind aimed

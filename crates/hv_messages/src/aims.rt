@@ -2,7 +2,6 @@
 ghost use Rattle.std.specs.Prelude.{◌≡◌, ℕ, option_map, IfOk, IfErr, IfSome, Some};
 ghost use Rattle.std.specs.FinMap.{get};
 ghost use Rattle.hv_partition.specs.Partition.{PartitionState};
-ghost use Rattle.hv_policy.specs.Aim.{has_target as has_target_of};
 ghost use Rattle.hv_policy.specs.Flat.{Flat};
 ghost use Rattle.hv_policy.specs.Met.{has_message_room as has_message_room_of};
 ghost use Rattle.hv_policy.specs.Rules.{first_unmet};
@@ -15,7 +14,7 @@ use hv_defs::{Aim, MAX_MESSAGES, PortKind};
 use hv_partition::Partition;
 use hv_policy::Rule;
 use hv_ports::{Conn, Port};
-use hv_refine::Partitions;
+use hv_refine::{Partitions, has_target};
 use std::alloc::Allocator;
 
 // A resolved connection: the connection itself, and the port with the id that it keeps.
@@ -25,21 +24,30 @@ pub struct ResolvedPort {
     pub port: Port,
 }
 
+// Where a message or an event flag through a connection goes.
+#[derive(Clone, Copy)]
+pub struct Aimed {
+    // The connection, and the port with the id that it keeps.
+    pub to: ResolvedPort,
+    // The processor that takes it, by its index in the port's partition.
+    pub vp: u32,
+}
+
 // Checks P16, P17 and P19 for a post or a signal, and returns the caller's connection, its port and the
 // port's partition. The error is the first of these rules that fails. The checks on the port's partition
 // use the partition that the lookup found.
 pub fn resolve_connection<'t, A: Allocator>(
     tree: &'t Partitions<A>,
-    caller: u64,
+    caller: &Partition<A>,
     connection: u32,
 ) -> Result<(ResolvedPort, &'t Partition<A>), Rule>
-    ensures reached { IfOk result (λ found. (f : Flat) → Refines tree.now f
-        → IsReached f (caller, connection) found.0.conn found.0.port) }
+    ensures reached { IfOk result (λ found. (f : Flat) (by : ℕ) → content tree.now by ≡ Some caller.now
+        → Refines tree.now f → IsReached f (by, connection) found.0.conn found.0.port) }
     ensures home { IfOk result (λ found. content tree.now found.0.conn.part ≡ Some found.1.now) }
-    ensures first { IfErr result (λ rule. (f : Flat) → Refines tree.now f
-        → first_unmet (reach_asks f (caller, connection)) ≡ Some rule) }
+    ensures first { IfErr result (λ rule. (f : Flat) (by : ℕ) → content tree.now by ≡ Some caller.now
+        → Refines tree.now f → first_unmet (reach_asks f (by, connection)) ≡ Some rule) }
 {
-    let Some(conn) = conn_of(tree, caller, connection) else {
+    let Some(conn) = conn_of(caller, connection) else {
         return Err(Rule::Connection);
     };
     let Some((port, home)) = port_of(tree, conn.part, conn.port) else {
@@ -55,12 +63,13 @@ pub fn resolve_connection<'t, A: Allocator>(
 }
 
 // A partition's connection with this id, if it has one.
-fn conn_of<A: Allocator>(tree: &Partitions<A>, id: u64, connection: u32) -> Option<Conn>
-    ensures { (f : Flat) → Refines tree.now f → option_map conn_row_of result ≡ get f.conn (id, connection) }
+fn conn_of<A: Allocator>(partition: &Partition<A>, connection: u32) -> Option<Conn>
+    ensures { (f : Flat) (rows : Rows PartitionState) (id : ℕ) → content rows id ≡ Some partition.now
+        → Refines rows f → option_map conn_row_of result ≡ get f.conn (id, connection) }
 {
-    match tree.get(id) {
+    match partition.conn(connection) {
         None => None,
-        Some(partition) => partition.conn(connection),
+        Some(conn) => Some(conn),
     }
 }
 
@@ -80,18 +89,6 @@ fn port_of<'t, A: Allocator>(
     match partition.port(port) {
         None => None,
         Some(port) => Some((port, partition)),
-    }
-}
-
-// P19 for a port: whether its partition has the one processor at which the port aims. The rule always holds
-// for `Aim::Any`.
-fn has_target<A: Allocator>(home: &Partition<A>, aim: Aim) -> bool
-    ensures { (f : Flat) (rows : Rows PartitionState) (id : ℕ) → content rows id ≡ Some home.now
-        → Refines rows f → result ≡ has_target_of f id aim }
-{
-    match aim {
-        Aim::One(index) => home.vp(index).is_some(),
-        Aim::Any => true,
     }
 }
 

@@ -1,4 +1,4 @@
--- A partition that was deleted, and its pages with its heir.
+-- A partition that was deleted, and its pages with its new owner.
 use Rattle.std.proofs.Common.{◌≡◌, ℕ, ◌==◌, Bool, true, false, cond, ◌&&◌, ◌||◌, not, map, Option, Some, None, refl, sym, ap, subst, ◌∙◌, eqb-true, eq-eqb, option_map, nat_cmp}
 use Rattle.std.specs.Cmp.{nat_cmp_total, nat_eq_equiv}
 use Rattle.std.specs.FinMap.{FinMap, get, get-empty, remove, entries, from_entries}
@@ -10,10 +10,19 @@ use Rattle.hv_defs.proofs.Maps.{get_at-remove, get-mapped}
 use Rattle.hv_ports.specs.declared.ports.Conn.{Conn}
 use Rattle.hv_ports.specs.declared.ports.Port.{Port}
 use Rattle.hv_tree.specs.Rows.{Row, Rows}
-use Rattle.hv_partition_calls.specs.Change.{IsDeleted, new_owner_of}
 use Rattle.hv_refine.proofs.StateInvariant.{UsesNothing}
 use Rattle.hv_refine.specs.Tie.{Refines, PartitionRelation, conn_row_of, here, is_held, holds, port_row_of, rows_of, sint_mail, vp_row_of}
 use Rattle.hv_vp.specs.Vp.{VpState}
+use Rattle.hv_partition_calls.specs.Change.{new_owner_of}
+
+-- a partition was deleted, and its pages went to `new_owner`
+pub record IsDeleted (old new : Rows PartitionState) (new_owner id : ℕ) : Type 0 where
+  pub gone : Row PartitionState
+  pub was : get old id ≡ Some gone
+  pub owner : Row PartitionState
+  pub there : get old new_owner ≡ Some owner
+  pub room : ℕ
+  pub rows : (q : ℕ) → get new q ≡ cond (q == new_owner) (Some (new_owner_of gone.1 room owner)) (cond (q == id) None (get old q))
 
 -- who holds a page of a partition that is gone, and any other page
 module _ (gone new_owner : ℕ) (apart : gone == new_owner ≡ false) where
@@ -54,7 +63,7 @@ module _ (gone new_owner : ℕ) (apart : gone == new_owner ≡ false) where
       by false true is = rw (own_after page false is, is) refl
       by false false is = rw (own_after page false is, is) refl
 
-  -- the heir's pool is what it was
+  -- the new owner's pool is what it was
   held_pool : (page : Option PageRow) → is_held new_owner true (option_map (inherited gone new_owner) page) ≡ is_held new_owner true page
   held_pool None = refl
   held_pool (Some page) = by (page.owner == gone) refl

@@ -1,19 +1,18 @@
 -- A partition that was lent from the tree, changed, and put back.
-use Rattle.std.proofs.Common.{◌≡◌, ℕ, ◌+◌, ◌≤◌, ◌==◌, Bool, true, false, cond, length, Option, Some, None, refl, sym, ap, ◌∙◌, arith, eq-eqb, option_map}
+use Rattle.std.proofs.Common.{◌≡◌, ℕ, ◌≤◌, ◌==◌, Bool, true, false, cond, length, Option, Some, None, refl, sym, ap, ◌∙◌, arith, eq-eqb, option_map}
 use Rattle.std.specs.Cmp.{nat_eq_equiv}
 use Rattle.std.specs.FinMap.{get, insert, remove}
 use Rattle.std.specs.FinSet as set
-use Rattle.hv_pages.specs.PageSet.{Pages, runs_of}
-use Rattle.hv_partition.specs.Partition.{PartitionState, new_partition}
-use Rattle.hv_defs.specs.declared.life.Life.TheVariants.{Created}
-use Rattle.hv_privs.specs.Privileges.{restrict}
-use Rattle.hv_privs.specs.declared.TheConstants.Privileges as privilege
+use Rattle.hv_pages.specs.PageSet.{Pages}
+use Rattle.hv_partition.specs.Partition.{PartitionState}
 use Rattle.hv_tree.proofs.ChildLaws.{count-change}
 use Rattle.hv_defs.proofs.Maps.{get_at-insert, get_at-remove}
 use Rattle.hv_tree.proofs.Laws.{parent-change}
 use Rattle.hv_tree.specs.Rows.{Row, Rows, children, content, parent, is_leaf, change, changed_at}
 use Rattle.hv_refine.proofs.Found.{content_row}
-use Rattle.hv_partition_calls.specs.Change.{IsCreated, IsDeleted, HasRoom, HasTakenOver, MayDelete, MayTakeOver, new_owner_of}
+use Rattle.hv_partition_calls.proofs.Deleted.{IsDeleted}
+use Rattle.hv_partition_calls.proofs.Needs.{IsEnding}
+use Rattle.hv_partition_calls.specs.Change.{HasRoom, HasTakenOver, MayTakeOver, new_owner_of}
 
 -- the rows with a partition that was there written anew
 written : (rows : Rows PartitionState) (id : ℕ) (w : PartitionState) (r : Row PartitionState) → get rows id ≡ Some r → change rows id (λ _. w) ≡ insert rows id (r.0, w)
@@ -46,19 +45,8 @@ has_taken_over rows id gone p w there pages rest =
           (pages ∙ ap {A = PartitionState} (λ q. set.union (set.union q.loose.pages gone.loose.pages) gone.pooled.pages) (sym same)));
     }
 
-pub is_created : (rows new : Rows PartitionState) (parent id : ℕ) (p child : PartitionState) → Some p ≡ content rows parent → child ≡ new_partition Created (restrict p.mask privilege.NEW_PARTITION) →
-    new ≡ insert rows id (Some parent, child) → IsCreated rows new parent id
-is_created rows new parent id p child there made rows_are =
-    let (r, is, same) = content_row rows parent p there in
-    record {
-      creator = r;
-      there = is;
-      rows = rows_are ∙ ap {A = PartitionState} (λ v. insert rows id (Some parent, v)) (made ∙ ap {A = PartitionState} (λ q. new_partition Created (restrict q.mask privilege.NEW_PARTITION))
-          (sym same));
-    }
-
 -- a partition stays a leaf when another gets room
-pub still_leaf : (rows new : Rows PartitionState) (new_owner id more : ℕ) → MayDelete rows new_owner id → HasRoom rows new new_owner more → is_leaf new id ≡ true
+pub still_leaf : (rows new : Rows PartitionState) (new_owner id more : ℕ) → IsEnding rows new_owner id more → HasRoom rows new new_owner more → is_leaf new id ≡ true
 still_leaf rows new new_owner id more may room =
     let same : new ≡ change rows new_owner (λ p. record p { loose = record { pages = p.loose.pages; room = room.room } }) = room.rows ∙ sym
     (ap (changed_at rows new_owner (λ p. record p { loose = record { pages = p.loose.pages; room = room.room } })) room.there) in
@@ -66,8 +54,8 @@ still_leaf rows new new_owner id more may room =
     let counts : length (children new id) ≡ length (children rows id) = ap (λ m. length (children m id)) same ∙ count-change rows new_owner _ id in
     rw (parents, counts) may.leaf
 
--- the heir, once it has room and the other is gone, can take over its pages, and then the other is deleted
-module _ (rows roomy : Rows PartitionState) (new_owner id more : ℕ) (may : MayDelete rows new_owner id) (room : HasRoom rows roomy new_owner more) (gone : PartitionState)
+-- the new owner, once it has room and the other is gone, can take over its pages, and then the other is deleted
+module _ (rows roomy : Rows PartitionState) (new_owner id more : ℕ) (may : IsEnding rows new_owner id more) (room : HasRoom rows roomy new_owner more) (gone : PartitionState)
     (was : content roomy id ≡ Some gone) where
   abbrev row : Row PartitionState
   row = (room.row.0, record room.row.1 { loose = record { pages = room.row.1.loose.pages; room = room.room } })
@@ -82,20 +70,23 @@ module _ (rows roomy : Rows PartitionState) (new_owner id more : ℕ) (may : May
   found = get_at-remove roomy id new_owner ∙ ap (λ b. cond b None (get roomy new_owner)) (nat_eq_equiv.symm new_owner id ∙ may.apart) ∙ roomy_at new_owner ∙ ap
       (λ b. cond b (Some row) (get rows new_owner)) (eq-eqb new_owner new_owner refl)
 
-  pub can_take_over : runs_of may.gone.1.loose.pages + runs_of may.gone.1.pooled.pages ≤ more → MayTakeOver (remove roomy id) new_owner gone
-  can_take_over counted =
+  pub was_there : content rows id ≡ Some gone
+  was_there = ap (option_map (λ r. r.1)) may.was ∙ ap Some same
+
+  pub can_take_over : MayTakeOver (remove roomy id) new_owner gone
+  can_take_over =
       let owner : room.row ≡ may.owner = (let both = sym room.there ∙ may.there in cc) in
       record {
         row = row;
         there = found;
-        room = rw (← same) (let enough = room.enough in omega arith);
+        room = rw (← same) (let enough = room.enough in let counted = may.counted in omega arith);
         loose = rw (owner, ← same) may.loose;
         pooled = rw (owner, ← same) may.pooled;
         own = rw (← same) may.own;
       }
 
-  pub has_deleted : (new : Rows PartitionState) → HasTakenOver (remove roomy id) new new_owner gone → IsDeleted rows new new_owner id
-  has_deleted new taken =
+  pub is_deleted : (new : Rows PartitionState) → HasTakenOver (remove roomy id) new new_owner gone → IsDeleted rows new new_owner id
+  is_deleted new taken =
       let taken_row : taken.row ≡ row = (let both = sym taken.there ∙ found in cc) in
       let owner : Some (new_owner_of gone taken.room taken.row) ≡ Some (new_owner_of may.gone.1 taken.room room.row) =
       ap {A = Row PartitionState} (λ r. Some (new_owner_of gone taken.room r)) taken_row ∙ ap {A = PartitionState} (λ p. Some (new_owner_of p taken.room room.row)) (sym same) in

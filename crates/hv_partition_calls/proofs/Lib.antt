@@ -5,4 +5,4 @@ pub mod Ended
 pub mod Lent
 pub mod Listed
 pub mod Needs
-pub mod Outcomes
+pub mod Told

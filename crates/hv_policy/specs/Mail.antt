@@ -12,6 +12,9 @@ pub record Place : Type 0 where
   pub vp : ℕ
   pub sint : ℕ
 
+abbrev pub place : ℕ → ℕ → ℕ → Place
+place part vp sint = record { part = part; vp = vp; sint = sint }
+
 abbrev pub place_of : MailRow → Place
 place_of row = record { part = row.part; vp = row.vp; sint = row.sint }
 

@@ -1,6 +1,7 @@
 -- The values of a flat state that calls and accesses read for their outputs. A missing value reads as 0.
-use Rattle.std.specs.Prelude.{ℕ, ◌&&◌, nat_lt, List, find, Option, None, Some}
+use Rattle.std.specs.Prelude.{ℕ, ◌&&◌, Bool, false, nat_lt, List, find, Option, None, Some}
 use Rattle.std.specs.FinMap.{get, entries}
+use Rattle.std.specs.FinSet as set
 use Rattle.std.specs.Option.{option_map_or}
 use Rattle.hv_defs.specs.Flags.{flag_bytes}
 use Rattle.hv_defs.specs.Slot.{zeros}
@@ -35,6 +36,15 @@ register_of row name = option_map_or (λ row. option_map_or (λ value. value) (g
 -- the value of a model-specific register of that processor, by the register's name in a call
 abbrev pub msr_of : Option VpRow → Option ℕ → ℕ
 msr_of row name = option_map_or (register_of row) name 0
+
+-- whether an event flag is set at the processor with this row, and whether a vector is pending there
+abbrev pub has_flag : Option VpRow → ℕ → ℕ → Bool
+has_flag None sint flag = false
+has_flag (Some row) sint flag = set.contains row.flags (sint, flag)
+
+abbrev pub has_vector : Option VpRow → ℕ → Bool
+has_vector None vector = false
+has_vector (Some row) vector = set.contains row.pending vector
 
 -- the bytes of the event flags of a SINT of the processor with this row, or zeros if it is missing
 abbrev pub flags_at : Option VpRow → ℕ → List ℕ

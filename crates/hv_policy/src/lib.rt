@@ -24,7 +24,7 @@ mod reply;
 mod result;
 mod rule;
 
-pub use answer::{Answer, CallOutput, CallReply};
+pub use answer::Answer;
 pub use asking::ask_frame;
 pub use config::{BootRefused, Config};
 pub use event::{Access, Action, Caller, Event};
@@ -32,6 +32,6 @@ pub use need::{Kin, Need, States, needs};
 pub use property::Property;
 pub use reply::{Output, Reply};
 pub use result::{
-    completed_reps, refused_reply, refused_reps, result_of, result_value, served_reply,
+    completed_reps, refused_answer, refused_reps, result_of, result_value, served_answer,
 };
 pub use rule::Rule;

@@ -42,8 +42,8 @@ impl States {
             States::Any => true,
             States::Created => life == Life::Created,
             States::Active => life == Life::Active,
-            States::CreatedOrActive => life != Life::Finalized,
-            States::CreatedOrFinalized => life != Life::Active,
+            States::CreatedOrActive => life == Life::Created || life == Life::Active,
+            States::CreatedOrFinalized => life == Life::Created || life == Life::Finalized,
         }
     }
 }

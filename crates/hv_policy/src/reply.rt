@@ -1,5 +1,6 @@
 // The reply to an event.
 ghost use Rattle.std.specs.Prelude.{◌≡◌, ◌+◌, ◌≤◌, ◌++◌, [], length};
+ghost use Rattle.std.specs.Int.{w64, to_le_bytes};
 ghost use Rattle.hv_policy.specs.Parts.{reply_of};
 
 use crate::answer::Answer;
@@ -40,6 +41,14 @@ impl Output {
         let Ok(()) = self.bytes.try_extend_from_slice(bytes) else {
             unreachable!()
         };
+    }
+
+    /// Appends a number as 8 bytes, the lowest first.
+    pub fn push_number(&mut self, number: u64)
+        requires { length self.old + 8 ≤ 256 }
+        ensures { self.new ≡ self.old ++ to_le_bytes w64 number }
+    {
+        self.extend_from_slice(&number.to_le_bytes());
     }
 
     /// Removes all bytes.

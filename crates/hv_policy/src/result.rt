@@ -10,7 +10,7 @@ ghost use Rattle.hv_policy.specs.Result.{completed_reps as completed_reps_of, re
 ghost use Rattle.hv_policy.specs.Step.{refusal};
 ghost use Rattle.hv_policy.specs.declared.event.Action.TheVariants.{Hypercall};
 
-use crate::answer::{Answer, CallOutput, CallReply};
+use crate::answer::Answer;
 use crate::reply::Reply;
 use crate::rule::Rule;
 use hv_abi::{CallKind, Frame, InputValue, ResultValue, Shape, Status};
@@ -42,39 +42,32 @@ pub fn result_value<A: Allocator>(rcx: u64, answer: Answer) -> ResultValue
     }
 }
 
-/// Returns the reply to a served element, which says whether more follow. A simple call is its own last
+/// Returns the answer to a served element, which says whether more follow. A simple call is its own last
 /// element.
-pub fn served_reply<A: Allocator>(frame: &Frame<A>, shape: Shape, output: CallOutput) -> CallReply
+pub fn served_answer<A: Allocator>(frame: &Frame<A>, shape: Shape) -> Answer
     requires shape { IsShape frame.now shape }
     requires named { call_of frame.now ≡ Some shape.kind }
-    ensures { result ≡ reply_with frame.now output }
+    ensures { (output : List ℕ) → reply_of result output ≡ reply_with frame.now output }
 {
-    let answer = if shape.kind.is_rep() && shape.start + 1 < shape.reps {
+    if shape.kind.is_rep() && shape.start + 1 < shape.reps {
         Answer::More {
             next: shape.start + 1,
         }
     } else {
         Answer::Served
-    };
-    CallReply { answer, output }
+    }
 }
 
-/// Returns the reply to a call that this rule refuses.
-pub fn refused_reply<A: Allocator>(frame: &Frame<A>, rule: Rule) -> CallReply
-    ensures { result ≡ refusal (Hypercall frame.now) rule }
+/// Returns the answer to a call that this rule refuses.
+pub fn refused_answer<A: Allocator>(frame: &Frame<A>, rule: Rule) -> Answer
+    ensures { (output : List ℕ) → reply_of result output ≡ refusal (Hypercall frame.now) rule }
 {
     match rule.status(kind_of(frame.rcx)) {
-        None => CallReply {
-            answer: Answer::Fault { rule },
-            output: CallOutput::new(),
-        },
-        Some(status) => CallReply {
-            answer: Answer::Denied {
-                rule,
-                status,
-                reps: refused_reps(frame.rcx),
-            },
-            output: CallOutput::new(),
+        None => Answer::Fault { rule },
+        Some(status) => Answer::Denied {
+            rule,
+            status,
+            reps: refused_reps(frame.rcx),
         },
     }
 }

@@ -1,5 +1,5 @@
 -- Loose and pooled pages as the model looks them up, in a state that a machine stands for.
-use Rattle.std.proofs.Common.{◌≡◌, ℕ, ◌==◌, Bool, true, false, ◌&&◌, find, Option, Some, None, refl, sym, ap, ◌∙◌, arith}
+use Rattle.std.proofs.Common.{◌≡◌, ℕ, ◌==◌, Bool, true, false, ◌&&◌, find, Option, Some, None, refl, sym, ap, subst, ◌∙◌, arith}
 use Rattle.std.specs.FinMap.{get, entries}
 use Rattle.hv_defs.proofs.Counts.{passes}
 use Rattle.hv_pages.specs.PageSet.{IsLowest}
@@ -57,3 +57,14 @@ module _ (rows : Rows PartitionState) (f : Flat) (flat : Refines rows f) (id : �
       let ge = low.least c.0 (sym (ap (holds true c.0) is) ∙ own_held c.0 c.1 c_there c_own) in
       let number : c.0 ≡ page = omega arith in
       ap number_of same ∙ ap Some number
+
+  -- and what is the model's lowest is one that it holds
+  pub lowest_held : (page : ℕ) → lowest_pooled f id ≡ Some page → holds true page (get rows id) ≡ true
+  lowest_held page low = by found refl low
+    where
+      by : (c : Option (ℕ × PageRow)) → found ≡ c → number_of c ≡ Some page → holds true page (get rows id) ≡ true
+      by None is h = cc
+      by (Some c) is h =
+          let (there, own) = found_row is_own f.page c is in
+          let same : c.0 ≡ page = cc in
+          subst (λ q. holds true q (get rows id) ≡ true) same (own_held c.0 c.1 there own)

@@ -1,25 +1,24 @@
 -- Pages that come to a partition and go from it, one write after another: the rows are tied to what the model makes of them.
-use Rattle.std.proofs.Common.{◌≡◌, ℕ, ◌==◌, Bool, true, false, cond, ◌&&◌, ◌||◌, not, Option, Some, None, is_some, refl, sym, ap, ◌∙◌, subst, eqb-true, eq-eqb, option_map, nat_cmp}
+use Rattle.std.proofs.Common.{◌≡◌, ◌≢◌, ℕ, ◌==◌, Bool, true, false, cond, ◌&&◌, ◌||◌, not, Option, Some, None, is_some, refl, sym, ap, ◌∙◌, subst, eqb-true, eq-eqb, option_map, nat_cmp}
 use Rattle.std.proofs.lemmas.Iterator.Adapters.{option_map_id}
 use Rattle.std.specs.Cmp.{nat_cmp_total, unsigned_tied}
 use Rattle.std.specs.FinMap.{FinMap, get, insert, remove, nat_cmp-IsAntisymmetric, same_map}
 use Rattle.std.specs.FinSet as set
+use Rattle.hv_effect.proofs.Others.{page_told}
+use Rattle.hv_effect.specs.Effect.{Tells}
+use Rattle.hv_effect.specs.declared.effect.Effect.TheVariants as variant
 use Rattle.hv_defs.proofs.Maps.{get_at-insert, get_at-remove}
-use Rattle.hv_pages.specs.PageSet.{IsLowest, PagesAndRoom}
+use Rattle.hv_pages.specs.PageSet.{Pages, PagesAndRoom}
 use Rattle.hv_partition.specs.Partition.{PartitionState, pages_in, with_pages}
 use Rattle.hv_partition.specs.declared.kind.PageKind.{PageKind}
 use Rattle.hv_partition.specs.declared.kind.PageKind.TheVariants.{Loose, Pooled}
-use Rattle.hv_policy.specs.Count.{lowest_pooled}
-use Rattle.hv_policy.specs.Effect.{withdrawn}
 use Rattle.hv_policy.specs.Flat.{Flat, PageRow}
-use Rattle.hv_tree.proofs.Laws.{get-change, change-of}
+use Rattle.hv_tree.proofs.Laws.{get-change, change-of, same_rows}
 use Rattle.hv_tree.specs.Rows.{Row, Rows, content, change}
 use Rattle.hv_refine.proofs.Held.{apart_sets, held_alone, held_by_owner}
-use Rattle.hv_refine.proofs.Room.{kept_tied}
 use Rattle.hv_refine.specs.Room.{IsSameButRoom, bare}
 use Rattle.hv_refine.specs.Tie.{Refines, PartitionRelation, holds, is_held}
-use Rattle.hv_pools.proofs.Lowest.{lowest_is}
-use Rattle.hv_pools.specs.Change.{CanGain, HasGained, HasLost, HasLostLowest, HasOneRoom, HasPages, MayDeposit, MayWithdraw, pages_at, with_pages_at}
+use Rattle.hv_pools.specs.Change.{CanGain, CanHold, HasGained, HasLost, HasPages, MayMove, kind_of, moved_to, pages_at, with_pages_at}
 
 -- a partition that was lent, and its pages of a kind changed
 pub written : (rows : Rows PartitionState) (id : ℕ) (kind : PageKind) (p w : PartitionState) (How : PagesAndRoom → PagesAndRoom → Type 0) → Some p ≡ content rows id → w ≡ with_pages kind
@@ -31,15 +30,6 @@ written rows id kind p w How there rest how = record {
   how = how;
   rows = ap {A = PartitionState} (λ v. change rows id (λ _. v)) rest ∙ change-of rows id (with_pages kind (pages_in kind w)) p (sym there);
 }
-
--- a page that was the lowest is one that was lost
-lost_lowest : (old new : Rows PartitionState) (id page : ℕ) (kind : PageKind) → HasPages old new id kind (HasLostLowest page) → HasPages old new id kind (HasLost page)
-lost_lowest old new id page kind lost = record { before = lost.before; at = lost.at; after = lost.after; how = lost.how.1; rows = lost.rows }
-
--- the kind of pages that the model calls pooled, or not
-abbrev kind_of : Bool → PageKind
-kind_of false = Loose
-kind_of true = Pooled
 
 -- a row with other pages of a kind where the test holds
 abbrev pages_if : Bool → PageKind → PagesAndRoom → Row PartitionState → Row PartitionState
@@ -91,17 +81,43 @@ bare_with : (kind : PageKind) (v : PagesAndRoom) (r : Row PartitionState) → v.
 bare_with Loose v r same = ap {A = set.FinSet nat_cmp} (λ ps. bare (r.0, record r.1 { loose = record { pages = ps; room = 0 } })) same
 bare_with Pooled v r same = ap {A = set.FinSet nat_cmp} (λ ps. bare (r.0, record r.1 { pooled = record { pages = ps; room = 0 } })) same
 
--- room for a page changes nothing else
-pub room_alone : (old new : Rows PartitionState) (id : ℕ) (kind : PageKind) → HasPages old new id kind HasOneRoom → IsSameButRoom old new
-room_alone old new id kind room q = ap (λ rows. option_map bare (get rows q)) room.rows ∙ ap (option_map bare) (get-with_pages old id kind room.after q) ∙ by (q == id) (get old q) refl refl
+-- the pages are unchanged
+abbrev HasSame : PagesAndRoom → PagesAndRoom → Type 0
+HasSame before after = after.pages ≡ before.pages
+
+-- then only room changed
+same_alone : (old new : Rows PartitionState) (id : ℕ) (kind : PageKind) → HasPages old new id kind HasSame → IsSameButRoom old new
+same_alone old new id kind same q = ap (λ rows. option_map bare (get rows q)) same.rows ∙ ap (option_map bare) (get-with_pages old id kind same.after q) ∙ by (q == id) (get old q) refl refl
   where
-    by : (b : Bool) (r : Option (Row PartitionState)) → q == id ≡ b → get old q ≡ r → option_map bare (option_map (pages_if b kind room.after) r) ≡ option_map bare r
+    by : (b : Bool) (r : Option (Row PartitionState)) → q == id ≡ b → get old q ≡ r → option_map bare (option_map (pages_if b kind same.after) r) ≡ option_map bare r
     by b None is at = refl
     by false (Some r) is at = refl
     by true (Some r) is at =
-        let same : pages_in kind r.1 ≡ room.before = some_same (pages_at old q kind) (pages_in kind r.1) room.before (ap (λ r. option_map (pages_in kind) (option_map (λ r. r.1) r)) at)
-        (ap (λ n. pages_at old n kind) (eqb-true q id is) ∙ room.at) in
-        ap Some (bare_with kind room.after r (room.how.0 ∙ ap {A = PagesAndRoom} (λ p. p.pages) (sym same)))
+        let had : pages_in kind r.1 ≡ same.before = some_same (pages_at old q kind) (pages_in kind r.1) same.before (ap (λ r. option_map (pages_in kind) (option_map (λ r. r.1) r)) at)
+        (ap (λ n. pages_at old n kind) (eqb-true q id is) ∙ same.at) in
+        ap Some (bare_with kind same.after r (same.how ∙ ap {A = PagesAndRoom} (λ p. p.pages) (sym had)))
+
+-- of two writes of a partition's pages of a kind the last one shows
+twice : (rows : Rows PartitionState) (id : ℕ) (kind : PageKind) (v w : PagesAndRoom) → with_pages_at (with_pages_at rows id kind v) id kind w ≡ with_pages_at rows id kind w
+twice rows id kind v w = same_rows _ _ (λ q.
+    get-with_pages (with_pages_at rows id kind v) id kind w q ∙ ap (option_map (pages_if (q == id) kind w)) (get-with_pages rows id kind v q) ∙ by (q == id) kind (get rows q)
+    ∙ sym (get-with_pages rows id kind w q))
+  where
+    by : (b : Bool) (kind : PageKind) (r : Option (Row PartitionState)) → option_map (pages_if b kind w) (option_map (pages_if b kind v) r) ≡ option_map (pages_if b kind w) r
+    by b kind None = refl
+    by false kind (Some r) = refl
+    by true Loose (Some r) = refl
+    by true Pooled (Some r) = refl
+
+-- a page that is taken out and put in again
+insert-remove : (s : Pages) (x : ℕ) → set.contains s x ≡ true → set.insert (set.remove s x) x ≡ s
+insert-remove s x is = set.same_set nat_cmp_total nat_cmp-IsAntisymmetric (set.insert (set.remove s x) x) s (λ q.
+    set.contains-insert nat_cmp_total (set.remove s x) x q ∙ ap (λ b. b || set.contains (set.remove s x) q) (unsigned_tied q x)
+    ∙ ap (λ b. (q == x) || b) (set.contains-remove nat_cmp_total s x q ∙ ap (λ b. not b && set.contains s q) (unsigned_tied q x)) ∙ by q (q == x) refl)
+  where
+    by : (q : ℕ) (b : Bool) → q == x ≡ b → (b || (not b && set.contains s q)) ≡ set.contains s q
+    by q true same = sym (ap (set.contains s) (eqb-true q x same) ∙ is)
+    by q false same = refl
 
 -- a partition's pages of one kind were written as other page rows have them, and nothing else changed
 pages_tied : (rows : Rows PartitionState) (f : Flat) → Refines rows f → (id : ℕ) (pooled : Bool) (v : PagesAndRoom) (m : FinMap nat_cmp PageRow) → is_some (get rows id) ≡ true →
@@ -149,7 +165,7 @@ module _ (rows new : Rows PartitionState) (f : Flat) (flat : Refines rows f) (id
     where
       own : (x : ℕ) → is_held id pooled (get (remove f.page page) x) ≡ set.contains h.after.pages x
       own x = ap (is_held id pooled) (get_at-remove f.page page x) ∙ by (x == page)
-          ∙ sym (ap (λ s. set.contains s x) h.how ∙ set.contains-remove nat_cmp_total h.before.pages page x ∙ ap (λ b. not b && set.contains h.before.pages x) (unsigned_tied x page))
+          ∙ sym (ap (λ s. set.contains s x) h.how.0 ∙ set.contains-remove nat_cmp_total h.before.pages page x ∙ ap (λ b. not b && set.contains h.before.pages x) (unsigned_tied x page))
         where
           by : (b : Bool) → is_held id pooled (cond b None (get f.page x)) ≡ (not b && set.contains h.before.pages x)
           by true = refl
@@ -196,58 +212,60 @@ again m k v = same_map nat_cmp_total nat_cmp-IsAntisymmetric (insert (remove m k
     by true o = refl
     by false o = refl
 
--- a page that moves from one kind of `from` to the other kind of `to`, once there is room for it
-module _ (old roomy left : Rows PartitionState) (from to page : ℕ) (pooled : Bool) (room : HasPages old roomy to (kind_of (not pooled)) HasOneRoom)
-    (lost : HasPages roomy left from (kind_of pooled) (HasLost page)) where
-  can_gain : (target : PagesAndRoom) → pages_at old to (kind_of (not pooled)) ≡ Some target → set.contains target.pages page ≡ false → CanGain page (pages_at left to (kind_of (not pooled)))
-  can_gain target at new = record {
-    there = room.after;
-    at = ap (λ rows. pages_at rows to (kind_of (not pooled))) lost.rows ∙ pages_apart roomy from pooled lost.after to ∙ ap (λ rows. pages_at rows to (kind_of (not pooled))) room.rows
-        ∙ pages_same old to (kind_of (not pooled)) room.after room.before room.at;
-    room = room.how.1;
-    new = ap {A = set.FinSet nat_cmp} (λ ps. set.contains ps page) room.how.0
-        ∙ ap {A = PagesAndRoom} (λ p. set.contains p.pages page) (some_same (pages_at old to (kind_of (not pooled))) room.before target room.at at) ∙ new;
+neither : (b : Bool) → (b && false) ≡ true → ⊥
+neither true h = cc
+neither false h = cc
+
+-- a page that may move is not yet where it moves to
+module _ (old : Rows PartitionState) (from to page : ℕ) (pooled : Bool) (may : MayMove old from to page pooled) (f : Flat) (flat : Refines old f) where
+  held_from : is_held from pooled (get f.page page) ≡ true
+  held_from = told old f flat from pooled may.source may.had page ∙ may.held
+
+  apart : (pooled : Bool) → is_held from pooled (get f.page page) ≡ true → get f.page page ≢ Some (record { owner = to; pooled = not pooled })
+  apart true held there = neither (to == from) (sym (ap (is_held from true) there) ∙ held)
+  apart false held there = neither (to == from) (sym (ap (is_held from false) there) ∙ held)
+
+  pub move_told : Tells (variant.Page page to (not pooled)) f (moved_to f page to (not pooled))
+  move_told = page_told f page to (not pooled) (apart pooled held_from)
+
+-- a page that moves from one kind of `from` to the other kind of `to`
+module _ (old left : Rows PartitionState) (from to page : ℕ) (pooled : Bool) (may : MayMove old from to page pooled) (lost : HasPages old left from (kind_of pooled) (HasLost page)) where
+  pub can_hold : CanHold page (pages_at left to (kind_of (not pooled)))
+  can_hold = record {
+    there = may.target;
+    at = ap (λ rows. pages_at rows to (kind_of (not pooled))) lost.rows ∙ pages_apart old from pooled lost.after to ∙ may.there;
+    new = may.new;
   }
 
-  moved_tied : (new : Rows PartitionState) → HasPages left new to (kind_of (not pooled)) (HasGained page) → (f : Flat) → Refines old f → is_held from pooled (get f.page page) ≡ true → Refines new
-      (record f { page = insert f.page page (record { owner = to; pooled = not pooled }) })
-  moved_tied new gained f flat one =
+  pub moved_tied : (new : Rows PartitionState) → HasPages left new to (kind_of (not pooled)) (HasGained page) → (f : Flat) → Refines old f → Refines new
+      (moved_to f page to (not pooled))
+  moved_tied new gained f flat =
       subst (λ (m : FinMap nat_cmp PageRow). Refines new (record f { page = m })) (again f.page page (record { owner = to; pooled = not pooled }))
-      (gained_tied left new (record f { page = remove f.page page })
-      (lost_tied roomy left f (kept_tied old roomy (room_alone old roomy to (kind_of (not pooled)) room) f flat) from page pooled lost one)
+      (gained_tied left new (record f { page = remove f.page page }) (lost_tied old left f flat from page pooled lost (told old f flat from pooled may.source may.had page ∙ may.held))
       to page (not pooled) gained (get_at-remove f.page page page ∙ ap (λ b. cond b None (get f.page page)) (eq-eqb page page refl)))
 
--- a deposit and a withdrawal
-module _ (old roomy : Rows PartitionState) (from to : ℕ) where
-  pub loose_there : HasPages old roomy to Pooled HasOneRoom → (p : PagesAndRoom) → pages_at old from Loose ≡ Some p → pages_at roomy from Loose ≡ Some p
-  loose_there room p at = ap (λ rows. pages_at rows from Loose) room.rows ∙ pages_apart old to true room.after from ∙ at
+  -- or goes back, out of memory
+  had_it : set.contains lost.before.pages page ≡ true
+  had_it = ap {A = PagesAndRoom} (λ p. set.contains p.pages page) (some_same (pages_at old from (kind_of pooled)) lost.before may.source lost.at may.had) ∙ may.held
 
-  pub pool_there : HasPages old roomy to Loose HasOneRoom → (p : PagesAndRoom) → pages_at old from Pooled ≡ Some p → pages_at roomy from Pooled ≡ Some p
-  pool_there room p at = ap (λ rows. pages_at rows from Pooled) room.rows ∙ pages_apart old to false room.after from ∙ at
+  at_left : pages_at left from (kind_of pooled) ≡ Some lost.after
+  at_left = ap (λ rows. pages_at rows from (kind_of pooled)) lost.rows ∙ pages_same old from (kind_of pooled) lost.after lost.before lost.at
 
-  module _ (left : Rows PartitionState) (page : ℕ) where
-    module _ (may : MayDeposit old from to page) (room : HasPages old roomy to Pooled HasOneRoom) (lost : HasPages roomy left from Loose (HasLost page)) where
-      pub pool_can_gain : CanGain page (pages_at left to Pooled)
-      pool_can_gain = can_gain old roomy left from to page false room lost may.pooled may.pool may.new
+  pub can_gain : CanGain page (pages_at left from (kind_of pooled))
+  can_gain = record {
+    there = lost.after;
+    at = at_left;
+    room = lost.how.1;
+    new = ap {A = Pages} (λ ps. set.contains ps page) lost.how.0 ∙ set.contains-remove nat_cmp_total lost.before.pages page page
+        ∙ ap (λ b. not b && set.contains lost.before.pages page) (unsigned_tied page page ∙ eq-eqb page page refl);
+  }
 
-      pub deposited_tied : (new : Rows PartitionState) → HasPages left new to Pooled (HasGained page) → (f : Flat) → Refines old f → Refines new
-          (record f { page = insert f.page page (record { owner = to; pooled = true }) })
-      deposited_tied new gained f flat = moved_tied old roomy left from to page false room lost new gained f flat (told old f flat from false may.loose may.had page ∙ may.held)
-
-    module _ (may : MayWithdraw old from to) (room : HasPages old roomy to Loose HasOneRoom) (lowest : HasPages roomy left from Pooled (HasLostLowest page)) where
-      lost : HasPages roomy left from Pooled (HasLost page)
-      lost = lost_lowest roomy left from page Pooled lowest
-
-      is_lowest : IsLowest may.pooled.pages page
-      is_lowest = subst {A = PagesAndRoom} (λ p. IsLowest p.pages page) (some_same (pages_at roomy from Pooled) lowest.before may.pooled lowest.at (pool_there room may.pooled may.pool)) lowest.how.0
-
-      pub loose_can_gain : CanGain page (pages_at left to Loose)
-      loose_can_gain = can_gain old roomy left from to page true room lost may.loose may.had (may.apart page is_lowest.held)
-
-      pub withdrawn_tied : (new : Rows PartitionState) → HasPages left new to Loose (HasGained page) → (f : Flat) → Refines old f → Refines new
-          (record f { page = withdrawn to (lowest_pooled f from) f.page })
-      withdrawn_tied new gained f flat =
-          let (r, is, same) = pages_row old from Pooled may.pooled may.pool in
-          let low = lowest_is old f flat from r is page (subst {A = PagesAndRoom} (λ p. IsLowest p.pages page) (sym same) is_lowest) in
-          subst (λ low. Refines new (record f { page = withdrawn to low f.page })) (sym low)
-          (moved_tied old roomy left from to page true room lost new gained f flat (told old f flat from true may.pooled may.pool page ∙ is_lowest.held))
+  pub went_back : (new : Rows PartitionState) → HasPages left new from (kind_of pooled) (HasGained page) → IsSameButRoom old new
+  went_back new gained = same_alone old new from (kind_of pooled) (record {
+    before = lost.before;
+    at = lost.at;
+    after = gained.after;
+    how = gained.how ∙ ap {A = PagesAndRoom} (λ p. set.insert p.pages page) (some_same (pages_at left from (kind_of pooled)) gained.before lost.after gained.at at_left)
+        ∙ ap {A = Pages} (λ s. set.insert s page) lost.how.0 ∙ insert-remove lost.before.pages page had_it;
+    rows = gained.rows ∙ ap (λ rows. with_pages_at rows from (kind_of pooled) gained.after) lost.rows ∙ twice old from (kind_of pooled) lost.after gained.after;
+  })

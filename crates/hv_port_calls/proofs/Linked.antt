@@ -1,4 +1,4 @@
--- One port or connection that came or went: the rows are tied to what the model makes of it.
+-- One port or connection is added or removed: the new rows refine what the model makes of the old state.
 use Rattle.std.proofs.Common.{◌≡◌, ℕ, ◌==◌, ◌&&◌, Bool, true, false, cond, Option, Some, None, refl, sym, ap, subst, ◌∙◌, eqb-true, option_map, nat_cmp}
 use Rattle.std.specs.Cmp.{nat_cmp_total}
 use Rattle.std.specs.FinMap.{FinMap, get, insert, remove, get-insert, get-remove}
@@ -11,7 +11,9 @@ use Rattle.hv_ports.specs.declared.ports.Conn.{Conn}
 use Rattle.hv_ports.specs.declared.ports.Port.{Port}
 use Rattle.hv_refine.proofs.Found.{content_row}
 use Rattle.hv_refine.proofs.Links.{conns_tied, ports_tied}
+use Rattle.hv_refine.specs.Room.{IsSameButRoom, bare}
 use Rattle.hv_refine.specs.Tie.{Refines, conn_row, conn_row_of, port_row, port_row_of}
+use Rattle.hv_tree.proofs.Laws.{change-unchanged}
 use Rattle.hv_tree.specs.Rows.{Rows, change, changed_at, content}
 
 -- what is at a key of a pair after one of them was written
@@ -46,9 +48,11 @@ module _ (rows : Rows PartitionState) (f : Flat) (flat : Refines rows f) (id n :
       (rest ∙ ap {A = PartitionState} (λ q. record q { ports = w.ports }) (sym same))))
       (ports_tied rows f flat id r is w.ports m (written port_row_of id n to f.port p.ports.rows port_was w.ports.rows m here at))
 
-  pub port_added : (x : Port) → w.ports.rows ≡ insert p.ports.rows n x → w ≡ record p { ports = w.ports } → Refines (change rows id (λ _. w))
-      (record f { port = insert f.port (id, n) (port_row_of x) })
-  port_added x is rest = ports_after (Some x) (insert f.port (id, n) (port_row_of x)) rest (λ k. ap {A = FinMap nat_cmp Port} (λ m. get m k) is ∙ get-insert nat_cmp_total p.ports.rows n x k)
+  -- `q` is the partition with room for one more
+  pub port_added : (x : Port) (q : PartitionState) → q.ports.rows ≡ p.ports.rows → q ≡ record p { ports = q.ports } → w.ports.rows ≡ insert q.ports.rows n x → w ≡ record q { ports = w.ports } →
+      Refines (change rows id (λ _. w)) (record f { port = insert f.port (id, n) (port_row_of x) })
+  port_added x q same room is rest = ports_after (Some x) (insert f.port (id, n) (port_row_of x)) (rest ∙ ap {A = PartitionState} (λ p. record p { ports = w.ports }) room)
+      (λ k. ap {A = FinMap nat_cmp Port} (λ m. get m k) (is ∙ ap {A = FinMap nat_cmp Port} (λ m. insert m n x) same) ∙ get-insert nat_cmp_total p.ports.rows n x k)
       (λ key. get-insert pair_cmp_total f.port (id, n) (port_row_of x) key)
 
   pub port_removed : w.ports.rows ≡ remove p.ports.rows n → w ≡ record p { ports = w.ports } → Refines (change rows id (λ _. w)) (record f { port = remove f.port (id, n) })
@@ -68,11 +72,20 @@ module _ (rows : Rows PartitionState) (f : Flat) (flat : Refines rows f) (id n :
       (rest ∙ ap {A = PartitionState} (λ q. record q { conns = w.conns }) (sym same))))
       (conns_tied rows f flat id r is w.conns m (written conn_row_of id n to f.conn p.conns.rows conn_was w.conns.rows m here at))
 
-  pub conn_added : (x : Conn) → w.conns.rows ≡ insert p.conns.rows n x → w ≡ record p { conns = w.conns } → Refines (change rows id (λ _. w))
-      (record f { conn = insert f.conn (id, n) (conn_row_of x) })
-  conn_added x is rest = conns_after (Some x) (insert f.conn (id, n) (conn_row_of x)) rest (λ k. ap {A = FinMap nat_cmp Conn} (λ m. get m k) is ∙ get-insert nat_cmp_total p.conns.rows n x k)
+  pub conn_added : (x : Conn) (q : PartitionState) → q.conns.rows ≡ p.conns.rows → q ≡ record p { conns = q.conns } → w.conns.rows ≡ insert q.conns.rows n x → w ≡ record q { conns = w.conns } →
+      Refines (change rows id (λ _. w)) (record f { conn = insert f.conn (id, n) (conn_row_of x) })
+  conn_added x q same room is rest = conns_after (Some x) (insert f.conn (id, n) (conn_row_of x)) (rest ∙ ap {A = PartitionState} (λ p. record p { conns = w.conns }) room)
+      (λ k. ap {A = FinMap nat_cmp Conn} (λ m. get m k) (is ∙ ap {A = FinMap nat_cmp Conn} (λ m. insert m n x) same) ∙ get-insert nat_cmp_total p.conns.rows n x k)
       (λ key. get-insert pair_cmp_total f.conn (id, n) (conn_row_of x) key)
 
   pub conn_removed : w.conns.rows ≡ remove p.conns.rows n → w ≡ record p { conns = w.conns } → Refines (change rows id (λ _. w)) (record f { conn = remove f.conn (id, n) })
   conn_removed is rest = conns_after None (remove f.conn (id, n)) rest (λ k. ap {A = FinMap nat_cmp Conn} (λ m. get m k) is ∙ get-remove nat_cmp_total p.conns.rows n k)
       (λ key. get-remove pair_cmp_total f.conn (id, n) key)
+
+-- a partition that was lent and put back unchanged
+pub put_back : (rows : Rows PartitionState) (id : ℕ) (p w : PartitionState) → Some p ≡ content rows id → w ≡ p → IsSameButRoom rows (change rows id (λ _. w))
+put_back rows id p w there same q = ap (λ rows. option_map bare (get rows q)) (change-unchanged rows id w (sym there ∙ ap Some (sym same)))
+
+-- the relation carried to an equal flat state
+pub carried : (rows : Rows PartitionState) (f g : Flat) → Refines rows f → f ≡ g → Refines rows g
+carried rows f g flat same = subst (Refines rows) same flat

@@ -10,7 +10,7 @@ use Rattle.std.specs.FinMap.Entries.{below_all}
 use Rattle.std.specs.FinSet as set
 use Rattle.std.specs.List.{AllByRecursion, IsDistinct, list_any}
 use Rattle.std.specs.Ordering.{eq_by_cmp}
-use Rattle.hv_defs.proofs.Counts.{both_parts, less_apart, passes, count_by-keys, count_by-set, count_by-none, distinct_keys, len-from_list}
+use Rattle.hv_defs.proofs.Counts.{both_parts, less_apart, passes, count_by-keys, count_by-set, distinct_keys, len-from_list}
 use Rattle.hv_partition.specs.Partition.{PartitionState, in_use as uses, available as may_use}
 use Rattle.hv_policy.proofs.Pairs.{count_by-pairs}
 use Rattle.hv_policy.specs.Count.{is_parent, child_count, vp_count, port_count, conn_count, pooled_count, in_use, available}
@@ -128,17 +128,3 @@ module _ (rows : Rows PartitionState) (f : Flat) (flat : Refines rows f) where
 
     pub available_counted : available f id ≡ may_use (length (children rows id)) r.1
     available_counted = let pool = pool_counted in let used = use_counted in rw (pool, used) refl
-
-  -- a partition that isn't there uses nothing, and has nothing to use
-  pub none_in_use : (id : ℕ) → get rows id ≡ None → children rows id ≡ [] → in_use f id ≡ 0
-  none_in_use id is childless =
-      let children = children_counted id ∙ ap length childless in
-      let vps : vp_count f id ≡ 0 = count_by-nothing id f.vp (λ i. (flat.rows id).vp i ∙ ap (vp_row i) is) in
-      let ports : port_count f id ≡ 0 = count_by-nothing id f.port (λ i. (flat.rows id).port i ∙ ap (port_row i) is) in
-      let conns : conn_count f id ≡ 0 = count_by-nothing id f.conn (λ i. (flat.rows id).conn i ∙ ap (conn_row i) is) in
-      omega arith
-
-  pub none_available : (id : ℕ) → get rows id ≡ None → available f id ≡ 0
-  none_available id is =
-      let pooled : pooled_count f id ≡ 0 = count_by-none nat_cmp nat_cmp_total nat_cmp-IsAntisymmetric f.page (λ e. e.1.owner == id && e.1.pooled) (λ q. pooled_at id q ∙ ap (holds true q) is) in
-      omega arith

@@ -1,4 +1,5 @@
 pub mod Allowed
+pub mod Asked
 pub mod Boxes
 pub mod Changed
 pub mod Counted

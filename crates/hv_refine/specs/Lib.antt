@@ -1,4 +1,6 @@
 pub mod Access
+pub mod Asked
+pub mod Done
 pub mod Room
 pub mod Served
 pub mod Tie

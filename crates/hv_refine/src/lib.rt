@@ -1,11 +1,11 @@
 //! The refinement relation between the tree of partitions and the policy's flat state, and the checks that
 //! all call groups share.
 //!
-//! `Refines` in `specs/` relates the tree's rows to a flat state, key by key. A call group's function may
-//! assume that its call is admitted (`IsAdmitted`: P1 to P10 hold), and ensures the call's outcome in the
-//! policy's terms (`IsOutcome`). The functions here check the rules of every call, P1 to P3 and P8 to P10,
-//! and single rules that several call groups share. Their contracts hold for every flat state that the
-//! tree refines.
+//! `Refines` in `specs/` relates the tree's rows to a flat state, key by key. [`admit`] looks the caller and
+//! the target of a call up, once each, and checks the rules of every call, P1 to P3 and P8 to P10. A call
+//! group then checks the call's own rules on the partitions that were found, and does the call (`IsGranted`
+//! is the condition). `IsCalled` is the outcome of a call in the policy's terms, with its output and effect,
+//! and `IsAnswered` that of an access. The contracts hold for every flat state that the tree refines.
 #![tactic(auto)]
 
 mod access;
@@ -13,10 +13,7 @@ mod partitions;
 mod refused;
 mod rules;
 
-pub use access::{caller_in, caller_vp, unmet_by_target};
+pub use access::{admit, caller_in, caller_vp, first_rule};
 pub use partitions::Partitions;
 pub use refused::CallError;
-pub use rules::{
-    Balance, has_available, has_target, has_vp, is_child, is_state_allowed, memory_balance,
-    number_output, resolve_partition_id,
-};
+pub use rules::{Balance, balance_of, has_target, has_vp, resolve_partition_id};

@@ -1,18 +1,15 @@
-// Rules that several call groups check, and the lookups in the tree that they need.
-ghost use Rattle.std.specs.Prelude.{◌≡◌, ◌==◌};
+// Rules that several call groups check, on the partitions that were looked up.
+ghost use Rattle.std.specs.Prelude.{◌≡◌, ℕ, Some};
 ghost use Rattle.std.specs.FinMap.{contains_key};
-ghost use Rattle.std.specs.Int.{w64, to_le_bytes};
+ghost use Rattle.hv_partition.specs.Partition.{PartitionState, available as may_use, in_use as uses};
 ghost use Rattle.hv_policy.specs.Aim.{has_target as has_target_of};
-ghost use Rattle.hv_policy.specs.Count.{available as available_of, in_use as in_use_of};
 ghost use Rattle.hv_policy.specs.Flat.{Flat};
-ghost use Rattle.hv_policy.specs.Met.{has_available as has_available_of, is_child as is_child_of, is_in};
 ghost use Rattle.hv_policy.specs.Needs.{resolved_id};
-ghost use Rattle.hv_refine.specs.Served.{TreeInvariant};
 ghost use Rattle.hv_refine.specs.Tie.{Refines};
+ghost use Rattle.hv_tree.specs.Rows.{Rows, content};
 
-use crate::partitions::Partitions;
 use hv_defs::{Aim, SELF_ID};
-use hv_policy::{CallOutput, States};
+use hv_partition::{PageKind, Partition};
 use std::alloc::Allocator;
 
 /// A partition's balance of pooled pages: those still available, and those in use.
@@ -29,82 +26,38 @@ pub fn resolve_partition_id(caller: u64, id: u64) -> u64
     if id == SELF_ID { caller } else { id }
 }
 
-/// Returns `true` if `id` is a child of `parent`.
-pub fn is_child<A: Allocator>(tree: &Partitions<A>, parent: u64, id: u64) -> bool
-    ensures { (f : Flat) → Refines tree.now f → result ≡ is_child_of f parent id }
-{
-    match tree.parent_of(id) {
-        None => false,
-        Some(named) => named == parent,
-    }
-}
-
-/// Checks P12: the partition exists and is in one of these life states.
-pub fn is_state_allowed<A: Allocator>(tree: &Partitions<A>, id: u64, states: States) -> bool
-    ensures { (f : Flat) → Refines tree.now f → result ≡ is_in f id states }
-{
-    match tree.get(id) {
-        None => false,
-        Some(partition) => states.allow(partition.life()),
-    }
-}
-
 /// Checks P19: the partition has a processor with this index.
-pub fn has_vp<A: Allocator>(tree: &Partitions<A>, id: u64, index: u32) -> bool
-    ensures { (f : Flat) → Refines tree.now f → result ≡ contains_key f.vp (id, index) }
+pub fn has_vp<A: Allocator>(partition: &Partition<A>, index: u32) -> bool
+    ensures { (tree : Rows PartitionState) (f : Flat) (id : ℕ) → content tree id ≡ Some partition.now
+        → Refines tree f → result ≡ contains_key f.vp (id, index) }
 {
-    let Some(partition) = tree.get(id) else {
-        return false;
-    };
     partition.vp(index).is_some()
 }
 
 /// Checks P19 for a port: the partition has the one processor at which the port aims.
 ///
 /// The rule always holds for `Aim::Any`.
-pub fn has_target<A: Allocator>(tree: &Partitions<A>, id: u64, aim: Aim) -> bool
-    ensures { (f : Flat) → Refines tree.now f → result ≡ has_target_of f id aim }
+pub fn has_target<A: Allocator>(partition: &Partition<A>, aim: Aim) -> bool
+    ensures { (tree : Rows PartitionState) (f : Flat) (id : ℕ) → content tree id ≡ Some partition.now
+        → Refines tree f → result ≡ has_target_of f id aim }
 {
     match aim {
-        Aim::One(index) => has_vp(tree, id, index),
+        Aim::One(index) => has_vp(partition, index),
         Aim::Any => true,
     }
 }
 
-/// Checks P24: the partition has at least `charge` available pages.
-pub fn has_available<A: Allocator>(tree: &Partitions<A>, id: u64, charge: u64) -> bool
-    requires { TreeInvariant tree.now }
-    ensures { (f : Flat) → Refines tree.now f → result ≡ has_available_of f id charge }
+/// Returns the balance of pages of a partition with this number of children.
+pub fn balance_of<A: Allocator>(partition: &Partition<A>, children: u32) -> Balance
+    ensures available { result.available ≡ may_use children partition.now }
+    ensures in_use { result.in_use ≡ uses children partition.now }
 {
-    charge <= memory_balance(tree, id).available
-}
-
-/// Returns a partition's balance of pages, or 0 and 0 if there is no such partition.
-pub fn memory_balance<A: Allocator>(tree: &Partitions<A>, id: u64) -> Balance
-    requires { TreeInvariant tree.now }
-    ensures available { (f : Flat) → Refines tree.now f → result.available ≡ available_of f id }
-    ensures in_use { (f : Flat) → Refines tree.now f → result.in_use ≡ in_use_of f id }
-{
-    let Some(children) = tree.children_of(id) else {
-        return Balance {
-            available: 0,
-            in_use: 0,
-        };
-    };
-    let Some(partition) = tree.get(id) else {
-        unreachable!()
-    };
+    let in_use = partition.in_use(children);
     Balance {
-        available: partition.available(children),
-        in_use: partition.in_use(children),
+        available: partition
+            .pages(PageKind::Pooled)
+            .count()
+            .saturating_sub(in_use),
+        in_use,
     }
-}
-
-/// Returns the output of a call that answers one number.
-pub fn number_output(number: u64) -> CallOutput
-    ensures { result ≡ to_le_bytes w64 number }
-{
-    let mut output = CallOutput::new();
-    output.push_number(number);
-    output
 }

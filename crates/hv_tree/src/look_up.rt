@@ -45,24 +45,25 @@ pub(crate) fn depth_in<T, A: Allocator>(
     None
 }
 
-/// The node with the id.
+/// The node with the id, and its parent's id, if it has a parent.
 pub(crate) fn seek<'t, T, A: Allocator>(
     root: &'t Branch<T, A>,
     index: &Index<A>,
     id: u64,
-) -> Option<&'t Node<T, A>>
+) -> Option<(&'t Node<T, A>, Option<u64>)>
     requires { IsLaid (lines root.now) (parents index.now) }
-    ensures found { IfSome result (λ n. IsReached (parents index.now) id root.now n.now) }
+    ensures found { IfSome result (λ found. IsReached (parents index.now) id root.now found.0.now) }
+    ensures parent { IfSome result (λ found. found.1 ≡ parents index.now id) }
     ensures none { IfNone result (has_row id (lines root.now) ≡ false) }
 {
     if id == root.node.id {
-        return Some(&root.node);
+        return Some((&root.node, None));
     }
     let parent = parent_in(index, id)?;
-    let node = seek(root, index, parent)?;
+    let (node, _) = seek(root, index, parent)?;
     let at = node.place_of(id)?;
     let child = node.children.get(at)?;
-    Some(&child.node)
+    Some((&child.node, Some(parent)))
 }
 
 /// Returns a mutable reference to the node with the id.

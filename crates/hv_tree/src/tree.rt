@@ -70,7 +70,7 @@ impl<T, A: Allocator> IdTree<T, A> {
         ensures { option_copied result ≡ content self.now id }
     {
         match seek(&self.root, &self.index, id) {
-            Some(node) => Some(&node.content),
+            Some((node, _)) => Some(&node.content),
             None => None,
         }
     }
@@ -100,7 +100,22 @@ impl<T, A: Allocator> IdTree<T, A> {
         ensures tree { IsTree self.now }
     {
         match seek(&self.root, &self.index, id) {
-            Some(node) => Some(node.children.len() as u32),
+            Some((node, _)) => Some(node.children.len() as u32),
+            None => None,
+        }
+    }
+
+    /// The content of a node, its parent's id, if it has a parent, and the number of its children.
+    ///
+    /// Returns `None` if no node has the id. One look-up finds all three.
+    pub fn get_row(&self, id: u64) -> Option<(&T, Option<u64>, u32)>
+        ensures content { IfSome result (λ found. content self.now id ≡ Some found.0.now) }
+        ensures parent { IfSome result (λ found. found.1 ≡ parent self.now id) }
+        ensures children { IfSome result (λ found. found.2 ≡ length (children self.now id)) }
+        ensures none { IfNone result (content self.now id ≡ None) }
+    {
+        match seek(&self.root, &self.index, id) {
+            Some((node, parent)) => Some((&node.content, parent, node.children.len() as u32)),
             None => None,
         }
     }
@@ -112,7 +127,7 @@ impl<T, A: Allocator> IdTree<T, A> {
         ensures value { IsLeastAbove previous (children self.now parent) result }
         ensures tree { IsTree self.now }
     {
-        let Some(node) = seek(&self.root, &self.index, parent) else {
+        let Some((node, _)) = seek(&self.root, &self.index, parent) else {
             return None;
         };
         node.child_after(previous)

@@ -1,17 +1,21 @@
 // A processor's messages, event flags and pending vectors.
-ghost use Rattle.std.specs.Prelude.{◌≡◌, ◌<◌, true, IsOk, OnOk, OnErr};
+ghost use Rattle.std.specs.Prelude.{◌≡◌, ◌<◌, ◌==◌, ◌&&◌, ℕ, true, nat_lt, option_map, IsOk, OnOk, OnErr};
+ghost use Rattle.std.specs.FinSet as set;
+ghost use Rattle.std.specs.Int.{bit_at};
 ghost use Rattle.hv_defs.specs.Flags.{flag_bytes};
-ghost use Rattle.hv_defs.specs.Vectors.{highest};
+ghost use Rattle.hv_defs.specs.Registers.{takes_messages};
+ghost use Rattle.hv_defs.specs.Vectors.{highest, raised};
 ghost use Rattle.hv_defs.specs.declared.sizes.TheConstants.{EVENT_FLAGS, SINTS};
-ghost use Rattle.hv_mail.specs.Mail.{at, count_of};
+ghost use Rattle.hv_mail.specs.Mail.{at, count_of, has_next, with_last};
 ghost use Rattle.hv_mail.specs.Slot.{slot_bytes};
 ghost use Rattle.hv_mail.specs.Words.{numbers_of};
 ghost use Rattle.hv_vp.specs.Vp.{ended, flag_cleared, interrupted, posted, raised_if, signalled};
 ghost use Rattle.hv_vp.specs.Vp.{slot_cleared};
 
 use crate::Vp;
+use crate::registers::Registers;
 use hv_defs::{SINT0, SINTS};
-use hv_mail::Message;
+use hv_mail::{Message, Pending};
 use std::alloc::{AllocError, Allocator};
 
 impl<A: Allocator> Vp<A> {
@@ -31,19 +35,23 @@ impl<A: Allocator> Vp<A> {
         Ok(())
     }
 
-    /// Adds a message behind all others at a SINT below 16, and uses up the reserved room.
+    /// Adds a message behind all others at a SINT below 16, and uses up the reserved room. Returns `true` if
+    /// a message became shown.
     ///
     /// If the SINT shows no message, it shows the oldest and raises its vector (TLFS 4.0, "Messages").
     /// Whether the processor takes messages is not checked.
-    pub fn post(&mut self, sint: u8, message: Message)
+    pub fn post(&mut self, sint: u8, message: Message) -> bool
         requires sint { sint < SINTS }
         requires room { self.old.room ≡ true }
-        ensures { self.new ≡ posted sint message self.old }
+        ensures state { self.new ≡ posted sint message self.old }
+        ensures shown { result ≡ has_next (with_last (at self.old.mail sint) message) }
     {
         self.room = false;
-        if self.mailbox.post(sint, message) {
+        let shown = self.mailbox.post(sint, message);
+        if shown {
             self.raise(sint);
         }
+        shown
     }
 
     /// Sets an event flag below 2,048 of a SINT below 16.
@@ -78,6 +86,43 @@ impl<A: Allocator> Vp<A> {
         ensures { result ≡ flag_bytes self.now.flags sint }
     {
         self.flags.read(sint)
+    }
+
+    /// The id of the port of the message that a SINT below 16 shows, if it shows one.
+    pub fn shown(&self, sint: u8) -> Option<u32>
+        requires { sint < SINTS }
+        ensures { result ≡ option_map (λ message. message.port) (at self.now.mail sint).slot }
+    {
+        self.mailbox.shown(sint)
+    }
+
+    /// Whether an event flag below 2,048 of a SINT below 16 is set.
+    pub fn has_flag(&self, sint: u8, flag: u16) -> bool
+        requires sint { sint < SINTS }
+        requires flag { flag < EVENT_FLAGS }
+        ensures { result ≡ set.contains self.now.flags (sint, flag) }
+    {
+        self.flags.has_flag(sint, flag)
+    }
+
+    /// The SINTs at which an end of a message shows another one. Bit n of the result is 1 if SINT n is one of
+    /// them.
+    pub fn due(&self) -> u16
+        ensures { (sint : ℕ) → (bit_at result sint == 1) ≡ (nat_lt sint SINTS
+            && (takes_messages self.now.registers && has_next (at self.now.mail sint))) }
+    {
+        if !self.ready_for_messages() {
+            return 0;
+        }
+        self.mailbox.due()
+    }
+
+    /// Adds the vector of a SINT below 16 to some vectors, unless the SINT's register masks it.
+    pub fn add_vector(&self, sint: u8, vectors: &mut Pending)
+        requires { sint < SINTS }
+        ensures { vectors.new ≡ raised self.now.registers sint vectors.old }
+    {
+        add_vector(&self.registers, sint, vectors);
     }
 
     /// Removes the message that a SINT below 16 shows, if any. No other message takes its place.
@@ -141,11 +186,19 @@ impl<A: Allocator> Vp<A> {
         requires { sint < SINTS }
         ensures { self.new ≡ raised_if true sint self.old }
     {
-        let Some(value) = self.registers.read(SINT0 + u32::from(sint)) else {
-            return;
-        };
-        if value >> 16 & 1 == 0 {
-            self.pending.raise((value & 0xff) as u8);
-        }
+        add_vector(&self.registers, sint, &mut self.pending);
+    }
+}
+
+// Adds the vector in the register of a SINT below 16, unless the register masks it.
+fn add_vector(registers: &Registers, sint: u8, vectors: &mut Pending)
+    requires { sint < SINTS }
+    ensures { vectors.new ≡ raised registers.now sint vectors.old }
+{
+    let Some(value) = registers.read(SINT0 + u32::from(sint)) else {
+        return;
+    };
+    if value >> 16 & 1 == 0 {
+        vectors.raise((value & 0xff) as u8);
     }
 }

@@ -1,31 +1,43 @@
-use Rattle.std.proofs.Common.{◌≡◌, List, ℕ, take, subst, sym, refl, ap, arith, ◌∙◌}
-use Rattle.hv_policy.specs.Parts.{next_in}
+use Rattle.std.proofs.Common.{◌≡◌, ◌+◌, ◌<◌, Bool, true, false, ◌||◌, nat_le, lt-ltb, ℕ, take, subst, sym, refl, ap, arith, rules, ◌∙◌}
+use Rattle.std.proofs.lemmas.Bool.Decides.{nat_tests}
+use Rattle.hv_policy.specs.Parts.{next_in, reply_of}
 use Rattle.hv_history.specs.Run.{IsMore, restart}
+use Rattle.hv_policy.specs.Result.{HasResult}
 use Rattle.hv_policy.specs.declared.reply.Reply.{Reply}
 use Rattle.hv_policy.specs.declared.reply.Reply.TheVariants.{More}
 use Rattle.hv_embed.specs.Run.{IsAtMore, IsLastEffect, run}
-use Rattle.hv_embed.proofs.Elements.{one_more, effect_on, one_more_effect, typed_more}
+use Rattle.hv_embed.specs.Taken.{is_used_up}
+use Rattle.hv_embed.specs.declared.status.TheConstants.{MAX_EVENTS}
+use Rattle.hv_embed.proofs.Elements.{few_told, one_more, effect_on, one_more_effect}
 use Rattle.hv_embed.proofs.run.run_on.Goals as goal
+use Rattle.hv_embed.proofs.run.run_on.Goals.{then-outputs-at-lt-ELEMENT_OUTPUT, else-outputs-at-lt-ELEMENT_OUTPUT}
+
+pub append_output-requires-clause-most : goal.append_output-requires-clause-most
+append_output-requires-clause-most c =
+    few_told c.loop-more.machine c.args.by c.restart.new.frame (reply_of c.in-Ok.told c.hypercall.new.output) c.loop-more.invariant.lasting c.in-Ok.ensures.step.reply
 
 pub loop-more-preserved : goal.loop-more-preserved
 loop-more-preserved c =
     let l = c.loop-more in
     let was = l.invariant in
     let taken = c.in-Ok.ensures.step in
-    let output : List ℕ = c.parts.result.1.now in
-    let more : l.last ≡ More c.in-Some.next output = sym c.parts.ensures.reply ∙ c.in-Some.ensures.some output in
-    let next : c.restart.new.frame ≡ restart l.frame (next_in l.last) = c.restart.ensures ∙ ap (λ (r : Reply). restart l.frame (next_in r)) (sym more) in
+    let told : Reply = reply_of l.last l.output in
+    let reply : Reply = reply_of c.in-Ok.told c.hypercall.new.output in
+    let more : told ≡ More c.in-Some.next l.output = c.in-Some.ensures.some l.output in
+    let next : c.restart.new.frame ≡ restart l.frame (next_in told) = c.restart.ensures ∙ ap (λ (r : Reply). restart l.frame (next_in r)) (sym more) in
+    let kept : reply_of c.in-Ok.told c.extend_from_slice.new.self ≡ reply = ap (reply_of c.in-Ok.told) (search rules) in
     record {
-      ran = λ ran at. one_more c.args.by l.machine c.hypercall.new.machine l.frame c.restart.new.frame l.last c.in-Ok.reply taken.reply taken.state l.more ran (take l.at l.outputs)
+      ran = λ ran at. subst (λ (r : Reply). IsAtMore (l.more + 1) c.args.by ran c.hypercall.new.self c.restart.new.frame r (take c.append_output.result c.append_output.new.outputs)) (sym kept)
+          (one_more c.args.by l.machine c.hypercall.new.self l.frame c.restart.new.frame told reply taken.reply taken.state l.more ran (take l.at l.outputs)
           (take c.append_output.result c.append_output.new.outputs)
-          next (subst IsMore (sym more) tt) c.append_output.ensures.bytes (was.ran ran at);
-      effect = λ ran f at typed first. one_more_effect l.more f c.args.by ran l.effect c.shown.result (was.effect ran f at typed first) (sym c.is_quiet.ensures ∙ c.if-not-is_quiet.false)
-          (effect_on c.args.by l.machine l.frame c.restart.new.frame l.last (take l.at l.outputs) (run l.more c.args.by ran) c.in-Ok.told c.shown.result (was.ran ran at).stands next
-          (typed_more l.more c.args.by ran typed) c.shown.ensures c.in-Ok.ensures.effect);
+          next (subst IsMore (sym more) tt) c.append_output.ensures.bytes (was.ran ran at));
+      effect = λ ran f at first. one_more_effect l.more f c.args.by ran l.effect c.show.new.told (was.effect ran f at first) (sym c.is_quiet.ensures ∙ c.if-not-is_quiet.false)
+          (effect_on c.args.by l.machine l.frame c.restart.new.frame told (take l.at l.outputs) (run l.more c.args.by ran) c.in-Ok.change c.show.new.told (was.ran ran at).stands next
+          c.show.ensures c.in-Ok.ensures.effect);
       count = omega arith;
       place = omega arith;
       few = omega arith;
-      index = taken.result c.restart.new.frame refl;
+      index = subst HasResult (sym kept) (taken.result c.restart.new.frame refl);
       pages = taken.pages ∙ was.pages;
       lasting = taken.lasting;
       sound = taken.sound;
@@ -35,10 +47,24 @@ pub returns-clause-ran : goal.returns-clause-ran
 returns-clause-ran c = λ ran at.
     let l = c.loop-more in
     let all : l.more ≡ c.from.result = omega arith in
-    subst (λ n. IsAtMore n c.args.by ran l.machine l.frame l.last (take l.at l.outputs)) all (l.invariant.ran ran at)
+    subst (λ n. IsAtMore n c.args.by ran l.machine l.frame (reply_of l.last l.output) (take l.at l.outputs)) all (l.invariant.ran ran at)
 
 pub returns-clause-effect : goal.returns-clause-effect
-returns-clause-effect c = λ ran f at typed first.
+returns-clause-effect c = λ ran f at first.
     let l = c.loop-more in
     let all : l.more ≡ c.from.result = omega arith in
-    subst (λ n. IsLastEffect n f c.args.by ran l.effect) all (l.invariant.effect ran f at typed first)
+    subst (λ n. IsLastEffect n f c.args.by ran l.effect) all (l.invariant.effect ran f at first)
+
+-- events that aren't used up can be counted once more
+countable : (served : Bool) (events : ℕ) → (served || nat_le MAX_EVENTS events) ≡ false → events < MAX_EVENTS
+countable true events is = cc
+countable false events is = grind (arith, nat_tests)
+
+pub overflow_add-events : goal.overflow_add-events
+overflow_add-events c =
+    let free : is_used_up c.loop-more.machine.served c.loop-more.events ≡ false = elim c.if-outputs-at-lt-ELEMENT_OUTPUT.branch [
+      | then-outputs-at-lt-ELEMENT_OUTPUT w ↦ (let clash : true ≡ false = sym (lt-ltb _ _ w.if-outputs-at-lt-ELEMENT_OUTPUT.true) ∙ sym w.is_full-is ∙ c.if-is_full.false in cc)
+      | else-outputs-at-lt-ELEMENT_OUTPUT w ↦ sym w.is_used_up-is_full.ensures.used ∙ sym w.is_full-is ∙ c.if-is_full.false
+    ] in
+    let few = countable _ c.loop-more.events free in
+    omega (arith, few)

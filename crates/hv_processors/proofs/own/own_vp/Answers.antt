@@ -13,7 +13,8 @@ returns-in-Some-unmet_by_mask g c =
       record {
         writes_back = tt;
         there = tt;
+        known = tt;
         met = tt;
-        unmet = λ f flat. let asked = c.unmet_by_mask.ensures f c.args.tree.now c.args.by.part c.in-Some.caller.now there (sym c.mask-mask.ensures) flat in search rules;
+        unmet = λ f flat. let asked = c.unmet_by_mask.ensures.unmet f c.args.tree.now c.args.by.part c.in-Some.caller.now there (sym c.mask-mask.ensures) flat in search rules;
       },
     )

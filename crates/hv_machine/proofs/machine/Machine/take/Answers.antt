@@ -1,54 +1,83 @@
 use Rattle.std.proofs.Common.{refl, ap, rules, Ok, Err}
 use Rattle.hv_policy.specs.Call.{call_event}
+use Rattle.hv_policy.specs.Parts.{reply_of}
 use Rattle.hv_refine.proofs.Room.{tied_roomless}
-use Rattle.hv_machine.proofs.Steps.{admitted, denied, denied_call, served_call, unserved_call}
+use Rattle.hv_machine.proofs.Steps.{call_told, denied, denied_call, denied_told, frame_unmet, invariant, nothing_told, served_call, state_of, unserved_call}
+use Rattle.hv_machine.specs.IsFlat.{IsFlat}
 use Rattle.hv_machine.proofs.machine.Machine.take.Goals as goal
 
-pub returns-in-Err : goal.returns-in-Err
-returns-in-Err g c =
+pub returns-in-Err-clause-step : goal.returns-in-Err-clause-step
+returns-in-Err-clause-step g c =
     let s = c.self.inside in
-    rw (← c.self.view_is) (denied (call_event c.args.by c.args.frame.now) s.tree s.tree s.pages s.next s.served c.self.invariant c.in-Err.rule c.refused_reply.result
-    (λ f flat. (c.in-Err.ensures.first f (tied_roomless s.tree f flat.tied), refl)) c.refused_reply.ensures)
+    rw (← c.self.view_is)
+    (denied (call_event c.args.by c.args.frame.now) s.tree s.tree s.pages s.next s.served c.self.invariant c.first_rule-first.result
+    (reply_of c.refused_answer.result c.args.output.now)
+    (λ f flat. (frame_unmet c.args.by c.args.frame.now s.tree c.in-Err.rule c.first_rule-first.result c.in-Err.ensures.first c.first_rule-first.ensures f (tied_roomless s.tree f flat.tied), refl))
+    (c.refused_answer.ensures c.args.output.now))
 
-pub dispatch-requires-clause-admitted : goal.dispatch-requires-clause-admitted
-dispatch-requires-clause-admitted g c =
+pub returns-in-Err-clause-effect : goal.returns-in-Err-clause-effect
+returns-in-Err-clause-effect g c f flat =
     let s = c.self.inside in
-    let asked = c.in-Ok.admitted in
-    let is = c.in-Ok.ensures in
-    admitted c.args.by c.args.frame.now s.tree asked.0 asked.1 is.call is.caller is.frame s.tree s.pages s.next s.served c.self.invariant is.target
+    let stands : IsFlat (state_of s.tree s.pages s.next s.served) f = rw c.self.view_is flat in
+    nothing_told (call_event c.args.by c.args.frame.now) f c.first_rule-first.result
+    (frame_unmet c.args.by c.args.frame.now s.tree c.in-Err.rule c.first_rule-first.result c.in-Err.ensures.first c.first_rule-first.ensures f (tied_roomless s.tree f stands.tied))
 
-pub returns-in-Ok-dispatch : goal.returns-in-Ok-dispatch
-returns-in-Ok-dispatch g c =
+pub dispatch-requires-clause-rows : goal.dispatch-requires-clause-rows
+dispatch-requires-clause-rows g c = (let s = c.self.inside in invariant s.tree s.pages s.next s.served c.self.invariant)
+
+pub returns-in-Ok-dispatch-clause-step : goal.returns-in-Ok-dispatch-clause-step
+returns-in-Ok-dispatch-clause-step g c =
     let s = c.self.inside in
-    let asked = c.in-Ok.admitted in
+    let asked = c.in-Ok.asked in
     let is = c.in-Ok.ensures in
+    let bytes = c.dispatch.new.output in
+    let effect = c.in-Ok-dispatch.effect in
     rw (← c.self.view_is, c.next_after-self-inside.ensures)
-    (served_call c.args.by c.args.frame.now s.tree asked.0 asked.1 is.call is.caller is.frame c.dispatch.new.tree s.pages s.next s.served c.self.invariant is.target
-    (Ok c.in-Ok-dispatch.output) c.in-Ok-dispatch.ensures c.served_reply.result c.in-Ok-dispatch.output refl c.served_reply.ensures)
+    (served_call c.args.by c.args.frame.now asked.0 asked.1 is.call is.met s.tree c.dispatch.new.tree s.pages s.next s.served c.self.invariant
+    (Ok (bytes, effect)) c.in-Ok-dispatch.ensures bytes effect refl (reply_of c.served_answer.result bytes) (c.served_answer.ensures bytes))
 
-pub returns-in-Err-Unmet : goal.returns-in-Err-Unmet
-returns-in-Err-Unmet g c =
+pub returns-in-Ok-dispatch-clause-effect : goal.returns-in-Ok-dispatch-clause-effect
+returns-in-Ok-dispatch-clause-effect g c f flat =
     let s = c.self.inside in
-    let asked = c.in-Ok.admitted in
+    let asked = c.in-Ok.asked in
+    let is = c.in-Ok.ensures in
+    let bytes = c.dispatch.new.output in
+    let effect = c.in-Ok-dispatch.effect in
+    call_told c.args.by c.args.frame.now asked.0 asked.1 is.call is.met s.tree c.dispatch.new.tree s.pages s.next s.served c.self.invariant
+    (Ok (bytes, effect)) c.in-Ok-dispatch.ensures bytes effect refl f (rw c.self.view_is flat)
+
+pub returns-in-Err-Unmet-clause-step : goal.returns-in-Err-Unmet-clause-step
+returns-in-Err-Unmet-clause-step g c =
+    let s = c.self.inside in
+    let asked = c.in-Ok.asked in
     let is = c.in-Ok.ensures in
     rw (← c.self.view_is)
-    (denied_call c.args.by c.args.frame.now s.tree asked.0 asked.1 is.call is.caller is.frame c.dispatch.new.tree s.pages s.next s.served c.self.invariant is.target
-    (Err c.in-Err-Unmet.field-0) c.in-Err-Unmet.ensures c.in-Err-Unmet.rule c.refused_reply-in-Err-Unmet.result (ap Err c.in-Err-Unmet.field-0-is) (search rules))
+    (denied_call c.args.by c.args.frame.now asked.0 asked.1 is.call is.met s.tree c.dispatch.new.tree s.pages s.next s.served c.self.invariant
+    (Err c.in-Err-Unmet.field-0) c.in-Err-Unmet.ensures c.in-Err-Unmet.rule (ap Err c.in-Err-Unmet.field-0-is)
+    (reply_of c.refused_answer-in-Err-Unmet.result c.dispatch.new.output) (search rules))
 
-pub returns-in-Err-Memory : goal.returns-in-Err-Memory
-returns-in-Err-Memory g c =
+pub returns-in-Err-Unmet-clause-effect : goal.returns-in-Err-Unmet-clause-effect
+returns-in-Err-Unmet-clause-effect g c f flat =
     let s = c.self.inside in
-    let asked = c.in-Ok.admitted in
+    let asked = c.in-Ok.asked in
+    let is = c.in-Ok.ensures in
+    denied_told c.args.by c.args.frame.now asked.0 asked.1 is.call is.met s.tree c.dispatch.new.tree s.pages s.next s.served c.self.invariant
+    (Err c.in-Err-Unmet.field-0) c.in-Err-Unmet.ensures c.in-Err-Unmet.rule (ap Err c.in-Err-Unmet.field-0-is) f (rw c.self.view_is flat)
+
+pub returns-in-Err-Memory-clause-step : goal.returns-in-Err-Memory-clause-step
+returns-in-Err-Memory-clause-step g c =
+    let s = c.self.inside in
+    let asked = c.in-Ok.asked in
     let is = c.in-Ok.ensures in
     rw (← c.self.view_is)
-    (unserved_call c.args.by c.args.frame.now s.tree asked.0 asked.1 is.call is.caller is.frame c.dispatch.new.tree s.pages s.next s.served c.self.invariant is.target
+    (unserved_call c.args.by c.args.frame.now asked.0 asked.1 is.call is.met s.tree c.dispatch.new.tree s.pages s.next s.served c.self.invariant
     (Err c.in-Err-Memory.field-0) c.in-Err-Memory.ensures (ap Err c.in-Err-Memory.field-0-is))
 
 pub invariant_of-self : goal.invariant_of-self
-invariant_of-self g c = (returns-in-Ok-dispatch g c).lasting
+invariant_of-self g c = (returns-in-Ok-dispatch-clause-step g c).lasting
 
 pub invariant_of-self-in-Err-Unmet : goal.invariant_of-self-in-Err-Unmet
-invariant_of-self-in-Err-Unmet g c = (returns-in-Err-Unmet g c).lasting
+invariant_of-self-in-Err-Unmet g c = (returns-in-Err-Unmet-clause-step g c).lasting
 
 pub invariant_of-self-in-Err-Memory : goal.invariant_of-self-in-Err-Memory
-invariant_of-self-in-Err-Memory g c = (returns-in-Err-Memory g c).lasting
+invariant_of-self-in-Err-Memory g c = (returns-in-Err-Memory-clause-step g c).lasting

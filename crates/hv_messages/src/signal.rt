@@ -1,0 +1,113 @@
+// HvSignalEvent.
+ghost use Rattle.std.specs.Prelude.{◌≡◌, ◌&&◌, [], ℕ, nat_lt, None, Some, IfErr, IfOk};
+ghost use Rattle.std.specs.Result.{result_map_both};
+ghost use Rattle.hv_calls.specs.declared.call.Call.TheVariants as call;
+ghost use Rattle.hv_defs.specs.declared.port_kind.PortKind.TheVariants as port_type;
+ghost use Rattle.hv_policy.specs.Flat.{Flat};
+ghost use Rattle.hv_policy.specs.Met.{is_kind};
+ghost use Rattle.hv_refine.specs.Done.{HasServed, IsCalled};
+ghost use Rattle.hv_refine.specs.Served.{TreeInvariant, unmet_further};
+ghost use Rattle.hv_refine.specs.Tie.{Refines};
+ghost use Rattle.hv_tree.specs.Rows.{content};
+ghost use Rattle.hv_messages.specs.ResolvedPort.{IsAimed, MayDeliver};
+
+use crate::aims::{Aimed, resolve_connection, select_vp};
+use crate::effects::signalled;
+use hv_calls::Call;
+use hv_defs::PortKind;
+use hv_effect::Effect;
+use hv_partition::Partition;
+use hv_policy::{Caller, Rule};
+use hv_ports::Port;
+use hv_refine::{CallError, Partitions, admit};
+use std::alloc::Allocator;
+
+/// HvSignalEvent: sets an event flag of the SINT at which the connection's port aims.
+///
+/// `flag` counts from the port's first flag. The SINT is that of the processor at which the port aims, or
+/// for `Aim::Any` of the lowest processor that is ready for event flags. If the flag was clear, the SINT
+/// raises its vector.
+pub fn signal_event<A: Allocator>(
+    tree: &mut Partitions<A>,
+    by: Caller,
+    connection: u32,
+    flag: u16,
+) -> Result<Effect, CallError>
+    requires rows { TreeInvariant tree.old }
+    ensures { (f : Flat) → Refines tree.old f → IsCalled f by (call.SignalEvent connection flag) tree.old
+        (result_map_both (λ effect. ([], effect)) (λ why. why) result) tree.new }
+{
+    let (_, caller, _, _) = match admit(tree, by, &Call::SignalEvent { connection, flag }) {
+        Ok(found) => found,
+        Err(rule) => return Err(CallError::Unmet(rule)),
+    };
+    let aimed = match ask_signal(tree, caller, connection, flag) {
+        Ok(aimed) => aimed,
+        Err(rule) => return Err(CallError::Unmet(rule)),
+    };
+    Ok(do_signal(tree, by.part, connection, aimed, flag))
+}
+
+// Checks P16 to P22, and returns where the flag is.
+fn ask_signal<A: Allocator>(
+    tree: &Partitions<A>,
+    caller: &Partition<A>,
+    connection: u32,
+    flag: u16,
+) -> Result<Aimed, Rule>
+    ensures aimed { IfOk result (λ aimed. (f : Flat) (by : ℕ) → content tree.now by ≡ Some caller.now
+        → Refines tree.now f → (unmet_further f by (call.SignalEvent connection flag) ≡ None)
+        × IsAimed f (by, connection) port_type.Event aimed) }
+    ensures unmet { IfErr result (λ rule. (f : Flat) (by : ℕ) → content tree.now by ≡ Some caller.now
+        → Refines tree.now f → unmet_further f by (call.SignalEvent connection flag) ≡ Some rule) }
+{
+    let (to, home) = match resolve_connection(tree, caller, connection) {
+        Ok(found) => found,
+        Err(rule) => return Err(rule),
+    };
+    if !has_flag(to.port, flag) {
+        return Err(Rule::Operand);
+    }
+    let Some(vp) = select_vp(home, to, PortKind::Event) else {
+        return Err(Rule::VpReady);
+    };
+    Ok(Aimed { to, vp })
+}
+
+// P21: whether the port takes event flags and has one with this number.
+fn has_flag(port: Port, flag: u16) -> bool
+    ensures { result ≡ is_kind port.kind port_type.Event && nat_lt flag port.count }
+{
+    match port.kind {
+        PortKind::Message => false,
+        PortKind::Event => flag < port.count,
+    }
+}
+
+// Sets the flag.
+#[tactic(auto, using(hv_tree::proofs::Laws::unchanged))]
+fn do_signal<A: Allocator>(
+    tree: &mut Partitions<A>,
+    caller: u64,
+    connection: u32,
+    aimed: Aimed,
+    flag: u16,
+) -> Effect
+    requires { MayDeliver tree.old caller connection port_type.Event (call.SignalEvent connection flag)
+        aimed }
+    ensures { (f : Flat) → Refines tree.old f
+        → HasServed f caller (call.SignalEvent connection flag) [] result tree.new }
+{
+    let Aimed { to, vp: index } = aimed;
+    let Some(home) = tree.get_mut(to.conn.part) else {
+        unreachable!()
+    };
+    let Some(vp) = home.vp_mut(index) else {
+        unreachable!()
+    };
+    let sint = to.port.sint as u8;
+    let place = to.port.base + flag;
+    let was_set = vp.has_flag(sint, place);
+    vp.signal(sint, place);
+    signalled(to.conn.part, index, sint, place, vp, was_set)
+}

@@ -1,0 +1,138 @@
+// HvCreatePartition.
+ghost use Rattle.std.specs.Prelude.{◌≡◌, ℕ, [], option_map, Some, IfOk, OnOk, OnErr};
+ghost use Rattle.std.specs.FinMap as map;
+ghost use Rattle.std.specs.Result.{result_err, result_map_both};
+ghost use Rattle.hv_calls.specs.declared.call.Call.TheVariants as call;
+ghost use Rattle.hv_partition.specs.Partition.{PartitionState};
+ghost use Rattle.hv_policy.specs.Count.{depth as depth_of};
+ghost use Rattle.hv_policy.specs.Flat.{Flat};
+ghost use Rattle.hv_policy.specs.Met.{is_depth_left as is_depth_left_of};
+ghost use Rattle.hv_privs.specs.Privileges.{restrict};
+ghost use Rattle.hv_privs.specs.declared.TheConstants.Privileges as privilege;
+ghost use Rattle.hv_refine.specs.Asked.{AreFound};
+ghost use Rattle.hv_refine.specs.Done.{IsCalled, IsDone};
+ghost use Rattle.hv_refine.specs.Served.{TreeInvariant, unmet_further};
+ghost use Rattle.hv_refine.specs.Tie.{Refines};
+ghost use Rattle.hv_partition_calls.specs.Change.{CanInsert, MayCreate};
+
+use hv_calls::Call;
+use hv_defs::{Life, MAX_DEPTH};
+use hv_effect::Effect;
+use hv_partition::Partition;
+use hv_policy::{Caller, Need, Output, Rule};
+use hv_privs::Privileges;
+use hv_refine::{CallError, Partitions, admit, balance_of};
+use hv_tree::{IdTree, InsertRefused};
+use std::alloc::{AllocError, Allocator};
+
+/// HvCreatePartition: creates a partition with the id `next` below the caller, and outputs the id.
+///
+/// The new partition is Created and has no pages. It uses 2 pages of the caller's pool. The flags have no
+/// effect.
+pub fn create_partition<A: Allocator + Clone>(
+    tree: &mut Partitions<A>,
+    alloc: &A,
+    by: Caller,
+    next: u64,
+    flags: u64,
+    output: &mut Output,
+) -> Result<Effect, CallError>
+    requires rows { (t : TreeInvariant tree.old) × (t.flat.next ≡ next) }
+    requires empty { output.old ≡ [] }
+    ensures { (f : Flat) → Refines tree.old f → f.next ≡ next → IsCalled f by (call.CreatePartition flags)
+        tree.old (result_map_both (λ effect. (output.new, effect)) (λ why. why) result) tree.new }
+{
+    let (need, _, target, children) = match admit(tree, by, &Call::CreatePartition { flags }) {
+        Ok(found) => found,
+        Err(rule) => return Err(CallError::Unmet(rule)),
+    };
+    let mask = match ask_create(tree, by.part, need, target, children) {
+        Ok(mask) => mask,
+        Err(rule) => return Err(CallError::Unmet(rule)),
+    };
+    match do_create(tree, alloc, by.part, next, mask, output) {
+        Ok(effect) => Ok(effect),
+        Err(AllocError) => Err(CallError::Memory),
+    }
+}
+
+// Checks P14 and P24, and returns the mask of the new partition: the caller's, restricted.
+fn ask_create<A: Allocator>(
+    tree: &Partitions<A>,
+    caller: u64,
+    need: Need,
+    target: &Partition<A>,
+    children: u32,
+) -> Result<Privileges, Rule>
+    requires { TreeInvariant tree.now }
+    ensures unmet { (f : Flat) (flags : ℕ) (p : PartitionState)
+        → AreFound tree.now caller (call.CreatePartition flags) need p target.now children
+        → Refines tree.now f → result_err result ≡ unmet_further f caller (call.CreatePartition flags) }
+    ensures mask { IfOk result (λ mask. mask ≡ restrict target.now.mask privilege.NEW_PARTITION) }
+{
+    if !is_depth_left(tree, caller) {
+        return Err(Rule::Depth);
+    }
+    if balance_of(target, children).available < need.charge {
+        return Err(Rule::Pages);
+    }
+    Ok(target.mask().restrict(Privileges::NEW_PARTITION))
+}
+
+// P14: whether a partition exists and the depth of a child of it would be at most `MAX_DEPTH`.
+fn is_depth_left<A: Allocator>(tree: &Partitions<A>, id: u64) -> bool
+    requires { TreeInvariant tree.now }
+    ensures { (f : Flat) → Refines tree.now f → result ≡ is_depth_left_of f id }
+{
+    match depth(tree, id) {
+        None => false,
+        Some(above) => above < MAX_DEPTH,
+    }
+}
+
+// The number of partitions above this one, if it exists.
+fn depth<A: Allocator>(tree: &Partitions<A>, id: u64) -> Option<u64>
+    requires { TreeInvariant tree.now }
+    ensures { (f : Flat) → Refines tree.now f
+        → result ≡ option_map (λ row. depth_of f id) (map.get f.part id) }
+{
+    tree.depth_of(id)
+}
+
+// Creates a partition below the caller, with this id and mask and without pages.
+fn do_create<A: Allocator + Clone>(
+    tree: &mut Partitions<A>,
+    alloc: &A,
+    caller: u64,
+    next: u64,
+    mask: Privileges,
+    output: &mut Output,
+) -> Result<Effect, AllocError>
+    requires may { MayCreate tree.old caller next mask }
+    requires empty { output.old ≡ [] }
+    ensures { (f : Flat) (flags : ℕ) → Refines tree.old f → f.next ≡ next → IsDone f caller
+        (call.CreatePartition flags) tree.old
+        (result_map_both (λ effect. (output.new, effect)) (λ why. why) result) tree.new }
+{
+    let partition = Partition::new(alloc.clone()?, Life::Created, mask)?;
+    insert(tree, caller, next, partition)?;
+    output.push_number(next);
+    Ok(Effect::Nothing)
+}
+
+fn insert<A: Allocator + Clone>(
+    tree: &mut Partitions<A>,
+    parent: u64,
+    id: u64,
+    partition: Partition<A>,
+) -> Result<(), AllocError>
+    requires { CanInsert tree.old parent id }
+    ensures inserted { OnOk result (tree.new ≡ map.insert tree.old id (Some parent, partition)) }
+    ensures kept { OnErr result (tree.new ≡ tree.old) }
+{
+    match tree.insert_child(parent, id, partition) {
+        Ok(()) => Ok(()),
+        Err(InsertRefused::Memory(_)) => Err(AllocError),
+        Err(InsertRefused::NoParent(_)) | Err(InsertRefused::IdTaken(_)) => unreachable!(),
+    }
+}

@@ -1,0 +1,101 @@
+// HvDepositMemory.
+ghost use Rattle.std.specs.Prelude.{◌≡◌, ℕ, Some, []};
+ghost use Rattle.std.specs.FinMap.{get};
+ghost use Rattle.std.specs.Result.{result_map_both};
+ghost use Rattle.hv_calls.specs.declared.call.Call.TheVariants as call;
+ghost use Rattle.hv_partition.specs.Partition.{PartitionState};
+ghost use Rattle.hv_policy.specs.Flat.{Flat};
+ghost use Rattle.hv_policy.specs.Met.{is_loose as is_loose_of};
+ghost use Rattle.hv_refine.specs.Asked.{AreFound, IsGranted};
+ghost use Rattle.hv_refine.specs.Done.{IsCalled, IsDone};
+ghost use Rattle.hv_refine.specs.Served.{TreeInvariant, unmet_further};
+ghost use Rattle.hv_refine.specs.Tie.{Refines};
+ghost use Rattle.hv_tree.specs.Rows.{Rows, content};
+
+use crate::pages::move_page;
+use hv_calls::Call;
+use hv_effect::Effect;
+use hv_partition::{PageKind, Partition};
+use hv_policy::{Caller, Need, Rule};
+use hv_refine::{CallError, Partitions, admit, resolve_partition_id};
+use std::alloc::{AllocError, Allocator};
+
+/// HvDepositMemory: moves a loose page of the caller to the target's pool.
+///
+/// It has no output and uses no pages. Any page number is allowed. Out of memory, the page stays where it is.
+pub fn deposit_memory<A: Allocator>(
+    tree: &mut Partitions<A>,
+    by: Caller,
+    partition: u64,
+    page: u64,
+) -> Result<Effect, CallError>
+    requires rows { TreeInvariant tree.old }
+    ensures { (f : Flat) → Refines tree.old f → IsCalled f by (call.DepositMemory partition page) tree.old
+        (result_map_both (λ effect. ([], effect)) (λ why. why) result) tree.new }
+{
+    let (need, caller, target, _) = match admit(
+        tree,
+        by,
+        &Call::DepositMemory { partition, page },
+    ) {
+        Ok(found) => found,
+        Err(rule) => return Err(CallError::Unmet(rule)),
+    };
+    if let Some(rule) = ask_deposit(need, caller, target, page) {
+        return Err(CallError::Unmet(rule));
+    }
+    match do_deposit(tree, by.part, partition, page) {
+        Ok(effect) => Ok(effect),
+        Err(AllocError) => Err(CallError::Memory),
+    }
+}
+
+// Checks P12 and P21, and returns the first of them that fails.
+fn ask_deposit<A: Allocator>(
+    need: Need,
+    caller: &Partition<A>,
+    target: &Partition<A>,
+    page: u64,
+) -> Option<Rule>
+    ensures { (tree : Rows PartitionState) (f : Flat) (by partition children : ℕ)
+        → AreFound tree by (call.DepositMemory partition page) need caller.now target.now children
+        → TreeInvariant tree → Refines tree f
+        → result ≡ unmet_further f by (call.DepositMemory partition page) }
+{
+    if !need.states.allow(target.life()) {
+        return Some(Rule::TargetState);
+    }
+    if !is_loose(caller, page) {
+        return Some(Rule::Operand);
+    }
+    None
+}
+
+// P21: whether a page is one of a partition's loose pages. Any number is allowed.
+fn is_loose<A: Allocator>(partition: &Partition<A>, page: u64) -> bool
+    ensures { (tree : Rows PartitionState) (f : Flat) (id : ℕ) → content tree id ≡ Some partition.now
+        → TreeInvariant tree → Refines tree f → result ≡ is_loose_of id (get f.page page) }
+{
+    match u32::try_from(page) {
+        Ok(page) => partition.pages(PageKind::Loose).holds(page),
+        Err(_) => false,
+    }
+}
+
+// Moves the page.
+fn do_deposit<A: Allocator>(
+    tree: &mut Partitions<A>,
+    caller: u64,
+    partition: u64,
+    page: u64,
+) -> Result<Effect, AllocError>
+    requires { IsGranted tree.old caller (call.DepositMemory partition page) }
+    ensures { (f : Flat) → Refines tree.old f → IsDone f caller (call.DepositMemory partition page) tree.old
+        (result_map_both (λ effect. ([], effect)) (λ why. why) result) tree.new }
+{
+    let Ok(number) = u32::try_from(page) else {
+        unreachable!()
+    };
+    let target = resolve_partition_id(caller, partition);
+    move_page(tree, caller, target, number, false)
+}

@@ -1,0 +1,14 @@
+use Rattle.std.proofs.Common.{◌∙◌, rules}
+use Rattle.hv_refine.proofs.Asked.{found_available}
+use Rattle.hv_port_calls.specs.Calls.{create_with}
+use Rattle.hv_port_calls.proofs.port_creation.ask_create.Goals as goal
+
+pub returns-then-balance_of-need : goal.returns-then-balance_of-need
+returns-then-balance_of-need g c f partition caller found flat =
+    let has = c.balance_of.ensures.available ∙ found_available c.args.tree.now f flat c.args.by (create_with partition c.args.new) c.args.need caller c.args.target.now c.args.children found in
+    search rules
+
+pub returns : goal.returns
+returns g c f partition caller found flat =
+    let has = c.balance_of.ensures.available ∙ found_available c.args.tree.now f flat c.args.by (create_with partition c.args.new) c.args.need caller c.args.target.now c.args.children found in
+    search rules

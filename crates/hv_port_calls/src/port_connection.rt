@@ -1,0 +1,145 @@
+// HvConnectPort.
+ghost use Rattle.std.specs.Prelude.{◌≡◌, IfErr, IfOk, None, Some, []};
+ghost use Rattle.std.specs.Result.{result_map_both};
+ghost use Rattle.hv_calls.specs.declared.call.Call.TheVariants as call;
+ghost use Rattle.hv_partition.specs.Partition.{PartitionState};
+ghost use Rattle.hv_policy.specs.Flat.{Flat};
+ghost use Rattle.hv_refine.specs.Asked.{AreFound};
+ghost use Rattle.hv_refine.specs.Done.{IsCalled, IsDone};
+ghost use Rattle.hv_refine.specs.Served.{TreeInvariant, unmet_further};
+ghost use Rattle.hv_refine.specs.Tie.{Refines};
+ghost use Rattle.hv_port_calls.specs.Calls.{MayConnect, connect_with, port_birth};
+
+use crate::rules::has_conn;
+use hv_calls::Call;
+use hv_defs::PortKind;
+use hv_effect::Effect;
+use hv_partition::Partition;
+use hv_policy::{Caller, Need, Rule};
+use hv_ports::Conn;
+use hv_refine::{CallError, Partitions, admit, balance_of, resolve_partition_id};
+use std::alloc::{AllocError, Allocator};
+
+// The parameters of a new connection, as HvConnectPort has them.
+#[derive(Clone, Copy)]
+pub struct NewConnection {
+    // The connection's id.
+    pub connection: u32,
+    // The port: its partition, its id there and its type.
+    pub port_partition: u64,
+    pub port: u32,
+    pub kind: PortKind,
+}
+
+/// HvConnectPort: creates a connection of the target to a port.
+///
+/// The connection keeps the port's partition, id, type and birth. It uses 1 page of the target's pool.
+pub fn connect_port<A: Allocator>(
+    tree: &mut Partitions<A>,
+    by: Caller,
+    partition: u64,
+    connection: u32,
+    port_partition: u64,
+    port: u32,
+    kind: PortKind,
+) -> Result<Effect, CallError>
+    requires { TreeInvariant tree.old }
+    ensures { (f : Flat) → Refines tree.old f
+        → IsCalled f by (call.ConnectPort partition connection port_partition port kind) tree.old
+        (result_map_both (λ effect. ([], effect)) (λ why. why) result) tree.new }
+{
+    let call = Call::ConnectPort {
+        partition,
+        connection,
+        port_partition,
+        port,
+        kind,
+    };
+    let (need, _, target, children) = match admit(tree, by, &call) {
+        Ok(found) => found,
+        Err(rule) => return Err(CallError::Unmet(rule)),
+    };
+    let new = NewConnection {
+        connection,
+        port_partition,
+        port,
+        kind,
+    };
+    let born = match ask_connect(tree, by.part, need, target, children, partition, new) {
+        Ok(born) => born,
+        Err(rule) => return Err(CallError::Unmet(rule)),
+    };
+    match do_connect(tree, by.part, partition, new, born) {
+        Ok(effect) => Ok(effect),
+        Err(AllocError) => Err(CallError::Memory),
+    }
+}
+
+// Checks P12, P15, P16, P17, P18, P21 and P24, and returns the port's birth. The error is the first of these
+// rules that fails.
+fn ask_connect<A: Allocator>(
+    tree: &Partitions<A>,
+    by: u64,
+    need: Need,
+    target: &Partition<A>,
+    children: u32,
+    partition: u64,
+    new: NewConnection,
+) -> Result<u64, Rule>
+    ensures born { IfOk result (λ born. (f : Flat) (caller : PartitionState)
+        → AreFound tree.now by (connect_with partition new) need caller target.now children
+        → Refines tree.now f → (unmet_further f by (connect_with partition new) ≡ None)
+        × (born ≡ port_birth f by new)) }
+    ensures unmet { IfErr result (λ rule. (f : Flat) (caller : PartitionState)
+        → AreFound tree.now by (connect_with partition new) need caller target.now children
+        → Refines tree.now f → unmet_further f by (connect_with partition new) ≡ Some rule) }
+{
+    if !need.states.allow(target.life()) {
+        return Err(Rule::TargetState);
+    }
+    let Some(home) = tree.get(resolve_partition_id(by, new.port_partition)) else {
+        return Err(Rule::PeerExists);
+    };
+    if has_conn(target, new.connection) {
+        return Err(Rule::Connection);
+    }
+    let Some(port) = home.port(new.port) else {
+        return Err(Rule::Port);
+    };
+    if port.peer != resolve_partition_id(by, partition) {
+        return Err(Rule::Entitlement);
+    }
+    if port.kind != new.kind {
+        return Err(Rule::Operand);
+    }
+    if balance_of(target, children).available < need.charge {
+        return Err(Rule::Pages);
+    }
+    Ok(port.born)
+}
+
+// Adds the connection to the target. The port has this birth.
+fn do_connect<A: Allocator>(
+    tree: &mut Partitions<A>,
+    caller: u64,
+    partition: u64,
+    new: NewConnection,
+    born: u64,
+) -> Result<Effect, AllocError>
+    requires { MayConnect tree.old caller partition new born }
+    ensures { (f : Flat) → Refines tree.old f → IsDone f caller (connect_with partition new) tree.old
+        (result_map_both (λ effect. ([], effect)) (λ why. why) result) tree.new }
+{
+    let row = Conn {
+        part: resolve_partition_id(caller, new.port_partition),
+        port: new.port,
+        kind: new.kind,
+        born,
+    };
+    let Some(target) = tree.get_mut(resolve_partition_id(caller, partition)) else {
+        unreachable!()
+    };
+    target.reserve_conn()?;
+    target.add_conn(new.connection, row);
+    Ok(Effect::Nothing)
+}

@@ -1,0 +1,93 @@
+// HvCreateVp.
+ghost use Rattle.std.specs.Prelude.{◌≡◌, ℕ, []};
+ghost use Rattle.std.specs.Result.{result_map_both};
+ghost use Rattle.hv_calls.specs.declared.call.Call.TheVariants as call;
+ghost use Rattle.hv_partition.specs.Partition.{PartitionState};
+ghost use Rattle.hv_policy.specs.Flat.{Flat};
+ghost use Rattle.hv_refine.specs.Asked.{AreFound, IsGranted};
+ghost use Rattle.hv_refine.specs.Done.{IsCalled, IsDone};
+ghost use Rattle.hv_refine.specs.Served.{TreeInvariant, unmet_further};
+ghost use Rattle.hv_refine.specs.Tie.{Refines};
+ghost use Rattle.hv_tree.specs.Rows.{Rows};
+
+use hv_calls::Call;
+use hv_defs::MAX_VPS;
+use hv_effect::Effect;
+use hv_partition::Partition;
+use hv_policy::{Caller, Need, Rule};
+use hv_refine::{CallError, Partitions, admit, balance_of, has_vp, resolve_partition_id};
+use hv_vp::Vp;
+use std::alloc::{AllocError, Allocator};
+
+/// HvCreateVp: creates a processor with this index in the target.
+///
+/// Its registers have their initial values. It uses 4 pages of the target's pool.
+pub fn create_vp<A: Allocator + Clone>(
+    tree: &mut Partitions<A>,
+    alloc: &A,
+    by: Caller,
+    partition: u64,
+    vp: u32,
+) -> Result<Effect, CallError>
+    requires rows { TreeInvariant tree.old }
+    ensures { (f : Flat) → Refines tree.old f → IsCalled f by (call.CreateVp partition vp) tree.old
+        (result_map_both (λ effect. ([], effect)) (λ why. why) result) tree.new }
+{
+    let (need, _, target, children) = match admit(tree, by, &Call::CreateVp { partition, vp }) {
+        Ok(found) => found,
+        Err(rule) => return Err(CallError::Unmet(rule)),
+    };
+    if let Some(rule) = ask_create(need, target, children, vp) {
+        return Err(CallError::Unmet(rule));
+    }
+    match do_create(tree, alloc, by.part, partition, vp) {
+        Ok(effect) => Ok(effect),
+        Err(AllocError) => Err(CallError::Memory),
+    }
+}
+
+// P12, P19 and P24.
+fn ask_create<A: Allocator>(
+    need: Need,
+    target: &Partition<A>,
+    children: u32,
+    vp: u32,
+) -> Option<Rule>
+    ensures { (tree : Rows PartitionState) (f : Flat) (by partition : ℕ) (caller : PartitionState)
+        → AreFound tree by (call.CreateVp partition vp) need caller target.now children → Refines tree f
+        → result ≡ unmet_further f by (call.CreateVp partition vp) }
+{
+    if !need.states.allow(target.life()) {
+        return Some(Rule::TargetState);
+    }
+    if vp >= MAX_VPS || has_vp(target, vp) {
+        return Some(Rule::VpExists);
+    }
+    if balance_of(target, children).available < need.charge {
+        return Some(Rule::Pages);
+    }
+    None
+}
+
+// Creates the processor. It takes memory for the processor, then for its place among the target's.
+#[tactic(auto, using(hv_tree::proofs::Laws::unchanged))]
+fn do_create<A: Allocator + Clone>(
+    tree: &mut Partitions<A>,
+    alloc: &A,
+    caller: u64,
+    partition: u64,
+    vp: u32,
+) -> Result<Effect, AllocError>
+    requires { IsGranted tree.old caller (call.CreateVp partition vp) }
+    ensures { (f : Flat) → Refines tree.old f → IsDone f caller (call.CreateVp partition vp) tree.old
+        (result_map_both (λ effect. ([], effect)) (λ why. why) result) tree.new }
+{
+    let part = resolve_partition_id(caller, partition);
+    let created = Vp::new(alloc.clone()?, vp)?;
+    let Some(target) = tree.get_mut(part) else {
+        unreachable!()
+    };
+    target.reserve_vp()?;
+    target.add_vp(vp, created);
+    Ok(Effect::Processor { part, vp })
+}

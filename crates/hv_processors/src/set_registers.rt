@@ -1,0 +1,109 @@
+// HvSetVpRegisters.
+ghost use Rattle.std.specs.Prelude.{◌≡◌, ℕ, []};
+ghost use Rattle.std.specs.Result.{result_map_both};
+ghost use Rattle.hv_calls.specs.declared.call.Call.TheVariants as call;
+ghost use Rattle.hv_partition.specs.Partition.{PartitionState};
+ghost use Rattle.hv_policy.specs.Flat.{Flat};
+ghost use Rattle.hv_refine.specs.Asked.{AreFound, IsGranted};
+ghost use Rattle.hv_refine.specs.Done.{HasServed, IsCalled};
+ghost use Rattle.hv_refine.specs.Served.{TreeInvariant, unmet_further};
+ghost use Rattle.hv_refine.specs.Tie.{Refines};
+ghost use Rattle.hv_tree.specs.Rows.{Rows};
+
+use crate::register_rules::may_access;
+use crate::writes::write_register;
+use hv_calls::Call;
+use hv_effect::Effect;
+use hv_partition::Partition;
+use hv_policy::{Caller, Need, Rule};
+use hv_refine::{CallError, Partitions, admit, has_vp, resolve_partition_id};
+use hv_vp::{kept, privilege_of};
+use std::alloc::Allocator;
+
+/// HvSetVpRegisters, one element: writes a register of the target's processor.
+///
+/// The register determines which value it keeps. A write of EOM ends a message: if the processor takes
+/// messages, each SINT that shows none then shows its oldest waiting message and raises its vector.
+pub fn set_vp_registers<A: Allocator>(
+    tree: &mut Partitions<A>,
+    by: Caller,
+    partition: u64,
+    vp: u32,
+    name: u32,
+    value: u64,
+) -> Result<Effect, CallError>
+    requires rows { TreeInvariant tree.old }
+    ensures { (f : Flat) → Refines tree.old f
+        → IsCalled f by (call.SetVpRegisters partition vp name value) tree.old
+        (result_map_both (λ effect. ([], effect)) (λ why. why) result) tree.new }
+{
+    let call = Call::SetVpRegisters {
+        partition,
+        vp,
+        name,
+        value,
+    };
+    let (need, caller, target, _) = match admit(tree, by, &call) {
+        Ok(found) => found,
+        Err(rule) => return Err(CallError::Unmet(rule)),
+    };
+    if let Some(rule) = ask_set(need, caller, target, vp, name, value) {
+        return Err(CallError::Unmet(rule));
+    }
+    Ok(do_set(tree, by.part, partition, vp, name, value))
+}
+
+// P12, P18, P19 and P21.
+fn ask_set<A: Allocator>(
+    need: Need,
+    caller: &Partition<A>,
+    target: &Partition<A>,
+    vp: u32,
+    name: u32,
+    value: u64,
+) -> Option<Rule>
+    ensures { (tree : Rows PartitionState) (f : Flat) (by partition children : ℕ)
+        → AreFound tree by (call.SetVpRegisters partition vp name value) need caller.now target.now children
+        → Refines tree f → result ≡ unmet_further f by (call.SetVpRegisters partition vp name value) }
+{
+    if !need.states.allow(target.life()) {
+        return Some(Rule::TargetState);
+    }
+    if !may_access(caller.mask(), privilege_of(name)) {
+        return Some(Rule::Entitlement);
+    }
+    if !has_vp(target, vp) {
+        return Some(Rule::VpExists);
+    }
+    if kept(name, value).is_err() {
+        return Some(Rule::Operand);
+    }
+    None
+}
+
+// Writes the register.
+#[tactic(auto, using(hv_tree::proofs::Laws::unchanged))]
+fn do_set<A: Allocator>(
+    tree: &mut Partitions<A>,
+    caller: u64,
+    partition: u64,
+    vp: u32,
+    name: u32,
+    value: u64,
+) -> Effect
+    requires { IsGranted tree.old caller (call.SetVpRegisters partition vp name value) }
+    ensures { (f : Flat) → Refines tree.old f
+        → HasServed f caller (call.SetVpRegisters partition vp name value) [] result tree.new }
+{
+    let part = resolve_partition_id(caller, partition);
+    let Some(target) = tree.get_mut(part) else {
+        unreachable!()
+    };
+    let Some(processor) = target.vp_mut(vp) else {
+        unreachable!()
+    };
+    match write_register(processor, part, vp, name, value) {
+        Ok(effect) => effect,
+        Err(_) => unreachable!(),
+    }
+}
