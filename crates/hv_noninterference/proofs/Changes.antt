@@ -1,5 +1,5 @@
 -- What a served call leaves of members is alike where what they had was.
-use Rattle.std.proofs.Common.{◌≡◌, ℕ, zero, suc, ◌+◌, ◌≤◌, ◌==◌, ◌&&◌, ◌||◌, not, Bool, true, false, cond, List, [], map, Option, Some, None, is_some, refl, sym, ap, subst, ◌∙◌, eq-eqb, eqb-true}
+use Rattle.std.proofs.Common.{◌≡◌, ℕ, zero, suc, ◌+◌, ◌≤◌, ◌==◌, ◌||◌, not, Bool, true, false, cond, List, [], map, Option, Some, None, is_some, refl, sym, ap, subst, ◌∙◌, eq-eqb, eqb-true}
 use Rattle.std.proofs.Common.{option_and_then, option_map, nat_cmp}
 use Rattle.std.specs.FinMap.{FinMap, contains_key, get, insert, remove}
 use Rattle.std.specs.Option.{option_map_or}

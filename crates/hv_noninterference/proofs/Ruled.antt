@@ -4,6 +4,7 @@ use Rattle.std.specs.FinMap.{contains_key, get}
 use Rattle.std.specs.Option.{option_map_or}
 use Rattle.hv_calls.specs.declared.call.Call.{Call}
 use Rattle.hv_calls.specs.declared.call.Call.TheVariants.{CreatePartition, PostMessage, SignalEvent, CreatePort, ConnectPort}
+use Rattle.hv_defs.specs.declared.port_kind.PortKind.{PortKind}
 use Rattle.hv_policy.specs.Aim.{is_same_birth, on_aim}
 use Rattle.hv_policy.specs.Flat.{ConnRow, Flat, PortRow}
 use Rattle.hv_policy.specs.Met.{has_flag, has_flag_taker, has_message_room, has_message_taker, is_aimed_at_vp, is_for_messages, is_kind, on_port}
@@ -13,7 +14,7 @@ use Rattle.hv_policy.specs.declared.rule.Rule.TheVariants.{Connection, Port, VpE
 use Rattle.hv_integrity.proofs.Asked.{NamedAlike, ReadsAlike, asked_alike}
 use Rattle.hv_integrity.proofs.Held.{reads_alike}
 use Rattle.hv_noninterference.specs.Alike.{AreLowEquivalent, AreClosed, is_born, mark, marked_conn, unborn}
-use Rattle.hv_noninterference.specs.Looks.{EndsAlike, IsThereAlike, LooksAlike, OutsideAlike}
+use Rattle.hv_noninterference.specs.Looks.{EndsAlike, IsThereAlike, LooksAlike, OutsideAlike, PortsAlike}
 use Rattle.hv_noninterference.proofs.Ends.{ends_alike}
 use Rattle.hv_noninterference.proofs.Marks.{unmarked}
 use Rattle.hv_noninterference.proofs.Reading.{child_alike, there_alike}
@@ -28,15 +29,6 @@ module _ (members : ℕ → Bool) (f g : Flat) (a : AreLowEquivalent members f g
       by true own = ap is_some (a id own).part
       by false off = n off
 
-  -- and a port that is
-  port_alike : (key : ℕ × ℕ) → (members key.0 ≡ false → option_map unborn (get f.port key) ≡ option_map unborn (get g.port key)) → option_map unborn (get f.port key) ≡ option_map unborn
-      (get g.port key)
-  port_alike key n = by (members key.0) refl
-    where
-      by : (b : Bool) → members key.0 ≡ b → option_map unborn (get f.port key) ≡ option_map unborn (get g.port key)
-      by true own = (a key.0 own).ports key.1
-      by false off = n off
-
   -- a test of a port that doesn't look at its birth
   on_port_alike : (key : ℕ × ℕ) → option_map unborn (get f.port key) ≡ option_map unborn (get g.port key) → (test : PortRow → Bool) → ((row : PortRow) → test (unborn row) ≡ test row) → on_port f key
       test ≡ on_port g key test
@@ -45,6 +37,21 @@ module _ (members : ℕ → Bool) (f g : Flat) (a : AreLowEquivalent members f g
       at : (r : Option PortRow) → option_map_or test (option_map unborn r) false ≡ option_map_or test r false
       at None = refl
       at (Some row) = blind row
+
+  -- and a port that is
+  ports_alike : (key : ℕ × ℕ) (target : ℕ) (port_kind : PortKind) → (members key.0 ≡ false → PortsAlike key target port_kind f g) → PortsAlike key target port_kind f g
+  ports_alike key target port_kind n = by (members key.0) refl
+    where
+      within : option_map unborn (get f.port key) ≡ option_map unborn (get g.port key) → PortsAlike key target port_kind f g
+      within same = record {
+        there = there_alike unborn unborn (get f.port key) (get g.port key) same;
+        peer = on_port_alike key same (λ row. row.peer == target) (λ row. refl);
+        kind = on_port_alike key same (λ row. is_kind row.kind port_kind) (λ row. refl);
+      }
+
+      by : (b : Bool) → members key.0 ≡ b → PortsAlike key target port_kind f g
+      by true own = within ((a key.0 own).ports key.1)
+      by false off = n off
 
   module _ (caller : ℕ) (own_caller : members caller ≡ true) where
     -- the end of the caller's connection
@@ -145,13 +152,12 @@ module _ (members : ℕ → Bool) (f g : Flat) (a : AreLowEquivalent members f g
     named (SignalEvent connection flag) n = signals_asked connection n flag
     named (CreatePort partition port peer port_kind sint vp base count) n = part_alike (resolved_id caller peer) n.1
     named (ConnectPort partition connection port_partition port port_kind) n =
-        let key : ℕ × ℕ = (resolved_id caller port_partition, port) in
-        let same = port_alike key n.2 in
+        let same = ports_alike (resolved_id caller port_partition, port) (resolved_id caller partition) port_kind n.2 in
         record {
           part = part_alike (resolved_id caller port_partition) n.1;
-          port = there_alike unborn unborn (get f.port key) (get g.port key) same;
-          peer = on_port_alike key same (λ row. row.peer == resolved_id caller partition) (λ row. refl);
-          kind = on_port_alike key same (λ row. is_kind row.kind port_kind) (λ row. refl);
+          port = same.there;
+          peer = same.peer;
+          kind = same.kind;
         }
     named call n = tt
 
