@@ -76,10 +76,10 @@ by_kind P by call access (ReadFlags sint) = access (ReadFlags sint)
 by_kind P by call access (ClearFlag sint flag) = access (ClearFlag sint flag)
 by_kind P by call access TakeInterrupt = access TakeInterrupt
 
-abbrev IsBy : Caller → Receipt → Type 0
+abbrev pub IsBy : Caller → Receipt → Type 0
 IsBy by r = r.event.by ≡ by
 
-elements_by : (by : Caller) (frame : Frame Global) (list : List Receipt) (now : Frame Global) → AreElements by frame list now → All (IsBy by) list
+pub elements_by : (by : Caller) (frame : Frame Global) (list : List Receipt) (now : Frame Global) → AreElements by frame list now → All (IsBy by) list
 elements_by by frame [] now elements = All-nil (IsBy by)
 elements_by by frame (r ∷ rs) now elements =
     All-cons (IsBy by) r rs (ap (λ e. e.by) elements.0) (elements_by by (restart frame (start_of frame + 1)) rs now elements.2)
@@ -92,10 +92,13 @@ call_by by frame list call =
 access_by : (by : Caller) (what : Action Global) (list : List Receipt) → IsAccess by what list → All (IsBy by) list
 access_by by what list access = subst (All (IsBy by)) (sym access.all) (All-push (IsBy by) [] _ (All-nil (IsBy by)) refl)
 
--- receipts of whole actions are by their caller
+-- the receipts of a whole action are by its caller
+pub one_by : (by : Caller) (what : Action Global) (list : List Receipt) → IsWhole by what list → All (IsBy by) list
+one_by by what list is = by_kind (λ (W : List Receipt → Type 0). (list : List Receipt) → W list → All (IsBy by) list) by (call_by by) (access_by by) what list is
+
+-- and so are those of whole actions
 pub whole_by : (by : Caller) (actions : List (Action Global)) (list : List Receipt) → AreWhole by actions list → All (IsBy by) list
 whole_by by [] list none = subst (All (IsBy by)) (sym none) (All-nil (IsBy by))
 whole_by by (a ∷ actions) list some =
     subst (All (IsBy by)) (sym some.2)
-    (All-append (IsBy by) some.0 some.1 (by_kind (λ (W : List Receipt → Type 0). (list : List Receipt) → W list → All (IsBy by) list) by (call_by by) (access_by by) a some.0 some.3)
-    (whole_by by actions some.1 some.4))
+    (All-append (IsBy by) some.0 some.1 (one_by by a some.0 some.3) (whole_by by actions some.1 some.4))

@@ -1,12 +1,16 @@
 pub mod Asked
 pub mod Behind
+pub mod Going
 pub mod Handing
 pub mod Lending
 pub mod Maps
 pub mod Members
 pub mod Named
 pub mod Numbers
+pub mod Parts
 pub mod PassMaps
 pub mod Phased
 pub mod Renumbered
 pub mod Settled
+pub mod Told
+pub mod Worked

@@ -1,2 +1,4 @@
 pub mod PassMap
 pub mod Lines
+pub mod Begun
+pub mod Stops

@@ -1,13 +1,15 @@
 -- What the processors of a script hold while its lines run. Only contracts of private functions cite these
 -- words.
-use Rattle.std.specs.Prelude.{ℕ, ◌≡◌, ◌<◌, ◌≤◌, ◌==◌, ◌&&◌, ⊤, false, true, Bool, Some, List, [], ◌∷◌, ◌++◌}
-use Rattle.std.specs.Prelude.{All, drop, length, map, reverse, slice_index_or, Contains}
+use Rattle.std.specs.Prelude.{ℕ, ◌≡◌, ◌⊎◌, ◌<◌, ◌≤◌, ◌==◌, ◌&&◌, ⊤, false, true, Bool, Some, List, [], ◌∷◌}
+use Rattle.std.specs.Prelude.{◌++◌, All, drop, length, map, reverse, slice_index_or, Contains}
 use Rattle.std.specs.declared.alloc.Global.{Global}
 use Rattle.hv_policy.specs.declared.event.Action.{Action}
 use Rattle.hv_policy.specs.declared.event.Caller.{Caller}
 use Rattle.hv_script.specs.declared.line.Line.{Line}
+use Rattle.hv_phases.specs.Begun.{AreBegun, HasBegun}
 use Rattle.hv_phases.specs.Lines.{asked_by}
 use Rattle.hv_shared.specs.ByCaller.{AreDifferent}
+use Rattle.hv_shared.specs.Pass.{HasReceipts}
 use Rattle.hv_shared.specs.PassValue.{PassValue}
 use Rattle.hv_shared.specs.declared.receipts.Receipt.{Receipt}
 use Rattle.hv_threads.specs.Perform.{AreWhole}
@@ -103,6 +105,10 @@ abbrev pub HasFinished : {L : Type 0} → ℕ → ℕ → Done L → ℕ → Typ
 HasFinished low high done count =
     (done.end ≡ Finished) × All (IsWithin low high) (drop count done.pass.receipts)
 
+-- the pass is the processor's, and has run a first part of what the lines ask of it
+abbrev pub HasBegunBy : List (Line Global) → Caller → PassValue → Type 0
+HasBegunBy lines by pass = (pass.caller ≡ by) × HasBegun lines pass
+
 -- the pass of each processor, by its key
 abbrev pub PassMap : Type 0 → Type 0
 PassMap S = IndexMap (ℕ × ℕ) PassValue S
@@ -116,6 +122,33 @@ module _ {S : Type 0} where
   -- the pass was added
   abbrev pub HasJoined : PassValue → PassMap S → PassMap S → Type 0
   HasJoined pass old new = UpdatesBy is_key (is_key (key_of pass.caller)) old new (Some pass)
+
+  -- each pass that is in the map was in the other one
+  abbrev pub HasFewer : PassMap S → PassMap S → Type 0
+  HasFewer old new = Each (λ by pass. get is_key old (key_of by) ≡ Some pass) new
+
+  -- the pass was in the map, or is this one
+  abbrev pub IsJoinedFrom : PassValue → PassMap S → Caller → PassValue → Type 0
+  IsJoinedFrom joined old by pass =
+      (get is_key old (key_of by) ≡ Some pass) ⊎ ((pass ≡ joined) × (joined.caller ≡ by))
+
+  -- the passes of a processor before and after, where one processor alone did this
+  pub record IsActed (own : Caller) (Did : PassValue → PassValue → Type 0) (old : PassMap S) (by : Caller)
+      (pass : PassValue) : Type 0 where
+    pub was : PassValue
+    pub is : get is_key old (key_of by) ≡ Some was
+    pub did : by ≡ own → Did was pass
+    pub same : (by ≡ own → ⊥) → pass ≡ was
+
+  -- the processor alone did this
+  abbrev pub HasActed : Caller → (PassValue → PassValue → Type 0) → PassMap S → PassMap S → Type 0
+  HasActed own Did old new = Each (IsActed own Did old) new
+
+  -- the passes are those of the first of these processors, in order
+  pub record AreFrom (pass_map : PassMap S) (order : List Caller) (passes : List PassValue) : Type 0 where
+    pub within : length passes ≤ length order
+    pub each : (k : ℕ) (by : Caller) (pass : PassValue) → k < length passes → get is_key pass_map
+        (key_of (slice_index_or order k by)) ≡ Some (slice_index_or passes k pass)
 
   -- the passes are those of these processors, which have run what their passes in the map have run
   abbrev pub IsBack : PassMap S → List Caller → List PassValue → Type 0
@@ -161,7 +194,30 @@ module _ {S : Type 0} where
     pub each : (past : List Past) → Each (IsIdle past []) old → Each (IsIdle past (first ∷ more)) new ×
         Out past (first ∷ more)
 
+module _ {L : Type 0} where
+  -- the pass is the processor's, and that of one of these outcomes
+  pub record IsOneOf (dones : List (Done L)) (by : Caller) (pass : PassValue) : Type 0 where
+    pub caller : pass.caller ≡ by
+    pub one : Contains (map (λ done. done.pass) dones) pass
+
+  -- the pass has gained the receipts of a first part of one of these works
+  pub record IsWorked (works : List (Work L)) (by : Caller) (pass : PassValue) : Type 0 where
+    pub caller : pass.caller ≡ by
+    pub work : Work L
+    pub one : Contains works work
+    pub more : List Receipt
+    pub begun : AreBegun work.pass.caller work.actions.items more
+    pub gained : HasReceipts more work.pass pass
+
 module _ {L S : Type 0} where
+  -- the pass was in the map, or is that of one of these outcomes
+  abbrev pub IsTakenFrom : List (Done L) → PassMap S → Caller → PassValue → Type 0
+  IsTakenFrom dones old by pass = (get is_key old (key_of by) ≡ Some pass) ⊎ IsOneOf dones by pass
+
+  -- the pass was in the map, or comes from one of these works
+  abbrev pub IsWorkedFrom : List (Work L) → PassMap S → Caller → PassValue → Type 0
+  IsWorkedFrom works old by pass = (get is_key old (key_of by) ≡ Some pass) ⊎ IsWorked works by pass
+
   -- these outcomes were taken back: the host stopped no processor, and the receipts beyond the counts have
   -- numbers above `last` and up to `now`
   pub record HasTaken (dones : List (Done L)) (counts : List ℕ) (last now : ℕ) (old new : PassMap S) : Type

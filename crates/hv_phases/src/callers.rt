@@ -1,6 +1,7 @@
 // The processors of a script.
-ghost use Rattle.std.specs.Prelude.{◌≡◌, IfOk};
+ghost use Rattle.std.specs.Prelude.{◌≡◌, [], IfOk};
 ghost use Rattle.hv_phases.specs.PassMap.{AreCallersOf, is_key};
+ghost use Rattle.hv_phases.specs.Stops.{callers_in};
 ghost use Rattle.indexmap.specs.IndexSet.{IsUnique};
 
 use crate::pass_map::key_of;
@@ -11,7 +12,8 @@ use std::alloc::{AllocError, Global};
 
 /// The processors that lines name, each once, in the order of their first lines.
 pub fn callers_of(alloc: Global, lines: &[Line<Global>]) -> Result<Vec<Caller>, AllocError>
-    ensures { IfOk result (λ callers. AreCallersOf lines.now callers.items) }
+    ensures all { IfOk result (λ callers. AreCallersOf lines.now callers.items) }
+    ensures order { IfOk result (λ callers. callers.items ≡ callers_in [] lines.now) }
 {
     let mut seen = IndexSet::new(alloc);
     for at in 0..lines.len() {

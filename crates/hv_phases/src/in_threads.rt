@@ -1,13 +1,18 @@
 // The phases of a script, each processor of a phase in a thread of its own.
-ghost use Rattle.std.specs.Prelude.{◌≡◌, ◌++◌, ◌∷◌, [], IfNone, IfOk, IfSome, OnOk, false, length, vec_len};
-ghost use Rattle.hv_phases.specs.PassMap.{AreBusy, Each, HasGiven, HasHandedOut, HasRunAll, HasRunWorks};
-ghost use Rattle.hv_phases.specs.PassMap.{HasTaken, IsIdle, is_key};
+ghost use Rattle.std.specs.Prelude.{◌≡◌, ◌++◌, ◌∷◌, [], IfErr, IfNone, IfOk, IfSome, OnOk, false, length};
+ghost use Rattle.std.specs.Prelude.{vec_len};
+ghost use Rattle.hv_phases.specs.PassMap.{AreBusy, Each, HasBegunBy, HasFewer, HasGiven, HasHandedOut};
+ghost use Rattle.hv_phases.specs.PassMap.{HasRunAll, HasRunWorks, HasTaken, IsIdle, IsTakenFrom};
+ghost use Rattle.hv_phases.specs.PassMap.{IsWorkedFrom, is_key};
+ghost use Rattle.hv_phases.specs.Stops.{IsWhyNot};
 ghost use Rattle.indexmap.specs.IndexMap.{IsUnique, values};
 
 use crate::barrier::{counts_of, highest_above};
 use crate::pass_map::{CallerMap, join, key_of};
 use crate::run::RunError;
+use crate::stop::{Stop, first_of};
 use hv_history::HostRefused;
+use hv_policy::Caller;
 use hv_script::Line;
 use hv_threads::{Done, End, Gate, Pass, SettleFault, Shared, Work, run_phase};
 use indexmap::IndexMap;
@@ -18,17 +23,19 @@ use std::thread::Threads;
 
 /// Runs the lines phase by phase, and returns why the host stopped a processor, if it did.
 ///
-/// Of the processors that it stopped in a phase, the first counts. No phase begins after one in which a
-/// processor was stopped, or without memory for it.
+/// Of several processors that it stopped in a phase, the first in `order` counts. No phase begins after one
+/// in which a processor was stopped, or without memory for it.
 pub fn run_in_threads<L: Ledger + Send + Sync, R: Threads + Wait + Sync, G: Gate>(
     rt: &R,
     gate: &G,
     shared: &Shared<L>,
     pass_map: &mut CallerMap<Pass<L>>,
     lines: Vec<Line<Global>>,
+    order: &[Caller],
 ) -> Option<RunError>
     requires { Each (IsIdle [] []) pass_map.old }
-    ensures { IfNone result (HasRunAll false lines.items pass_map.new) }
+    ensures whole { IfNone result (HasRunAll false lines.items pass_map.new) }
+    ensures begun { Each (HasBegunBy lines.items) pass_map.new }
 {
     let mut left = lines;
     left.reverse();
@@ -37,7 +44,7 @@ pub fn run_in_threads<L: Ledger + Send + Sync, R: Threads + Wait + Sync, G: Gate
         let Ok(works) = works_of(pass_map, first, &mut left) else {
             return Some(RunError::Host(HostRefused::Memory));
         };
-        match run_works(rt, gate, shared, pass_map, works, last) {
+        match run_works(rt, gate, shared, pass_map, works, last, order) {
             Ok(now) => last = now,
             Err(why) => return Some(why),
         }
@@ -52,8 +59,9 @@ fn works_of<L: Ledger>(
     first: Line<Global>,
     left: &mut Vec<Line<Global>>,
 ) -> Result<Vec<Work<L>>, AllocError>
-    ensures { IfOk result (λ works. HasHandedOut first left.old.items left.new.items
+    ensures handed { IfOk result (λ works. HasHandedOut first left.old.items left.new.items
         (λ past taken. AreBusy past taken works.items) pass_map.old pass_map.new) }
+    ensures fewer { HasFewer pass_map.old pass_map.new }
 {
     let phase = first.phase;
     let mut busy = IndexMap::new(*left.allocator());
@@ -94,7 +102,8 @@ fn give<L: Ledger>(
     busy: &mut CallerMap<Work<L>>,
     line: Line<Global>,
 ) -> Result<(), AllocError>
-    ensures { OnOk result (HasGiven line pass_map.old pass_map.new busy.old busy.new) }
+    ensures given { OnOk result (HasGiven line pass_map.old pass_map.new busy.old busy.new) }
+    ensures fewer { HasFewer pass_map.old pass_map.new }
 {
     let Line { by, action, .. } = line;
     let key = key_of(by);
@@ -115,7 +124,7 @@ fn give<L: Ledger>(
 
 // Performs these works, each in a thread of its own. Returns the highest receipt number at the end of the
 // phase, where `last` is the highest before it. Otherwise it returns why the run isn't whole: why the host
-// stopped the first of the processors that it stopped, or that a number isn't above `last`.
+// stopped the first in `order` of the processors that it stopped, or that a number isn't above `last`.
 fn run_works<L: Ledger + Send + Sync, R: Threads + Wait + Sync, G: Gate>(
     rt: &R,
     gate: &G,
@@ -123,47 +132,56 @@ fn run_works<L: Ledger + Send + Sync, R: Threads + Wait + Sync, G: Gate>(
     pass_map: &mut CallerMap<Pass<L>>,
     works: Vec<Work<L>>,
     last: u64,
+    order: &[Caller],
 ) -> Result<u64, RunError>
-    ensures { IfOk result (λ now. HasRunWorks works.items last now pass_map.old pass_map.new) }
+    ensures run { IfOk result (λ now. HasRunWorks works.items last now pass_map.old pass_map.new) }
+    ensures back { Each (IsWorkedFrom works.items pass_map.old) pass_map.new }
 {
     let Ok(counts) = counts_of(*pass_map.allocator(), &works) else {
         return Err(RunError::Host(HostRefused::Memory));
     };
     match run_phase(rt, shared, gate, works) {
-        Ok(dones) => take_back(pass_map, dones, &counts, last),
+        Ok(dones) => take_back(pass_map, dones, &counts, last, order),
         Err(_) => Err(RunError::Host(HostRefused::Memory)),
     }
 }
 
 // Takes the outcomes back. Returns the highest receipt number after them, where `last` is the highest before
 // them and `counts` has each pass's number of receipts then. Otherwise it returns why the host stopped the
-// first of the processors that it stopped, or else that a new number isn't above `last`.
+// first in `order` of the processors that it stopped, or else that a new number isn't above `last`.
 fn take_back<L: Ledger>(
     pass_map: &mut CallerMap<Pass<L>>,
     dones: Vec<Done<L>>,
     counts: &[usize],
     last: u64,
+    order: &[Caller],
 ) -> Result<u64, RunError>
     requires { length counts.now ≡ vec_len dones }
-    ensures { IfOk result (λ now. HasTaken dones.items counts.now last now pass_map.old pass_map.new) }
+    ensures taken { IfOk result (λ now. HasTaken dones.items counts.now last now pass_map.old pass_map.new) }
+    ensures told { IfErr result (IsWhyNot order.now dones.items) }
+    ensures back { Each (IsTakenFrom dones.items pass_map.old) pass_map.new }
 {
     let mut left = dones;
     let mut now = last;
     let mut differs = false;
-    let mut stop = None;
+    let mut stop: Option<Stop> = None;
     while let Some(done) = left.pop() {
         let Done { pass, end, .. } = done;
+        let by = pass.caller();
         let highest = highest_above(pass.receipts(), counts[left.len()], last, now);
         match (end, join(pass_map, pass), highest) {
             (End::Finished, Ok(()), Some(number)) => now = number,
             (End::Finished, Ok(()), None) => differs = true,
-            (End::Finished, Err(_), _) => stop = Some(HostRefused::Memory),
-            (End::Host(why), _, _) => stop = Some(why),
+            (End::Finished, Err(_), _) => {
+                let why = HostRefused::Memory;
+                stop = Some(first_of(order, stop, Stop { by, why }));
+            }
+            (End::Host(why), _, _) => stop = Some(first_of(order, stop, Stop { by, why })),
         }
     }
     match (stop, differs) {
         (None, false) => Ok(now),
         (None, true) => Err(RunError::Settlement(SettleFault::Differs)),
-        (Some(why), _) => Err(RunError::Host(why)),
+        (Some(Stop { why, .. }), _) => Err(RunError::Host(why)),
     }
 }

@@ -4,7 +4,8 @@
 //! next one begins. In a phase, each of its processors drives its lines in order, in a thread of its own. In
 //! the script's order, one thread does so, line by line. At the end the passes' receipts are settled with the
 //! history. [`run_lines`] returns the machine with its history, and why the lines didn't all run, if they
-//! didn't. Scripts and phases are this project's own.
+//! didn't. Of several processors that the host stopped, the one with the first line counts. Scripts and
+//! phases are this project's own.
 #![tactic(auto)]
 
 mod barrier;
@@ -13,5 +14,6 @@ mod in_order;
 mod in_threads;
 mod pass_map;
 mod run;
+mod stop;
 
 pub use run::{RunError, run_lines};

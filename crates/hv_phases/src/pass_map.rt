@@ -1,6 +1,6 @@
 // The passes of a script's processors while its lines run.
 ghost use Rattle.std.specs.Prelude.{◌≡◌, [], All, IfOk, OnOk};
-ghost use Rattle.hv_phases.specs.PassMap.{Each, HasJoined, IsBack, IsIdle, key_of};
+ghost use Rattle.hv_phases.specs.PassMap.{AreFrom, Each, HasJoined, IsBack, IsIdle, IsJoinedFrom, key_of};
 
 use hv_policy::Caller;
 use hv_threads::Pass;
@@ -33,7 +33,8 @@ pub fn pass_map_of<L: Ledger>(passes: &mut Vec<Pass<L>>) -> Result<CallerMap<Pas
 
 /// Adds a pass to the map.
 pub fn join<L: Ledger>(pass_map: &mut CallerMap<Pass<L>>, pass: Pass<L>) -> Result<(), AllocError>
-    ensures { OnOk result (HasJoined pass pass_map.old pass_map.new) }
+    ensures joined { OnOk result (HasJoined pass pass_map.old pass_map.new) }
+    ensures from { Each (IsJoinedFrom pass pass_map.old) pass_map.new }
 {
     let key = key_of(pass.caller());
     match pass_map.insert(key, pass) {
@@ -44,14 +45,15 @@ pub fn join<L: Ledger>(pass_map: &mut CallerMap<Pass<L>>, pass: Pass<L>) -> Resu
 
 /// Moves the passes of these processors out of the map, in the processors' order.
 ///
-/// It fails without memory, and for a processor that has no pass there.
+/// It fails without memory, and for a processor that has no pass there. Then those before it are moved.
 pub fn leave<L: Ledger>(
     pass_map: CallerMap<Pass<L>>,
     callers: &[Caller],
     passes: &mut Vec<Pass<L>>,
 ) -> Result<(), AllocError>
     requires { passes.old.items ≡ [] }
-    ensures { OnOk result (IsBack pass_map callers.now passes.new.items) }
+    ensures back { OnOk result (IsBack pass_map callers.now passes.new.items) }
+    ensures from { AreFrom pass_map callers.now passes.new.items }
 {
     let mut pass_map = pass_map;
     for at in 0..callers.len() {

@@ -1,7 +1,9 @@
 // A whole run of lines, from a machine without events to the settlement.
-ghost use Rattle.std.specs.Prelude.{◌≡◌, ◌<◌, [], All, IfNone, IsNone, IsTrue, Some, vec_len};
+ghost use Rattle.std.specs.Prelude.{◌≡◌, ◌<◌, [], All, IfNone, IsNone, IsTrue, Some, map, vec_len};
+ghost use Rattle.hv_phases.specs.Begun.{HasBegun, IsPart, IsSettled};
 ghost use Rattle.hv_phases.specs.PassMap.{AreCallersOf, HaveRun};
 ghost use Rattle.hv_phases.specs.Lines.{AreInOrder, ArePhased, AreRun};
+ghost use Rattle.hv_shared.specs.ByCaller.{AreDifferent};
 ghost use Rattle.hv_shared.specs.Merge.{IsMerge, receipts_of};
 
 use crate::callers::callers_of;
@@ -22,6 +24,8 @@ use std::thread::Threads;
 #[derive(Clone, Copy, PartialEq, Eq, Debug)]
 pub enum RunError {
     /// The host refused an event, or had no memory for a phase or for the passes.
+    ///
+    /// Of several processors whose event it refused, this is the one with the first line.
     Host(HostRefused),
     /// The receipts don't make the history, or they are out of order.
     ///
@@ -37,7 +41,8 @@ pub enum RunError {
 ///
 /// Returns the machine with its history, and why it isn't a whole run of the lines, if it isn't. In a whole
 /// run each processor's events are those that its lines ask for, in their order (`lines`). With `serial`, the
-/// events of each line come after those of the line before it (`order`).
+/// events of each line come after those of the line before it (`order`). In any other run they are a first
+/// part of those, unless the settlement found a fault (`part`).
 pub fn run_lines<R: Threads + Wait + Sync, G: Gate>(
     rt: &R,
     gate: &G,
@@ -51,6 +56,7 @@ pub fn run_lines<R: Threads + Wait + Sync, G: Gate>(
     ensures lines { IfNone result.1 (AreRun lines.items result.0.history) }
     ensures phases { IfNone result.1 (ArePhased lines.items result.0.history) }
     ensures order { IsTrue serial → IfNone result.1 (AreInOrder 1 lines.items result.0.history) }
+    ensures part { IsPart kept.config kept.limit lines.items result.0 }
 {
     let Ok(callers) = callers_of(*lines.allocator(), &lines) else {
         return (kept, Some(RunError::Host(HostRefused::Memory)));
@@ -81,6 +87,7 @@ fn run_under<L: Ledger + Send + Sync, R: Threads + Wait + Sync, G: Gate>(
     ensures lines { IfNone result.1 (AreRun lines.items result.0.history) }
     ensures phases { IfNone result.1 (ArePhased lines.items result.0.history) }
     ensures order { IsTrue serial → IfNone result.1 (AreInOrder 1 lines.items result.0.history) }
+    ensures part { IsPart kept.config kept.limit lines.items result.0 }
 {
     let Ok(order) = callers.clone() else {
         return (kept, Some(RunError::Host(HostRefused::Memory)));
@@ -107,15 +114,18 @@ fn run_on<L: Ledger + Send + Sync, R: Threads + Wait + Sync, G: Gate>(
 ) -> Option<RunError>
     requires callers { AreCallersOf lines.items callers.now }
     requires fresh { All (λ pass. pass.receipts ≡ []) passes.old.items }
-    ensures { IfNone result (HaveRun serial lines.items passes.new.items) }
+    ensures run { IfNone result (HaveRun serial lines.items passes.new.items) }
+    ensures begun { All (HasBegun lines.items) passes.new.items }
+    ensures different { AreDifferent (map (λ pass. pass.caller) passes.new.items) }
 {
     let Ok(mut pass_map) = pass_map_of(passes) else {
+        passes.clear();
         return Some(RunError::Host(HostRefused::Memory));
     };
     let stop = if serial {
-        run_in_order(rt, gate, shared, &mut pass_map, lines)
+        run_in_order(rt, gate, shared, &mut pass_map, lines, callers)
     } else {
-        run_in_threads(rt, gate, shared, &mut pass_map, lines)
+        run_in_threads(rt, gate, shared, &mut pass_map, lines, callers)
     };
     match leave(pass_map, callers, passes) {
         Ok(()) => stop,
@@ -134,6 +144,7 @@ fn finish<L: Ledger>(
     ensures merge { IfNone result.1 (IsMerge result.0.history (receipts_of passes.items)) }
     ensures stop { IfNone result.1 (IsNone stop) }
     ensures first { (why : RunError) → stop ≡ Some why → result.1 ≡ Some why }
+    ensures settled { IsSettled shared.config shared.limit passes.items result.0 }
 {
     match (settle(shared, passes), stop) {
         (Ok(kept), None) => (kept, None),

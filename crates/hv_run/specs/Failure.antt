@@ -7,6 +7,8 @@ use Rattle.hv_history.specs.declared.kept.HostRefused.TheVariants as refused
 use Rattle.hv_phases.specs.declared.run.RunError.{RunError}
 use Rattle.hv_phases.specs.declared.run.RunError.TheVariants as unfinished
 use Rattle.hv_shared.specs.declared.fault.SettleFault.TheVariants as fault
+use Rattle.hv_text.specs.declared.fault.PrintFault.{PrintFault}
+use Rattle.hv_text.specs.declared.fault.PrintFault.TheVariants as print
 use Rattle.hv_run.specs.declared.failure.Exit.{Exit}
 use Rattle.hv_run.specs.declared.failure.Exit.TheVariants.{Script, Host}
 use Rattle.hv_run.specs.declared.failure.Failure.{Failure}
@@ -44,3 +46,8 @@ failure_by (unfinished.Host refused.HistoryFull) = failure.HistoryFull
 failure_by (unfinished.Host refused.Memory) = failure.Memory
 failure_by (unfinished.Settlement fault.Missing) = failure.Missing
 failure_by (unfinished.Settlement fault.Differs) = failure.Differs
+
+-- the failure of a print: the writer takes no more, or the host is out of memory
+abbrev pub failure_of_print : PrintFault → Failure
+failure_of_print (print.Write written) = failure.Write
+failure_of_print print.Memory = failure.Memory

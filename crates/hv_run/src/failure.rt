@@ -120,10 +120,9 @@ impl From<RunError> for Failure {
 }
 
 impl From<PrintFault> for Failure {
-    ghost use Rattle.std.specs.Prelude.{◌≡◌};
-    ghost use Rattle.hv_run.specs.declared.failure.Exit.TheVariants.{Host};
+    ghost use Rattle.hv_run.specs.Failure.{failure_of_print};
 
-    ghost from_gives = { λ _ failure. exit_of failure ≡ Host };
+    ghost from_gives = { λ fault failure. failure ≡ failure_of_print fault };
 
     fn from(fault: PrintFault) -> Failure {
         match fault {

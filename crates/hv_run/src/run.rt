@@ -1,15 +1,15 @@
 // A whole run, from the script's bytes to the exit status.
-ghost use Rattle.std.specs.Prelude.{◌≡◌, ◌≢◌, ◌<◌, length, Err, IfErr, OnErr, OnOk};
+ghost use Rattle.std.specs.Prelude.{◌≡◌, ◌≢◌, ◌<◌, length, Err, IfErr, IfSome, None, OnErr, OnOk};
 ghost use Rattle.std.specs.Io.KnownBytes.{Appends};
 ghost use Rattle.hv_history.specs.Kept.{IsRun};
 ghost use Rattle.hv_script.specs.declared.script.TheConstants.{MOST_BYTES as MOST};
-ghost use Rattle.hv_run.specs.Failure.{exit_of};
+ghost use Rattle.hv_run.specs.Failure.{exit_of, failure_by};
 ghost use Rattle.hv_run.specs.Written.{HasPart, HasWritten, HasWrittenPart, told_by};
 
 use crate::failure::{Exit, Failure, tell};
 use hv_history::Kept;
 use hv_options::Options;
-use hv_phases::run_lines;
+use hv_phases::{RunError, run_lines};
 use hv_script::{FaultKind, Script, parse};
 use hv_text::{audit, table};
 use hv_threads::{Gate, Open};
@@ -33,8 +33,8 @@ pub fn run_text<T: Threads + Wait + Sync, W: Write, E: Write>(
 ) -> Exit
     ensures told { result ≡ Exit.Done → HasWritten script.now options.now.serial options.now.table
         (W.contents out.old) (W.contents out.new) }
-    ensures unfinished { result ≡ Exit.Host → HasWrittenPart options.now.table (W.contents out.old)
-        (W.contents out.new) }
+    ensures unfinished { result ≡ Exit.Host → HasWrittenPart script.now options.now.table
+        (W.contents out.old) (W.contents out.new) }
     ensures long { MOST < length script.now → result ≡ Exit.Script }
     ensures silent { result ≡ Exit.Script → out.new ≡ out.old }
     ensures no_usage { result ≢ Exit.Usage }
@@ -56,8 +56,8 @@ pub fn run_gated<T: Threads + Wait + Sync, G: Gate, W: Write, E: Write>(
 ) -> Exit
     ensures told { result ≡ Exit.Done → HasWritten script.now options.now.serial options.now.table
         (W.contents out.old) (W.contents out.new) }
-    ensures unfinished { result ≡ Exit.Host → HasWrittenPart options.now.table (W.contents out.old)
-        (W.contents out.new) }
+    ensures unfinished { result ≡ Exit.Host → HasWrittenPart script.now options.now.table
+        (W.contents out.old) (W.contents out.new) }
     ensures long { MOST < length script.now → result ≡ Exit.Script }
     ensures silent { result ≡ Exit.Script → out.new ≡ out.old }
     ensures no_usage { result ≢ Exit.Usage }
@@ -79,7 +79,7 @@ fn run_script<T: Threads + Wait + Sync, G: Gate, W: Write>(
 ) -> Result<(), Failure>
     ensures told { OnOk result (HasWritten script.now options.now.serial options.now.table
         (W.contents out.old) (W.contents out.new)) }
-    ensures unfinished { OnErr result (HasWrittenPart options.now.table (W.contents out.old)
+    ensures unfinished { OnErr result (HasWrittenPart script.now options.now.table (W.contents out.old)
         (W.contents out.new)) }
     ensures long { MOST < length script.now → result ≡ Err (Failure.Fault 0 FaultKind.Long) }
     ensures silent { IfErr result (λ failure. exit_of failure ≡ Exit.Script → out.new ≡ out.old) }
@@ -91,15 +91,35 @@ fn run_script<T: Threads + Wait + Sync, G: Gate, W: Write>(
     } = parse(alloc, script)?;
     let kept = Kept::boot(alloc, config, limit)?;
     let (kept, unfinished) = run_lines(rt, gate, kept, lines, options.serial);
-    let written = print(&kept, options.table, out);
+    print_run(&kept, unfinished, options.table, out)
+}
+
+/// Prints the audit of a run, and with `with_table` the table, whether or not its lines all ran.
+///
+/// Why they didn't all run comes before output that couldn't be written.
+#[tactic(auto, using(crate::proofs::Parts::run_fails))]
+pub fn print_run<W: Write>(
+    kept: &Kept<Global>,
+    unfinished: Option<RunError>,
+    with_table: bool,
+    out: &mut W,
+) -> Result<(), Failure>
+    ensures told { OnOk result ((unfinished ≡ None) × Appends (W.contents out.old) (W.contents out.new)
+        (told_by with_table kept.now)) }
+    ensures part { HasPart (told_by with_table kept.now) (W.contents out.old) (W.contents out.new) }
+    ensures why { IfSome unfinished (λ why. result ≡ Err (failure_by why)) }
+    ensures host { IfErr result (λ failure. exit_of failure ≡ Exit.Host) }
+    ensures run { IsRun kept.now }
+{
+    let written = print(kept, with_table, out);
     match unfinished {
-        // Why the lines didn't all run comes before output that couldn't be written.
         Some(why) => Err(Failure::from(why)),
         None => written,
     }
 }
 
 // Prints the audit, and with `with_table` the table.
+#[tactic(auto, using(crate::proofs::Parts::print_fails))]
 fn print<W: Write>(kept: &Kept<Global>, with_table: bool, out: &mut W) -> Result<(), Failure>
     ensures told { OnOk result (Appends (W.contents out.old) (W.contents out.new)
         (told_by with_table kept.now)) }

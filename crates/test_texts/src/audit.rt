@@ -3,9 +3,12 @@
 use crate::writers::text_of;
 use hv_abi::{Bytes, Frame};
 use hv_history::Kept;
+use hv_phases::RunError;
 use hv_policy::{Action, Caller, Config, Event};
 use hv_privs::Privileges;
+use hv_run::{Failure, print_run};
 use hv_text::{PrintFault, audit, table};
+use hv_threads::SettleFault;
 use std::alloc::{AllocError, Global};
 use std::io;
 use std::io::{ErrorKind, Write};
@@ -111,6 +114,27 @@ fn lines(rt: HostRuntime) -> Result<(), Fail> {
     assert_eq!(rt; print(&kept, &mut out), (Ok(()), Ok(())));
     let text = text_of(&out);
     assert_eq!(rt; text.strip_suffix(TABLE), Some(LINES));
+    Ok(())
+}
+
+// A run whose settlement failed, which no script causes, is printed, too.
+#[test]
+fn unsettled_runs(rt: HostRuntime) -> Result<(), Fail> {
+    let alloc = rt.alloc();
+    let mut kept = boot(alloc, 1)?;
+    happens(&mut kept, ROOT, Action::TakeInterrupt)?;
+    for (fault, failure) in [
+        (SettleFault::Missing, Failure::Missing),
+        (SettleFault::Differs, Failure::Differs),
+    ] {
+        let mut out: Vec<u8> = Vec::new(alloc);
+        let why = RunError::Settlement(fault);
+        let told = print_run(&kept, Some(why), false, &mut out);
+        assert_eq!(rt;
+            (told, text_of(&out)),
+            (Err(failure), "1 1.0 interrupt ok 00\nevents 1\n")
+        );
+    }
     Ok(())
 }
 

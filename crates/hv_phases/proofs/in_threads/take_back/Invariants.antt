@@ -1,13 +1,11 @@
-use Rattle.std.proofs.Common.{◌≡◌, ◌≤◌, ◌++◌, List, None, drop, false, length, vec_len}
-use Rattle.hv_phases.specs.PassMap.{HasTaken}
+use Rattle.std.proofs.Common.{◌≤◌, length, vec_len}
+use Rattle.hv_phases.proofs.Told.{AreTakenBack}
 use Rattle.hv_phases.proofs.in_threads.take_back.Given as goal
-use Rattle.hv_threads.specs.declared.phase.Done.{Done}
 
 abbrev pub invariant-loop-done : goal.invariant-loop-done
 invariant-loop-done g l = record {
   room : vec_len l.left ≤ length l.counts;
-  back : (back : List (Done g.row.L.Denot)) × (l.fn.dones.items ≡ l.left.items ++ back)
-      × (l.stop ≡ None → l.differs ≡ false → HasTaken back (drop (vec_len l.left) l.counts) l.last l.now l.fn.pass_map l.pass_map);
+  back : AreTakenBack l.order l.fn.dones.items l.counts l.last l.fn.pass_map l.left.items l.now l.pass_map l.stop l.differs;
 }
 
 abbrev pub decreases-loop-done : goal.decreases-loop-done

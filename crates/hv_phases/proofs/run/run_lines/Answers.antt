@@ -1,6 +1,7 @@
 use Rattle.std.proofs.Common.{◌≡◌, [], ◌∙◌, refl, sym, true, rules, eqb-true}
 use Rattle.std.proofs.lemmas.List.{nil_from_length}
 use Rattle.hv_phases.specs.PassMap.{AreCallersOf}
+use Rattle.hv_phases.proofs.PassMaps.{part_of_none}
 use Rattle.hv_phases.proofs.Phased.{all_in_order, all_phased, all_run, nothing}
 use Rattle.hv_phases.proofs.run.run_lines.Goals as goal
 
@@ -16,4 +17,8 @@ returns-then-is_empty g c =
       lines = all_run true c.args.lines.items c.args.kept.history are;
       phases = all_phased true c.args.lines.items c.args.kept.history are;
       order = λ serial. all_in_order c.args.lines.items c.args.kept.history are;
+      part = part_of_none c.args.lines.items c.args.kept c.requires.empty;
     }
+
+pub returns-in_default-clause-part : goal.returns-in_default-clause-part
+returns-in_default-clause-part g c = part_of_none c.args.lines.items c.args.kept c.requires.empty
