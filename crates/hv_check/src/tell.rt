@@ -1,8 +1,10 @@
 // Printing a verdict.
 ghost use Rattle.std.specs.Prelude.{◌≤◌, length};
 
+use crate::compare::behind;
 use crate::verdict::{Verdict, Wrong};
 use hv_policy::Caller;
+use itoa::Buffer;
 use std::io;
 use std::io::Write;
 
@@ -52,6 +54,7 @@ fn put_wrong<W: Write>(out: &mut W, wrong: Wrong, text: &[u8], own: &[u8]) -> io
             write!(out, ", found ")?;
             put_found(out, text)
         }
+        Wrong::Count { events } if is_cut(text, events) => put_cut(out),
         Wrong::Count { events } => {
             write!(out, "wanted events {events}, found ")?;
             put_found(out, text)
@@ -61,6 +64,20 @@ fn put_wrong<W: Write>(out: &mut W, wrong: Wrong, text: &[u8], own: &[u8]) -> io
             put_found(out, after_line(text))
         }
     }
+}
+
+// Whether a text is the last line of an audit with this number of events, without its line feed.
+fn is_cut(text: &[u8], events: u64) -> bool {
+    let mut buffer = Buffer::new();
+    match behind(text, b"events ") {
+        Some(count) => count == buffer.format(events).as_bytes(),
+        None => false,
+    }
+}
+
+// Prints that a line is cut off before its line feed.
+fn put_cut<W: Write>(out: &mut W) -> io::Result<()> {
+    write!(out, "wanted a line feed, found the end")
 }
 
 fn put_caller<W: Write>(out: &mut W, by: Caller) -> io::Result<()> {
@@ -151,7 +168,7 @@ fn put_difference<W: Write>(
         write!(out, ", found ")?;
         put_shown(out, found.reply)
     } else {
-        write!(out, "wanted a line feed, found the end")
+        put_cut(out)
     }
 }
 

@@ -152,7 +152,7 @@ const LAST_LINES: [(&str, Exit, &str); 6] = [
     (
         "events 5",
         Exit::Script,
-        "line 6: wanted events 5, found events 5\n",
+        "line 6: wanted a line feed, found the end\n",
     ),
     (
         "events 5\n\n",
