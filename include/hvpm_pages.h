@@ -37,6 +37,7 @@ typedef struct hvpm_pages {
     bool freed;          /* a message was let go: a post that P23 refused may be tried again. The VMM
                             sets it to false */
     uint64_t raised[4];  /* vectors that were raised, and not taken yet */
+    uint8_t untaken[4096]; /* the last event flags page as it was when it went: what the guest didn't take */
     /* Called for each event made here, with its audit line.
      * `number` is the MSR or SINT, `value` the flag or 0. May be NULL. */
     void (*record)(void *context, hvpm_caller by, enum hvpm_access event, uint32_t number, uint64_t value,
@@ -45,7 +46,7 @@ typedef struct hvpm_pages {
 } hvpm_pages;
 
 /* Makes an event in the guest's place. The audit has it as the guest's own. */
-static inline uint32_t hvpm_pages_make(hvpm_machine *machine, hvpm_pages *pages, enum hvpm_access event,
+HVPM_INLINE uint32_t hvpm_pages_make(hvpm_machine *machine, hvpm_pages *pages, enum hvpm_access event,
                                        uint32_t number, uint64_t value, hvpm_reply *reply) {
     char line[HVPM_LINE];
     const size_t size = pages->record ? sizeof line : 0;
@@ -66,7 +67,7 @@ static inline uint32_t hvpm_pages_make(hvpm_machine *machine, hvpm_pages *pages,
  * a post would wait behind one, EOM would show none, and P23 would count it. It calls the library only where
  * a slot was cleared.
  */
-static inline uint32_t hvpm_pages_before(hvpm_machine *machine, hvpm_pages *pages) {
+HVPM_INLINE uint32_t hvpm_pages_before(hvpm_machine *machine, hvpm_pages *pages) {
     hvpm_reply reply;
     for (uint32_t sint = 0; pages->messages && sint < 16; sint++) {
         if (!(pages->shown >> sint & 1) ||
@@ -84,7 +85,7 @@ static inline uint32_t hvpm_pages_before(hvpm_machine *machine, hvpm_pages *page
  * Writes what the library shows into slots of the page.
  * The guest has freed them, or else it would show what it did before.
  */
-static inline uint32_t hvpm_pages_show(hvpm_machine *machine, hvpm_pages *pages, uint32_t sints) {
+HVPM_INLINE uint32_t hvpm_pages_show(hvpm_machine *machine, hvpm_pages *pages, uint32_t sints) {
     for (uint32_t sint = 0; pages->messages && sint < 16; sint++) {
         uint8_t bytes[256];
         uint32_t type;
@@ -110,7 +111,7 @@ static inline uint32_t hvpm_pages_show(hvpm_machine *machine, hvpm_pages *pages,
  * Hands a flag over to the page: the guest clears it there, atomically, without an exit. In the library it
  * goes at once, since a signal of a flag that is set raises nothing, and the guest would wait for good.
  */
-static inline uint32_t hvpm_pages_flag(hvpm_machine *machine, hvpm_pages *pages, uint32_t sint,
+HVPM_INLINE uint32_t hvpm_pages_flag(hvpm_machine *machine, hvpm_pages *pages, uint32_t sint,
                                        uint32_t flag) {
     hvpm_reply reply;
     __atomic_fetch_or(&pages->flags[256 * sint + flag / 8], (uint8_t)(1u << flag % 8), __ATOMIC_SEQ_CST);
@@ -118,7 +119,7 @@ static inline uint32_t hvpm_pages_flag(hvpm_machine *machine, hvpm_pages *pages,
 }
 
 /* Brings the pages up to date after an event. An effect that doesn't name their processor does nothing. */
-static inline uint32_t hvpm_pages_after(hvpm_machine *machine, hvpm_pages *pages, const hvpm_effect *effect) {
+HVPM_INLINE uint32_t hvpm_pages_after(hvpm_machine *machine, hvpm_pages *pages, const hvpm_effect *effect) {
     const bool is_all = effect->kind == HVPM_EFFECT_PARTITION,
                is_new = is_all || effect->kind == HVPM_EFFECT_PROCESSOR;
     if (!is_new && effect->kind != HVPM_EFFECT_SYNIC) return HVPM_STATUS_OK;
@@ -127,6 +128,7 @@ static inline uint32_t hvpm_pages_after(hvpm_machine *machine, hvpm_pages *pages
     if (is_new) { /* the processor is gone, or its registers are at their start, with SIMP and SIEFP off */
         pages->messages = NULL, pages->flags = NULL, pages->shown = 0, pages->freed = true;
         memset(pages->raised, 0, sizeof pages->raised);
+        memset(pages->untaken, 0, sizeof pages->untaken);
         return HVPM_STATUS_OK;
     }
     for (size_t i = 0; i < 4; i++) pages->raised[i] |= effect->raised[i];
@@ -154,9 +156,9 @@ static inline uint32_t hvpm_pages_after(hvpm_machine *machine, hvpm_pages *pages
 /*
  * Gives the pages where they are after a write of SIMP or SIEFP, NULL where bit 0 is 0 or the address isn't
  * the guest's memory. They are aligned to 4,096 bytes. A page begins with what the library shows and is zero
- * else; flags that the guest didn't take move along from page to page.
+ * else. Flags that the guest didn't take move along from page to page, and wait while there is none.
  */
-static inline uint32_t hvpm_pages_move(hvpm_machine *machine, hvpm_pages *pages, void *messages,
+HVPM_INLINE uint32_t hvpm_pages_move(hvpm_machine *machine, hvpm_pages *pages, void *messages,
                                        void *flags) {
     uint8_t bytes[256], *const from = pages->flags, *const to = (uint8_t *)flags;
     /* else a message that was let go is shown once more */
@@ -167,7 +169,10 @@ static inline uint32_t hvpm_pages_move(hvpm_machine *machine, hvpm_pages *pages,
         status = hvpm_pages_show(machine, pages, 0xFFFF);
     }
     if (status != HVPM_STATUS_OK || to == from) return status;
-    for (size_t i = 0; to && i < 4096; i++) to[i] = from ? __atomic_load_n(&from[i], __ATOMIC_RELAXED) : 0;
+    for (size_t i = 0; i < 4096; i++) {
+        if (from) pages->untaken[i] = __atomic_load_n(&from[i], __ATOMIC_RELAXED);
+        if (to) to[i] = pages->untaken[i];
+    }
     pages->flags = to;
     /* what was set while there was no page */
     for (uint32_t at = 0; to && status == HVPM_STATUS_OK && at < 4096; at++) {
@@ -184,7 +189,7 @@ static inline uint32_t hvpm_pages_move(hvpm_machine *machine, hvpm_pages *pages,
  * controller now, since a processor that waits in HLT has no exit at which to ask. The library is called only
  * where one was raised.
  */
-static inline uint32_t hvpm_pages_vector(hvpm_machine *machine, hvpm_pages *pages, uint8_t *vector) {
+HVPM_INLINE uint32_t hvpm_pages_vector(hvpm_machine *machine, hvpm_pages *pages, uint8_t *vector) {
     hvpm_reply reply;
     *vector = 0;
     if ((pages->raised[0] | pages->raised[1] | pages->raised[2] | pages->raised[3]) == 0)

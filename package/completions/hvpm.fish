@@ -1,0 +1,19 @@
+# Completes the words of hvpm in fish.
+
+complete -c hvpm -f
+complete -c hvpm -s h -l help -d 'Print help'
+complete -c hvpm -n __fish_use_subcommand -s V -l version -d 'Print version'
+
+complete -c hvpm -n __fish_use_subcommand -a run -d 'Runs a script of calls, accesses and phases, and prints its audit'
+complete -c hvpm -n __fish_use_subcommand -a check -d 'Tells whether an audit is one that a run of the script may write'
+complete -c hvpm -n __fish_use_subcommand -a explain -d 'Runs a script, and tells each event and its answer in words'
+complete -c hvpm -n __fish_use_subcommand -a serve -d 'Answers each line of standard input at once'
+complete -c hvpm -n __fish_use_subcommand -a draw -d 'Runs a script, and prints the state at its end as a graph for Graphviz'
+complete -c hvpm -n __fish_use_subcommand -a help -d 'Print this message or the help of the given subcommand(s)'
+
+complete -c hvpm -n '__fish_seen_subcommand_from run check explain draw' -F
+complete -c hvpm -n '__fish_seen_subcommand_from run' -l serial -d 'Run the lines in the script\'s order, and start no thread'
+complete -c hvpm -n '__fish_seen_subcommand_from run' -l table -d 'Print the table of partitions after the audit'
+complete -c hvpm -n '__fish_seen_subcommand_from check' -l prefix -d 'Take an audit that ends early'
+complete -c hvpm -n '__fish_seen_subcommand_from check' -l no-rules -d 'Compare no names of rules'
+complete -c hvpm -n '__fish_seen_subcommand_from help' -a 'run check explain serve draw help'
