@@ -1,0 +1,40 @@
+"""Recording: events as lines of a script, which `hvpm run SCRIPT --serial` runs again."""
+from __future__ import annotations
+
+import enum
+from typing import Tuple
+
+from . import _raw
+from ._convert import caller, text
+from ._library import struct
+
+
+class Access(enum.IntEnum):
+    """What a processor does without a hypercall."""
+
+    READ_MSR = _raw.HVPM_READ_MSR
+    WRITE_MSR = _raw.HVPM_WRITE_MSR
+    READ_SLOT = _raw.HVPM_READ_SLOT
+    CLEAR_SLOT = _raw.HVPM_CLEAR_SLOT
+    READ_FLAGS = _raw.HVPM_READ_FLAGS
+    CLEAR_FLAG = _raw.HVPM_CLEAR_FLAG
+    TAKE_INTERRUPT = _raw.HVPM_TAKE_INTERRUPT
+
+
+def boot_line(mask: int, pages: int, pool: int, vps: int, limit: int) -> str:
+    """The first line of a script: the boot, and how many events its run may have. Like the others it ends
+    with a line feed."""
+    return f"boot {pages} {pool} {vps} {mask:#x} {limit}\n"
+
+
+def hypercall_line(by: Tuple[int, int], rcx: int, rdx: int = 0, r8: int = 0, input: bytes = b"") -> str:
+    """The line of a hypercall, with the first 4,096 bytes of its input. A rep call is one line, recorded with
+    its first element: a run of the script continues to the last one."""
+    registers = struct(_raw.hvpm_registers, rcx=rcx, rdx=rdx, r8=r8)
+    return text("hypercall_line", caller(by), registers, input, len(input))
+
+
+def access_line(by: Tuple[int, int], access: Access, number: int = 0, value: int = 0) -> str:
+    """The line of an access. `number` is that of the MSR or the SINT; `value` is what is written to an MSR,
+    or the number of an event flag."""
+    return text("access_line", caller(by), access, number, value)

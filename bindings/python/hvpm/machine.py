@@ -1,0 +1,488 @@
+"""The machine: boot, hypercalls, accesses and looks. Each function has the name of its function in C, without
+`hvpm_`."""
+from __future__ import annotations
+
+import ctypes
+import enum
+import threading
+from dataclasses import dataclass
+from typing import Any, Callable, FrozenSet, Iterable, Optional, Sequence, Tuple
+
+from . import _raw
+from ._convert import bits_of, caller, check, reply_of, text, vectors_of
+from ._library import call, checked, struct
+from .replies import Reply, Run, Status
+
+SELF = _raw.HVPM_SELF
+"""In place of a partition's id in a hypercall: the caller's own."""
+ANY_VP = _raw.HVPM_ANY_VP
+"""As the `vp` of a port: any processor of its partition that is ready."""
+
+By = Tuple[int, int]
+
+
+class PortType(enum.IntEnum):
+    """The type of a port."""
+
+    MESSAGES = _raw.HVPM_PORT_MESSAGES
+    EVENTS = _raw.HVPM_PORT_EVENTS
+
+
+class Property(enum.IntEnum):
+    """A property of a partition."""
+
+    PRIVILEGE_FLAGS = _raw.HVPM_PRIVILEGE_FLAGS
+    CPU_RESERVE = _raw.HVPM_CPU_RESERVE
+    CPU_CAP = _raw.HVPM_CPU_CAP
+    CPU_WEIGHT = _raw.HVPM_CPU_WEIGHT
+
+
+class Life(enum.IntEnum):
+    """The life state of a partition."""
+
+    CREATED = _raw.HVPM_LIFE_CREATED
+    ACTIVE = _raw.HVPM_LIFE_ACTIVE
+    FINALIZED = _raw.HVPM_LIFE_FINALIZED
+
+
+@dataclass(frozen=True)
+class Balance:
+    """The pages of a partition's pool: those that are available, and those that pay for what it made."""
+
+    available: int
+    in_use: int
+
+
+@dataclass(frozen=True)
+class Port:
+    """A port that exists."""
+
+    partition: int
+    id: int
+    peer: int
+    type: PortType
+    sint: int
+    vp: int
+    base_flag: int
+    flag_count: int
+
+
+@dataclass(frozen=True)
+class Connection:
+    """A connection that exists."""
+
+    partition: int
+    id: int
+    port_partition: int
+    port: int
+    type: PortType
+
+
+@dataclass(frozen=True)
+class Partition:
+    """A partition that exists. The root's parent is None."""
+
+    mask: int
+    parent: Optional[int]
+    depth: int
+    pooled: int
+    in_use: int
+    life: Life
+    children: int
+    vps: int
+    ports: int
+    connections: int
+
+
+def is_msr(msr: int) -> bool:
+    """Whether a machine has an MSR with this number. The hypervisor answers all others itself."""
+    return bool(call("is_msr", msr))
+
+
+def is_call(code: int) -> bool:
+    """Whether a hypercall has this code, bits 15:0 of RCX."""
+    return bool(call("is_call", code))
+
+
+def _registers(pairs: Iterable[Tuple[int, int]]) -> Any:
+    """Registers as the library has them, from names and values."""
+    structs = [struct(_raw.hvpm_vp_register, name=name, value=value) for name, value in pairs]
+    return (_raw.hvpm_vp_register * len(structs))(*structs)
+
+
+def _count(elements: Sequence[Any]) -> int:
+    """The count of a rep call. P5 refuses one of more than 12 bits."""
+    return min(len(elements), 0xFFFF)
+
+
+class Machine:
+    """All partitions, with all that they have. `boot` makes one, and `destroy` or `with` ends it. Threads may
+    share one: each call has it alone."""
+
+    def __init__(self) -> None:
+        raise TypeError("Machine.boot makes a machine")
+
+    @classmethod
+    def boot(cls, *, mask: int, pages: int, pool: int, vps: int) -> Machine:
+        """Boots a machine. Its root partition has the id 1, is Active, and has this privilege mask, these
+        pages, of which the first `pool` are its pool, and these virtual processors."""
+        machine = object.__new__(cls)
+        machine._lock = threading.Lock()
+        machine._handle = _raw.hvpm_machine()
+        config = struct(_raw.hvpm_config, mask=mask, pages=pages, pool=pool, vps=vps)
+        check(call("boot", machine._handle, config))
+        return machine
+
+    _lock: threading.Lock
+    _handle: Any
+
+    def destroy(self) -> None:
+        """Ends the machine and frees its memory. Any other call fails then, with the status EMPTY."""
+        with self._lock:
+            call("destroy", self._handle)
+
+    def __enter__(self) -> Machine:
+        return self
+
+    def __exit__(self, *_: object) -> None:
+        self.destroy()
+
+    def __del__(self) -> None:
+        if hasattr(self, "_handle"):
+            self.destroy()
+
+    @property
+    def events(self) -> int:
+        """How many events the machine took, served or refused."""
+        return int(self._handle.events)
+
+    # ---- Events ----
+
+    def _take(
+        self, name: str, by: By, *arguments: Any, value: Optional[Callable[[], Any]] = None
+    ) -> Reply[Any]:
+        """Takes an event. `value` reads what the function stored, if the event was served."""
+        reply, line = _raw.hvpm_reply(), ctypes.create_string_buffer(_raw.HVPM_LINE)
+        with self._lock:
+            check(call(name, self._handle, caller(by), *arguments, reply, line, _raw.HVPM_LINE))
+        return reply_of(reply, line.raw, value)
+
+    def _take_number(self, name: str, by: By, *arguments: Any) -> Reply[int]:
+        number = ctypes.c_uint64()
+        return self._take(name, by, *arguments, number, value=lambda: number.value)
+
+    def hypercall(self, by: By, rcx: int, rdx: int = 0, r8: int = 0, input: bytes = b"") -> Reply[None]:
+        """Takes one hypercall: a simple call, or the element at the start index of a rep call. `input` is the
+        input list from the guest's memory at RDX: missing bytes at its end read as zero, and a fast call
+        ignores it. If the reply is MORE, the call continues with `hvpm.next`."""
+        registers = struct(_raw.hvpm_registers, rcx=rcx, rdx=rdx, r8=r8)
+        return self._take("hypercall", by, registers, input, len(input))
+
+    def run(
+        self, by: By, rcx: int, rdx: int = 0, r8: int = 0, input: bytes = b"", outputs_size: int = 4096
+    ) -> Run:
+        """Takes a hypercall, and the elements of a rep call after it, each as one event. It stops after the
+        last element; after one that a rule refuses; after one whose effect is neither Nothing nor Page; when
+        fewer than 16 of `outputs_size` bytes are left; or when the next element can't happen, as the host is
+        out of memory. If the reply is MORE, the call continues with `hvpm.next`."""
+        registers = struct(_raw.hvpm_registers, rcx=rcx, rdx=rdx, r8=r8)
+        reply, done = _raw.hvpm_reply(), _raw.hvpm_run_done()
+        outputs = ctypes.create_string_buffer(outputs_size)
+        with self._lock:
+            arguments = (registers, input, len(input), reply, outputs, outputs_size, done)
+            check(call("run", self._handle, caller(by), *arguments))
+        return Run(reply_of(reply, b""), done.events, outputs.raw[: done.output_len])
+
+    def read_msr(self, by: By, msr: int) -> Reply[None]:
+        """Reads an MSR of the processor. The output is 8 bytes, the lowest first."""
+        return self._take("read_msr", by, msr)
+
+    def read_msr_value(self, by: By, msr: int) -> Reply[int]:
+        """Reads an MSR of the processor. The value is a number."""
+        return self._take_number("read_msr_value", by, msr)
+
+    def write_msr(self, by: By, msr: int, value: int) -> Reply[None]:
+        """Writes an MSR of the processor. A write of EOM may show messages and raise vectors."""
+        return self._take("write_msr", by, msr, value)
+
+    def read_slot(self, by: By, sint: int) -> Reply[None]:
+        """Reads the message slot of a SINT of the processor. The output is 256 bytes, all zero if no message
+        is shown."""
+        return self._take("read_slot", by, sint)
+
+    def clear_slot(self, by: By, sint: int) -> Reply[None]:
+        """Removes the message that a SINT of the processor shows. A post or a write of EOM shows the next
+        one."""
+        return self._take("clear_slot", by, sint)
+
+    def read_flags(self, by: By, sint: int) -> Reply[None]:
+        """Reads the event flags of a SINT of the processor. The output is 256 bytes; flag f is bit f % 8 of
+        byte f // 8."""
+        return self._take("read_flags", by, sint)
+
+    def clear_flag(self, by: By, sint: int, flag: int) -> Reply[None]:
+        """Clears an event flag of a SINT of the processor."""
+        return self._take("clear_flag", by, sint, flag)
+
+    def take_interrupt(self, by: By) -> Reply[None]:
+        """Takes the highest vector that is pending at the processor. The output is one byte, 0 if none is."""
+        return self._take("take_interrupt", by)
+
+    # ---- The 21 hypercalls by their fields. The four rep calls take the element at `start`. ----
+
+    def create_partition(self, by: By, flags: int = 0) -> Reply[int]:
+        """HvCreatePartition. The value is the new partition's id. The flags have no effect."""
+        return self._take_number("create_partition", by, flags)
+
+    def initialize_partition(self, by: By, partition: int) -> Reply[None]:
+        """HvInitializePartition: a child that is Created becomes Active."""
+        return self._take("initialize_partition", by, partition)
+
+    def finalize_partition(self, by: By, partition: int) -> Reply[None]:
+        """HvFinalizePartition: a child loses its processors, ports and connections, for good."""
+        return self._take("finalize_partition", by, partition)
+
+    def delete_partition(self, by: By, partition: int) -> Reply[None]:
+        """HvDeletePartition: removes a child that is Created or Finalized. The caller gets its pages."""
+        return self._take("delete_partition", by, partition)
+
+    def get_partition_property(self, by: By, partition: int, property: int) -> Reply[int]:
+        """HvGetPartitionProperty. The value is the property's."""
+        return self._take_number("get_partition_property", by, partition, property)
+
+    def set_partition_property(self, by: By, partition: int, property: int, value: int) -> Reply[None]:
+        """HvSetPartitionProperty, for a child."""
+        return self._take("set_partition_property", by, partition, property, value)
+
+    def get_partition_id(self, by: By) -> Reply[int]:
+        """HvGetPartitionId. The value is the caller's id."""
+        return self._take_number("get_partition_id", by)
+
+    def get_next_child_partition(self, by: By, parent: int, previous: int = 0) -> Reply[int]:
+        """HvGetNextChildPartition. The value is the parent's child after `previous`, which is 0 before the
+        first child. It is 0 after the last one."""
+        return self._take_number("get_next_child_partition", by, parent, previous)
+
+    def deposit_memory(self, by: By, partition: int, pages: Sequence[int], start: int = 0) -> Reply[None]:
+        """HvDepositMemory, a rep call: the page at `start` moves from the caller to the partition's pool."""
+        array = (ctypes.c_uint64 * len(pages))(*(checked(ctypes.c_uint64, page) for page in pages))
+        return self._take("deposit_memory", by, partition, array, _count(array), start)
+
+    def withdraw_memory(self, by: By, partition: int, count: int = 1, start: int = 0) -> Reply[int]:
+        """HvWithdrawMemory, a rep call. The value is the page that moves from the partition's pool to the
+        caller."""
+        array = (ctypes.c_uint64 * count)()
+        return self._take(
+            "withdraw_memory", by, partition, array, _count(array), start, value=lambda: array[start]
+        )
+
+    def get_memory_balance(self, by: By, partition: int) -> Reply[Balance]:
+        """HvGetMemoryBalance. The value is what the partition's pool has."""
+        available, in_use = ctypes.c_uint64(), ctypes.c_uint64()
+        return self._take(
+            "get_memory_balance",
+            by,
+            partition,
+            available,
+            in_use,
+            value=lambda: Balance(available.value, in_use.value),
+        )
+
+    def create_vp(self, by: By, partition: int, vp: int) -> Reply[None]:
+        """HvCreateVp."""
+        return self._take("create_vp", by, partition, vp)
+
+    def delete_vp(self, by: By, partition: int, vp: int) -> Reply[None]:
+        """HvDeleteVp."""
+        return self._take("delete_vp", by, partition, vp)
+
+    def get_vp_registers(
+        self, by: By, partition: int, vp: int, names: Sequence[int], start: int = 0
+    ) -> Reply[int]:
+        """HvGetVpRegisters, a rep call. The value is that of the register at `start`."""
+        array = _registers((name, 0) for name in names)
+        return self._take(
+            "get_vp_registers",
+            by,
+            partition,
+            vp,
+            array,
+            _count(array),
+            start,
+            value=lambda: array[start].value,
+        )
+
+    def set_vp_registers(
+        self, by: By, partition: int, vp: int, registers: Sequence[Tuple[int, int]], start: int = 0
+    ) -> Reply[None]:
+        """HvSetVpRegisters, a rep call. `registers` has names and values; the processor's register at `start`
+        gets its value."""
+        array = _registers(registers)
+        return self._take("set_vp_registers", by, partition, vp, array, _count(array), start)
+
+    def delete_port(self, by: By, partition: int, port: int) -> Reply[None]:
+        """HvDeletePort."""
+        return self._take("delete_port", by, partition, port)
+
+    def disconnect_port(self, by: By, partition: int, connection: int) -> Reply[None]:
+        """HvDisconnectPort."""
+        return self._take("disconnect_port", by, partition, connection)
+
+    def post_message(self, by: By, connection: int, type: int, payload: bytes = b"") -> Reply[None]:
+        """HvPostMessage, through a connection of the caller. P7 refuses a payload of more than 240 bytes."""
+        return self._take("post_message", by, connection, type, payload, len(payload))
+
+    def signal_event(self, by: By, connection: int, flag: int) -> Reply[None]:
+        """HvSignalEvent, through a connection of the caller. The flag counts from the port's first one."""
+        return self._take("signal_event", by, connection, flag)
+
+    def create_port(
+        self,
+        by: By,
+        *,
+        partition: int = SELF,
+        id: int,
+        peer: int,
+        type: int = PortType.MESSAGES,
+        sint: int,
+        vp: int = ANY_VP,
+        base_flag: int = 0,
+        flag_count: int = 0,
+    ) -> Reply[None]:
+        """HvCreatePort: PortPartition, PortId, ConnectionPartition, PortType, TargetSint, TargetVp,
+        BaseFlagNumber and FlagCount."""
+        port = struct(
+            _raw.hvpm_port,
+            partition=partition,
+            id=id,
+            peer=peer,
+            type=type,
+            sint=sint,
+            vp=vp,
+            base_flag=base_flag,
+            flag_count=flag_count,
+        )
+        return self._take("create_port", by, port)
+
+    def connect_port(
+        self,
+        by: By,
+        *,
+        partition: int = SELF,
+        id: int,
+        port_partition: int,
+        port: int,
+        type: int = PortType.MESSAGES,
+    ) -> Reply[None]:
+        """HvConnectPort: ConnectionPartition, ConnectionId, PortPartition, PortId and PortType."""
+        connection = struct(
+            _raw.hvpm_connection,
+            partition=partition,
+            id=id,
+            port_partition=port_partition,
+            port=port,
+            type=type,
+        )
+        return self._take("connect_port", by, connection)
+
+    # ---- Looks. A look is no event: it isn't counted, has no line in the audit, and changes nothing. ----
+
+    def _look(self, name: str, shown: Any, *arguments: Any) -> bool:
+        """Whether what the arguments name exists. Then `shown` has it."""
+        with self._lock:
+            status = call(name, self._handle, *arguments, shown)
+        if status != Status.NONE:
+            check(status)
+        return bool(status == Status.OK)
+
+    def peek_slot(self, of: By, sint: int) -> Optional[bytes]:
+        """The message slot of a SINT of a processor, as `read_slot` reads it. None if there is no such
+        processor or SINT."""
+        shown = (ctypes.c_uint8 * 256)()
+        return bytes(shown) if self._look("peek_slot", shown, caller(of), sint) else None
+
+    def peek_flags(self, of: By, sint: int) -> Optional[FrozenSet[int]]:
+        """The event flags of a SINT of a processor that are set. None if there is no such processor or
+        SINT."""
+        shown = (ctypes.c_uint8 * 256)()
+        return bits_of(shown, 8) if self._look("peek_flags", shown, caller(of), sint) else None
+
+    def peek_msr(self, of: By, msr: int) -> Optional[int]:
+        """An MSR of a processor, as `read_msr_value` reads it. None if there is no such processor or MSR."""
+        shown = ctypes.c_uint64()
+        return shown.value if self._look("peek_msr", shown, caller(of), msr) else None
+
+    def peek_pending(self, of: By) -> Optional[FrozenSet[int]]:
+        """The vectors that are pending at a processor. None if there is no such processor."""
+        shown = (ctypes.c_uint64 * 4)()
+        return vectors_of(shown) if self._look("peek_pending", shown, caller(of)) else None
+
+    def peek_partition(self, id: int) -> Optional[Partition]:
+        """A partition. None if none has this id."""
+        raw = _raw.hvpm_partition()
+        if not self._look("peek_partition", raw, id):
+            return None
+        return Partition(
+            mask=raw.mask,
+            parent=raw.parent or None,
+            depth=raw.depth,
+            pooled=raw.pooled,
+            in_use=raw.in_use,
+            life=Life(raw.life),
+            children=raw.children,
+            vps=raw.vps,
+            ports=raw.ports,
+            connections=raw.connections,
+        )
+
+    def peek_port(self, partition: int, id: int) -> Optional[Port]:
+        """A port of a partition. None if none has this id."""
+        raw = _raw.hvpm_port()
+        if not self._look("peek_port", raw, partition, id):
+            return None
+        return Port(
+            partition=raw.partition,
+            id=raw.id,
+            peer=raw.peer,
+            type=PortType(raw.type),
+            sint=raw.sint,
+            vp=raw.vp,
+            base_flag=raw.base_flag,
+            flag_count=raw.flag_count,
+        )
+
+    def peek_connection(self, partition: int, id: int) -> Optional[Connection]:
+        """A connection of a partition. Its port may be gone. None if none has this id."""
+        raw = _raw.hvpm_connection()
+        if not self._look("peek_connection", raw, partition, id):
+            return None
+        return Connection(
+            partition=raw.partition,
+            id=raw.id,
+            port_partition=raw.port_partition,
+            port=raw.port,
+            type=PortType(raw.type),
+        )
+
+    def child_after(self, parent: int, previous: int = 0) -> Optional[int]:
+        """The child of a partition after `previous`, which is 0 before the first one, by rising id. None
+        after the last one, or if there is no such partition."""
+        shown = ctypes.c_uint64()
+        return shown.value or None if self._look("child_after", shown, parent, previous) else None
+
+    def page_owner(self, page: int) -> Optional[int]:
+        """The partition that has a page, pooled or loose. None if boot gave no such page. It takes time for
+        each id that a partition ever had."""
+        shown = ctypes.c_uint64()
+        return shown.value if self._look("page_owner", shown, page) else None
+
+    def features(self, partition: int) -> Optional[Tuple[int, ...]]:
+        """EAX, EBX, ECX and EDX of CPUID leaf 0x40000003 for a guest: the low and the high half of its
+        partition's privilege mask, and zeros. None if there is no such partition."""
+        shown = (ctypes.c_uint32 * 4)()
+        return tuple(shown) if self._look("features", shown, partition) else None
+
+    def table(self) -> str:
+        """The table of the partitions, as `hvpm run --table` prints it."""
+        with self._lock:
+            return text("table", self._handle)

@@ -1,0 +1,113 @@
+"""A guest's pages beside the machine. The slots are those of docs/POLICY.md."""
+import mmap
+import unittest
+
+from hvpm import Access, Caller, Pages
+
+from .shared import EOM, GUEST, POST, ROOT, SIGNAL, enable, with_child
+
+
+class Guests(unittest.TestCase):
+    def setUp(self):
+        self.machine, self.memory = with_child(), mmap.mmap(-1, 4 * 4096)
+        self.memory[:] = b"\xa5" * len(self.memory)
+        enable(self.machine, GUEST, {2: 0x82, 3: 0x33})
+        self.messages, self.flags, self.others, self.other_flags = (
+            memoryview(self.memory)[at : at + 4096] for at in range(0, 4 * 4096, 4096)
+        )
+
+    def pages(self, record=None):
+        pages = Pages(GUEST, record)
+        pages.move(self.machine, self.messages, self.flags)
+        return pages
+
+    def post(self, pages, payload):
+        pages.before(self.machine)
+        reply = self.machine.post_message(ROOT, POST, 9, payload)
+        pages.after(self.machine, reply)
+        return reply
+
+    def slot(self, page):
+        """Type, size, flags and first byte of the payload of the slot of SINT 2."""
+        return [page[2 * 256 + at] for at in (0, 4, 5, 16)]
+
+    def free(self, page):
+        """The guest lets the message of SINT 2 go."""
+        page[2 * 256 : 2 * 256 + 4] = bytes(4)
+
+    def test_messages_are_shown_and_let_go(self):
+        machine, pages = self.machine, self.pages()
+        self.assertEqual((bytes(self.messages), bytes(self.flags)), (bytes(4096), bytes(4096)))
+        self.post(pages, b"a")
+        self.assertEqual((self.slot(self.messages), pages.shown), ([9, 1, 0, ord("a")], {2}))
+        self.assertEqual((pages.vector(machine), pages.vector(machine)), (0x82, None))
+        self.post(pages, b"b")
+        self.assertEqual(self.slot(self.messages), [9, 1, 1, ord("a")], "MessagePending is set")
+        self.free(self.messages)
+        self.assertFalse(pages.take_freed())
+        pages.before(machine)
+        self.assertEqual((pages.take_freed(), pages.take_freed(), pages.shown), (True, False, set()))
+        pages.after(machine, machine.write_msr(GUEST, EOM, 0))
+        self.assertEqual((self.slot(self.messages), pages.vector(machine)), ([9, 1, 0, ord("b")], 0x82))
+
+    def test_flags_move_to_the_page(self):
+        machine, pages = self.machine, self.pages()
+        for _ in range(2):
+            pages.after(machine, machine.signal_event(ROOT, SIGNAL, 2))
+            self.assertEqual((pages.vector(machine), machine.peek_flags(GUEST, 3)), (0x33, set()))
+            self.assertEqual(self.flags[3 * 256 + 1], 1 << 2)
+            self.flags[3 * 256 + 1] = 0
+
+    def test_pages_move_with_what_they_show(self):
+        machine, pages = self.machine, self.pages()
+        self.post(pages, b"a")
+        pages.after(machine, machine.signal_event(ROOT, SIGNAL, 0))
+        pages.move(machine, self.others, self.other_flags)
+        self.assertEqual((self.slot(self.others), self.others[0]), ([9, 1, 0, ord("a")], 0))
+        self.assertEqual(self.other_flags[3 * 256 + 1], 1)
+        pages.move(machine, None, None)
+        self.free(self.others)
+        pages.before(machine)
+        self.assertFalse(pages.take_freed(), "a page that was moved away is not read")
+
+    def test_a_page_is_aligned_and_writable(self):
+        pages = Pages(GUEST)
+        for buffer in (memoryview(self.memory)[8:4104], bytes(4096), bytearray(4095)):
+            with self.assertRaises((ValueError, TypeError)):
+                pages.move(self.machine, buffer, None)
+
+    def test_events_in_the_guests_place_are_recorded(self):
+        seen = []
+        pages = self.pages(lambda *event: seen.append(event))
+        machine = self.machine
+        first = machine.events
+        self.post(pages, b"a")
+        self.free(self.messages)
+        pages.before(machine)
+        pages.vector(machine)
+        pages.after(machine, machine.signal_event(ROOT, SIGNAL, 2))
+        wanted = [
+            (Access.CLEAR_SLOT, 2, 0, f"{first + 2} 2.0 clearslot 2 ok -\n"),
+            (Access.TAKE_INTERRUPT, 0, 0, f"{first + 3} 2.0 interrupt ok 82\n"),
+            (Access.CLEAR_FLAG, 3, 10, f"{first + 5} 2.0 clearflag 3 10 ok -\n"),
+        ]
+        self.assertEqual([(*event[1:4], event[4].line) for event in seen], wanted)
+        self.assertEqual(([event[0] for event in seen], machine.events), ([GUEST] * 3, first + 5))
+
+    def test_what_a_recorder_raises_arrives(self):
+        def record(*_):
+            raise KeyError("a mistake of the test")
+
+        pages = self.pages(record)
+        self.post(pages, b"a")
+        with self.assertRaises(KeyError):
+            pages.vector(self.machine)
+        self.assertIsNone(pages.vector(self.machine))
+
+    def test_a_processor_that_goes_loses_its_pages(self):
+        machine, pages, others = self.machine, self.pages(), Pages((1, 0))
+        self.assertEqual((pages.of, others.of), (GUEST, Caller(1, 0)))
+        others.after(machine, self.post(pages, b"a"))
+        self.assertEqual((others.vector(machine), pages.vector(machine)), (None, 0x82))
+        pages.after(machine, machine.delete_vp(ROOT, 2, 0))
+        self.assertEqual((pages.shown, pages.take_freed()), (set(), True))

@@ -1,0 +1,366 @@
+//! The 21 hypercalls by their fields, as methods of [`Machine`].
+
+use crate::{Caller, ConnectionId, Machine, Output, PartitionId, PortId, Reply, Sint, Status, VpIndex};
+use core::mem::offset_of;
+use hvpm_sys as sys;
+
+/// The type of a port.
+#[derive(Clone, Copy, Debug, PartialEq, Eq, Hash)]
+pub enum PortType {
+    /// For messages.
+    Messages,
+    /// For event flags.
+    Events,
+}
+
+impl PortType {
+    fn number(self) -> u32 {
+        match self {
+            PortType::Messages => sys::HVPM_PORT_MESSAGES,
+            PortType::Events => sys::HVPM_PORT_EVENTS,
+        }
+    }
+
+    pub(crate) fn of(number: u32) -> PortType {
+        match number {
+            sys::HVPM_PORT_MESSAGES => PortType::Messages,
+            sys::HVPM_PORT_EVENTS => PortType::Events,
+            _ => unreachable!("a port of type {number}"),
+        }
+    }
+}
+
+/// A property of a partition.
+#[derive(Clone, Copy, Debug, PartialEq, Eq, Hash)]
+pub enum Property {
+    /// Its privilege mask.
+    PrivilegeFlags,
+    /// 0 to 65,536.
+    CpuReserve,
+    /// 0 to 65,536.
+    CpuCap,
+    /// 1 to 10,000.
+    CpuWeight,
+}
+
+impl Property {
+    fn number(self) -> u32 {
+        match self {
+            Property::PrivilegeFlags => sys::HVPM_PRIVILEGE_FLAGS,
+            Property::CpuReserve => sys::HVPM_CPU_RESERVE,
+            Property::CpuCap => sys::HVPM_CPU_CAP,
+            Property::CpuWeight => sys::HVPM_CPU_WEIGHT,
+        }
+    }
+}
+
+/// A port: one to create, or one that exists.
+#[derive(Clone, Copy, Debug, PartialEq, Eq)]
+pub struct Port {
+    /// The partition that has the port: PortPartition.
+    pub partition: PartitionId,
+    /// PortId.
+    pub id: PortId,
+    /// The partition that may connect to it: ConnectionPartition.
+    pub peer: PartitionId,
+    /// PortType.
+    pub r#type: PortType,
+    /// The SINT that it targets: TargetSint.
+    pub sint: Sint,
+    /// The processor of that SINT, or [`VpIndex::ANY`]: TargetVp.
+    pub vp: VpIndex,
+    /// The first event flag: BaseFlagNumber. 0 for messages.
+    pub base_flag: u16,
+    /// How many event flags there are: FlagCount. 0 for messages.
+    pub flag_count: u16,
+}
+
+/// A connection: one to make, or one that exists.
+#[derive(Clone, Copy, Debug, PartialEq, Eq)]
+pub struct Connection {
+    /// The partition that has the connection: ConnectionPartition.
+    pub partition: PartitionId,
+    /// ConnectionId.
+    pub id: ConnectionId,
+    /// PortPartition.
+    pub port_partition: PartitionId,
+    /// PortId.
+    pub port: PortId,
+    /// The port's type.
+    pub r#type: PortType,
+}
+
+/// The pages of a partition's pool.
+#[derive(Clone, Copy, Debug, PartialEq, Eq)]
+pub struct Balance {
+    /// How many are available.
+    pub available: u64,
+    /// How many pay for children, processors, ports and connections.
+    pub in_use: u64,
+}
+
+/// A register of a virtual processor: its name in the TLFS, and its value.
+#[repr(C)] // as the library has it
+#[derive(Clone, Copy, Debug, Default, PartialEq, Eq)]
+pub struct VpRegister {
+    /// HV_REGISTER_NAME.
+    pub name: u32,
+    /// Its 64 bits.
+    pub value: u64,
+}
+
+const _: () = assert!(size_of::<VpRegister>() == size_of::<sys::hvpm_vp_register>());
+const _: () = assert!(offset_of!(VpRegister, value) == offset_of!(sys::hvpm_vp_register, value));
+
+/// The count of a rep call. P5 refuses one of more than 12 bits.
+fn count(len: usize) -> u16 {
+    u16::try_from(len).unwrap_or(u16::MAX)
+}
+
+/// The hypercalls by their fields, for a caller that is part of the host: a root that makes partitions, ports
+/// and processors. Each takes one event, as [`Machine::hypercall`] does. What the fields mean, and which
+/// values the rules refuse, is in docs/POLICY.md.
+///
+/// The four rep calls take the element at `start`. They begin with 0, and continue with the index in
+/// [`Answer::More`](crate::Answer::More).
+impl Machine {
+    /// HvCreatePartition. The value is the new partition's id. The flags have no effect.
+    pub fn create_partition(&mut self, by: Caller, flags: u64) -> Result<Output<PartitionId>, Status> {
+        let output = self.take_value(0, |machine, partition, reply, line, size| unsafe {
+            sys::hvpm_create_partition(machine, by.raw(), flags, partition, reply, line, size)
+        })?;
+        Ok(Output { reply: output.reply, value: output.value.map(PartitionId) })
+    }
+
+    /// HvInitializePartition: a child that is Created becomes Active.
+    pub fn initialize_partition(&mut self, by: Caller, partition: PartitionId) -> Result<Reply, Status> {
+        self.take(|machine, reply, line, size| unsafe {
+            sys::hvpm_initialize_partition(machine, by.raw(), partition.0, reply, line, size)
+        })
+    }
+
+    /// HvFinalizePartition: a child loses its processors, ports and connections, for good.
+    pub fn finalize_partition(&mut self, by: Caller, partition: PartitionId) -> Result<Reply, Status> {
+        self.take(|machine, reply, line, size| unsafe {
+            sys::hvpm_finalize_partition(machine, by.raw(), partition.0, reply, line, size)
+        })
+    }
+
+    /// HvDeletePartition: removes a child that is Created or Finalized. The caller gets its pages.
+    pub fn delete_partition(&mut self, by: Caller, partition: PartitionId) -> Result<Reply, Status> {
+        self.take(|machine, reply, line, size| unsafe {
+            sys::hvpm_delete_partition(machine, by.raw(), partition.0, reply, line, size)
+        })
+    }
+
+    /// HvGetPartitionProperty. The value is the property's.
+    pub fn get_partition_property(
+        &mut self,
+        by: Caller,
+        partition: PartitionId,
+        property: Property,
+    ) -> Result<Output<u64>, Status> {
+        let property = property.number();
+        self.take_value(0, |machine, value, reply, line, size| unsafe {
+            let by = by.raw();
+            sys::hvpm_get_partition_property(machine, by, partition.0, property, value, reply, line, size)
+        })
+    }
+
+    /// HvSetPartitionProperty, for a child.
+    pub fn set_partition_property(
+        &mut self,
+        by: Caller,
+        partition: PartitionId,
+        property: Property,
+        value: u64,
+    ) -> Result<Reply, Status> {
+        let property = property.number();
+        self.take(|machine, reply, line, size| unsafe {
+            let by = by.raw();
+            sys::hvpm_set_partition_property(machine, by, partition.0, property, value, reply, line, size)
+        })
+    }
+
+    /// HvGetPartitionId. The value is the caller's id.
+    pub fn get_partition_id(&mut self, by: Caller) -> Result<Output<PartitionId>, Status> {
+        let output = self.take_value(0, |machine, partition, reply, line, size| unsafe {
+            sys::hvpm_get_partition_id(machine, by.raw(), partition, reply, line, size)
+        })?;
+        Ok(Output { reply: output.reply, value: output.value.map(PartitionId) })
+    }
+
+    /// HvGetNextChildPartition. The value is the parent's child after `previous`, which is 0 before the first
+    /// child. It is 0 after the last one.
+    pub fn get_next_child_partition(
+        &mut self,
+        by: Caller,
+        parent: PartitionId,
+        previous: PartitionId,
+    ) -> Result<Output<PartitionId>, Status> {
+        let output = self.take_value(0, |machine, child, reply, line, size| unsafe {
+            let by = by.raw();
+            sys::hvpm_get_next_child_partition(machine, by, parent.0, previous.0, child, reply, line, size)
+        })?;
+        Ok(Output { reply: output.reply, value: output.value.map(PartitionId) })
+    }
+
+    /// HvDepositMemory, a rep call: the page at `start` moves from the caller to the partition's pool.
+    pub fn deposit_memory(
+        &mut self,
+        by: Caller,
+        partition: PartitionId,
+        pages: &[u64],
+        start: u16,
+    ) -> Result<Reply, Status> {
+        let (at, count) = (pages.as_ptr(), count(pages.len()));
+        self.take(|machine, reply, line, size| unsafe {
+            sys::hvpm_deposit_memory(machine, by.raw(), partition.0, at, count, start, reply, line, size)
+        })
+    }
+
+    /// HvWithdrawMemory, a rep call: `pages[start]` becomes the page that moves from the partition's pool to
+    /// the caller.
+    pub fn withdraw_memory(
+        &mut self,
+        by: Caller,
+        partition: PartitionId,
+        pages: &mut [u64],
+        start: u16,
+    ) -> Result<Reply, Status> {
+        let (at, count) = (pages.as_mut_ptr(), count(pages.len()));
+        self.take(|machine, reply, line, size| unsafe {
+            sys::hvpm_withdraw_memory(machine, by.raw(), partition.0, at, count, start, reply, line, size)
+        })
+    }
+
+    /// HvGetMemoryBalance. The value is what the partition's pool has.
+    pub fn get_memory_balance(
+        &mut self,
+        by: Caller,
+        partition: PartitionId,
+    ) -> Result<Output<Balance>, Status> {
+        let balance = Balance { available: 0, in_use: 0 };
+        self.take_value(balance, |machine, balance, reply, line, size| unsafe {
+            let (available, in_use) = (&mut (*balance).available, &mut (*balance).in_use);
+            let by = by.raw();
+            sys::hvpm_get_memory_balance(machine, by, partition.0, available, in_use, reply, line, size)
+        })
+    }
+
+    /// HvCreateVp.
+    pub fn create_vp(&mut self, by: Caller, partition: PartitionId, vp: VpIndex) -> Result<Reply, Status> {
+        self.take(|machine, reply, line, size| unsafe {
+            sys::hvpm_create_vp(machine, by.raw(), partition.0, vp.0, reply, line, size)
+        })
+    }
+
+    /// HvDeleteVp.
+    pub fn delete_vp(&mut self, by: Caller, partition: PartitionId, vp: VpIndex) -> Result<Reply, Status> {
+        self.take(|machine, reply, line, size| unsafe {
+            sys::hvpm_delete_vp(machine, by.raw(), partition.0, vp.0, reply, line, size)
+        })
+    }
+
+    /// HvGetVpRegisters, a rep call: the register at `start` gets the value that it has in the processor.
+    pub fn get_vp_registers(
+        &mut self,
+        by: Caller,
+        partition: PartitionId,
+        vp: VpIndex,
+        registers: &mut [VpRegister],
+        start: u16,
+    ) -> Result<Reply, Status> {
+        let (at, count, by) = (registers.as_mut_ptr().cast(), count(registers.len()), by.raw());
+        self.take(|machine, reply, line, size| unsafe {
+            sys::hvpm_get_vp_registers(machine, by, partition.0, vp.0, at, count, start, reply, line, size)
+        })
+    }
+
+    /// HvSetVpRegisters, a rep call: the processor's register at `start` gets the value that it has there.
+    pub fn set_vp_registers(
+        &mut self,
+        by: Caller,
+        partition: PartitionId,
+        vp: VpIndex,
+        registers: &[VpRegister],
+        start: u16,
+    ) -> Result<Reply, Status> {
+        let (at, count, by) = (registers.as_ptr().cast(), count(registers.len()), by.raw());
+        self.take(|machine, reply, line, size| unsafe {
+            sys::hvpm_set_vp_registers(machine, by, partition.0, vp.0, at, count, start, reply, line, size)
+        })
+    }
+
+    /// HvDeletePort.
+    pub fn delete_port(&mut self, by: Caller, partition: PartitionId, port: PortId) -> Result<Reply, Status> {
+        self.take(|machine, reply, line, size| unsafe {
+            sys::hvpm_delete_port(machine, by.raw(), partition.0, port.0, reply, line, size)
+        })
+    }
+
+    /// HvDisconnectPort.
+    pub fn disconnect_port(
+        &mut self,
+        by: Caller,
+        partition: PartitionId,
+        connection: ConnectionId,
+    ) -> Result<Reply, Status> {
+        self.take(|machine, reply, line, size| unsafe {
+            sys::hvpm_disconnect_port(machine, by.raw(), partition.0, connection.0, reply, line, size)
+        })
+    }
+
+    /// HvPostMessage, through a connection of the caller. P7 refuses a payload of more than 240 bytes.
+    pub fn post_message(
+        &mut self,
+        by: Caller,
+        connection: ConnectionId,
+        message_type: u32,
+        payload: &[u8],
+    ) -> Result<Reply, Status> {
+        let (bytes, len) = (payload.as_ptr().cast(), u32::try_from(payload.len()).unwrap_or(u32::MAX));
+        let by = by.raw();
+        self.take(|machine, reply, line, size| unsafe {
+            sys::hvpm_post_message(machine, by, connection.0, message_type, bytes, len, reply, line, size)
+        })
+    }
+
+    /// HvSignalEvent, through a connection of the caller. The flag counts from the port's first one.
+    pub fn signal_event(&mut self, by: Caller, connection: ConnectionId, flag: u16) -> Result<Reply, Status> {
+        self.take(|machine, reply, line, size| unsafe {
+            sys::hvpm_signal_event(machine, by.raw(), connection.0, flag, reply, line, size)
+        })
+    }
+
+    /// HvCreatePort.
+    pub fn create_port(&mut self, by: Caller, port: &Port) -> Result<Reply, Status> {
+        let port = sys::hvpm_port {
+            partition: port.partition.0,
+            id: port.id.0,
+            peer: port.peer.0,
+            type_: port.r#type.number(),
+            sint: port.sint.0.into(),
+            vp: port.vp.0,
+            base_flag: port.base_flag,
+            flag_count: port.flag_count,
+        };
+        self.take(|machine, reply, line, size| unsafe {
+            sys::hvpm_create_port(machine, by.raw(), &port, reply, line, size)
+        })
+    }
+
+    /// HvConnectPort.
+    pub fn connect_port(&mut self, by: Caller, connection: &Connection) -> Result<Reply, Status> {
+        let connection = sys::hvpm_connection {
+            partition: connection.partition.0,
+            id: connection.id.0,
+            port_partition: connection.port_partition.0,
+            port: connection.port.0,
+            type_: connection.r#type.number(),
+        };
+        self.take(|machine, reply, line, size| unsafe {
+            sys::hvpm_connect_port(machine, by.raw(), &connection, reply, line, size)
+        })
+    }
+}

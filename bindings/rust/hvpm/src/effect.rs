@@ -1,0 +1,91 @@
+//! What an event changed beside its caller's registers.
+
+use crate::{Caller, PartitionId, PortId, Sint};
+use hvpm_sys as sys;
+
+/// What an event changed of messages, event flags, pending vectors, pages and processors, of all partitions.
+/// What it doesn't name is as it was, but for the vector that [`crate::Machine::take_interrupt`] returns.
+#[derive(Clone, Copy, Debug, PartialEq, Eq)]
+pub enum Effect {
+    /// None of these. Every refused event has this effect.
+    Nothing,
+    /// Messages, an event flag or vectors of one processor, perhaps the caller.
+    Synic(Synic),
+    /// A page moved to another partition, or into or out of a pool.
+    Page {
+        /// The page.
+        page: u64,
+        /// The partition that has it now.
+        partition: PartitionId,
+        /// Whether it is in that partition's pool. If not, it is a loose page.
+        pooled: bool,
+    },
+    /// A partition was deleted. Each page that it had, at least one, is a loose page of another partition.
+    Pages {
+        /// The partition that is gone.
+        from: PartitionId,
+        /// The partition that has the pages now.
+        to: PartitionId,
+    },
+    /// This processor was created or deleted. It has no message, no event flag and no pending vector.
+    Processor(Caller),
+    /// A partition was finalized. Its processors, at least one, were removed.
+    Partition(PartitionId),
+}
+
+/// What an event changed at a processor.
+#[derive(Clone, Copy, Debug, PartialEq, Eq)]
+pub struct Synic {
+    /// The processor.
+    pub at: Caller,
+    /// Bit s is 1 if the slot of SINT s shows another message now, or none where it showed one.
+    pub shown: u16,
+    /// Bit s is 1 if one more message waits at SINT s, behind the one that is shown.
+    pub waiting: u16,
+    /// The event flag that changed.
+    pub flag: Option<FlagChange>,
+    /// The vectors that SINTs raised: vector v is bit v % 64 of word v / 64.
+    pub raised: [u64; 4],
+    /// The processor's port whose message left its slot. If the port still exists, it has room for one more.
+    pub freed: Option<PortId>,
+}
+
+/// An event flag that changed.
+#[derive(Clone, Copy, Debug, PartialEq, Eq)]
+pub struct FlagChange {
+    /// Its SINT.
+    pub sint: Sint,
+    /// Its number, below 2,048.
+    pub flag: u16,
+    /// Whether it was set. If not, it was cleared.
+    pub is_set: bool,
+}
+
+impl Effect {
+    pub(crate) fn of(raw: &sys::hvpm_effect) -> Effect {
+        let (partition, at) = (PartitionId(raw.partition), Caller::new(raw.partition, raw.vp));
+        match raw.kind {
+            sys::HVPM_EFFECT_NOTHING => Effect::Nothing,
+            sys::HVPM_EFFECT_SYNIC => Effect::Synic(Synic::of(raw, at)),
+            sys::HVPM_EFFECT_PAGE => Effect::Page { page: raw.page, partition, pooled: raw.pooled != 0 },
+            sys::HVPM_EFFECT_PAGES => Effect::Pages { from: PartitionId(raw.page), to: partition },
+            sys::HVPM_EFFECT_PROCESSOR => Effect::Processor(at),
+            _ => Effect::Partition(partition),
+        }
+    }
+}
+
+impl Synic {
+    fn of(raw: &sys::hvpm_effect, at: Caller) -> Synic {
+        let is_set = u32::from(raw.flag_is) == sys::HVPM_FLAG_SET;
+        let flag = FlagChange { sint: Sint(raw.flag_sint), flag: raw.flag, is_set };
+        Synic {
+            at,
+            shown: raw.shown,
+            waiting: raw.waiting,
+            flag: (raw.flag_is != 0).then_some(flag),
+            raised: raw.raised,
+            freed: (raw.freed != 0).then_some(PortId(raw.port)),
+        }
+    }
+}

@@ -1,0 +1,222 @@
+//! The machine: boot, hypercalls as a guest makes them, and accesses.
+
+use crate::reply::{Output, Reply, Run};
+use crate::status::{Status, done};
+use crate::{Caller, Sint};
+use core::ffi::c_char;
+use core::ptr::null_mut;
+use hvpm_sys as sys;
+
+/// What the root partition gets at boot.
+#[derive(Clone, Copy, Debug, PartialEq, Eq)]
+pub struct Config {
+    /// Its privilege mask.
+    pub mask: u64,
+    /// How many pages there are, 1 to 65,536.
+    pub pages: u32,
+    /// How many of them, from page 0 on, are its pool: at least 4 for each processor.
+    pub pool: u32,
+    /// How many virtual processors it has, 1 to 64.
+    pub vps: u32,
+}
+
+/// The registers of a hypercall.
+#[derive(Clone, Copy, Debug, Default, PartialEq, Eq)]
+pub struct Registers {
+    /// The input value.
+    pub rcx: u64,
+    /// The address of the input list, or the first 8 bytes of a fast call's input.
+    pub rdx: u64,
+    /// The address of the output list, or the second 8 bytes of a fast call's input.
+    pub r8: u64,
+}
+
+impl Registers {
+    pub(crate) fn raw(self) -> sys::hvpm_registers {
+        sys::hvpm_registers { rcx: self.rcx, rdx: self.rdx, r8: self.r8 }
+    }
+}
+
+/// All partitions, with all that they have. Dropping it frees its memory.
+///
+/// A machine may move from thread to thread. Threads that share one put it behind a lock, which a look needs,
+/// too:
+///
+/// ```compile_fail
+/// fn is_sync<T: Sync>() {}
+/// is_sync::<hvpm::Machine>();
+/// ```
+pub struct Machine {
+    pub(crate) handle: sys::hvpm_machine,
+}
+
+// SAFETY: the library keeps nothing of the thread that calls it. Each function here borrows the machine for
+// itself, or looks at it by a `&Machine`, which stays with one thread: there is no `Sync`.
+unsafe impl Send for Machine {}
+
+impl Machine {
+    /// Boots a machine. Its root partition has the id 1, is Active, and has what the configuration says.
+    pub fn boot(config: Config) -> Result<Machine, Status> {
+        let Config { mask, pages, pool, vps } = config;
+        let mut machine = Machine { handle: sys::hvpm_machine { live: false, events: 0, at: null_mut() } };
+        // SAFETY: the handle is empty, and both pointers lead to values of their types.
+        done(unsafe { sys::hvpm_boot(&mut machine.handle, &sys::hvpm_config { mask, pages, pool, vps }) })?;
+        Ok(machine)
+    }
+
+    /// How many events the machine took, served or refused.
+    pub fn events(&self) -> u64 {
+        self.handle.events
+    }
+
+    /// Lets `call` take an event with the handle, a reply, and a line's buffer and its size.
+    pub(crate) fn take(
+        &mut self,
+        call: impl FnOnce(*mut sys::hvpm_machine, *mut sys::hvpm_reply, *mut c_char, usize) -> u32,
+    ) -> Result<Reply, Status> {
+        let mut reply = Reply::new();
+        let line = reply.line.as_mut_ptr().cast();
+        done(call(&mut self.handle, &mut reply.raw, line, sys::HVPM_LINE))?;
+        Ok(reply)
+    }
+
+    /// Takes an event whose output `call` also stores in a value.
+    pub(crate) fn take_value<T>(
+        &mut self,
+        mut value: T,
+        call: impl FnOnce(*mut sys::hvpm_machine, *mut T, *mut sys::hvpm_reply, *mut c_char, usize) -> u32,
+    ) -> Result<Output<T>, Status> {
+        let reply = self.take(|machine, reply, line, size| call(machine, &mut value, reply, line, size))?;
+        Ok(Output { value: reply.is_served().then_some(value), reply })
+    }
+
+    /// Takes one hypercall: a simple call, or the element at the start index of a rep call. `input` is the
+    /// input list from the guest's memory at RDX: missing bytes at its end read as zero, and a fast call
+    /// ignores it. The output, at most 16 bytes, is for the guest's memory at R8. If the reply is
+    /// [`crate::Answer::More`], the call continues with [`crate::next`].
+    pub fn hypercall(&mut self, by: Caller, registers: Registers, input: &[u8]) -> Result<Reply, Status> {
+        let registers = registers.raw();
+        // SAFETY: the library wrote the handle, and this call borrows it alone. Each other pointer leads to a
+        // value of its type or to as many bytes as its length says, and the library keeps none of them. This
+        // holds for all calls of the library in this crate.
+        self.take(|machine, reply, line, size| unsafe {
+            let (bytes, len) = (input.as_ptr().cast(), input.len());
+            sys::hvpm_hypercall(machine, by.raw(), &registers, bytes, len, reply, line, size)
+        })
+    }
+
+    /// Takes a hypercall, and the elements of a rep call after it, each as one event. It stops after the last
+    /// element; after one that a rule refuses; after one whose effect is neither [`crate::Effect::Nothing`]
+    /// nor [`crate::Effect::Page`]; when fewer than 16 bytes of `outputs` are left; or when the next element
+    /// can't happen, as the host is out of memory. If the reply is [`crate::Answer::More`], the call
+    /// continues with [`crate::next`]. There are no lines of the audit: for those take the elements one by
+    /// one.
+    pub fn run<'o>(
+        &mut self,
+        by: Caller,
+        registers: Registers,
+        input: &[u8],
+        outputs: &'o mut [u8],
+    ) -> Result<Run<'o>, Status> {
+        let registers = registers.raw();
+        let mut reply = Reply::new();
+        let mut run = sys::hvpm_run_done { events: 0, output_len: 0 };
+        // SAFETY: as in `hypercall`.
+        done(unsafe {
+            sys::hvpm_run(
+                &mut self.handle,
+                by.raw(),
+                &registers,
+                input.as_ptr().cast(),
+                input.len(),
+                &mut reply.raw,
+                outputs.as_mut_ptr().cast(),
+                outputs.len(),
+                &mut run,
+            )
+        })?;
+        Ok(Run { reply, events: run.events, outputs: &outputs[..run.output_len as usize] })
+    }
+
+    /// Reads an MSR of the processor. The output is 8 bytes, the lowest first.
+    pub fn read_msr(&mut self, by: Caller, msr: u32) -> Result<Reply, Status> {
+        self.take(|machine, reply, line, size| unsafe {
+            sys::hvpm_read_msr(machine, by.raw(), msr, reply, line, size)
+        })
+    }
+
+    /// Reads an MSR of the processor as a number.
+    pub fn read_msr_value(&mut self, by: Caller, msr: u32) -> Result<Output<u64>, Status> {
+        self.take_value(0, |machine, value, reply, line, size| unsafe {
+            sys::hvpm_read_msr_value(machine, by.raw(), msr, value, reply, line, size)
+        })
+    }
+
+    /// Writes an MSR of the processor. A write of EOM may show messages and raise vectors.
+    pub fn write_msr(&mut self, by: Caller, msr: u32, value: u64) -> Result<Reply, Status> {
+        self.take(|machine, reply, line, size| unsafe {
+            sys::hvpm_write_msr(machine, by.raw(), msr, value, reply, line, size)
+        })
+    }
+
+    /// Reads the message slot of a SINT of the processor. The output is 256 bytes, all zero if no message is
+    /// shown.
+    pub fn read_slot(&mut self, by: Caller, sint: Sint) -> Result<Reply, Status> {
+        self.take(|machine, reply, line, size| unsafe {
+            sys::hvpm_read_slot(machine, by.raw(), sint.0, reply, line, size)
+        })
+    }
+
+    /// Removes the message that a SINT of the processor shows. A post or a write of EOM shows the next one.
+    pub fn clear_slot(&mut self, by: Caller, sint: Sint) -> Result<Reply, Status> {
+        self.take(|machine, reply, line, size| unsafe {
+            sys::hvpm_clear_slot(machine, by.raw(), sint.0, reply, line, size)
+        })
+    }
+
+    /// Reads the event flags of a SINT of the processor. The output is 256 bytes; flag f is bit f % 8 of
+    /// byte f / 8.
+    pub fn read_flags(&mut self, by: Caller, sint: Sint) -> Result<Reply, Status> {
+        self.take(|machine, reply, line, size| unsafe {
+            sys::hvpm_read_flags(machine, by.raw(), sint.0, reply, line, size)
+        })
+    }
+
+    /// Clears an event flag of a SINT of the processor.
+    pub fn clear_flag(&mut self, by: Caller, sint: Sint, flag: u16) -> Result<Reply, Status> {
+        self.take(|machine, reply, line, size| unsafe {
+            sys::hvpm_clear_flag(machine, by.raw(), sint.0, flag, reply, line, size)
+        })
+    }
+
+    /// Takes the highest vector that is pending at the processor. The output is one byte, 0 if none is.
+    pub fn take_interrupt(&mut self, by: Caller) -> Result<Reply, Status> {
+        self.take(|machine, reply, line, size| unsafe {
+            sys::hvpm_take_interrupt(machine, by.raw(), reply, line, size)
+        })
+    }
+}
+
+impl Drop for Machine {
+    fn drop(&mut self) {
+        // SAFETY: as in `hypercall`; the library leaves an empty handle as it is.
+        unsafe { sys::hvpm_destroy(&mut self.handle) }
+    }
+}
+
+#[cfg(test)]
+mod tests {
+    use super::{Caller, Config, Machine, Status};
+
+    /// The library alone writes the count of a handle; no test takes as many events.
+    #[test]
+    fn a_machine_takes_no_more_events_than_are_counted() {
+        let by = Caller::new(1, 0);
+        let mut machine = Machine::boot(Config { mask: 0, pages: 32, pool: 12, vps: 1 }).expect("it boots");
+        machine.handle.events = u64::MAX - 1;
+        let last = machine.take_interrupt(by).expect("the last event is taken");
+        assert_eq!(last.line(), "18446744073709551615 1.0 interrupt ok 00\n");
+        assert_eq!(machine.take_interrupt(by).err(), Some(Status::UsedUp));
+        assert_eq!(machine.events(), u64::MAX);
+    }
+}

@@ -1,0 +1,156 @@
+//! Keeps a processor's message page (SIMP) and event flags page (SIEFP) in step with the machine, as
+//! `hvpm_pages.h` does in C. The guest reads and writes both without an exit. "Pages" in docs/EMBEDDING.md
+//! says what a VMM calls when; all of one exit is one critical section:
+//!
+//! ```
+//! # use hvpm::{Caller, Config, Machine, Registers, Status, pages::Pages};
+//! # let (by, call) = (Caller::new(1, 0), Registers { rcx: 0x46, rdx: 0, r8: 0 });
+//! # let mut machine = Machine::boot(Config { mask: 4, pages: 8, pool: 8, vps: 1 })?;
+//! # fn inject(_: Caller, _: u8) {}
+//! let mut p = Pages::new(by);
+//! p.before(&mut machine)?; // before a post, EOM, and HvSetVpRegisters
+//! let reply = machine.hypercall(by, call, &[])?; // what the guest exited for, or write_msr
+//! p.after(&mut machine, &reply)?; // after each event, for each processor
+//! while let Some(vector) = p.vector(&mut machine)? {
+//!     inject(p.of(), vector);
+//! }
+//! # Ok::<(), Status>(())
+//! ```
+
+use crate::reply::Reply;
+use crate::status::{Status, done};
+use crate::{Access, Caller, Machine};
+use alloc::boxed::Box;
+use core::ffi::{c_char, c_void};
+use core::ptr::{NonNull, null_mut};
+use core::slice;
+use hvpm_sys as sys;
+
+/// An event that [`Pages`] made in a guest's place. The audit has it as the guest's own.
+pub struct Record<'a> {
+    /// The guest's processor.
+    pub by: Caller,
+    /// What it did.
+    pub access: Access,
+    /// The reply, with the line of the audit.
+    pub reply: &'a Reply,
+}
+
+type Recorder<'r> = Box<dyn FnMut(Record<'_>) + Send + 'r>;
+
+/// The pages of a processor. At first it has none.
+pub struct Pages<'r> {
+    raw: sys::hvpm_pages,
+    record: Option<Recorder<'r>>,
+}
+
+// SAFETY: the pointers lead to the guest's memory, of which `move` says that it may be used from any
+// thread.
+unsafe impl Send for Pages<'_> {}
+
+impl<'r> Pages<'r> {
+    /// A processor whose pages are kept, without pages at first.
+    pub fn new(of: Caller) -> Pages<'r> {
+        // SAFETY: zeros are null pointers, numbers, and no function. The header asks for them.
+        let mut raw: sys::hvpm_pages = unsafe { core::mem::zeroed() };
+        raw.of = of.raw();
+        Pages { raw, record: None }
+    }
+
+    /// Also calls `record` for each event that is made in the guest's place. It must not panic: that ends the
+    /// process.
+    pub fn recorded(of: Caller, record: impl FnMut(Record<'_>) + Send + 'r) -> Pages<'r> {
+        let mut pages = Pages::new(of);
+        pages.raw.record = Some(tell);
+        pages.record = Some(Box::new(record));
+        pages
+    }
+
+    /// The processor.
+    pub fn of(&self) -> Caller {
+        Caller::of(self.raw.of)
+    }
+
+    /// Bit s is 1 if the slot of SINT s in the page has a message that the machine shows, too.
+    pub fn shown(&self) -> u16 {
+        self.raw.shown
+    }
+
+    /// Whether a message left its slot since this function was called last: a post that P23 refused may be
+    /// repeated.
+    pub fn take_freed(&mut self) -> bool {
+        core::mem::replace(&mut self.raw.freed, false)
+    }
+
+    /// Lets `call` work with the machine and the pages.
+    fn keep(
+        &mut self,
+        machine: &mut Machine,
+        call: impl FnOnce(*mut sys::hvpm_machine, *mut sys::hvpm_pages) -> u32,
+    ) -> Result<(), Status> {
+        // The value may have moved since the last call.
+        self.raw.context = self.record.as_mut().map_or(null_mut(), |record| (&raw mut *record).cast());
+        done(call(&mut machine.handle, &mut self.raw))
+    }
+
+    /// Clears in the machine the slots that the guest cleared in its page. Call it before a post, a write of
+    /// EOM and HvSetVpRegisters.
+    pub fn before(&mut self, machine: &mut Machine) -> Result<(), Status> {
+        // SAFETY: both are borrowed for this call, and the pages are as `move` asks. So it is below.
+        self.keep(machine, |machine, pages| unsafe { sys::hvpm_pages_before(machine, pages) })
+    }
+
+    /// Brings the pages up to date after an event. Does nothing if the event's effect names another
+    /// processor.
+    pub fn after(&mut self, machine: &mut Machine, reply: &Reply) -> Result<(), Status> {
+        let effect = &reply.raw.effect;
+        self.keep(machine, |machine, pages| unsafe { sys::hvpm_pages_after(machine, pages, effect) })
+    }
+
+    /// Tells where the pages are after a write of SIMP or SIEFP: `None` if bit 0 is 0, or if the address
+    /// isn't the guest's memory. A page begins with what the machine shows, and is zero elsewhere. Flags that
+    /// the guest didn't take move from page to page.
+    ///
+    /// # Safety
+    ///
+    /// Each page has 4,096 bytes, begins at a multiple of 4,096, and may be read and written from any thread,
+    /// until another call of this function names another one, or this value is dropped. Nobody but the guest
+    /// uses it meanwhile, and Rust holds no reference to it.
+    pub unsafe fn r#move(
+        &mut self,
+        machine: &mut Machine,
+        messages: Option<NonNull<u8>>,
+        flags: Option<NonNull<u8>>,
+    ) -> Result<(), Status> {
+        let [messages, flags] =
+            [messages, flags].map(|page| page.map_or(null_mut(), |page| page.as_ptr().cast()));
+        self.keep(machine, |machine, pages| unsafe { sys::hvpm_pages_move(machine, pages, messages, flags) })
+    }
+
+    /// Takes the highest vector that was raised. Inject it at once: a processor that waits in HLT has no exit
+    /// at which to ask. `None` if no vector is left.
+    pub fn vector(&mut self, machine: &mut Machine) -> Result<Option<u8>, Status> {
+        let mut vector = 0;
+        self.keep(machine, |machine, pages| unsafe { sys::hvpm_pages_vector(machine, pages, &mut vector) })?;
+        Ok((vector != 0).then_some(vector))
+    }
+}
+
+/// Hands an event from the library to the recorder at `context`.
+unsafe extern "C" fn tell(
+    context: *mut c_void,
+    by: sys::hvpm_caller,
+    event: u32,
+    number: u32,
+    value: u64,
+    reply: *const sys::hvpm_reply,
+    line: *const c_char,
+) {
+    // SAFETY: `keep` gave the recorder, which is borrowed for this call. The library gives a reply, and a
+    // line of as many bytes as the reply says.
+    let (record, raw) = unsafe { (&mut *context.cast::<Recorder<'_>>(), *reply) };
+    let line = unsafe { slice::from_raw_parts(line.cast::<u8>(), raw.line_len as usize) };
+    let mut reply = Reply { raw, ..Reply::new() };
+    reply.line[..line.len()].copy_from_slice(line);
+    record(Record { by: Caller::of(by), access: Access::of(event, number, value), reply: &reply });
+}

@@ -1,0 +1,169 @@
+//! Replies to events.
+
+use crate::Effect;
+use core::fmt;
+use hvpm_sys as sys;
+
+/// A rule of docs/POLICY.md, P1 to P27, by its number.
+#[derive(Clone, Copy, Debug, PartialEq, Eq, PartialOrd, Ord, Hash)]
+pub struct Rule(pub u32);
+
+/// The status of a hypercall: bits 15:0 of RAX. 0 is HV_STATUS_SUCCESS.
+#[derive(Clone, Copy, PartialEq, Eq, PartialOrd, Ord, Hash)]
+pub struct HvStatus(pub u16);
+
+impl fmt::Debug for HvStatus {
+    fn fmt(&self, f: &mut fmt::Formatter<'_>) -> fmt::Result {
+        write!(f, "HvStatus({:#x})", self.0)
+    }
+}
+
+/// How an event was answered.
+#[derive(Clone, Copy, Debug, PartialEq, Eq)]
+pub enum Answer {
+    /// It was served. In a rep call this was the last element.
+    Served,
+    /// This element was served, and the call continues with another one.
+    More {
+        /// The start index of that element.
+        next: u16,
+    },
+    /// A hypercall that a rule refuses. Nothing changed.
+    Denied {
+        /// The first rule that doesn't hold.
+        rule: Rule,
+    },
+    /// An access that a rule refuses: the guest gets #GP. Nothing changed.
+    Fault {
+        /// The first rule that doesn't hold.
+        rule: Rule,
+    },
+}
+
+/// The reply to an event.
+#[derive(Clone)]
+pub struct Reply {
+    pub(crate) raw: sys::hvpm_reply,
+    pub(crate) line: [u8; sys::HVPM_LINE],
+}
+
+const NOTHING: sys::hvpm_effect = sys::hvpm_effect {
+    kind: sys::HVPM_EFFECT_NOTHING,
+    vp: 0,
+    partition: 0,
+    page: 0,
+    raised: [0; 4],
+    shown: 0,
+    waiting: 0,
+    flag: 0,
+    flag_sint: 0,
+    flag_is: 0,
+    port: 0,
+    freed: 0,
+    pooled: 0,
+};
+
+impl Reply {
+    pub(crate) fn new() -> Reply {
+        let raw = sys::hvpm_reply {
+            kind: sys::HVPM_REPLY_SERVED,
+            rule: 0,
+            result: 0,
+            next: 0,
+            output_len: 0,
+            line_len: 0,
+            output: [0; 256],
+            effect: NOTHING,
+        };
+        Reply { raw, line: [0; sys::HVPM_LINE] }
+    }
+
+    /// How the event was answered.
+    pub fn answer(&self) -> Answer {
+        let rule = Rule(self.raw.rule);
+        match self.raw.kind {
+            sys::HVPM_REPLY_SERVED => Answer::Served,
+            sys::HVPM_REPLY_MORE => Answer::More { next: self.raw.next as u16 },
+            sys::HVPM_REPLY_DENIED => Answer::Denied { rule },
+            _ => Answer::Fault { rule },
+        }
+    }
+
+    /// Whether the event was served.
+    pub fn is_served(&self) -> bool {
+        matches!(self.answer(), Answer::Served | Answer::More { .. })
+    }
+
+    /// The rule that refuses the event. `None` if it was served.
+    pub fn rule(&self) -> Option<Rule> {
+        match self.answer() {
+            Answer::Denied { rule } | Answer::Fault { rule } => Some(rule),
+            Answer::Served | Answer::More { .. } => None,
+        }
+    }
+
+    /// The status of a hypercall; of an access [`HvStatus`] 0 if it was served, and `None` for a fault.
+    pub fn status(&self) -> Option<HvStatus> {
+        match self.answer() {
+            Answer::Fault { .. } => None,
+            _ => Some(HvStatus(self.raw.result as u16)),
+        }
+    }
+
+    /// The result value of a hypercall, for RAX; 0 for an access.
+    pub fn result(&self) -> u64 {
+        self.raw.result
+    }
+
+    /// The output of the event, at most 256 bytes.
+    pub fn output(&self) -> &[u8] {
+        &self.raw.output[..self.raw.output_len as usize]
+    }
+
+    /// The event's line of the audit, with its line feed.
+    pub fn line(&self) -> &str {
+        core::str::from_utf8(&self.line[..self.raw.line_len as usize]).expect("a line is ASCII")
+    }
+
+    /// What the event changed of messages, event flags, vectors, pages and processors.
+    pub fn effect(&self) -> Effect {
+        Effect::of(&self.raw.effect)
+    }
+}
+
+impl fmt::Debug for Reply {
+    fn fmt(&self, f: &mut fmt::Formatter<'_>) -> fmt::Result {
+        f.debug_struct("Reply")
+            .field("answer", &self.answer())
+            .field("result", &self.result())
+            .field("output", &self.output())
+            .field("effect", &self.effect())
+            .finish()
+    }
+}
+
+/// The reply to an event that has a value as its output.
+#[derive(Clone, Debug)]
+pub struct Output<T> {
+    /// The reply.
+    pub reply: Reply,
+    /// The value, if the event was served.
+    pub value: Option<T>,
+}
+
+/// The elements of a call that were taken one after another.
+#[derive(Clone, Debug)]
+pub struct Run<'o> {
+    /// The reply to the last of them, without a line of the audit.
+    pub reply: Reply,
+    /// How many there were.
+    pub events: u32,
+    /// Their outputs, one after another.
+    pub outputs: &'o [u8],
+}
+
+/// RCX of the element with which a call continues after a reply that is [`Answer::More`].
+pub fn next(rcx: u64, reply: &Reply) -> u64 {
+    // SAFETY: the reply is a whole one, and is only read.
+    unsafe { sys::hvpm_next(rcx, &reply.raw) }
+}
