@@ -192,7 +192,7 @@ static void send_messages(void) {
     serves("that slot is cleared", clear_slot(4), freed(1 << 4, 9));
     serves("both SINTs show what waits", write_msr(0x40000084, 7),
            synic(1 << 2 | 1 << 4, VECTOR(0x32) | VECTOR(0x34)));
-    serves("nothing waits any more", write_msr(0x40000084, 0), synic(0, 0));
+    serves("an end of a message where nothing waits", write_msr(0x40000084, 0), nothing());
     serves("a slot is cleared to be empty", clear_slot(4), freed(1 << 4, 9));
     serves("SINT 4 is masked", write_msr(0x40000094, 0x10034), nothing());
     serves("a post to a masked SINT raises nothing", post(3), synic(1 << 4, 0));
@@ -205,7 +205,9 @@ static void set_flags(void) {
     serves("a flag is cleared", hvpm_clear_flag(&machine, guest, 3, 9, &reply, NULL, 0),
            flag(9, 3, HVPM_FLAG_CLEARED, 0));
     serves("it is cleared again", hvpm_clear_flag(&machine, guest, 3, 9, &reply, NULL, 0), nothing());
-    serves("a vector is taken", hvpm_take_interrupt(&machine, guest, &reply, NULL, 0), synic(0, 0));
+    for (size_t i = 0; i < 3; i++)
+        serves("a vector is taken", hvpm_take_interrupt(&machine, guest, &reply, NULL, 0), synic(0, 0));
+    serves("no vector is left", hvpm_take_interrupt(&machine, guest, &reply, NULL, 0), nothing());
 }
 
 static void refuse(void) {
@@ -262,9 +264,19 @@ static void end(void) {
     serves("the processor is deleted", hvpm_delete_vp(&machine, root, 2, 1, &reply, NULL, 0),
            processor(2, 1));
     tells("nobody takes a post", post(1), HVPM_REPLY_DENIED, nothing());
+    serves("the processor is made again", hvpm_create_vp(&machine, root, 2, 1, &reply, NULL, 0),
+           processor(2, 1));
     serves("the partition is finalized", hvpm_finalize_partition(&machine, root, 2, &reply, NULL, 0),
            of_kind(HVPM_EFFECT_PARTITION, 2));
     serves("it is deleted", hvpm_delete_partition(&machine, root, 2, &reply, NULL, 0), pages(2, 1));
+}
+
+/* Partition 3 has no processor and no page. */
+static void end_empty(void) {
+    uint64_t id = 0;
+    serves("a partition is made", hvpm_create_partition(&machine, root, 0, &id, &reply, NULL, 0), nothing());
+    serves("it is finalized", hvpm_finalize_partition(&machine, root, 3, &reply, NULL, 0), nothing());
+    serves("it is deleted", hvpm_delete_partition(&machine, root, 3, &reply, NULL, 0), nothing());
 }
 
 int main(void) {
@@ -274,6 +286,7 @@ int main(void) {
     refuse();
     take_runs();
     end();
+    end_empty();
     hvpm_destroy(&machine);
     return wrong;
 }

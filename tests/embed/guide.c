@@ -8,11 +8,11 @@
 #include <stdlib.h>
 
 enum {
-    MEMORY = 0x10000, INPUT = 0x1000, OUTPUT = 0x2000, MESSAGES = 0x3000, FLAGS = 0x4000,
+    MEMORY = 0x10000, CODE = 0x5000, INPUT = 0x1000, OUTPUT = 0x2000, MESSAGES = 0x3000, FLAGS = 0x4000,
     MSR_EOM = 0x40000084
 };
 
-static uint8_t guest[MEMORY] __attribute__((aligned(4096))), own[2][4096] __attribute__((aligned(4096)));
+static uint8_t guest[MEMORY] __attribute__((aligned(4096))), roots[2][4096] __attribute__((aligned(4096)));
 static hvpm_caller injected_at;
 static uint8_t injected;
 
@@ -41,20 +41,18 @@ static bool interrupted(const hvpm_pages *vcpu, uint8_t vector) {
     return is_so;
 }
 
-static bool write_msr(hvpm_pages *vcpu, uint32_t msr, uint64_t value) {
-    hvpm_reply reply;
-    before();
-    const bool ok = served(hvpm_write_msr(&machine, vcpu->of, msr, value, &reply, NULL, 0), &reply);
-    if (ok && (msr == MSR_SIMP || msr == MSR_SIEFP)) move(vcpu);
-    if (ok) after(&reply.effect);
-    return ok;
+static uint64_t call(hvpm_pages *vcpu, uint64_t rcx, uint64_t rdx, uint64_t r8) {
+    hvpm_guest_cpu cpu = {.rcx = rcx, .rdx = rdx, .r8 = r8, .is_64_bit = true, .is_protected = true};
+    holds("a hypercall is made", hypercall(vcpu, &cpu) == RETURN);
+    return cpu.rax;
 }
 
-static uint64_t call(hvpm_pages *vcpu, uint64_t rcx, uint64_t rdx, uint64_t r8) {
-    hvpm_registers registers = {rcx, rdx, r8};
-    uint64_t rax = ~UINT64_C(0);
-    holds("a hypercall is made", hypercall(vcpu, &registers, &rax));
-    return rax;
+/* A call of a guest's 32-bit code, whose lists are below 4 GiB. */
+static uint64_t call_32(hvpm_pages *vcpu, uint64_t value, uint32_t input, uint32_t output) {
+    hvpm_guest_cpu cpu = {
+        .rdx = value >> 32, .rax = value, .rcx = input, .rsi = output, .is_protected = true};
+    holds("a hypercall of 32 bits is made", hypercall(vcpu, &cpu) == RETURN);
+    return cpu.rdx << 32 | cpu.rax;
 }
 
 /* A port of the guest's processor 1 for the root, and of the root for it. */
@@ -82,6 +80,17 @@ static void post(const char *text) {
     after(&reply.effect);
 }
 
+/* What a guest writes first, and what it gets #GP for. */
+static void identify(hvpm_pages *vcpu) {
+    uint64_t value = 7;
+    holds("an OS id", write_msr(vcpu, 0x40000000, 0x8100000000060C00));
+    holds("a page elsewhere", !write_msr(vcpu, 0x40000001, MEMORY | 1));
+    holds("a hypercall page", write_msr(vcpu, 0x40000001, CODE | 1) && guest[CODE + 3] == 0xC3);
+    holds("it is read", read_msr(vcpu, 0x40000001, &value) && value == (CODE | 1));
+    holds("the VP index", read_msr(vcpu, 0x40000002, &value) && value == vcpu->of.vp);
+    holds("no reference time", !read_msr(vcpu, 0x40000020, &value) && !write_msr(vcpu, 0x40000084 + 1, 0));
+}
+
 static void turn_on(hvpm_pages *vcpu) {
     holds("SCONTROL", write_msr(vcpu, 0x40000080, 1));
     holds("SIMP", write_msr(vcpu, MSR_SIMP, MESSAGES | 1));
@@ -104,10 +113,13 @@ int main(void) {
     hvpm_reply reply;
     hvpm_pages *vcpu = &vcpus[2], *other = &vcpus[1];
     holds("boot", boot());
-    holds("the vendor", cpuid(0x40000000, regs) && memcmp(&regs[1], "Microsoft Hv", 12) == 0);
-    holds("the mask",
-          cpuid(0x40000003, regs) && regs[0] == 0x64 && regs[1] == 0x30 && regs[2] == 0 && regs[3] == 0);
-    holds("no further leaf", !cpuid(0x40000006, regs) && cpuid(0x40000004, regs) && regs[0] == 0x200);
+    cpuid(0x40000000, regs);
+    holds("the vendor", memcmp(&regs[1], "Microsoft Hv", 12) == 0);
+    cpuid(0x40000003, regs);
+    holds("the mask", regs[0] == 0x64 && regs[1] == 0x30 && regs[2] == 0 && regs[3] == 0);
+    cpuid(0x40000006, regs);
+    holds("no further leaf", regs[0] == 0);
+    identify(vcpu);
     connect();
     turn_on(vcpu);
     post("one"), post("two"), post("three");
@@ -118,13 +130,18 @@ int main(void) {
         after(&reply.effect);
         holds("its flag and its interrupt", guest[FLAGS + 512] == 0x20 && interrupted(vcpu, 0xF3));
     }
-    holds("the root's pages", hvpm_pages_move(&machine, &vcpus[0], own[0], own[1]) == HVPM_STATUS_OK);
+    holds("the root's pages", hvpm_pages_move(&machine, &vcpus[0], roots[0], roots[1]) == HVPM_STATUS_OK);
     for (uint32_t msr = 0x40000080; msr <= 0x40000083; msr += msr == 0x40000080 ? 2 : 1)
         holds("the root's SynIC", served(hvpm_write_msr(&machine, root, msr, 1, &reply, NULL, 0), &reply));
     holds("its SINT", served(hvpm_write_msr(&machine, root, 0x40000094, 0x30, &reply, NULL, 0), &reply));
     memcpy(guest + INPUT, (const uint8_t[]){3, 0, 0, 0, 0, 0, 0, 0, 9, 0, 0, 0, 2, 0, 0, 0, 'h', 'i'}, 18);
     holds("a guest's post", call(vcpu, 0x5C, INPUT, MEMORY) == 0 && interrupted(&vcpus[0], 0x30));
-    holds("what the root gets", own[0][4 * 256] == 9 && memcmp(own[0] + 4 * 256 + 16, "hi", 2) == 0);
+    holds("what the root gets", roots[0][4 * 256] == 9 && memcmp(roots[0] + 4 * 256 + 16, "hi", 2) == 0);
+    holds("the guest lets it go", (roots[0][4 * 256] = 0) == 0);
+    holds("a post of 32 bits", call_32(vcpu, 0x5C, INPUT, 0) == 0 && interrupted(&vcpus[0], 0x30));
+    hvpm_guest_cpu process = {.rcx = 0x46, .r8 = OUTPUT, .is_64_bit = true, .is_protected = true, .cpl = 3};
+    const uint64_t events = machine.events;
+    holds("a process", hypercall(vcpu, &process) == UNDEFINED && machine.events == events);
     holds("a denial", call(vcpu, 0x40, INPUT, OUTPUT) == 6 && call(vcpu, 0x99, MEMORY, MEMORY) == 2);
     holds("a list that isn't the guest's",
           call(vcpu, 0x40, MEMORY, OUTPUT) == 4 && call(vcpu, 0x40, INPUT, MEMORY) == 4);
@@ -134,6 +151,8 @@ int main(void) {
     memcpy(guest + INPUT, (const uint8_t[]){2, 0, 0, 0, 0, 0, 0, 0}, 8);
     holds("a rep call", call(&vcpus[0], UINT64_C(2) << 32 | 0x49, INPUT, OUTPUT) == UINT64_C(2) << 32);
     holds("its outputs", guest[OUTPUT] == 32 && guest[OUTPUT + 8] == 33);
+    holds("one of 32 bits", call_32(&vcpus[0], UINT64_C(2) << 32 | 0x49, INPUT, OUTPUT) == UINT64_C(2) << 32);
+    holds("its outputs", guest[OUTPUT] == 34 && guest[OUTPUT + 8] == 35);
     holds("a fast call",
           call(&vcpus[0], 0x1004F, child, 1) == 0 && !vcpu->messages && !vcpu->flags && vcpu->shown == 0);
     holds("one that is made again", call(&vcpus[0], 0x1004E, child, 1) == 0);

@@ -370,7 +370,7 @@ static void flag_cases(void) {
     holds("it raises", take_vector(self) == vector_of(FLAG_SINT));
     flags[0] = flags[1] = 0x40;
     write_page(self, 0x40000082, PAGE * 4 | 1);
-    holds("what was signalled meanwhile goes over", flags[0] == 0 && flags[1] == 2);
+    holds("what wasn't taken is there, and what was signalled meanwhile", flags[0] == 0x90 && flags[1] == 2);
     signal_flag(&links[5], 9);
     holds("and raises anew", take_vector(self) == vector_of(FLAG_SINT));
 }
@@ -392,7 +392,7 @@ static void all_flags_cases(void) {
         const bool has_page = flag % 3 != 0;
         const uint32_t vector = 16 + flag % 240;
         write_msr(self->pages.of, 0x40000090 + ALL_FLAGS_SINT, vector);
-        if (!has_page) write_page(self, 0x40000082, PAGE * 400 | 1), memset(wanted, 0, sizeof wanted);
+        if (!has_page) write_page(self, 0x40000082, PAGE * 400 | 1);
         signal_flag(&link, (uint16_t)flag);
         if (!has_page) write_page(self, 0x40000082, PAGE * 4 | 1);
         wanted[flag / 8] |= (uint8_t)(1u << flag % 8);

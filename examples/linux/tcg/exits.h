@@ -21,20 +21,24 @@ enum hvpm_exit_kind { HVPM_CPUID, HVPM_RDMSR, HVPM_WRMSR, HVPM_HYPERCALL, HVPM_R
 /* On a processor's socket, from QEMU: an exit. On the control socket, from QEMU: the machine was reset. */
 struct hvpm_exit {
     uint32_t kind;
-    uint32_t number;       /* CPUID: the leaf. RDMSR, WRMSR: the MSR */
-    uint64_t rcx, rdx, r8; /* HYPERCALL: the registers. WRMSR: rcx has the value */
+    uint32_t number;                           /* CPUID: the leaf. RDMSR, WRMSR: the MSR */
+    uint64_t value;                            /* WRMSR: what is written */
+    uint64_t rax, rbx, rcx, rdx, rsi, rdi, r8; /* HYPERCALL: the registers, and the mode */
+    uint8_t is_64_bit, is_protected, cpl;
 };
 
 /* The answer. */
 struct hvpm_entry {
-    uint32_t served; /* else the guest is given #GP */
+    uint32_t served; /* else the guest is given #UD for a hypercall, and #GP for an MSR */
     uint32_t leaf[4];
-    uint64_t value;   /* RDMSR: the value. HYPERCALL: RAX */
-    uint64_t code_at; /* WRMSR: where QEMU puts the hypercall page's code now, or 0 */
+    uint64_t value;    /* RDMSR: the value */
+    uint64_t rax, rdx; /* HYPERCALL: the registers that change */
+    uint64_t code_at;  /* WRMSR: where QEMU puts the hypercall page's code now, or 0 */
 };
 
-/* On the control socket, to QEMU: a vector for a processor's local APIC. */
+/* On the control socket, to QEMU: a vector for a processor's local APIC, which ends it by itself or not. */
 struct hvpm_interrupt {
-    uint32_t vp, vector;
+    uint32_t vp;
+    uint8_t vector, has_auto_eoi;
 };
 #endif

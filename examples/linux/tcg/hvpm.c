@@ -11,7 +11,7 @@
 #include "cpu.h"
 #include "exec/cpu-common.h"
 #include "exec/exec-all.h"
-#include "hw/i386/apic.h"
+#include "hw/i386/apic_internal.h"
 #include "tcg/helper-tcg.h"
 #include <sys/socket.h>
 #include "hvpm_exits.h"
@@ -21,10 +21,12 @@ void __real_helper_cpuid(CPUX86State *env);
 void __real_helper_rdmsr(CPUX86State *env);
 void __real_helper_wrmsr(CPUX86State *env);
 void __real_helper_outl(CPUX86State *env, uint32_t port, uint32_t data);
+int __real_apic_get_interrupt(DeviceState *dev);
 void __wrap_helper_cpuid(CPUX86State *env);
 void __wrap_helper_rdmsr(CPUX86State *env);
 void __wrap_helper_wrmsr(CPUX86State *env);
 void __wrap_helper_outl(CPUX86State *env, uint32_t port, uint32_t data);
+int __wrap_apic_get_interrupt(DeviceState *dev);
 
 static int sockets = -1;
 
@@ -94,7 +96,7 @@ void __wrap_helper_wrmsr(CPUX86State *env)
     if (is_ours(env, msr, 0x200)) {
         uint64_t value = env->regs[R_EDX] << 32 | (uint32_t)env->regs[R_EAX];
         struct hvpm_entry entry =
-            exit_of(env, (struct hvpm_exit){.kind = HVPM_WRMSR, .number = msr, .rcx = value});
+            exit_of(env, (struct hvpm_exit){.kind = HVPM_WRMSR, .number = msr, .value = value});
         if (!entry.served) {
             raise_exception_err_ra(env, EXCP0D_GPF, 0, GETPC());
         }
@@ -103,14 +105,50 @@ void __wrap_helper_wrmsr(CPUX86State *env)
     __real_helper_wrmsr(env);
 }
 
+static struct hvpm_exit hypercall_of(CPUX86State *env)
+{
+    return (struct hvpm_exit){
+        .kind = HVPM_HYPERCALL,
+        .rax = env->regs[R_EAX], .rbx = env->regs[R_EBX], .rcx = env->regs[R_ECX],
+        .rdx = env->regs[R_EDX], .rsi = env->regs[R_ESI], .rdi = env->regs[R_EDI], .r8 = env->regs[8],
+        .is_64_bit = (env->hflags & HF_CS64_MASK) != 0,
+        .is_protected = (env->cr[0] & CR0_PE_MASK) != 0,
+        .cpl = env->hflags & HF_CPL_MASK,
+    };
+}
+
+/* A process may get here, too, where its kernel lets it write to ports. */
 void __wrap_helper_outl(CPUX86State *env, uint32_t port, uint32_t data)
 {
     if (sockets >= 0 && port == HVPM_PORT) {
-        struct hvpm_exit exit = {HVPM_HYPERCALL, 0, env->regs[R_ECX], env->regs[R_EDX], env->regs[8]};
-        env->regs[R_EAX] = exit_of(env, exit).value;
+        struct hvpm_entry entry = exit_of(env, hypercall_of(env));
+        if (!entry.served) {
+            raise_exception_ra(env, EXCP06_ILLOP, GETPC());
+        }
+        env->regs[R_EAX] = entry.rax;
+        env->regs[R_EDX] = entry.rdx;
         return;
     }
     __real_helper_outl(env, port, data);
+}
+
+/* The vectors with AutoEOI, by the processor's APIC. The big lock guards them. */
+static uint32_t auto_eoi[256][8];
+
+/* A processor takes the next vector: one with AutoEOI is ended at once. */
+int __wrap_apic_get_interrupt(DeviceState *dev)
+{
+    int vector = __real_apic_get_interrupt(dev);
+
+    if (dev && vector >= 0) {
+        APICCommonState *s = APIC_COMMON(dev);
+        uint32_t ended = auto_eoi[s->id][vector / 32] & 1u << vector % 32;
+        s->isr[vector / 32] &= ~ended;
+        if (ended) {
+            apic_poll_irq(dev);
+        }
+    }
+    return vector;
 }
 
 /* Puts vectors into local APICs as they come, under the big lock. */
@@ -120,6 +158,8 @@ static void *injector(void *unused)
 
     while (recv(sockets, &of, sizeof of, 0) == sizeof of) {
         qemu_mutex_lock_iothread();
+        auto_eoi[of.vp % 256][of.vector / 32] &= ~(1u << of.vector % 32);
+        auto_eoi[of.vp % 256][of.vector / 32] |= (uint32_t)of.has_auto_eoi << of.vector % 32;
         apic_deliver_irq(of.vp, 0, 0, of.vector, 0);
         qemu_mutex_unlock_iothread();
     }

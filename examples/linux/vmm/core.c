@@ -21,6 +21,17 @@ static void must(uint32_t status) {
 
 /* ---- effects ---- */
 
+/* Whether a SINT of the processor has this vector with AutoEOI: the vector ends as it is taken. */
+static bool has_auto_eoi(const struct vcpu *vcpu, uint8_t vector) {
+    bool has = false;
+    for (uint32_t sint = 0; sint < 16; sint++) {
+        uint64_t value = 0;
+        must(hvpm_peek_msr(&machine, vcpu->pages.of, MSR_SINT0 + sint, &value));
+        has |= (uint8_t)value == vector && (value >> 17 & 1);
+    }
+    return has;
+}
+
 /* The processor's slots and flags go into its pages, and its vectors into its interrupt controller at once:
  * one in HLT has no exit at which it would ask. */
 static void deliver_to(struct vcpu *vcpu, const hvpm_effect *effect) {
@@ -28,7 +39,7 @@ static void deliver_to(struct vcpu *vcpu, const hvpm_effect *effect) {
     for (uint8_t vector;;) {
         must(hvpm_pages_vector(&machine, &vcpu->pages, &vector));
         if (vector == 0) return;
-        vcpu->guest->engine->interrupt(vcpu, vector);
+        vcpu->guest->engine->interrupt(vcpu, vector, has_auto_eoi(vcpu, vector));
     }
 }
 

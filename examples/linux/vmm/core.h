@@ -5,7 +5,7 @@
  */
 #ifndef CORE_H
 #define CORE_H
-#include "hvpm.h"
+#include "hvpm_guest.h"
 #include "hvpm_pages.h"
 
 enum { PAGE = 4096, MAX_VPS = 8, MAX_GUESTS = 3 };
@@ -14,7 +14,7 @@ enum {
     MSR_SINT0 = 0x40000090
 };
 enum { HV_CALL_SET_VP_REGISTERS = 0x51, HV_CALL_ADD_LOGICAL_PROCESSOR = 0x76 };
-enum { HV_STATUS_INVALID_ALIGNMENT = 4, HV_STATUS_INSUFFICIENT_BUFFERS = 0x13 };
+enum { HV_STATUS_INSUFFICIENT_BUFFERS = 0x13 };
 
 struct guest;
 struct kvm_run;
@@ -23,7 +23,6 @@ struct kvm_run;
 struct vcpu {
     hvpm_pages pages; /* pages.of is its partition and index */
     struct guest *guest;
-    uint64_t assist;     /* the MSR of the VP assist page: Linux writes it, and this VMM uses no such page */
     int fd;              /* KVM: the vCPU. TCG: the socket of its exits */
     struct kvm_run *run; /* KVM */
     uint64_t code_at;    /* TCG: where QEMU puts the hypercall page's code as it enters the guest, or 0 */
@@ -33,7 +32,7 @@ struct vcpu {
 struct engine {
     void (*start)(struct guest *guest);
     /* Both are called under the machine's lock, and must not wait for one that an exit holds. */
-    void (*interrupt)(struct vcpu *vcpu, uint8_t vector);
+    void (*interrupt)(struct vcpu *vcpu, uint8_t vector, bool has_auto_eoi);
     void (*put_code)(struct vcpu *vcpu, uint64_t at);
 };
 
@@ -45,7 +44,8 @@ struct guest {
     const struct engine *engine;
     uint8_t *ram;
     uint64_t ram_size;
-    uint64_t os_id, hypercall_page; /* MSRs 0x40000000 and 0x40000001 */
+    hvpm_guest own;   /* the MSRs that are the hypervisor's own */
+    bool has_started; /* TCG: a reset after the first one is the guest's */
     _Atomic bool ended;
     int control; /* TCG: the socket of interrupts and resets. KVM: the VM */
 };
@@ -56,8 +56,8 @@ extern struct guest guests[MAX_GUESTS];
 
 extern struct options {
     unsigned vps, children, beats, offers, delay;
-    bool root, reload, restart;
-    const char *kernel, *initrd, *acpi, *append, *qemu, *roms;
+    bool root, reload, restart, unload;
+    const char *kernel, *initrd, *acpi, *append, *qemu, *roms, *bios;
 } options;
 
 /*
@@ -74,11 +74,12 @@ uint64_t core_call(struct vcpu *vcpu, const hvpm_registers *registers, const voi
 bool core_read_msr(struct vcpu *vcpu, uint32_t msr, uint64_t *value);
 bool core_write_msr(struct vcpu *vcpu, uint32_t msr, uint64_t value);
 
-/* The identity: what a guest meets as Hyper-V. Where an MSR answers false, the guest is given #GP. */
+/* The identity: what a guest meets as Hyper-V. Where an MSR answers false, the guest is given #GP, and #UD
+ * where a hypercall does. */
 bool identity_cpuid(struct guest *guest, uint32_t index, uint32_t leaf[4]);
 bool identity_rdmsr(struct vcpu *vcpu, uint32_t msr, uint64_t *value);
 bool identity_wrmsr(struct vcpu *vcpu, uint32_t msr, uint64_t value);
-uint64_t identity_hypercall(struct vcpu *vcpu, const hvpm_registers *registers);
+bool identity_hypercall(struct vcpu *vcpu, hvpm_guest_cpu *cpu);
 void identity_reset(struct guest *guest);
 
 /* The root's side of VMBus. */
@@ -98,5 +99,6 @@ _Noreturn void die(const char *format, ...) __attribute__((format(printf, 1, 2))
 
 void start_thread(void *(*run)(void *), void *of);
 void guest_ended(struct guest *guest, const char *how);
+void allow_signals(void); /* in a new process: signals have their defaults */
 extern const struct engine kvm_engine, tcg_engine;
 #endif

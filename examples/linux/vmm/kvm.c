@@ -36,7 +36,9 @@ static int ask(int fd, unsigned long what, void *with, const char *name) {
 }
 #define ASK(fd, what, with) ask(fd, what, (void *)(uintptr_t)(with), #what)
 
-static void interrupt(struct vcpu *vcpu, uint8_t vector) {
+/* KVM has no MSI that ends by itself. */
+static void interrupt(struct vcpu *vcpu, uint8_t vector, bool has_auto_eoi) {
+    (void)has_auto_eoi;
     struct kvm_msi msi = {.address_lo = 0xFEE00000u | vcpu->pages.of.vp << 12, .data = vector};
     ASK(vcpu->guest->control, KVM_SIGNAL_MSI, &msi);
 }
@@ -46,11 +48,31 @@ static void put_code(struct vcpu *vcpu, uint64_t at) {
     memcpy(vcpu->guest->ram + at, code, sizeof code);
 }
 
+/* The guest is given #UD at its OUT. KVM first ends the instruction, and is then led back. */
+static void undefined(struct vcpu *vcpu, struct kvm_regs *at) {
+    struct kvm_vcpu_events events;
+    vcpu->run->immediate_exit = 1;
+    (void)ioctl(vcpu->fd, KVM_RUN, 0);
+    vcpu->run->immediate_exit = 0;
+    ASK(vcpu->fd, KVM_SET_REGS, at);
+    ASK(vcpu->fd, KVM_GET_VCPU_EVENTS, &events);
+    events.exception.injected = 1, events.exception.nr = 6, events.exception.has_error_code = 0;
+    ASK(vcpu->fd, KVM_SET_VCPU_EVENTS, &events);
+}
+
 static void hypercall(struct vcpu *vcpu) {
     struct kvm_regs r;
+    struct kvm_sregs s;
     ASK(vcpu->fd, KVM_GET_REGS, &r);
-    const hvpm_registers registers = {r.rcx, r.rdx, r.r8};
-    r.rax = identity_hypercall(vcpu, &registers);
+    ASK(vcpu->fd, KVM_GET_SREGS, &s);
+    hvpm_guest_cpu cpu = {.rax = r.rax, .rbx = r.rbx, .rcx = r.rcx, .rdx = r.rdx, .rsi = r.rsi, .rdi = r.rdi,
+                          .r8 = r.r8, .is_64_bit = s.cs.l && (s.efer & 0x400), .is_protected = s.cr0 & 1,
+                          .cpl = s.ss.dpl};
+    if (!identity_hypercall(vcpu, &cpu)) {
+        undefined(vcpu, &r);
+        return;
+    }
+    r.rax = cpu.rax, r.rdx = cpu.rdx;
     ASK(vcpu->fd, KVM_SET_REGS, &r);
 }
 

@@ -6,6 +6,7 @@
 #include <getopt.h>
 #include <inttypes.h>
 #include <pthread.h>
+#include <signal.h>
 #include <stdio.h>
 #include <stdlib.h>
 #include <string.h>
@@ -13,10 +14,11 @@
 
 static const char usage[] =
     "usage: vmm --engine kvm|tcg --kernel FILE [--initrd FILE --acpi FILE --append WORDS]"
-    " [--qemu FILE --roms FOLDER]\n"
+    " [--qemu FILE --roms FOLDER --bios FILE]\n"
     "           [--vps N] [--children N] [--beats N] [--offers N] [--delay MILLISECONDS] [--seconds N]\n"
-    "           [--root | --reload | --restart]\n"
-    "Writes the files audit and events.hv into the working directory, and a log to standard output.\n";
+    "           [--root | --reload | --restart | --unload]\n"
+    "Writes the files audit and events.hv into the working directory, and a log to standard output. A run"
+    " that takes longer than --seconds, or that SIGINT or SIGTERM ends, has both, too.\n";
 
 struct options options = {.vps = 1, .children = 1, .beats = 3};
 
@@ -33,6 +35,7 @@ static pthread_mutex_t end_lock = PTHREAD_MUTEX_INITIALIZER;
 static pthread_cond_t one_ended = PTHREAD_COND_INITIALIZER;
 static unsigned running;
 static bool failed;
+static int signal_taken; /* that ends the run */
 
 /* Nobody waits for a thread: the VMM ends when all guests have. */
 void start_thread(void *(*run)(void *), void *of) {
@@ -52,6 +55,43 @@ void guest_ended(struct guest *guest, const char *how) {
     pthread_mutex_unlock(&end_lock);
 }
 
+/* A signal ends the run as the last guest does, so that the record is whole. */
+static sigset_t ending_signals(void) {
+    sigset_t set;
+    sigemptyset(&set), sigaddset(&set, SIGALRM), sigaddset(&set, SIGINT), sigaddset(&set, SIGTERM);
+    return set;
+}
+
+void allow_signals(void) {
+    const sigset_t set = ending_signals();
+    signal(SIGPIPE, SIG_DFL);
+    pthread_sigmask(SIG_UNBLOCK, &set, NULL);
+}
+
+static void *wait_for_signal(void *unused) {
+    const sigset_t set = ending_signals();
+    int number = 0;
+    if (sigwait(&set, &number) != 0) die("no signal can be waited for");
+    pthread_mutex_lock(&end_lock);
+    signal_taken = number;
+    pthread_cond_signal(&one_ended);
+    pthread_mutex_unlock(&end_lock);
+    return unused;
+}
+
+/* Waits for the end of all guests. Answers whether they came to it by themselves. */
+static bool wait_for_guests(const struct engine *engine, unsigned seconds) {
+    pthread_mutex_lock(&end_lock);
+    while (running > 0 && signal_taken == 0) pthread_cond_wait(&one_ended, &end_lock);
+    const int number = signal_taken;
+    pthread_mutex_unlock(&end_lock);
+    if (number == SIGALRM)
+        note("the run took longer than %u s: try a larger --seconds%s", seconds,
+             engine == &kvm_engine ? ", or --engine tcg if the guest said nothing" : "");
+    else if (number != 0) note("ended by signal %d", number);
+    return number == 0;
+}
+
 static const struct engine *read_options(int argc, char **argv, unsigned *seconds) {
     static const struct option long_options[] = {
         {"engine", 1, NULL, 'e'}, {"kernel", 1, NULL, 'k'}, {"initrd", 1, NULL, 'i'},
@@ -59,10 +99,11 @@ static const struct engine *read_options(int argc, char **argv, unsigned *second
         {"append", 1, NULL, 'w'}, {"vps", 1, NULL, 'v'},    {"children", 1, NULL, 'c'},
         {"beats", 1, NULL, 'b'},  {"offers", 1, NULL, 'o'}, {"seconds", 1, NULL, 's'},
         {"root", 0, NULL, 'r'},   {"reload", 0, NULL, 'l'}, {"restart", 0, NULL, 't'},
-        {"delay", 1, NULL, 'd'},  {NULL, 0, NULL, 0}};
+        {"delay", 1, NULL, 'd'},  {"unload", 0, NULL, 'u'}, {"bios", 1, NULL, 'B'},
+        {NULL, 0, NULL, 0}};
     const struct engine *engine = NULL;
     options.append = "console=ttyS0 panic=-1",
-    options.initrd = options.acpi = options.qemu = options.roms = "";
+    options.initrd = options.acpi = options.qemu = options.roms = "", options.bios = "bios-256k.bin";
     for (int c; (c = getopt_long(argc, argv, "", long_options, NULL)) != -1;) switch (c) {
         case 'e':
             engine = strcmp(optarg, "kvm") == 0   ? &kvm_engine
@@ -84,6 +125,8 @@ static const struct engine *read_options(int argc, char **argv, unsigned *second
         case 'r': options.root = true; break;
         case 'l': options.reload = true; break;
         case 't': options.restart = true; break;
+        case 'u': options.unload = true; break;
+        case 'B': options.bios = optarg; break;
         default: die("%s", usage);
         }
     if (!engine || !options.kernel || optind != argc) die("%s", usage);
@@ -95,7 +138,7 @@ static const struct engine *read_options(int argc, char **argv, unsigned *second
 /* A root that is a Linux: its first processor is there, and it makes the others by
  * HvCreateVp as it starts them. */
 static void make_root(void) {
-    guests[0].vps = options.vps, guests[0].hypercall_page = ROOT_HYPERCALL_PAGE | 1;
+    guests[0].vps = options.vps, guests[0].own.hypercall = ROOT_HYPERCALL_PAGE | 1;
     for (unsigned vp = 0; vp < options.vps; vp++)
         guests[0].vcpu[vp].guest = &guests[0], guests[0].vcpu[vp].pages.of = (hvpm_caller){1, vp};
 }
@@ -110,6 +153,9 @@ static bool root_is_done(void) {
 int main(int argc, char **argv) {
     unsigned seconds = 600;
     const struct engine *engine = read_options(argc, argv, &seconds);
+    const sigset_t set = ending_signals();
+    signal(SIGPIPE, SIG_IGN); /* where nobody reads the log any more, the record goes on */
+    pthread_sigmask(SIG_BLOCK, &set, NULL);
     record_start();
     core_boot(options.root ? &linux_as_root : &with_children);
     guests[0].id = 1, guests[0].vps = 1;
@@ -121,11 +167,10 @@ int main(int argc, char **argv) {
     running = options.root ? 1 : options.children;
     for (struct guest *guest = first; guest < first + running; guest++) guest->engine = engine;
     for (struct guest *guest = first, *end = first + running; guest < end; guest++) engine->start(guest);
-    alarm(seconds); /* whose default is the end */
-    pthread_mutex_lock(&end_lock);
-    while (running > 0) pthread_cond_wait(&one_ended, &end_lock);
-    pthread_mutex_unlock(&end_lock);
-    const bool is_done = (options.root ? root_is_done() : vmbus_is_done()) && !failed;
+    start_thread(wait_for_signal, NULL);
+    alarm(seconds);
+    const bool have_ended = wait_for_guests(engine, seconds);
+    const bool is_done = (options.root ? root_is_done() : vmbus_is_done()) && have_ended && !failed;
     const uint64_t events = core_end();
     record_end(events);
     note("%" PRIu64 " events; %s", events,

@@ -32,7 +32,8 @@ static void reset_first(struct guest *guest) {
     struct hvpm_exit exit;
     pthread_mutex_lock(&reset_lock);
     while (recv(guest->control, &exit, sizeof exit, MSG_DONTWAIT) == sizeof exit)
-        if (guest->os_id != 0) identity_reset(guest); /* else it is the reset with which a machine begins */
+        if (guest->has_started) identity_reset(guest);
+        else guest->has_started = true; /* a machine begins with a reset */
     pthread_mutex_unlock(&reset_lock);
 }
 
@@ -40,24 +41,26 @@ static void *serve_exits(void *of) {
     struct vcpu *vcpu = of;
     struct hvpm_exit exit;
     while (recv(vcpu->fd, &exit, sizeof exit, 0) == sizeof exit) {
-        const hvpm_registers registers = {exit.rcx, exit.rdx, exit.r8};
+        hvpm_guest_cpu cpu = {exit.rax, exit.rbx, exit.rcx,       exit.rdx,          exit.rsi,
+                              exit.rdi, exit.r8,  exit.is_64_bit, exit.is_protected, exit.cpl};
         struct hvpm_entry entry = {0};
         vcpu->code_at = 0;
         reset_first(vcpu->guest);
         switch (exit.kind) {
         case HVPM_CPUID: (void)identity_cpuid(vcpu->guest, exit.number, entry.leaf); break;
         case HVPM_RDMSR: entry.served = identity_rdmsr(vcpu, exit.number, &entry.value); break;
-        case HVPM_WRMSR: entry.served = identity_wrmsr(vcpu, exit.number, exit.rcx); break;
-        case HVPM_HYPERCALL: entry.value = identity_hypercall(vcpu, &registers); break;
+        case HVPM_WRMSR: entry.served = identity_wrmsr(vcpu, exit.number, exit.value); break;
+        case HVPM_HYPERCALL: entry.served = identity_hypercall(vcpu, &cpu); break;
         }
+        entry.rax = cpu.rax, entry.rdx = cpu.rdx;
         entry.code_at = vcpu->code_at;
         if (send(vcpu->fd, &entry, sizeof entry, MSG_NOSIGNAL) != sizeof entry) break;
     }
     return NULL;
 }
 
-static void interrupt(struct vcpu *vcpu, uint8_t vector) {
-    const struct hvpm_interrupt of = {vcpu->pages.of.vp, vector};
+static void interrupt(struct vcpu *vcpu, uint8_t vector, bool has_auto_eoi) {
+    const struct hvpm_interrupt of = {vcpu->pages.of.vp, vector, has_auto_eoi};
     /* QEMU may be gone: then its exits end, too */
     (void)!send(vcpu->guest->control, &of, sizeof of, MSG_NOSIGNAL);
 }
@@ -90,11 +93,18 @@ static _Noreturn void become_qemu(const struct guest *guest, const int ends[], i
     for (unsigned i = 0; i <= guest->vps; i++) dup2(ends[i], FIRST + (int)i);
     dup2(memory, MEMORY), dup2(open("/dev/null", O_RDONLY), 0), dup2(output, 1), dup2(output, 2);
     setenv(HVPM_SOCKETS, sockets, 1);
-    execl(options.qemu, options.qemu, "-accel", "tcg,thread=multi", "-M", "pc,memory-backend=ram", "-object",
-          ram, "-m", "256", "-cpu", "qemu64", "-smp", vps, "-nodefaults", "-display", "none", "-vga", "none",
-          "-serial", "stdio", "-L", options.roms, "-bios", "bios-256k.bin", "-acpitable", acpi, "-kernel",
-          options.kernel, "-initrd", options.initrd, "-append", options.append,
-          options.restart ? NULL : "-no-reboot", NULL);
+    const char *words[40] = {
+        options.qemu, "-accel", "tcg,thread=multi", "-M", "pc,memory-backend=ram", "-object", ram, "-m",
+        "256", "-cpu", "qemu64", "-smp", vps, "-nodefaults", "-display", "none", "-vga", "none", "-serial",
+        "stdio", "-L", options.roms, "-bios", options.bios, "-kernel", options.kernel};
+    size_t count = 0;
+    while (words[count]) count++;
+    if (options.acpi[0]) words[count++] = "-acpitable", words[count++] = acpi;
+    if (options.initrd[0]) words[count++] = "-initrd", words[count++] = options.initrd;
+    if (options.append[0]) words[count++] = "-append", words[count++] = options.append;
+    if (!options.restart) words[count++] = "-no-reboot";
+    allow_signals();
+    execv(options.qemu, (char **)(uintptr_t)words);
     fprintf(stderr, "%s: %s\n", options.qemu, strerror(errno));
     _exit(1);
 }

@@ -56,6 +56,7 @@ static struct bus {
     uint64_t first_event, last_event; /* the machine's count of events at the first heartbeat
                                          and after the last */
     bool was_asked;                   /* to shut down or to restart */
+    bool has_offers, has_unloaded;    /* it got all offers, and let VMBus go after that */
     uint8_t outbox[OUTBOX][256];      /* messages that wait for room: byte 0 is their length */
     unsigned sent, posted;
 } buses[MAX_GUESTS];
@@ -68,7 +69,9 @@ static pthread_mutex_t bus_lock = PTHREAD_MUTEX_INITIALIZER;
 static uint8_t root_pages[3 * PAGE] __attribute__((aligned(4096)));
 static sem_t raised;
 
-static void wake(struct vcpu *vcpu, uint8_t vector) { (void)vcpu, (void)vector, sem_post(&raised); }
+static void wake(struct vcpu *vcpu, uint8_t vector, bool has_auto_eoi) {
+    (void)vcpu, (void)vector, (void)has_auto_eoi, sem_post(&raised);
+}
 static const struct engine root_engine = {NULL, wake, NULL};
 void vmbus_has_room(void) { sem_post(&raised); }
 
@@ -327,6 +330,7 @@ static void serve_message(struct bus *bus, const uint8_t *m, uint32_t len) {
         for (uint32_t channel = 1; channel < CHANNELS; channel++) offer(bus, channel, types[channel]);
         for (uint32_t more = 0; more < options.offers; more++) offer(bus, 0x40 + more, "an unknown class");
         answer(bus, ALLOFFERS, 0, 0, 0, 8);
+        bus->has_offers = true;
         break;
     case GPADL_HEADER:
         add_gpadl(bus, m, len);
@@ -342,7 +346,11 @@ static void serve_message(struct bus *bus, const uint8_t *m, uint32_t len) {
         answer(bus, GPADL_TORNDOWN, second, 0, 0, 12);
         break;
     case CLOSE: c->open = c->agreed = false; break;
-    case UNLOAD: answer(bus, UNLOADED, 0, 0, 0, 8); break;
+    case UNLOAD:
+        answer(bus, UNLOADED, 0, 0, 0, 8);
+        bus->has_unloaded = bus->has_offers;
+        if (options.unload && bus->has_unloaded) guest_ended(bus->guest, NULL);
+        break;
     }
 }
 
@@ -398,12 +406,24 @@ void vmbus_start(void) {
     start_thread(root_thread, NULL);
 }
 
+/* A guest that only looks for devices: it had its offers, and let VMBus go. */
+static bool has_let_go(const struct bus *bus) {
+    note("partition %" PRIu64 ": %u versions accepted, %s, %s", bus->guest->id, bus->contacts,
+         bus->has_offers ? "all offers delivered" : "no offers",
+         bus->has_unloaded ? "unloaded" : "NOT unloaded");
+    return bus->has_unloaded;
+}
+
 bool vmbus_is_done(void) {
     const unsigned lives = options.restart || options.reload ? 2 : 1;
     bool is_done = true;
     pthread_mutex_lock(&bus_lock); /* for good: the root does nothing more */
     for (struct bus *bus = buses; bus < buses + MAX_GUESTS; bus++) {
         if (!bus->guest) continue;
+        if (options.unload) {
+            is_done &= has_let_go(bus);
+            continue;
+        }
         const uint64_t events = bus->last_event - bus->first_event, beats = bus->beats > 0 ? bus->beats : 1;
         note("partition %" PRIu64
              ": version 5.2 in %u of %u lives, %u of %u heartbeats, %.2f events for each, %u stalls",
