@@ -1,5 +1,5 @@
 -- What is known of the tree's rows once the rules of a call are met.
-use Rattle.std.proofs.Common.{◌≡◌, ℕ, Bool, true, Option, Some, None, is_some, refl, sym, ap, subst, ◌∙◌, option_map}
+use Rattle.std.proofs.Common.{◌≡◌, ℕ, Bool, true, Some, None, is_some, sym, ap, subst, ◌∙◌, option_map}
 use Rattle.std.specs.FinMap.{get}
 use Rattle.hv_calls.specs.declared.call.Call.{Call}
 use Rattle.hv_invariants.proofs.Granted as granted
@@ -11,31 +11,20 @@ use Rattle.hv_policy.specs.Needs.{is_among, needs_of, target_of}
 use Rattle.hv_policy.specs.Rules.{IsAllowed, further_asks}
 use Rattle.hv_policy.specs.declared.need.Kin.TheVariants as kin
 use Rattle.hv_tree.specs.Rows.{Row, Rows}
+use Rattle.hv_refine.proofs.Found.{found}
 use Rattle.hv_refine.specs.Served.{IsAdmitted, unmet_further}
 use Rattle.hv_refine.specs.Tie.{Refines, part_row}
 
 module _ (rows : Rows PartitionState) (f : Flat) (flat : Refines rows f) where
   -- the row that the flat state has
   pub tied_row : (id : ℕ) (row : PartRow) → get f.part id ≡ Some row → (r : Row PartitionState) × (get rows id ≡ Some r) × (part_row r ≡ row)
-  tied_row id row h = by (get rows id) refl (sym (flat.rows id).part ∙ h)
-    where
-      by : (r : Option (Row PartitionState)) → get rows id ≡ r → option_map part_row r ≡ Some row → (r : Row PartitionState) × (get rows id ≡ Some r) × (part_row r ≡ row)
-      by None is h = cc
-      by (Some r) is h = (r, is, cc)
+  tied_row id row h = let (r, is, same) = found (λ o. option_map part_row o ≡ Some row) (get rows id) (λ none. cc) (sym (flat.rows id).part ∙ h) in (r, is, cc)
 
   row_of : (id : ℕ) (test : PartRow → Bool) → on_part f id test ≡ true → (r : Row PartitionState) × (get rows id ≡ Some r) × (test (part_row r) ≡ true)
-  row_of id test h = by (get rows id) refl (subst (λ row. test_row test row ≡ true) (flat.rows id).part h)
-    where
-      by : (r : Option (Row PartitionState)) → get rows id ≡ r → test_row test (option_map part_row r) ≡ true → (r : Row PartitionState) × (get rows id ≡ Some r) × (test (part_row r) ≡ true)
-      by None is h = cc
-      by (Some r) is h = (r, is, h)
+  row_of id test h = found (λ o. test_row test (option_map part_row o) ≡ true) (get rows id) (λ none. cc) (subst (λ row. test_row test row ≡ true) (flat.rows id).part h)
 
   there_row : (id : ℕ) → is_some (get f.part id) ≡ true → (r : Row PartitionState) × (get rows id ≡ Some r)
-  there_row id h = by (get rows id) refl (sym (ap is_some (flat.rows id).part) ∙ h)
-    where
-      by : (r : Option (Row PartitionState)) → get rows id ≡ r → is_some (option_map part_row r) ≡ true → (r : Row PartitionState) × (get rows id ≡ Some r)
-      by None is h = cc
-      by (Some r) is h = (r, is)
+  there_row id h = let (r, is, some) = found (λ o. is_some (option_map part_row o) ≡ true) (get rows id) (λ none. cc) (sym (ap is_some (flat.rows id).part) ∙ h) in (r, is)
 
   module _ (caller : ℕ) (call : Call) (allowed : IsAllowed f caller call) where
     -- the caller is there, and Active

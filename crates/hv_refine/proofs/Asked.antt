@@ -1,5 +1,5 @@
 -- What follows from what P1 to P10 found, and from the rules that hold.
-use Rattle.std.proofs.Common.{◌≡◌, ℕ, Bool, true, false, [], ◌∷◌, ◌++◌, Some, None, refl, sym, ◌∙◌}
+use Rattle.std.proofs.Common.{◌≡◌, ℕ, Bool, true, [], ◌∷◌, ◌++◌, Some, None, sym, ◌∙◌, arith}
 use Rattle.std.specs.FinMap.{contains_key}
 use Rattle.hv_calls.specs.declared.call.Call.{Call}
 use Rattle.hv_partition.specs.Partition.{PartitionState, available as may_use, in_use as uses}
@@ -17,7 +17,7 @@ use Rattle.hv_tree.specs.Rows.{Rows}
 use Rattle.hv_refine.proofs.Counted.{available_counted, use_counted}
 use Rattle.hv_refine.proofs.Found.{content_row}
 use Rattle.hv_refine.specs.Asked.{AreFound, IsGranted}
-use Rattle.hv_refine.specs.Done.{tree_asks, unmet_in_tree}
+use Rattle.hv_refine.specs.Done.{unmet_in_tree}
 use Rattle.hv_refine.specs.Served.{TreeInvariant, unmet_further}
 use Rattle.hv_refine.specs.Tie.{Refines}
 
@@ -34,17 +34,9 @@ module _ (tree : Rows PartitionState) (f : Flat) (flat : Refines tree f) (by : �
       let (r, is, same) = content_row tree (target_of call by) target (sym found.named) in
       (λ i. uses (found.counted i) (sym same i)) ∙ sym (use_counted tree f flat (target_of call by) r is)
 
--- where P1 to P10 hold, a call's own rules decide
-past_target : (f : Flat) (by : Caller) (call : Call) → first_unmet (caller_asks f by) ≡ None → first_unmet (target_asks f by.part call) ≡ None → first_unmet (tree_asks f by call) ≡
-    unmet_further f by.part call
-past_target f by call caller target = first_of_back (caller_asks f by) (target_asks f by.part call ++ further_asks f by.part call) caller
-    ∙ first_of_back (target_asks f by.part call) (further_asks f by.part call) target
-
--- and where they hold too the call may be done
+-- where P1 to P10 and a call's own rules hold, the call may be done
 active_of : (p1 p2 p3 : Bool) → first_unmet ((CallerExists, p1) ∷ (CallerActive, p2) ∷ (CallerVpExists, p3) ∷ []) ≡ None → p2 ≡ true
-active_of true true p3 met = refl
-active_of true false p3 met = cc
-active_of false p2 p3 met = cc
+active_of p1 p2 p3 met = grind arith
 
 pub granted : (tree : Rows PartitionState) (by : Caller) (call : Call) (t : TreeInvariant tree) → first_unmet (caller_asks t.flat by) ≡ None → first_unmet (target_asks t.flat by.part call) ≡ None →
     unmet_further t.flat by.part call ≡ None → IsGranted tree by.part call
@@ -69,6 +61,9 @@ module _ (f : Flat) (by : Caller) (call : Call) where
       first_of_back (caller_asks f by) (target_asks f by.part call ++ further_asks f by.part call) caller
       ∙ first_of_front (target_asks f by.part call) (further_asks f by.part call) rule h
 
+  -- where P1 to P10 hold, the call's own rules decide
   pub unmet_past : first_unmet (caller_asks f by) ≡ None → first_unmet (target_asks f by.part call) ≡ None → unmet_in_tree f by call ≡ unmet_further f by.part call
   unfolding unmet_in_tree
-  unmet_past caller target = past_target f by call caller target
+  unmet_past caller target =
+      first_of_back (caller_asks f by) (target_asks f by.part call ++ further_asks f by.part call) caller
+      ∙ first_of_back (target_asks f by.part call) (further_asks f by.part call) target

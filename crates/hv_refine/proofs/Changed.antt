@@ -1,7 +1,8 @@
 -- Rows and flat states that are tied, once one partition changed.
 use Rattle.std.proofs.Common.{◌≡◌, ℕ, ◌==◌, Bool, true, false, cond, Option, Some, None, refl, sym, ap, subst, ◌∙◌, eqb-true, option_map}
-use Rattle.std.specs.FinMap.{get}
+use Rattle.std.specs.FinMap.{get, insert}
 use Rattle.std.specs.FinSet as set
+use Rattle.hv_defs.proofs.Maps.{get_at-insert}
 use Rattle.hv_partition.specs.Partition.{PartitionState}
 use Rattle.hv_policy.proofs.Rows.{get-with_row}
 use Rattle.hv_policy.specs.Effect.{with_row}
@@ -33,6 +34,15 @@ pub holds_alike : (pooled : Bool) (page : ℕ) (r s : Row PartitionState) → r.
 holds_alike true page r s loose pool = ap (λ ps. set.contains ps page) pool
 holds_alike false page r s loose pool = ap (λ ps. set.contains ps page) loose
 
+-- one partition has another row, and what shows it shows all others as before
+pub one_row_tied : (rows : Rows PartitionState) (id : ℕ) (r : Row PartitionState) (g : Flat) → PartitionRelation g id (Some r) → ((q : ℕ) → q == id ≡ false → PartitionRelation g q (get rows q)) →
+    Refines (insert rows id r) g
+one_row_tied rows id r g own others = record { rows = λ q. subst (PartitionRelation g q) (sym (get_at-insert rows id r q)) (by q (q == id) refl) }
+  where
+    by : (q : ℕ) (b : Bool) → q == id ≡ b → PartitionRelation g q (cond b (Some r) (get rows q))
+    by q true is = subst (λ q. PartitionRelation g q (Some r)) (sym (eqb-true q id is)) own
+    by q false is = others q is
+
 module _ (rows : Rows PartitionState) (f : Flat) (flat : Refines rows f) where
   -- a partition whose life state, mask or CPU properties changed: `h` does to it what `g` does to its row
   module _ (target : ℕ) (h : PartitionState → PartitionState) (g : PartRow → PartRow) (alike : (r : Row PartitionState) → part_row (r.0, h r.1) ≡ g (part_row r))
@@ -48,14 +58,8 @@ module _ (rows : Rows PartitionState) (f : Flat) (flat : Refines rows f) where
     changed_shows id = subst (PartitionRelation changed id) (sym (get-change rows target h id)) (by (id == target) refl)
       where
         one : (r : Option (Row PartitionState)) → get rows target ≡ r → id == target ≡ true → PartitionRelation f id r → PartitionRelation changed id (option_map (λ r. (r.0, h r.1)) r)
-        one None is at old = record {
-          part = changed_part id true at ∙ ap (option_map g) ((flat.rows target).part ∙ ap (option_map part_row) is);
-          page = old.page;
-          vp = old.vp;
-          port = old.port;
-          conn = old.conn;
-          mail = old.mail;
-        }
+        one None is at old = same_shows f changed id None (changed_part id true at ∙ ap (option_map g) ((flat.rows target).part ∙ ap (option_map part_row) is) ∙ sym old.part)
+            (λ _. refl) (λ _. refl) (λ _. refl) (λ _. refl) (λ _ _. refl) old
         one (Some r) is at old = record {
           part = changed_part id true at ∙ ap (option_map g) ((flat.rows target).part ∙ ap (option_map part_row) is) ∙ ap Some (sym (alike r));
           page = λ page pooled. old.page page pooled ∙ holds_alike pooled page r (r.0, h r.1) (sym (loose r.1)) (sym (pool r.1));

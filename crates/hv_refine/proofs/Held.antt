@@ -1,5 +1,5 @@
 -- Who holds a page.
-use Rattle.std.proofs.Common.{◌≡◌, ℕ, ◌==◌, Bool, true, false, ◌&&◌, not, Option, Some, None, refl, sym, ap, ◌∙◌, eqb-true, eq-eqb}
+use Rattle.std.proofs.Common.{◌≡◌, ℕ, Bool, true, false, ◌&&◌, Option, Some, None, refl, sym, ap, ◌∙◌, arith}
 use Rattle.std.specs.FinMap.{get}
 use Rattle.hv_partition.specs.Partition.{PartitionState}
 use Rattle.hv_policy.specs.Flat.{Flat, PageRow}
@@ -8,24 +8,13 @@ use Rattle.hv_refine.specs.Tie.{Refines, is_held, holds}
 
 -- a page's row tells who holds it
 pub held_by_owner : (page : PageRow) → is_held page.owner page.pooled (Some page) ≡ true
-held_by_owner page = by page.pooled refl
-  where
-    by : (b : Bool) → page.pooled ≡ b → is_held page.owner b (Some page) ≡ true
-    by true is = rw (eq-eqb page.owner page.owner refl, is) refl
-    by false is = rw (eq-eqb page.owner page.owner refl, is) refl
+held_by_owner page = grind arith
 
 pub two_tests : (a b : Bool) → (a && b) ≡ true → (a ≡ true) × (b ≡ true)
-two_tests true true h = (refl, refl)
-two_tests true false h = cc
-two_tests false b h = cc
-
-not_true : (b : Bool) → not b ≡ true → b ≡ false
-not_true true h = cc
-not_true false h = refl
+two_tests a b h = grind arith
 
 pub held_alone : (page : PageRow) (id : ℕ) (kind : Bool) → is_held id kind (Some page) ≡ true → (id ≡ page.owner) × (kind ≡ page.pooled)
-held_alone page id true h = let both = two_tests (page.owner == id) page.pooled h in (sym (eqb-true page.owner id both.0), sym both.1)
-held_alone page id false h = let both = two_tests (page.owner == id) (not page.pooled) h in (sym (eqb-true page.owner id both.0), sym (not_true page.pooled both.1))
+held_alone page id kind h = grind arith
 
 -- the rows of two partitions that are held apart in the flat state share no page
 module _ (rows : Rows PartitionState) (f : Flat) (flat : Refines rows f) where

@@ -1,5 +1,5 @@
 -- Rows and flat states stay tied through what events make of a processor's messages, flags and registers.
-use Rattle.std.proofs.Common.{◌≡◌, ℕ, zero, suc, ◌==◌, Bool, true, false, cond, not, ◌&&◌, nat_lt, length, [], ◌∷◌, ◌++◌, Option, Some, None, find, refl, sym, ap, subst, ◌∙◌, eq-eqb, filter}
+use Rattle.std.proofs.Common.{◌≡◌, ℕ, zero, suc, ◌==◌, Bool, true, false, cond, not, ◌&&◌, nat_lt, length, [], ◌∷◌, ◌++◌, Option, Some, None, find, refl, sym, ap, subst, ◌∙◌, arith, eq-eqb, filter}
 use Rattle.std.proofs.Common.{option_map}
 use Rattle.std.specs.FinMap.{get}
 use Rattle.std.specs.FinSet as set
@@ -66,8 +66,7 @@ module _ (rows : Rows PartitionState) (f : Flat) (flat : Refines rows f) (id ind
         (λ other apart. next_apart other place apart f.mail)
       where
         by : (o : Option VpState) → sint_mail sint (option_map (shown sint) o) ≡ with_next (sint_mail sint o)
-        by None = refl
-        by (Some v) = here_at v.mail sint (with_next (at v.mail sint))
+        by o = grind (arith, here_at)
 
     -- the row of a message that waits here
     abbrev waits : Message → MailRow

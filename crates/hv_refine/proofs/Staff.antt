@@ -1,5 +1,5 @@
 -- Rows and flat states that are tied, once one processor came, went or changed.
-use Rattle.std.proofs.Common.{◌≡◌, ℕ, ◌==◌, ◌&&◌, Bool, true, false, cond, List, Option, Some, None, inl, inr, refl, sym, ap, subst, ◌∙◌, eqb-true, eq-eqb, option_map, nat_cmp}
+use Rattle.std.proofs.Common.{◌≡◌, ℕ, ◌==◌, ◌&&◌, Bool, true, false, cond, List, Option, Some, None, inl, inr, refl, sym, ap, ◌∙◌, arith, eqb-true, option_map, nat_cmp}
 use Rattle.std.proofs.lemmas.Bool.{cases_Bool, and_parts}
 use Rattle.std.specs.Cmp.{unsigned_tied}
 use Rattle.std.specs.FinMap.{FinMap, get, get-empty, insert}
@@ -23,31 +23,21 @@ use Rattle.hv_refine.specs.Tie.{Refines, here, mail_there, rows_of, sint_mail, v
 use Rattle.hv_refine.specs.Vp.{state_changed, with_state_of}
 
 both_or_none : (a b c : Bool) → a && b ≡ false → a && (b && c) ≡ false
-both_or_none true true c h = cc
-both_or_none true false c h = refl
-both_or_none false b c h = refl
+both_or_none a b c h = grind arith
 
-never : (a b : Bool) → a && (b && false) ≡ false
-never true true = refl
-never true false = refl
-never false b = refl
+and_false : (a b : Bool) → b ≡ false → a && b ≡ false
+and_false a b h = grind arith
 
 -- the processor with this index, where the partition of a row has it
 abbrev pub vp_in : ℕ → Option (Row PartitionState) → Option VpState
 vp_in index None = None
 vp_in index (Some r) = get r.1.vps.vps index
 
--- it is found where the partition and then the processor are
-pub vp_found : (rows : Rows PartitionState) (id index : ℕ) (r : Row PartitionState) (v : VpState) → get rows id ≡ Some r → get r.1.vps.vps index ≡ Some v → vp_in index (get rows id) ≡ Some v
-vp_found rows id index r v there is = ap (vp_in index) there ∙ is
-
 row_in : (index : ℕ) (r : Option (Row PartitionState)) → vp_row index r ≡ option_map vp_row_of (vp_in index r)
-row_in index None = refl
-row_in index (Some r) = refl
+row_in index r = grind arith
 
 mail_in : (index sint : ℕ) (r : Option (Row PartitionState)) → mail_there index sint r ≡ sint_mail sint (vp_in index r)
-mail_in index sint None = refl
-mail_in index sint (Some r) = refl
+mail_in index sint r = grind arith
 
 -- at a processor that was just made no message stands
 pub new_mail : (index sint : ℕ) → sint_mail sint (Some (new_vp index)) ≡ no_mail
@@ -56,14 +46,7 @@ new_mail index sint = ap mail_or_none (get-empty nat_cmp sint)
 -- the processors once the state of one of them is changed
 pub get-state_changed : (vps : FinMap nat_cmp VpState) (index : ℕ) (g : VpState → VpState) (n : ℕ) → get (state_changed vps index g (get vps index)) n ≡ cond (n == index)
     (option_map g (get vps index)) (get vps n)
-get-state_changed vps index g n = by (get vps index) refl
-  where
-    by : (o : Option VpState) → get vps index ≡ o → get (state_changed vps index g o) n ≡ cond (n == index) (option_map g o) (get vps n)
-    by None is = elim (cases_Bool (n == index)) [
-      | inl s ↦ rw s (ap (get vps) (eqb-true n index s) ∙ is)
-      | inr s ↦ rw s refl
-    ]
-    by (Some vp) is = get_at-insert vps index (g vp) n
+get-state_changed vps index g n = grind (arith, get_at-insert vps index)
 
 module _ (rows : Rows PartitionState) (f : Flat) (flat : Refines rows f) (id index : ℕ) where
   -- what the flat state has of a processor
@@ -84,30 +67,20 @@ module _ (rows : Rows PartitionState) (f : Flat) (flat : Refines rows f) (id ind
         → Refines (insert rows id (r.0, record r.1 { vps = v })) (record f { vp = m; mail = mail })
     staff_tied to v m mail states key mine others = vps_tied rows f flat id r there v m
         (λ q n. key (q, n) ∙ ap (λ b. cond b (option_map vp_row_of to) (get f.vp (q, n))) (tied_pairs q n id index ∙ ap (λ b. (q == id) && b) (unsigned_tied n index)) ∙ row q n (q == id) refl)
-        mail (λ n sint. messages n sint (n == index) refl) (λ q n sint apart. others (here q n sint) (ap (λ b. b && (n == index)) apart))
+        mail messages (λ q n sint apart. others (here q n sint) (ap (λ b. b && (n == index)) apart))
       where
-        one : (b : Bool) (o : Option VpState) → cond b (option_map vp_row_of to) (option_map vp_row_of o) ≡ option_map vp_row_of (cond b to o)
-        one true o = refl
-        one false o = refl
-
         was : (q n : ℕ) → q == id ≡ true → get f.vp (q, n) ≡ option_map vp_row_of (get r.1.vps.vps n)
         was q n is = (flat.rows q).vp n ∙ ap (vp_row n) (ap (get rows) (eqb-true q id is) ∙ there)
 
         row : (q n : ℕ) (b : Bool) → q == id ≡ b → cond (b && (n == index)) (option_map vp_row_of to) (get f.vp (q, n)) ≡ cond b (option_map vp_row_of (get v.vps n)) (get f.vp (q, n))
-        row q n true is = ap (cond (n == index) (option_map vp_row_of to)) (was q n is) ∙ one (n == index) (get r.1.vps.vps n) ∙ sym (ap (option_map vp_row_of) (states n))
-        row q n false is = refl
+        row q n b is = grind (arith, was q n, states n)
 
-        state : (n : ℕ) (b : Bool) → n == index ≡ b → get v.vps n ≡ cond b to (get r.1.vps.vps n)
-        state n b is = states n ∙ ap (λ t. cond t to (get r.1.vps.vps n)) is
-
-        messages : (n sint : ℕ) (b : Bool) → n == index ≡ b → mail_at (here id n sint) mail ≡ rows_of (here id n sint) (sint_mail sint (get v.vps n))
-        messages n sint true is =
-            subst (λ k. mail_at (here id k sint) mail ≡ rows_of (here id k sint) (sint_mail sint to)) (sym (eqb-true n index is)) (mine sint)
-            ∙ ap (λ o. rows_of (here id n sint) (sint_mail sint o)) (sym (state n true is))
-        messages n sint false is =
-            others (here id n sint) (ap (λ b. (id == id) && b) is ∙ ap (λ b. b && false) (eq-eqb id id refl))
-            ∙ (flat.rows id).mail n sint ∙ ap (λ r. rows_of (here id n sint) (mail_there n sint r)) there
-            ∙ ap (λ o. rows_of (here id n sint) (sint_mail sint o)) (sym (state n false is))
+        messages : (n sint : ℕ) → mail_at (here id n sint) mail ≡ rows_of (here id n sint) (sint_mail sint (get v.vps n))
+        messages n sint = elim (cases_Bool (n == index)) [
+          | inl s ↦ rw (states n, s, eqb-true n index s) (mine sint)
+          | inr s ↦ rw (states n, s)
+              (others (here id n sint) (and_false _ _ s) ∙ (flat.rows id).mail n sint ∙ ap (λ r. rows_of (here id n sint) (mail_there n sint r)) there)
+        ]
 
   module _ (g : VpState → VpState) (h : VpRow → VpRow) (alike : (v : VpState) → vp_in index (get rows id) ≡ Some v → h (vp_row_of v) ≡ vp_row_of (g v)) (mail : List MailRow) where
     abbrev after : Flat
@@ -120,16 +93,14 @@ module _ (rows : Rows PartitionState) (f : Flat) (flat : Refines rows f) (id ind
     vp_tied mine others = by (get rows id) refl
       where
         rowed : (o : Option VpState) → vp_in index (get rows id) ≡ o → option_map h (option_map vp_row_of o) ≡ option_map vp_row_of (option_map g o)
-        rowed None is = refl
-        rowed (Some v) is = ap Some (alike v is)
+        rowed o is = grind (arith, alike)
 
         kept : (q n sint : ℕ) → vp_in index (get rows id) ≡ None → (b : Bool) → is_vp id index (here q n sint) ≡ b → mail_at (here q n sint) mail ≡ mail_at (here q n sint) f.mail
         kept q n sint none true is =
             let both = and_parts (q == id) (n == index) is in
             let same : mail_at (here id index sint) mail ≡ mail_at (here id index sint) f.mail = mine sint ∙ ap (λ o. rows_of (here id index sint) (sint_mail sint (option_map g o))) none ∙ sym
             (rows_there sint ∙ ap (λ o. rows_of (here id index sint) (sint_mail sint o)) none) in
-            subst (λ p. mail_at (here p n sint) mail ≡ mail_at (here p n sint) f.mail) (sym (eqb-true q id both.0))
-            (subst (λ k. mail_at (here id k sint) mail ≡ mail_at (here id k sint) f.mail) (sym (eqb-true n index both.1)) same)
+            rw (eqb-true q id both.0, eqb-true n index both.1) same
         kept q n sint none false is = others (here q n sint) is
 
         by : (r : Option (Row PartitionState)) → get rows id ≡ r → Refines (changed_at rows id (with_state_of index g) r) after
@@ -154,20 +125,15 @@ module _ (rows : Rows PartitionState) (f : Flat) (flat : Refines rows f) (id ind
         → mail_at (here id index sint) mail ≡ rows_of (here id index sint) (sint_mail sint (option_map g (vp_in index (get rows id))))
         → ((place : Place) → is_place (here id index sint) place ≡ false → mail_at place mail ≡ mail_at place f.mail)
         → Refines (change rows id (with_state_of index g)) after
-    sint_tied sint same mine others = vp_tied (λ n. by n (n == sint) refl) (λ place apart. others place (farther place apart))
+    sint_tied sint same mine others = vp_tied
+        (λ n. elim (cases_Bool (n == sint)) [
+          | inl s ↦ rw (eqb-true n sint s) mine
+          | inr s ↦ others (here id index n) (and_false _ _ (and_false _ _ s)) ∙ rows_there n ∙ ap (rows_of (here id index n)) (state n s (vp_in index (get rows id)))
+        ])
+        (λ place apart. others place (both_or_none (place.part == id) (place.vp == index) (place.sint == sint) apart))
       where
-        farther : (place : Place) → is_vp id index place ≡ false → is_place (here id index sint) place ≡ false
-        farther place apart = both_or_none (place.part == id) (place.vp == index) (place.sint == sint) apart
-
         state : (n : ℕ) → n == sint ≡ false → (o : Option VpState) → sint_mail n o ≡ sint_mail n (option_map g o)
-        state n is None = refl
-        state n is (Some v) = sym (same v n is)
-
-        by : (n : ℕ) (b : Bool) → n == sint ≡ b → mail_at (here id index n) mail ≡ rows_of (here id index n) (sint_mail n (option_map g (vp_in index (get rows id))))
-        by n true is = subst (λ k. mail_at (here id index k) mail ≡ rows_of (here id index k) (sint_mail k (option_map g (vp_in index (get rows id))))) (sym (eqb-true n sint is)) mine
-        by n false is =
-            others (here id index n) (ap (λ b. (id == id) && ((index == index) && b)) is ∙ never (id == id) (index == index))
-            ∙ rows_there n ∙ ap (rows_of (here id index n)) (state n is (vp_in index (get rows id)))
+        state n is o = grind (arith, same)
 
   -- a processor that changed, but for its mail
   pub quiet_tied : (g : VpState → VpState) (h : VpRow → VpRow) → ((v : VpState) → h (vp_row_of v) ≡ vp_row_of (g v)) → ((v : VpState) → (g v).mail ≡ v.mail) → Refines
@@ -175,5 +141,4 @@ module _ (rows : Rows PartitionState) (f : Flat) (flat : Refines rows f) (id ind
   quiet_tied g h alike same = vp_tied g h (λ v _. alike v) f.mail (λ sint. rows_there sint ∙ ap (rows_of (here id index sint)) (by sint (vp_in index (get rows id)))) (λ _ _. refl)
     where
       by : (sint : ℕ) (o : Option VpState) → sint_mail sint o ≡ sint_mail sint (option_map g o)
-      by sint None = refl
-      by sint (Some v) = ap (λ m. at m sint) (sym (same v))
+      by sint o = grind (arith, same)

@@ -1,5 +1,5 @@
 -- What the laws of the flat state tell of the tree's rows.
-use Rattle.std.proofs.Common.{◌≡◌, ℕ, ◌<◌, ◌≤◌, ◌==◌, Bool, true, false, ◌&&◌, ◌||◌, not, List, [], ◌∷◌, length, Option, Some, None, is_some, inl, inr, refl, sym, ap, ◌∙◌, arith, ltb-true, le-ltb}
+use Rattle.std.proofs.Common.{◌≡◌, ℕ, ◌<◌, ◌≤◌, ◌==◌, Bool, true, false, ◌&&◌, not, List, length, Option, Some, is_some, inl, inr, sym, ap, subst, ◌∙◌, arith, ltb-true, le-ltb}
 use Rattle.std.proofs.Common.{count_by, option_map, nat_cmp}
 use Rattle.std.proofs.lemmas.Bool.{cases_lt}
 use Rattle.std.proofs.lemmas.List.{length-map}
@@ -9,7 +9,7 @@ use Rattle.std.specs.Cmp.{nat_cmp_total, unsigned_tied}
 use Rattle.std.specs.FinMap as map
 use Rattle.std.specs.FinMap.{get, entries, entries_sorted, contains_key-keys, nat_cmp-IsAntisymmetric}
 use Rattle.std.specs.FinSet as set
-use Rattle.std.specs.List.{AllByRecursion, IsDistinct, list_any}
+use Rattle.std.specs.List.{IsDistinct, list_any}
 use Rattle.std.specs.Map.{keys_of}
 use Rattle.std.specs.Ordering.{eq_by_cmp}
 use Rattle.hv_defs.proofs.Counts.{passes, count_by-set, distinct_keys}
@@ -30,40 +30,23 @@ pub record UsesNothing (rows : Rows PartitionState) (id : ℕ) (p : PartitionSta
   pub ports : p.ports.rows ≡ map.empty
   pub conns : p.conns.rows ≡ map.empty
 
-any_alike : {X : Type 0} (f g : X → Bool) → ((x : X) → f x ≡ g x) → (xs : List X) → list_any f xs ≡ list_any g xs
-any_alike f g h [] = refl
-any_alike f g h (x ∷ xs) = ap (λ b. b || list_any f xs) (h x) ∙ ap (λ b. g x || b) (any_alike f g h xs)
-
-apart_alike : {X : Type 0} (f g : X → Bool) → ((x : X) → f x ≡ g x) → (xs : List X) → AllByRecursion (λ x. f x ≡ false) xs → AllByRecursion (λ x. g x ≡ false) xs
-apart_alike f g same [] a = tt
-apart_alike f g same (x ∷ xs) a = (sym (same x) ∙ a.0, apart_alike f g same xs a.1)
-
-distinct_alike : {X : Type 0} (f g : X → X → Bool) → ((x y : X) → f x y ≡ g x y) → (xs : List X) → IsDistinct f xs → IsDistinct g xs
-unfolding IsDistinct
-distinct_alike f g same [] d = tt
-distinct_alike f g same (x ∷ xs) d = (apart_alike (f x) (g x) (same x) xs d.0, distinct_alike f g same xs d.1)
-
 -- there are no more pages than boot gave
 all_pages : (pages : ℕ) (f : Flat) → StateInvariant pages f → length (entries f.page) ≤ pages
 all_pages pages f l =
     let ks : List ℕ = keys_of (entries f.page) in
-    let apart = distinct_alike (eq_by_cmp nat_cmp) (λ x y. x == y) unsigned_tied ks (distinct_keys nat_cmp (entries f.page) (entries_sorted f.page)) in
+    let equal : eq_by_cmp nat_cmp ≡ (λ x y. x == y) = (λ i x y. unsigned_tied x y i) in
+    let apart = subst (λ eq. IsDistinct eq ks) equal (distinct_keys nat_cmp (entries f.page) (entries_sorted f.page)) in
     let below : (q : ℕ) → list_any (λ y. q == y) ks ≡ true → q < pages =
-    (λ q h. ltb-true q pages (sym (l.paged q) ∙ contains_key-keys f.page q ∙ any_alike (eq_by_cmp nat_cmp q) (λ y. q == y) (unsigned_tied q) ks ∙ h)) in
+    (λ q h. ltb-true q pages (sym (l.paged q) ∙ contains_key-keys f.page q ∙ ap (λ eq. list_any (eq q) ks) equal ∙ h)) in
     let few = length-le_from_distinct_below ks pages apart below in
     let same = length-map (entries f.page) (λ e. e.0) in
     omega arith
 
 loose_test : (id q : ℕ) (page : Option PageRow) → passes (λ e. e.1.owner == id && not e.1.pooled) q page ≡ is_held id false page
-loose_test id q None = refl
-loose_test id q (Some page) = refl
+loose_test id q page = grind arith
 
 unheld : (id : ℕ) (kind : Bool) (page : Option PageRow) → is_some page ≡ false → is_held id kind page ≡ false
-unheld id kind None h = refl
-unheld id kind (Some page) h = cc
-
-true≢false : true ≡ false → ⊥
-true≢false e = cc
+unheld id kind page h = grind arith
 
 module _ (rows : Rows PartitionState) (f : Flat) (flat : Refines rows f) (pages : ℕ) (l : StateInvariant pages f) where
   row_at : (id : ℕ) (r : Row PartitionState) → get rows id ≡ Some r → get f.part id ≡ Some (part_row r)
@@ -81,47 +64,37 @@ module _ (rows : Rows PartitionState) (f : Flat) (flat : Refines rows f) (pages 
   pub page_below : (id page : ℕ) (kind : Bool) → holds kind page (get rows id) ≡ true → page < pages
   page_below id page kind held = elim (cases_lt page pages) [
     | inl lt ↦ lt
-    | inr le ↦ absurd (true≢false (sym held ∙ beyond id page kind le))
+    | inr le ↦ (let none = sym held ∙ beyond id page kind le in cc)
   ]
 
   module _ (id : ℕ) (r : Row PartitionState) (is : get rows id ≡ Some r) where
     -- a partition uses no more than its pool has
     pub uses_within : uses (length (children rows id)) r.1 ≤ set.len r.1.pooled.pages
-    uses_within =
-        let used = use_counted rows f flat id r is in
-        let pool = pool_counted rows f flat id r is in
-        let within = l.within id in
-        omega arith
+    uses_within = omega (arith, use_counted rows f flat id r is, pool_counted rows f flat id r is, l.within id)
 
     -- one that isn't Active uses nothing of its pool
     pub quiet : is_active r.1.life ≡ false → UsesNothing rows id r.1
-    quiet still = by (l.idle id (ap (test_row (λ row. is_active row.life)) (row_at id r is) ∙ still))
-      where
-        by : in_use f id ≡ 0 → UsesNothing rows id r.1
-        by none =
-            let kids = children_counted rows f flat id in
-            let staff = vps_counted rows f flat id r is in
-            let ports = ports_counted rows f flat id r is in
-            let conns = conns_counted rows f flat id r is in
-            record {
-              childless = omega arith;
-              vps = map.empty_of_len r.1.vps.vps (omega arith);
-              ports = map.empty_of_len r.1.ports.rows (omega arith);
-              conns = map.empty_of_len r.1.conns.rows (omega arith);
-            }
+    quiet still =
+        let none : in_use f id ≡ 0 = l.idle id (ap (test_row (λ row. is_active row.life)) (row_at id r is) ∙ still) in
+        let kids = children_counted rows f flat id in
+        let staff = vps_counted rows f flat id r is in
+        let ports = ports_counted rows f flat id r is in
+        let conns = conns_counted rows f flat id r is in
+        record {
+          childless = omega arith;
+          vps = map.empty_of_len r.1.vps.vps (omega arith);
+          ports = map.empty_of_len r.1.ports.rows (omega arith);
+          conns = map.empty_of_len r.1.conns.rows (omega arith);
+        }
+
+    few : (test : ℕ × PageRow → Bool) → count_by test (entries f.page) ≤ pages
+    few test = omega (arith, count_by-le-length test (entries f.page), all_pages pages f l)
 
     pub few_pooled : set.len r.1.pooled.pages ≤ pages
-    few_pooled =
-        let counted = pool_counted rows f flat id r is in
-        let few = count_by-le-length (λ e. e.1.owner == id && e.1.pooled) (entries f.page) in
-        let all = all_pages pages f l in
-        omega arith
+    few_pooled = subst (λ n. n ≤ pages) (pool_counted rows f flat id r is) (few (λ e. e.1.owner == id && e.1.pooled))
 
     pub few_loose : set.len r.1.loose.pages ≤ pages
     few_loose =
-        let counted : count_by (λ e. e.1.owner == id && not e.1.pooled) (entries f.page) ≡ set.len r.1.loose.pages =
-        count_by-set nat_cmp nat_cmp_total nat_cmp-IsAntisymmetric f.page (λ e. e.1.owner == id && not e.1.pooled) r.1.loose.pages
+        let counted = count_by-set nat_cmp nat_cmp_total nat_cmp-IsAntisymmetric f.page (λ e. e.1.owner == id && not e.1.pooled) r.1.loose.pages
         (λ q. loose_test id q (get f.page q) ∙ (flat.rows id).page q false ∙ ap (holds false q) is) in
-        let few = count_by-le-length (λ e. e.1.owner == id && not e.1.pooled) (entries f.page) in
-        let all = all_pages pages f l in
-        omega arith
+        subst (λ n. n ≤ pages) counted (few (λ e. e.1.owner == id && not e.1.pooled))

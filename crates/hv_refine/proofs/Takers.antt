@@ -1,6 +1,7 @@
 -- The processor that takes what comes to a port: the flat state's choice is that among the processors of the tree's row.
-use Rattle.std.proofs.Common.{◌≡◌, ℕ, Bool, true, false, cond, List, [], ◌∷◌, Option, Some, None, find, length, refl, sym, ap, ◌∙◌, arith, option_map, nat_cmp}
-use Rattle.std.specs.FinMap.{empty, entries, get, get-empty, len-empty, len-entries}
+use Rattle.std.proofs.Common.{◌≡◌, ℕ, Bool, false, cond, List, [], ◌∷◌, Option, Some, None, find, length, refl, sym, ap, ◌∙◌, arith, option_map, nat_cmp}
+use Rattle.std.proofs.lemmas.Option.{cond_some}
+use Rattle.std.specs.FinMap.{FinMap, empty, entries, get, get-empty, len-empty, len-entries}
 use Rattle.std.specs.Option.{option_map_or}
 use Rattle.hv_defs.proofs.Maps.{found_row}
 use Rattle.hv_defs.specs.declared.aim.Aim.{Aim}
@@ -9,6 +10,7 @@ use Rattle.hv_partition.specs.Partition.{PartitionState}
 use Rattle.hv_policy.proofs.Pairs.{first_there}
 use Rattle.hv_policy.specs.Aim.{lowest_vp, on_vp, select_vp}
 use Rattle.hv_policy.specs.Flat.{Flat, VpRow}
+use Rattle.hv_refine.proofs.Found.{found}
 use Rattle.hv_refine.proofs.Staff.{vp_in, vp_there}
 use Rattle.hv_refine.specs.Tie.{Refines, vp_row_of}
 use Rattle.hv_tree.specs.Rows.{Row, Rows}
@@ -38,26 +40,23 @@ module _ (rows : Rows PartitionState) (f : Flat) (flat : Refines rows f) (id : �
   one_there index = ap (λ o. option_map_or test o false) (vp_there rows f flat id index) ∙ by (vp_in index (get rows id))
     where
       by : (o : Option VpState) → option_map_or test (option_map vp_row_of o) false ≡ option_map_or (λ v. test (vp_row_of v)) o false
-      by None = refl
-      by (Some v) = refl
+      by o = grind arith
+
+  -- the first entry that passes is a row of its map
+  first_row : (vps : FinMap nat_cmp VpState) (vp : ℕ) (o : Option (ℕ × VpState)) → find (λ e. test (vp_row_of e.1)) (entries vps) ≡ o → option_map (λ e. e.0) o ≡ Some vp →
+      (v : VpState) × (get vps vp ≡ Some v)
+  first_row vps vp None at is = cc
+  first_row vps vp (Some e) at is = let same : e.0 ≡ vp = cc in (e.1, ap (get vps) (sym same) ∙ (found_row (λ e. test (vp_row_of e.1)) vps e at).0)
 
   -- a processor that takes what comes is there
   pub taker_there : (aim : Aim) (vp : ℕ) → select_vp test f id aim ≡ Some vp → (v : VpState) × (vp_in vp (get rows id) ≡ Some v)
-  taker_there (One index) vp is = by (vp_in index (get rows id)) refl (ap (λ b. cond b (Some index) None) (sym (one_there index)) ∙ is)
-    where
-      by : (o : Option VpState) → vp_in index (get rows id) ≡ o → cond (option_map_or (λ v. test (vp_row_of v)) o false) (Some index) None ≡ Some vp → (v : VpState) × (vp_in vp (get rows id) ≡ Some v)
-      by None at is = cc
-      by (Some v) at is = passed (test (vp_row_of v)) is
-        where
-          passed : (b : Bool) → cond b (Some index) None ≡ Some vp → (v : VpState) × (vp_in vp (get rows id) ≡ Some v)
-          passed true is = (let same : index ≡ vp = cc in (v, ap (λ n. vp_in n (get rows id)) (sym same) ∙ at))
-          passed false is = cc
+  taker_there (One index) vp is =
+      let (v, at, passed) = found (λ o. cond (option_map_or (λ v. test (vp_row_of v)) o false) (Some index) None ≡ Some vp) (vp_in index (get rows id)) (λ none. cc)
+      (ap (λ b. cond b (Some index) None) (sym (one_there index)) ∙ is) in
+      let same : index ≡ vp = (cond_some (test (vp_row_of v)) index vp passed).1 in
+      (v, ap (λ n. vp_in n (get rows id)) (sym same) ∙ at)
   taker_there Any vp is = by (get rows id) refl
     where
       by : (o : Option (Row PartitionState)) → get rows id ≡ o → (v : VpState) × (vp_in vp o ≡ Some v)
       by None at = let none = lowest_gone at in cc
-      by (Some r) at = found (find (λ e. test (vp_row_of e.1)) (entries r.1.vps.vps)) refl (sym (lowest_there r at) ∙ is)
-        where
-          found : (o : Option (ℕ × VpState)) → find (λ e. test (vp_row_of e.1)) (entries r.1.vps.vps) ≡ o → option_map (λ e. e.0) o ≡ Some vp → (v : VpState) × (get r.1.vps.vps vp ≡ Some v)
-          found None at is = cc
-          found (Some e) at is = (let same : e.0 ≡ vp = cc in (e.1, ap (get r.1.vps.vps) (sym same) ∙ (found_row (λ e. test (vp_row_of e.1)) r.1.vps.vps e at).0))
+      by (Some r) at = first_row r.1.vps.vps vp _ refl (sym (lowest_there r at) ∙ is)

@@ -6,11 +6,11 @@ ghost use Rattle.hv_partition.specs.Partition.{PartitionState, with_vp_of};
 ghost use Rattle.hv_partition.specs.contracts.partition.Partition.{the_row as partition_row};
 ghost use Rattle.hv_policy.specs.Flat.{Flat};
 ghost use Rattle.hv_tree.specs.Rows.{Rows, change, children as children_of, content};
-ghost use Rattle.hv_tree.specs.Rows.{parent as parent_of};
+ghost use Rattle.hv_tree.specs.Relative.{IsRelative};
 ghost use Rattle.hv_tree.specs.contracts.tree.IdTree.{the_row as tree_row};
 ghost use Rattle.hv_vp.specs.contracts.vp.Vp.{the_row as vp_row};
-ghost use Rattle.hv_policy.specs.Met.{is_child as is_child_of, is_kin as is_kin_of};
-ghost use Rattle.hv_policy.specs.Needs.{target_at};
+ghost use Rattle.hv_policy.specs.Needs.{needs_of, target_at, target_of};
+ghost use Rattle.hv_policy.specs.declared.event.Caller.{Caller as AnyCaller};
 ghost use Rattle.hv_policy.specs.Rules.{Ask, caller_asks, first_unmet, target_asks};
 ghost use Rattle.hv_refine.specs.Asked.{AreFound, IsGranted};
 ghost use Rattle.hv_refine.specs.Done.{unmet_in_tree};
@@ -23,6 +23,7 @@ use hv_calls::Call;
 use hv_defs::Life;
 use hv_partition::Partition;
 use hv_policy::{Caller, Kin, Need, Rule, needs};
+use hv_tree::Relative;
 use hv_vp::Vp;
 use std::alloc::Allocator;
 
@@ -38,13 +39,10 @@ pub fn caller_in<A: Allocator>(tree: &Partitions<A>, by: Caller) -> Result<&Part
     let Some(caller) = tree.get(by.part) else {
         return Err(Rule::CallerExists);
     };
-    if caller.life() != Life::Active {
-        return Err(Rule::CallerActive);
+    match caller_rule(caller, by.vp) {
+        None => Ok(caller),
+        Some(rule) => Err(rule),
     }
-    if caller.vp(by.vp).is_none() {
-        return Err(Rule::CallerVpExists);
-    }
-    Ok(caller)
 }
 
 /// Checks P1 to P3, and returns the first of them that fails, or else `rule`, which fails behind them.
@@ -78,39 +76,55 @@ pub fn admit<'t, A: Allocator>(
     ensures unmet { IfErr result (λ rule. (f : Flat) → Refines tree.now f
         → unmet_in_tree f by call.now ≡ Some rule) }
 {
-    let (caller, above, below) = match caller_row(tree, by) {
+    let need = needs(call);
+    let id = target(by.part, need.named);
+    let (caller, count, relative) = match caller_with(tree, by, id) {
         Ok(found) => found,
         Err(rule) => return Err(rule),
     };
-    match target_in(tree, by, caller, above, below, call) {
-        Ok((need, target, children)) => Ok((need, caller, target, children)),
+    match target_in(tree, by, caller, count, relative, call, need) {
+        Ok((target, children)) => Ok((need, caller, target, children)),
         Err(rule) => Err(rule),
     }
 }
 
-// Checks P1 to P3, and returns the caller's partition with its parent and the number of its children.
+// Checks P1 to P3, and returns the caller's partition, the number of its children, and how the partition with
+// the id `other` stands to it.
+// Inlined: calls for the own id in bench/embed.sh.
 #[inline(always)]
-fn caller_row<A: Allocator>(
+fn caller_with<A: Allocator>(
     tree: &Partitions<A>,
     by: Caller,
-) -> Result<(&Partition<A>, Option<u64>, u32), Rule>
+    other: u64,
+) -> Result<(&Partition<A>, u32, Relative<'_, Partition<A>>), Rule>
     ensures met { IfOk result (λ _. (f : Flat) → Refines tree.now f → first_unmet (caller_asks f by) ≡ None) }
     ensures there { IfOk result (λ found. content tree.now by.part ≡ Some found.0.now) }
-    ensures parent { IfOk result (λ found. found.1 ≡ parent_of tree.now by.part) }
-    ensures children { IfOk result (λ found. found.2 ≡ length (children_of tree.now by.part)) }
+    ensures children { IfOk result (λ found. found.1 ≡ length (children_of tree.now by.part)) }
+    ensures other { IfOk result (λ found. IsRelative tree.now by.part other found.2) }
     ensures unmet { IfErr result (λ rule. (f : Flat) → Refines tree.now f
         → first_unmet (caller_asks f by) ≡ Some rule) }
 {
-    let Some((owner, above, below)) = tree.get_row(by.part) else {
+    let Some((caller, count, relative)) = tree.get_with(by.part, other) else {
         return Err(Rule::CallerExists);
     };
-    if owner.life() != Life::Active {
-        return Err(Rule::CallerActive);
+    match caller_rule(caller, by.vp) {
+        None => Ok((caller, count, relative)),
+        Some(rule) => Err(rule),
     }
-    if owner.vp(by.vp).is_none() {
-        return Err(Rule::CallerVpExists);
+}
+
+// Returns the first of P2 and P3 that fails for a processor of a partition.
+fn caller_rule<A: Allocator>(caller: &Partition<A>, vp: u32) -> Option<Rule>
+    ensures { (tree : Rows PartitionState) (f : Flat) (by : AnyCaller) → by.vp ≡ vp
+        → content tree by.part ≡ Some caller.now → Refines tree f → first_unmet (caller_asks f by) ≡ result }
+{
+    if caller.life() != Life::Active {
+        return Some(Rule::CallerActive);
     }
-    Ok((owner, above, below))
+    if caller.vp(vp).is_none() {
+        return Some(Rule::CallerVpExists);
+    }
+    None
 }
 
 /// Checks P1 to P3 for an access and returns the processor that makes it, to read or change.
@@ -139,89 +153,44 @@ pub fn caller_vp<A: Allocator>(tree: &mut Partitions<A>, by: Caller) -> Result<&
     }
 }
 
-// Checks P8 to P10, and returns the call's row in the table of needs, its target and the number of the
-// target's children.
+// Checks P8 to P10, and returns the target and the number of its children.
 //
-// `owner` is the caller's partition with its parent and the number of its children, which P1 already looked
-// up. The error is the first of the three rules that fails.
+// `owner` is the caller's partition, which has `count` children, and `relative` is the target as it stands to
+// it. The error is the first of the three rules that fails.
+// Inlined: calls for the own id in bench/embed.sh.
 #[inline(always)]
 fn target_in<'t, A: Allocator>(
     tree: &'t Partitions<A>,
     by: Caller,
     owner: &'t Partition<A>,
-    above: Option<u64>,
-    below: u32,
+    count: u32,
+    relative: Relative<'t, Partition<A>>,
     call: &Call<'_>,
-) -> Result<(Need, &'t Partition<A>, u32), Rule>
-    requires content { content tree.now by.part ≡ Some owner.now }
-    requires parent { above ≡ parent_of tree.now by.part }
-    requires children { below ≡ length (children_of tree.now by.part) }
-    ensures found { IfOk result (λ found. AreFound tree.now by.part call.now found.0 owner.now found.1.now
-        found.2) }
+    need: Need,
+) -> Result<(&'t Partition<A>, u32), Rule>
+    requires row { need ≡ needs_of call.now }
+    requires owner { content tree.now by.part ≡ Some owner.now }
+    requires count { count ≡ length (children_of tree.now by.part) }
+    requires relative { IsRelative tree.now by.part (target_of call.now by.part) relative }
+    ensures found { IfOk result (λ found. AreFound tree.now by.part call.now need owner.now found.0.now
+        found.1) }
     ensures met { IfOk result (λ _. (f : Flat) → Refines tree.now f
         → first_unmet (target_asks f by.part call.now) ≡ None) }
     ensures unmet { IfErr result (λ rule. (f : Flat) → Refines tree.now f
         → first_unmet (target_asks f by.part call.now) ≡ Some rule) }
 {
-    let need = needs(call);
     if !owner.mask().contains(need.privilege) {
         return Err(Rule::Privilege);
     }
-    let id = target(by.part, need.named);
-    let Some((found, parent, children)) = row_of(tree, by.part, owner, above, below, id) else {
-        return Err(Rule::TargetExists);
-    };
-    if !is_in_scope(need.kin, by.part, id, parent) {
-        return Err(Rule::TargetScope);
-    }
-    Ok((need, found, children))
-}
-
-// A partition with its parent and the number of its children. The caller's are known already.
-#[inline(always)]
-fn row_of<'t, A: Allocator>(
-    tree: &'t Partitions<A>,
-    caller: u64,
-    owner: &'t Partition<A>,
-    above: Option<u64>,
-    below: u32,
-    id: u64,
-) -> Option<(&'t Partition<A>, Option<u64>, u32)>
-    requires content { content tree.now caller ≡ Some owner.now }
-    requires parent { above ≡ parent_of tree.now caller }
-    requires children { below ≡ length (children_of tree.now caller) }
-    ensures content { IfSome result (λ found. content tree.now id ≡ Some found.0.now) }
-    ensures parent { IfSome result (λ found. found.1 ≡ parent_of tree.now id) }
-    ensures children { IfSome result (λ found. found.2 ≡ length (children_of tree.now id)) }
-    ensures none { IfNone result (content tree.now id ≡ None) }
-{
-    if id == caller {
-        return Some((owner, above, below));
-    }
-    tree.get_row(id)
-}
-
-// Whether a partition with this parent is in the target scope of a call that allows this kin.
-#[inline(always)]
-fn is_in_scope(kin: Kin, caller: u64, id: u64, parent: Option<u64>) -> bool
-    ensures { (tree : Rows PartitionState) (f : Flat) → parent ≡ parent_of tree id → Refines tree f
-        → result ≡ is_kin_of kin f caller id }
-{
-    match kin {
-        Kin::Caller => id == caller,
-        Kin::CallerOrChild => id == caller || is_parent(parent, caller, id),
-        Kin::Child => is_parent(parent, caller, id),
-    }
-}
-
-// Whether the caller is the parent of the partition with this id, whose parent is given.
-fn is_parent(parent: Option<u64>, caller: u64, id: u64) -> bool
-    ensures { (tree : Rows PartitionState) (f : Flat) → parent ≡ parent_of tree id → Refines tree f
-        → result ≡ is_child_of f caller id }
-{
-    match parent {
-        None => false,
-        Some(named) => named == caller,
+    match (relative, need.kin) {
+        (Relative::Itself, Kin::Caller | Kin::CallerOrChild) => Ok((owner, count)),
+        (Relative::Child(found, children), Kin::Child | Kin::CallerOrChild) => Ok((
+            found, children,
+        )),
+        (Relative::Itself, Kin::Child) => Err(Rule::TargetScope),
+        (Relative::Child(_, _), Kin::Caller) => Err(Rule::TargetScope),
+        (Relative::Other, _) => Err(Rule::TargetScope),
+        (Relative::Absent, _) => Err(Rule::TargetExists),
     }
 }
 

@@ -83,6 +83,21 @@ module _ {T A : Type 0} (up : ℕ → Option ℕ) (b : Branch T A) (l : IsLaid (
       let whole : line up (depth up MOST q) q ≡ line up d p ++ q ∷ [] = ap (λ n. line up n q) deep ∙ line-more up d q ∙ ap (λ o. line up d (unwrap_or o q) ++ q ∷ []) e in
       led-found q (node_of k) (split_some (line up d p) [] (line up (depth up MOST q) q) q b n k whole (sym r.led) (sym child)) here
 
+  -- what a search among the children of the parent finds is the node with the id
+  pub child-found : (p q : ℕ) (n child : Node T A) → IsReached up p b n → up q ≡ Some p → option_map (λ k. node_of k) (child_of n (place_by q (children_of n))) ≡ Some child → IsReached up q b child
+  child-found p q n child r e found =
+      let there = child-there p q n r e in
+      let is : Some (node_of there.0) ≡ Some child = sym (ap (option_map (λ k. node_of k)) there.1) ∙ found in
+      let same : node_of there.0 ≡ child = cc in
+      subst (λ x. IsReached up q b x) same (child-reached p q n there.0 r e there.1 there.2)
+
+  -- and it finds one
+  pub child-kept : (p q : ℕ) (n : Node T A) → IsReached up p b n → up q ≡ Some p → option_map (λ k. node_of k) (child_of n (place_by q (children_of n))) ≢ None
+  child-kept p q n r e none =
+      let there = child-there p q n r e in
+      let clash : Some (node_of there.0) ≡ None = sym (ap (option_map (λ k. node_of k)) there.1) ∙ none in
+      cc
+
   sought : (most q : ℕ) → place q (lines b) < most → has_row q (lines b) ≡ true → (n : Node T A) × IsReached up q b n
   sought zero q lo has = absurd (omega (arith, lo))
   sought (suc m) q lo has = by (λ p lo h. sought m p lo h) (up q) refl

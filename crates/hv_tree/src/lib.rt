@@ -23,8 +23,10 @@ mod index;
 mod look_up;
 mod node;
 mod refused;
+mod relative;
 mod tree;
 
 pub use edit::Edit;
 pub use refused::{InsertRefused, ReserveRefused};
+pub use relative::Relative;
 pub use tree::IdTree;

@@ -45,25 +45,23 @@ pub(crate) fn depth_in<T, A: Allocator>(
     None
 }
 
-/// The node with the id, and its parent's id, if it has a parent.
+/// The node with the id.
 pub(crate) fn seek<'t, T, A: Allocator>(
     root: &'t Branch<T, A>,
     index: &Index<A>,
     id: u64,
-) -> Option<(&'t Node<T, A>, Option<u64>)>
+) -> Option<&'t Node<T, A>>
     requires { IsLaid (lines root.now) (parents index.now) }
-    ensures found { IfSome result (λ found. IsReached (parents index.now) id root.now found.0.now) }
-    ensures parent { IfSome result (λ found. found.1 ≡ parents index.now id) }
+    ensures found { IfSome result (λ n. IsReached (parents index.now) id root.now n.now) }
     ensures none { IfNone result (has_row id (lines root.now) ≡ false) }
 {
     if id == root.node.id {
-        return Some((&root.node, None));
+        return Some(&root.node);
     }
     let parent = parent_in(index, id)?;
-    let (node, _) = seek(root, index, parent)?;
-    let at = node.place_of(id)?;
-    let child = node.children.get(at)?;
-    Some((&child.node, Some(parent)))
+    let node = seek(root, index, parent)?;
+    let child = node.child(id)?;
+    Some(child)
 }
 
 /// Returns a mutable reference to the node with the id.

@@ -1,6 +1,7 @@
 //! A node, which owns its children.
 ghost use Rattle.std.specs.Prelude.{◌≡◌, ◌≢◌, ◌<◌, ◌≤◌, ◌++◌, ◌∷◌, [], length, map, true, Some, None, IfSome};
-ghost use Rattle.std.specs.Prelude.{IfNone, IfOk, OnOk, OnErr, All, HoldsAt};
+ghost use Rattle.std.specs.Prelude.{IfNone, IfOk, OnOk, OnErr, All, HoldsAt, option_copied};
+ghost use Rattle.std.specs.Prelude.{option_map};
 ghost use Rattle.std.specs.Borrow.{Lends, LendsIf, sem};
 ghost use Rattle.std.specs.Option.{option_copied_mut};
 ghost use Rattle.std.specs.List.Sorted.{IsNonDecreasingBy, IsPartitionPoint};
@@ -85,6 +86,17 @@ impl<T, A: Allocator> Node<T, A> {
             Ok(at) => Some(at),
             Err(_) => None,
         }
+    }
+
+    /// The child with the id.
+    pub(crate) fn child(&self, id: u64) -> Option<&Node<T, A>>
+        requires { IsRising self.now }
+        ensures { option_copied result
+            ≡ option_map (λ b. node_of b) (child_of self.now (place_by id (children_of self.now))) }
+    {
+        let at = self.place_of(id)?;
+        let child = self.children.get(at)?;
+        Some(&child.node)
     }
 
     pub(crate) fn child_mut(&mut self, at: usize) -> Option<&mut Branch<T, A>>

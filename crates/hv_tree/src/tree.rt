@@ -9,6 +9,7 @@ ghost use Rattle.hv_tree.specs.contracts.tree.IdTree.{the_row};
 ghost use Rattle.hv_tree.specs.Rows.{change, content, parent, children, is_leaf, HasDepth, IsLeastAbove};
 ghost use Rattle.hv_tree.specs.Rows.{IsTree};
 ghost use Rattle.hv_tree.specs.Refused.{Refuses};
+ghost use Rattle.hv_tree.specs.Relative.{IsRelative};
 ghost use Rattle.hv_tree.specs.Subtree.{IsInSubtree};
 ghost use Rattle.hv_tree.specs.Lines.{lines};
 
@@ -18,6 +19,7 @@ use crate::index::{Index, MOST, forget, parent_in};
 use crate::look_up::{content_at, depth_in, is_there, seek};
 use crate::node::Branch;
 use crate::refused::{InsertRefused, ReserveRefused};
+use crate::relative::Relative;
 use indexmap::IndexMap;
 use std::alloc::{AllocError, AllocFailed, Allocator};
 use std::marker::Model;
@@ -70,7 +72,7 @@ impl<T, A: Allocator> IdTree<T, A> {
         ensures { option_copied result ≡ content self.now id }
     {
         match seek(&self.root, &self.index, id) {
-            Some((node, _)) => Some(&node.content),
+            Some(node) => Some(&node.content),
             None => None,
         }
     }
@@ -100,24 +102,38 @@ impl<T, A: Allocator> IdTree<T, A> {
         ensures tree { IsTree self.now }
     {
         match seek(&self.root, &self.index, id) {
-            Some((node, _)) => Some(node.children.len() as u32),
+            Some(node) => Some(node.children.len() as u32),
             None => None,
         }
     }
 
-    /// The content of a node, its parent's id, if it has a parent, and the number of its children.
+    /// The content of a node, the number of its children, and how another node stands to it.
     ///
-    /// Returns `None` if no node has the id. One look-up finds all three.
-    pub fn get_row(&self, id: u64) -> Option<(&T, Option<u64>, u32)>
+    /// Returns `None` if no node has the id `id`. A child is found from its parent's node, without a way from
+    /// the root.
+    // Inlined: calls for the own id in bench/embed.sh.
+    #[inline(always)]
+    pub fn get_with(&self, id: u64, other: u64) -> Option<(&T, u32, Relative<'_, T>)>
         ensures content { IfSome result (λ found. content self.now id ≡ Some found.0.now) }
-        ensures parent { IfSome result (λ found. found.1 ≡ parent self.now id) }
-        ensures children { IfSome result (λ found. found.2 ≡ length (children self.now id)) }
+        ensures children { IfSome result (λ found. found.1 ≡ length (children self.now id)) }
+        ensures other { IfSome result (λ found. IsRelative self.now id other found.2) }
         ensures none { IfNone result (content self.now id ≡ None) }
     {
-        match seek(&self.root, &self.index, id) {
-            Some((node, parent)) => Some((&node.content, parent, node.children.len() as u32)),
-            None => None,
-        }
+        let node = seek(&self.root, &self.index, id)?;
+        let relative = if other == id {
+            Relative::Itself
+        } else {
+            match parent_in(&self.index, other) {
+                Some(parent) if parent == id => match node.child(other) {
+                    Some(child) => Relative::Child(&child.content, child.children.len() as u32),
+                    None => unreachable!(),
+                },
+                Some(_) => Relative::Other,
+                None if other == self.root.node.id => Relative::Other,
+                None => Relative::Absent,
+            }
+        };
+        Some((&node.content, node.children.len() as u32, relative))
     }
 
     /// The least id above `previous` among the children of `parent`.
@@ -127,7 +143,7 @@ impl<T, A: Allocator> IdTree<T, A> {
         ensures value { IsLeastAbove previous (children self.now parent) result }
         ensures tree { IsTree self.now }
     {
-        let Some((node, _)) = seek(&self.root, &self.index, parent) else {
+        let Some(node) = seek(&self.root, &self.index, parent) else {
             return None;
         };
         node.child_after(previous)
