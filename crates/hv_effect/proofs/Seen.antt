@@ -1,11 +1,11 @@
--- What a change of one processor shows at each, and what raises add.
-use Rattle.std.proofs.Common.{◌≡◌, ℕ, ◌+◌, ◌*◌, ◌%◌, ◌^◌, ◌<◌, ◌==◌, ◌&&◌, ◌||◌, Bool, true, false, cond, not, Option, Some, None, refl, sym, ap, subst, ◌∙◌, eq-eqb, eqb-true, option_map}
-use Rattle.std.proofs.Common.{arith, inl, inr, is_some, nat_cmp, ne_eqb}
+-- What a change of one processor shows at each, what raises add, and what tells what an effect names.
+use Rattle.std.proofs.Common.{◌≡◌, ℕ, ◌+◌, ◌*◌, ◌%◌, ◌^◌, ◌<◌, ◌==◌, ◌&&◌, ◌||◌, Bool, true, false, cond, not, Option, Some, None, refl, sym, ap, ◌∙◌, eq-eqb, eqb-true, option_map}
+use Rattle.std.proofs.Common.{List, arith, inl, inr, is_some, nat_cmp, ne_eqb}
 use Rattle.std.proofs.Math.Pow.{pow-lt}
-use Rattle.std.proofs.lemmas.Bool.{and_from, and_parts, cases_eq}
+use Rattle.std.proofs.lemmas.Bool.{and_from, cases_eq}
 use Rattle.std.proofs.lemmas.Nat.Bits.{bit_at-pow_other, bit_at-pow_same, bit_at-zero}
 use Rattle.std.specs.Cmp.{nat_cmp_total, unsigned_tied}
-use Rattle.std.specs.FinMap.{FinMap, contains_key, get}
+use Rattle.std.specs.FinMap.{FinMap, get}
 use Rattle.std.specs.FinSet as set
 use Rattle.std.specs.Ordering.{eq_by_cmp}
 use Rattle.hv_policy.specs.Reading.{has_flag, has_vector}
@@ -15,10 +15,10 @@ use Rattle.hv_defs.specs.Vectors.{VectorSet, raised, with_vector}
 use Rattle.hv_defs.specs.declared.registers.TheConstants.{SINT0}
 use Rattle.hv_policy.proofs.Pairs.{tied_pairs}
 use Rattle.hv_policy.proofs.Rows.{get-with_vp}
-use Rattle.hv_policy.specs.Effect.{counted, row_raised, with_vp}
-use Rattle.hv_policy.specs.Flat.{Flat, VpRow}
-use Rattle.hv_policy.specs.Mail.{Place, mail_at}
-use Rattle.hv_effect.specs.Effect.{HasNothing, IsChange, IsSo, Tells, has_bit}
+use Rattle.hv_policy.specs.Effect.{counted, with_vp}
+use Rattle.hv_policy.specs.Flat.{Flat, MailRow, VpRow}
+use Rattle.hv_policy.specs.Mail.{Place, mail_at, place, shown_at}
+use Rattle.hv_effect.specs.Effect.{HasNothing, IsChange, IsSo, Tells, has_bit, names_flag, names_messages, names_page, names_processor, names_vector}
 use Rattle.hv_effect.specs.declared.effect.Effect.{Effect}
 use Rattle.hv_effect.specs.declared.effect.Effect.TheVariants as variant
 
@@ -36,54 +36,32 @@ mask_bit sint low k =
       | inr apart ↦ ap (λ n. n == 1) (bit_at-pow_other sint k apart) ∙ sym (ne_eqb k sint apart)
     ]
 
-pub no_bit : (sint : ℕ) → has_bit 0 sint ≡ true → ⊥
-no_bit sint is = let clash : false ≡ true = ap (λ n. n == 1) (sym (bit_at-zero sint)) ∙ is in cc
+-- 0 has no bit, and the empty set has no vector
+pub no_bit : (sint : ℕ) → has_bit 0 sint ≡ false
+no_bit sint = ap (λ n. n == 1) (bit_at-zero sint)
 
--- a mask with a bit is not 0, so it names something
-pub some_bit : (mask sint : ℕ) → has_bit mask sint ≡ true → (a b : Bool) → (not (mask == 0) || a) || b ≡ true
-some_bit mask sint is a b = by (mask == 0) refl
-  where
-    by : (c : Bool) → mask == 0 ≡ c → (not c || a) || b ≡ true
-    by true none = absurd (no_bit sint (subst (λ mask. has_bit mask sint ≡ true) (eqb-true mask 0 none) is))
-    by false some = refl
+pub none_raised : (vector : ℕ) → set.contains no_vectors vector ≡ false
+none_raised vector = set.contains-empty nat_cmp vector
 
-pub no_vector : (vector : ℕ) → set.contains no_vectors vector ≡ true → ⊥
-no_vector vector is = let clash : false ≡ true = sym (set.contains-empty nat_cmp vector) ∙ is in cc
+-- a mask with a bit is not 0
+pub some_bit : (mask sint : ℕ) → has_bit mask sint ≡ true → not (mask == 0) ≡ true
+some_bit mask sint is = grind (arith, no_bit sint)
 
--- where the first of two tests is met and not both are, the other isn't
-pub rest_false : (a b : Bool) → a && b ≡ false → a ≡ true → b ≡ false
-rest_false true b h is = h
-rest_false false b h is = cc
+-- what the SINT of a one-bit mask shows
+pub shown_of : (at : Place) (mask : ℕ) → ((sint : ℕ) → has_bit mask sint ≡ sint == at.sint) → (mail : List MailRow) (sint : ℕ) → has_bit mask sint ≡ true
+    → shown_at (place at.part at.vp sint) mail ≡ shown_at at mail
+shown_of at mask bit mail sint is = ap (λ sint. shown_at (place at.part at.vp sint) mail) (eqb-true sint at.sint (sym (bit sint) ∙ is))
 
-pub left_false : (a b : Bool) → a || b ≡ false → a ≡ false
-left_false true b h = cc
-left_false false b h = refl
-
-pub right_false : (a b : Bool) → a || b ≡ false → b ≡ false
-right_false true b h = cc
-right_false false b h = h
-
-pub or_false : (b : Bool) → b || false ≡ b
-or_false true = refl
-or_false false = refl
-
--- a place of a processor that isn't named is no place that is
-pub unplaced : (a b c d : Bool) → (a && b) && (c || d) ≡ false → a && (b && c) ≡ false
-unplaced true true c d h = left_false c d h
-unplaced true false c d h = refl
-unplaced false b c d h = refl
-
-pub unplaced_too : (a b c d : Bool) → (a && b) && (c || d) ≡ false → a && (b && d) ≡ false
-unplaced_too true true c d h = right_false c d h
-unplaced_too true false c d h = refl
-unplaced_too false b c d h = refl
+-- pairs are compared by both numbers
+pub pair_tied : (id index part vp : ℕ) → eq_by_cmp pair_cmp (id, index) (part, vp) ≡ (id == part) && (index == vp)
+pair_tied id index part vp = tied_pairs id index part vp ∙ ap (λ b. (id == part) && b) (unsigned_tied index vp)
 
 -- the processors once one of them changed, by the tests that effects make
 pub there : (vps : FinMap pair_cmp VpRow) (part vp : ℕ) (h : VpRow → VpRow) (id index : ℕ)
     → get (with_vp vps (part, vp) h) (id, index) ≡ cond ((id == part) && (index == vp)) (option_map h (get vps (part, vp))) (get vps (id, index))
 there vps part vp h id index =
     get-with_vp vps (part, vp) h (id, index)
-    ∙ ap (λ b. cond b (option_map h (get vps (part, vp))) (get vps (id, index))) (tied_pairs id index part vp ∙ ap (λ b. (id == part) && b) (unsigned_tied index vp))
+    ∙ ap (λ b. cond b (option_map h (get vps (part, vp))) (get vps (id, index))) (pair_tied id index part vp)
 
 pub itself : (part vp : ℕ) → (part == part) && (vp == vp) ≡ true
 itself part vp = and_from _ _ (eq-eqb part part refl) (eq-eqb vp vp refl)
@@ -91,68 +69,66 @@ itself part vp = and_from _ _ (eq-eqb part part refl) (eq-eqb vp vp refl)
 pub there_itself : (vps : FinMap pair_cmp VpRow) (part vp : ℕ) (h : VpRow → VpRow) → get (with_vp vps (part, vp) h) (part, vp) ≡ option_map h (get vps (part, vp))
 there_itself vps part vp h = there vps part vp h part vp ∙ ap (λ b. cond b (option_map h (get vps (part, vp))) (get vps (part, vp))) (itself part vp)
 
--- what is seen of each is as it was, where the change doesn't show at the one that changed
-pub seen : {X : Type 0} (see : Option VpRow → X) (vps : FinMap pair_cmp VpRow) (part vp : ℕ) (h : VpRow → VpRow) (id index : ℕ)
-    → ((id == part) && (index == vp) ≡ true → see (option_map h (get vps (part, vp))) ≡ see (get vps (part, vp)))
-    → see (get (with_vp vps (part, vp) h) (id, index)) ≡ see (get vps (id, index))
-seen see vps part vp h id index same = ap see (there vps part vp h id index) ∙ by ((id == part) && (index == vp)) refl
-  where
-    by : (b : Bool) → (id == part) && (index == vp) ≡ b → see (cond b (option_map h (get vps (part, vp))) (get vps (id, index))) ≡ see (get vps (id, index))
-    by true is =
-        let parts = and_parts (id == part) (index == vp) is in
-        let p = eqb-true id part parts.0 in
-        let q = eqb-true index vp parts.1 in
-        let back : see (get vps (id, index)) ≡ see (get vps (part, vp)) = (λ i. see (get vps (p i, q i))) in
-        same is ∙ sym back
-    by false is = refl
+-- what is seen at two indices is seen at those that they equal
+pub moved : {X : Type 0} (see : ℕ → ℕ → X) (id index part vp : ℕ) → (id == part) && (index == vp) ≡ true → see id index ≡ see part vp
+moved see id index part vp here = grind arith
 
--- and it is still there
+-- a changed row is still there
 pub still_there : {X Y : Type 0} (h : X → Y) (o : Option X) → is_some (option_map h o) ≡ is_some o
 still_there h None = refl
 still_there h (Some x) = refl
 
-pub processors_kept : (vps : FinMap pair_cmp VpRow) (part vp : ℕ) (h : VpRow → VpRow) (id index : ℕ) → contains_key (with_vp vps (part, vp) h) (id, index) ≡ contains_key vps (id, index)
-processors_kept vps part vp h id index = seen is_some vps part vp h id index (λ _. still_there h (get vps (part, vp)))
+-- where one processor changed, and no page did, an effect tells what it names of the processor's row
+module _ (e : Effect) (part vp : ℕ) (h : VpRow → VpRow) (f g : Flat) (pages : f.page ≡ g.page)
+    (rows : (id index : ℕ) → get g.vp (id, index) ≡ cond ((id == part) && (index == vp)) (option_map h (get f.vp (part, vp))) (get f.vp (id, index)))
+    (mail : (at : Place) → names_messages e at ≡ false → mail_at at g.mail ≡ mail_at at f.mail)
+    (flags : (v : VpRow) → get f.vp (part, vp) ≡ Some v → (sint flag : ℕ) → names_flag e (place part vp sint) flag ≡ false → set.contains (h v).flags (sint, flag) ≡ set.contains v.flags (sint, flag))
+    (vectors : (v : VpRow) → get f.vp (part, vp) ≡ Some v → (vector : ℕ) → names_vector e part vp vector ≡ false → set.contains (h v).pending vector ≡ set.contains v.pending vector) where
+  -- what is seen of each is as it was, where the change does not show at the one that changed
+  seen : {X : Type 0} (see : Option VpRow → X) (id index : ℕ)
+      → ((id == part) && (index == vp) ≡ true → see (option_map h (get f.vp (part, vp))) ≡ see (get f.vp (part, vp))) → see (get g.vp (id, index)) ≡ see (get f.vp (id, index))
+  seen see id index same = ap see (rows id index) ∙ by ((id == part) && (index == vp)) refl
+    where
+      by : (b : Bool) → (id == part) && (index == vp) ≡ b → see (cond b (option_map h (get f.vp (part, vp))) (get f.vp (id, index))) ≡ see (get f.vp (id, index))
+      by true here = same here ∙ sym (moved (λ id index. see (get f.vp (id, index))) id index part vp here)
+      by false off = refl
 
--- a raise changes no flag
-pub raise_flag : (did : Bool) (sint : ℕ) (r : Option VpRow) (s n : ℕ) → has_flag (option_map (row_raised did sint) r) s n ≡ has_flag r s n
-raise_flag did sint None s n = refl
-raise_flag did sint (Some row) s n = refl
+  flag_there : (r : Option VpRow) → get f.vp (part, vp) ≡ r → (sint flag : ℕ) → names_flag e (place part vp sint) flag ≡ false → has_flag (option_map h r) sint flag ≡ has_flag r sint flag
+  flag_there None is sint flag off = refl
+  flag_there (Some v) is sint flag off = flags v is sint flag off
 
--- and one that isn't made no vector
-pub unraised : (did : Bool) (sint : ℕ) (r : Option VpRow) (vector : ℕ) → did ≡ false → has_vector (option_map (row_raised did sint) r) vector ≡ has_vector r vector
-unraised did sint None vector is = refl
-unraised did sint (Some row) vector is = ap (λ b. set.contains (cond b (raised row.registers sint row.pending) row.pending) vector) is
+  vector_there : (r : Option VpRow) → get f.vp (part, vp) ≡ r → (vector : ℕ) → names_vector e part vp vector ≡ false → has_vector (option_map h r) vector ≡ has_vector r vector
+  vector_there None is vector off = refl
+  vector_there (Some v) is vector off = vectors v is vector off
 
--- it adds what it adds to no vectors
+  pub row_told : IsSo e f g → IsChange e f g → Tells e f g
+  row_told named changed = record {
+    unnamed = record {
+      messages = mail;
+      flags = λ at flag off. seen (λ r. has_flag r at.sint flag) at.part at.vp
+          (λ here. flag_there (get f.vp (part, vp)) refl at.sint flag (sym (moved (λ id index. names_flag e (place id index at.sint) flag) at.part at.vp part vp here) ∙ off));
+      vectors = λ id index vector off. seen (λ r. has_vector r vector) id index
+          (λ here. vector_there (get f.vp (part, vp)) refl vector (sym (moved (λ id index. names_vector e id index vector) id index part vp here) ∙ off));
+      pages = λ page _. ap (λ m. get m page) (sym pages);
+      processors = λ id index _. seen is_some id index (λ _. still_there h (get f.vp (part, vp)));
+    };
+    named = named;
+    changed = changed;
+  }
+
+-- a raise adds to some vectors what it adds to none
 pub raised_both : (registers : FinMap nat_cmp ℕ) (sint : ℕ) (vectors : VectorSet) (vector : ℕ)
     → set.contains (raised registers sint vectors) vector ≡ (set.contains (raised registers sint no_vectors) vector || set.contains vectors vector)
 raised_both registers sint vectors vector = by (get registers (SINT0 + sint))
   where
-    none : set.contains vectors vector ≡ (set.contains no_vectors vector || set.contains vectors vector)
-    none = sym (ap (λ b. b || set.contains vectors vector) (set.contains-empty nat_cmp vector))
-
-    three : (a b c : Bool) → b ≡ false → (a || c) ≡ ((a || b) || c)
-    three true b c is = refl
-    three false b c is = ap (λ x. x || c) (sym is)
-
     one : (value : ℕ) (masked : Bool) → set.contains (cond masked vectors (set.insert vectors (bits value 0 8))) vector ≡
         (set.contains (cond masked no_vectors (set.insert no_vectors (bits value 0 8))) vector || set.contains vectors vector)
-    one value true = none
-    one value false =
-        set.contains-insert nat_cmp_total vectors (bits value 0 8) vector
-        ∙ three (eq_by_cmp nat_cmp vector (bits value 0 8)) (set.contains no_vectors vector) (set.contains vectors vector) (set.contains-empty nat_cmp vector)
-        ∙ sym (ap (λ b. b || set.contains vectors vector) (set.contains-insert nat_cmp_total no_vectors (bits value 0 8) vector))
+    one value true = grind (arith, none_raised vector)
+    one value false = grind (arith, none_raised vector, set.contains-insert nat_cmp_total vectors (bits value 0 8) vector, set.contains-insert nat_cmp_total no_vectors (bits value 0 8) vector)
 
     by : (value : Option ℕ) → set.contains (with_vector vectors value) vector ≡ (set.contains (with_vector no_vectors value) vector || set.contains vectors vector)
-    by None = none
+    by None = grind (arith, none_raised vector)
     by (Some value) = one value (bits value 16 1 == 1)
-
--- so of a processor with these registers
-pub raise_vector : (did : Bool) (sint : ℕ) (row : VpRow) (vector : ℕ) → did ≡ true
-    → has_vector (option_map (row_raised did sint) (Some row)) vector ≡ (set.contains (raised row.registers sint no_vectors) vector || has_vector (Some row) vector)
-raise_vector did sint row vector is =
-    ap (λ b. set.contains (cond b (raised row.registers sint row.pending) row.pending) vector) is ∙ raised_both row.registers sint row.pending vector
 
 -- one more served event is no difference
 pub once_counted : (e : Effect) (f g : Flat) → Tells e f g → Tells e f (counted g)
@@ -173,11 +149,7 @@ once_counted e f g t = record {
 
     now : (e : Effect) → IsChange e f g → IsChange e f (counted g)
     now variant.Nothing h = tt
-    now (variant.Synic s) h = h
-    now (variant.Page page owner pooled) h = h
-    now (variant.Pages from to) h = h
-    now (variant.Processor part vp) h = h
-    now (variant.Partition part) h = h
+    now e h = h
 
     by : (e : Effect) → IsSo e f g → IsSo e f (counted g)
     by variant.Nothing h = tt
@@ -190,24 +162,33 @@ once_counted e f g t = record {
       freed = λ port is. (let w = h.freed port is in record { sint = w.sint; message = w.message; before = w.before; by = w.by; now = w.now });
       left = h.left;
     }
-    by (variant.Page page owner pooled) h = h
-    by (variant.Pages from to) h = h
     by (variant.Processor part vp) h = nothing part vp h
     by (variant.Partition part) h = λ vp. nothing part vp (h vp)
+    by e h = h
 
--- where messages, flags, vectors, pages and processors are as they were, nothing is told
-pub nothing_told : (f g : Flat) → ((at : Place) → mail_at at g.mail ≡ mail_at at f.mail)
-    → ((part vp sint flag : ℕ) → has_flag (get g.vp (part, vp)) sint flag ≡ has_flag (get f.vp (part, vp)) sint flag)
-    → ((part vp vector : ℕ) → has_vector (get g.vp (part, vp)) vector ≡ has_vector (get f.vp (part, vp)) vector) → ((page : ℕ) → get g.page page ≡ get f.page page)
-    → ((part vp : ℕ) → contains_key g.vp (part, vp) ≡ contains_key f.vp (part, vp)) → Tells variant.Nothing f g
-nothing_told f g mail flags vectors pages processors = record {
+-- an effect that does not name a processor's flags or vectors does not name the processor
+unnamed_by_flag : (e : Effect) (at : Place) (flag : ℕ) → names_flag e at flag ≡ false → names_processor e at.part at.vp ≡ false
+unnamed_by_flag (variant.Processor part vp) at flag off = off
+unnamed_by_flag (variant.Partition part) at flag off = off
+unnamed_by_flag e at flag off = refl
+
+unnamed_by_vector : (e : Effect) (id index vector : ℕ) → names_vector e id index vector ≡ false → names_processor e id index ≡ false
+unnamed_by_vector (variant.Processor part vp) id index vector off = off
+unnamed_by_vector (variant.Partition part) id index vector off = off
+unnamed_by_vector e id index vector off = refl
+
+-- an effect tells what it names where no row changed of a processor that it does not name
+pub rows_told : (e : Effect) (f g : Flat) → ((at : Place) → names_messages e at ≡ false → mail_at at g.mail ≡ mail_at at f.mail)
+    → ((id index : ℕ) → names_processor e id index ≡ false → get g.vp (id, index) ≡ get f.vp (id, index))
+    → ((page : ℕ) → names_page e page (get f.page page) ≡ false → get g.page page ≡ get f.page page) → IsSo e f g → IsChange e f g → Tells e f g
+rows_told e f g mail rows pages named changed = record {
   unnamed = record {
-    messages = λ at _. mail at;
-    flags = λ at flag _. flags at.part at.vp at.sint flag;
-    vectors = λ part vp vector _. vectors part vp vector;
-    pages = λ page _. pages page;
-    processors = λ part vp _. processors part vp;
+    messages = mail;
+    flags = λ at flag off. ap (λ r. has_flag r at.sint flag) (rows at.part at.vp (unnamed_by_flag e at flag off));
+    vectors = λ id index vector off. ap (λ r. has_vector r vector) (rows id index (unnamed_by_vector e id index vector off));
+    pages = pages;
+    processors = λ id index off. ap is_some (rows id index off);
   };
-  named = tt;
-  changed = tt;
+  named = named;
+  changed = changed;
 }

@@ -13,7 +13,7 @@ use Rattle.hv_mail.specs.declared.message.Message.{Message}
 use Rattle.hv_partition.specs.Partition.{PartitionState, with_vp_of}
 use Rattle.hv_policy.specs.Aim.{is_ready_for_flags, is_ready_for_messages, is_same_birth, on_aim, select_vp}
 use Rattle.hv_policy.specs.Effect.{call_effect, post, post_at, post_to, row_signalled, signal_at, signal_to, with_vp}
-use Rattle.hv_policy.specs.Flat.{Flat, MailRow, VpRow}
+use Rattle.hv_policy.specs.Flat.{Flat, VpRow}
 use Rattle.hv_policy.specs.Met.{has_message_room, has_message_taker, is_aimed_at_vp, is_for_messages, is_running}
 use Rattle.hv_policy.specs.Rules.{Ask, action_asks, caller_asks, first_unmet, unmet}
 use Rattle.hv_policy.specs.declared.event.Action.{Action}
@@ -89,24 +89,9 @@ module _ (f : Flat) (caller connection : ℕ) (aimed : Aimed) (effect : Effect) 
       → HasServed f caller (PostMessage connection type payload) [] effect new
   post_served type payload sint message aims at from born kind bytes rows told = record { output = refl; rows = subst (Refines new) is rows; told = subst (Tells effect f) is told }
     where
-      row : MailRow
-      row = record {
-        part = aimed.to.conn.part;
-        vp = aimed.vp;
-        sint = aimed.to.port.sint;
-        port = aimed.to.conn.port;
-        born = aimed.to.conn.born;
-        type = type;
-        payload = payload;
-        shown = false;
-      }
-
-      same : mail_row (here aimed.to.conn.part aimed.vp sint) false message ≡ row
-      same = (λ i. record { part = aimed.to.conn.part; vp = aimed.vp; sint = at i; port = from i; born = born i; type = kind i; payload = bytes i; shown = false })
-
       is : post (mail_row (here aimed.to.conn.part aimed.vp sint) false message) f ≡ call_effect (PostMessage connection type payload) f caller caller
       is =
-          ap (λ row. post row f) same
+          (λ i. post (record { part = aimed.to.conn.part; vp = aimed.vp; sint = at i; port = from i; born = born i; type = kind i; payload = bytes i; shown = false }) f)
           ∙ sym (ap (λ aim. post_to aim type payload f) aims.reached.aim ∙ ap (λ vp. post_at (aim_row aimed.to.conn aimed.to.port) vp type payload f) aims.taker)
 
   pub signal_served : (flag sint place : ℕ) → IsAimed f (caller, connection) port_type.Event aimed → sint ≡ aimed.to.port.sint → place ≡ aimed.to.port.base + flag
@@ -121,8 +106,11 @@ module _ (f : Flat) (caller connection : ℕ) (aimed : Aimed) (effect : Effect) 
 
 -- where it goes, there is a processor
 pub aimed_there : (rows : Rows PartitionState) (f : Flat) → Refines rows f → (key : ℕ × ℕ) (kind : PortKind) (aimed : Aimed) → IsAimed f key kind aimed
-    → (v : VpState) × (vp_in aimed.vp (get rows aimed.to.conn.part) ≡ Some v)
-aimed_there rows f flat key kind aimed aims = by kind aims.taker
+    → (p : PartitionState) → Some p ≡ content rows aimed.to.conn.part → None ≡ get p.vps.vps aimed.vp → ⊥
+aimed_there rows f flat key kind aimed aims p found none =
+    let (v, there) = by kind aims.taker in
+    let clash : None ≡ Some v = sym (looked_up rows aimed.to.conn.part aimed.vp p None found none) ∙ there in
+    cc
   where
     by : (kind : PortKind) → taker_of kind f (aim_row aimed.to.conn aimed.to.port) ≡ Some aimed.vp → (v : VpState) × (vp_in aimed.vp (get rows aimed.to.conn.part) ≡ Some v)
     by port_type.Message taken = taker_there rows f flat aimed.to.conn.part is_ready_for_messages aimed.to.port.vp aimed.vp taken

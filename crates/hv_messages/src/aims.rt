@@ -94,6 +94,7 @@ fn port_of<'t, A: Allocator>(
 
 // P22: the processor of the port's partition to which a port of this kind delivers, if there is one: the one
 // at which the port aims, if it is ready, or for `Aim::Any` the lowest that is ready.
+#[tactic(auto, using(crate::proofs::Outcomes::taker_any))]
 pub fn select_vp<A: Allocator>(
     home: &Partition<A>,
     aimed: ResolvedPort,

@@ -25,10 +25,7 @@ pub fn read_flags<A: Allocator>(
     ensures { (f : Flat) → Refines tree.old f → IsAnswered {A = A} f by (action.ReadFlags sint) tree.old
         (result_map_both (λ effect. (output.new, effect)) (λ rule. rule) result) tree.new }
 {
-    let vp = match caller_vp(tree, by) {
-        Ok(vp) => vp,
-        Err(rule) => return Err(rule),
-    };
+    let vp = caller_vp(tree, by)?;
     if u32::from(sint) >= SINTS {
         return Err(Rule::Operand);
     }
@@ -47,10 +44,7 @@ pub fn clear_flag<A: Allocator>(
     ensures { (f : Flat) → Refines tree.old f → IsAnswered {A = A} f by (action.ClearFlag sint flag) tree.old
         (result_map_both (λ effect. ([], effect)) (λ rule. rule) result) tree.new }
 {
-    let vp = match caller_vp(tree, by) {
-        Ok(vp) => vp,
-        Err(rule) => return Err(rule),
-    };
+    let vp = caller_vp(tree, by)?;
     if u32::from(sint) >= SINTS {
         return Err(Rule::Operand);
     }

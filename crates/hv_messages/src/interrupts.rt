@@ -25,10 +25,7 @@ pub fn take_interrupt<A: Allocator>(
     ensures { (f : Flat) → Refines tree.old f → IsAnswered {A = A} f by action.TakeInterrupt tree.old
         (result_map_both (λ effect. (output.new, effect)) (λ rule. rule) result) tree.new }
 {
-    let vp = match caller_vp(tree, by) {
-        Ok(vp) => vp,
-        Err(rule) => return Err(rule),
-    };
+    let vp = caller_vp(tree, by)?;
     let vector = vp.take_interrupt();
     output.extend_from_slice(&[vector.unwrap_or(0)]);
     Ok(taken(by.part, by.vp, vector))

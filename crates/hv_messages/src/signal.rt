@@ -61,10 +61,7 @@ fn ask_signal<A: Allocator>(
     ensures unmet { IfErr result (λ rule. (f : Flat) (by : ℕ) → content tree.now by ≡ Some caller.now
         → Refines tree.now f → unmet_further f by (call.SignalEvent connection flag) ≡ Some rule) }
 {
-    let (to, home) = match resolve_connection(tree, caller, connection) {
-        Ok(found) => found,
-        Err(rule) => return Err(rule),
-    };
+    let (to, home) = resolve_connection(tree, caller, connection)?;
     if !has_flag(to.port, flag) {
         return Err(Rule::Operand);
     }

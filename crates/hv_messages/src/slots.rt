@@ -25,10 +25,7 @@ pub fn read_slot<A: Allocator>(
     ensures { (f : Flat) → Refines tree.old f → IsAnswered {A = A} f by (action.ReadSlot sint) tree.old
         (result_map_both (λ effect. (output.new, effect)) (λ rule. rule) result) tree.new }
 {
-    let vp = match caller_vp(tree, by) {
-        Ok(vp) => vp,
-        Err(rule) => return Err(rule),
-    };
+    let vp = caller_vp(tree, by)?;
     if u32::from(sint) >= SINTS {
         return Err(Rule::Operand);
     }
@@ -48,10 +45,7 @@ pub fn clear_slot<A: Allocator>(
     ensures { (f : Flat) → Refines tree.old f → IsAnswered {A = A} f by (action.ClearSlot sint) tree.old
         (result_map_both (λ effect. ([], effect)) (λ rule. rule) result) tree.new }
 {
-    let vp = match caller_vp(tree, by) {
-        Ok(vp) => vp,
-        Err(rule) => return Err(rule),
-    };
+    let vp = caller_vp(tree, by)?;
     if u32::from(sint) >= SINTS {
         return Err(Rule::Operand);
     }

@@ -1,5 +1,6 @@
 -- A partition that was deleted, and its pages with its new owner.
 use Rattle.std.proofs.Common.{◌≡◌, ℕ, ◌==◌, Bool, true, false, cond, ◌&&◌, ◌||◌, not, map, Option, Some, None, refl, sym, ap, subst, ◌∙◌, eqb-true, eq-eqb, option_map, nat_cmp}
+use Rattle.std.proofs.Math.Bool.{and-false, or-false}
 use Rattle.std.specs.Cmp.{nat_cmp_total, nat_eq_equiv}
 use Rattle.std.specs.FinMap.{FinMap, get, get-empty, remove, entries, from_entries}
 use Rattle.std.specs.FinSet as set
@@ -26,11 +27,8 @@ pub record IsDeleted (old new : Rows PartitionState) (new_owner id : ℕ) : Type
 
 -- who holds a page of a partition that is gone, and any other page
 module _ (gone new_owner : ℕ) (apart : gone == new_owner ≡ false) where
-  after : PageRow → PageRow
-  after = inherited gone new_owner
-
-  own_after : (page : PageRow) (b : Bool) → page.owner == gone ≡ b → inherited gone new_owner page ≡ cond b (record { owner = new_owner; pooled = false }) page
-  own_after page b is = ap (λ t. cond t (record { owner = new_owner; pooled = false }) page) is
+  apart_back : new_owner == gone ≡ false
+  apart_back = nat_eq_equiv.symm new_owner gone ∙ apart
 
   not_gone : (page : PageRow) (id : ℕ) → page.owner == gone ≡ true → id == gone ≡ false → page.owner == id ≡ false
   not_gone page id is off = ap (λ n. n == id) (eqb-true page.owner gone is) ∙ nat_eq_equiv.symm gone id ∙ off
@@ -44,37 +42,29 @@ module _ (gone new_owner : ℕ) (apart : gone == new_owner ≡ false) where
       new_owner_off = nat_eq_equiv.symm new_owner id ∙ off
 
       by : (b pooled : Bool) → page.owner == gone ≡ b → is_held id pooled (Some (inherited gone new_owner page)) ≡ is_held id pooled (Some page)
-      by true true is = rw (own_after page true is, new_owner_off, not_gone page id is away) refl
-      by true false is = rw (own_after page true is, new_owner_off, not_gone page id is away) refl
-      by false true is = rw (own_after page false is) refl
-      by false false is = rw (own_after page false is) refl
+      by true true is = rw (is, new_owner_off, not_gone page id is away) refl
+      by true false is = rw (is, new_owner_off, not_gone page id is away) refl
+      by false pooled is = rw is refl
 
   -- the partition that is gone holds none
   held_gone : (pooled : Bool) (page : Option PageRow) → is_held gone pooled (option_map (inherited gone new_owner) page) ≡ false
   held_gone pooled None = refl
   held_gone pooled (Some page) = by (page.owner == gone) pooled refl
     where
-      new_owner_off : new_owner == gone ≡ false
-      new_owner_off = nat_eq_equiv.symm new_owner gone ∙ apart
-
       by : (b pooled : Bool) → page.owner == gone ≡ b → is_held gone pooled (Some (inherited gone new_owner page)) ≡ false
-      by true true is = rw (own_after page true is, new_owner_off) refl
-      by true false is = rw (own_after page true is, new_owner_off) refl
-      by false true is = rw (own_after page false is, is) refl
-      by false false is = rw (own_after page false is, is) refl
+      by true true is = rw (is, apart_back) refl
+      by true false is = rw (is, apart_back) refl
+      by false true is = rw is (rw is refl)
+      by false false is = rw is (rw is refl)
 
   -- the new owner's pool is what it was
   held_pool : (page : Option PageRow) → is_held new_owner true (option_map (inherited gone new_owner) page) ≡ is_held new_owner true page
   held_pool None = refl
   held_pool (Some page) = by (page.owner == gone) refl
     where
-      no_more : (b : Bool) → (b && false) ≡ false
-      no_more true = refl
-      no_more false = refl
-
       by : (b : Bool) → page.owner == gone ≡ b → is_held new_owner true (Some (inherited gone new_owner page)) ≡ is_held new_owner true (Some page)
-      by true is = rw (own_after page true is) (no_more (new_owner == new_owner)) ∙ sym (ap (λ t. t && page.pooled) (not_gone page new_owner is (nat_eq_equiv.symm new_owner gone ∙ apart)))
-      by false is = rw (own_after page false is) refl
+      by true is = rw is (and-false (new_owner == new_owner)) ∙ sym (ap (λ t. t && page.pooled) (not_gone page new_owner is apart_back))
+      by false is = rw is refl
 
   -- its loose pages are those of the three
   held_loose : (page : Option PageRow) → is_held new_owner false (option_map (inherited gone new_owner) page) ≡ (is_held new_owner false page || is_held gone false page) || is_held gone true page
@@ -87,14 +77,10 @@ module _ (gone new_owner : ℕ) (apart : gone == new_owner ≡ false) where
       all false true = refl
       all false false = refl
 
-      none : (x : Bool) → x ≡ (x || false) || false
-      none true = refl
-      none false = refl
-
       by : (b : Bool) → page.owner == gone ≡ b → is_held new_owner false (Some (inherited gone new_owner page)) ≡ (is_held new_owner false (Some page) || is_held gone false (Some page)) || is_held
           gone true (Some page)
-      by true is = rw (own_after page true is, eq-eqb new_owner new_owner refl, is) (all (page.owner == new_owner) page.pooled)
-      by false is = rw (own_after page false is, is) (none (page.owner == new_owner && not page.pooled))
+      by true is = rw (is, eq-eqb new_owner new_owner refl) (all (page.owner == new_owner) page.pooled)
+      by false is = rw is (simp or-false)
 
 module _ (rows : Rows PartitionState) (f : Flat) (flat : Refines rows f) (new : Rows PartitionState) (new_owner id : ℕ) (apart : id == new_owner ≡ false) (d : IsDeleted rows new new_owner id)
     (idle : UsesNothing rows id d.gone.1) where
@@ -112,9 +98,6 @@ module _ (rows : Rows PartitionState) (f : Flat) (flat : Refines rows f) (new : 
 
   part_after : (q : ℕ) (b : Bool) → q == id ≡ b → get deleted.part q ≡ cond b None (get f.part q)
   part_after q b is = get_at-remove f.part id q ∙ ap (λ t. cond t None (get f.part q)) is
-
-  apart_back : new_owner == id ≡ false
-  apart_back = nat_eq_equiv.symm new_owner id ∙ apart
 
   own_page : (page : ℕ) (pooled : Bool) → is_held new_owner pooled (get deleted.page page) ≡ holds pooled page (Some owner_after)
   own_page page true =
@@ -136,7 +119,7 @@ module _ (rows : Rows PartitionState) (f : Flat) (flat : Refines rows f) (new : 
           let same : q ≡ new_owner = eqb-true q new_owner is in
           let old : PartitionRelation f q (Some d.owner) = subst (PartitionRelation f q) (ap (get rows) same ∙ d.there) (flat.rows q) in
           record {
-            part = part_after q false (ap (λ n. n == id) same ∙ apart_back) ∙ old.part;
+            part = part_after q false (ap (λ n. n == id) same ∙ apart_back id new_owner apart) ∙ old.part;
             page = λ page pooled. ap (λ n. is_held n pooled (get deleted.page page)) same ∙ own_page page pooled;
             vp = old.vp;
             port = old.port;

@@ -15,16 +15,14 @@ use Rattle.hv_tree.proofs.Laws.{get-change}
 use Rattle.hv_tree.specs.Rows.{Row, Rows, change}
 use Rattle.hv_vp.specs.Vp.{VpState}
 
-abbrev made_active : PartRow → PartRow
-made_active row = record row { life = Active }
-
 abbrev made_final : PartRow → PartRow
 made_final row = record row { life = Finalized }
 
 module _ (rows : Rows PartitionState) (f : Flat) (flat : Refines rows f) where
   -- a partition that became Active
-  pub activated_tied : (target : ℕ) → Refines (change rows target (λ p. record p { life = Active })) (record f { part = with_row f.part target made_active })
-  activated_tied target = changed_tied rows f flat target (λ p. record p { life = Active }) made_active (λ _. refl) (λ _. refl) (λ _. refl) (λ _. refl) (λ _. refl) (λ _. refl)
+  pub activated_tied : (target : ℕ) → Refines (change rows target (λ p. record p { life = Active })) (record f { part = with_row f.part target (λ row. record row { life = Active }) })
+  activated_tied target =
+      changed_tied rows f flat target (λ p. record p { life = Active }) (λ row. record row { life = Active }) (λ _. refl) (λ _. refl) (λ _. refl) (λ _. refl) (λ _. refl) (λ _. refl)
 
   -- a partition that was finalized
   module _ (target : ℕ) where

@@ -14,36 +14,26 @@ use Rattle.hv_partition_calls.proofs.Deleted.{IsDeleted}
 use Rattle.hv_partition_calls.proofs.Needs.{IsEnding}
 use Rattle.hv_partition_calls.specs.Change.{HasRoom, HasTakenOver, MayTakeOver, new_owner_of}
 
--- the rows with a partition that was there written anew
-written : (rows : Rows PartitionState) (id : ℕ) (w : PartitionState) (r : Row PartitionState) → get rows id ≡ Some r → change rows id (λ _. w) ≡ insert rows id (r.0, w)
-written rows id w r is = ap (changed_at rows id (λ _. w)) is
+-- the rows with a partition that was there and has other loose pages
+written : (rows : Rows PartitionState) (id : ℕ) (p w : PartitionState) (pages : PartitionState → Pages) → Some p ≡ content rows id → w.loose.pages ≡ pages p → w ≡ record p { loose = w.loose }
+    → (r : Row PartitionState) × (get rows id ≡ Some r) × (change rows id (λ _. w) ≡ insert rows id (r.0, record r.1 { loose = record { pages = pages r.1; room = w.loose.room } }))
+written rows id p w pages there is rest =
+    let (r, at, same) = content_row rows id p there in
+    let old = is ∙ ap pages (sym same) in
+    let all = rest ∙ ap {A = PartitionState} (λ q. record q { loose = w.loose }) (sym same) ∙ ap {A = Pages} (λ ps. record r.1 { loose = record { pages = ps; room = w.loose.room } }) old in
+    (r, at, ap (changed_at rows id (λ _. w)) at ∙ ap {A = PartitionState} (λ v. insert rows id (r.0, v)) all)
 
 pub has_room : (rows : Rows PartitionState) (id more : ℕ) (p w : PartitionState) → Some p ≡ content rows id → w.loose.pages ≡ p.loose.pages → w ≡ record p { loose = w.loose } → more ≤ w.loose.room →
     HasRoom rows (change rows id (λ _. w)) id more
 has_room rows id more p w there pages rest enough =
-    let (r, is, same) = content_row rows id p there in
-    record {
-      row = r;
-      there = is;
-      room = w.loose.room;
-      enough = enough;
-      rows = written rows id w r is ∙ ap {A = PartitionState} (λ v. insert rows id (r.0, v))
-          (rest ∙ ap {A = PartitionState} (λ q. record q { loose = w.loose }) (sym same) ∙ ap {A = Pages} (λ ps. record r.1 { loose = record { pages = ps; room = w.loose.room } })
-          (pages ∙ ap {A = PartitionState} (λ q. q.loose.pages) (sym same)));
-    }
+    let (r, at, is) = written rows id p w (λ q. q.loose.pages) there pages rest in
+    record { row = r; there = at; room = w.loose.room; enough = enough; rows = is }
 
 pub has_taken_over : (rows : Rows PartitionState) (id : ℕ) (gone p w : PartitionState) → Some p ≡ content rows id → w.loose.pages ≡ set.union (set.union p.loose.pages gone.loose.pages)
     gone.pooled.pages → w ≡ record p { loose = w.loose } → HasTakenOver rows (change rows id (λ _. w)) id gone
 has_taken_over rows id gone p w there pages rest =
-    let (r, is, same) = content_row rows id p there in
-    record {
-      row = r;
-      there = is;
-      room = w.loose.room;
-      rows = written rows id w r is ∙ ap {A = PartitionState} (λ v. insert rows id (r.0, v))
-          (rest ∙ ap {A = PartitionState} (λ q. record q { loose = w.loose }) (sym same) ∙ ap {A = Pages} (λ ps. record r.1 { loose = record { pages = ps; room = w.loose.room } })
-          (pages ∙ ap {A = PartitionState} (λ q. set.union (set.union q.loose.pages gone.loose.pages) gone.pooled.pages) (sym same)));
-    }
+    let (r, at, is) = written rows id p w (λ q. set.union (set.union q.loose.pages gone.loose.pages) gone.pooled.pages) there pages rest in
+    record { row = r; there = at; room = w.loose.room; rows = is }
 
 -- a partition stays a leaf when another gets room
 pub still_leaf : (rows new : Rows PartitionState) (new_owner id more : ℕ) → IsEnding rows new_owner id more → HasRoom rows new new_owner more → is_leaf new id ≡ true

@@ -1,5 +1,6 @@
 -- What the calls of this call group need of the rows, once all their rules are met.
 use Rattle.std.proofs.Common.{◌≡◌, ℕ, ◌+◌, ◌≤◌, ◌==◌, true, false, Option, Some, None, is_some, refl, sym, ap, ◌∙◌, arith, ne_eqb, option_map, option_and_then}
+use Rattle.std.proofs.lemmas.Bool.{false≢true}
 use Rattle.std.specs.FinMap.{get}
 use Rattle.hv_calls.specs.declared.call.Call.TheVariants.{CreatePartition, DeletePartition}
 use Rattle.hv_defs.specs.declared.life.Life.{Life}
@@ -73,36 +74,34 @@ idle_state Created h = refl
 idle_state Active h = cc
 idle_state Finalized h = refl
 
-true≢false : true ≡ false → ⊥
-true≢false e = cc
-
-pub is_ending : (rows : Rows PartitionState) (caller partition runs : ℕ) → MayDelete rows caller partition runs → IsEnding rows caller (target_of (DeletePartition partition) caller) runs
-is_ending rows caller partition runs may =
+pub is_ending : (rows : Rows PartitionState) (caller partition id runs : ℕ) → id ≡ target_of (DeletePartition partition) caller → MayDelete rows caller partition runs → IsEnding rows caller id runs
+is_ending rows caller partition id runs is may =
     let g = may.granted in
     let t = g.admitted.rows in
-    let id = target_of (DeletePartition partition) caller in
+    let target = target_of (DeletePartition partition) caller in
     let allowed = admitted_allowed rows caller (DeletePartition partition) g.admitted g.met in
     let (owner, there, active) = caller_row rows t.flat t.tied caller (DeletePartition partition) allowed in
     let (gone, was, below) = child_row rows t.flat t.tied caller (DeletePartition partition) allowed refl in
     let (gone2, was2, state) = state_row rows t.flat t.tied caller (DeletePartition partition) allowed allowed.further.0 in
     let same : gone2 ≡ gone = (let both = sym was2 ∙ was in cc) in
     let still : is_active gone.1.life ≡ false = ap {A = Row PartitionState} (λ r. is_active r.1.life) (sym same) ∙ idle_state gone2.1.life state in
-    let named : parent rows id ≡ Some caller = ap (option_and_then (λ r. r.0)) was ∙ below in
-    let above = parents_below rows t.flat t.tied t.pages t.lawful id caller named in
-    let idle = quiet rows t.flat t.tied t.pages t.lawful id gone was still in
+    let named : parent rows target ≡ Some caller = ap (option_and_then (λ r. r.0)) was ∙ below in
+    let above = parents_below rows t.flat t.tied t.pages t.lawful target caller named in
+    let idle = quiet rows t.flat t.tied t.pages t.lawful target gone was still in
     let childless = idle.childless in
     let held : gone.1 ≡ may.gone = (let both = sym (ap (option_map (λ r. r.1)) was) ∙ may.was in cc) in
     let counted = may.counted in
-    record {
+    rw is (record {
       leaf = rw (named, childless) refl;
-      apart = ne_eqb id caller (λ e. omega (arith, e, above));
+      apart = ne_eqb target caller (λ e. omega (arith, e, above));
       owner = owner;
       there = there;
       gone = gone;
       was = was;
       idle = idle;
-      loose = λ page h. sym (ap (holds false page) was) ∙ apart_sets rows t.flat t.tied caller id false false (λ e. let is = e.0 in omega (arith, is, above)) page (ap (holds false page) there ∙ h);
-      pooled = λ page h. sym (ap (holds true page) was) ∙ apart_sets rows t.flat t.tied caller id false true (λ e. let is = e.0 in omega (arith, is, above)) page (ap (holds false page) there ∙ h);
-      own = λ page h. sym (ap (holds true page) was) ∙ apart_sets rows t.flat t.tied id id false true (λ e. true≢false (sym e.1)) page (ap (holds false page) was ∙ h);
+      loose = λ page h. sym (ap (holds false page) was) ∙ apart_sets rows t.flat t.tied caller target false false (λ e. let is = e.0 in omega (arith, is, above))
+          page (ap (holds false page) there ∙ h);
+      pooled = λ page h. sym (ap (holds true page) was) ∙ apart_sets rows t.flat t.tied caller target false true (λ e. let is = e.0 in omega (arith, is, above)) page (ap (holds false page) there ∙ h);
+      own = λ page h. sym (ap (holds true page) was) ∙ apart_sets rows t.flat t.tied target target false true (λ e. false≢true e.1) page (ap (holds false page) was ∙ h);
       counted = rw held (omega arith);
-    }
+    })

@@ -1,6 +1,7 @@
 -- What finalizing and deleting a partition tell.
 use Rattle.std.proofs.Common.{◌≡◌, ◌≢◌, ℕ, ◌==◌, ◌&&◌, ◌||◌, not, Bool, true, false, cond, List, [], ◌∷◌, length, map, is_some, Option, Some}
 use Rattle.std.proofs.Common.{None, refl, sym, ap, subst, ◌∙◌, eq-eqb, eqb-true, option_map, nat_cmp}
+use Rattle.std.proofs.Math.Bool.{or-true}
 use Rattle.std.specs.Cmp.{nat_cmp_total, unsigned_tied}
 use Rattle.std.specs.FinMap as finmap
 use Rattle.std.specs.FinMap.{FinMap, contains_key, contains_key-keys, entries, get, get-empty, len-entries, nat_cmp-IsAntisymmetric, remove}
@@ -31,8 +32,12 @@ use Rattle.hv_vp.specs.Vp.{VpState}
 use Rattle.hv_partition_calls.proofs.Deleted.{deleted_tied}
 use Rattle.hv_partition_calls.proofs.Ended.{closed_tied}
 use Rattle.hv_partition_calls.proofs.Lent.{is_deleted, was_there}
-use Rattle.hv_partition_calls.proofs.Needs.{IsEnding, is_ending}
+use Rattle.hv_partition_calls.proofs.Needs.{is_ending}
 use Rattle.hv_partition_calls.specs.Change.{HasRoom, HasTakenOver, MayDelete, effect_of_pages, has_vps, is_pageless}
+
+-- the first of some items is one of them
+first_item : (item : ℕ) (items : List ℕ) → list_any (eq_by_cmp nat_cmp item) (item ∷ items) ≡ true
+first_item item items = ap (λ b. b || list_any (eq_by_cmp nat_cmp item) items) (unsigned_tied item item ∙ eq-eqb item item refl)
 
 -- a map that isn't empty has a key
 some_key : {X : Type 0} (m : FinMap nat_cmp X) → finmap.len m == 0 ≡ false → (key : ℕ) × (contains_key m key ≡ true)
@@ -40,11 +45,8 @@ some_key {X} m some = by (entries m) refl (ap (λ n. n == 0) (sym (len-entries m
   where
     by : (es : List (ℕ × X)) → entries m ≡ es → length (entries m) == 0 ≡ false → (key : ℕ) × (contains_key m key ≡ true)
     by [] is some = let none = sym (ap (λ (es : List (ℕ × X)). length es == 0) is) ∙ some in cc
-    by (e ∷ es) is some = (
-      e.0,
-      contains_key-keys m e.0 ∙ ap (λ (es : List (ℕ × X)). list_any (eq_by_cmp nat_cmp e.0) (map (λ e. e.0) es)) is
-          ∙ ap (λ b. b || list_any (eq_by_cmp nat_cmp e.0) (map (λ e. e.0) es)) (unsigned_tied e.0 e.0 ∙ eq-eqb e.0 e.0 refl),
-    )
+    by (e ∷ es) is some =
+        (e.0, contains_key-keys m e.0 ∙ ap (λ (es : List (ℕ × X)). list_any (eq_by_cmp nat_cmp e.0) (map (λ e. e.0) es)) is ∙ first_item e.0 (map (λ e. e.0) es))
 
 some_page : (s : Pages) → set.len s == 0 ≡ false → (page : ℕ) × (set.contains s page ≡ true)
 some_page s some = by (set.items s) refl
@@ -55,11 +57,7 @@ some_page s some = by (set.items s) refl
         ∙ ap (list_any (eq_by_cmp nat_cmp q)) is ∙ sym (set.contains-empty nat_cmp q)) in
         let none : true ≡ false = sym (ap (λ s. set.len s == 0) empty ∙ ap (λ n. n == 0) (set.len-empty nat_cmp)) ∙ some in
         cc
-    by (page ∷ pages) is = (
-      page,
-      set.contains-items s page ∙ ap (list_any (eq_by_cmp nat_cmp page)) is
-          ∙ ap (λ b. b || list_any (eq_by_cmp nat_cmp page) pages) (unsigned_tied page page ∙ eq-eqb page page refl),
-    )
+    by (page ∷ pages) is = (page, set.contains-items s page ∙ ap (list_any (eq_by_cmp nat_cmp page)) is ∙ first_item page pages)
 
 no_pages : (s : Pages) → set.len s == 0 ≡ true → (page : ℕ) → set.contains s page ≡ false
 no_pages s none page = ap (λ s. set.contains s page) (set.empty_of_len s (eqb-true (set.len s) 0 none)) ∙ set.contains-empty nat_cmp page
@@ -85,11 +83,7 @@ module _ (rows : Rows PartitionState) (f : Flat) (flat : Refines rows f) (id : �
   has_page true true loose pooled some = cc
   has_page true false loose pooled some =
       let (page, held) = some_page p.pooled.pages pooled in
-      record { page = page; is = page_at page ∙ ap (λ b. set.contains p.loose.pages page || b) held ∙ or_true (set.contains p.loose.pages page) }
-    where
-      or_true : (b : Bool) → b || true ≡ true
-      or_true true = refl
-      or_true false = refl
+      record { page = page; is = page_at page ∙ ap (λ b. set.contains p.loose.pages page || b) held ∙ or-true (set.contains p.loose.pages page) }
   has_page false b loose pooled some =
       let (page, held) = some_page p.loose.pages loose in
       record { page = page; is = page_at page ∙ ap (λ b. b || set.contains p.pooled.pages page) held }
@@ -133,19 +127,18 @@ module _ (rows : Rows PartitionState) (f : Flat) (flat : Refines rows f) (id : �
           ∙ ap {A = PartitionState} (λ p. rows_of (here id vp sint) (sint_mail sint (get p.vps.vps vp))) same ∙ ap (λ (v : Option VpState). rows_of (here id vp sint) (sint_mail sint v)) (no_vp vp))
 
 -- a finalized partition's processors go
-pub has_finalized : (rows : Rows PartitionState) (caller partition : ℕ) → IsGranted rows caller (FinalizePartition partition) → (f : Flat) → Refines rows f → (staffed : Bool)
-    → staffed ≡ option_map_or has_vps (content rows (target_of (FinalizePartition partition) caller)) false
-    → (new : Rows PartitionState) → new ≡ change rows (target_of (FinalizePartition partition) caller) finalized
-    → HasServed f caller (FinalizePartition partition) [] (cond staffed (variant.Partition (target_of (FinalizePartition partition) caller)) variant.Nothing) new
-has_finalized rows caller partition g f flat staffed is new changed =
+pub has_finalized : (rows : Rows PartitionState) (caller partition id : ℕ) → id ≡ target_of (FinalizePartition partition) caller → IsGranted rows caller (FinalizePartition partition) → (f : Flat)
+    → Refines rows f → (staffed : Bool) → staffed ≡ option_map_or has_vps (content rows id) false → (new : Rows PartitionState) → new ≡ change rows id finalized
+    → HasServed f caller (FinalizePartition partition) [] (cond staffed (variant.Partition id) variant.Nothing) new
+has_finalized rows caller partition id named g f flat staffed is new changed =
     let t = g.admitted.rows in
-    let id = target_of (FinalizePartition partition) caller in
+    let target = target_of (FinalizePartition partition) caller in
     let (r, at) = target_row rows t.flat t.tied caller (FinalizePartition partition) (admitted_allowed rows caller (FinalizePartition partition) g.admitted g.met) in
-    let there : content rows id ≡ Some r.1 = ap (option_map (λ r. r.1)) at in
+    let there : content rows target ≡ Some r.1 = ap (option_map (λ r. r.1)) at in
     record {
       output = refl;
-      rows = rw changed (closed_tied rows f flat id);
-      told = rw (is, there) (ending_told rows f flat id r.1 there _ _ _);
+      rows = rw (changed, named) (closed_tied rows f flat target);
+      told = rw (is, named, there) (ending_told rows f flat target r.1 there _ _ _);
     }
 
 -- a deleted partition's pages pass to the caller
@@ -153,7 +146,7 @@ pub has_deleted : (rows roomy new : Rows PartitionState) (caller partition id ru
     → HasRoom rows roomy caller runs → (gone : PartitionState) → content roomy id ≡ Some gone → HasTakenOver (remove roomy id) new caller gone → (f : Flat) → Refines rows f
     → HasServed f caller (DeletePartition partition) [] (effect_of_pages id caller gone) new
 has_deleted rows roomy new caller partition id runs is may room gone was taken f flat =
-    let e : IsEnding rows caller id runs = subst (λ n. IsEnding rows caller n runs) (sym is) (is_ending rows caller partition runs may) in
+    let e = is_ending rows caller partition id runs is may in
     let d = is_deleted rows roomy caller id runs e room gone was new taken in
     let same : e.gone ≡ d.gone = (let both = sym e.was ∙ d.was in cc) in
     let idle : UsesNothing rows id d.gone.1 = subst (λ (r : Row PartitionState). UsesNothing rows id r.1) same e.idle in

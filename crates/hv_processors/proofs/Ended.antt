@@ -1,8 +1,7 @@
 -- A write of a register: the rows are tied to what the model makes of it, and what it tells.
-use Rattle.std.proofs.Common.{◌≡◌, ℕ, ◌+◌, ◌==◌, ◌&&◌, nat_lt, not, Bool, true, false, cond, Option, Some, None, IfSome, Result, Ok, Err}
+use Rattle.std.proofs.Common.{◌≡◌, ℕ, ◌+◌, ◌==◌, ◌&&◌, nat_lt, not, Bool, false, cond, Option, Some, None, IfSome, Result, Ok, Err}
 use Rattle.std.proofs.Common.{refl, sym, ap, subst, ◌∙◌, add-one, eq-eqb, option_map, option_and_then, nat_cmp}
 use Rattle.std.specs.FinMap.{FinMap, get, insert}
-use Rattle.std.specs.FinSet as set
 use Rattle.std.specs.List.{list_any}
 use Rattle.std.specs.Option.{option_map_or}
 use Rattle.std.specs.Result.{result_unwrap_or}
@@ -38,11 +37,7 @@ use Rattle.hv_vp.specs.Registers.{found, read_of}
 use Rattle.hv_vp.specs.Vp.{VpState, written}
 use Rattle.hv_processors.specs.Place.{vp_at}
 
--- the vectors of none of the first SINTs, and of one more
-pub vectors_zero : (test : ℕ → Bool) (registers : FinMap nat_cmp ℕ) → set.empty ≡ vectors_of test registers 0
-unfolding vectors_of
-vectors_zero test registers = refl
-
+-- the vectors of one more of the first SINTs
 pub vectors_next : (test : ℕ → Bool) (registers : FinMap nat_cmp ℕ) (sint : ℕ) (old new : VectorSet) → old ≡ vectors_of test registers sint → (b : Bool) → test sint ≡ b
     → new ≡ cond b (raised registers sint old) old → new ≡ vectors_of test registers (sint + 1)
 unfolding vectors_of

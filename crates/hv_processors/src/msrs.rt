@@ -27,10 +27,7 @@ pub fn read_msr<A: Allocator>(
         (result_map_both (λ effect. (output.new, effect)) (λ rule. rule) result) tree.new }
 {
     let name = name_of_msr(msr);
-    let vp = match own_vp(tree, by, name) {
-        Ok(vp) => vp,
-        Err(rule) => return Err(rule),
-    };
+    let vp = own_vp(tree, by, name)?;
     let Some(name) = name else { unreachable!() };
     output.push_number(vp.read_reg(name).unwrap_or(0));
     Ok(Effect::Nothing)
@@ -51,10 +48,7 @@ pub fn write_msr<A: Allocator>(
         (result_map_both (λ effect. ([], effect)) (λ rule. rule) result) tree.new }
 {
     let name = name_of_msr(msr);
-    let vp = match own_vp(tree, by, name) {
-        Ok(vp) => vp,
-        Err(rule) => return Err(rule),
-    };
+    let vp = own_vp(tree, by, name)?;
     let Some(name) = name else { unreachable!() };
     match write_register(vp, by.part, by.vp, name, value) {
         Ok(effect) => Ok(effect),

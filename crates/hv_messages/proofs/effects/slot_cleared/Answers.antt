@@ -1,9 +1,6 @@
 use Rattle.std.proofs.Common.{sym, ◌∙◌, arith}
-use Rattle.hv_messages.proofs.Told.{again_told, freed_told}
+use Rattle.hv_messages.proofs.Told.{freed_told}
 use Rattle.hv_messages.proofs.effects.slot_cleared.Goals as goal
-
-pub returns-in_default : goal.returns-in_default
-returns-in_default c f v is port = again_told f c.args.part c.args.index v is c.args.sint (sym c.in_default.is ∙ port)
 
 pub returns : goal.returns
 returns c f v is port = rw c.quiet.ensures (freed_told f c.args.part c.args.index v is c.args.sint c.in-Some.port (omega arith) c.requires (sym c.in-Some.is ∙ port))

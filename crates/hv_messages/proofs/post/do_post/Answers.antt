@@ -1,5 +1,4 @@
-use Rattle.std.proofs.Common.{rules, refl, sym, ap, ◌≡◌, None, Some, ◌∙◌}
-use Rattle.hv_defs.specs.declared.port_kind.PortKind.TheVariants as port_type
+use Rattle.std.proofs.Common.{rules, refl, ap, Some, ◌∙◌}
 use Rattle.hv_mail.specs.Mail.{at, has_next, with_last}
 use Rattle.hv_mail.specs.declared.message.Message.{Message}
 use Rattle.hv_refine.proofs.Mailed.{posted_tied}
@@ -10,10 +9,7 @@ use Rattle.hv_messages.proofs.post.do_post.Goals as goal
 pub unreachable-requires-in_default-vp_mut : goal.unreachable-requires-in_default-vp_mut
 unreachable-requires-in_default-vp_mut g c =
     let t = c.requires.granted.admitted.rows in
-    let (v, there) = aimed_there c.args.tree.now t.flat t.tied (c.args.caller, c.args.connection) port_type.Message c.args.aimed (c.requires.aims t.flat t.tied) in
-    let gone = looked_up c.args.tree.now c.args.aimed.to.conn.part c.args.aimed.vp c.in-Some.home.now None c.in-Some.ensures.value c.in_default-vp_mut.ensures.value in
-    let clash : None ≡ Some v = sym gone ∙ there in
-    cc
+    aimed_there c.args.tree.now t.flat t.tied _ _ c.args.aimed (c.requires.aims t.flat t.tied) c.in-Some.home.now c.in-Some.ensures.value c.in_default-vp_mut.ensures.value
 
 pub returns : goal.returns
 returns g c f flat =

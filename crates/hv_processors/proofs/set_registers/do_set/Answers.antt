@@ -1,11 +1,7 @@
-use Rattle.std.proofs.Common.{◌≡◌, Some, refl, sym, ap, subst, ◌∙◌, option_and_then}
+use Rattle.std.proofs.Common.{◌≡◌, Some, refl, sym, ap, ◌∙◌, option_and_then}
 use Rattle.std.specs.FinMap.{get}
-use Rattle.hv_effect.specs.Effect.{Tells}
 use Rattle.hv_partition.specs.Partition.{PartitionState, with_vp_of}
-use Rattle.hv_policy.specs.Effect.{write_register}
-use Rattle.hv_refine.specs.Tie.{Refines}
 use Rattle.hv_tree.proofs.Laws.{change-of}
-use Rattle.hv_tree.specs.Rows.{change}
 use Rattle.hv_processors.proofs.Ended.{set_tied}
 use Rattle.hv_processors.specs.Place.{vp_at}
 use Rattle.hv_processors.proofs.set_registers.do_set.Goals as goal
@@ -21,8 +17,7 @@ returns g c f flat =
     let back = change-of tree part (λ p. with_vp_of p c.args.vp now) c.in-Some.target.now (sym c.in-Some.ensures.value) in
     record {
       output = refl;
-      rows = subst (λ id. Refines (change tree part (λ _. with_vp_of c.in-Some.target.now c.args.vp now)) (write_register id c.args.vp c.args.name c.args.value f)) c.resolve_partition_id-part.ensures
-          (subst (λ rows. Refines rows (write_register part c.args.vp c.args.name c.args.value f)) (sym back)
+      rows = rw (← c.resolve_partition_id-part.ensures) (rw back
           (set_tied tree f flat part c.args.vp was now c.args.name c.args.value at c.in-Ok.ensures.state));
-      told = subst (λ id. Tells c.in-Ok.effect f (write_register id c.args.vp c.args.name c.args.value f)) c.resolve_partition_id-part.ensures (c.in-Ok.ensures.told tree f at flat);
+      told = rw (← c.resolve_partition_id-part.ensures) (c.in-Ok.ensures.told tree f at flat);
     }

@@ -1,4 +1,4 @@
-use Rattle.std.proofs.Common.{◌≡◌, ◌==◌, Bool, true, false, cond, sym, ap, ◌∙◌, arith, ne_eqb}
+use Rattle.std.proofs.Common.{◌≡◌, ◌==◌, true, false, cond, sym, ap, ◌∙◌, arith, ne_eqb}
 use Rattle.std.proofs.lemmas.Nat.Bits.{shr_and_one}
 use Rattle.std.specs.Int.{bit_at}
 use Rattle.hv_defs.specs.Vectors.{VectorSet, raised}
@@ -6,12 +6,13 @@ use Rattle.hv_effect.specs.Effect.{has_bit, quiet}
 use Rattle.hv_effect.specs.Ended.{vectors_of}
 use Rattle.hv_effect.specs.declared.effect.Effect.{Effect}
 use Rattle.hv_effect.specs.declared.effect.Effect.TheVariants as variant
-use Rattle.hv_processors.proofs.Ended.{vectors_next, vectors_zero}
+use Rattle.hv_processors.proofs.Ended.{vectors_next}
 use Rattle.hv_processors.proofs.writes.ended.Goals.{then-due-sint-eq1, else-due-sint-eq1}
 use Rattle.hv_processors.proofs.writes.ended.Goals as goal
 
 pub loop-sint-init : goal.loop-sint-init
-loop-sint-init g c = c.new-raised.ensures ∙ vectors_zero (has_bit c.args.due) c.args.vp.now.registers
+unfolding vectors_of
+loop-sint-init g c = c.new-raised.ensures
 
 pub loop-sint-preserved : goal.loop-sint-preserved
 loop-sint-preserved g c =

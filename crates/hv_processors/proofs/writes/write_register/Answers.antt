@@ -1,9 +1,8 @@
-use Rattle.std.proofs.Common.{◌≡◌, sym, ap, subst, ◌∙◌, ne_eqb}
+use Rattle.std.proofs.Common.{◌≡◌, ap, ◌∙◌, ne_eqb}
 use Rattle.hv_defs.specs.declared.registers.TheConstants.{EOM}
 use Rattle.hv_defs.specs.declared.sizes.TheConstants.{SINTS}
-use Rattle.hv_effect.specs.Effect.{Tells, has_bit}
+use Rattle.hv_effect.specs.Effect.{has_bit}
 use Rattle.hv_effect.specs.Ended.{ended_effect, vectors_of}
-use Rattle.hv_policy.specs.Effect.{write_register as write_register_of}
 use Rattle.hv_vp.specs.Vp.{VpState, written}
 use Rattle.hv_processors.proofs.Ended.{end_told, write_told}
 use Rattle.hv_processors.proofs.writes.write_register.Goals.{then-name-eq-EOM, else-name-eq-EOM}
@@ -21,10 +20,8 @@ returns-in-Ok-clause-told g c rows f at flat =
           let told = end_told rows f flat part index c.args.vp.now at c.args.value due (λ k. ap (λ due. has_bit due k) w.due-is ∙ w.due-due.ensures k) in
           let effect = ◌∙◌ {b = ended_effect part index due (vectors c.write_reg.new.self)} c.ended.ensures
           (ap (λ v. ended_effect part index due (vectors v)) (c.write_reg.ensures.state ∙ ap (λ name. written name c.args.value c.args.vp.now) is)) in
-          subst (λ effect. Tells effect f (write_register_of part index c.args.name c.args.value f)) (sym effect)
-          (subst (λ name. Tells (ended_effect part index due (vectors (written EOM c.args.value c.args.vp.now))) f (write_register_of part index name c.args.value f)) (sym is) told)
+          rw effect (rw is told)
       | else-name-eq-EOM w ↦
-          subst (λ effect. Tells effect f (write_register_of part index c.args.name c.args.value f))
-          (sym (c.ended.ensures ∙ ap (λ due. ended_effect part index due (vectors c.write_reg.new.self)) w.due-is))
+          rw (c.ended.ensures ∙ ap (λ due. ended_effect part index due (vectors c.write_reg.new.self)) w.due-is)
           (write_told rows f flat part index c.args.name c.args.value (ne_eqb c.args.name EOM w.if-name-eq-EOM.false))
     ]
