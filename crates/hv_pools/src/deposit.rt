@@ -97,5 +97,12 @@ fn do_deposit<A: Allocator>(
         unreachable!()
     };
     let target = resolve_partition_id(caller, partition);
-    move_page(tree, caller, target, number, false)
+    match move_page(tree, caller, target, number, false) {
+        Ok(()) => Ok(Effect::Page {
+            page,
+            owner: target,
+            pooled: true,
+        }),
+        Err(refused) => Err(refused),
+    }
 }

@@ -1,13 +1,13 @@
 // The move of a page that a deposit and a withdrawal make: from one partition to another, or within one.
-ghost use Rattle.std.specs.Prelude.{◌≡◌, IfOk, IsSome, OnOk, OnErr, not};
+ghost use Rattle.std.specs.Prelude.{◌≡◌, IsSome, OnOk, OnErr, not};
 ghost use Rattle.hv_effect.specs.Effect.{Tells};
+ghost use Rattle.hv_effect.specs.declared.effect.Effect.TheVariants as effect;
 ghost use Rattle.hv_policy.specs.Flat.{Flat};
 ghost use Rattle.hv_refine.specs.Room.{IsSameButRoom};
 ghost use Rattle.hv_refine.specs.Tie.{Refines};
 ghost use Rattle.hv_pools.specs.Change.{CanGain, CanHold, HasGained, HasLost, HasPages, MayMove};
 ghost use Rattle.hv_pools.specs.Change.{kind_of as the_kind, moved_to, pages_at};
 
-use hv_effect::Effect;
 use hv_partition::{PageKind, Partition};
 use hv_refine::Partitions;
 use std::alloc::{AllocError, Allocator};
@@ -20,12 +20,12 @@ pub fn move_page<A: Allocator>(
     to: u64,
     page: u32,
     pooled: bool,
-) -> Result<Effect, AllocError>
+) -> Result<(), AllocError>
     requires { MayMove tree.old from to page pooled }
     ensures moved { OnOk result ((f : Flat) → Refines tree.old f → Refines tree.new
         (moved_to f page to (not pooled))) }
-    ensures told { IfOk result (λ effect. (f : Flat) → Refines tree.old f → Tells effect f
-        (moved_to f page to (not pooled))) }
+    ensures told { OnOk result ((f : Flat) → Refines tree.old f
+        → Tells (effect.Page page to (not pooled)) f (moved_to f page to (not pooled))) }
     ensures kept { OnErr result (IsSameButRoom tree.old tree.new) }
 {
     let kind = kind_of(pooled);
@@ -35,11 +35,7 @@ pub fn move_page<A: Allocator>(
         Err(refused) => return Err(refused),
     }
     match give(tree, to, other, page) {
-        Ok(()) => Ok(Effect::Page {
-            page: u64::from(page),
-            owner: to,
-            pooled: !pooled,
-        }),
+        Ok(()) => Ok(()),
         Err(refused) => {
             put(tree, from, kind, page);
             Err(refused)

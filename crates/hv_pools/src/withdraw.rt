@@ -101,9 +101,13 @@ fn do_withdraw<A: Allocator>(
 {
     let target = resolve_partition_id(caller, partition);
     match move_page(tree, target, caller, page, true) {
-        Ok(effect) => {
+        Ok(()) => {
             output.push_number(u64::from(page));
-            Ok(effect)
+            Ok(Effect::Page {
+                page: u64::from(page),
+                owner: caller,
+                pooled: false,
+            })
         }
         Err(refused) => Err(refused),
     }

@@ -26,4 +26,4 @@ returns-in-Err-give-clause-kept g c =
     went_back c.args.tree.now c.take.new.tree c.args.from c.args.to c.args.page c.args.pooled c.requires lost c.put.new.tree gained
 
 pub returns-in-Ok-give-clause-told : goal.returns-in-Ok-give-clause-told
-returns-in-Ok-give-clause-told g c f flat = rw c.from.ensures (move_told c.args.tree.now c.args.from c.args.to c.args.page c.args.pooled c.requires f flat)
+returns-in-Ok-give-clause-told g c f flat = move_told c.args.tree.now c.args.from c.args.to c.args.page c.args.pooled c.requires f flat
