@@ -12,8 +12,10 @@
  *     // and reply.output holds 8 bytes: the partition's id, 1
  *     hvpm_destroy(&machine);
  *
- * What an event does, which rules apply to it, and what it returns is specified in docs/POLICY.md.
- * docs/EMBEDDING.md maps the exits of a hypervisor to these functions.
+ * An event is one hypercall, or one access of a processor: to an MSR, a message slot, an event flag or a
+ * pending interrupt. Each element of a rep hypercall is an event. docs/POLICY.md specifies which rules apply
+ * to an event, what it changes and what it returns. docs/EMBEDDING.md maps the exits of a hypervisor to the
+ * functions below.
  *
  * Functions. To pass on a guest's exits, call hvpm_hypercall() or hvpm_run(), and the accesses from
  * hvpm_read_msr() to hvpm_take_interrupt(). To make a hypercall of your own, call the function of its name,
@@ -27,13 +29,13 @@
  * Threads. Any thread may use a handle, one call at a time. Protect a shared handle with a lock of your own.
  * Different handles are independent.
  *
- * Memory. The library allocates with malloc and realloc, and frees with free. Apart from memcpy, memmove and
- * memset it calls nothing else. It reads no clock, no file and no guest memory, and keeps no pointer that you
- * pass.
+ * Memory. The library allocates with malloc and realloc, and frees with free. Apart from memchr, memcpy,
+ * memmove and memset it calls nothing else. It reads no clock, no file and no guest memory, and keeps no
+ * pointer that you pass.
  *
  * Linking. By default every function is `static inline` over symbols of the static library. Compile with
  * HVPM_NO_INLINE to call the functions that libhvpm.so and libhvpm.a export; hvpm.pc and the CMake package
- * define it. libhvpm.so needs it.
+ * define it. libhvpm.so needs it: without it, the linker finds no hv_embed_boot and the like.
  */
 #ifndef HVPM_H
 #define HVPM_H
@@ -180,16 +182,16 @@ enum hvpm_status {
     HVPM_STATUS_OK = 0,
     HVPM_STATUS_EMPTY = 1,    /* the handle has no machine */
     HVPM_STATUS_OCCUPIED = 2, /* boot: the handle already has a machine */
-    HVPM_STATUS_SHORT = 3,    /* a buffer is too small: a line's has bytes, but fewer than HVPM_LINE; one for
-                                 outputs has fewer than HVPM_OUTPUT; one for text is shorter than the text */
+    HVPM_STATUS_SHORT = 3,    /* a buffer is too small: `line_size` isn't 0 but less than HVPM_LINE,
+                                 `outputs_size` is less than HVPM_OUTPUT, or `text_size` is less than the
+                                 length of the text */
     HVPM_STATUS_USED_UP = 4,  /* the machine served 2^64 - 3 events, or took 2^64 - 1: it takes no more */
-    HVPM_STATUS_MEMORY = 5,   /* malloc failed; you may retry. Accesses never return this, and of the looks
-                                 only hvpm_table() */
+    HVPM_STATUS_MEMORY = 5,   /* out of memory; you may retry. Accesses never return this, and hvpm_table() is
+                                 the only look that does */
     HVPM_STATUS_PAGES = 6,    /* boot: no pages, or more than 65,536 */
     HVPM_STATUS_POOL = 7,     /* boot: more pooled pages than pages */
     HVPM_STATUS_VPS = 8,      /* boot: no processors, more than 64, or more than the pool can pay for */
-    HVPM_STATUS_NULL = 9,     /* a pointer is null: to a struct, to a number, or to a buffer whose length
-                                 isn't 0 */
+    HVPM_STATUS_NULL = 9,     /* a pointer is NULL. Only a buffer or an array of length 0 may be NULL */
     HVPM_STATUS_NONE = 10     /* look: there is no such partition, processor, SINT, register, port,
                                  connection or page. hvpm_access_line(): there is no such access */
 };
@@ -262,7 +264,7 @@ HVPM_INLINE void hvpm_destroy(hvpm_machine *machine);
  * Executes one hypercall of processor `by`: a simple call, or the element of a rep call at its start index.
  *
  * `input` holds the bytes from guest memory at RDX. Bytes that the list needs but `input` lacks read as zero.
- * Bytes past the list, and all input of a fast call, are ignored. Copy the output, at most 16 bytes, to guest
+ * Bytes past the list aren't read, and a fast call reads none. Copy the output, at most 16 bytes, to guest
  * memory at R8 + start index * output_len. If the kind is HVPM_REPLY_MORE, continue with hvpm_next(), at once
  * or when the guest calls again.
  *
@@ -274,8 +276,9 @@ HVPM_INLINE uint32_t hvpm_hypercall(hvpm_machine *machine, hvpm_caller by, const
                                     size_t line_size);
 
 /*
- * Executes a hypercall like hvpm_hypercall(), and of a rep call the elements after it, each as an event. It
- * is equivalent to a loop of hvpm_hypercall() and hvpm_next(), but copies the input list only once. It stops
+ * Executes a hypercall like hvpm_hypercall(). A rep call continues with its next elements, each as an event
+ * of its own. This is equivalent to a loop of hvpm_hypercall() and hvpm_next(), but copies the input list
+ * only once. It stops
  *
  * - after the last element, or one that a rule refuses;
  * - after one whose effect is neither HVPM_EFFECT_NOTHING nor HVPM_EFFECT_PAGE;
@@ -287,7 +290,7 @@ HVPM_INLINE uint32_t hvpm_hypercall(hvpm_machine *machine, hvpm_caller by, const
  * hvpm_next().
  *
  * `outputs` receives the output of all elements, one after another: copy done->output_len bytes to guest
- * memory at R8, from the first element's place on. The bytes behind them are unspecified. HVPM_STATUS_SHORT
+ * memory at R8, from the first element's place on. The bytes after them are unspecified. HVPM_STATUS_SHORT
  * means that `outputs` has fewer than HVPM_OUTPUT bytes. There are no audit lines: to get them, call
  * hvpm_hypercall() for each element.
  */
@@ -299,8 +302,8 @@ HVPM_INLINE uint32_t hvpm_run(hvpm_machine *machine, hvpm_caller by, const hvpm_
 HVPM_INLINE uint64_t hvpm_next(uint64_t rcx, const hvpm_reply *reply);
 
 /*
- * Accesses. Each is one event of processor `by`, on its own state. `line` and `line_size` are those of
- * hvpm_hypercall(). If a rule refuses it, the kind is HVPM_REPLY_FAULT.
+ * Accesses. Each is one event of processor `by`, on the state of that processor. `line` and `line_size` are
+ * those of hvpm_hypercall(). If a rule refuses the access, the kind is HVPM_REPLY_FAULT.
  */
 
 /* Reads a model-specific register. The output is its value: 8 bytes, little-endian. */
@@ -341,7 +344,7 @@ HVPM_INLINE uint32_t hvpm_take_interrupt(hvpm_machine *machine, hvpm_caller by, 
  * The 21 hypercalls by their fields, for a caller that is part of the host: a root that creates partitions,
  * ports and processors. Each function builds the input list and calls hvpm_hypercall() with it; `by`,
  * `reply`, `line` and the status are those of that call. docs/POLICY.md describes the fields and the rules.
- * The other pointers receive the call's output if it is served, and are left alone otherwise.
+ * The other pointers receive the call's output if it is served. Otherwise what they point to is unchanged.
  *
  * The four rep calls execute one element of `count`, the one at index `start`. Begin with 0, and continue
  * with `reply->next` while the kind is HVPM_REPLY_MORE:
@@ -354,7 +357,7 @@ HVPM_INLINE uint32_t hvpm_take_interrupt(hvpm_machine *machine, hvpm_caller by, 
  *     } while (reply.kind == HVPM_REPLY_MORE);
  */
 
-/* As a partition's id: the caller's own partition, HV_PARTITION_ID_SELF. */
+/* HV_PARTITION_ID_SELF. In a hypercall, this partition id means the caller's own partition. */
 #define HVPM_SELF UINT64_MAX
 
 /* The property codes of a partition. */
@@ -420,7 +423,7 @@ HVPM_INLINE uint32_t hvpm_withdraw_memory(hvpm_machine *machine, hvpm_caller by,
                                           uint64_t *pages, uint16_t count, uint16_t start, hvpm_reply *reply,
                                           char *line, size_t line_size);
 
-/* HvGetMemoryBalance. Stores how many pages of the partition's pool are available, and how many in use. */
+/* HvGetMemoryBalance. Stores how many pages of the partition's pool are available and how many are in use. */
 HVPM_INLINE uint32_t hvpm_get_memory_balance(hvpm_machine *machine, hvpm_caller by, uint64_t partition,
                                              uint64_t *available, uint64_t *in_use, hvpm_reply *reply,
                                              char *line, size_t line_size);
@@ -480,7 +483,7 @@ HVPM_INLINE uint32_t hvpm_connect_port(hvpm_machine *machine, hvpm_caller by,
  * except for hvpm_table(), allocates no memory. It changes nothing, but it is a call: don't make one while
  * another thread uses the handle.
  *
- * A look returns HVPM_STATUS_NONE if what it names doesn't exist. `of` may be any processor, also one of a
+ * A look returns HVPM_STATUS_NONE if what it names doesn't exist. `of` may be any processor, even one of a
  * partition that isn't Active.
  */
 
@@ -533,10 +536,10 @@ HVPM_INLINE uint32_t hvpm_features(const hvpm_machine *machine, uint64_t partiti
  */
 HVPM_INLINE uint32_t hvpm_table(const hvpm_machine *machine, char *text, size_t text_size, size_t *len);
 
-/* Returns whether the machine implements this model-specific register. All others are the VMM's. */
+/* Returns whether the machine implements this model-specific register. The VMM handles all others. */
 HVPM_INLINE bool hvpm_is_msr(uint32_t msr);
 
-/* Returns whether this is the code, bits 15:0 of RCX, of a hypercall that the machine implements. */
+/* Returns whether the machine implements the hypercall with this code, bits 15:0 of RCX. */
 HVPM_INLINE bool hvpm_is_call(uint16_t code);
 
 /* ---- Recording ---- */
@@ -550,9 +553,9 @@ HVPM_INLINE bool hvpm_is_call(uint16_t code);
  *     printf("boot %" PRIu32 " %" PRIu32 " %" PRIu32 " 0x%" PRIx64 " %" PRIu32 "\n",
  *            config.pages, config.pool, config.vps, config.mask, UINT32_MAX);
  *
- * Record each event that a caller makes, served or not, in the order of the calls. A rep call is one line,
- * which runs to its last element: record its first element, and none to which hvpm_next() leads. A rep call
- * whose elements were interrupted by other events, or that wasn't finished, runs differently.
+ * Record every event, served or not, in the order of the calls. A rep call is one line, which executes all of
+ * its elements: record only the first, and none that hvpm_next() leads to. A rep call that other events
+ * interrupted, or that wasn't finished, runs differently.
  *
  * A phase of a script has at most 64 processors: write a line "phase\n" before the first line of the 65th. A
  * script has at most 1,048,576 bytes. Send a longer recording to `hvpm serve`, which answers with the audit
@@ -565,12 +568,12 @@ HVPM_INLINE bool hvpm_is_call(uint16_t code);
 /* A buffer of this many bytes holds the line of any access, and of any hypercall without input. */
 #define HVPM_EVENT_LINE 96
 
-/* A buffer of this many bytes holds the line of any hypercall: 2 bytes for each byte of input. */
+/* A buffer of this many bytes holds the line of any hypercall, with 2 characters for each byte of input. */
 #define HVPM_CALL_LINE (HVPM_EVENT_LINE + 2 * 4096)
 
 /*
- * Writes the line of a hypercall, given as hvpm_hypercall() takes it. The line has the first 4,096 bytes of
- * the input: no input list is longer. To keep scripts short, pass only the bytes of the list.
+ * Writes the line of a hypercall, given as hvpm_hypercall() takes it. The line has the bytes of the call's
+ * input list, the first 4,096 of them: no list that rule P6 lets pass is longer.
  */
 HVPM_INLINE uint32_t hvpm_hypercall_line(hvpm_caller by, const hvpm_registers *registers, const void *input,
                                          size_t input_len, char *text, size_t text_size, size_t *len);
@@ -587,8 +590,8 @@ enum hvpm_access {
 };
 
 /*
- * Writes the line of an access. `access` is an enum hvpm_access, which says what `number` and `value` mean;
- * arguments that it doesn't use are ignored. Returns HVPM_STATUS_NONE if there is no such access.
+ * Writes the line of an access. `access` is an enum hvpm_access, which says what `number` and `value` mean.
+ * Arguments that it doesn't use are ignored. Returns HVPM_STATUS_NONE if there is no such access.
  */
 HVPM_INLINE uint32_t hvpm_access_line(hvpm_caller by, uint32_t access, uint32_t number, uint64_t value,
                                       char *text, size_t text_size, size_t *len);
@@ -596,11 +599,11 @@ HVPM_INLINE uint32_t hvpm_access_line(hvpm_caller by, uint32_t access, uint32_t 
 /* ---- Version and names ---- */
 
 /*
- * These functions return texts that are static, never NULL, and end with a zero.
- * For a number that isn't listed, they return "unknown".
+ * These functions return static strings, terminated by a zero and never NULL. For a number without a name
+ * they return "unknown".
  */
 
-/* Returns the library's version as "MAJOR.MINOR.PATCH", or this header's where the functions are inline. */
+/* Returns the library's version as "MAJOR.MINOR.PATCH", or this header's if the functions are inline. */
 HVPM_INLINE const char *hvpm_version(void);
 
 /* Returns the name of a status of this library, such as "HVPM_STATUS_OK" for 0. */

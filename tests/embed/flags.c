@@ -115,13 +115,15 @@ static void take(const struct guest *guest, uint32_t f) {
     __atomic_fetch_and(at, (uint8_t)~(1u << flags[f].flag % 8), __ATOMIC_SEQ_CST);
 }
 
-/* The vectors of a guest are this one, or none where it is 0. */
+/* The vectors of a guest are this one, or none where it is 0. Only a vector that was raised is an event. */
 static void raises(struct guest *guest, uint32_t vector) {
+    const uint64_t events = machine.events + (vector != 0);
     uint8_t found;
     holds("a vector is taken",
           hvpm_pages_vector(&machine, &guest->pages, &found) == HVPM_STATUS_OK && found == vector);
     holds("no vector is left",
           hvpm_pages_vector(&machine, &guest->pages, &found) == HVPM_STATUS_OK && found == 0);
+    holds("the library is called for a vector alone", machine.events == events);
 }
 
 static void step(uint32_t n, uint32_t what) {
@@ -164,18 +166,22 @@ static bool is_order(uint32_t number) {
     return number == 0;
 }
 
-/* A processor that is made again has none of the flags that the old one didn't take. */
+/* A processor that is made again has none of the flags and vectors that the old one didn't take. */
 static void is_reset(bool has_page) {
     hvpm_reply reply;
     step(0, 0);
-    if (!has_page) step(0, OFF);
+    holds("a vector that nobody takes", send(0, 1) != 0);
+    if (!has_page) move(&guests[0], false, NULL);
     served("its end", hvpm_delete_vp(&machine, root, 2, 0, &reply, NULL, 0), &reply);
     served("a new one", hvpm_create_vp(&machine, root, 2, 0, &reply, NULL, 0), &reply);
-    guests[0].is_on = false, guests[0].page = NULL, guests[0].is_set[0] = guests[0].waits[0] = false;
+    raises(&guests[0], 0);
+    guests[0].is_on = false, guests[0].page = NULL;
+    for (uint32_t f = 0; f < FLAGS; f++) guests[0].is_set[f] = guests[0].waits[f] = false;
     write_msr(&guests[0], MSR_SCONTROL, 1);
     step(0, HERE);
     shows(&guests[0]);
-    write_msr(&guests[0], MSR_SINT0 + flags[0].sint, flags[0].vector);
+    for (uint32_t f = 0; f < FLAGS; f++)
+        write_msr(&guests[0], MSR_SINT0 + flags[f].sint, flags[f].vector);
 }
 
 int main(void) {

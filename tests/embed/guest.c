@@ -143,7 +143,7 @@ static void has_lists(void) {
         holds("an output list", hvpm_guest_has_output(&call) == rows[i].has_output);
         holds("a fast call has none", !hvpm_guest_has_input(&fast) && !hvpm_guest_has_output(&fast));
     }
-    const hvpm_registers call = {0x0FFE0FFF00000048, 0, 0};
+    const hvpm_registers call = {0xFFFEFFFF00000048, 0, 0}; /* bits 63:60 are no part of the start index */
     holds("a list elsewhere", hvpm_guest_no_list(&call) == 0x00000FFE00000004);
 }
 
@@ -230,6 +230,10 @@ static void is_identity(void) {
     holds("a page outside memory",
           hvpm_guest_write_msr(&guest, 3, every, 0x40000001, 0xFFFFFFFFF001, false) == HVPM_GUEST_FAULT &&
               guest.hypercall == (page | 1));
+    holds("bits 11:2 are kept",
+          hvpm_guest_write_msr(&guest, 3, every, 0x40000001, page | 0xFFD, true) == HVPM_GUEST_CODE &&
+              guest.hypercall == (page | 0xFFD) &&
+              hvpm_guest_write_msr(&guest, 3, every, 0x40000001, page | 1, true) == HVPM_GUEST_CODE);
     holds("another OS id disables nothing",
           hvpm_guest_write_msr(&guest, 0, every, 0x40000000, 5, false) == HVPM_GUEST_DONE &&
               guest.hypercall == (page | 1));
@@ -249,8 +253,15 @@ static void is_locked(void) {
           hvpm_guest_write_msr(&guest, 0, every, 0x40000001, 0x5003, true) == HVPM_GUEST_CODE);
     holds("stays", hvpm_guest_write_msr(&guest, 0, every, 0x40000001, 0x6001, true) == HVPM_GUEST_DONE &&
                        guest.hypercall == 0x5003);
+    holds("wherever the other is",
+          hvpm_guest_write_msr(&guest, 0, every, 0x40000001, 0xFFFFFFFFF001, false) == HVPM_GUEST_DONE &&
+              guest.hypercall == 0x5003);
     holds("and is disabled by the OS id",
           hvpm_guest_write_msr(&guest, 0, every, 0x40000000, 0, true) == HVPM_GUEST_DONE &&
+              guest.hypercall == 0x5002);
+    hvpm_guest_write_msr(&guest, 0, every, 0x40000000, 1, true);
+    holds("for good",
+          hvpm_guest_write_msr(&guest, 0, every, 0x40000001, 0x5003, true) == HVPM_GUEST_DONE &&
               guest.hypercall == 0x5002);
 }
 

@@ -16,7 +16,8 @@ enum {
 };
 
 static const hvpm_caller root = {1, 0};
-static const hvpm_registers own_id = {.rcx = 0x46}, two_reads = {.rcx = 0x0000000200000050};
+/* HvSetVpRegisters with 4,095 registers, whose list has 131,056 bytes. No page has it, so P6 refuses the call. */
+static const hvpm_registers longest = {.rcx = 0x00000fff00000051};
 static hvpm_machine machine = HVPM_EMPTY;
 
 static void must(bool holds, const char *what, size_t bytes) {
@@ -33,7 +34,7 @@ static size_t in_use(void) {
 
 static void take_call(const uint8_t *input, size_t len) {
     hvpm_reply reply;
-    must(hvpm_hypercall(&machine, root, &own_id, input, len, &reply, NULL, 0) == HVPM_STATUS_OK,
+    must(hvpm_hypercall(&machine, root, &longest, input, len, &reply, NULL, 0) == HVPM_STATUS_OK,
          "a call with a list", len);
 }
 
@@ -41,7 +42,7 @@ static void take_run(const uint8_t *input, size_t len) {
     uint8_t outputs[64];
     hvpm_reply reply;
     hvpm_run_done done;
-    must(hvpm_run(&machine, root, &two_reads, input, len, &reply, outputs, sizeof outputs, &done) ==
+    must(hvpm_run(&machine, root, &longest, input, len, &reply, outputs, sizeof outputs, &done) ==
              HVPM_STATUS_OK,
          "a run with a list", len);
 }

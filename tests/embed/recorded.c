@@ -200,16 +200,21 @@ static void is_call(hvpm_caller by, hvpm_registers registers, const void *input,
 static void calls(void) {
     static uint8_t input[5000];
     static const hvpm_caller last = {UINT64_MAX, UINT32_MAX};
-    static const hvpm_registers most = {UINT64_MAX, UINT64_MAX, UINT64_MAX};
+    /* HvSetVpRegisters with 4,095 registers, and all reserved bits. */
+    static const hvpm_registers most = {UINT64_C(0xFFFFFFFFFFFE0051), UINT64_MAX, UINT64_MAX};
     static const char head[] =
-        "18446744073709551615.4294967295 call 0xffffffffffffffff 0xffffffffffffffff 0xffffffffffffffff ";
-    static const hvpm_registers id = {0x46, 0, 0}, fast = {0x1004E, 2, 1},
+        "18446744073709551615.4294967295 call 0xfffffffffffe0051 0xffffffffffffffff 0xffffffffffffffff ";
+    static const hvpm_registers id = {0x46, 0, 0}, create = {0x40, 0, 0}, fast = {0x1004E, 2, 1},
                                 deposit = {UINT64_C(0x600000048), 0x3000, 0};
     char wanted[HVPM_CALL_LINE + 1];
     is_call(root, id, NULL, 0, "1.0 call 0x46 0x0 0x0 -\n");
     is_call(guest, fast, NULL, 0, "2.1 call 0x1004e 0x2 0x1 -\n");
     is_call(root, deposit, "\x02\x00\xAB", 3,
             "1.0 call 0x600000048 0x3000 0x0 0200ab\n");
+    /* No byte but those of the list. */
+    is_call(root, id, "\x02", 1, "1.0 call 0x46 0x0 0x0 -\n");
+    is_call(guest, fast, "\x02", 1, "2.1 call 0x1004e 0x2 0x1 -\n");
+    is_call(root, create, "\1\2\3\4\5\6\7\x08\x09", 9, "1.0 call 0x40 0x0 0x0 0102030405060708\n");
     /* The longest ones: of an input list there are at most 4,096 bytes. */
     snprintf(wanted, sizeof wanted, "%s-\n", head);
     holds("the longest line without input", strlen(wanted) == HVPM_EVENT_LINE);

@@ -157,7 +157,7 @@ int main(void) {
     tell((struct call){"post third", {.rcx = 0x5C}, LIST(message)});
     tell((struct call){"withdraw", {.rcx = REP(0x49, 3)}, LIST(second)});
     tell((struct call){"deposit pooled", {.rcx = REP(0x48, 2)}, LIST(pooled)});
-    tell((struct call){"long list", {.rcx = 0x46}, LIST(longest)});
+    tell((struct call){"long list", {.rcx = REP(0x51, 4095)}, LIST(longest)});
     tell((struct call){"finalize", {.rcx = 0x10042, .rdx = 2}, NULL, 0});
     tell((struct call){"delete", {.rcx = 0x10043, .rdx = 2}, NULL, 0});
     hvpm_destroy(&machine);

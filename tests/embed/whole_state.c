@@ -419,7 +419,7 @@ int main(int argc, char **argv) {
     const uint64_t events = strtoull(argv[2], NULL, 10);
     for (number = 1; number <= events; number++) {
         take_random();
-        if (!is_used() && number % 500 != 0) continue;
+        if (!is_used() && number % 150 != 0) continue;
         destroy();
         boot();
     }

@@ -1,6 +1,9 @@
 -- The arguments and replies of C, beside the policy's events and replies.
-use Rattle.std.specs.Prelude.{◌≡◌, ◌++◌, ℕ, List, length, take, codes}
+use Rattle.std.specs.Prelude.{◌≡◌, ◌++◌, ℕ, List, length, take, codes, if◌then◌else◌}
 use Rattle.std.specs.Global.{Global}
+use Rattle.std.specs.Option.{option_map_or}
+use Rattle.hv_abi.specs.CallRow.{input_len, kind_of, row_of}
+use Rattle.hv_abi.specs.InputValue.{input_value}
 use Rattle.hv_abi.specs.declared.frame.Frame.{Frame}
 use Rattle.hv_privs.specs.Privileges.{of}
 use Rattle.hv_policy.specs.Result.{result_of}
@@ -30,13 +33,20 @@ config_of c = record { pages = c.pages; pool = c.pool; vps = c.vps; mask = of c.
 abbrev pub caller_of : HvCaller → Caller
 caller_of by = record { part = by.part; vp = by.vp }
 
--- the frame of a call with this input list
+-- the length of a call's input list. A fast call has none, and no unknown code has one
+abbrev pub list_len : ℕ → ℕ
+list_len rcx =
+    if (input_value rcx).fast then 0
+    else option_map_or (λ kind. input_len (row_of kind) (input_value rcx).reps)
+    (kind_of (input_value rcx).call) 0
+
+-- the frame of a call, whose input list is at the start of these bytes
 abbrev pub frame_of : HvRegisters → List ℕ → Frame Global
 frame_of registers input = record {
   rcx = registers.rcx;
   rdx = registers.rdx;
   r8 = registers.r8;
-  input = input;
+  input = take (list_len registers.rcx) input;
 }
 
 -- an event of the processor that C names

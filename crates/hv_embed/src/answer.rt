@@ -5,17 +5,17 @@ ghost use Rattle.hv_defs.specs.declared.sizes.TheConstants.{REPS_END};
 ghost use Rattle.hv_history.specs.History.{entry_by};
 ghost use Rattle.hv_history.specs.Row.{action_of};
 ghost use Rattle.hv_machine.specs.Access.{access_reply, effect_in};
-ghost use Rattle.hv_policy.specs.Call.{action_of as action_by, call_event};
+ghost use Rattle.hv_policy.specs.Call.{action_of as action_by};
 ghost use Rattle.hv_policy.specs.Parts.{next_in, reply_of};
 ghost use Rattle.hv_policy.specs.declared.event.Action.TheVariants.{Hypercall};
-ghost use Rattle.hv_embed.specs.Answer.{HasOutput, IsAnswer, Says, line_text, result_in as result_by};
+ghost use Rattle.hv_embed.specs.Answer.{HasOutput, IsAnswer, line_text, result_in as result_by};
 ghost use Rattle.hv_embed.specs.Taken.{HasLine, is_short as is_short_len};
 
 use crate::layout::{DENIED, FAULT, HvReply, MORE, SERVED};
 use hv_abi::Frame;
 use hv_effect::Effect;
 use hv_history::{EntryRef, Request};
-use hv_machine::{Access, Answer, Caller, Output};
+use hv_machine::{Access, Answer};
 use hv_policy::{Rule, result_value};
 use hv_text::{LINE, Scratch, audit_line};
 use std::alloc::Global;
@@ -38,38 +38,30 @@ pub(crate) fn answer(
         (entry_by entry.now).event (entry_by {A = Global} entry.now).reply) }
     ensures effect { reply.new.effect ≡ reply.old.effect }
 {
-    fill_reply(entry.answer, entry.output, reply);
-    reply.result = result_in(entry.asked, entry.answer);
-    reply.line_len = if line.is_empty() {
-        0
-    } else {
-        audit_line::<Global>(scratch, line, number, entry) as u32
-    };
+    fill_reply(entry.asked, entry.answer, entry.output, reply);
+    if !line.is_empty() {
+        reply.line_len = audit_line::<Global>(scratch, line, number, entry) as u32;
+    }
 }
 
-// Returns the entry of a hypercall with this answer and output.
-pub(crate) fn call_entry<'t>(
-    by: Caller,
-    frame: &'t Frame<Global>,
-    answer: Answer,
-    output: &'t Output,
-) -> EntryRef<'t>
-    ensures event { (entry_by result).event ≡ call_event by frame.now }
-    ensures asked { action_of result.asked result.input.now ≡ Hypercall frame.now }
-    ensures answer { result.answer ≡ answer }
-    ensures output { result.output.now ≡ output.now }
-    ensures most { length result.output.now ≤ 256 }
+// Fills the reply to an event that has no line. The effect stays.
+// Inlined: calls for the own id in bench/embed.sh.
+#[inline(always)]
+pub(crate) fn fill_reply(asked: Request, answer: Answer, output: &[u8], reply: &mut HvReply)
+    requires most { length output.now ≤ 256 }
+    requires index { next_in (reply_of answer []) < REPS_END }
+    ensures answer { (input : List ℕ)
+        → IsAnswer reply.new (action_of asked input) (reply_of answer output.now) }
+    ensures line { reply.new.line_len ≡ 0 }
+    ensures effect { reply.new.effect ≡ reply.old.effect }
 {
-    EntryRef {
-        by,
-        asked: Request::Hypercall {
-            rcx: frame.rcx,
-            rdx: frame.rdx,
-            r8: frame.r8,
-        },
-        input: frame.input.as_slice(),
-        answer,
-        output: output.as_slice(),
+    reply.result = result_in(asked, answer);
+    reply.line_len = 0;
+    match answer {
+        Answer::Served => put(SERVED, 0, 0, output, reply),
+        Answer::More { next } => put(MORE, 0, u32::from(next), output, reply),
+        Answer::Denied { rule, .. } => put(DENIED, u32::from(rule.number()), 0, &[], reply),
+        Answer::Fault { rule } => put(FAULT, u32::from(rule.number()), 0, &[], reply),
     }
 }
 
@@ -82,6 +74,17 @@ pub(crate) fn parted(became: Result<Effect, Rule>) -> (Answer, Effect)
     match became {
         Ok(effect) => (Answer::Served, effect),
         Err(rule) => (Answer::Fault { rule }, Effect::Nothing),
+    }
+}
+
+// Returns the request of a call with this frame.
+pub(crate) fn asked_in(frame: &Frame<Global>) -> Request
+    ensures { action_of result frame.now.input ≡ Hypercall frame.now }
+{
+    Request::Hypercall {
+        rcx: frame.rcx,
+        rdx: frame.rdx,
+        r8: frame.r8,
     }
 }
 
@@ -100,20 +103,6 @@ pub(crate) fn asked_of(access: Access) -> Request
     }
 }
 
-// Writes how an event ended, and its output, into a reply.
-fn fill_reply(answer: Answer, output: &[u8], reply: &mut HvReply)
-    requires { length output.now ≤ 256 }
-    ensures says { Says reply.new (reply_of answer output.now) }
-    ensures effect { reply.new.effect ≡ reply.old.effect }
-{
-    match answer {
-        Answer::Served => put(SERVED, 0, 0, output, reply),
-        Answer::More { next } => put(MORE, 0, u32::from(next), output, reply),
-        Answer::Denied { rule, .. } => put(DENIED, u32::from(rule.number()), 0, &[], reply),
-        Answer::Fault { rule } => put(FAULT, u32::from(rule.number()), 0, &[], reply),
-    }
-}
-
 // Writes these fields into a reply. The bytes of its output beyond `output` keep their values.
 fn put(kind: u32, rule: u32, next: u32, output: &[u8], reply: &mut HvReply)
     requires { length output.now ≤ 256 }
@@ -121,6 +110,8 @@ fn put(kind: u32, rule: u32, next: u32, output: &[u8], reply: &mut HvReply)
     ensures rule { reply.new.rule ≡ rule }
     ensures next { reply.new.next ≡ next }
     ensures output { HasOutput reply.new output.now }
+    ensures result { reply.new.result ≡ reply.old.result }
+    ensures line { reply.new.line_len ≡ reply.old.line_len }
     ensures effect { reply.new.effect ≡ reply.old.effect }
 {
     reply.kind = kind;

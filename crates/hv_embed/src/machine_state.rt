@@ -1,9 +1,9 @@
 // The contents of a handle's block: a machine, and memory that its events reuse.
-ghost use Rattle.std.specs.Prelude.{◌≡◌, OnOk};
-ghost use Rattle.hv_embed.specs.Answer.{frame_of as frame_by};
+ghost use Rattle.std.specs.Prelude.{◌≡◌, OnOk, take};
+ghost use Rattle.hv_embed.specs.Answer.{frame_of as frame_by, list_len};
 
 use crate::layout::HvRegisters;
-use hv_abi::{Bytes, Frame};
+use hv_abi::{Bytes, CallKind, Frame, InputValue};
 use hv_machine::{Machine, Output};
 use hv_text::Scratch;
 use std::alloc::{AllocError, Global};
@@ -15,14 +15,13 @@ const MOST_SPARE: usize = 8192;
 
 /// A machine, and the memory that its events reuse.
 ///
-/// The memory holds a call's frame, an event's output, the output of a run's next element, and the audit's
-/// next line. Contracts see the machine alone.
+/// The memory holds a call's frame, an event's output, and the audit's next line. Contracts see the machine
+/// alone.
 #[derive(Drop)]
 pub struct MachineState {
     pub(crate) machine: Machine<Global>,
     pub(crate) frame: Frame<Global>,
     pub(crate) output: Output,
-    pub(crate) spare: Output,
     pub(crate) scratch: Scratch,
 }
 
@@ -45,7 +44,6 @@ impl MachineState {
             machine,
             frame: no_frame(alloc),
             output: Output::new(),
-            spare: Output::new(),
             scratch: Scratch::new(),
         }
     }
@@ -70,7 +68,8 @@ pub(crate) fn no_frame(alloc: Global) -> Frame<Global> {
     }
 }
 
-// Fills a frame with these registers and bytes, in the memory that it has if that is enough.
+// Fills a frame with these registers and the input list at the start of these bytes, in the memory that it
+// has if that is enough.
 pub(crate) fn refill(
     frame: &mut Frame<Global>,
     registers: &HvRegisters,
@@ -81,5 +80,18 @@ pub(crate) fn refill(
     frame.rcx = registers.rcx;
     frame.rdx = registers.rdx;
     frame.r8 = registers.r8;
-    frame.input.refill(input)
+    frame.input.refill(list_in(registers.rcx, input))
+}
+
+// Returns the input list of a call, which is at the start of these bytes. Bytes behind it aren't read.
+#[tactic(auto, using(std::proofs::lemmas::List::take_min))]
+fn list_in(rcx: u64, input: &[u8]) -> &[u8]
+    ensures { result.now ≡ take (list_len rcx) input.now }
+{
+    let value = InputValue::read(rcx);
+    let len = match CallKind::of(value.call) {
+        Some(kind) if !value.fast => kind.input_len(value.reps) as usize,
+        Some(_) | None => 0,
+    };
+    &input[..len.min(input.len())]
 }

@@ -18,7 +18,7 @@ ghost use Rattle.hv_embed.specs.Taken.{is_used_up as is_used_up_at};
 ghost use Rattle.hv_embed.specs.declared.layout.TheConstants.{ELEMENT_OUTPUT};
 ghost use Rattle.hv_embed.specs.declared.status.TheConstants.{DONE, USED_UP, MEMORY};
 
-use crate::answer::{answer, call_entry};
+use crate::answer::{asked_in, fill_reply};
 use crate::effect::{is_quiet, show};
 use crate::layout::{ELEMENT_OUTPUT, HvEffect, HvRegisters, HvReply, HvRun};
 use crate::machine_state::{MachineState, no_frame, refill};
@@ -82,13 +82,11 @@ pub(crate) fn step_run(
         &mut state.frame,
         &mut last,
         &mut state.output,
-        &mut state.spare,
         &mut reply.effect,
         outputs,
         &mut at,
     );
-    let entry = call_entry(by, &state.frame, last, &state.output);
-    answer(&entry, *events, &mut state.scratch, reply, &mut []);
+    fill_reply(asked_in(&state.frame), last, state.output.as_slice(), reply);
     *done = HvRun {
         events: more + 1,
         output_len: at as u32,
@@ -98,8 +96,9 @@ pub(crate) fn step_run(
 
 // Takes the elements after the last one, one after another, and returns how many it took. It stops after the
 // call's last element, or after one that isn't served or whose effect names more than a page. It also stops
-// when the buffer has no room for an output, or no more events are counted. An element that the host refuses
-// didn't happen, so each writes its output to `spare`, and `output` keeps that of the last one that did.
+// when the buffer has no room for an output, or no more events are counted. Each element writes its output in
+// place of the last one's. An element that the host refuses didn't happen, so `output` gets the last one's
+// back from the caller's buffer, which begins with the output of the first element.
 fn run_on(
     alloc: Global,
     machine: &mut Machine<Global>,
@@ -108,12 +107,13 @@ fn run_on(
     frame: &mut Frame<Global>,
     last: &mut Answer,
     output: &mut Output,
-    spare: &mut Output,
     effect: &mut HvEffect,
     outputs: &mut [u8],
     at: &mut usize,
 ) -> u32
     requires place { at.old ≤ length outputs.old }
+    requires first { take at.old outputs.old ≡ output_in (reply_of last.old output.old) }
+    requires most { at.old ≤ ELEMENT_OUTPUT }
     requires index { HasResult (reply_of last.old output.old) }
     requires lasting { MachineInvariant machine.old }
     requires sound { IsSound machine.old }
@@ -137,6 +137,7 @@ fn run_on(
     ensures lasting { MachineInvariant machine.new }
     ensures sound { IsSound machine.new }
 {
+    let mut from = 0;
     for more in 0..u32::from(REPS_END) {
         let Some(next) = next_of(*last) else {
             return more;
@@ -147,16 +148,17 @@ fn run_on(
         }
         let rcx = frame.rcx;
         restart(alloc, frame, next);
-        spare.clear();
-        let Ok((told, change)) = machine.hypercall(by, frame, spare) else {
+        output.clear();
+        let Ok((told, change)) = machine.hypercall(by, frame, output) else {
             frame.rcx = rcx;
+            output.clear();
+            output.extend_from_slice(&outputs[from..*at]);
             return more;
         };
         *events += 1;
-        *at = append_output(told, spare, outputs, *at);
+        from = *at;
+        *at = append_output(told, output, outputs, from);
         *last = told;
-        output.clear();
-        output.extend_from_slice(spare.as_slice());
         show(change, effect);
     }
     u32::from(REPS_END)

@@ -7,7 +7,7 @@ ghost use Rattle.hv_embed.specs.Taken.{IsAsBefore, IsStepped, IsTaken, is_short 
 ghost use Rattle.hv_embed.specs.Taken.{is_used_up as is_used_up_at, readiness};
 ghost use Rattle.hv_embed.specs.declared.status.TheConstants.{DONE, USED_UP, MEMORY};
 
-use crate::answer::{answer, asked_of, call_entry, is_short, parted};
+use crate::answer::{answer, asked_in, asked_of, is_short, parted};
 use crate::effect::show;
 use crate::handle::{HvMachine, state_of};
 use crate::layout::{HvCaller, HvRegisters, HvReply};
@@ -86,7 +86,13 @@ pub(crate) fn step_call(
     };
     *events += 1;
     show(effect, &mut reply.effect);
-    let entry = call_entry(by, &state.frame, told, &state.output);
+    let entry = EntryRef {
+        by,
+        asked: asked_in(&state.frame),
+        input: state.frame.input.as_slice(),
+        answer: told,
+        output: state.output.as_slice(),
+    };
     answer(&entry, *events, &mut state.scratch, reply, line);
     DONE
 }
