@@ -1,11 +1,17 @@
 // Explaining an audit, from both texts to an exit status.
-ghost use Rattle.std.specs.Prelude.{◌≡◌, ◌≢◌, ◌<◌, true, IfSome, length};
-ghost use Rattle.hv_check.specs.Legal.{IsLegalOf};
+ghost use Rattle.std.specs.Prelude.{◌≡◌, ◌≢◌, ◌<◌, true, IfErr, IfOk, OnOk, length};
+ghost use Rattle.std.specs.Io.KnownBytes.{Appends};
+ghost use Rattle.hv_check.specs.Legal.{IsLegal, IsLegalOf};
+ghost use Rattle.hv_follow.specs.Followed.{HasFollowed, HasFollowedText, IsFollowed};
+ghost use Rattle.hv_run.specs.Failure.{exit_of};
+ghost use Rattle.hv_run.specs.declared.failure.Exit.TheVariants as exit;
+ghost use Rattle.hv_script.specs.Reading.{said};
 
+use crate::line::{behind_last, is_end};
 use hv_check::{Replay, check_text};
 use hv_explain::explain_event;
 use hv_history::Kept;
-use hv_policy::Caller;
+use hv_policy::{BootRefused, Caller};
 use hv_run::{Exit, Failure, tell};
 use hv_script::{Script, parse, processor};
 use hv_words::Words;
@@ -23,7 +29,10 @@ pub fn follow_text<W: Write, E: Write>(
     out: &mut W,
     err: &mut E,
 ) -> Exit
+    ensures told { result ≡ Exit.Done → HasFollowedText script.now audit.now (W.contents out.old)
+        (W.contents out.new) }
     ensures legal { result ≡ Exit.Done → IsLegalOf true true script.now audit.now }
+    ensures illegal { result ≡ Exit.Script → IsLegalOf true true script.now audit.now → ⊥ }
     ensures no_usage { result ≢ Exit.Usage }
 {
     let mut told: Vec<u8> = Vec::new(alloc);
@@ -37,6 +46,8 @@ pub fn follow_text<W: Write, E: Write>(
 fn show<W: Write, E: Write>(exit: Exit, told: &[u8], out: &mut W, err: &mut E) -> Exit
     requires done { exit ≢ Exit.Done }
     requires usage { exit ≢ Exit.Usage }
+    ensures told { result ≡ Exit.Script → Appends (W.contents out.old) (W.contents out.new) told.now }
+    ensures script { result ≡ Exit.Script → exit ≡ Exit.Script }
     ensures done { result ≢ Exit.Done }
     ensures usage { result ≢ Exit.Usage }
 {
@@ -54,7 +65,10 @@ fn explain<W: Write, E: Write>(
     out: &mut W,
     err: &mut E,
 ) -> Exit
-    ensures { result ≢ Exit.Usage }
+    ensures told { result ≡ Exit.Done → HasFollowedText script.now audit.now (W.contents out.old)
+        (W.contents out.new) }
+    ensures illegal { result ≡ Exit.Script → IsLegalOf true true script.now audit.now → ⊥ }
+    ensures no_usage { result ≢ Exit.Usage }
 {
     match parse(alloc, script) {
         Ok(script) => match follow(alloc, script, audit, out) {
@@ -65,64 +79,80 @@ fn explain<W: Write, E: Write>(
     }
 }
 
-// Takes the events of an audit, and explains them.
+// Takes the events of an audit, and explains them. It fails at a line that isn't the policy's, which no legal
+// audit has.
 fn follow<W: Write>(
     alloc: Global,
     script: Script<Global>,
     audit: &[u8],
     out: &mut W,
-) -> Result<(), Failure> {
+) -> Result<(), Failure>
+    ensures told { OnOk result
+        (HasFollowed (said script) audit.now (W.contents out.old) (W.contents out.new)) }
+    ensures refused { IfErr result (λ failure. exit_of failure ≡ exit.Script
+        → IsLegal true true (said script) audit.now → ⊥) }
+{
     let Script {
         config,
         limit,
         lines,
     } = script;
-    let mut kept = Kept::boot(alloc, config, limit)?;
+    let mut kept = match Kept::boot(alloc, config, limit) {
+        Ok(kept) => kept,
+        Err(BootRefused::Memory) => return Err(Failure::Memory),
+        Err(refused) => return Err(Failure::from(refused)),
+    };
     let mut replay = Replay::new(alloc, lines);
     let mut room = Words::new();
     let mut left = audit;
-    while let Some((by, rest)) = next_caller(left) {
-        left = rest;
-        step(&mut kept, &mut replay, by, &mut room, out)?;
+    while let Some(by) = caller_in(left) {
+        left = step(&mut kept, &mut replay, by, &mut room, left, out)?;
     }
-    out.flush().map_err(|_| Failure::Write)
+    if !is_end(left, kept.history().len() as u64) {
+        return Err(Failure::Differs);
+    }
+    match out.flush() {
+        Ok(()) => Ok(()),
+        Err(_) => Err(Failure::Write),
+    }
 }
 
-// Takes the next event of a processor, and explains it.
-fn step<W: Write>(
+// Takes the next event of a processor, explains it, and returns the text after its line.
+fn step<'a, W: Write>(
     kept: &mut Kept<Global>,
     replay: &mut Replay,
     by: Caller,
     room: &mut Words,
+    text: &'a [u8],
     out: &mut W,
-) -> Result<(), Failure> {
+) -> Result<&'a [u8], Failure>
+    ensures followed { IfOk result (λ rest. IsFollowed kept.old kept.new text.now rest.now
+        (W.contents out.old)
+        (W.contents out.new)) }
+    ensures shorter { IfOk result (λ rest. length rest.now < length text.now) }
+    ensures host { IfErr result (λ failure. exit_of failure ≡ exit.Host) }
+{
     if replay.begin().is_err() {
         return Err(Failure::Memory);
     }
-    // A legal audit names only processors that have an action left.
     let Some(action) = replay.next(by) else {
-        return Ok(());
+        return Err(Failure::Differs);
     };
     let reply = explain_event(kept, by, action, room, out)?;
     replay.go_on(by, &reply);
-    Ok(())
+    match behind_last(kept, text) {
+        Some(rest) => Ok(rest),
+        None => Err(Failure::Differs),
+    }
 }
 
-// Returns the processor of an audit's first line, if that is the line of an event, and the text after the
-// line.
-fn next_caller(audit: &[u8]) -> Option<(Caller, &[u8])>
-    ensures { IfSome result (λ r. length r.1.now < length audit.now) }
-{
-    let end = audit.iter().position(|byte| *byte == b'\n')?;
-    let line = &audit[..end];
-    let start = line.iter().position(|byte| *byte == b' ')? + 1;
-    let word = &line[start..];
+// Returns the processor of an audit's first line, if that is the line of an event.
+fn caller_in(audit: &[u8]) -> Option<Caller> {
+    let start = audit.iter().position(|byte| *byte == b' ')? + 1;
+    let word = &audit[start..];
     let len = word
         .iter()
         .position(|byte| *byte == b' ')
         .unwrap_or(word.len());
-    match processor(&word[..len]) {
-        Ok(by) => Some((by, &audit[end + 1..])),
-        Err(_) => None,
-    }
+    processor(&word[..len]).ok()
 }
