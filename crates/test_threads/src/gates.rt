@@ -274,3 +274,43 @@ impl Gate for Notes {
         note(&self.left, turn);
     }
 }
+
+// Records the callers of its calls, each as ten times its partition plus its processor, as [`Notes`] records
+// turns.
+#[derive(Drop)]
+pub(crate) struct Names {
+    entered: AtomicU64,
+    left: AtomicU64,
+}
+
+impl Names {
+    pub(crate) fn new() -> Names {
+        Names {
+            entered: AtomicU64::new(0),
+            left: AtomicU64::new(0),
+        }
+    }
+
+    // Asserts that it was called for both ends of the holds of these callers.
+    pub(crate) fn assert_told(&self, rt: &impl Abort, callers: u64) {
+        assert_eq!(rt; self.entered.load(Ordering::SeqCst), callers);
+        assert_eq!(rt; self.left.load(Ordering::SeqCst), callers);
+    }
+}
+
+fn name(callers: &AtomicU64, by: Caller) {
+    note(
+        callers,
+        by.part.wrapping_mul(10).wrapping_add(u64::from(by.vp)),
+    );
+}
+
+impl Gate for Names {
+    fn enter<R: Wait>(&self, _rt: &R, by: Caller, _turn: u64) {
+        name(&self.entered, by);
+    }
+
+    fn leave<R: Wait>(&self, _rt: &R, by: Caller, _turn: u64) {
+        name(&self.left, by);
+    }
+}

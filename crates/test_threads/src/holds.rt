@@ -1,11 +1,13 @@
 // Rep calls of one processor alone and of two, which continue by sixteen elements at a time.
 ghost use Rattle.std.specs.Prelude.{◌≡◌};
 
-use crate::calls::{assert_events, both, forty_reads, open, phase, root, settled, small};
-use crate::gates::{Alternation, Notes};
+use crate::calls::{
+    OWN_ID, assert_events, both, call, forty_reads, open, open_for, phase, root, settled, small,
+};
+use crate::gates::{Alternation, Names, Notes};
 use hv_abi::Frame;
 use hv_history::{Answer, History};
-use hv_policy::Reply;
+use hv_policy::{Action, Caller, Reply};
 use hv_threads::{Pass, Receipts, Shared};
 use std::alloc::Global;
 use std::marker::Brand;
@@ -112,4 +114,48 @@ fn takes_turns_as<L: Ledger + Send + Sync, R: Abort + Clock + Threads + Wait + S
 #[test]
 fn takes_turns(rt: HostRuntime) -> Result<(), Fail> {
     takes_turns_as::<Brand, HostRuntime>(&rt, rt.alloc(), Blank::new(2))
+}
+
+// A processor of another partition than the root.
+const STRANGER: Caller = Caller { part: 7, vp: 3 };
+
+// The callers of a call and an access of the stranger, and of a call of processor 1 of the root, as the gate
+// records them.
+const THREE_CALLERS: u64 = 74_74_12;
+
+// Asks for its own id.
+fn ask<L: Ledger, R: Abort + Wait>(
+    rt: &R,
+    alloc: Global,
+    shared: &Shared<L>,
+    pass: &mut Pass<L>,
+    gate: &Names,
+) -> Result<(), Fail> {
+    shared.drive(rt, pass, gate, call(OWN_ID, Vec::new(alloc)))?;
+    Ok(())
+}
+
+fn tells_callers_as<L: Ledger, R: Abort + Wait>(
+    rt: &R,
+    alloc: Global,
+    blank: Blank,
+) -> Result<(), Fail>
+    requires { (blank.name ≡ L.name) × (blank.parts ≡ L.parts) × (blank.parts ≡ 2) }
+{
+    let callers = [STRANGER, root(1)];
+    let (shared, mut stranger, mut own) = open_for::<L>(rt, alloc, blank, small(), 9, callers)?;
+    let gate = Names::new();
+    ask(rt, alloc, &shared, &mut stranger, &gate)?;
+    shared.call(rt, &mut stranger, &gate, Action::TakeInterrupt)?;
+    ask(rt, alloc, &shared, &mut own, &gate)?;
+    gate.assert_told(rt, THREE_CALLERS);
+    let kept = settled(rt, shared, vec![in alloc; stranger, own]?);
+    assert_events(rt, &kept, 3);
+    Ok(())
+}
+
+// A gate is told which processor enters and leaves.
+#[test]
+fn tells_callers(rt: HostRuntime) -> Result<(), Fail> {
+    tells_callers_as::<Brand, HostRuntime>(&rt, rt.alloc(), Blank::new(2))
 }
