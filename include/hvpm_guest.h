@@ -1,8 +1,7 @@
 /*
- * What lies between a guest's processor and the library: the two calling conventions of a hypercall, the
- * registers that belong to the hypervisor itself, and the CPUID leaves (TLFS 4.0, "Hypercall Interface" and
- * "Feature and Interface Discovery"). All of it is plain code over plain structs: no function here touches a
- * machine or a guest's memory, injects anything, or keeps a pointer.
+ * hvpm_guest.h: reads hypercalls from a guest's registers, and serves the MSRs and CPUID leaves that each
+ * hypervisor needs (TLFS 4.0, "Hypercall Interface" and "Feature and Interface Discovery"). The functions are
+ * plain code over plain structs. None touches a machine or guest memory, injects anything or keeps a pointer.
  *
  * A hypercall, from its exit to its return:
  *
@@ -11,8 +10,8 @@
  *     if (!hvpm_guest_call(&cpu, &call)) ...        // inject #UD; there is no event
  *     ... hvpm_hypercall(&machine, by, &call, input, input_len, &reply, NULL, 0) ...
  *     if (reply.kind == HVPM_REPLY_MORE) call.rcx = hvpm_next(call.rcx, &reply);  // at once, or later:
- *     hvpm_guest_again(&cpu, &call);                // the guest calls again: RIP stays at the instruction
- *     hvpm_guest_return(&cpu, reply.result);        // the call is over: RIP goes behind the instruction
+ *     hvpm_guest_again(&cpu, &call);                // the guest calls again: leave RIP at the instruction
+ *     hvpm_guest_return(&cpu, reply.result);        // the call is over: advance RIP past the instruction
  *
  * An access to an MSR from 0x40000000 on:
  *
@@ -33,7 +32,7 @@
 
 /*
  * A guest's processor at the instruction of a hypercall: the general registers that a convention uses, and
- * the mode. Of a processor outside 64-bit code the upper halves of the registers don't count.
+ * the mode. Outside 64-bit code, the upper halves of the registers are ignored.
  */
 typedef struct hvpm_guest_cpu {
     uint64_t rax, rbx, rcx, rdx, rsi, rdi, r8;
@@ -42,7 +41,7 @@ typedef struct hvpm_guest_cpu {
     uint8_t cpl;       /* the current privilege level, 0 to 3: the DPL of SS */
 } hvpm_guest_cpu;
 
-/* One number of two registers of 32 bits. */
+/* Helper: joins two 32-bit registers. */
 HVPM_INLINE uint64_t hvpm_guest_pair(uint64_t high, uint64_t low) {
     return high << 32 | (uint32_t)low;
 }
@@ -72,7 +71,7 @@ HVPM_INLINE bool hvpm_guest_call(const hvpm_guest_cpu *cpu, hvpm_registers *call
 
 /*
  * Ends a hypercall with its result: RAX, or EDX:EAX outside 64-bit code. `result` is `reply.result` of the
- * last element. No other register changes. RIP goes behind the instruction.
+ * last element. No other register changes. Then advance RIP past the instruction.
  */
 HVPM_INLINE void hvpm_guest_return(hvpm_guest_cpu *cpu, uint64_t result) {
     cpu->rax = cpu->is_64_bit ? result : (uint32_t)result;
@@ -81,8 +80,8 @@ HVPM_INLINE void hvpm_guest_return(hvpm_guest_cpu *cpu, uint64_t result) {
 
 /*
  * Lets the guest make the call again: after HVPM_STATUS_MEMORY, or for the rest of a rep call, whose start
- * index `hvpm_next` has put into `call->rcx`. The input value goes back to RCX, or to EDX:EAX outside 64-bit
- * code. RIP stays at the instruction, and the guest may take an interrupt first.
+ * index hvpm_next() has put into `call->rcx`. The input value goes back to RCX, or to EDX:EAX outside 64-bit
+ * code. Leave RIP at the instruction; the guest may take an interrupt first.
  */
 HVPM_INLINE void hvpm_guest_again(hvpm_guest_cpu *cpu, const hvpm_registers *call) {
     if (cpu->is_64_bit) cpu->rcx = call->rcx;
@@ -90,7 +89,7 @@ HVPM_INLINE void hvpm_guest_again(hvpm_guest_cpu *cpu, const hvpm_registers *cal
 }
 
 /*
- * Whether a hypercall has an input list in memory, at `call->rdx`. A fast call has none, nor has
+ * Returns whether a hypercall has an input list in memory, at `call->rdx`. A fast call has none, nor has
  * HvGetPartitionId, nor a code that the machine doesn't know.
  */
 HVPM_INLINE bool hvpm_guest_has_input(const hvpm_registers *call) {
@@ -98,7 +97,7 @@ HVPM_INLINE bool hvpm_guest_has_input(const hvpm_registers *call) {
     return !(call->rcx >> 16 & 1) && code != 0x46 && hvpm_is_call(code);
 }
 
-/* Whether a hypercall has an output list in memory, at `call->r8`. A fast call has none. */
+/* Returns whether a hypercall has an output list in memory, at `call->r8`. A fast call has none. */
 HVPM_INLINE bool hvpm_guest_has_output(const hvpm_registers *call) {
     static const uint8_t codes[] = {0x40, 0x44, 0x46, 0x47, 0x49, 0x4A, 0x50};
     const uint16_t code = (uint16_t)call->rcx;
@@ -106,8 +105,9 @@ HVPM_INLINE bool hvpm_guest_has_output(const hvpm_registers *call) {
 }
 
 /*
- * The result of a call with a list that isn't in the guest's memory: HV_STATUS_INVALID_ALIGNMENT, and as many
- * repetitions as were done before. The machine takes no event.
+ * Returns the result value for a call with a list that isn't in the guest's memory:
+ * HV_STATUS_INVALID_ALIGNMENT, with the start index as the number of completed repetitions. The machine takes
+ * no event.
  */
 HVPM_INLINE uint64_t hvpm_guest_no_list(const hvpm_registers *call) {
     return 4 | (call->rcx >> 48 & 0xFFF) << 32;
@@ -117,24 +117,24 @@ HVPM_INLINE uint64_t hvpm_guest_no_list(const hvpm_registers *call) {
 
 /* MSRs that the machine doesn't have and each hypervisor needs. */
 enum hvpm_guest_msr {
-    HVPM_MSR_GUEST_OS_ID = 0x40000000,   /* one for a partition: who the guest is, 0 at first */
-    HVPM_MSR_HYPERCALL = 0x40000001,     /* one for a partition: where its hypercall page is */
-    HVPM_MSR_VP_ASSIST_PAGE = 0x40000073 /* one for a processor */
+    HVPM_MSR_GUEST_OS_ID = 0x40000000,   /* per partition: the guest OS id, 0 at first */
+    HVPM_MSR_HYPERCALL = 0x40000001,     /* per partition: where its hypercall page is */
+    HVPM_MSR_VP_ASSIST_PAGE = 0x40000073 /* per processor */
 };
 
-/* Their values in one partition. Make it of zeros, and again where the partition or its guest is reset. */
+/* Their values in one partition. Initialize it with zeros, and again when the partition or guest is reset. */
 typedef struct hvpm_guest {
     uint64_t os_id;
     uint64_t hypercall;  /* bit 0 the page is enabled, bit 1 locked, bits 63:12 its number */
     uint64_t assist[64]; /* by the index of the processor */
 } hvpm_guest;
 
-/* What is to be done for an access to an MSR. */
+/* What the VMM does for an MSR access. */
 enum hvpm_guest_access {
-    HVPM_GUEST_DONE = 0,    /* nothing: it is answered, or kept */
+    HVPM_GUEST_DONE = 0,    /* nothing: it is answered, or stored */
     HVPM_GUEST_FAULT = 1,   /* inject #GP(0); nothing changed */
-    HVPM_GUEST_CODE = 2,    /* only of a write: it is kept; put the hypercall page's code at bits 63:12 */
-    HVPM_GUEST_MACHINE = 3, /* the machine has this MSR: `hvpm_read_msr_value`, or `hvpm_write_msr` */
+    HVPM_GUEST_CODE = 2,    /* writes only: it is stored; put the hypercall page's code at bits 63:12 */
+    HVPM_GUEST_MACHINE = 3, /* the machine has this MSR: hvpm_read_msr_value(), or hvpm_write_msr() */
     HVPM_GUEST_OTHER = 4    /* none of these, and the mask doesn't forbid it: serve it if you have it, or
                                inject #GP(0) */
 };
@@ -166,14 +166,14 @@ HVPM_INLINE uint64_t hvpm_guest_privilege(uint32_t msr) {
     return 0;
 }
 
-/* Whether a partition's mask has what the MSR needs. */
+/* Returns whether a partition's mask has what the MSR needs. */
 HVPM_INLINE bool hvpm_guest_may(uint64_t mask, uint32_t msr) {
     return (mask & hvpm_guest_privilege(msr)) == hvpm_guest_privilege(msr);
 }
 
 /*
  * Reads an MSR for the processor `vp`, 0 to 63. `mask` is the partition's privilege mask now, as
- * `hvpm_peek_partition` has it. Returns HVPM_GUEST_DONE, and only then writes `value`; or HVPM_GUEST_FAULT,
+ * hvpm_peek_partition() has it. Returns HVPM_GUEST_DONE, and only then writes `value`; or HVPM_GUEST_FAULT,
  * _MACHINE or _OTHER. The machine itself checks the mask for its own MSRs.
  */
 HVPM_INLINE enum hvpm_guest_access hvpm_guest_read_msr(const hvpm_guest *guest, uint32_t vp, uint64_t mask,
@@ -189,8 +189,8 @@ HVPM_INLINE enum hvpm_guest_access hvpm_guest_read_msr(const hvpm_guest *guest, 
 }
 
 /*
- * A write of the MSR of the hypercall page. The page can't be enabled before the guest has said who it is,
- * nor outside its memory. A page that is locked stays until a reset.
+ * Helper: writes the MSR of the hypercall page. The page can't be enabled while the guest OS id is 0, nor
+ * outside the guest's memory. A locked page stays until a reset.
  */
 HVPM_INLINE enum hvpm_guest_access hvpm_guest_move_code(hvpm_guest *guest, uint64_t value, bool is_memory) {
     const bool enables = (value & 1) != 0 && guest->os_id != 0;
@@ -231,7 +231,7 @@ HVPM_INLINE enum hvpm_guest_access hvpm_guest_write_msr(hvpm_guest *guest, uint3
  * processor's with bit 31 of ECX set. A VMM with features of its own adds their bits to EDX of 0x40000003.
  *
  * Leaf 0x40000004 tells the guest not to use AutoEOI (bit 9 of EAX), which the machine ignores, and never to
- * report long spinning (EBX). Build and version, in leaf 0x40000002, mean nothing here.
+ * report long spinning (EBX). Build and version, in leaf 0x40000002, are arbitrary.
  */
 HVPM_INLINE bool hvpm_guest_cpuid(uint32_t leaf, uint64_t mask, uint32_t eax_to_edx[4]) {
     const uint32_t leaves[][4] = {

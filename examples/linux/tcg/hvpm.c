@@ -1,6 +1,6 @@
 /*
  * Hands a guest's exits to a VMM in another process: CPUID 0x40000000 to 0x400000FF, MSRs 0x40000000 to
- * 0x400001FF, and OUT to the hypercall page's port. The linker leads QEMU's calls of four of its functions
+ * 0x400001FF, and OUT to the hypercall page's port. The linker leads QEMU's calls of five of its functions
  * here, and this file calls them for all else. Without HVPM_SOCKETS in the environment nothing differs.
  */
 #include "qemu/osdep.h"

@@ -1,7 +1,7 @@
-//! What lies between a guest's processor and the library: the two calling conventions of a hypercall, the
-//! registers that belong to the hypervisor itself, and the CPUID leaves (TLFS 4.0, "Hypercall Interface" and
-//! "Feature and Interface Discovery"). It is plain code over plain structs, as `include/hvpm_guest.h` is: no
-//! function here touches a machine or a guest's memory, or injects anything.
+//! Reads hypercalls from a guest's registers, and serves the MSRs and CPUID leaves that each hypervisor needs
+//! (TLFS 4.0, "Hypercall Interface" and "Feature and Interface Discovery"). It is plain code over plain
+//! structs, as `include/hvpm_guest.h` is: no function here touches a machine or guest memory, or injects
+//! anything.
 //!
 //! ```
 //! # use hvpm::guest::Cpu;
@@ -15,7 +15,7 @@
 //! ```
 
 /// A guest's processor at the instruction of a hypercall: the general registers that a convention uses, and
-/// the mode. Outside 64-bit code the upper halves of the registers don't count.
+/// the mode. Outside 64-bit code, the upper halves of the registers are ignored.
 #[allow(missing_docs)]
 #[derive(Clone, Copy, Debug, Default, PartialEq, Eq)]
 pub struct Cpu {
@@ -45,7 +45,7 @@ pub struct Call {
     pub r8: u64,
 }
 
-/// One number of two registers of 32 bits.
+/// Joins two 32-bit registers.
 const fn pair(high: u64, low: u64) -> u64 {
     high << 32 | low & 0xFFFF_FFFF
 }
@@ -77,7 +77,7 @@ impl Cpu {
     }
 
     /// Ends a hypercall with its result: RAX, or EDX:EAX outside 64-bit code. It is the result of the last
-    /// element. No other register changes. RIP goes behind the instruction.
+    /// element. No other register changes. Then advance RIP past the instruction.
     pub const fn finish(&mut self, result: u64) {
         if self.is_64_bit {
             self.rax = result;
@@ -89,7 +89,7 @@ impl Cpu {
 
     /// Lets the guest make the call again: when the host had no memory, or for the rest of a rep call, whose
     /// start index stands in `call.rcx`. The input value goes back to RCX, or to EDX:EAX outside 64-bit code.
-    /// RIP stays at the instruction, and the guest may take an interrupt first.
+    /// Leave RIP at the instruction; the guest may take an interrupt first.
     pub const fn again(&mut self, call: &Call) {
         if self.is_64_bit {
             self.rcx = call.rcx;
@@ -110,7 +110,7 @@ impl Call {
         self.rcx >> 16 & 1 == 1
     }
 
-    /// Whether the call has an input list in memory, at `rdx`. A fast call has none, nor has
+    /// Returns whether the call has an input list in memory, at `rdx`. A fast call has none, nor has
     /// HvGetPartitionId, nor a code that the machine doesn't know.
     pub const fn has_input(&self) -> bool {
         let has =
@@ -118,34 +118,35 @@ impl Call {
         !self.is_fast() && has
     }
 
-    /// Whether the call has an output list in memory, at `r8`. A fast call has none.
+    /// Returns whether the call has an output list in memory, at `r8`. A fast call has none.
     pub const fn has_output(&self) -> bool {
         !self.is_fast() && matches!(self.code(), 0x40 | 0x44 | 0x46 | 0x47 | 0x49 | 0x4A | 0x50)
     }
 
-    /// The result of a call with a list that isn't in the guest's memory: HV_STATUS_INVALID_ALIGNMENT, and as
-    /// many repetitions as were done before. The machine takes no event.
+    /// Returns the result value for a call with a list that isn't in the guest's memory:
+    /// HV_STATUS_INVALID_ALIGNMENT, with the start index as the number of completed repetitions. The machine
+    /// takes no event.
     pub const fn no_list(&self) -> u64 {
         4 | (self.rcx >> 48 & 0xFFF) << 32
     }
 }
 
-/// The guest OS id, one for a partition: who the guest is, 0 at first.
+/// The guest OS id, one per partition, 0 at first.
 pub const GUEST_OS_ID: u32 = 0x4000_0000;
-/// Where the hypercall page is, one for a partition.
+/// Where the hypercall page is, one per partition.
 pub const HYPERCALL: u32 = 0x4000_0001;
-/// The VP assist page, one for a processor.
+/// The VP assist page, one per processor.
 pub const VP_ASSIST_PAGE: u32 = 0x4000_0073;
 
-/// What is to be done for an access to an MSR.
+/// What the VMM does for an MSR access.
 #[derive(Clone, Copy, Debug, PartialEq, Eq)]
 pub enum Access {
     /// A read: the guest gets this value.
     Value(u64),
-    /// A write: it is kept.
+    /// A write: it is stored.
     Kept,
-    /// A write: it is kept; put the hypercall page's code at bits 63:12 of the value, also if it was enabled
-    /// before, before the guest goes on.
+    /// A write: it is stored; put the hypercall page's code at bits 63:12 of the value before the guest goes
+    /// on, even if it was enabled before.
     Code,
     /// Inject #GP(0). Nothing changed.
     Fault,
@@ -175,7 +176,7 @@ pub const fn privilege(msr: u32) -> u64 {
     }
 }
 
-/// Whether a partition's mask has what the MSR needs.
+/// Returns whether a partition's mask has what the MSR needs.
 pub const fn may(mask: u64, msr: u32) -> bool {
     mask & privilege(msr) == privilege(msr)
 }
@@ -241,8 +242,8 @@ impl Guest {
         Access::Kept
     }
 
-    /// A write of the MSR of the hypercall page. The page can't be enabled before the guest has said who it
-    /// is, nor outside its memory. A page that is locked stays until a reset.
+    /// Writes the MSR of the hypercall page. The page can't be enabled while the guest OS id is 0, nor
+    /// outside the guest's memory. A locked page stays until a reset.
     const fn move_code(&mut self, value: u64, is_memory: bool) -> Access {
         let enables = value & 1 == 1 && self.os_id != 0;
         if self.hypercall >> 1 & 1 == 1 {
@@ -261,7 +262,7 @@ impl Guest {
 /// set. A VMM with features of its own adds their bits to EDX of 0x40000003.
 ///
 /// Leaf 0x40000004 tells the guest not to use AutoEOI (bit 9 of EAX), which the machine ignores, and never to
-/// report long spinning (EBX). Build and version, in leaf 0x40000002, mean nothing here.
+/// report long spinning (EBX). Build and version, in leaf 0x40000002, are arbitrary.
 pub const fn cpuid(leaf: u32, mask: u64) -> Option<[u32; 4]> {
     Some(match leaf {
         0x4000_0000 => [0x4000_0005, 0x7263_694D, 0x666F_736F, 0x7648_2074], // "Microsoft Hv"
@@ -348,7 +349,8 @@ mod tests {
             assert_eq!(call.has_output(), outputs.contains(&code), "{code:#x}");
             assert!(!fast.has_input() && !fast.has_output() && fast.is_fast() && !call.is_fast());
         }
-        let call = Call { rcx: 0x0FFE_0FFF_0000_0048, rdx: 0, r8: 0 };
+        // Bits 63:60 are no part of the start index.
+        let call = Call { rcx: 0xFFFE_FFFF_0000_0048, rdx: 0, r8: 0 };
         assert_eq!(call.no_list(), 0x0FFE_0000_0004);
     }
 
@@ -421,6 +423,9 @@ mod tests {
             assert_eq!(guest.write_msr(3, all, HYPERCALL, PAGE | 1, true), Access::Code);
             assert_eq!(guest.read_msr(9, all, HYPERCALL), Access::Value(PAGE | 1));
         }
+        assert_eq!(guest.write_msr(3, all, HYPERCALL, PAGE | 0xFFD, true), Access::Code);
+        assert_eq!(guest.read_msr(9, all, HYPERCALL), Access::Value(PAGE | 0xFFD));
+        assert_eq!(guest.write_msr(3, all, HYPERCALL, PAGE | 1, true), Access::Code);
         assert_eq!(guest.write_msr(3, all, HYPERCALL, 0xFFFF_FFFF_F001, false), Access::Fault);
         assert_eq!(guest.write_msr(3, all, GUEST_OS_ID, 5, false), Access::Kept);
         assert_eq!(guest.read_msr(9, all, HYPERCALL), Access::Value(PAGE | 1));
@@ -437,9 +442,13 @@ mod tests {
         guest.write_msr(0, u64::MAX, GUEST_OS_ID, OS, false);
         assert_eq!(guest.write_msr(0, u64::MAX, HYPERCALL, 0x5003, true), Access::Code);
         assert_eq!(guest.write_msr(0, u64::MAX, HYPERCALL, 0x6001, true), Access::Kept);
+        assert_eq!(guest.write_msr(0, u64::MAX, HYPERCALL, 0xFFFF_FFFF_F001, false), Access::Kept);
         assert_eq!(guest.read_msr(0, u64::MAX, HYPERCALL), Access::Value(0x5003));
-        guest.write_msr(0, u64::MAX, GUEST_OS_ID, 0, false);
-        assert_eq!(guest.read_msr(0, u64::MAX, HYPERCALL), Access::Value(0x5002));
+        for os_id in [0, OS] {
+            guest.write_msr(0, u64::MAX, GUEST_OS_ID, os_id, false);
+            assert_eq!(guest.write_msr(0, u64::MAX, HYPERCALL, 0x5003, true), Access::Kept);
+            assert_eq!(guest.read_msr(0, u64::MAX, HYPERCALL), Access::Value(0x5002));
+        }
         assert_eq!(Guest::new(0xFC0_0001).read_msr(0, u64::MAX, HYPERCALL), Access::Value(0xFC0_0001));
     }
 
