@@ -1,17 +1,17 @@
 /*
- * The functions of hvpm.h, which includes this file. Each checks for null pointers and calls the library. The
- * functions that are `static inline` in any case are helpers, and not a part of the interface.
+ * The functions of hvpm.h, which includes this file. Each checks for null pointers and calls the library.
+ * Functions that are always `static inline` are helpers, and no part of the interface.
  */
 #ifndef HVPM_INLINE_H
 #define HVPM_INLINE_H
 
-/* Returns `at`, or some address if the buffer is empty: the library takes no null pointer. */
+/* Returns `at`, or a valid address if the buffer is empty: the library takes no null pointer. */
 static inline uint8_t *hvpm_or_none(const void *at, size_t size) {
     static uint8_t none[1];
     return size == 0 ? none : (uint8_t *)(uintptr_t)at;
 }
 
-/* Returns whether a pointer that every event has is null. `buffer` is that of the line or of the outputs. */
+/* Returns whether a pointer that every event needs is null. `buffer` receives the line or the outputs. */
 static inline bool hvpm_lacks(const hvpm_machine *machine, const hvpm_reply *reply, const void *buffer,
                               size_t size) {
     return !machine || !reply || (!buffer && size != 0);
@@ -115,8 +115,8 @@ static inline void hvpm_put(uint8_t *at, uint64_t number, size_t size) {
 }
 
 /*
- * Executes a call with this input list. The list isn't in guest memory, so both addresses are 0, the start of
- * a page: P6 holds for every list that fits a page.
+ * Executes a hypercall with this input list. The list isn't in guest memory, so both addresses are 0, the
+ * start of a page: P6 holds for every list that fits in a page.
  */
 static inline uint32_t hvpm_call(hvpm_machine *machine, hvpm_caller by, uint64_t rcx, const uint8_t *input,
                                  size_t input_len, hvpm_reply *reply, char *line, size_t line_size) {
@@ -124,7 +124,7 @@ static inline uint32_t hvpm_call(hvpm_machine *machine, hvpm_caller by, uint64_t
     return hvpm_hypercall(machine, by, &registers, input, input_len, reply, line, line_size);
 }
 
-/* Executes a call whose input is two numbers, as a fast one. */
+/* Executes a fast hypercall, whose input is two numbers. */
 static inline uint32_t hvpm_fast(hvpm_machine *machine, hvpm_caller by, uint16_t code, uint64_t first,
                                  uint64_t second, hvpm_reply *reply, char *line, size_t line_size) {
     const hvpm_registers registers = {UINT64_C(1) << 16 | code, first, second};
@@ -136,7 +136,7 @@ static inline uint64_t hvpm_rep(uint16_t code, uint16_t count, uint16_t start) {
     return (uint64_t)start << 48 | (uint64_t)count << 32 | code;
 }
 
-/* Returns how many elements fit a page behind the header. P5 or P6 refuses a call with more. */
+/* Returns how many elements fit in a page after the header. P5 or P6 refuses a call with more. */
 static inline size_t hvpm_room(uint16_t count, size_t header, size_t element) {
     const size_t most = (4096 - header) / element;
     return count < most ? count : most;
@@ -334,7 +334,7 @@ HVPM_INLINE uint32_t hvpm_connect_port(hvpm_machine *machine, hvpm_caller by,
     return hvpm_call(machine, by, 0x96, input, sizeof input, reply, line, line_size);
 }
 
-/* Returns the handle as the library takes it. A look changes nothing. */
+/* Casts `const` away for the library. A look changes nothing. */
 static inline hvpm_machine *hvpm_seen(const hvpm_machine *machine) {
     return (hvpm_machine *)(uintptr_t)machine;
 }
@@ -429,7 +429,7 @@ HVPM_INLINE const char *hvpm_version(void) {
 #undef HVPM_TEXT
 }
 
-/* Returns a name of a table; it may have none for a number. */
+/* Returns the name of a number, or "unknown" if the table has none. */
 static inline const char *hvpm_named(const char *const *names, size_t count, uint32_t number) {
     return number < count && names[number] ? names[number] : "unknown";
 }

@@ -1,17 +1,23 @@
 /*
- * Keeps a processor's message page (SIMP) and event flags page (SIEFP) in step with the library. The guest
- * reads and writes both without an exit, so no event tells the library what it took (TLFS 4.0,
- * "Inter-Partition Communication"). docs/EMBEDDING.md says when a VMM calls what. All of one exit is one
- * critical section under the lock of the handle:
+ * hvpm_pages.h: keeps a processor's message page (SIMP) and event flags page (SIEFP) in step with the
+ * machine.
  *
- *     hvpm_pages_before(&machine, p);                 // before a post, EOM, and HvSetVpRegisters
- *     hvpm_hypercall(&machine, ..., &reply, ...);     // what the guest exited for, or hvpm_write_msr
+ * The guest reads and writes both pages without an exit, so no event tells the library what the guest took
+ * (TLFS 4.0, "Inter-Partition Communication"). Call these functions around each event. Each processor has an
+ * hvpm_pages, to which `p` points:
+ *
+ *     hvpm_pages_before(&machine, p);                 // each p, before a post, EOM and HvSetVpRegisters
+ *     hvpm_hypercall(&machine, ..., &reply, ...);     // the event that the guest exited for
  *     hvpm_pages_move(&machine, p, messages, flags);  // only after a write of SIMP or SIEFP
- *     hvpm_pages_after(&machine, p, &reply.effect);   // after each event;
- *                                                     // each p, or the one that the effect names
+ *     hvpm_pages_after(&machine, p, &reply.effect);   // after each event: each p, or the one that the effect
+ *                                                     // names
  *     while (hvpm_pages_vector(&machine, p, &vector) == HVPM_STATUS_OK && vector != 0) inject(p, vector);
  *
- * A function answers HVPM_STATUS_OK, or the first other status that the library gave it.
+ * All of one exit is one critical section: hold the lock of the handle until the last vector is injected.
+ * docs/EMBEDDING.md has a complete VMM.
+ *
+ * Each function returns HVPM_STATUS_OK. If a call of the library fails, the function stops there and returns
+ * that status.
  */
 #ifndef HVPM_PAGES_H
 #define HVPM_PAGES_H
@@ -19,35 +25,37 @@
 #include "hvpm.h"
 #include <string.h>
 
-/* A slot of the message page. The guest and the VMM access `type` and `flags` at one time, atomically. */
+/* A slot of the message page. The guest and the VMM access `type` and `flags` concurrently, by atomics. */
 typedef struct hvpm_slot {
-    uint32_t type;     /* 0 where the slot is free: the guest writes 0 to let a message go */
-    uint8_t size;      /* of the payload */
+    uint32_t type;     /* message type; 0 if the slot is free. The guest writes 0 to free it */
+    uint8_t size;      /* number of bytes of the payload */
     uint8_t flags;     /* bit 0: MessagePending */
-    uint8_t rest[250]; /* from byte 8 of the slot on the port, from 16 on the payload */
+    uint8_t rest[250]; /* the port's id at byte 8 of the slot, and the payload from byte 16 on */
 } hvpm_slot;
 HVPM_HOLDS(sizeof(hvpm_slot) == 256 && offsetof(hvpm_slot, flags) == 5);
 
-/* The pages of a processor. Begin with zeros and set `of`; `record` and `context` if an audit is kept. */
+/*
+ * The pages of a processor. Initialize it with zeros, then set `of`. To record the events that these
+ * functions make, also set `record` and `context`. Later you may set `freed` to false; write no other field.
+ */
 typedef struct hvpm_pages {
-    hvpm_caller of;
-    hvpm_slot *messages; /* 16 slots, or NULL: the processor has no message page */
-    uint8_t *flags;      /* 16 times 256 bytes, or NULL: it has no event flags page */
-    uint16_t shown;      /* bit s: the slot of SINT s has a message that the library shows, too */
-    bool freed;          /* a message was let go: a post that P23 refused may be tried again. The VMM
-                            sets it to false */
-    uint64_t raised[4];  /* vectors that were raised, and not taken yet */
-    uint8_t untaken[4096]; /* the last event flags page as it was when it went: what the guest didn't take */
-    /* Called for each event made here, with its audit line.
-     * `number` is the MSR or SINT, `value` the flag or 0. May be NULL. */
+    hvpm_caller of;        /* the processor */
+    hvpm_slot *messages;   /* message page: 16 slots; NULL if the processor has none */
+    uint8_t *flags;        /* event flags page: 256 bytes for each of 16 SINTs; NULL if it has none */
+    uint16_t shown;        /* bit s is 1 if the message that the library shows at SINT s is in the page */
+    bool freed;            /* a message left its slot, so a post that P23 refused may be repeated */
+    uint64_t raised[4];    /* vectors raised and not taken yet; vector v is bit v % 64 of raised[v / 64] */
+    uint8_t untaken[4096]; /* the previous event flags page, with the flags that the guest didn't take */
+    /* Called for each event that these functions make in the guest's place; may be NULL. `number` is the MSR
+     * or the SINT, `value` the event flag or 0, and `line` the audit line, of reply->line_len bytes. */
     void (*record)(void *context, hvpm_caller by, enum hvpm_access event, uint32_t number, uint64_t value,
                    const hvpm_reply *reply, const char *line);
     void *context;
 } hvpm_pages;
 
-/* Makes an event in the guest's place. The audit has it as the guest's own. */
+/* Helper: makes an event in the guest's place. In the audit it is the guest's own. */
 HVPM_INLINE uint32_t hvpm_pages_make(hvpm_machine *machine, hvpm_pages *pages, enum hvpm_access event,
-                                       uint32_t number, uint64_t value, hvpm_reply *reply) {
+                                     uint32_t number, uint64_t value, hvpm_reply *reply) {
     char line[HVPM_LINE];
     const size_t size = pages->record ? sizeof line : 0;
     const uint8_t sint = (uint8_t)number;
@@ -63,9 +71,9 @@ HVPM_INLINE uint32_t hvpm_pages_make(hvpm_machine *machine, hvpm_pages *pages, e
 }
 
 /*
- * Clears in the library the slots that the guest cleared in the page. The library still shows their messages:
- * a post would wait behind one, EOM would show none, and P23 would count it. It calls the library only where
- * a slot was cleared.
+ * Clears in the library the slots that the guest freed in the page. Until then, the library still shows their
+ * messages: a post would wait behind them, EOM would show no other, and P23 would count them. Calls the
+ * library only if the guest freed a slot.
  */
 HVPM_INLINE uint32_t hvpm_pages_before(hvpm_machine *machine, hvpm_pages *pages) {
     hvpm_reply reply;
@@ -82,8 +90,8 @@ HVPM_INLINE uint32_t hvpm_pages_before(hvpm_machine *machine, hvpm_pages *pages)
 }
 
 /*
- * Writes what the library shows into slots of the page.
- * The guest has freed them, or else it would show what it did before.
+ * Helper: copies slots from the library to the page; bit s of `sints` is SINT s. The guest has freed them:
+ * otherwise the library would still show the previous message.
  */
 HVPM_INLINE uint32_t hvpm_pages_show(hvpm_machine *machine, hvpm_pages *pages, uint32_t sints) {
     for (uint32_t sint = 0; pages->messages && sint < 16; sint++) {
@@ -97,10 +105,10 @@ HVPM_INLINE uint32_t hvpm_pages_show(hvpm_machine *machine, hvpm_pages *pages, u
         if (type != 0) {
             slot->size = bytes[4];
             memcpy(slot->rest, bytes + 6, sizeof slot->rest);
-            /* Atomic: the guest may look for MessagePending of the message that it let go. */
+            /* Atomic: the guest may still look for MessagePending of the message that it freed. */
             __atomic_store_n(&slot->flags, bytes[5], __ATOMIC_RELAXED);
         }
-        /* The type goes last: the guest, which polls it, reads the rest as soon as it isn't 0. */
+        /* Last: the guest polls the type, and reads the rest as soon as it isn't 0. */
         __atomic_store_n(&slot->type, type, __ATOMIC_RELEASE);
         pages->shown = (uint16_t)((pages->shown & ~(1u << sint)) | (uint32_t)(type != 0) << sint);
     }
@@ -108,24 +116,25 @@ HVPM_INLINE uint32_t hvpm_pages_show(hvpm_machine *machine, hvpm_pages *pages, u
 }
 
 /*
- * Hands a flag over to the page: the guest clears it there, atomically, without an exit. In the library it
- * goes at once, since a signal of a flag that is set raises nothing, and the guest would wait for good.
+ * Helper: moves an event flag from the library to the page, where the guest clears it, atomically and without
+ * an exit. The library must not keep it: signaling a flag that is set raises no vector, and the guest would
+ * wait forever.
  */
 HVPM_INLINE uint32_t hvpm_pages_flag(hvpm_machine *machine, hvpm_pages *pages, uint32_t sint,
-                                       uint32_t flag) {
+                                     uint32_t flag) {
     hvpm_reply reply;
     __atomic_fetch_or(&pages->flags[256 * sint + flag / 8], (uint8_t)(1u << flag % 8), __ATOMIC_SEQ_CST);
     return hvpm_pages_make(machine, pages, HVPM_CLEAR_FLAG, sint, flag, &reply);
 }
 
-/* Brings the pages up to date after an event. An effect that doesn't name their processor does nothing. */
+/* Updates the pages after an event. Does nothing if the effect doesn't name their processor. */
 HVPM_INLINE uint32_t hvpm_pages_after(hvpm_machine *machine, hvpm_pages *pages, const hvpm_effect *effect) {
     const bool is_all = effect->kind == HVPM_EFFECT_PARTITION,
                is_new = is_all || effect->kind == HVPM_EFFECT_PROCESSOR;
     if (!is_new && effect->kind != HVPM_EFFECT_SYNIC) return HVPM_STATUS_OK;
     if (effect->partition != pages->of.partition || (!is_all && effect->vp != pages->of.vp))
         return HVPM_STATUS_OK;
-    if (is_new) { /* the processor is gone, or its registers are at their start, with SIMP and SIEFP off */
+    if (is_new) { /* the processor was deleted, or created with SIMP and SIEFP disabled */
         pages->messages = NULL, pages->flags = NULL, pages->shown = 0, pages->freed = true;
         memset(pages->raised, 0, sizeof pages->raised);
         memset(pages->untaken, 0, sizeof pages->untaken);
@@ -139,13 +148,12 @@ HVPM_INLINE uint32_t hvpm_pages_after(hvpm_machine *machine, hvpm_pages *pages, 
     if (status == HVPM_STATUS_OK) status = hvpm_pages_show(machine, pages, effect->shown);
     const uint32_t waiting = pages->messages ? effect->waiting & pages->shown : 0;
     if (status != HVPM_STATUS_OK || waiting == 0) return status;
-    /* MessagePending may be set at any time: the guest looks for it after it has let the
-     * message go, and then writes EOM. */
+    /* Set MessagePending. The guest looks for it after it frees the slot, and then writes EOM. */
     for (uint32_t sint = 0; sint < 16; sint++)
         if (waiting >> sint & 1)
             __atomic_fetch_or(&pages->messages[sint].flags, (uint8_t)1, __ATOMIC_SEQ_CST);
-    /* If it let it go before, it may have looked too early and writes none.
-     * Then EOM is the VMM's to write. */
+    /* A guest that freed the slot meanwhile may have looked too early, and then it writes no EOM: write it
+     * here. */
     status = hvpm_pages_before(machine, pages);
     if (status != HVPM_STATUS_OK || (waiting & ~(uint32_t)pages->shown) == 0) return status;
     hvpm_reply reply;
@@ -154,14 +162,17 @@ HVPM_INLINE uint32_t hvpm_pages_after(hvpm_machine *machine, hvpm_pages *pages, 
 }
 
 /*
- * Gives the pages where they are after a write of SIMP or SIEFP, NULL where bit 0 is 0 or the address isn't
- * the guest's memory. They are aligned to 4,096 bytes. A page begins with what the library shows and is zero
- * else. Flags that the guest didn't take move along from page to page, and wait while there is none.
+ * Sets the addresses of the pages after a write of SIMP or SIEFP. A page is NULL if bit 0 of its register is
+ * 0, or if it isn't in the guest's memory; otherwise its address is a multiple of 4,096.
+ *
+ * A new message page gets the messages that the library shows, and a new event flags page gets the flags that
+ * the guest hasn't taken. All other bytes become zero. Without an event flags page, flags wait for the next
+ * one. If the function fails, the old and the new pages stay in use.
  */
 HVPM_INLINE uint32_t hvpm_pages_move(hvpm_machine *machine, hvpm_pages *pages, void *messages,
-                                       void *flags) {
+                                     void *flags) {
     uint8_t bytes[256], *const from = pages->flags, *const to = (uint8_t *)flags;
-    /* else a message that was let go is shown once more */
+    /* Otherwise a message that the guest freed would appear again. */
     uint32_t status = hvpm_pages_before(machine, pages);
     if (status == HVPM_STATUS_OK && messages != pages->messages) {
         pages->messages = (hvpm_slot *)messages, pages->shown = 0;
@@ -174,7 +185,7 @@ HVPM_INLINE uint32_t hvpm_pages_move(hvpm_machine *machine, hvpm_pages *pages, v
         if (to) to[i] = pages->untaken[i];
     }
     pages->flags = to;
-    /* what was set while there was no page */
+    /* Flags that were set while there was no page. */
     for (uint32_t at = 0; to && status == HVPM_STATUS_OK && at < 4096; at++) {
         if (at % 256 == 0) status = hvpm_peek_flags(machine, pages->of, (uint8_t)(at / 256), bytes);
         for (uint32_t bit = 0; status == HVPM_STATUS_OK && bytes[at % 256] >> bit != 0; bit++)
@@ -185,9 +196,9 @@ HVPM_INLINE uint32_t hvpm_pages_move(hvpm_machine *machine, hvpm_pages *pages, v
 }
 
 /*
- * Takes the highest vector that was raised; 0 where none is left. It goes to the processor's interrupt
- * controller now, since a processor that waits in HLT has no exit at which to ask. The library is called only
- * where one was raised.
+ * Takes the highest vector that was raised and stores it in `*vector`, or 0 if none is left. Inject it at
+ * once: a processor that waits in HLT has no exit at which to ask. Calls the library only if a vector was
+ * raised.
  */
 HVPM_INLINE uint32_t hvpm_pages_vector(hvpm_machine *machine, hvpm_pages *pages, uint8_t *vector) {
     hvpm_reply reply;

@@ -1,5 +1,7 @@
-"""What an event changed of messages, event flags, pending vectors, pages and processors, of all partitions.
-What an effect doesn't name is as it was, but for the vector that `take_interrupt` returns."""
+"""What an event changed in any partition: messages, event flags, pending vectors, pages and processors.
+
+Anything that the effect doesn't name is unchanged, except for the vector that `take_interrupt` returns, which
+is no longer pending."""
 from __future__ import annotations
 
 from dataclasses import dataclass
@@ -8,12 +10,12 @@ from typing import FrozenSet, Optional, Union
 
 @dataclass(frozen=True)
 class Nothing:
-    """None of these. Every refused event has this effect."""
+    """None of these changed. Refused events always have this effect."""
 
 
 @dataclass(frozen=True)
 class Flag:
-    """An event flag that was set, or else cleared."""
+    """An event flag that was set, or cleared if `is_set` is false."""
 
     sint: int
     flag: int
@@ -22,20 +24,20 @@ class Flag:
 
 @dataclass(frozen=True)
 class Synic:
-    """Messages, an event flag or vectors of one processor, perhaps the caller."""
+    """Messages, an event flag or vectors changed at one processor, which may be the caller."""
 
     partition: int
     vp: int
     shown: FrozenSet[int] = frozenset()
-    """The SINTs whose slot shows another message now, or none where it showed one."""
+    """The SINTs whose slot changed: it shows another message, or is now empty."""
     waiting: FrozenSet[int] = frozenset()
-    """The SINTs at which one more message waits, behind the one that is shown."""
+    """The SINTs at which one more message waits, behind that in the slot."""
     flag: Optional[Flag] = None
     """The event flag that changed."""
     raised: FrozenSet[int] = frozenset()
-    """The vectors that SINTs raised."""
+    """The vectors that were raised. They may have been pending already."""
     freed: Optional[int] = None
-    """The processor's port whose message left its slot. If it still exists, it has room for one more."""
+    """The port of that partition whose message left its slot. If it still exists, it can take one more."""
 
 
 @dataclass(frozen=True)
@@ -44,24 +46,24 @@ class Page:
 
     page: int
     partition: int
-    """The partition that has it now."""
+    """The partition that now owns it."""
     pooled: bool
-    """Whether it is in that partition's pool. If not, it is a loose page."""
+    """Whether the page is in that partition's pool. Otherwise it is loose."""
 
 
 @dataclass(frozen=True)
 class Pages:
-    """A partition was deleted. Each page that it had, at least one, is a loose page of another partition."""
+    """A partition was deleted. Its pages, at least one, are now loose pages of another partition."""
 
     source: int
-    """The partition that is gone."""
+    """The deleted partition."""
     target: int
-    """The partition that has the pages now."""
+    """The partition that now owns the pages."""
 
 
 @dataclass(frozen=True)
 class Processor:
-    """A processor was created or deleted. It has no message, no event flag and no pending vector."""
+    """A processor was created or deleted. It has no message, event flag or pending vector."""
 
     partition: int
     vp: int
@@ -69,7 +71,8 @@ class Processor:
 
 @dataclass(frozen=True)
 class Partition:
-    """A partition was finalized. Its processors, at least one, were removed."""
+    """A partition was finalized. Its processors, at least one, were removed with their messages, flags and
+    vectors."""
 
     partition: int
 

@@ -1,4 +1,4 @@
-"""Recording: events as lines of a script, which `hvpm run SCRIPT --serial` runs again."""
+"""Recording: events as lines of a script, which `hvpm run SCRIPT --serial` repeats."""
 from __future__ import annotations
 
 import enum
@@ -10,7 +10,7 @@ from ._library import struct
 
 
 class Access(enum.IntEnum):
-    """What a processor does without a hypercall."""
+    """An access: what a processor does without a hypercall."""
 
     READ_MSR = _raw.HVPM_READ_MSR
     WRITE_MSR = _raw.HVPM_WRITE_MSR
@@ -22,19 +22,20 @@ class Access(enum.IntEnum):
 
 
 def boot_line(mask: int, pages: int, pool: int, vps: int, limit: int) -> str:
-    """The first line of a script: the boot, and how many events its run may have. Like the others it ends
-    with a line feed."""
+    """Returns the first line of a script, which boots a machine, with its line feed. `limit` is at least the
+    number of events."""
     return f"boot {pages} {pool} {vps} {mask:#x} {limit}\n"
 
 
 def hypercall_line(by: Tuple[int, int], rcx: int, rdx: int = 0, r8: int = 0, input: bytes = b"") -> str:
-    """The line of a hypercall, with the first 4,096 bytes of its input. A rep call is one line, recorded with
-    its first element: a run of the script continues to the last one."""
+    """Returns the line of a hypercall, with its line feed. The line has the first 4,096 bytes of the input:
+    no input list is longer. A rep call is one line, which executes all of its elements: record only the
+    first."""
     registers = struct(_raw.hvpm_registers, rcx=rcx, rdx=rdx, r8=r8)
     return text("hypercall_line", caller(by), registers, input, len(input))
 
 
 def access_line(by: Tuple[int, int], access: Access, number: int = 0, value: int = 0) -> str:
-    """The line of an access. `number` is that of the MSR or the SINT; `value` is what is written to an MSR,
-    or the number of an event flag."""
+    """Returns the line of an access, with its line feed. `number` is the MSR or the SINT. `value` is what is
+    written to an MSR, or the event flag to clear."""
     return text("access_line", caller(by), access, number, value)

@@ -14,9 +14,9 @@ from ._library import call, checked, struct
 from .replies import Reply, Run, Status
 
 SELF = _raw.HVPM_SELF
-"""In place of a partition's id in a hypercall: the caller's own."""
+"""HV_PARTITION_ID_SELF. In a hypercall, this partition id means the caller's own partition."""
 ANY_VP = _raw.HVPM_ANY_VP
-"""As the `vp` of a port: any processor of its partition that is ready."""
+"""HV_ANY_VP. A port with this `vp` may deliver to any processor of its partition."""
 
 By = Tuple[int, int]
 
@@ -47,7 +47,8 @@ class Life(enum.IntEnum):
 
 @dataclass(frozen=True)
 class Balance:
-    """The pages of a partition's pool: those that are available, and those that pay for what it made."""
+    """How many pages of a partition's pool are available, and how many pay for children, processors, ports
+    and connections."""
 
     available: int
     in_use: int
@@ -55,7 +56,7 @@ class Balance:
 
 @dataclass(frozen=True)
 class Port:
-    """A port that exists."""
+    """A port, as `Machine.peek_port` returns it."""
 
     partition: int
     id: int
@@ -69,7 +70,7 @@ class Port:
 
 @dataclass(frozen=True)
 class Connection:
-    """A connection that exists."""
+    """A connection, as `Machine.peek_connection` returns it."""
 
     partition: int
     id: int
@@ -80,7 +81,7 @@ class Connection:
 
 @dataclass(frozen=True)
 class Partition:
-    """A partition that exists. The root's parent is None."""
+    """A partition, as `Machine.peek_partition` returns it. The root's parent is None."""
 
     mask: int
     parent: Optional[int]
@@ -95,12 +96,12 @@ class Partition:
 
 
 def is_msr(msr: int) -> bool:
-    """Whether a machine has an MSR with this number. The hypervisor answers all others itself."""
+    """Returns whether the machine implements this model-specific register. The VMM handles all others."""
     return bool(call("is_msr", msr))
 
 
 def is_call(code: int) -> bool:
-    """Whether a hypercall has this code, bits 15:0 of RCX."""
+    """Returns whether the machine implements the hypercall with this code, bits 15:0 of RCX."""
     return bool(call("is_call", code))
 
 
@@ -111,21 +112,25 @@ def _registers(pairs: Iterable[Tuple[int, int]]) -> Any:
 
 
 def _count(elements: Sequence[Any]) -> int:
-    """The count of a rep call. P5 refuses one of more than 12 bits."""
+    """The count of a rep call. P5 refuses a count of more than 12 bits."""
     return min(len(elements), 0xFFFF)
 
 
 class Machine:
-    """All partitions, with all that they have. `boot` makes one, and `destroy` or `with` ends it. Threads may
-    share one: each call has it alone."""
+    """A machine: all partitions with their pages, processors, ports, connections and messages.
+
+    `boot` makes one, and `destroy` or the end of `with` frees it. Threads may share a machine, which makes
+    one call at a time. Each method that takes `by` executes an event of that processor, and raises `Error` if
+    it can't. A rule that refuses the event isn't an error: the reply names it."""
 
     def __init__(self) -> None:
         raise TypeError("Machine.boot makes a machine")
 
     @classmethod
     def boot(cls, *, mask: int, pages: int, pool: int, vps: int) -> Machine:
-        """Boots a machine. Its root partition has the id 1, is Active, and has this privilege mask, these
-        pages, of which the first `pool` are its pool, and these virtual processors."""
+        """Boots a machine. The root partition has id 1 and is Active. It has the privilege mask `mask`,
+        `pages` pages (1 to 65,536), of which the first `pool` are in its pool, and `vps` virtual processors
+        (1 to 64). The pool has at least 4 pages for each processor."""
         machine = object.__new__(cls)
         machine._lock = threading.Lock()
         machine._handle = _raw.hvpm_machine()
@@ -137,7 +142,8 @@ class Machine:
     _handle: Any
 
     def destroy(self) -> None:
-        """Ends the machine and frees its memory. Any other call fails then, with the status EMPTY."""
+        """Destroys the machine and frees its memory. After that, every event and look raises `Error` with the
+        status EMPTY."""
         with self._lock:
             call("destroy", self._handle)
 
@@ -153,7 +159,7 @@ class Machine:
 
     @property
     def events(self) -> int:
-        """How many events the machine took, served or refused."""
+        """The number of events so far, served or refused."""
         return int(self._handle.events)
 
     # ---- Events ----
@@ -161,7 +167,7 @@ class Machine:
     def _take(
         self, name: str, by: By, *arguments: Any, value: Optional[Callable[[], Any]] = None
     ) -> Reply[Any]:
-        """Takes an event. `value` reads what the function stored, if the event was served."""
+        """Executes an event. `value` reads what the function stored, if the event was served."""
         reply, line = _raw.hvpm_reply(), ctypes.create_string_buffer(_raw.HVPM_LINE)
         with self._lock:
             check(call(name, self._handle, caller(by), *arguments, reply, line, _raw.HVPM_LINE))
@@ -172,19 +178,25 @@ class Machine:
         return self._take(name, by, *arguments, number, value=lambda: number.value)
 
     def hypercall(self, by: By, rcx: int, rdx: int = 0, r8: int = 0, input: bytes = b"") -> Reply[None]:
-        """Takes one hypercall: a simple call, or the element at the start index of a rep call. `input` is the
-        input list from the guest's memory at RDX: missing bytes at its end read as zero, and a fast call
-        ignores it. If the reply is MORE, the call continues with `hvpm.next`."""
+        """Executes one hypercall: a simple call, or the element of a rep call at its start index.
+
+        `input` holds the bytes from guest memory at RDX. Bytes that the list needs but `input` lacks read as
+        zero, and a fast call ignores it. If the reply is MORE, continue with `hvpm.next`."""
         registers = struct(_raw.hvpm_registers, rcx=rcx, rdx=rdx, r8=r8)
         return self._take("hypercall", by, registers, input, len(input))
 
     def run(
         self, by: By, rcx: int, rdx: int = 0, r8: int = 0, input: bytes = b"", outputs_size: int = 4096
     ) -> Run:
-        """Takes a hypercall, and the elements of a rep call after it, each as one event. It stops after the
-        last element; after one that a rule refuses; after one whose effect is neither Nothing nor Page; when
-        fewer than 16 of `outputs_size` bytes are left; or when the next element can't happen, as the host is
-        out of memory. If the reply is MORE, the call continues with `hvpm.next`."""
+        """Executes a hypercall like `hypercall`. A rep call continues with its next elements, each as an
+        event of its own. It stops
+
+        - after the last element, or one that a rule refuses;
+        - after one whose effect is neither Nothing nor Page;
+        - when fewer than 16 of `outputs_size` bytes are left;
+        - when the machine takes no more events, or lacks memory for the next element, which isn't executed.
+
+        If the reply is MORE, continue with `hvpm.next`. There are no audit lines."""
         registers = struct(_raw.hvpm_registers, rcx=rcx, rdx=rdx, r8=r8)
         reply, done = _raw.hvpm_reply(), _raw.hvpm_run_done()
         outputs = ctypes.create_string_buffer(outputs_size)
@@ -194,56 +206,54 @@ class Machine:
         return Run(reply_of(reply, b""), done.events, outputs.raw[: done.output_len])
 
     def read_msr(self, by: By, msr: int) -> Reply[None]:
-        """Reads an MSR of the processor. The output is 8 bytes, the lowest first."""
+        """Reads a model-specific register. The output is its value: 8 bytes, little-endian."""
         return self._take("read_msr", by, msr)
 
     def read_msr_value(self, by: By, msr: int) -> Reply[int]:
-        """Reads an MSR of the processor. The value is a number."""
+        """Like `read_msr`, with the value as a number."""
         return self._take_number("read_msr_value", by, msr)
 
     def write_msr(self, by: By, msr: int, value: int) -> Reply[None]:
-        """Writes an MSR of the processor. A write of EOM may show messages and raise vectors."""
+        """Writes a model-specific register. A write of EOM may show messages and raise vectors."""
         return self._take("write_msr", by, msr, value)
 
     def read_slot(self, by: By, sint: int) -> Reply[None]:
-        """Reads the message slot of a SINT of the processor. The output is 256 bytes, all zero if no message
-        is shown."""
+        """Reads the message slot of a SINT. The output is 256 bytes, all zero if the slot is empty."""
         return self._take("read_slot", by, sint)
 
     def clear_slot(self, by: By, sint: int) -> Reply[None]:
-        """Removes the message that a SINT of the processor shows. A post or a write of EOM shows the next
-        one."""
+        """Empties the message slot of a SINT. The next message appears on EOM or on a post."""
         return self._take("clear_slot", by, sint)
 
     def read_flags(self, by: By, sint: int) -> Reply[None]:
-        """Reads the event flags of a SINT of the processor. The output is 256 bytes; flag f is bit f % 8 of
-        byte f // 8."""
+        """Reads the event flags of a SINT. The output is 256 bytes; flag f is bit f % 8 of byte f // 8."""
         return self._take("read_flags", by, sint)
 
     def clear_flag(self, by: By, sint: int, flag: int) -> Reply[None]:
-        """Clears an event flag of a SINT of the processor."""
+        """Clears one event flag of a SINT."""
         return self._take("clear_flag", by, sint, flag)
 
     def take_interrupt(self, by: By) -> Reply[None]:
-        """Takes the highest vector that is pending at the processor. The output is one byte, 0 if none is."""
+        """Takes the highest pending vector. The output is one byte: the vector, or 0 if none is pending."""
         return self._take("take_interrupt", by)
 
-    # ---- The 21 hypercalls by their fields. The four rep calls take the element at `start`. ----
+    # ---- The 21 hypercalls by their fields. The four rep calls execute the element at `start`. ----
 
     def create_partition(self, by: By, flags: int = 0) -> Reply[int]:
         """HvCreatePartition. The value is the new partition's id. The flags have no effect."""
         return self._take_number("create_partition", by, flags)
 
     def initialize_partition(self, by: By, partition: int) -> Reply[None]:
-        """HvInitializePartition: a child that is Created becomes Active."""
+        """HvInitializePartition: makes a Created child Active."""
         return self._take("initialize_partition", by, partition)
 
     def finalize_partition(self, by: By, partition: int) -> Reply[None]:
-        """HvFinalizePartition: a child loses its processors, ports and connections, for good."""
+        """HvFinalizePartition: removes a child's processors, ports and connections, for good."""
         return self._take("finalize_partition", by, partition)
 
     def delete_partition(self, by: By, partition: int) -> Reply[None]:
-        """HvDeletePartition: removes a child that is Created or Finalized. The caller gets its pages."""
+        """HvDeletePartition: removes a Created or Finalized child. Its pages become loose pages of the
+        caller."""
         return self._take("delete_partition", by, partition)
 
     def get_partition_property(self, by: By, partition: int, property: int) -> Reply[int]:
@@ -251,33 +261,34 @@ class Machine:
         return self._take_number("get_partition_property", by, partition, property)
 
     def set_partition_property(self, by: By, partition: int, property: int, value: int) -> Reply[None]:
-        """HvSetPartitionProperty, for a child."""
+        """HvSetPartitionProperty: sets a property of a child."""
         return self._take("set_partition_property", by, partition, property, value)
 
     def get_partition_id(self, by: By) -> Reply[int]:
-        """HvGetPartitionId. The value is the caller's id."""
+        """HvGetPartitionId. The value is the id of the caller's partition."""
         return self._take_number("get_partition_id", by)
 
     def get_next_child_partition(self, by: By, parent: int, previous: int = 0) -> Reply[int]:
-        """HvGetNextChildPartition. The value is the parent's child after `previous`, which is 0 before the
-        first child. It is 0 after the last one."""
+        """HvGetNextChildPartition. The value is the child with the lowest id above `previous`, or 0 if there
+        is none. Pass 0 for the first."""
         return self._take_number("get_next_child_partition", by, parent, previous)
 
     def deposit_memory(self, by: By, partition: int, pages: Sequence[int], start: int = 0) -> Reply[None]:
-        """HvDepositMemory, a rep call: the page at `start` moves from the caller to the partition's pool."""
+        """HvDepositMemory, a rep call: moves the caller's page `pages[start]` to the partition's pool."""
         array = (ctypes.c_uint64 * len(pages))(*(checked(ctypes.c_uint64, page) for page in pages))
         return self._take("deposit_memory", by, partition, array, _count(array), start)
 
     def withdraw_memory(self, by: By, partition: int, count: int = 1, start: int = 0) -> Reply[int]:
-        """HvWithdrawMemory, a rep call. The value is the page that moves from the partition's pool to the
-        caller."""
+        """HvWithdrawMemory, a rep call: moves a page of the partition's pool to the caller. The value is that
+        page."""
         array = (ctypes.c_uint64 * count)()
         return self._take(
             "withdraw_memory", by, partition, array, _count(array), start, value=lambda: array[start]
         )
 
     def get_memory_balance(self, by: By, partition: int) -> Reply[Balance]:
-        """HvGetMemoryBalance. The value is what the partition's pool has."""
+        """HvGetMemoryBalance. The value says how many pages of the partition's pool are available and in
+        use."""
         available, in_use = ctypes.c_uint64(), ctypes.c_uint64()
         return self._take(
             "get_memory_balance",
@@ -289,17 +300,17 @@ class Machine:
         )
 
     def create_vp(self, by: By, partition: int, vp: int) -> Reply[None]:
-        """HvCreateVp."""
+        """HvCreateVp: creates the processor with index `vp`, 0 to 63."""
         return self._take("create_vp", by, partition, vp)
 
     def delete_vp(self, by: By, partition: int, vp: int) -> Reply[None]:
-        """HvDeleteVp."""
+        """HvDeleteVp: deletes a processor with its registers, messages, event flags and pending vectors."""
         return self._take("delete_vp", by, partition, vp)
 
     def get_vp_registers(
         self, by: By, partition: int, vp: int, names: Sequence[int], start: int = 0
     ) -> Reply[int]:
-        """HvGetVpRegisters, a rep call. The value is that of the register at `start`."""
+        """HvGetVpRegisters, a rep call. The value is that of register `names[start]`."""
         array = _registers((name, 0) for name in names)
         return self._take(
             "get_vp_registers",
@@ -315,25 +326,27 @@ class Machine:
     def set_vp_registers(
         self, by: By, partition: int, vp: int, registers: Sequence[Tuple[int, int]], start: int = 0
     ) -> Reply[None]:
-        """HvSetVpRegisters, a rep call. `registers` has names and values; the processor's register at `start`
-        gets its value."""
+        """HvSetVpRegisters, a rep call. `registers` has pairs of a name and a value. The register of the pair
+        at `start` is set to its value."""
         array = _registers(registers)
         return self._take("set_vp_registers", by, partition, vp, array, _count(array), start)
 
     def delete_port(self, by: By, partition: int, port: int) -> Reply[None]:
-        """HvDeletePort."""
+        """HvDeletePort. Connections to the port remain."""
         return self._take("delete_port", by, partition, port)
 
     def disconnect_port(self, by: By, partition: int, connection: int) -> Reply[None]:
-        """HvDisconnectPort."""
+        """HvDisconnectPort: deletes a connection of the partition."""
         return self._take("disconnect_port", by, partition, connection)
 
     def post_message(self, by: By, connection: int, type: int, payload: bytes = b"") -> Reply[None]:
-        """HvPostMessage, through a connection of the caller. P7 refuses a payload of more than 240 bytes."""
+        """HvPostMessage: posts a message through a connection of the caller. Rule P7 refuses a payload of
+        more than 240 bytes."""
         return self._take("post_message", by, connection, type, payload, len(payload))
 
     def signal_event(self, by: By, connection: int, flag: int) -> Reply[None]:
-        """HvSignalEvent, through a connection of the caller. The flag counts from the port's first one."""
+        """HvSignalEvent: signals through a connection of the caller. `flag` counts from the port's
+        `base_flag`."""
         return self._take("signal_event", by, connection, flag)
 
     def create_port(
@@ -385,10 +398,10 @@ class Machine:
         )
         return self._take("connect_port", by, connection)
 
-    # ---- Looks. A look is no event: it isn't counted, has no line in the audit, and changes nothing. ----
+    # ---- Looks read the machine without an event: they aren't counted and have no audit line. ----
 
     def _look(self, name: str, shown: Any, *arguments: Any) -> bool:
-        """Whether what the arguments name exists. Then `shown` has it."""
+        """Returns whether what the arguments name exists. Then `shown` has it."""
         with self._lock:
             status = call(name, self._handle, *arguments, shown)
         if status != Status.NONE:
@@ -396,29 +409,28 @@ class Machine:
         return bool(status == Status.OK)
 
     def peek_slot(self, of: By, sint: int) -> Optional[bytes]:
-        """The message slot of a SINT of a processor, as `read_slot` reads it. None if there is no such
+        """Reads the message slot of a SINT: the 256 bytes that `read_slot` outputs. None if there is no such
         processor or SINT."""
         shown = (ctypes.c_uint8 * 256)()
         return bytes(shown) if self._look("peek_slot", shown, caller(of), sint) else None
 
     def peek_flags(self, of: By, sint: int) -> Optional[FrozenSet[int]]:
-        """The event flags of a SINT of a processor that are set. None if there is no such processor or
-        SINT."""
+        """Returns the event flags of a SINT that are set. None if there is no such processor or SINT."""
         shown = (ctypes.c_uint8 * 256)()
         return bits_of(shown, 8) if self._look("peek_flags", shown, caller(of), sint) else None
 
     def peek_msr(self, of: By, msr: int) -> Optional[int]:
-        """An MSR of a processor, as `read_msr_value` reads it. None if there is no such processor or MSR."""
+        """Reads a model-specific register. None if there is no such processor or register."""
         shown = ctypes.c_uint64()
         return shown.value if self._look("peek_msr", shown, caller(of), msr) else None
 
     def peek_pending(self, of: By) -> Optional[FrozenSet[int]]:
-        """The vectors that are pending at a processor. None if there is no such processor."""
+        """Returns the vectors that are pending at a processor. None if there is no such processor."""
         shown = (ctypes.c_uint64 * 4)()
         return vectors_of(shown) if self._look("peek_pending", shown, caller(of)) else None
 
     def peek_partition(self, id: int) -> Optional[Partition]:
-        """A partition. None if none has this id."""
+        """Reads a partition. None if none has this id."""
         raw = _raw.hvpm_partition()
         if not self._look("peek_partition", raw, id):
             return None
@@ -436,7 +448,7 @@ class Machine:
         )
 
     def peek_port(self, partition: int, id: int) -> Optional[Port]:
-        """A port of a partition. None if none has this id."""
+        """Reads a port of a partition. None if none has this id."""
         raw = _raw.hvpm_port()
         if not self._look("peek_port", raw, partition, id):
             return None
@@ -452,7 +464,7 @@ class Machine:
         )
 
     def peek_connection(self, partition: int, id: int) -> Optional[Connection]:
-        """A connection of a partition. Its port may be gone. None if none has this id."""
+        """Reads a connection of a partition. Its port may no longer exist. None if none has this id."""
         raw = _raw.hvpm_connection()
         if not self._look("peek_connection", raw, partition, id):
             return None
@@ -465,24 +477,24 @@ class Machine:
         )
 
     def child_after(self, parent: int, previous: int = 0) -> Optional[int]:
-        """The child of a partition after `previous`, which is 0 before the first one, by rising id. None
-        after the last one, or if there is no such partition."""
+        """Returns the child with the lowest id above `previous`. Pass 0 for the first. None if there is no
+        such child or partition."""
         shown = ctypes.c_uint64()
         return shown.value or None if self._look("child_after", shown, parent, previous) else None
 
     def page_owner(self, page: int) -> Optional[int]:
-        """The partition that has a page, pooled or loose. None if boot gave no such page. It takes time for
-        each id that a partition ever had."""
+        """Returns the partition that owns a page. None if there is no such page. Takes time linear in the
+        number of partition ids ever used."""
         shown = ctypes.c_uint64()
         return shown.value if self._look("page_owner", shown, page) else None
 
     def features(self, partition: int) -> Optional[Tuple[int, ...]]:
-        """EAX, EBX, ECX and EDX of CPUID leaf 0x40000003 for a guest: the low and the high half of its
-        partition's privilege mask, and zeros. None if there is no such partition."""
+        """Returns EAX, EBX, ECX and EDX of CPUID leaf 0x40000003 for a guest: the low and the high half of
+        its partition's privilege mask, 0 and 0. None if there is no such partition."""
         shown = (ctypes.c_uint32 * 4)()
         return tuple(shown) if self._look("features", shown, partition) else None
 
     def table(self) -> str:
-        """The table of the partitions, as `hvpm run --table` prints it."""
+        """Returns the table of partitions, as `hvpm run --table` prints it."""
         with self._lock:
             return text("table", self._handle)

@@ -1,5 +1,6 @@
-"""Keeps a processor's message page (SIMP) and event flags page (SIEFP) in step with the machine, as
-hvpm_pages.h does in C. A driver under test reads and writes both without an exit:
+"""Keeps a processor's message page (SIMP) and event flags page (SIEFP) in step with the machine, like
+hvpm_pages.h in C. A driver under test reads and writes both without an exit, so call these functions around
+each event:
 
     pages.before(machine)               # before a post, EOM, and HvSetVpRegisters
     reply = machine.hypercall(..)       # what the driver exited for, or write_msr
@@ -10,7 +11,7 @@ hvpm_pages.h does in C. A driver under test reads and writes both without an exi
 from __future__ import annotations
 
 import ctypes
-from typing import Any, Callable, FrozenSet, Optional, Tuple
+from typing import Any, Callable, FrozenSet, List, Optional, Tuple
 
 from . import _raw
 from ._convert import bits_of, caller, check, reply_of
@@ -25,7 +26,7 @@ Record = Callable[[Caller, Access, int, int, "Reply[None]"], None]
 
 
 def _page(memory: Any) -> Any:
-    """The page that a buffer is, or None."""
+    """Returns the buffer as a page, or None."""
     if memory is None:
         return None
     page = (ctypes.c_uint8 * SIZE).from_buffer(memory)
@@ -35,20 +36,21 @@ def _page(memory: Any) -> Any:
 
 
 class Pages:
-    """The pages of a processor. At first it has none. `record` is called for each event that is made in the
-    guest's place, with the processor, the access, the number of the MSR or SINT, the event flag or 0, and the
-    reply."""
+    """The pages of a processor, which has none at first.
+
+    `record` is called for each event that is made in the guest's place. It gets the processor, the access,
+    the MSR or the SINT, the event flag or 0, and the reply."""
 
     def __init__(self, of: Tuple[int, int], record: Optional[Record] = None) -> None:
         self._raw = _raw.hvpm_pages(of=caller(of))
         self._error: Optional[BaseException] = None
-        self._memory: Any = None  # It lives as long as the library uses it.
+        self._memory: List[Any] = []  # The pages that the library uses.
         if record is not None:
             self._record = record
             self._raw.record = dict(_raw.hvpm_pages._fields_)["record"](self._tell)
 
     def _tell(self, _: Any, by: Any, event: int, number: int, value: int, reply: Any, line: bytes) -> None:
-        """Hands an event from the library to `record`. The library can't hand on what that raises."""
+        """Passes an event from the library to `record`. The library can't pass on an exception."""
         raw = _raw.hvpm_reply.from_buffer_copy(reply.contents)
         at = Caller(by.partition, by.vp)
         try:
@@ -71,35 +73,39 @@ class Pages:
 
     @property
     def shown(self) -> FrozenSet[int]:
-        """The SINTs whose slot in the page has a message that the machine shows, too."""
+        """The SINTs whose message is in the page and in the machine."""
         return bits_of([self._raw.shown], 16)
 
     def take_freed(self) -> bool:
-        """Whether a message left its slot since this function was called last: a post that P23 refused may be
+        """Returns whether a message left its slot since the last call: a post that P23 refused may be
         repeated."""
         freed, self._raw.freed = bool(self._raw.freed), False
         return freed
 
     def before(self, machine: Machine) -> None:
-        """Clears in the machine the slots that the guest cleared in its page."""
+        """Clears in the machine the slots that the guest freed in its page. Call it before a post, a write of
+        EOM and HvSetVpRegisters."""
         self._keep("before", machine)
 
     def after(self, machine: Machine, reply: Reply[Any]) -> None:
-        """Brings the pages up to date after an event. Does nothing if the event's effect names another
+        """Updates the pages after an event. Does nothing if the event's effect doesn't name their
         processor."""
         self._keep("after", machine, reply._raw.effect)
 
     def move(self, machine: Machine, messages: Any, flags: Any) -> None:
-        """Tells where the pages are after a write of SIMP or SIEFP: each a writable buffer of 4,096 bytes
-        that begins at a multiple of 4,096, such as a part of an mmap, or None. A page begins with what the
-        machine shows, and is zero elsewhere. Flags that the guest didn't take move from page to page."""
+        """Sets the pages after a write of SIMP or SIEFP. Each is a writable buffer of 4,096 bytes that begins
+        at a multiple of 4,096, such as a part of an mmap. It is None if bit 0 of the register is 0.
+
+        A new message page gets the messages that the machine shows, and a new event flags page gets the
+        flags that the guest hasn't taken. All other bytes become zero."""
         pages = [_page(messages), _page(flags)]
         addresses = [page and ctypes.addressof(page) for page in pages]
+        self._memory = self._memory + pages  # After an error the library may use any of them.
         self._keep("move", machine, *addresses)
         self._memory = pages
 
     def vector(self, machine: Machine) -> Optional[int]:
-        """Takes the highest vector that was raised. None if no vector is left."""
+        """Takes the highest vector that was raised, or None if none is left."""
         vector = ctypes.c_uint8()
         self._keep("vector", machine, vector)
         return vector.value or None

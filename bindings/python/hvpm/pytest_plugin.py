@@ -1,4 +1,4 @@
-"""A fixture for pytest: `hvpm_machine` is a machine of the test's own.
+"""A fixture for pytest: `hvpm_machine` gives each test its own machine.
 
     @pytest.mark.hvpm(vps=2)
     def test_root(hvpm_machine):
@@ -25,7 +25,7 @@ def pytest_configure(config: Any) -> None:
 
 @pytest.fixture
 def hvpm_machine(request: pytest.FixtureRequest) -> Iterator[Machine]:
-    """A machine, which ends with the test."""
+    """A machine, which is destroyed after the test."""
     mark = request.node.get_closest_marker("hvpm")
     with Machine.boot(**{**DEFAULT, **(mark.kwargs if mark else {})}) as machine:
         yield machine

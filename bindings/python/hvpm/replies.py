@@ -1,4 +1,4 @@
-"""Who makes an event, what it is answered, and why the library does nothing."""
+"""Callers, replies and errors."""
 from __future__ import annotations
 
 import enum
@@ -13,7 +13,8 @@ Value = TypeVar("Value")
 
 
 class Caller(NamedTuple):
-    """A virtual processor: the id of its partition, and its index there. A pair of numbers does, too."""
+    """A virtual processor: its partition's id, and its index in that partition. A pair of numbers works as
+    well."""
 
     partition: int
     vp: int
@@ -47,8 +48,8 @@ MESSAGES = {
 
 
 class Error(Exception):
-    """The library did nothing, and `status` says why. A rule that refuses an event is no error: it is the
-    event's reply."""
+    """A function failed: no event happened and nothing changed. `status` says why. A rule that refuses an
+    event isn't an error: the event's reply names it."""
 
     def __init__(self, status: Status) -> None:
         super().__init__(MESSAGES.get(status, status_name(status)))
@@ -79,7 +80,7 @@ class HvStatus(int):
 
 
 class Answer(enum.IntEnum):
-    """How an event is answered."""
+    """How an event was answered."""
 
     SERVED = _raw.HVPM_REPLY_SERVED
     MORE = _raw.HVPM_REPLY_MORE
@@ -92,24 +93,24 @@ class Reply(Generic[Value]):
     """The reply to an event."""
 
     answer: Answer
-    """SERVED; MORE of an element that isn't the last; DENIED of a hypercall and FAULT of an access that a
-    rule refuses."""
+    """SERVED, or MORE if the event is an element that isn't the last. If a rule refuses the event, DENIED for
+    a hypercall and FAULT for an access."""
     rule: Optional[Rule]
-    """The first rule that doesn't hold; None if the event was served."""
+    """The rule that refuses the event; None if it was served."""
     status: Optional[HvStatus]
-    """The status of a hypercall; of an access 0 if it was served, and None if it is a fault."""
+    """The status of a hypercall. For an access it is 0, or None for a fault."""
     result: int
     """The result value of a hypercall, for RAX; 0 for an access."""
     next: int
-    """If the answer is MORE, the start index of the next element; else 0."""
+    """The start index of the next element, if the answer is MORE; otherwise 0."""
     output: bytes
     """The output of the event, at most 256 bytes."""
     line: str
-    """The event's line of the audit, with its line feed."""
+    """The event's audit line, with its line feed."""
     effect: Effect
-    """What the event changed of messages, event flags, vectors, pages and processors."""
+    """What the event changed: messages, event flags, vectors, pages and processors."""
     value: Optional[Value]
-    """The output as a number or a `Balance`, in functions that say so; None if the event wasn't served."""
+    """The output as a number or a `Balance`, if the function says so; None if the event wasn't served."""
     _raw: Any = field(repr=False, compare=False)
 
     @property
@@ -120,42 +121,42 @@ class Reply(Generic[Value]):
 
 @dataclass(frozen=True)
 class Run:
-    """The elements of a call that were taken one after another."""
+    """How far `Machine.run` got."""
 
     reply: Reply[None]
-    """The reply to the last of them, without a line of the audit."""
+    """The reply to the last element executed, without an audit line."""
     events: int
-    """How many there were."""
+    """The number of elements executed, at least 1."""
     outputs: bytes
-    """Their outputs, one after another."""
+    """The outputs of these elements, one after another."""
 
 
 def next(rcx: int, reply: Reply[Any]) -> int:
-    """RCX of the element with which a call continues after a reply that is MORE."""
-    return call("next", rcx, reply._raw)
+    """Returns RCX for the next element, after a reply that is MORE."""
+    return int(call("next", rcx, reply._raw))
 
 
 def version() -> str:
-    """The version of the library, as `MAJOR.MINOR.PATCH`."""
-    return call("version").decode("ascii")
+    """Returns the version of the library, as `MAJOR.MINOR.PATCH`."""
+    return str(call("version"), "ascii")
 
 
 def status_name(status: int) -> str:
-    """The name of a status of the library, such as `HVPM_STATUS_MEMORY`."""
-    return call("status_name", status).decode("ascii")
+    """Returns the name of a status of the library, such as `HVPM_STATUS_MEMORY`."""
+    return str(call("status_name", status), "ascii")
 
 
 def hv_status_name(status: int) -> str:
-    """The TLFS name of a hypercall's status, such as `HV_STATUS_ACCESS_DENIED`; `unknown` if no rule has
-    it."""
-    return call("hv_status_name", status).decode("ascii")
+    """Returns the TLFS name of a hypercall's status, such as `HV_STATUS_ACCESS_DENIED`; `unknown` for a
+    status that the machine never returns."""
+    return str(call("hv_status_name", status), "ascii")
 
 
 def rule_name(rule: int) -> str:
-    """The name of a rule, such as `P12`; `unknown` if there is no such rule."""
-    return call("rule_name", rule).decode("ascii")
+    """Returns the name of a rule, such as `P12`; `unknown` if there is no such rule."""
+    return str(call("rule_name", rule), "ascii")
 
 
 def rule_sentence(rule: int) -> str:
-    """What a rule demands, in one sentence of docs/POLICY.md; `unknown` if there is no such rule."""
-    return call("rule_sentence", rule).decode("ascii")
+    """Returns what a rule demands, in one sentence of docs/POLICY.md; `unknown` if there is no such rule."""
+    return str(call("rule_sentence", rule), "ascii")

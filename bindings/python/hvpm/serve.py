@@ -19,8 +19,8 @@ SERVED, MORE, DENIED, FAULT = "ok", "more", "denied", "fault"
 
 
 class Fault(Exception):
-    """The program takes the line for a fault, or the host refused it. Nothing happened, but for the events of
-    a call that began, which `events` has."""
+    """The program reports a fault of the line or of the host. Only the `events` happened: elements of a rep
+    call that began."""
 
     def __init__(self, text: str, events: List[Event]) -> None:
         super().__init__(text)
@@ -41,7 +41,7 @@ class Event:
     """The result value of a hypercall; 0 for an access."""
     output: bytes
     rule: Optional[str]
-    """The first rule that doesn't hold, such as `P12`; None if the event was served."""
+    """The rule that refuses the event, such as `P12`; None if it was served."""
     line: str
     """The line, with its line feed."""
 
@@ -71,7 +71,7 @@ def event_of(line: str) -> Event:
 
 
 class Session:
-    """A run of `PROGRAM serve`. `close` ends it, and so does the end of `with`."""
+    """A run of `PROGRAM serve`. `close` or the end of `with` ends it."""
 
     def __init__(self, program: str = "hvpm") -> None:
         pipe = subprocess.PIPE
@@ -97,7 +97,7 @@ class Session:
         return line
 
     def close(self) -> int:
-        """Ends the session. Gives the number of its events."""
+        """Ends the session. Returns the number of its events."""
         rest, _ = self._process.communicate()
         if self._process.returncode != 0 or not rest.startswith("events "):
             raise EOFError(f"the program ended with status {self._process.returncode}")
@@ -118,7 +118,7 @@ class Session:
         self._say("phase")
 
     def events(self, line: str) -> List[Event]:
-        """What a line of a processor is answered: an event, or one for each element of a rep call."""
+        """Sends a line of a processor. Returns its event, or one for each element of a rep call."""
         self._say(line)
         events: List[Event] = []
         while not events or events[-1].answer == MORE:
@@ -133,35 +133,35 @@ class Session:
         return event
 
     def hypercall(self, by: By, rcx: int, rdx: int = 0, r8: int = 0, input: bytes = b"") -> List[Event]:
-        """Makes a hypercall, a rep call to its end."""
+        """Makes a hypercall. Returns its event, or one for each element of a rep call."""
         return self.events(f"{by[0]}.{by[1]} call {rcx:#x} {rdx:#x} {r8:#x} {input.hex() or '-'}")
 
     def read_msr(self, by: By, msr: int) -> Event:
-        """Reads an MSR of the processor."""
+        """Reads a model-specific register."""
         return self._access(by, f"rdmsr {msr:#x}")
 
     def write_msr(self, by: By, msr: int, value: int) -> Event:
-        """Writes an MSR of the processor."""
+        """Writes a model-specific register."""
         return self._access(by, f"wrmsr {msr:#x} {value:#x}")
 
     def read_slot(self, by: By, sint: int) -> Event:
-        """Reads the message slot of a SINT of the processor."""
+        """Reads the message slot of a SINT."""
         return self._access(by, f"slot {sint}")
 
     def clear_slot(self, by: By, sint: int) -> Event:
-        """Removes the message that a SINT of the processor shows."""
+        """Empties the message slot of a SINT."""
         return self._access(by, f"clearslot {sint}")
 
     def read_flags(self, by: By, sint: int) -> Event:
-        """Reads the event flags of a SINT of the processor."""
+        """Reads the event flags of a SINT."""
         return self._access(by, f"flags {sint}")
 
     def clear_flag(self, by: By, sint: int, flag: int) -> Event:
-        """Clears an event flag of a SINT of the processor."""
+        """Clears one event flag of a SINT."""
         return self._access(by, f"clearflag {sint} {flag}")
 
     def take_interrupt(self, by: By) -> Event:
-        """Takes the highest vector that is pending at the processor."""
+        """Takes the highest pending vector."""
         return self._access(by, "interrupt")
 
     def _rest_of_table(self, first: str) -> str:
@@ -171,7 +171,7 @@ class Session:
         return "".join(lines)
 
     def table(self) -> str:
-        """The table of the partitions."""
+        """Returns the table of partitions."""
         self._say("table")
         first = self._hear()
         if first.startswith("fault: "):

@@ -2,7 +2,7 @@
 import mmap
 import unittest
 
-from hvpm import Access, Caller, Pages
+from hvpm import Access, Caller, Error, Pages, Status
 
 from .shared import EOM, GUEST, POST, ROOT, SIGNAL, enable, with_child
 
@@ -75,6 +75,17 @@ class Guests(unittest.TestCase):
         for buffer in (memoryview(self.memory)[8:4104], bytes(4096), bytearray(4095)):
             with self.assertRaises((ValueError, TypeError)):
                 pages.move(self.machine, buffer, None)
+
+    def test_pages_are_kept_after_an_error(self):
+        """The library may use them then. There is no processor 2.9, so nothing can be shown."""
+        memory, pages = mmap.mmap(-1, 4096), Pages((2, 9))
+        with self.assertRaises(Error) as raised:
+            pages.move(self.machine, memory, None)
+        self.assertEqual(raised.exception.status, Status.NONE)
+        with self.assertRaises(BufferError):
+            memory.close()
+        pages.move(self.machine, None, None)
+        memory.close()
 
     def test_events_in_the_guests_place_are_recorded(self):
         seen = []

@@ -1,6 +1,6 @@
-//! Raw declarations of the library hvpm: each number, struct and function of `hvpm.h` and `hvpm_pages.h`
-//! under its name in C. The headers say what they mean. A field that is a word of Rust ends with `_`:
-//! `type_`.
+//! Raw declarations of the library hvpm: each number, struct and function of `hvpm.h`, `hvpm_guest.h` and
+//! `hvpm_pages.h`, under its name in C. The headers document them. A field whose name is a keyword of Rust
+//! ends with `_`: `type_`.
 //!
 //! The crate `hvpm` is the safe layer over this one.
 //!

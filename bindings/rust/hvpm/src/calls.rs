@@ -54,31 +54,31 @@ impl Property {
     }
 }
 
-/// A port: one to create, or one that exists.
+/// A port, as [`Machine::create_port`] takes it and [`Machine::peek_port`] returns it.
 #[derive(Clone, Copy, Debug, PartialEq, Eq)]
 pub struct Port {
-    /// The partition that has the port: PortPartition.
+    /// PortPartition: the owner.
     pub partition: PartitionId,
     /// PortId.
     pub id: PortId,
-    /// The partition that may connect to it: ConnectionPartition.
+    /// ConnectionPartition: the partition that may connect.
     pub peer: PartitionId,
     /// PortType.
     pub r#type: PortType,
-    /// The SINT that it targets: TargetSint.
+    /// TargetSint.
     pub sint: Sint,
-    /// The processor of that SINT, or [`VpIndex::ANY`]: TargetVp.
+    /// TargetVp: the processor of that SINT, or [`VpIndex::ANY`].
     pub vp: VpIndex,
-    /// The first event flag: BaseFlagNumber. 0 for messages.
+    /// BaseFlagNumber, of an event port.
     pub base_flag: u16,
-    /// How many event flags there are: FlagCount. 0 for messages.
+    /// FlagCount, of an event port.
     pub flag_count: u16,
 }
 
-/// A connection: one to make, or one that exists.
+/// A connection, as [`Machine::connect_port`] takes it and [`Machine::peek_connection`] returns it.
 #[derive(Clone, Copy, Debug, PartialEq, Eq)]
 pub struct Connection {
-    /// The partition that has the connection: ConnectionPartition.
+    /// ConnectionPartition: the owner.
     pub partition: PartitionId,
     /// ConnectionId.
     pub id: ConnectionId,
@@ -86,16 +86,16 @@ pub struct Connection {
     pub port_partition: PartitionId,
     /// PortId.
     pub port: PortId,
-    /// The port's type.
+    /// PortType: that of the port.
     pub r#type: PortType,
 }
 
 /// The pages of a partition's pool.
 #[derive(Clone, Copy, Debug, PartialEq, Eq)]
 pub struct Balance {
-    /// How many are available.
+    /// How many pages are available.
     pub available: u64,
-    /// How many pay for children, processors, ports and connections.
+    /// How many pages pay for children, processors, ports and connections.
     pub in_use: u64,
 }
 
@@ -112,16 +112,16 @@ pub struct VpRegister {
 const _: () = assert!(size_of::<VpRegister>() == size_of::<sys::hvpm_vp_register>());
 const _: () = assert!(offset_of!(VpRegister, value) == offset_of!(sys::hvpm_vp_register, value));
 
-/// The count of a rep call. P5 refuses one of more than 12 bits.
+/// The count of a rep call. P5 refuses a count of more than 12 bits.
 fn count(len: usize) -> u16 {
     u16::try_from(len).unwrap_or(u16::MAX)
 }
 
-/// The hypercalls by their fields, for a caller that is part of the host: a root that makes partitions, ports
-/// and processors. Each takes one event, as [`Machine::hypercall`] does. What the fields mean, and which
-/// values the rules refuse, is in docs/POLICY.md.
+/// The 21 hypercalls by their fields, for a caller that is part of the host: a root that creates partitions,
+/// ports and processors. Each executes one event, like [`Machine::hypercall`]. docs/POLICY.md describes the
+/// fields and the rules.
 ///
-/// The four rep calls take the element at `start`. They begin with 0, and continue with the index in
+/// The four rep calls execute the element at index `start`. Begin with 0, and continue with the index in
 /// [`Answer::More`](crate::Answer::More).
 impl Machine {
     /// HvCreatePartition. The value is the new partition's id. The flags have no effect.
@@ -132,21 +132,21 @@ impl Machine {
         Ok(Output { reply: output.reply, value: output.value.map(PartitionId) })
     }
 
-    /// HvInitializePartition: a child that is Created becomes Active.
+    /// HvInitializePartition: makes a Created child Active.
     pub fn initialize_partition(&mut self, by: Caller, partition: PartitionId) -> Result<Reply, Status> {
         self.take(|machine, reply, line, size| unsafe {
             sys::hvpm_initialize_partition(machine, by.raw(), partition.0, reply, line, size)
         })
     }
 
-    /// HvFinalizePartition: a child loses its processors, ports and connections, for good.
+    /// HvFinalizePartition: removes a child's processors, ports and connections, for good.
     pub fn finalize_partition(&mut self, by: Caller, partition: PartitionId) -> Result<Reply, Status> {
         self.take(|machine, reply, line, size| unsafe {
             sys::hvpm_finalize_partition(machine, by.raw(), partition.0, reply, line, size)
         })
     }
 
-    /// HvDeletePartition: removes a child that is Created or Finalized. The caller gets its pages.
+    /// HvDeletePartition: removes a Created or Finalized child. Its pages become loose pages of the caller.
     pub fn delete_partition(&mut self, by: Caller, partition: PartitionId) -> Result<Reply, Status> {
         self.take(|machine, reply, line, size| unsafe {
             sys::hvpm_delete_partition(machine, by.raw(), partition.0, reply, line, size)
@@ -167,7 +167,7 @@ impl Machine {
         })
     }
 
-    /// HvSetPartitionProperty, for a child.
+    /// HvSetPartitionProperty: sets a property of a child.
     pub fn set_partition_property(
         &mut self,
         by: Caller,
@@ -182,7 +182,7 @@ impl Machine {
         })
     }
 
-    /// HvGetPartitionId. The value is the caller's id.
+    /// HvGetPartitionId. The value is the id of the caller's partition.
     pub fn get_partition_id(&mut self, by: Caller) -> Result<Output<PartitionId>, Status> {
         let output = self.take_value(0, |machine, partition, reply, line, size| unsafe {
             sys::hvpm_get_partition_id(machine, by.raw(), partition, reply, line, size)
@@ -190,8 +190,8 @@ impl Machine {
         Ok(Output { reply: output.reply, value: output.value.map(PartitionId) })
     }
 
-    /// HvGetNextChildPartition. The value is the parent's child after `previous`, which is 0 before the first
-    /// child. It is 0 after the last one.
+    /// HvGetNextChildPartition. The value is the child with the lowest id above `previous`, or 0 if there is
+    /// none. Pass 0 for the first.
     pub fn get_next_child_partition(
         &mut self,
         by: Caller,
@@ -205,7 +205,7 @@ impl Machine {
         Ok(Output { reply: output.reply, value: output.value.map(PartitionId) })
     }
 
-    /// HvDepositMemory, a rep call: the page at `start` moves from the caller to the partition's pool.
+    /// HvDepositMemory, a rep call: moves the caller's page `pages[start]` to the partition's pool.
     pub fn deposit_memory(
         &mut self,
         by: Caller,
@@ -219,8 +219,8 @@ impl Machine {
         })
     }
 
-    /// HvWithdrawMemory, a rep call: `pages[start]` becomes the page that moves from the partition's pool to
-    /// the caller.
+    /// HvWithdrawMemory, a rep call: moves a page of the partition's pool to the caller, and stores it in
+    /// `pages[start]`.
     pub fn withdraw_memory(
         &mut self,
         by: Caller,
@@ -234,7 +234,7 @@ impl Machine {
         })
     }
 
-    /// HvGetMemoryBalance. The value is what the partition's pool has.
+    /// HvGetMemoryBalance. The value says how many pages of the partition's pool are available and in use.
     pub fn get_memory_balance(
         &mut self,
         by: Caller,
@@ -248,21 +248,21 @@ impl Machine {
         })
     }
 
-    /// HvCreateVp.
+    /// HvCreateVp: creates the processor with this index, 0 to 63.
     pub fn create_vp(&mut self, by: Caller, partition: PartitionId, vp: VpIndex) -> Result<Reply, Status> {
         self.take(|machine, reply, line, size| unsafe {
             sys::hvpm_create_vp(machine, by.raw(), partition.0, vp.0, reply, line, size)
         })
     }
 
-    /// HvDeleteVp.
+    /// HvDeleteVp: deletes a processor with its registers, messages, event flags and pending vectors.
     pub fn delete_vp(&mut self, by: Caller, partition: PartitionId, vp: VpIndex) -> Result<Reply, Status> {
         self.take(|machine, reply, line, size| unsafe {
             sys::hvpm_delete_vp(machine, by.raw(), partition.0, vp.0, reply, line, size)
         })
     }
 
-    /// HvGetVpRegisters, a rep call: the register at `start` gets the value that it has in the processor.
+    /// HvGetVpRegisters, a rep call: stores the value of register `registers[start].name` in its `value`.
     pub fn get_vp_registers(
         &mut self,
         by: Caller,
@@ -277,7 +277,7 @@ impl Machine {
         })
     }
 
-    /// HvSetVpRegisters, a rep call: the processor's register at `start` gets the value that it has there.
+    /// HvSetVpRegisters, a rep call: sets register `registers[start].name` to its `value`.
     pub fn set_vp_registers(
         &mut self,
         by: Caller,
@@ -292,14 +292,14 @@ impl Machine {
         })
     }
 
-    /// HvDeletePort.
+    /// HvDeletePort. Connections to the port remain.
     pub fn delete_port(&mut self, by: Caller, partition: PartitionId, port: PortId) -> Result<Reply, Status> {
         self.take(|machine, reply, line, size| unsafe {
             sys::hvpm_delete_port(machine, by.raw(), partition.0, port.0, reply, line, size)
         })
     }
 
-    /// HvDisconnectPort.
+    /// HvDisconnectPort: deletes a connection of the partition.
     pub fn disconnect_port(
         &mut self,
         by: Caller,
@@ -311,7 +311,8 @@ impl Machine {
         })
     }
 
-    /// HvPostMessage, through a connection of the caller. P7 refuses a payload of more than 240 bytes.
+    /// HvPostMessage: posts a message through a connection of the caller. Rule P7 refuses a payload of more
+    /// than 240 bytes.
     pub fn post_message(
         &mut self,
         by: Caller,
@@ -326,7 +327,7 @@ impl Machine {
         })
     }
 
-    /// HvSignalEvent, through a connection of the caller. The flag counts from the port's first one.
+    /// HvSignalEvent: signals through a connection of the caller. `flag` counts from the port's `base_flag`.
     pub fn signal_event(&mut self, by: Caller, connection: ConnectionId, flag: u16) -> Result<Reply, Status> {
         self.take(|machine, reply, line, size| unsafe {
             sys::hvpm_signal_event(machine, by.raw(), connection.0, flag, reply, line, size)
@@ -350,7 +351,7 @@ impl Machine {
         })
     }
 
-    /// HvConnectPort.
+    /// HvConnectPort: creates a connection to a port.
     pub fn connect_port(&mut self, by: Caller, connection: &Connection) -> Result<Reply, Status> {
         let connection = sys::hvpm_connection {
             partition: connection.partition.0,

@@ -1,35 +1,37 @@
-//! What an event changed beside its caller's registers.
+//! Effects of events.
 
 use crate::{Caller, PartitionId, PortId, Sint};
 use hvpm_sys as sys;
 
-/// What an event changed of messages, event flags, pending vectors, pages and processors, of all partitions.
-/// What it doesn't name is as it was, but for the vector that [`crate::Machine::take_interrupt`] returns.
+/// What an event changed in any partition: messages, event flags, pending vectors, pages and processors.
+/// Anything that the effect doesn't name is unchanged, except for the vector that
+/// [`crate::Machine::take_interrupt`] returns, which is no longer pending.
 #[derive(Clone, Copy, Debug, PartialEq, Eq)]
 pub enum Effect {
-    /// None of these. Every refused event has this effect.
+    /// None of these changed. Refused events always have this effect.
     Nothing,
-    /// Messages, an event flag or vectors of one processor, perhaps the caller.
+    /// Messages, an event flag or vectors changed at one processor, which may be the caller.
     Synic(Synic),
     /// A page moved to another partition, or into or out of a pool.
     Page {
         /// The page.
         page: u64,
-        /// The partition that has it now.
+        /// The partition that now owns it.
         partition: PartitionId,
-        /// Whether it is in that partition's pool. If not, it is a loose page.
+        /// Whether the page is in that partition's pool. Otherwise it is loose.
         pooled: bool,
     },
-    /// A partition was deleted. Each page that it had, at least one, is a loose page of another partition.
+    /// A partition was deleted. Its pages, at least one, are now loose pages of another partition.
     Pages {
-        /// The partition that is gone.
+        /// The deleted partition.
         from: PartitionId,
-        /// The partition that has the pages now.
+        /// The partition that now owns the pages.
         to: PartitionId,
     },
-    /// This processor was created or deleted. It has no message, no event flag and no pending vector.
+    /// This processor was created or deleted. It has no message, event flag or pending vector.
     Processor(Caller),
-    /// A partition was finalized. Its processors, at least one, were removed.
+    /// A partition was finalized. Its processors, at least one, were removed with their messages, flags and
+    /// vectors.
     Partition(PartitionId),
 }
 
@@ -38,15 +40,16 @@ pub enum Effect {
 pub struct Synic {
     /// The processor.
     pub at: Caller,
-    /// Bit s is 1 if the slot of SINT s shows another message now, or none where it showed one.
+    /// Bit s is 1 if the slot of SINT s changed: it shows another message, or is now empty.
     pub shown: u16,
-    /// Bit s is 1 if one more message waits at SINT s, behind the one that is shown.
+    /// Bit s is 1 if one more message waits at SINT s, behind that in the slot.
     pub waiting: u16,
     /// The event flag that changed.
     pub flag: Option<FlagChange>,
-    /// The vectors that SINTs raised: vector v is bit v % 64 of word v / 64.
+    /// The vectors that were raised: vector v is bit v % 64 of word v / 64. A raised vector may have been
+    /// pending already.
     pub raised: [u64; 4],
-    /// The processor's port whose message left its slot. If the port still exists, it has room for one more.
+    /// The port of that partition whose message left its slot. If it still exists, it can take one more.
     pub freed: Option<PortId>,
 }
 
@@ -57,7 +60,7 @@ pub struct FlagChange {
     pub sint: Sint,
     /// Its number, below 2,048.
     pub flag: u16,
-    /// Whether it was set. If not, it was cleared.
+    /// Whether it was set. Otherwise it was cleared.
     pub is_set: bool,
 }
 

@@ -1,5 +1,5 @@
-//! Types of ids. Each wraps the number that the TLFS uses, and any number is allowed: the rules refuse an id
-//! that doesn't exist.
+//! Types of ids. Each wraps the number of the TLFS. Any number is allowed: the rules refuse an id that
+//! doesn't exist.
 
 use core::fmt;
 use hvpm_sys as sys;
@@ -9,9 +9,9 @@ use hvpm_sys as sys;
 pub struct PartitionId(pub u64);
 
 impl PartitionId {
-    /// The root partition, which boot makes.
+    /// The root partition.
     pub const ROOT: PartitionId = PartitionId(1);
-    /// In a hypercall: the caller's own partition.
+    /// HV_PARTITION_ID_SELF. In a hypercall, this id means the caller's own partition.
     pub const SELF: PartitionId = PartitionId(sys::HVPM_SELF);
 }
 
@@ -20,7 +20,7 @@ impl PartitionId {
 pub struct VpIndex(pub u32);
 
 impl VpIndex {
-    /// For a port: any processor of its partition that is ready.
+    /// HV_ANY_VP. A port with this index may deliver to any processor of its partition.
     pub const ANY: VpIndex = VpIndex(sys::HVPM_ANY_VP);
 }
 
@@ -36,17 +36,17 @@ pub struct PortId(pub u32);
 #[derive(Clone, Copy, Debug, PartialEq, Eq, PartialOrd, Ord, Hash)]
 pub struct ConnectionId(pub u32);
 
-/// A virtual processor: the one that makes an event, or the one that a look is at.
+/// A virtual processor: its partition's id, and its index in that partition.
 #[derive(Clone, Copy, Debug, PartialEq, Eq, PartialOrd, Ord, Hash)]
 pub struct Caller {
-    /// Its partition.
+    /// The partition.
     pub partition: PartitionId,
-    /// Its index there.
+    /// The index in the partition.
     pub vp: VpIndex,
 }
 
 impl Caller {
-    /// The processor with this index in the partition with this id.
+    /// Returns the processor with this index in the partition with this id.
     pub const fn new(partition: u64, vp: u32) -> Caller {
         Caller { partition: PartitionId(partition), vp: VpIndex(vp) }
     }
@@ -60,7 +60,7 @@ impl Caller {
     }
 }
 
-/// As in the audit: `1.0` is processor 0 of partition 1.
+/// Formats it as in the audit: `1.0` is processor 0 of partition 1.
 impl fmt::Display for Caller {
     fn fmt(&self, f: &mut fmt::Formatter<'_>) -> fmt::Result {
         write!(f, "{}.{}", self.partition.0, self.vp.0)

@@ -18,16 +18,19 @@
 //! let reply = machine.create_vp(root, child, hvpm::VpIndex(0))?;
 //! assert_eq!(reply.rule(), Some(Rule(12)), "the child isn't Active yet");
 //!
-//! // A look is no event.
+//! // A look reads the machine without an event.
 //! assert_eq!(machine.child_after(PartitionId::ROOT, PartitionId(0)), Some(child));
 //! assert_eq!(machine.events(), 3);
 //! # Ok::<(), hvpm::Status>(())
 //! ```
 //!
-//! A function that fails returns a [`Status`], and nothing happened. A rule that refuses an event is no
-//! failure: it is the event's [`Reply`]. docs/POLICY.md has the rules, calls and accesses, and
-//! docs/EMBEDDING.md says what a VMM does at which exit; [`pages`] keeps a guest's message and flag pages.
-//! Each function has the name of its function in C, without `hvpm_`.
+//! An event is one hypercall or one access. Each element of a rep call is an event. A function that fails
+//! returns a [`Status`]; then no event happened and nothing changed. A rule that refuses an event isn't a
+//! failure: the event's [`Reply`] names the rule, and [`rule_sentence`] says what it demands.
+//!
+//! docs/POLICY.md specifies the rules, calls and accesses. docs/EMBEDDING.md maps a hypervisor's exits to
+//! these functions. [`pages`] maintains a guest's message and event flags pages, and [`guest`] reads its
+//! registers. Each function has the name of the C function, without `hvpm_`.
 #![no_std]
 #![deny(unsafe_op_in_unsafe_fn, missing_docs)]
 

@@ -1,4 +1,4 @@
-//! Recording: events as lines of a script, which `hvpm run SCRIPT --serial` runs again.
+//! Recording: events as lines of a script, which `hvpm run SCRIPT --serial` repeats.
 
 use crate::{Caller, Config, Registers, Sint, Status};
 use alloc::format;
@@ -7,20 +7,20 @@ use alloc::vec::Vec;
 use core::ffi::c_char;
 use hvpm_sys as sys;
 
-/// What a processor does without a hypercall.
+/// An access: what a processor does without a hypercall.
 #[derive(Clone, Copy, Debug, PartialEq, Eq)]
 pub enum Access {
     /// Reads the MSR with this number.
     ReadMsr(u32),
-    /// Writes a value to it.
+    /// Writes a value to the MSR with this number.
     WriteMsr(u32, u64),
     /// Reads the message slot of a SINT.
     ReadSlot(Sint),
-    /// Removes the message that a SINT shows.
+    /// Empties the message slot of a SINT.
     ClearSlot(Sint),
     /// Reads the event flags of a SINT.
     ReadFlags(Sint),
-    /// Clears an event flag of a SINT: the SINT, then the flag.
+    /// Clears one event flag of a SINT.
     ClearFlag(Sint, u16),
     /// Takes the highest pending vector.
     TakeInterrupt,
@@ -55,7 +55,7 @@ impl Access {
     }
 }
 
-/// The text that `call` writes into a buffer, given its size, and whose length it tells.
+/// Returns the text that `call` writes into a buffer of the given size. `call` also stores its length.
 pub(crate) fn text(call: impl Fn(*mut c_char, usize, *mut usize) -> u32) -> Result<String, Status> {
     let (mut bytes, mut len) = (Vec::<u8>::new(), 0);
     loop {
@@ -71,15 +71,17 @@ pub(crate) fn text(call: impl Fn(*mut c_char, usize, *mut usize) -> u32) -> Resu
     Ok(String::from_utf8(bytes).expect("a text is ASCII"))
 }
 
-/// The first line of a script: the boot, and how many events its run may have. Like the others it ends with a
-/// line feed.
+/// Returns the first line of a script, which boots a machine, with its line feed. `limit` is at least the
+/// number of events.
 pub fn boot_line(config: Config, limit: u32) -> String {
     let Config { mask, pages, pool, vps } = config;
     format!("boot {pages} {pool} {vps} {mask:#x} {limit}\n")
 }
 
-/// The line of a hypercall, with the first 4,096 bytes of its input. A rep call is one line, recorded with
-/// its first element: a run of the script continues to the last one.
+/// Returns the line of a hypercall, with its line feed. The line has the first 4,096 bytes of the input: no
+/// input list is longer.
+///
+/// A rep call is one line, which executes all of its elements: record only the first.
 pub fn hypercall_line(by: Caller, registers: Registers, input: &[u8]) -> Result<String, Status> {
     let registers = registers.raw();
     let (bytes, input_len) = (input.as_ptr().cast(), input.len());
@@ -89,7 +91,7 @@ pub fn hypercall_line(by: Caller, registers: Registers, input: &[u8]) -> Result<
     })
 }
 
-/// The line of an access.
+/// Returns the line of an access, with its line feed.
 pub fn access_line(by: Caller, access: Access) -> Result<String, Status> {
     let (access, number, value) = access.numbers();
     // SAFETY: as in `hypercall_line`.

@@ -1,4 +1,4 @@
-//! Looks at a machine. A look is no event: it isn't counted, has no line in the audit, and changes nothing.
+//! Looks: they read a machine without an event.
 
 use crate::VpIndex;
 use crate::lines::text;
@@ -9,9 +9,9 @@ use hvpm_sys as sys;
 /// The life state of a partition.
 #[derive(Clone, Copy, Debug, PartialEq, Eq, Hash)]
 pub enum Life {
-    /// It was created, and isn't initialized.
+    /// It was created and not yet initialized.
     Created,
-    /// It runs.
+    /// It was initialized: its processors may make calls.
     Active,
     /// It was finalized.
     Finalized,
@@ -28,45 +28,47 @@ impl Life {
     }
 }
 
-/// A partition that exists.
+/// A partition, as [`Machine::peek_partition`] returns it.
 #[derive(Clone, Copy, Debug, PartialEq, Eq)]
 pub struct Partition {
     /// Its privilege mask.
     pub mask: u64,
-    /// Its parent. The root has none.
+    /// Its parent. `None` for the root.
     pub parent: Option<PartitionId>,
     /// The number of its ancestors.
     pub depth: u64,
-    /// How many pages its pool has.
+    /// The number of pages in its pool.
     pub pooled: u64,
-    /// How many of those pay for children, processors, ports and connections.
+    /// The number of those that pay for children, processors, ports and connections.
     pub in_use: u64,
     /// Its life state.
     pub life: Life,
-    /// How many children it has.
+    /// The number of its children.
     pub children: u32,
-    /// How many virtual processors it has.
+    /// The number of its virtual processors.
     pub vps: u32,
-    /// How many ports it has.
+    /// The number of its ports.
     pub ports: u32,
-    /// How many connections it has.
+    /// The number of its connections.
     pub connections: u32,
 }
 
-/// Whether a machine has an MSR with this number. The hypervisor answers all others itself.
+/// Returns whether the machine implements this model-specific register. The VMM handles all others.
 pub fn is_msr(msr: u32) -> bool {
     // SAFETY: the function takes a number alone.
     unsafe { sys::hvpm_is_msr(msr) }
 }
 
-/// Whether a hypercall has this code, bits 15:0 of RCX.
+/// Returns whether the machine implements the hypercall with this code, bits 15:0 of RCX.
 pub fn is_call(code: u16) -> bool {
     // SAFETY: the function takes a number alone.
     unsafe { sys::hvpm_is_call(code) }
 }
 
+/// Looks read the machine without an event. They aren't counted, have no audit line, need no privilege, and
+/// change nothing.
 impl Machine {
-    /// What `call` shows with the handle and a place for it; `None` if that doesn't exist.
+    /// Returns what `call` shows with the handle and a place for it; `None` if that doesn't exist.
     fn look<T>(&self, mut shown: T, call: impl FnOnce(*const sys::hvpm_machine, *mut T) -> u32) -> Option<T> {
         match call(&self.handle, &mut shown) {
             sys::HVPM_STATUS_OK => Some(shown),
@@ -76,8 +78,8 @@ impl Machine {
         }
     }
 
-    /// The message slot of a SINT of a processor, as [`Machine::read_slot`] reads it. `None` if there is no
-    /// such processor or SINT.
+    /// Reads the message slot of a SINT: the 256 bytes that [`Machine::read_slot`] outputs. `None` if there
+    /// is no such processor or SINT.
     pub fn peek_slot(&self, of: Caller, sint: Sint) -> Option<[u8; 256]> {
         // SAFETY: as in `hypercall`; a look only reads what the handle leads to. This holds for all looks.
         self.look([0; 256], |machine, out| unsafe {
@@ -85,27 +87,26 @@ impl Machine {
         })
     }
 
-    /// The event flags of a SINT of a processor, as [`Machine::read_flags`] reads them. `None` if there is no
-    /// such processor or SINT.
+    /// Reads the event flags of a SINT: the 256 bytes that [`Machine::read_flags`] outputs. `None` if there
+    /// is no such processor or SINT.
     pub fn peek_flags(&self, of: Caller, sint: Sint) -> Option<[u8; 256]> {
         self.look([0; 256], |machine, out| unsafe {
             sys::hvpm_peek_flags(machine, of.raw(), sint.0, out.cast())
         })
     }
 
-    /// An MSR of a processor, as [`Machine::read_msr_value`] reads it. `None` if there is no such processor
-    /// or MSR.
+    /// Reads a model-specific register. `None` if there is no such processor or register.
     pub fn peek_msr(&self, of: Caller, msr: u32) -> Option<u64> {
         self.look(0, |machine, value| unsafe { sys::hvpm_peek_msr(machine, of.raw(), msr, value) })
     }
 
-    /// The vectors that are pending at a processor: vector v is bit v % 64 of word v / 64. `None` if there is
-    /// no such processor.
+    /// Reads the pending vectors of a processor: vector v is bit v % 64 of word v / 64. `None` if there is no
+    /// such processor.
     pub fn peek_pending(&self, of: Caller) -> Option<[u64; 4]> {
         self.look([0; 4], |machine, out| unsafe { sys::hvpm_peek_pending(machine, of.raw(), out.cast()) })
     }
 
-    /// A partition. `None` if none has this id.
+    /// Reads a partition. `None` if none has this id.
     pub fn peek_partition(&self, id: PartitionId) -> Option<Partition> {
         let empty = sys::hvpm_partition {
             mask: 0,
@@ -135,7 +136,7 @@ impl Machine {
         })
     }
 
-    /// A port of a partition. `None` if none has this id.
+    /// Reads a port of a partition. `None` if none has this id.
     pub fn peek_port(&self, partition: PartitionId, id: PortId) -> Option<Port> {
         let empty = sys::hvpm_port {
             partition: 0,
@@ -161,7 +162,7 @@ impl Machine {
         })
     }
 
-    /// A connection of a partition. Its port may be gone. `None` if none has this id.
+    /// Reads a connection of a partition. Its port may no longer exist. `None` if none has this id.
     pub fn peek_connection(&self, partition: PartitionId, id: ConnectionId) -> Option<Connection> {
         let empty = sys::hvpm_connection {
             partition: 0,
@@ -182,8 +183,8 @@ impl Machine {
         })
     }
 
-    /// The child of a partition after `previous`, which is 0 before the first one, by rising id. `None` after
-    /// the last one, or if there is no such partition.
+    /// Returns the child with the lowest id above `previous`. Pass 0 for the first. `None` if there is no
+    /// such child or partition.
     pub fn child_after(&self, parent: PartitionId, previous: PartitionId) -> Option<PartitionId> {
         let child = self.look(0, |machine, child| unsafe {
             sys::hvpm_child_after(machine, parent.0, previous.0, child)
@@ -191,20 +192,20 @@ impl Machine {
         (child != 0).then_some(PartitionId(child))
     }
 
-    /// The partition that has a page, pooled or loose. `None` if boot gave no such page. It takes time for
-    /// each id that a partition ever had.
+    /// Returns the partition that owns a page. `None` if there is no such page. Takes time linear in the
+    /// number of partition ids ever used.
     pub fn page_owner(&self, page: u64) -> Option<PartitionId> {
         let owner = self.look(0, |machine, owner| unsafe { sys::hvpm_page_owner(machine, page, owner) })?;
         Some(PartitionId(owner))
     }
 
-    /// EAX, EBX, ECX and EDX of CPUID leaf 0x40000003 for a guest: the low and the high half of its
-    /// partition's privilege mask, and zeros. `None` if there is no such partition.
+    /// Returns EAX, EBX, ECX and EDX of CPUID leaf 0x40000003 for a guest: the low and the high half of its
+    /// partition's privilege mask, 0 and 0. `None` if there is no such partition.
     pub fn features(&self, partition: PartitionId) -> Option<[u32; 4]> {
         self.look([0; 4], |machine, out| unsafe { sys::hvpm_features(machine, partition.0, out.cast()) })
     }
 
-    /// The table of the partitions, as `hvpm run --table` prints it.
+    /// Returns the table of partitions, as `hvpm run --table` prints it.
     pub fn table(&self) -> Result<String, Status> {
         // SAFETY: as in `peek_slot`, and the buffer has the size that is given.
         text(|at, size, len| unsafe { sys::hvpm_table(&self.handle, at, size, len) })

@@ -7,16 +7,16 @@ use core::ffi::c_char;
 use core::ptr::null_mut;
 use hvpm_sys as sys;
 
-/// What the root partition gets at boot.
+/// What boot gives to the root partition.
 #[derive(Clone, Copy, Debug, PartialEq, Eq)]
 pub struct Config {
-    /// Its privilege mask.
+    /// The privilege mask.
     pub mask: u64,
-    /// How many pages there are, 1 to 65,536.
+    /// The number of pages, 1 to 65,536.
     pub pages: u32,
-    /// How many of them, from page 0 on, are its pool: at least 4 for each processor.
+    /// How many of them, from page 0 on, are in its pool: at most `pages`, and at least 4 for each processor.
     pub pool: u32,
-    /// How many virtual processors it has, 1 to 64.
+    /// The number of virtual processors, 1 to 64.
     pub vps: u32,
 }
 
@@ -37,10 +37,11 @@ impl Registers {
     }
 }
 
-/// All partitions, with all that they have. Dropping it frees its memory.
+/// A machine: all partitions with their pages, processors, ports, connections and messages. Dropping it frees
+/// its memory.
 ///
-/// A machine may move from thread to thread. Threads that share one put it behind a lock, which a look needs,
-/// too:
+/// A machine may move between threads. To share one, put it behind a lock, because not even a look may run
+/// beside another call:
 ///
 /// ```compile_fail
 /// fn is_sync<T: Sync>() {}
@@ -55,7 +56,9 @@ pub struct Machine {
 unsafe impl Send for Machine {}
 
 impl Machine {
-    /// Boots a machine. Its root partition has the id 1, is Active, and has what the configuration says.
+    /// Boots a machine. The root partition has id 1 and is Active. It has the pages, processors and
+    /// privileges of `config`. Returns [`Status::Pages`], [`Status::Pool`] or [`Status::Vps`] if `config`
+    /// isn't valid.
     pub fn boot(config: Config) -> Result<Machine, Status> {
         let Config { mask, pages, pool, vps } = config;
         let mut machine = Machine { handle: sys::hvpm_machine { live: false, events: 0, at: null_mut() } };
@@ -64,12 +67,12 @@ impl Machine {
         Ok(machine)
     }
 
-    /// How many events the machine took, served or refused.
+    /// Returns the number of events so far, served or refused.
     pub fn events(&self) -> u64 {
         self.handle.events
     }
 
-    /// Lets `call` take an event with the handle, a reply, and a line's buffer and its size.
+    /// Executes an event: `call` gets the handle, a reply, and the buffer for a line with its size.
     pub(crate) fn take(
         &mut self,
         call: impl FnOnce(*mut sys::hvpm_machine, *mut sys::hvpm_reply, *mut c_char, usize) -> u32,
@@ -80,7 +83,7 @@ impl Machine {
         Ok(reply)
     }
 
-    /// Takes an event whose output `call` also stores in a value.
+    /// Executes an event whose output `call` also stores in a value.
     pub(crate) fn take_value<T>(
         &mut self,
         mut value: T,
@@ -90,10 +93,12 @@ impl Machine {
         Ok(Output { value: reply.is_served().then_some(value), reply })
     }
 
-    /// Takes one hypercall: a simple call, or the element at the start index of a rep call. `input` is the
-    /// input list from the guest's memory at RDX: missing bytes at its end read as zero, and a fast call
-    /// ignores it. The output, at most 16 bytes, is for the guest's memory at R8. If the reply is
-    /// [`crate::Answer::More`], the call continues with [`crate::next`].
+    /// Executes one hypercall: a simple call, or the element of a rep call at its start index.
+    ///
+    /// `input` holds the bytes from guest memory at RDX. Bytes that the list needs but `input` lacks read as
+    /// zero, and a fast call ignores it. Copy the output, at most 16 bytes, to guest memory at R8 plus the
+    /// start index times the length of the output. If the reply is [`crate::Answer::More`], continue with
+    /// [`crate::next`].
     pub fn hypercall(&mut self, by: Caller, registers: Registers, input: &[u8]) -> Result<Reply, Status> {
         let registers = registers.raw();
         // SAFETY: the library wrote the handle, and this call borrows it alone. Each other pointer leads to a
@@ -105,12 +110,17 @@ impl Machine {
         })
     }
 
-    /// Takes a hypercall, and the elements of a rep call after it, each as one event. It stops after the last
-    /// element; after one that a rule refuses; after one whose effect is neither [`crate::Effect::Nothing`]
-    /// nor [`crate::Effect::Page`]; when fewer than 16 bytes of `outputs` are left; or when the next element
-    /// can't happen, as the host is out of memory. If the reply is [`crate::Answer::More`], the call
-    /// continues with [`crate::next`]. There are no lines of the audit: for those take the elements one by
-    /// one.
+    /// Executes a hypercall like [`Machine::hypercall`]. A rep call continues with its next elements, each as
+    /// an event of its own. It stops
+    ///
+    /// - after the last element, or one that a rule refuses;
+    /// - after one whose effect is neither [`crate::Effect::Nothing`] nor [`crate::Effect::Page`];
+    /// - when fewer than 16 bytes of `outputs` are left;
+    /// - when the machine takes no more events, or lacks memory for the next element, which isn't executed.
+    ///
+    /// If the reply is [`crate::Answer::More`], continue with [`crate::next`]. There are no audit lines: to
+    /// get them, call [`Machine::hypercall`] for each element. Returns [`Status::Short`] if `outputs` has
+    /// fewer than 16 bytes.
     pub fn run<'o>(
         &mut self,
         by: Caller,
@@ -138,58 +148,56 @@ impl Machine {
         Ok(Run { reply, events: run.events, outputs: &outputs[..run.output_len as usize] })
     }
 
-    /// Reads an MSR of the processor. The output is 8 bytes, the lowest first.
+    /// Reads a model-specific register. The output is its value: 8 bytes, little-endian.
     pub fn read_msr(&mut self, by: Caller, msr: u32) -> Result<Reply, Status> {
         self.take(|machine, reply, line, size| unsafe {
             sys::hvpm_read_msr(machine, by.raw(), msr, reply, line, size)
         })
     }
 
-    /// Reads an MSR of the processor as a number.
+    /// Like [`Machine::read_msr`], with the value as a number.
     pub fn read_msr_value(&mut self, by: Caller, msr: u32) -> Result<Output<u64>, Status> {
         self.take_value(0, |machine, value, reply, line, size| unsafe {
             sys::hvpm_read_msr_value(machine, by.raw(), msr, value, reply, line, size)
         })
     }
 
-    /// Writes an MSR of the processor. A write of EOM may show messages and raise vectors.
+    /// Writes a model-specific register. A write of EOM may show messages and raise vectors.
     pub fn write_msr(&mut self, by: Caller, msr: u32, value: u64) -> Result<Reply, Status> {
         self.take(|machine, reply, line, size| unsafe {
             sys::hvpm_write_msr(machine, by.raw(), msr, value, reply, line, size)
         })
     }
 
-    /// Reads the message slot of a SINT of the processor. The output is 256 bytes, all zero if no message is
-    /// shown.
+    /// Reads the message slot of a SINT. The output is 256 bytes, all zero if the slot is empty.
     pub fn read_slot(&mut self, by: Caller, sint: Sint) -> Result<Reply, Status> {
         self.take(|machine, reply, line, size| unsafe {
             sys::hvpm_read_slot(machine, by.raw(), sint.0, reply, line, size)
         })
     }
 
-    /// Removes the message that a SINT of the processor shows. A post or a write of EOM shows the next one.
+    /// Empties the message slot of a SINT. The next message appears on EOM or on a post.
     pub fn clear_slot(&mut self, by: Caller, sint: Sint) -> Result<Reply, Status> {
         self.take(|machine, reply, line, size| unsafe {
             sys::hvpm_clear_slot(machine, by.raw(), sint.0, reply, line, size)
         })
     }
 
-    /// Reads the event flags of a SINT of the processor. The output is 256 bytes; flag f is bit f % 8 of
-    /// byte f / 8.
+    /// Reads the event flags of a SINT. The output is 256 bytes; flag f is bit f % 8 of byte f / 8.
     pub fn read_flags(&mut self, by: Caller, sint: Sint) -> Result<Reply, Status> {
         self.take(|machine, reply, line, size| unsafe {
             sys::hvpm_read_flags(machine, by.raw(), sint.0, reply, line, size)
         })
     }
 
-    /// Clears an event flag of a SINT of the processor.
+    /// Clears one event flag of a SINT.
     pub fn clear_flag(&mut self, by: Caller, sint: Sint, flag: u16) -> Result<Reply, Status> {
         self.take(|machine, reply, line, size| unsafe {
             sys::hvpm_clear_flag(machine, by.raw(), sint.0, flag, reply, line, size)
         })
     }
 
-    /// Takes the highest vector that is pending at the processor. The output is one byte, 0 if none is.
+    /// Takes the highest pending vector. The output is one byte: the vector, or 0 if none is pending.
     pub fn take_interrupt(&mut self, by: Caller) -> Result<Reply, Status> {
         self.take(|machine, reply, line, size| unsafe {
             sys::hvpm_take_interrupt(machine, by.raw(), reply, line, size)

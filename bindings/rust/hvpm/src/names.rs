@@ -11,28 +11,29 @@ fn text(at: *const c_char) -> &'static str {
     unsafe { CStr::from_ptr(at) }.to_str().expect("a name is ASCII")
 }
 
-/// The version of the library, as `MAJOR.MINOR.PATCH`.
+/// Returns the version of the library, as `MAJOR.MINOR.PATCH`.
 pub fn version() -> &'static str {
-    // SAFETY: the function takes nothing. Those below take a number alone.
+    // SAFETY: the function takes nothing. Those below take only a number.
     text(unsafe { sys::hvpm_version() })
 }
 
-/// The name of a status of the library, such as `HVPM_STATUS_MEMORY`.
+/// Returns the name of a status of the library, such as `HVPM_STATUS_MEMORY`.
 pub fn status_name(status: Status) -> &'static str {
     text(unsafe { sys::hvpm_status_name(status.number()) })
 }
 
-/// The TLFS name of a hypercall's status, such as `HV_STATUS_ACCESS_DENIED`; `unknown` if no rule has it.
+/// Returns the TLFS name of a hypercall's status, such as `HV_STATUS_ACCESS_DENIED`; `unknown` for a status
+/// that the machine never returns.
 pub fn hv_status_name(status: HvStatus) -> &'static str {
     text(unsafe { sys::hvpm_hv_status_name(status.0.into()) })
 }
 
-/// The name of a rule, such as `P12`; `unknown` if there is no such rule.
+/// Returns the name of a rule, such as `P12`; `unknown` if there is no such rule.
 pub fn rule_name(rule: Rule) -> &'static str {
     text(unsafe { sys::hvpm_rule_name(rule.0) })
 }
 
-/// What a rule demands, in one sentence of docs/POLICY.md; `unknown` if there is no such rule.
+/// Returns what a rule demands, in one sentence of docs/POLICY.md; `unknown` if there is no such rule.
 pub fn rule_sentence(rule: Rule) -> &'static str {
     text(unsafe { sys::hvpm_rule_sentence(rule.0) })
 }

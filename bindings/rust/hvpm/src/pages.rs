@@ -1,6 +1,6 @@
-//! Keeps a processor's message page (SIMP) and event flags page (SIEFP) in step with the machine, as
-//! `hvpm_pages.h` does in C. The guest reads and writes both without an exit. "Pages" in docs/EMBEDDING.md
-//! says what a VMM calls when; all of one exit is one critical section:
+//! Keeps a processor's message page (SIMP) and event flags page (SIEFP) in step with the machine, like
+//! `hvpm_pages.h` in C. The guest reads and writes both pages without an exit, so call these functions around
+//! each event. All of one exit is one critical section. "Pages" in docs/EMBEDDING.md explains the protocol.
 //!
 //! ```
 //! # use hvpm::{Caller, Config, Machine, Registers, Status, pages::Pages};
@@ -26,30 +26,29 @@ use core::ptr::{NonNull, null_mut};
 use core::slice;
 use hvpm_sys as sys;
 
-/// An event that [`Pages`] made in a guest's place. The audit has it as the guest's own.
+/// An event that [`Pages`] made in the guest's place. In the audit it is the guest's own.
 pub struct Record<'a> {
     /// The guest's processor.
     pub by: Caller,
-    /// What it did.
+    /// The access.
     pub access: Access,
-    /// The reply, with the line of the audit.
+    /// The reply, with the audit line.
     pub reply: &'a Reply,
 }
 
 type Recorder<'r> = Box<dyn FnMut(Record<'_>) + Send + 'r>;
 
-/// The pages of a processor. At first it has none.
+/// The pages of a processor. It starts without any.
 pub struct Pages<'r> {
     raw: sys::hvpm_pages,
     record: Option<Recorder<'r>>,
 }
 
-// SAFETY: the pointers lead to the guest's memory, of which `move` says that it may be used from any
-// thread.
+// SAFETY: the pointers lead to the guest's memory, which any thread may use, as `move` demands.
 unsafe impl Send for Pages<'_> {}
 
 impl<'r> Pages<'r> {
-    /// A processor whose pages are kept, without pages at first.
+    /// Creates the pages of a processor, which has none yet.
     pub fn new(of: Caller) -> Pages<'r> {
         // SAFETY: zeros are null pointers, numbers, and no function. The header asks for them.
         let mut raw: sys::hvpm_pages = unsafe { core::mem::zeroed() };
@@ -57,8 +56,8 @@ impl<'r> Pages<'r> {
         Pages { raw, record: None }
     }
 
-    /// Also calls `record` for each event that is made in the guest's place. It must not panic: that ends the
-    /// process.
+    /// Like [`Pages::new`], and calls `record` for each event that is made in the guest's place. `record`
+    /// must not panic: a panic there aborts the process.
     pub fn recorded(of: Caller, record: impl FnMut(Record<'_>) + Send + 'r) -> Pages<'r> {
         let mut pages = Pages::new(of);
         pages.raw.record = Some(tell);
@@ -66,23 +65,23 @@ impl<'r> Pages<'r> {
         pages
     }
 
-    /// The processor.
+    /// Returns the processor.
     pub fn of(&self) -> Caller {
         Caller::of(self.raw.of)
     }
 
-    /// Bit s is 1 if the slot of SINT s in the page has a message that the machine shows, too.
+    /// Returns the SINTs whose message is in the page: bit s is 1 if the message that the machine shows at
+    /// SINT s is there.
     pub fn shown(&self) -> u16 {
         self.raw.shown
     }
 
-    /// Whether a message left its slot since this function was called last: a post that P23 refused may be
-    /// repeated.
+    /// Returns whether a message left its slot since the last call: a post that P23 refused may be repeated.
     pub fn take_freed(&mut self) -> bool {
         core::mem::replace(&mut self.raw.freed, false)
     }
 
-    /// Lets `call` work with the machine and the pages.
+    /// Calls `call` with the machine and the pages.
     fn keep(
         &mut self,
         machine: &mut Machine,
@@ -93,29 +92,31 @@ impl<'r> Pages<'r> {
         done(call(&mut machine.handle, &mut self.raw))
     }
 
-    /// Clears in the machine the slots that the guest cleared in its page. Call it before a post, a write of
+    /// Clears in the machine the slots that the guest freed in its page. Call it before a post, a write of
     /// EOM and HvSetVpRegisters.
     pub fn before(&mut self, machine: &mut Machine) -> Result<(), Status> {
         // SAFETY: both are borrowed for this call, and the pages are as `move` asks. So it is below.
         self.keep(machine, |machine, pages| unsafe { sys::hvpm_pages_before(machine, pages) })
     }
 
-    /// Brings the pages up to date after an event. Does nothing if the event's effect names another
-    /// processor.
+    /// Updates the pages after an event. Does nothing if the event's effect doesn't name their processor.
     pub fn after(&mut self, machine: &mut Machine, reply: &Reply) -> Result<(), Status> {
         let effect = &reply.raw.effect;
         self.keep(machine, |machine, pages| unsafe { sys::hvpm_pages_after(machine, pages, effect) })
     }
 
-    /// Tells where the pages are after a write of SIMP or SIEFP: `None` if bit 0 is 0, or if the address
-    /// isn't the guest's memory. A page begins with what the machine shows, and is zero elsewhere. Flags that
-    /// the guest didn't take move from page to page.
+    /// Sets the addresses of the pages after a write of SIMP or SIEFP. Pass `None` if bit 0 of the register
+    /// is 0, or if the page isn't in the guest's memory.
+    ///
+    /// A new message page gets the messages that the machine shows, and a new event flags page gets the flags
+    /// that the guest hasn't taken. All other bytes become zero.
     ///
     /// # Safety
     ///
-    /// Each page has 4,096 bytes, begins at a multiple of 4,096, and may be read and written from any thread,
-    /// until another call of this function names another one, or this value is dropped. Nobody but the guest
-    /// uses it meanwhile, and Rust holds no reference to it.
+    /// Each page has 4,096 bytes and begins at a multiple of 4,096. Any thread may read and write it until
+    /// another call of this function replaces it, or this value is dropped. Meanwhile only the guest uses it,
+    /// and there is no Rust reference to it. A call that returns an error replaces nothing: the pages of both
+    /// calls stay in use.
     pub unsafe fn r#move(
         &mut self,
         machine: &mut Machine,
@@ -127,8 +128,8 @@ impl<'r> Pages<'r> {
         self.keep(machine, |machine, pages| unsafe { sys::hvpm_pages_move(machine, pages, messages, flags) })
     }
 
-    /// Takes the highest vector that was raised. Inject it at once: a processor that waits in HLT has no exit
-    /// at which to ask. `None` if no vector is left.
+    /// Takes the highest vector that was raised, or `None` if none is left. Inject it at once: a processor
+    /// that waits in HLT has no exit at which to ask.
     pub fn vector(&mut self, machine: &mut Machine) -> Result<Option<u8>, Status> {
         let mut vector = 0;
         self.keep(machine, |machine, pages| unsafe { sys::hvpm_pages_vector(machine, pages, &mut vector) })?;
@@ -136,7 +137,7 @@ impl<'r> Pages<'r> {
     }
 }
 
-/// Hands an event from the library to the recorder at `context`.
+/// Passes an event from the library to the recorder at `context`.
 unsafe extern "C" fn tell(
     context: *mut c_void,
     by: sys::hvpm_caller,

@@ -21,19 +21,19 @@ impl fmt::Debug for HvStatus {
 /// How an event was answered.
 #[derive(Clone, Copy, Debug, PartialEq, Eq)]
 pub enum Answer {
-    /// It was served. In a rep call this was the last element.
+    /// The event is served. Of a rep call, this was the last element.
     Served,
-    /// This element was served, and the call continues with another one.
+    /// The element is served, and more follow: see [`next`].
     More {
-        /// The start index of that element.
+        /// The start index of the next element.
         next: u16,
     },
-    /// A hypercall that a rule refuses. Nothing changed.
+    /// A rule refuses the hypercall. Only the count of events changed.
     Denied {
         /// The first rule that doesn't hold.
         rule: Rule,
     },
-    /// An access that a rule refuses: the guest gets #GP. Nothing changed.
+    /// A rule refuses the access: give the guest #GP. Only the count of events changed.
     Fault {
         /// The first rule that doesn't hold.
         rule: Rule,
@@ -78,7 +78,7 @@ impl Reply {
         Reply { raw, line: [0; sys::HVPM_LINE] }
     }
 
-    /// How the event was answered.
+    /// Returns how the event was answered.
     pub fn answer(&self) -> Answer {
         let rule = Rule(self.raw.rule);
         match self.raw.kind {
@@ -89,12 +89,12 @@ impl Reply {
         }
     }
 
-    /// Whether the event was served.
+    /// Returns whether the event was served.
     pub fn is_served(&self) -> bool {
         matches!(self.answer(), Answer::Served | Answer::More { .. })
     }
 
-    /// The rule that refuses the event. `None` if it was served.
+    /// Returns the rule that refuses the event, or `None` if it was served.
     pub fn rule(&self) -> Option<Rule> {
         match self.answer() {
             Answer::Denied { rule } | Answer::Fault { rule } => Some(rule),
@@ -102,7 +102,7 @@ impl Reply {
         }
     }
 
-    /// The status of a hypercall; of an access [`HvStatus`] 0 if it was served, and `None` for a fault.
+    /// Returns the status of a hypercall. For an access it is [`HvStatus`] 0, or `None` for a fault.
     pub fn status(&self) -> Option<HvStatus> {
         match self.answer() {
             Answer::Fault { .. } => None,
@@ -110,22 +110,22 @@ impl Reply {
         }
     }
 
-    /// The result value of a hypercall, for RAX; 0 for an access.
+    /// Returns the result value of a hypercall, for RAX; 0 for an access.
     pub fn result(&self) -> u64 {
         self.raw.result
     }
 
-    /// The output of the event, at most 256 bytes.
+    /// Returns the output of the event, at most 256 bytes.
     pub fn output(&self) -> &[u8] {
         &self.raw.output[..self.raw.output_len as usize]
     }
 
-    /// The event's line of the audit, with its line feed.
+    /// Returns the event's audit line, with its line feed.
     pub fn line(&self) -> &str {
         core::str::from_utf8(&self.line[..self.raw.line_len as usize]).expect("a line is ASCII")
     }
 
-    /// What the event changed of messages, event flags, vectors, pages and processors.
+    /// Returns what the event changed: messages, event flags, vectors, pages and processors.
     pub fn effect(&self) -> Effect {
         Effect::of(&self.raw.effect)
     }
@@ -142,7 +142,7 @@ impl fmt::Debug for Reply {
     }
 }
 
-/// The reply to an event that has a value as its output.
+/// The reply to an event whose output is a value.
 #[derive(Clone, Debug)]
 pub struct Output<T> {
     /// The reply.
@@ -151,18 +151,18 @@ pub struct Output<T> {
     pub value: Option<T>,
 }
 
-/// The elements of a call that were taken one after another.
+/// How far [`crate::Machine::run`] got.
 #[derive(Clone, Debug)]
 pub struct Run<'o> {
-    /// The reply to the last of them, without a line of the audit.
+    /// The reply to the last element executed, without an audit line.
     pub reply: Reply,
-    /// How many there were.
+    /// The number of elements executed, at least 1.
     pub events: u32,
-    /// Their outputs, one after another.
+    /// The outputs of these elements, one after another.
     pub outputs: &'o [u8],
 }
 
-/// RCX of the element with which a call continues after a reply that is [`Answer::More`].
+/// Returns RCX for the next element, after a reply that is [`Answer::More`].
 pub fn next(rcx: u64, reply: &Reply) -> u64 {
     // SAFETY: the reply is a whole one, and is only read.
     unsafe { sys::hvpm_next(rcx, &reply.raw) }

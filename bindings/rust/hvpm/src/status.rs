@@ -3,25 +3,25 @@
 use core::fmt;
 use hvpm_sys as sys;
 
-/// Why the library did nothing: no event happened, and nothing changed.
+/// Why a function failed. No event happened and nothing changed.
 #[derive(Clone, Copy, Debug, PartialEq, Eq, Hash)]
 pub enum Status {
-    /// A run's buffer for outputs has fewer than 16 bytes.
+    /// Run: the buffer for outputs has fewer than 16 bytes.
     Short,
     /// The machine takes no more events.
     UsedUp,
-    /// The host is out of memory. The call may be repeated.
+    /// The host is out of memory. You may retry. Accesses never return this.
     Memory,
     /// Boot: no pages, or more than 65,536.
     Pages,
     /// Boot: more pooled pages than pages.
     Pool,
-    /// Boot: no processors, more than 64, or more than the pool pays for.
+    /// Boot: no processors, more than 64, or more than the pool can pay for.
     Vps,
 }
 
 impl Status {
-    /// The number of the status in C.
+    /// Returns the number of the status in C.
     pub fn number(self) -> u32 {
         match self {
             Status::Short => sys::HVPM_STATUS_SHORT,
@@ -34,8 +34,8 @@ impl Status {
     }
 }
 
-/// What a status of the library says. A safe function never gets the others: a [`crate::Machine`] has a
-/// machine, no pointer is null, and a line has its room.
+/// Converts a status of the library. A safe function never gets the others: a [`crate::Machine`] has a
+/// machine, no pointer is null, and the buffer of a line is large enough.
 pub(crate) fn done(status: u32) -> Result<(), Status> {
     match status {
         sys::HVPM_STATUS_OK => Ok(()),
