@@ -7,11 +7,12 @@ from model.machine import MORE
 from model.script import ACCESSES, Turn, begun, reply_text
 
 SHOWN = 800  # bytes of a line
+ANY = "\0"
 
 
 class Verdict(NamedTuple):
-    """Of a legal audit the number of its events, otherwise the first line that isn't legal. Where
-    docs/PROGRAM.md says which text it has, `texts` are those that it may have."""
+    """Of a legal audit the number of its events, otherwise the first line that isn't legal, with the texts
+    that docs/PROGRAM.md lets it have. One that ends with ANY may go on with any text."""
 
     events: int = None
     line: int = None
@@ -21,21 +22,25 @@ class Verdict(NamedTuple):
         """Whether a program says this."""
         if self.line is None:
             return status == 0 and said == f"legal, {self.events} events\n"
-        begin = f"line {self.line}: "
-        texts = [f"{begin}{text}\n" for text in self.texts]
-        return status == 1 and (said in texts if texts else said.startswith(begin))
+        texts = [f"line {self.line}: {text}\n" for text in self.texts]
+        begins = tuple(text.partition(ANY)[0] for text in texts if ANY in text)
+        return status == 1 and (said in texts or said.startswith(begins))
 
 
 def shown(line):
     if line is None:
         return "the end"
-    return re.sub(r"[^ -~]", "?", line[:SHOWN]) or "an empty line"
+    text = re.sub(r"[^ -~]", "?", line) or "an empty line"
+    return text if len(text) <= SHOWN else text[:SHOWN] + ANY
 
 
-def asked(rest):
-    """WHAT of an event, from a line behind its VP."""
+def asked(who, rest):
+    """A VP and its WHAT, from a line behind its number, where WHAT begins as one does."""
     words = rest.split(" ")
-    return " ".join(words[: 1 + (1 if words[0] == "call" else len(ACCESSES.get(words[0], ())))])
+    count = 2 if words[0] == "call" else 1 + len(ACCESSES.get(words[0], ()))
+    if words[0] not in ("call", *ACCESSES) or len(words) <= count:
+        return ANY
+    return shown(" ".join([who, *words[:count]]))
 
 
 def without_rule(reply):
@@ -88,10 +93,10 @@ class Checker:
     def faults(self, line):
         """None if a line is legal, and then the event is made; otherwise the texts that it may have."""
         busy = ["%d.%d" % by for by, turns in self.left.items() if turns]
-        found = re.fullmatch(r"([0-9]+) ([0-9]+)\.([0-9]+) (.*)", line or "")
+        found = re.fullmatch(r"([0-9]+) (([0-9]+)\.([0-9]+)) (.*)", line or "")
         if found:
-            by = int(found[2]), int(found[3])
-            return self.event_faults(int(found[1]), by, found[4], busy, line)
+            by = int(found[3]), int(found[4])
+            return self.event_faults(found[1], found[2], by, found[5], busy, line)
         is_last = line is None or line.startswith("events ")
         count = f"events {self.run.events}"
         if is_last and line == count and (self.is_prefix or not busy):
@@ -104,30 +109,32 @@ class Checker:
         no_event = f"wanted the line of an event, found {shown(line)}"
         return (no_event, is_number)
 
-    def event_faults(self, number, by, rest, busy, line):
-        """Those of a line that names an event."""
-        who, run = "%d.%d" % by, self.run
-        wanted_number = f"wanted number {run.events + 1}, found {number}"
+    def event_faults(self, number, who, by, rest, busy, line):
+        """Those of a line that begins with a number and a VP. Where several hold, each may be told."""
+        run, is_vp = self.run, by[0] < 1 << 64 and by[1] < 1 << 32
+        texts = [] if is_vp else [f"wanted the line of an event, found {shown(line)}"]
+        if number != str(run.events + 1):
+            texts.append(f"wanted number {run.events + 1}, found {shown(number)}")
         if not self.left.get(by):
-            texts = [f"{who} has nothing left to do in this phase"]
+            texts += [f"{it} has nothing left to do in this phase" for it in {who, "%d.%d" % by}]
             texts += [] if busy else [f"wanted events {run.events}, found {shown(line)}"]
-            return (*texts, wanted_number) if number != run.events + 1 else tuple(texts)
-        if run.events == run.limit:
-            return (f"{who} has no event left, since the script's limit is reached",)
-        if number != run.events + 1:
-            return (wanted_number,)
-        return self.reply_faults(self.left[by], who, rest)
+        elif run.events == run.limit:
+            texts.append(f"{'%d.%d' % by} has no event left, since the script's limit is reached")
+        return tuple(texts) or self.reply_faults(self.left[by], who, rest)
 
     def reply_faults(self, turns, who, rest):
-        """Those of an event's WHAT and REPLY."""
-        what = turns[0].what()
+        """Those of an event's VP, WHAT and REPLY."""
+        what, wanted_who = turns[0].what(), turns[0].who()
         reply = turns[0].take(self.run.machine)
         self.run.events += 1
         if reply.kind != MORE:
             turns.popleft()
-        if not rest.startswith(f"{what} "):
-            return (f"wanted {who} {what}, found {who} {asked(rest)}",)
+        if who != wanted_who or not rest.startswith(f"{what} "):
+            return (f"wanted {wanted_who} {what}, found {asked(who, rest)}",)
         found, wanted = rest[len(what) + 1 :], reply_text(reply)
         if found == wanted or (not self.has_rules and without_rule(found) == without_rule(wanted)):
             return None
-        return (f"{who} {what}: wanted {wanted}, found {found}",)
+        # Where no reply begins there, that may be WHAT to its end.
+        has_reply = re.match(r"(ok|more|denied|fault)( |$)", found)
+        other_what = () if has_reply else (f"wanted {who} {what}, found {ANY}",)
+        return (f"{who} {what}: wanted {wanted}, found {shown(found)}", *other_what)

@@ -3,7 +3,7 @@ from model.machine import ACTIVE, BootRefused
 from model.script import PHASE_VPS, Line, Reader, Run
 from model.tables import (
     ANY_VP, CALLS, DEPTHS, EOM, EVENTS, MASKED, MESSAGES, MSRS, NEW_MASK, PAGE, PRIVILEGE_FLAGS, PROPERTIES,
-    REGISTERS, ROOT, SCONTROL, SELF, SIEFP, SIMP, SINT_0,
+    REGISTERS, ROOT, SCONTROL, SELF, SIEFP, SIMP, SINT_0, VP_COST, VPS,
 )  # fmt: skip
 
 ALL = 0x000000F700000044
@@ -11,6 +11,12 @@ JUNK = (0, 1, 2, 7, 8, 63, 64, 255, 2047, 2048, 65535, 65536, 1 << 24, ANY_VP - 
         SELF)  # fmt: skip
 CPUS = (0, 1, 99, 100, 10000, 10001, 65536, 65537, 1 << 32, SELF)
 VECTORS = (0, 15, 16, 17, 0x30, 0x41, 255)
+
+# Where a block has bytes that no field covers: each from a place on, so many.
+GAPS = {
+    **dict.fromkeys((0x44, 0x45, 0x4E, 0x4F, 0x50, 0x51, 0x58, 0x5B), ((12, 4),)), 0x5C: ((4, 4),),
+    0x5D: ((6, 2),), 0x95: ((12, 4), (28, 4), (44, 4)), 0x96: ((12, 4), (28, 4), (36, 12)),
+}  # fmt: skip
 
 # How often each kind of line is written, by theme.
 CALL_NAMES = {call.name: code for code, call in CALLS.items()}
@@ -21,15 +27,16 @@ TREE = {"HvCreatePartition": 6, "HvInitializePartition": 6, "HvFinalizePartition
         "HvGetPartitionProperty": 3, "HvSetPartitionProperty": 6, "HvGetNextChildPartition": 4,
         "HvGetPartitionId": 1}  # fmt: skip
 PAGES = {"HvDepositMemory": 8, "HvWithdrawMemory": 6, "HvGetMemoryBalance": 4}
-VPS = {"HvCreateVp": 5, "HvDeleteVp": 3}
+VP_CALLS = {"HvCreateVp": 5, "HvDeleteVp": 3}
 REGISTERS_OF_VPS = {"HvGetVpRegisters": 6, "HvSetVpRegisters": 8}
 EVEN = {**dict.fromkeys([*CALL_NAMES, *SYNIC], 2), "odd": 6, "burst": 1}
 THEMES = {
     "mail": {**SYNIC, "HvSetVpRegisters": 5, "HvDeleteVp": 1, "HvCreateVp": 1, **dict.fromkeys(LINKS, 1)},
-    "registers": {**REGISTERS_OF_VPS, "rdmsr": 10, "wrmsr": 10, "interrupt": 1, **VPS},
-    "tree": {**TREE, **VPS, "HvDepositMemory": 3},
-    "pages": {**PAGES, **TREE, **VPS, "HvCreatePort": 2, "HvConnectPort": 2},
-    "ports": {**LINKS, "burst": 2, "HvPostMessage": 5, "HvSignalEvent": 5, "HvFinalizePartition": 1, **VPS},
+    "registers": {**REGISTERS_OF_VPS, "rdmsr": 10, "wrmsr": 10, "interrupt": 1, **VP_CALLS},
+    "tree": {**TREE, **VP_CALLS, "HvDepositMemory": 3},
+    "pages": {**PAGES, **TREE, **VP_CALLS, "HvCreatePort": 2, "HvConnectPort": 2},
+    "ports": {**LINKS, **VP_CALLS, "burst": 2, "HvPostMessage": 5, "HvSignalEvent": 5,
+              "HvFinalizePartition": 1},
     "even": EVEN,
     "refusals": {**EVEN, "odd": 60},
 }
@@ -62,12 +69,14 @@ class Author:
         return self.random.choice([*else_, *JUNK])
 
     def configuration(self, has_limit):
-        lacks = 1 << self.random.choice((2, 6, *range(32, 40)))
+        lacks = 1 << self.random.choice((2, 2, 6, 6, *range(32, 40)))
         mask = self.random.choice((ALL, ALL, ALL, SELF, ALL & ~lacks, self.random.getrandbits(64)))
         limit = self.random.randrange(60) if has_limit and self.chance(0.05) else 100_000
         pages = self.random.choice((24, 100, 200, 256, 256, 3000))
         pool = self.random.randrange(12, pages) if self.chance(0.1) else pages // 2
-        return pages, pool, self.random.choice((1, 2, 3)), mask, limit
+        has_many = pool >= VP_COST * VPS and self.chance(0.2)
+        vps = self.random.choice((40, 64) if has_many else (1, 2, 3))
+        return pages, pool, vps, mask, limit
 
     def boot(self, values):
         try:
@@ -84,11 +93,14 @@ class Author:
         return f"{value:#x}" if value > 9 else str(value)
 
     def write(self, line):
-        """Writes a line; the model takes it where it is one of a VP."""
+        """Writes a line, unless its VP is one too many in this phase. The model takes it where it is one of
+        a VP."""
         if self.chance(0.02):
             line = self.random.choice((f"  {line} ", line.replace(" ", "  "), line, f"# odd \t\xff\n{line}"))
-        self.lines.append(line)
         found = self.reader.read(line.split("\n")[-1])
+        if found == "too many processors":
+            return
+        self.lines.append(line)
         if isinstance(found, Line):
             for _ in self.run.lines(found):
                 pass
@@ -108,14 +120,23 @@ class Author:
     def caller(self):
         """A VP, mostly one that exists and fits in this phase."""
         by = self.random.choice(self.callers() or [(ROOT, 0)])
-        if self.chance(self.wild / 4):
-            by = self.some([], *self.partitions), self.some([]) & ANY_VP
+        if self.chance(self.wild):
+            by = self.other_caller()
         known = sorted(self.reader.vps)
         return self.random.choice(known) if by not in known and len(known) >= PHASE_VPS else by
 
+    def other_caller(self):
+        """One that P1, P2 or P3 refuses, mostly."""
+        resting = [id for id, it in self.partitions.items() if it.life != ACTIVE]
+        partition = self.random.choice(self.random.choice((JUNK, resting or JUNK, list(self.partitions))))
+        return partition, self.random.choice((0, 1, 2, 63, 64, ANY_VP))
+
     def relative(self, by, is_child=False):
-        """A partition, as a caller names it: mostly a child, or itself."""
+        """A partition, as a caller names it: mostly a child, or itself. P10 refuses the others that exist."""
         there = sorted(self.partitions[by[0]].children) if by[0] in self.partitions else []
+        others = [id for id in self.partitions if id != by[0] and id not in there]
+        if others and self.chance(self.wild):
+            return self.random.choice(others)
         if not is_child or not there:
             there += [by[0], SELF]
         return self.some(there, *self.partitions)
@@ -133,6 +154,7 @@ class Author:
     def call(self, by, code, block=b"", count=0, start=0):
         """A line of a call, mostly with the shape that P5 and P6 want."""
         call = CALLS[code]
+        block = self.filled(code, block) if self.chance(0.3) else block
         fast = call.takes_fast and len(block) <= 16 and self.chance(0.5)
         rcx = code | fast << 16 | count << 32 | start << 48
         if self.chance(self.wild / 4):
@@ -144,6 +166,17 @@ class Author:
             first, second = self.address(call.input_length(count)), self.address(call.output_length(count))
             data = self.cut(block)
         self.call_line(by, rcx, first, second, data)
+
+    def filled(self, code, block):
+        """A list with anything where no field is, and for a fast call behind it."""
+        gaps = [*GAPS.get(code, ())]
+        if code == 0x51:
+            gaps += [(at + 4, 12) for at in range(16, len(block), 32)]
+        filled = bytearray(block)
+        for at, size in gaps:
+            filled[at : at + size] = self.random.randbytes(len(block[at : at + size]))
+        has_r8 = CALLS[code].takes_fast and len(block) == 8
+        return bytes(filled) + (self.random.randbytes(8) if has_r8 else b"")
 
     def call_line(self, by, rcx, first, second, data):
         text = data.hex() if data else "-"
@@ -218,7 +251,7 @@ class Author:
         if code == PRIVILEGE_FLAGS:
             mask = self.partitions[by[0]].mask if by[0] in self.partitions else ALL
             value = self.random.choice((mask, mask, mask & NEW_MASK, mask & self.random.getrandbits(64)))
-            value = value ^ (1 << self.random.randrange(64)) if self.chance(self.wild) else value
+            value = value ^ (1 << self.random.randrange(64)) if self.chance(self.wild + 0.05) else value
         self.fields(by, 0x45, (self.relative(by, True), 8), (code, 8), (value, 8))
 
     def HvGetPartitionId(self, by):
@@ -291,8 +324,11 @@ class Author:
         base = self.random.choice((0, 7, 8, 100, 2040, 2047, self.random.randrange(2048)))
         count = self.some([min(2048 - base, self.random.choice((1, 8, 2048)))], 2048 - base, 2049 - base)
         self.fields(by, 0x95, (partition, 8), (self.small_id(()), 8), (self.some(self.partitions, SELF), 8),
-                    (kind, 8), (self.some((0, 1, 2, 2, 3, 7, 15), 16), 4), (vp, 4), (base, 2), (count, 2),
+                    (kind, 8), (self.sint_of_port(), 4), (vp, 4), (base, 2), (count, 2),
                     (0, 4))  # fmt: skip
+
+    def sint_of_port(self):
+        return 16 if self.chance(self.wild / 4) else self.some((0, 1, 2, 2, 3, 7, 15))
 
     def HvConnectPort(self, by):
         partition = self.relative(by)
@@ -300,8 +336,11 @@ class Author:
         for_target = [(owner, id, port.type) for owner, it in self.partitions.items()
                       for id, port in it.ports.items() if port.peer == target]  # fmt: skip
         owner, port, kind = self.random.choice(for_target or [(ROOT, 1, MESSAGES)])
-        if self.chance(self.wild):
-            owner, port, kind = self.some(self.partitions, SELF), self.small_id(()), self.some((1, 2, 3))
+        if self.chance(self.wild + 0.05):
+            part = self.random.randrange(4)
+            owner = self.some((), SELF, *self.partitions) if part in (0, 3) else owner
+            port = self.small_id(()) if part in (1, 3) else port
+            kind = self.random.choice((3 - kind, 3 - kind, 3)) if part in (2, 3) else kind
         self.fields(by, 0x96, (partition, 8), (self.small_id(()), 8), (owner, 8), (port, 8), (kind, 8),
                     (0, 8))  # fmt: skip
 
@@ -330,7 +369,8 @@ class Author:
         by = self.sender(by, EVENTS)
         connection = self.connection(by, EVENTS)
         flags = self.flags_of(by, connection)
-        flag = self.some((0, 0, 1, flags - 1, self.random.randrange(flags)), flags, flags + 1)
+        flag = self.some((0, 0, 1, flags - 1, self.random.randrange(flags)), flags + 1)
+        flag = flags if self.chance(0.05) else flag
         self.fields(by, 0x5D, (connection, 4), (flag, 2), (0, 2))
 
     def flags_of(self, by, connection):
@@ -354,7 +394,7 @@ class Author:
         self.access(by, "wrmsr", msr, self.value(MSRS.get(msr)) if msr in MSRS else self.some([0]))
 
     def sint(self):
-        return self.some((0, 1, 2, 2, 3, 7, 15), 16, 255) & 0xFF
+        return 16 if self.chance(self.wild / 2) else self.some((0, 1, 2, 2, 3, 7, 15), 255) & 0xFF
 
     def slot(self, by):
         self.access(by, "slot", self.sint())
@@ -366,10 +406,17 @@ class Author:
         self.access(by, "flags", self.sint())
 
     def clearflag(self, by):
-        sint = self.sint()
-        vp = self.partitions[by[0]].vps.get(by[1]) if by[0] in self.partitions else None
-        is_set = vp.flags[sint].bit_length() - 1 if vp and sint < 16 and vp.flags[sint] else 0
-        self.access(by, "clearflag", sint, self.some((is_set, is_set, 0, 7, 2047), 2048) & 0xFFFF)
+        """Clears a flag, mostly one that is set, and then often reads the flags."""
+        vps = {it: self.partitions[it[0]].vps[it[1]] for it in self.callers()}
+        flagged = [(it, sint) for it in vps for sint, flags in enumerate(vps[it].flags) if flags]
+        if flagged and len(self.reader.vps) < PHASE_VPS and self.chance(0.8):
+            by, sint = self.random.choice(flagged)
+            flag = vps[by].flags[sint].bit_length() - 1
+        else:
+            sint, flag = self.sint(), self.some((0, 7, 2047), 2048) & 0xFFFF
+        self.access(by, "clearflag", sint, flag)
+        if sint <= 0xFF and self.chance(0.5):
+            self.access(by, "flags", sint)
 
     def interrupt(self, by):
         self.access(by, "interrupt")
@@ -433,16 +480,23 @@ class Author:
 
     def settle(self):
         """Partitions with pages, VPs, ports and connections, and registers at which messages arrive."""
-        if self.theme in ("tree", "pages") and self.chance(0.3):
-            for depth in range(DEPTHS):
-                self.make_child(max(self.callers())[0], 8 * (DEPTHS - depth), 1)
-            self.HvCreatePartition(max(self.callers()))
+        if self.theme in ("tree", "pages") and self.chance(0.4):
+            self.make_deepest()
         for _ in range(self.random.choice((0, 1, 2, 4))):
             parent = self.random.choice((ROOT, self.random.choice(self.callers())[0]))
             self.make_child(parent, self.random.choice((12, 20, 30, 30)), self.random.choice((1, 1, 2)))
         if self.theme in ("mail", "ports", "even"):
             self.enable()
             self.link()
+
+    def make_deepest(self):
+        """Partitions below one another, as deep as they can be, and one more, which P14 refuses. Each line is
+        as it must be, since a partition that isn't made would be the last."""
+        wild, self.wild = self.wild, 0
+        for depth in range(DEPTHS):
+            self.make_child(max(self.callers())[0], 8 * (DEPTHS - depth), 1)
+        self.HvCreatePartition(max(self.callers()))
+        self.wild = wild
 
     def make_child(self, parent, pages, vps):
         """A child with all privileges, so many pages if the parent has them, and so many VPs."""
@@ -510,15 +564,24 @@ FAULTS = (
 )  # fmt: skip
 
 
+# At the limits: some of them are refused.
+BOOTS = (
+    "boot 0 0 0 0 9", "boot 1 1 1 0 9", "boot 65536 4 1 0xf700000044 9", "boot 65537 4 1 0 9",
+    "boot 8 9 1 0 9", "boot 8 8 2 0xf700000044 9", "boot 8 7 2 0 9", "boot 8 8 0 0 9",
+    "boot 999 256 64 0xf700000044 9", "boot 999 260 65 0 9", "boot 999 255 64 0 9", "phase", "",
+)  # fmt: skip
+
+
 def spoil(random, text):
     """A script with one or more lines that have faults, or a boot that is refused."""
     lines = text.split("\n")
+    if random.random() < 0.5:
+        lines[0] = random.choice(BOOTS)
+        if random.random() < 0.7:
+            return "\n".join(lines)
     for _ in range(random.choice((1, 1, 3))):
         lines.insert(random.randrange(len(lines) + 1), random.choice(FAULTS))
     if random.random() < 0.1:
         many = [f"1.{vp} interrupt" for vp in range(random.choice((40, 64, 65)))]
         lines[1:1] = [*many, *random.choice((["phase"], [])), *reversed(many)]
-    if random.random() < 0.2:
-        lines[0] = random.choice(("boot 0 0 0 0 9", "boot 65537 1 1 0 9", "boot 8 9 1 0 9", "boot 8 3 1 0 9",
-                                  "boot 999 999 65 0 9", "boot 8 8 0 0 9", "phase", ""))  # fmt: skip
     return "\n".join(lines)

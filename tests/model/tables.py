@@ -32,11 +32,13 @@ STATUS_NAME = {
 
 
 class Call(NamedTuple):
-    """A row of "The calls", with the lengths of its lists from "Blocks and effects"."""
+    """A row of "The calls", with the lengths of its lists from "Blocks and effects". P7 is among its further
+    rules where it says something of the call."""
 
     name: str
     privilege: int
     target: str  # caller, child, or either
+    rules: tuple  # the further ones
     header: int  # bytes of the input list, before its elements
     element: int = 0  # bytes of an element in the input list
     output: int = 0  # bytes of the output list, in a rep call of each element
@@ -49,30 +51,42 @@ class Call(NamedTuple):
     def output_length(self, count):
         return self.output * count if self.is_rep else self.output
 
+    def refusals(self):
+        """The numbers of all rules that can refuse it."""
+        return 1, 2, 3, 5, 6, 8, *(() if self.target == "caller" else (9, 10)), *self.rules
+
 
 CALLS = {
-    0x40: Call("HvCreatePartition", CREATE_PARTITIONS, "caller", 8, output=8),
-    0x41: Call("HvInitializePartition", CREATE_PARTITIONS, "child", 8, takes_fast=True),
-    0x42: Call("HvFinalizePartition", CREATE_PARTITIONS, "child", 8, takes_fast=True),
-    0x43: Call("HvDeletePartition", CREATE_PARTITIONS, "child", 8, takes_fast=True),
-    0x44: Call("HvGetPartitionProperty", CREATE_PARTITIONS, "either", 16, output=8),
-    0x45: Call("HvSetPartitionProperty", CREATE_PARTITIONS, "child", 24),
-    0x46: Call("HvGetPartitionId", ACCESS_PARTITION_ID, "caller", 0, output=8),
-    0x47: Call("HvGetNextChildPartition", CREATE_PARTITIONS, "either", 16, output=8),
-    0x48: Call("HvDepositMemory", ACCESS_MEMORY_POOL, "either", 8, element=8, is_rep=True),
-    0x49: Call("HvWithdrawMemory", ACCESS_MEMORY_POOL, "either", 8, output=8, is_rep=True),
-    0x4A: Call("HvGetMemoryBalance", ACCESS_MEMORY_POOL, "either", 8, output=16),
-    0x4E: Call("HvCreateVp", CREATE_PARTITIONS, "either", 16, takes_fast=True),
-    0x4F: Call("HvDeleteVp", CREATE_PARTITIONS, "either", 16, takes_fast=True),
-    0x50: Call("HvGetVpRegisters", CREATE_PARTITIONS, "either", 16, element=4, output=16, is_rep=True),
-    0x51: Call("HvSetVpRegisters", CREATE_PARTITIONS, "either", 16, element=32, is_rep=True),
-    0x58: Call("HvDeletePort", CREATE_PORT, "either", 16, takes_fast=True),
-    0x5B: Call("HvDisconnectPort", CONNECT_PORT, "either", 16, takes_fast=True),
-    0x5C: Call("HvPostMessage", POST_MESSAGES, "caller", 256),
-    0x5D: Call("HvSignalEvent", SIGNAL_EVENTS, "caller", 8, takes_fast=True),
-    0x95: Call("HvCreatePort", CREATE_PORT, "either", 48),
-    0x96: Call("HvConnectPort", CONNECT_PORT, "either", 48),
-}
+    0x40: Call("HvCreatePartition", CREATE_PARTITIONS, "caller", (14, 24), 8, output=8),
+    0x41: Call("HvInitializePartition", CREATE_PARTITIONS, "child", (12,), 8, takes_fast=True),
+    0x42: Call("HvFinalizePartition", CREATE_PARTITIONS, "child", (12, 13), 8, takes_fast=True),
+    0x43: Call("HvDeletePartition", CREATE_PARTITIONS, "child", (12,), 8, takes_fast=True),
+    0x44: Call("HvGetPartitionProperty", CREATE_PARTITIONS, "either", (11,), 16, output=8),
+    0x45: Call("HvSetPartitionProperty", CREATE_PARTITIONS, "child", (11, 12, 18, 20), 24),
+    0x46: Call("HvGetPartitionId", ACCESS_PARTITION_ID, "caller", (), 0, output=8),
+    0x47: Call("HvGetNextChildPartition", CREATE_PARTITIONS, "either", (15,), 16, output=8),
+    0x48: Call("HvDepositMemory", ACCESS_MEMORY_POOL, "either", (12, 21), 8, element=8, is_rep=True),
+    0x49: Call("HvWithdrawMemory", ACCESS_MEMORY_POOL, "either", (24,), 8, output=8, is_rep=True),
+    0x4A: Call("HvGetMemoryBalance", ACCESS_MEMORY_POOL, "either", (), 8, output=16),
+    0x4E: Call("HvCreateVp", CREATE_PARTITIONS, "either", (12, 19, 24), 16, takes_fast=True),
+    0x4F: Call("HvDeleteVp", CREATE_PARTITIONS, "either", (12, 19), 16, takes_fast=True),
+    0x50: Call("HvGetVpRegisters", CREATE_PARTITIONS, "either", (12, 18, 19, 21), 16, element=4, output=16,
+               is_rep=True),
+    0x51: Call("HvSetVpRegisters", CREATE_PARTITIONS, "either", (7, 12, 18, 19, 21), 16, element=32,
+               is_rep=True),
+    0x58: Call("HvDeletePort", CREATE_PORT, "either", (7, 12, 17), 16, takes_fast=True),
+    0x5B: Call("HvDisconnectPort", CONNECT_PORT, "either", (7, 12, 16), 16, takes_fast=True),
+    0x5C: Call("HvPostMessage", POST_MESSAGES, "caller", (7, 16, 17, 19, 21, 22, 23), 256),
+    0x5D: Call("HvSignalEvent", SIGNAL_EVENTS, "caller", (7, 16, 17, 19, 21, 22), 8, takes_fast=True),
+    0x95: Call("HvCreatePort", CREATE_PORT, "either", (7, 12, 15, 17, 19, 24), 48),
+    0x96: Call("HvConnectPort", CONNECT_PORT, "either", (7, 12, 15, 16, 17, 18, 21, 24), 48),
+}  # fmt: skip
+
+# Of each access, the rules that can refuse it.
+ACCESS_REFUSALS = {
+    "rdmsr": (1, 2, 3, 25, 26), "wrmsr": (1, 2, 3, 25, 26, 27), "slot": (1, 2, 3, 21),
+    "clearslot": (1, 2, 3, 21), "flags": (1, 2, 3, 21), "clearflag": (1, 2, 3, 21), "interrupt": (1, 2, 3),
+}  # fmt: skip
 
 # The properties: range and initial value. The range of a mask is that of P18.
 PRIVILEGE_FLAGS = 0x00010000
