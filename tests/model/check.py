@@ -38,7 +38,7 @@ def asked(who, rest):
     """A VP and its WHAT, from a line behind its number, where WHAT begins as one does."""
     words = rest.split(" ")
     count = 2 if words[0] == "call" else 1 + len(ACCESSES.get(words[0], ()))
-    if words[0] not in ("call", *ACCESSES) or len(words) <= count:
+    if words[0] not in ("call", *ACCESSES) or len(words) <= count or "" in words[: count + 1]:
         return ANY
     return shown(" ".join([who, *words[:count]]))
 
