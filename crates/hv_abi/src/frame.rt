@@ -6,7 +6,7 @@ ghost use Rattle.hv_abi.specs.InputValue.{input_value, restarted};
 
 use crate::bytes::Bytes;
 use crate::call_kind::{CallKind, CallRow};
-use crate::input_value::InputValue;
+use crate::input_value::{InputValue, restarted};
 use hv_defs::PAGE_SIZE;
 use std::alloc::{AllocError, Allocator};
 
@@ -130,16 +130,13 @@ impl<A: Allocator> Frame<A> {
         ensures fields { input_value result.rcx ≡ record (input_value self.rcx) { start = start } }
     {
         Frame {
-            rcx: (self.rcx & LOW_48_BITS) + (u64::from(start) << 48) + (self.rcx >> 60 << 60),
+            rcx: restarted(self.rcx, start),
             rdx: self.rdx,
             r8: self.r8,
             input: self.input,
         }
     }
 }
-
-// The bits of an input value below its rep start index.
-const LOW_48_BITS: u64 = 0xFFFF_FFFF_FFFF;
 
 impl<A: Allocator + Clone> Frame<A> {
     /// Copies the frame, on the same allocator.

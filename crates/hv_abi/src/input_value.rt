@@ -1,6 +1,8 @@
 // The input value.
 ghost use Rattle.std.specs.Prelude.{◌≡◌, ◌<◌};
+ghost use Rattle.hv_abi.specs.InputValue.{input_value, restarted};
 ghost use Rattle.hv_defs.specs.Bits.{bits as bits_of};
+ghost use Rattle.hv_defs.specs.declared.sizes.TheConstants.{REPS_END};
 
 /// The input value of a hypercall, in RCX (TLFS 4.0, "Hypercall Inputs").
 #[derive(Clone, Copy, PartialEq, Eq, Debug)]
@@ -18,8 +20,6 @@ pub struct InputValue {
 }
 
 impl InputValue {
-    ghost use Rattle.hv_abi.specs.InputValue.{input_value};
-
     /// Reads the fields of RCX.
     pub fn read(rcx: u64) -> InputValue
         ensures { result ≡ input_value rcx }
@@ -36,6 +36,17 @@ impl InputValue {
         }
     }
 }
+
+/// Returns an input value with another rep start index, below 4,096.
+pub fn restarted(rcx: u64, start: u16) -> u64
+    requires { start < REPS_END }
+    ensures { result ≡ restarted rcx start }
+{
+    (rcx & LOW_48_BITS) + (u64::from(start) << 48) + (rcx >> 60 << 60)
+}
+
+// The bits of an input value below its rep start index.
+const LOW_48_BITS: u64 = 0xFFFF_FFFF_FFFF;
 
 // Returns the number in `count` bits of `value`, from bit `low` up.
 fn bits(value: u64, low: u32, count: u32) -> u64

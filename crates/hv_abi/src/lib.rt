@@ -16,6 +16,6 @@ mod status;
 pub use bytes::Bytes;
 pub use call_kind::{ALL_CALLS, CallKind, CallRow};
 pub use frame::{AbiFault, Frame, Shape};
-pub use input_value::InputValue;
+pub use input_value::{InputValue, restarted};
 pub use result_value::ResultValue;
 pub use status::Status;

@@ -37,6 +37,24 @@ module _ {A : Type 0} where
   elements-push by frame (e ∷ es) now reply is goes =
       (is.0, is.1, elements-push by (restart frame (start_of frame + 1)) es now reply is.2 goes)
 
+  -- the first element
+  pub begun : (by : Caller) (frame : Frame A) (reply : Reply) (old new : Kept A) → IsTaken (element by frame) reply old new → HasRun by frame reply 1 1 old new
+  begun by frame reply old new taken =
+      record {
+        before = [];
+        last = frame;
+        elements = refl;
+        history = taken.gained.history;
+        config = taken.gained.config;
+        limit = taken.gained.limit;
+        count = refl;
+        within = omega arith;
+        ends = λ less. absurd (omega arith);
+        asked = taken.asked;
+        result = taken.result frame refl;
+        next = taken.next;
+      }
+
   module _ (by : Caller) (frame : Frame A) (reply : Reply) (events : ℕ) (old now : Kept A) (is : HasRun by frame reply events events old now) where
     abbrev last : Entry A
     last = record { event = element by is.last; reply = reply }

@@ -11,7 +11,7 @@ use Rattle.hv_policy.specs.declared.event.Action.{Action}
 use Rattle.hv_policy.specs.declared.event.Action.TheVariants.{Hypercall}
 use Rattle.hv_policy.specs.declared.event.Event.{Event}
 use Rattle.hv_policy.specs.declared.reply.Reply.{Reply}
-use Rattle.hv_history.specs.Row.{ArePlaced, DifferInRcx, IsPlaced, asking, bytes_at, entries_of, entry_of, head_at, with_rcx}
+use Rattle.hv_history.specs.Row.{ArePlaced, DifferInRcx, IsPlaced, asking, bytes_at, entries_of, entry_of, head_at, rcx_in, with_rcx}
 use Rattle.hv_history.specs.declared.entry.Entry.{Entry}
 use Rattle.hv_history.specs.declared.row.Row.{Row}
 
@@ -84,6 +84,30 @@ module _ {A : Type 0} where
   pub same_but : (one other : Event A) (rcx : ℕ) → asking one 0 ≡ asking (asking other rcx) 0 → asking one rcx ≡ asking other rcx
   same_but one other rcx same =
       sym (again one 0 rcx) ∙ ap (λ (e : Event A). asking e rcx) same ∙ again (asking other rcx) 0 rcx ∙ again other rcx rcx
+
+  own_rcx : (what : Action A) → with_rcx what (rcx_in what) ≡ what
+  own_rcx (Hypercall frame) = refl
+  own_rcx what = refl
+
+  -- events that differ in RCX alone are the same under any RCX
+  pub under_any : (one other : Event A) (rcx : ℕ) → asking one 0 ≡ asking other 0 → asking one rcx ≡ asking other rcx
+  under_any one other rcx alike = sym (again one 0 rcx) ∙ ap (λ (e : Event A). asking e rcx) alike ∙ again other 0 rcx
+
+  -- so that the one serves as the other's head
+  pub serves : (head event : Event A) → asking head 0 ≡ asking event 0 → asking head (rcx_in event.what) ≡ event
+  serves head event alike = under_any head event (rcx_in event.what) alike ∙ (λ i. record { by = event.by; what = own_rcx event.what i })
+
+  -- events whose heads are alike are the same under the same RCX
+  pub same_under : (one two : Event A) (r s : ℕ) → asking one 0 ≡ asking two 0 → r ≡ s → asking one r ≡ asking two s
+  same_under one two r s alike same = under_any one two r alike ∙ ap (asking two) same
+
+  -- accesses are under any two
+  pub same_access : (one two : Event A) (r s : ℕ) → asking one 0 ≡ asking two 0 → ((rcx : ℕ) → with_rcx one.what rcx ≡ one.what) → asking one r ≡ asking two s
+  same_access one two r s alike access = (λ i. record { by = one.by; what = (access r ∙ sym (access s)) i }) ∙ under_any one two s alike
+
+  -- calls are under no others
+  pub same_rcx : (one two : Event A) (r s : ℕ) → asking one 0 ≡ asking two 0 → ((rcx : ℕ) → rcx_in (with_rcx one.what rcx) ≡ rcx) → asking one r ≡ asking two s → r ≡ s
+  same_rcx one two r s alike call is = sym (call r) ∙ ap (λ (e : Event A). rcx_in e.what) (is ∙ sym (under_any one two s alike)) ∙ call s
 
   -- an entry among those that differ from an event in RCX alone
   pub differs_at : (event : Event A) (es : List (Entry A)) (from at : ℕ) (e : Entry A) → DifferInRcx event (drop from es) → from ≤ at → at < length es → slice_get es at ≡ Some e

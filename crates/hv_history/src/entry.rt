@@ -1,5 +1,6 @@
 // An event with its reply, as contracts and callers see it.
 ghost use Rattle.std.specs.Prelude.{◌≡◌, ◌↔◌, IsTrue};
+ghost use Rattle.hv_policy.specs.Parts.{reply_of};
 
 use hv_machine::{Action, Answer, Caller, Event, Reply};
 use std::alloc::Allocator;
@@ -73,55 +74,29 @@ pub struct EntryRef<'h> {
     pub output: &'h [u8],
 }
 
-impl<'h> EntryRef<'h> {
-    ghost use Rattle.hv_history.specs.History.{entry_by};
-    ghost use Rattle.hv_history.specs.Row.{action_of};
-    ghost use Rattle.hv_policy.specs.Parts.{reply_of};
-
-    /// Returns `true` if both are the same event with the same reply.
-    pub fn is_same<A: Allocator>(&self, other: &EntryRef<'_>) -> bool
-        ensures { IsTrue result ↔ (entry_by {A = A} self.now ≡ entry_by other.now) }
-    {
-        self.by == other.by && self.asks_the_same::<A>(other) && self.is_answered_the_same(other)
-    }
-
-    // Returns `true` if both requests are equal. Only a hypercall has an input list.
-    fn asks_the_same<A: Allocator>(&self, other: &EntryRef<'_>) -> bool
-        ensures { IsTrue result ↔ (action_of {A = A} self.now.asked self.now.input.now
-            ≡ action_of other.now.asked other.now.input.now) }
-    {
-        match self.asked {
-            Request::Hypercall { .. } => self.asked == other.asked && self.input == other.input,
-            Request::ReadMsr(_)
-            | Request::WriteMsr(_, _)
-            | Request::ReadSlot(_)
-            | Request::ClearSlot(_)
-            | Request::ReadFlags(_)
-            | Request::ClearFlag(_, _)
-            | Request::TakeInterrupt => self.asked == other.asked,
+// Whether two replies are equal. Only a served event has output.
+pub(crate) fn are_equal_replies(
+    answer: Answer,
+    output: &[u8],
+    other: Answer,
+    other_output: &[u8],
+) -> bool
+    ensures { IsTrue result ↔ (reply_of answer output.now ≡ reply_of other other_output.now) }
+{
+    match (answer, other) {
+        (Answer::Served, Answer::Served) => output == other_output,
+        (Answer::More { next }, Answer::More { next: other_next }) => {
+            next == other_next && output == other_output
         }
-    }
-
-    // Returns `true` if both replies are equal. Only a served event has output.
-    fn is_answered_the_same(&self, other: &EntryRef<'_>) -> bool
-        ensures { IsTrue result ↔ (reply_of self.now.answer self.now.output.now
-            ≡ reply_of other.now.answer other.now.output.now) }
-    {
-        match (self.answer, other.answer) {
-            (Answer::Served, Answer::Served) => self.output == other.output,
-            (Answer::More { next }, Answer::More { next: other_next }) => {
-                next == other_next && self.output == other.output
-            }
-            (
-                Answer::Denied { rule, status, reps },
-                Answer::Denied {
-                    rule: other_rule,
-                    status: other_status,
-                    reps: other_reps,
-                },
-            ) => rule == other_rule && (status == other_status && reps == other_reps),
-            (Answer::Fault { rule }, Answer::Fault { rule: that }) => rule == that,
-            _ => false,
-        }
+        (
+            Answer::Denied { rule, status, reps },
+            Answer::Denied {
+                rule: other_rule,
+                status: other_status,
+                reps: other_reps,
+            },
+        ) => rule == other_rule && (status == other_status && reps == other_reps),
+        (Answer::Fault { rule }, Answer::Fault { rule: that }) => rule == that,
+        _ => false,
     }
 }

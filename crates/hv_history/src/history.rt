@@ -1,16 +1,17 @@
 // The history: events with their replies.
-ghost use Rattle.std.specs.Prelude.{◌≡◌, ◌+◌, ◌-◌, ◌<◌, ◌≤◌, ◌++◌, [], ◌∷◌, ℕ, List, IsTrue, OnOk, Some};
-ghost use Rattle.std.specs.Prelude.{drop, length, slice_get, vec_len, vec_capacity};
+ghost use Rattle.std.specs.Prelude.{◌≡◌, ◌↔◌, ◌+◌, ◌-◌, ◌<◌, ◌≤◌, ◌++◌, [], ◌∷◌, ℕ, IsTrue, OnOk, Some};
+ghost use Rattle.std.specs.Prelude.{false, drop, length, slice_get, vec_len, vec_capacity};
 ghost use Rattle.hv_abi.specs.declared.frame.Frame.{Frame as CallFrame};
 ghost use Rattle.hv_defs.specs.declared.sizes.TheConstants.{REPS_END};
 ghost use Rattle.hv_history.specs.History.{entries, entry_by, room_of};
-ghost use Rattle.hv_history.specs.Row.{DifferInRcx, asking, head_at, rcx_in};
+ghost use Rattle.hv_history.specs.Row.{DifferInRcx, IsPlaced, asking, bytes_at, entry_of, head_at, rcx_in};
+ghost use Rattle.hv_history.specs.Row.{with_rcx};
 ghost use Rattle.hv_history.specs.Run.{element, restart};
 ghost use Rattle.hv_history.specs.declared.entry.Entry.{Entry};
 ghost use Rattle.hv_policy.specs.Parts.{next_in, reply_of};
 ghost use Rattle.hv_policy.specs.declared.event.Action.TheVariants.{Hypercall};
 
-use crate::entry::{EntryRef, Request};
+use crate::entry::{EntryRef, Request, are_equal_replies};
 use crate::row::{History, MOST_OUTPUT, Row};
 use hv_abi::Frame;
 use hv_machine::{Action, Answer, Caller, Event};
@@ -55,6 +56,61 @@ impl<A: Allocator> History<A> {
             answer: row.answer,
             output: &self.outputs[row.output..row.output + row.output_len as usize],
         }
+    }
+
+    /// Returns how many events from a place on equal those of another history from `place` on, with their
+    /// replies. It compares at most `most` of them.
+    pub fn common(&self, at: usize, other: &History<A>, place: usize, most: usize) -> usize
+        requires here { at + most ≤ length (entries self.now) }
+        requires there { place + most ≤ length (entries other.now) }
+        ensures most { result ≤ most }
+        ensures same { (i : ℕ) → i < result
+            → slice_get (entries self.now) (at + i) ≡ slice_get (entries other.now) (place + i) }
+        ensures next { result < most
+            → slice_get (entries self.now) (at + result) ≡ slice_get (entries other.now) (place + result)
+            → ⊥ }
+    {
+        // The elements of a call share a head. Two heads that were found alike are not compared again.
+        let mut alike = None;
+        for i in 0..most {
+            let one = self.rows[at + i];
+            let two = other.rows[place + i];
+            let heads = Some((one.head, two.head));
+            if alike != heads && !are_alike(&self.heads[one.head], &other.heads[two.head]) {
+                return i;
+            }
+            alike = heads;
+            if !self.is_row_of(&one, other, &two) {
+                return i;
+            }
+        }
+        most
+    }
+
+    // Whether two rows, whose heads are alike, are of the same event with the same reply.
+    fn is_row_of(&self, one: &Row, other: &History<A>, two: &Row) -> bool
+        requires one { IsPlaced (vec_len self.now.heads) (vec_len self.now.outputs) one.now }
+        requires two { IsPlaced (vec_len other.now.heads) (vec_len other.now.outputs) two.now }
+        requires alike { asking (head_at self.now.heads.items one.now.head) 0
+            ≡ asking (head_at other.now.heads.items two.now.head) 0 }
+        ensures { IsTrue result ↔ (entry_of self.now.heads.items self.now.outputs.items one.now
+            ≡ entry_of other.now.heads.items other.now.outputs.items two.now) }
+    {
+        (one.rcx == two.rcx || is_access(&self.heads[one.head].what))
+            && are_equal_replies(
+                one.answer,
+                self.output_of(one),
+                two.answer,
+                other.output_of(two),
+            )
+    }
+
+    // The output of a row.
+    fn output_of(&self, row: &Row) -> &[u8]
+        requires { IsPlaced (vec_len self.now.heads) (vec_len self.now.outputs) row.now }
+        ensures { result.now ≡ bytes_at self.now.outputs.items row.now.output row.now.output_len }
+    {
+        &self.outputs[row.output..row.output + row.output_len as usize]
     }
 
     /// The number of further events for which there is room, whatever they are.
@@ -154,7 +210,7 @@ impl<A: Allocator> History<A> {
         ensures byte_room { vec_capacity self.old.outputs ≤ vec_capacity self.new.outputs }
     {
         let start = self.outputs.len();
-        self.outputs.extend_from_slice(output).unwrap();
+        append(&mut self.outputs, output);
         self.rows.push_reserved(Row {
             rcx,
             head,
@@ -200,6 +256,18 @@ impl<A: Allocator> History<A> {
     }
 }
 
+// Adds bytes, for which there is room. Most outputs have none.
+fn append<A: Allocator>(outputs: &mut Vec<u8, A>, bytes: &[u8])
+    requires { vec_len outputs.old + length bytes.now ≤ vec_capacity outputs.old }
+    ensures items { outputs.new.items ≡ outputs.old.items ++ bytes.now }
+    ensures len { vec_len outputs.new ≡ vec_len outputs.old + length bytes.now }
+    ensures room { vec_capacity outputs.old ≤ vec_capacity outputs.new }
+{
+    if !bytes.is_empty() {
+        outputs.extend_from_slice(bytes).unwrap();
+    }
+}
+
 // RCX of a call. An access has none.
 fn rcx_of<A: Allocator>(what: &Action<A>) -> u64
     ensures { result ≡ rcx_in what.now }
@@ -210,9 +278,19 @@ fn rcx_of<A: Allocator>(what: &Action<A>) -> u64
     }
 }
 
+// Whether an action is an access. A call alone has an RCX.
+fn is_access<A: Allocator>(what: &Action<A>) -> bool
+    ensures access { IsTrue result → (rcx : ℕ) → with_rcx what.now rcx ≡ what.now }
+    ensures call { result ≡ false → (rcx : ℕ) → rcx_in (with_rcx what.now rcx) ≡ rcx }
+{
+    what.as_access().is_ok()
+}
+
 // Whether an event differs from a head in RCX alone.
+// Inlined: messages in bench/largest.sh.
+#[inline(always)]
 fn are_alike<A: Allocator>(head: &Event<A>, event: &Event<A>) -> bool
-    ensures { IsTrue result → asking head.now (rcx_in event.now.what) ≡ event.now }
+    ensures { IsTrue result ↔ (asking head.now 0 ≡ asking event.now 0) }
 {
     if head.by != event.by {
         return false;
@@ -223,10 +301,18 @@ fn are_alike<A: Allocator>(head: &Event<A>, event: &Event<A>) -> bool
                 && one.r8 == other.r8
                 && one.input.as_slice() == other.input.as_slice()
         }
-        (one, other) => match (one.as_access(), other.as_access()) {
-            (Ok(one), Ok(other)) => one == other,
-            _ => false,
-        },
+        (Action::ReadMsr(one), Action::ReadMsr(other)) => one == other,
+        (Action::WriteMsr(one, value), Action::WriteMsr(other, also)) => {
+            one == other && value == also
+        }
+        (Action::ReadSlot(one), Action::ReadSlot(other))
+        | (Action::ClearSlot(one), Action::ClearSlot(other))
+        | (Action::ReadFlags(one), Action::ReadFlags(other)) => one == other,
+        (Action::ClearFlag(one, flag), Action::ClearFlag(other, also)) => {
+            one == other && flag == also
+        }
+        (Action::TakeInterrupt, Action::TakeInterrupt) => true,
+        _ => false,
     }
 }
 

@@ -3,12 +3,15 @@ ghost use Rattle.std.specs.Prelude.{◌≡◌, ◌-◌, ◌<◌, ◌↔◌, [], 
 ghost use Rattle.std.specs.Prelude.{IfOk, OnErr, IfErr, IsErrOf};
 ghost use Rattle.hv_abi.specs.declared.frame.Frame.{Frame};
 ghost use Rattle.hv_defs.specs.declared.sizes.TheConstants.{REPS_END};
+ghost use Rattle.hv_effect.specs.Effect.{Tells};
+ghost use Rattle.hv_machine.specs.IsFlat.{IsFlat};
 ghost use Rattle.hv_machine.specs.Masks.{AreMasksWithin};
 ghost use Rattle.hv_policy.specs.BootFault.{boot_fault, IsBootRefusal};
 ghost use Rattle.hv_policy.specs.Next.{GoesOn};
 ghost use Rattle.hv_policy.specs.Parts.{reply_of};
 ghost use Rattle.hv_policy.specs.Result.{HasResult};
-ghost use Rattle.hv_policy.specs.Step.{NamesAsked};
+ghost use Rattle.hv_policy.specs.Flat.{Flat};
+ghost use Rattle.hv_policy.specs.Step.{NamesAsked, step};
 ghost use Rattle.hv_policy.specs.declared.event.Action.TheVariants.{Hypercall};
 ghost use Rattle.hv_history.specs.History.{entries};
 ghost use Rattle.hv_history.specs.Justified.{IsJustified, operations_in, states_in};
@@ -17,6 +20,7 @@ ghost use Rattle.hv_history.specs.Run.{element, restart};
 ghost use Rattle.hv_history.specs.declared.entry.Entry.{Entry};
 
 use crate::row::History;
+use hv_effect::Effect;
 use hv_machine::{Answer, BootRefused, Config, Event, Machine, Output, Reply};
 use std::alloc::Allocator;
 use std::marker::Model;
@@ -90,8 +94,6 @@ impl<A: Allocator + Clone> Kept<A> {
     /// Applies an event, and returns its number and its reply.
     ///
     /// Numbers count from 1, in the order in which events happen. An event that the host refuses is dropped.
-    // Inlined: calls for the own id in bench/largest.sh.
-    #[inline(always)]
     pub fn apply(&mut self, event: Event<A>) -> Result<(u64, Reply), HostRefused>
         // The history gains the event with its reply, and is still a run. So the reply and the new state are
         // those of the flat step. The number is the event's place.
@@ -112,21 +114,27 @@ impl<A: Allocator + Clone> Kept<A> {
         ensures next { IfOk result (λ r. GoesOn event.what r.1) }
     {
         let mut output = Output::new();
-        let answer = self.answer(event, &mut output)?;
+        let (answer, _) = self.answer(event, &mut output)?;
         Ok((
             self.history.len() as u64,
             Reply::of(answer, output.as_slice()),
         ))
     }
 
-    /// Applies one event as [`Kept::apply`] does, and returns the answer.
+    /// Applies one event as [`Kept::apply`] does, and returns the answer and the effect.
     ///
     /// The event appends its output to `output`, which must be empty.
     // Inlined: calls for the own id in bench/largest.sh.
     #[inline(always)]
-    pub fn answer(&mut self, event: Event<A>, output: &mut Output) -> Result<Answer, HostRefused>
+    pub fn answer(
+        &mut self,
+        event: Event<A>,
+        output: &mut Output,
+    ) -> Result<(Answer, Effect), HostRefused>
         requires empty { output.old ≡ [] }
-        ensures taken { IfOk result (λ answer. IsTaken event (reply_of answer output.new) self.old self.new) }
+        ensures taken { IfOk result (λ done. IsTaken event (reply_of done.0 output.new) self.old self.new) }
+        ensures effect { (f : Flat) → IsFlat self.old.machine f
+            → IfOk result (λ done. Tells done.1 f (step f event).0) }
         ensures run { IsRun self.new }
         ensures full { IsErrOf result HostRefused.HistoryFull ↔ (length self.old.history ≡ self.old.limit) }
         ensures refused { OnErr result (self.new ≡ self.old) }
@@ -137,11 +145,11 @@ impl<A: Allocator + Clone> Kept<A> {
         if self.history.reserve(1).is_err() {
             return Err(HostRefused::Memory);
         }
-        let Ok(answer) = self.machine.answer(&event, output) else {
+        let Ok((answer, effect)) = self.machine.answer(&event, output) else {
             return Err(HostRefused::Memory);
         };
         self.history.push(event, answer, output.as_slice());
-        Ok(answer)
+        Ok((answer, effect))
     }
 
     // Applies the element of the last event's call with this start index, as `answer` does.
@@ -171,7 +179,7 @@ impl<A: Allocator + Clone> Kept<A> {
         let head = self.history.restart(start);
         let history = &self.history;
         let event = &history.heads[head];
-        let Ok(answer) = self.machine.answer(event, output) else {
+        let Ok((answer, _)) = self.machine.answer(event, output) else {
             return Err(HostRefused::Memory);
         };
         self.history.push_head(head, answer, output.as_slice());

@@ -18,4 +18,4 @@ pub use entry::{Entry, EntryRef, Request};
 pub use hv_machine::Answer;
 pub use kept::{HostRefused, Kept};
 pub use row::History;
-pub use run::{RunDone, next_of};
+pub use run::{RunAnswered, RunDone, next_of};

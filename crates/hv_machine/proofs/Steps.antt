@@ -58,6 +58,10 @@ use Rattle.hv_machine.specs.declared.machine.HostRefused.TheVariants.{Memory}
 pub same_event : {A : Type 0} {e event : Event A} {old new : State} {became : Result Reply HostRefused} → e ≡ event → IsStep e old became new → IsStep event old became new
 same_event {old = old} {new = new} {became = became} is made = subst (λ e. IsStep e old became new) is made
 
+-- and what is told of it
+pub same_told : {A : Type 0} {e event : Event A} (told : Effect) (f : Flat) → e ≡ event → Tells told f (step f e).0 → Tells told f (step f event).0
+same_told told f is tells = subst (λ e. Tells told f (step f e).0) is tells
+
 -- an event whose action is the call of a frame is that frame's event
 pub call_event_is : {A : Type 0} (e : Event A) (frame : Frame A) → e.what ≡ Hypercall frame → call_event e.by frame ≡ e
 call_event_is e frame is = ap (λ what. record { by = e.by; what = what }) (sym is)

@@ -79,8 +79,6 @@ impl<A: Allocator + Clone> Machine<A> {
     ///
     /// Otherwise it replies with the first rule that fails and changes nothing. The caller keeps the count of
     /// served events below 2^64 - 3.
-    // Inlined: calls for the own id in bench/largest.sh.
-    #[inline(always)]
     pub fn step(&mut self, event: &Event<A>) -> Result<Reply, HostRefused>
         requires { self.old.served < MAX_SERVED }
 
@@ -117,31 +115,34 @@ impl<A: Allocator + Clone> Machine<A> {
     {
         let mut output = Output::new();
         match self.answer(event, &mut output) {
-            Ok(answer) => Ok(Reply::of(answer, output.as_slice())),
+            Ok((answer, _)) => Ok(Reply::of(answer, output.as_slice())),
             Err(why) => Err(why),
         }
     }
 
-    /// Takes one event, with the promises of [`Machine::step`], and returns the answer.
+    /// Takes one event, with the promises of [`Machine::step`], and returns the answer and the effect.
     ///
     /// The event appends its output to `output`, which must be empty.
     // Inlined: calls for the own id in bench/largest.sh.
     #[inline(always)]
-    pub fn answer(&mut self, event: &Event<A>, output: &mut Output) -> Result<Answer, HostRefused>
+    pub fn answer(
+        &mut self,
+        event: &Event<A>,
+        output: &mut Output,
+    ) -> Result<(Answer, Effect), HostRefused>
         requires count { self.old.served < MAX_SERVED }
         requires empty { output.old ≡ [] }
-        ensures { IsStep event.now self.old
-            (result_map_both (λ answer. reply_of answer output.new) (λ why. why) result) self.new }
+        ensures step { IsStep event.now self.old
+            (result_map_both (λ done. reply_of done.0 output.new) (λ why. why) result) self.new }
+        ensures effect { (f : Flat) → IsFlat self.old f
+            → IfOk result (λ done. Tells done.1 f (step f event.now).0) }
     {
         match event.what.as_access() {
             Ok(access) => match self.access(event.by, access, output) {
-                Ok(_) => Ok(Answer::Served),
-                Err(rule) => Ok(Answer::Fault { rule }),
+                Ok(told) => Ok((Answer::Served, told)),
+                Err(rule) => Ok((Answer::Fault { rule }, Effect::Nothing)),
             },
-            Err(frame) => match self.hypercall(event.by, frame, output) {
-                Ok((answer, _)) => Ok(answer),
-                Err(why) => Err(why),
-            },
+            Err(frame) => self.hypercall(event.by, frame, output),
         }
     }
 

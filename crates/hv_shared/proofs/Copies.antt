@@ -95,7 +95,7 @@ few_of (Some kind) rcx most = by ((row_of kind).rep && is_input_valid (row_of ki
     by false = omega arith
 
 -- so that there are copies of all that happen
-enough_in : (f : Flat) (by : Caller) (frame : Frame Global) (es : List (Entry Global)) (now : Frame Global) (most : ℕ) → AreElements by frame es now → replies_of es ≡ (run_from f (events_of es)).1
+pub enough_in : (f : Flat) (by : Caller) (frame : Frame Global) (es : List (Entry Global)) (now : Frame Global) (most : ℕ) → AreElements by frame es now → replies_of es ≡ (run_from f (events_of es)).1
     → length es < most → length es < elements_in frame.rcx most
 enough_in f by frame [] now most is run fewer = some_of (call_of frame) frame.rcx most fewer
 enough_in f by frame (e ∷ es) now most is run fewer =

@@ -1,11 +1,12 @@
 -- A call that continues from hold to hold.
-use Rattle.std.proofs.Common.{◌≡◌, ℕ, ◌+◌, ◌-◌, ◌<◌, List, [], ◌∷◌, ◌++◌, length, refl, sym, ap, ◌∙◌, subst, arith, append_assoc, map, length-append, Global}
+use Rattle.std.proofs.Common.{◌≡◌, ℕ, ◌+◌, ◌-◌, ◌<◌, ◌≤◌, List, [], ◌∷◌, ◌++◌, length, refl, sym, ap, ◌∙◌, subst, arith, append_assoc, map, length-append, Global}
 use Rattle.std.proofs.lemmas.List.{append_cancel_left, map-append}
 use Rattle.hv_abi.specs.InputValue.{input_value}
 use Rattle.hv_abi.specs.declared.frame.Frame.{Frame}
 use Rattle.hv_abi.specs.declared.input_value.InputValue.{InputValue}
 use Rattle.hv_defs.specs.declared.sizes.TheConstants.{REPS_END}
 use Rattle.hv_history.proofs.Elements.{as_many, start_restart}
+use Rattle.hv_history.specs.Kept.{IsRun, Kept}
 use Rattle.hv_history.specs.Run.{AreElements as AreAsked, GoesOnAt, HasRun, HasStopped as HasStoppedAt, IsMore, element, restart, start_of}
 use Rattle.hv_history.specs.declared.entry.Entry.{Entry}
 use Rattle.hv_policy.specs.Next.{GoesOn}
@@ -14,6 +15,7 @@ use Rattle.hv_policy.specs.declared.event.Action.TheVariants.{Hypercall}
 use Rattle.hv_policy.specs.declared.event.Caller.{Caller}
 use Rattle.hv_policy.specs.declared.reply.Reply.{Reply}
 use Rattle.hv_policy.specs.declared.reply.Reply.TheVariants.{More}
+use Rattle.hv_shared.specs.Copies.{elements_in}
 use Rattle.hv_shared.specs.Drive.{AreElements, HasDriven, HasStopped, entry_in}
 use Rattle.hv_shared.specs.HeldValue.{HeldValue}
 use Rattle.hv_shared.specs.Hold.{HasHeld}
@@ -21,6 +23,8 @@ use Rattle.hv_shared.specs.Pass.{HasReceipts, IsAsBefore, receipt}
 use Rattle.hv_shared.specs.PassValue.{PassValue}
 use Rattle.hv_shared.specs.Receipts.{numbered}
 use Rattle.hv_shared.specs.declared.receipts.Receipt.{Receipt}
+use Rattle.hv_shared.proofs.Copies.{enough_in}
+use Rattle.hv_shared.proofs.Holding.{onward}
 use Rattle.hv_shared.proofs.Numbers.{entries_in, numbered-push}
 
 has_index_at : (n : ℕ) (reply : Reply) → GoesOnAt n reply → n < REPS_END
@@ -55,6 +59,20 @@ gained-twice a b old mid new first second =
       caller = second.caller ∙ first.caller;
     }
 
+-- a call that continues has more elements than those that happened
+has_left : (by : Caller) (frame : Frame Global) (reply : Reply) (events most all : ℕ) (old new : Kept Global) → IsRun new → (is : HasRun by frame reply events most old new)
+    → GoesOnAt (start_of is.last + 1) reply → events < all → events < elements_in frame.rcx all
+has_left by frame reply events most all old new run_is is goes less =
+    let last : Entry Global = record { event = element by is.last; reply = reply } in
+    let es = is.before ++ last ∷ [] in
+    let on = onward by frame events most old new run_is es is.history in
+    let count = is.count in
+    let many : length es ≡ events = omega (arith, length-append is.before (last ∷ [])) in
+    let later = restart is.last (start_of is.last + 1) in
+    let elements = asked-append by frame is.last later is.before (last ∷ []) is.elements (refl, goes, refl) in
+    let left = enough_in on.0 by frame es later all elements on.1 (omega arith) in
+    omega arith
+
 -- the pass has the receipts more of the elements of a call up to the one that is to be asked now
 pub record IsDriving (frame now : Frame Global) (old pass : PassValue) : Type 0 where
   pub so_far : List Receipt
@@ -72,7 +90,7 @@ module _ {frame now : Frame Global} {old pass mid : PassValue} (driving : IsDriv
       }
 
   -- a hold of the elements from a frame on
-  module _ {own : Frame Global} (own_is : own ≡ now) {input : InputValue} (read : input ≡ input_value now.rcx) {h k : HeldValue} {new : PassValue} (held : HasHeld h k mid new) where
+  module _ {input : InputValue} (read : input ≡ input_value now.rcx) {h k : HeldValue} {new : PassValue} (held : HasHeld h k mid new) where
     start_is : input.start ≡ start_of now
     start_is = ap (λ (v : InputValue). v.start) read
 
@@ -89,9 +107,9 @@ module _ {frame now : Frame Global} {old pass mid : PassValue} (driving : IsDriv
         (asked-append old.caller frame now later (map entry_in driving.so_far) es driving.elements elements)
 
     -- the host refused an element
-    pub stopped : {events most : ℕ} → HasStoppedAt mid.caller own events most h.kept k.kept → HasStopped frame (input.start + events) old new
+    pub stopped : {events most : ℕ} → HasStoppedAt mid.caller now events most h.kept k.kept → HasStopped frame (input.start + events) old new
     stopped run =
-        let elements = subst (λ (by : Caller). AreAsked by now run.before run.now) is.caller (subst (λ (f : Frame Global). AreAsked mid.caller f run.before run.now) own_is run.elements) in
+        let elements = subst (λ (by : Caller). AreAsked by now run.before run.now) is.caller run.elements in
         record {
           more = driving.so_far ++ numbered n held.more;
           now = run.now;
@@ -100,11 +118,9 @@ module _ {frame now : Frame Global} {old pass mid : PassValue} (driving : IsDriv
           gained = gained;
         }
 
-    module _ {reply : Reply} {events most : ℕ} (asked : HasRun mid.caller own reply events most h.kept k.kept) where
+    module _ {reply : Reply} {events most : ℕ} (asked : HasRun mid.caller now reply events most h.kept k.kept) where
       run : HasRun old.caller now reply events most h.kept k.kept
-      run =
-          subst (λ (by : Caller). HasRun by now reply events most h.kept k.kept) is.caller
-          (subst (λ (f : Frame Global). HasRun mid.caller f reply events most h.kept k.kept) own_is asked)
+      run = subst (λ (by : Caller). HasRun by now reply events most h.kept k.kept) is.caller asked
 
       abbrev final : Entry Global
       final = record { event = element old.caller run.last; reply = reply }
@@ -145,23 +161,35 @@ module _ {frame now : Frame Global} {old pass mid : PassValue} (driving : IsDriv
           }
 
       -- the call continues
-      module _ {next : ℕ} {output : List ℕ} {last later : Frame Global} (more : reply ≡ More next output) (at : last ≡ restart now (input.start + events - 1)) (then : later ≡ restart last next) where
+      module _ {next : ℕ} {output : List ℕ} (more : reply ≡ More next output) where
         goes : GoesOn (Hypercall run.last) (More next output)
         goes = subst (GoesOn (Hypercall run.last)) more run.next
 
-        pub goes_on : IsDriving frame later old new
-        goes_on =
-            let same = last_is at in
-            let goes_at = subst (GoesOnAt (start_of run.last + 1)) (sym more) (goes.0, (let less = goes.1 in let same = goes.0 in omega arith)) in
-            let to_later = then ∙ (λ i. restart (same i) (goes.0 i)) in
-            record {
-              so_far = driving.so_far ++ numbered n held.more;
-              elements = further (run.before ++ final ∷ []) later run.history (asked-append old.caller now run.last later run.before (final ∷ []) run.elements (refl, goes_at, to_later));
-              gained = gained;
-            }
+        goes_at : GoesOnAt (start_of run.last + 1) reply
+        goes_at = subst (GoesOnAt (start_of run.last + 1)) (sym more) (goes.0, (let less = goes.1 in let same = goes.0 in omega arith))
 
-        pub nearer : start_of now < start_of later
-        nearer =
-            let start : start_of later ≡ next = ap start_of then ∙ start_restart last next goes.1 in
-            let is_next = goes.0 in
-            omega (arith, many)
+        -- so that it had more than the most elements of a hold
+        pub goes_far : (all : ℕ) → IsRun k.kept → most < all → elements_in now.rcx all ≤ most → ⊥
+        goes_far all run_is less few =
+            let within = run.within in
+            let left = has_left old.caller now reply events most all h.kept k.kept run_is run goes_at (omega arith) in
+            run.ends (omega arith) (subst IsMore (sym more) tt)
+
+        module _ {later : Frame Global} (then : later ≡ restart now next) where
+          pub goes_on : IsDriving frame later old new
+          goes_on =
+              let last = at_end old.caller now run.before run.last run.elements in
+              let rcx : (restart now next).rcx ≡ (restart (restart now (start_of run.last)) next).rcx = omega arith in
+              let again : restart now next ≡ restart run.last next = (λ i. record now { rcx = rcx i }) ∙ ap (λ (f : Frame Global). restart f next) (sym last) in
+              let to_later = then ∙ again ∙ ap (restart run.last) goes.0 in
+              record {
+                so_far = driving.so_far ++ numbered n held.more;
+                elements = further (run.before ++ final ∷ []) later run.history (asked-append old.caller now run.last later run.before (final ∷ []) run.elements (refl, goes_at, to_later));
+                gained = gained;
+              }
+
+          pub nearer : start_of now < start_of later
+          nearer =
+              let start : start_of later ≡ next = ap start_of then ∙ start_restart now next goes.1 in
+              let is_next = goes.0 in
+              omega (arith, many)

@@ -29,16 +29,17 @@ pub record IsGained (by : Caller) (frame : Frame Global) (events : ℕ) (old new
   pub enough : events ≤ length copies
   pub alike : DifferInRcx (element by frame) more
 
-module _ (by : Caller) (frame : Frame Global) (events most : ℕ) (old new : Kept Global) (copies : List (Event Global)) (run_is : IsRun new) (are : AreCopies by frame most copies) where
+module _ (by : Caller) (frame : Frame Global) (events most : ℕ) (old new : Kept Global) (run_is : IsRun new) where
   -- what was gained is itself a run
-  onward : (more : List (Entry Global)) → new.history ≡ old.history ++ more → (g : Flat) × (replies_of more ≡ (run_from g (events_of more)).1)
+  pub onward : (more : List (Entry Global)) → new.history ≡ old.history ++ more → (g : Flat) × (replies_of more ≡ (run_from g (events_of more)).1)
   onward more history =
       later (boot new.config) old.history more (subst (λ (es : List (Entry Global)). replies_of es ≡ (run_from (boot new.config) (events_of es)).1) history run_is.replies)
 
+module _ (by : Caller) (frame : Frame Global) (events most : ℕ) (old new : Kept Global) (copies : List (Event Global)) (run_is : IsRun new) (are : AreCopies by frame most copies) where
   ran : (reply : Reply) → HasRun by frame reply events most old new → IsGained by frame events old new copies
   ran reply is =
       let last : Entry Global = record { event = element by is.last; reply = reply } in
-      let on = onward (is.before ++ last ∷ []) is.history in
+      let on = onward by frame events most old new run_is (is.before ++ last ∷ []) is.history in
       let many = is.count in
       let within = is.within in
       let some = enough on.0 by frame is.before is.last most copies are is.elements (sooner on.0 is.before last on.1) (omega arith) in
@@ -53,7 +54,7 @@ module _ (by : Caller) (frame : Frame Global) (events most : ℕ) (old new : Kep
 
   stopped : HasStopped by frame events most old new → IsGained by frame events old new copies
   stopped is =
-      let on = onward is.before is.history in
+      let on = onward by frame events most old new run_is is.before is.history in
       let many = is.count in
       let within = is.within in
       let some = enough on.0 by frame is.before is.now most copies are is.elements on.1 (omega arith) in
@@ -65,10 +66,10 @@ module _ (by : Caller) (frame : Frame Global) (events most : ℕ) (old new : Kep
         alike = differ by frame is.before is.now is.elements;
       }
 
-  pub gained : {E : Type 0} (last : Result Reply E) → IfOk last (λ reply. HasRun by frame reply events most old new) → OnErr last (HasStopped by frame events most old new)
-      → IsGained by frame events old new copies
-  gained (Ok reply) is other = ran reply is
-  gained (Err why) other is = stopped is
+  pub gained : {T E : Type 0} (last : Result T E) (told : T → Reply) → IfOk last (λ t. HasRun by frame (told t) events most old new)
+      → OnErr last (HasStopped by frame events most old new) → IsGained by frame events old new copies
+  gained (Ok t) told is other = ran (told t) is
+  gained (Err why) told other is = stopped is
 
 pub tail_is : (all old more : List (Entry Global)) (from : ℕ) → all ≡ old ++ more → from ≡ length old → drop from all ≡ more
 tail_is all old more from is at = (λ i. drop (at i) (is i)) ∙ drop-append_seam old more

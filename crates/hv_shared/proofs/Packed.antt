@@ -1,12 +1,14 @@
 -- What stands in packed receipts.
-use Rattle.std.proofs.Common.{◌≡◌, ℕ, suc, zero, Some, ◌<◌, ◌≤◌, ◌==◌, List, [], ◌∷◌, ◌++◌, length, drop, get_or, false, refl, sym, ap, ◌∙◌, ◌+◌, ◌-◌, arith, append_assoc, append-nil, length-append}
-use Rattle.std.proofs.Common.{slice_get, All, option_map, Global}
+use Rattle.std.proofs.Common.{◌≡◌, ℕ, suc, zero, Some, ◌<◌, ◌≤◌, ◌==◌, List, [], ◌∷◌, ◌++◌, length, drop, get_or, false, true, inl, inr, refl, sym, ap, ◌∙◌, ◌+◌, ◌-◌, arith}
+use Rattle.std.proofs.Common.{append_assoc, append-nil, length-append, slice_get, All, option_map, Global}
+use Rattle.std.proofs.lemmas.Bool.{cases_eq, eqb-true}
 use Rattle.std.proofs.lemmas.List.{drop_all}
 use Rattle.std.proofs.lemmas.List.Elements.{All-append}
-use Rattle.std.proofs.lemmas.Option.{none-some, same_Some, slice_get-get_or}
+use Rattle.std.proofs.lemmas.Option.{none-some, same_Some, slice_get_read}
 use Rattle.std.specs.List.{range_with_len}
 use Rattle.hv_history.specs.declared.entry.Entry.{Entry}
 use Rattle.hv_policy.specs.declared.event.Caller.{Caller}
+use Rattle.hv_shared.specs.Due.{AreOf}
 use Rattle.hv_shared.specs.Merge.{IsOf, next_is}
 use Rattle.hv_shared.specs.PassValue.{IsPass}
 use Rattle.hv_shared.specs.Receipts.{numbered, receipt_of, receipts_from}
@@ -86,16 +88,39 @@ next_number (r ∷ rs) (suc k) m n is = next_number rs k m n is
 pub no_number : (rs : List Receipt) (k n : ℕ) → length rs ≤ k → next_is n (drop k rs) ≡ false
 no_number rs k n past = ap (next_is n) (drop_all k rs past)
 
--- the receipt that comes next is of an entry where the packed entry beside its number is
-pub next_is_of : (ns : List ℕ) (es : List (Entry Global)) (k : ℕ) (e : Entry Global) → length ns ≡ length es → k < length es
-    → (slice_get es k ≡ Some e → IsOf e (drop k (receipts_from ns es))) × (IsOf e (drop k (receipts_from ns es)) → slice_get es k ≡ Some e)
-next_is_of ns es k e same less =
-    let own : slice_get es k ≡ Some (get_or es k e) = slice_get-get_or es k e less in
-    let number : slice_get ns k ≡ Some (get_or ns k 0) = slice_get-get_or ns k 0 (omega arith) in
-    rw (drop_at (receipts_from ns es) k (receipt_of (get_or ns k 0) (get_or es k e)) (place ns es k (get_or ns k 0) (get_or es k e) number own)) (
-      λ is. let entry = same_Some (get_or es k e) e (sym own ∙ is) in (ap (λ (x : Entry Global). x.event) entry, ap (λ (x : Entry Global). x.reply) entry),
-      λ of. let entry : get_or es k e ≡ e = λ i. record { event = of.0 i; reply = of.1 i } in own ∙ ap Some entry,
-    )
+-- the receipt that comes next has its number and its entry beside each other
+pub next_at : (ns : List ℕ) (es : List (Entry Global)) (k n : ℕ) (e : Entry Global) → length ns ≡ length es → next_is n (drop k (receipts_from ns es)) ≡ true → IsOf e (drop k (receipts_from ns es))
+    → (slice_get ns k ≡ Some n) × (slice_get es k ≡ Some e)
+next_at [] es zero n e same next of = absurd of
+next_at [] es (suc k) n e same next of = absurd of
+next_at (m ∷ ns) [] k n e same next of = absurd (omega arith)
+next_at (m ∷ ns) (d ∷ es) zero n e same next of =
+    let entry : d ≡ e = λ i. record { event = of.0 i; reply = of.1 i } in (ap Some (eqb-true m n next), ap Some entry)
+next_at (m ∷ ns) (d ∷ es) (suc k) n e same next of = next_at ns es k n e (omega arith) next of
+
+pub slice_get-drop : {X : Type 0} (k : ℕ) (xs : List X) (i : ℕ) → slice_get (drop k xs) i ≡ slice_get xs (k + i)
+slice_get-drop zero xs i = let same : i ≡ zero + i = omega arith in ap (slice_get xs) same
+slice_get-drop (suc k) [] i = refl
+slice_get-drop (suc k) (x ∷ xs) i =
+    let same : suc (k + i) ≡ suc k + i = omega arith in slice_get-drop k xs i ∙ ap (slice_get (x ∷ xs)) same
+
+-- the number at one place more is the next one
+pub number_more : (ns : List ℕ) (at from i n : ℕ) → at ≤ i → i < length ns → n ≡ get_or ns i n → n ≡ from + (i - at) → ((k : ℕ) → k < i - at → slice_get ns (at + k) ≡ Some (from + k))
+    → (k : ℕ) → k < i + 1 - at → slice_get ns (at + k) ≡ Some (from + k)
+number_more ns at from i n above less is place so_far k below =
+    elim (cases_eq k (i - at)) [
+      | inl same ↦
+          let here : at + k ≡ i = omega arith in
+          let number : n ≡ from + k = omega arith in
+          ap (slice_get ns) here ∙ slice_get_read ns (length ns) i n refl less is ∙ ap Some number
+      | inr other ↦ so_far k (omega (arith, other))
+    ]
+
+-- receipts whose numbers and entries are those of a history are of its entries
+pub are_of : (ns : List ℕ) (own es : List (Entry Global)) (at from count : ℕ) → ((i : ℕ) → i < count → slice_get ns (at + i) ≡ Some (from + 1 + i))
+    → ((i : ℕ) → i < count → slice_get own (at + i) ≡ slice_get es (from + i)) → AreOf (from + 1) (drop from es) (drop at (receipts_from ns own)) count
+are_of ns own es at from count numbers same = λ i e less is.
+    slice_get-drop at (receipts_from ns own) i ∙ place ns own (at + i) (from + 1 + i) e (numbers i less) (same i less ∙ sym (slice_get-drop from es i) ∙ is)
 
 pub all_past : (rs : List Receipt) (k : ℕ) → drop k rs ≡ [] → length rs ≤ k
 all_past [] k none = omega arith

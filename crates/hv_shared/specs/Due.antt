@@ -1,8 +1,10 @@
 -- What the settlement has still to find of a pass's receipts.
-use Rattle.std.specs.Prelude.{ℕ, ◌≡◌, ◌<◌, ◌==◌, List, drop, map}
+use Rattle.std.specs.Prelude.{ℕ, ◌≡◌, ◌+◌, ◌<◌, ◌==◌, List, Some, drop, map, slice_get}
+use Rattle.std.specs.declared.alloc.Global.{Global}
 use Rattle.std.specs.BinaryHeap.{IsHeap}
+use Rattle.hv_history.specs.declared.entry.Entry.{Entry}
 use Rattle.hv_shared.specs.Merge.{next_is}
-use Rattle.hv_shared.specs.Receipts.{list_of}
+use Rattle.hv_shared.specs.Receipts.{list_of, receipt_of}
 use Rattle.hv_shared.specs.contracts.held.settlement.RestOrd.TheImpl as order
 use Rattle.hv_shared.specs.declared.held.settlement.Rest.{Rest}
 use Rattle.hv_shared.specs.declared.held.settlement.TheConstants.{NEVER}
@@ -13,6 +15,11 @@ use Rattle.hv_shared.specs.declared.receipts.Receipt.{Receipt}
 pub record IsDue (n due : ℕ) (list : List Receipt) : Type 0 where
   pub later : n < due
   pub found : (m : ℕ) → n < m → m < NEVER → next_is m list ≡ (due == m)
+
+-- The first `count` receipts are of the first entries, in order, under their numbers from n on.
+abbrev pub AreOf : ℕ → List (Entry Global) → List Receipt → ℕ → Type 0
+AreOf n entries list count = (i : ℕ) (e : Entry Global) → i < count → slice_get entries i ≡ Some e
+    → slice_get list i ≡ Some (receipt_of (n + i) e)
 
 -- the receipts that are still to be found
 abbrev pub left_of : Rest → List Receipt

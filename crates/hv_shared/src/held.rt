@@ -2,23 +2,26 @@
 // `Pass` are private to this file and the settlement.
 ghost use Rattle.std.specs.Prelude.{◌≡◌, ◌<◌, ◌≤◌, ◌+◌, [], ◌↔◌, IfOk, OnOk, OnErr, IsErrOf, IfErr, length};
 ghost use Rattle.std.specs.Prelude.{vec_len, vec_capacity};
+ghost use Rattle.hv_defs.specs.declared.sizes.TheConstants.{REPS_END};
 ghost use Rattle.hv_abi.specs.declared.frame.Frame.{Frame};
 ghost use Rattle.hv_policy.specs.Next.{GoesOn};
+ghost use Rattle.hv_policy.specs.Parts.{reply_of};
 ghost use Rattle.hv_policy.specs.Result.{HasResult};
 ghost use Rattle.hv_policy.specs.Step.{NamesAsked};
 ghost use Rattle.hv_policy.specs.declared.event.Action.TheVariants.{Hypercall};
 ghost use Rattle.hv_history.specs.Kept.{HasGained, IsRun};
-ghost use Rattle.hv_history.specs.Run.{HasRun, HasStopped};
+ghost use Rattle.hv_history.specs.Run.{HasRun, HasStopped, element, restart};
 ghost use Rattle.hv_shared.specs.Copies.{AreCopies};
-ghost use Rattle.hv_shared.specs.Hold.{HasHeld};
+ghost use Rattle.hv_shared.specs.Hold.{HasHeld, HasHeldOne};
 ghost use Rattle.hv_shared.specs.Pass.{HasReceipt, IsAsBefore};
 ghost use Rattle.hv_shared.specs.Receipts.{list_of};
 ghost use Rattle.hv_shared.specs.Shared.{AreOpened};
 
+use crate::drive::MOST_IN_A_HOLD;
 use crate::receipts::Receipts;
-use hv_abi::Frame;
-use hv_history::{HostRefused, Kept, RunDone};
-use hv_policy::{Caller, Event, Output, Reply};
+use hv_abi::{Bytes, Frame};
+use hv_history::{Answer, HostRefused, Kept, RunAnswered, RunDone};
+use hv_policy::{Action, Caller, Event, Output, Reply};
 use std::alloc::{AllocError, Global};
 use std::marker::Model;
 use std::mem;
@@ -36,8 +39,10 @@ pub struct Pass<L: Ledger> {
     // In a block of their own, so a pass, and what a settlement has to find of it, are small to move.
     receipts: Box<Receipts>,
     share: Share<L>,
-    // The copies that no receipt of the last hold took. The next hold uses their block again.
+    // An empty list, whose block the next hold's copies use again.
     copies: Vec<Event<Global>>,
+    // The input lists of copies that no receipt took. Copies of later holds use their blocks again.
+    spare: Vec<Bytes<Global>>,
 }
 
 impl<L: Ledger> Model for Pass<L> {
@@ -110,7 +115,7 @@ impl<L: Ledger> Pass<L> {
     }
 
     // Returns an empty list with room for `count` copies, in the block of the last hold's copies.
-    pub(crate) fn take_copies(&mut self, count: usize) -> Result<Vec<Event<Global>>, AllocError>
+    pub(crate) fn room_for_copies(&mut self, count: usize) -> Result<Vec<Event<Global>>, AllocError>
         ensures empty { IfOk result (λ copies. copies.items ≡ []) }
         ensures len { IfOk result (λ copies. vec_len copies ≡ 0) }
         ensures room { IfOk result (λ copies. count ≤ vec_capacity copies) }
@@ -123,17 +128,46 @@ impl<L: Ledger> Pass<L> {
         Ok(copies)
     }
 
+    // Returns a copy of the caller's event of a frame, with this start index.
+    pub(crate) fn copy_at(
+        &mut self,
+        frame: &Frame<Global>,
+        start: u16,
+    ) -> Result<Event<Global>, AllocError>
+        requires { start < REPS_END }
+        ensures copy { IfOk result (λ event. event ≡ element self.old.caller (restart frame.now start)) }
+        ensures same { self.new ≡ self.old }
+    {
+        let mut input = match self.spare.pop() {
+            Some(input) => input,
+            None => Bytes::from_vec(Vec::new(self.receipts.allocator())),
+        };
+        input.refill(frame.input.as_slice())?;
+        let copy = Frame {
+            rcx: frame.rcx,
+            rdx: frame.rdx,
+            r8: frame.r8,
+            input,
+        };
+        Ok(Event {
+            by: self.caller,
+            what: Action::Hypercall(copy.with_start(start)),
+        })
+    }
+
     // A pass without receipts, with one part of the count.
     fn open(alloc: Global, caller: Caller, share: Share<L>) -> Result<Pass<L>, AllocError>
         requires { (share.parts ≡ 1) × (share.amount ≡ 0) }
         ensures { IfOk result (λ pass. (pass.caller ≡ caller) × (pass.receipts ≡ []) × (pass.share ≡ 0)) }
     {
         let receipts = Box::new(alloc, Receipts::new(alloc))?;
+        let spare = Vec::with_capacity(alloc, MOST_IN_A_HOLD as usize)?;
         Ok(Pass {
             caller,
             receipts,
             share,
             copies: Vec::new(alloc),
+            spare,
         })
     }
 
@@ -176,8 +210,6 @@ impl<L: Ledger> Held<L> {
 
     /// Applies an event by the pass's caller and keeps its receipt, for which there is room. The copy is
     /// equal to the event, and becomes the receipt's.
-    // Inlined: messages in bench/largest.sh.
-    #[inline(always)]
     pub fn hold(
         &mut self,
         pass: &mut Pass<L>,
@@ -209,14 +241,42 @@ impl<L: Ledger> Held<L> {
         ensures next { IfOk result (λ r. GoesOn event.what r) }
     {
         let mut output = Output::new();
-        match self.kept.answer(event, &mut output) {
-            Ok(answer) => {
+        match self.answer(pass, event, copy, &mut output) {
+            Ok(answer) => Ok(Reply::of(answer, output.as_slice())),
+            Err(why) => Err(why),
+        }
+    }
+
+    // Applies an event as `hold` does, and returns the answer. The output replaces what `output` has.
+    // Inlined: messages in bench/largest.sh.
+    #[inline(always)]
+    pub(crate) fn answer(
+        &mut self,
+        pass: &mut Pass<L>,
+        event: Event<Global>,
+        copy: Event<Global>,
+        output: &mut Output,
+    ) -> Result<Answer, HostRefused>
+        requires by { event.by ≡ pass.old.caller }
+        requires copy { copy ≡ event }
+        requires room { 1 ≤ pass.old.room }
+        ensures held { IfOk result (λ answer. HasHeldOne event (reply_of answer output.new) self.old self.new
+            pass.old pass.new) }
+        ensures run { IsRun self.new.kept }
+        ensures full { IsErrOf result HostRefused.HistoryFull
+            ↔ (length self.old.kept.history ≡ self.old.kept.limit) }
+        ensures refused { OnErr result (self.new ≡ self.old) }
+        ensures pass { OnErr result (pass.new ≡ pass.old) }
+    {
+        output.clear();
+        match self.kept.answer(event, output) {
+            Ok((answer, _)) => {
                 self.count.add(&mut pass.share, 1);
                 // proof: a history's length fits 32 bits.
                 let _limit = self.kept.limit();
                 let number = self.kept.history().len() as u32;
                 pass.receipts.push(number, copy, answer, output.as_slice());
-                Ok(Reply::of(answer, output.as_slice()))
+                Ok(answer)
             }
             Err(why) => Err(why),
         }
@@ -227,8 +287,6 @@ impl<L: Ledger> Held<L> {
     /// start index, then at each next one, up to `most` of them or to the last element. There is only one for
     /// a simple call, or if P4 or P5 denies the frame. The copies of the elements that happen become the
     /// receipts'.
-    // Inlined: calls for the own id in bench/largest.sh.
-    #[inline(always)]
     pub fn hold_run(
         &mut self,
         pass: &mut Pass<L>,
@@ -248,14 +306,48 @@ impl<L: Ledger> Held<L> {
         ensures full { IfErr result.last (λ why. (why ≡ HostRefused.HistoryFull)
             ↔ (length self.new.kept.history ≡ self.new.kept.limit)) }
     {
+        let mut output = Output::new();
+        let RunAnswered { events, last } = self.answer_run(pass, frame, copies, most, &mut output);
+        let last = match last {
+            Ok(answer) => Ok(Reply::of(answer, output.as_slice())),
+            Err(why) => Err(why),
+        };
+        RunDone { events, last }
+    }
+
+    // Applies elements of a call as `hold_run` does, and returns the answer to the last. Its output replaces
+    // what `output` has.
+    // Inlined: calls for the own id in bench/largest.sh.
+    #[inline(always)]
+    pub(crate) fn answer_run(
+        &mut self,
+        pass: &mut Pass<L>,
+        frame: Frame<Global>,
+        copies: Vec<Event<Global>>,
+        most: u32,
+        output: &mut Output,
+    ) -> RunAnswered
+        requires some { 0 < most }
+        requires copies { AreCopies pass.old.caller frame most copies.items }
+        requires room { vec_len copies ≤ pass.old.room }
+        ensures held { HasHeld self.old self.new pass.old pass.new }
+        ensures ran { IfOk result.last (λ answer. HasRun pass.old.caller frame (reply_of answer output.new)
+            result.events most self.old.kept self.new.kept) }
+        ensures stopped { OnErr result.last (HasStopped pass.old.caller frame result.events most self.old.kept
+            self.new.kept) }
+        ensures run { IsRun self.new.kept }
+        ensures full { IfErr result.last (λ why. (why ≡ HostRefused.HistoryFull)
+            ↔ (length self.new.kept.history ≡ self.new.kept.limit)) }
+    {
         let from = self.kept.history().len();
-        let done = self.kept.apply_run(pass.caller, frame, most);
+        let done = self.kept.answer_run(pass.caller, frame, most, output);
         self.count.add(&mut pass.share, u64::from(done.events));
         // proof: a history's length fits 32 bits.
         let _limit = self.kept.limit();
         let mut copies = copies;
         let first = copies.swap_remove(0);
         pass.receipts.push_all(self.kept.history(), from, first);
+        spare_lists(&mut copies, &mut pass.spare);
         pass.copies = copies;
         done
     }
@@ -265,5 +357,16 @@ impl<L: Ledger> Held<L> {
         ensures count { result.1.total ≡ length self.kept.history }
     {
         (self.kept, self.count)
+    }
+}
+
+// Takes the copies that no receipt took apart, and keeps their input lists as far as there is room.
+fn spare_lists(copies: &mut Vec<Event<Global>>, spare: &mut Vec<Bytes<Global>>) {
+    while let Some(copy) = copies.pop() {
+        if let Action::Hypercall(frame) = copy.what {
+            if spare.len() < spare.capacity() {
+                spare.push_reserved(frame.input);
+            }
+        }
     }
 }

@@ -1,5 +1,5 @@
 // The receipts of a thread, packed as a history is, with a number beside each entry.
-ghost use Rattle.std.specs.Prelude.{◌≡◌, ◌+◌, ◌<◌, ◌≤◌, ◌^◌, ◌++◌, ◌↔◌, [], ◌∷◌, IsTrue, OnOk, Some, drop};
+ghost use Rattle.std.specs.Prelude.{◌≡◌, ◌+◌, ◌<◌, ◌≤◌, ◌^◌, ◌++◌, [], ◌∷◌, ℕ, OnOk, Some, drop, true};
 ghost use Rattle.std.specs.Prelude.{◌-◌, length, option_map, slice_get, vec_len, vec_capacity};
 ghost use Rattle.std.specs.List.{range_with_len};
 ghost use Rattle.hv_defs.specs.declared.sizes.TheConstants.{REPS_END};
@@ -37,7 +37,9 @@ pub struct Receipts {
 }
 
 impl Receipts {
-    ghost use Rattle.hv_shared.specs.Merge.{IsOf};
+    ghost use Rattle.hv_shared.specs.Merge.{IsOf, next_is};
+    ghost use Rattle.hv_shared.specs.Due.{AreOf};
+    ghost use Rattle.hv_shared.specs.declared.held.settlement.TheConstants.{NEVER};
     ghost use Rattle.hv_shared.specs.Pass.{receipt};
     ghost use Rattle.hv_shared.specs.Receipts.{list_of, numbered, receipt_by, room_in};
 
@@ -78,15 +80,50 @@ impl Receipts {
         }
     }
 
-    // Whether the receipt at a place is of the event at a place of a history, with the same reply.
-    pub(crate) fn is_of(&self, at: usize, history: &History<Global>, place: usize) -> bool
-        requires here { at < length (list_of self.now) }
-        requires there { place < length (entries history.now) }
-        ensures { (entry : Entry Global) → slice_get (entries history.now) place ≡ Some entry
-            → (IsTrue result ↔ IsOf entry (drop at (list_of self.now))) }
+    // Returns how many receipts from a place on are of the events of a history from `place` on, in order,
+    // under their numbers, which are below `until`.
+    pub(crate) fn run_of(
+        &self,
+        at: usize,
+        history: &History<Global>,
+        place: usize,
+        until: u64,
+    ) -> usize
+        requires there { place ≤ length (entries history.now) }
+        requires never { length (entries history.now) < NEVER }
+        ensures here { at + result < 2 ^ 64 }
+        ensures there { place + result ≤ length (entries history.now) }
+        ensures until { 0 < result → place + result < until }
+        ensures same { AreOf (place + 1) (drop place (entries history.now)) (drop at (list_of self.now))
+            result }
+        ensures none { (entry : Entry Global) → slice_get (entries history.now) place ≡ Some entry
+            → result ≡ 0 → place + 1 < until → next_is (place + 1) (drop at (list_of self.now)) ≡ true
+            → IsOf entry (drop at (list_of self.now)) → ⊥ }
     {
-        let own = self.packed.entry(at);
-        own.is_same::<Global>(&history.entry(place))
+        if self.numbers.len() <= at {
+            return 0;
+        }
+        let end = until.min(history.len() as u64 + 1);
+        let most = self.count_from(at, place as u64 + 1, end);
+        self.packed.common(at, history, place, most)
+    }
+
+    // Returns how many receipts from a place on have the numbers from this one on, in order, below `end`.
+    fn count_from(&self, at: usize, from: u64, end: u64) -> usize
+        requires here { at ≤ vec_len self.now.numbers }
+        ensures here { at + result ≤ vec_len self.now.numbers }
+        ensures end { 0 < result → from + result ≤ end }
+        ensures same { (i : ℕ) → i < result → slice_get self.now.numbers.items (at + i) ≡ Some (from + i) }
+        ensures none { result ≡ 0 → from < end → slice_get self.now.numbers.items at ≡ Some from → ⊥ }
+    {
+        let mut number = from;
+        for i in at..self.numbers.len() {
+            if end <= number || u64::from(self.numbers[i]) != number {
+                return i - at;
+            }
+            number += 1;
+        }
+        self.numbers.len() - at
     }
 
     // The allocator of the receipts.

@@ -2,6 +2,7 @@
 ghost use Rattle.std.specs.Prelude.{◌≡◌, ◌<◌, ◌≤◌, [], IfOk, IfErr, OnErr, vec_len, vec_capacity};
 ghost use Rattle.hv_abi.specs.declared.frame.Frame.{Frame as CallFrame};
 ghost use Rattle.hv_policy.specs.Next.{GoesOn};
+ghost use Rattle.hv_policy.specs.Parts.{reply_of};
 ghost use Rattle.hv_policy.specs.Result.{HasResult};
 ghost use Rattle.hv_policy.specs.declared.event.Action.TheVariants.{Hypercall};
 ghost use Rattle.hv_shared.specs.Drive.{HasDriven, HasStopped};
@@ -11,9 +12,9 @@ ghost use Rattle.hv_shared.specs.Shared.{AreOpened};
 use crate::drive::{DriveRefused, MOST_IN_A_HOLD, prepare};
 use crate::gate::Gate;
 use crate::held::{Held, Pass, Rest};
-use hv_abi::{Frame, InputValue, ResultValue};
-use hv_history::{HostRefused, Kept, next_of};
-use hv_policy::{Action, Caller, Config, Event, Reply, result_of};
+use hv_abi::{Frame, InputValue, ResultValue, restarted};
+use hv_history::{Answer, HostRefused, Kept, next_of};
+use hv_policy::{Action, Caller, Config, Event, Output, Reply, result_value};
 use std::alloc::Global;
 use std::marker::Model;
 use std::sync::ledger::{Blank, Ledger};
@@ -99,6 +100,29 @@ impl<L: Ledger> Shared<L> {
         ensures result { (frame : CallFrame Global) → what ≡ Hypercall frame → IfOk result HasResult }
         ensures next { IfOk result (λ r. GoesOn what r) }
     {
+        let mut output = Output::new();
+        match self.answer(rt, pass, gate, what, &mut output) {
+            Ok(answer) => Ok(Reply::of(answer, output.as_slice())),
+            Err(why) => Err(why),
+        }
+    }
+
+    // Applies one event as `call` does, and returns the answer. The output replaces what `output` has.
+    fn answer<R: Wait, G: Gate>(
+        &self,
+        rt: &R,
+        pass: &mut Pass<L>,
+        gate: &G,
+        what: Action<Global>,
+        output: &mut Output,
+    ) -> Result<Answer, HostRefused>
+        ensures called { IfOk result (λ answer. HasCalled what (reply_of answer output.new) pass.old
+            pass.new) }
+        ensures refused { OnErr result (IsAsBefore pass.old pass.new) }
+        ensures result { (frame : CallFrame Global) → what ≡ Hypercall frame
+            → IfOk result (λ answer. HasResult (reply_of answer output.new)) }
+        ensures next { IfOk result (λ answer. GoesOn what (reply_of answer output.new)) }
+    {
         let by = pass.caller();
         let event = Event { by, what };
         let Ok(copy) = event.copy() else {
@@ -109,7 +133,7 @@ impl<L: Ledger> Shared<L> {
         }
         let turn = pass.receipts().len() as u64;
         gate.enter(rt, by, turn);
-        let told = self.held.lock(rt).hold(pass, event, copy);
+        let told = self.held.lock(rt).answer(pass, event, copy, output);
         gate.leave(rt, by, turn);
         told
     }
@@ -141,10 +165,31 @@ impl<L: Ledger> Shared<L> {
         ensures driven { IfOk result (λ r. HasDriven frame r.0 r.1 pass.old pass.new) }
         ensures refused { IfErr result (λ e. HasStopped frame e.next pass.old pass.new) }
     {
+        let mut output = Output::new();
+        match self.answer_call(rt, pass, gate, frame, &mut output) {
+            Ok((value, answer)) => Ok((value, Reply::of(answer, output.as_slice()))),
+            Err(refused) => Err(refused),
+        }
+    }
+
+    // Drives a hypercall as `drive` does, and returns its result value and the answer to its last event. The
+    // output of that event replaces what `output` has.
+    fn answer_call<R: Wait, G: Gate>(
+        &self,
+        rt: &R,
+        pass: &mut Pass<L>,
+        gate: &G,
+        frame: Frame<Global>,
+        output: &mut Output,
+    ) -> Result<(ResultValue, Answer), DriveRefused>
+        ensures driven { IfOk result (λ r. HasDriven frame r.0 (reply_of r.1 output.new) pass.old pass.new) }
+        ensures refused { IfErr result (λ e. HasStopped frame e.next pass.old pass.new) }
+    {
         let mut frame = frame;
         loop {
-            let start = InputValue::read(frame.rcx).start;
-            let Ok((own, copies)) = prepare(pass, &frame) else {
+            let rcx = frame.rcx;
+            let start = InputValue::read(rcx).start;
+            let Ok((copies, left)) = prepare(pass, &frame) else {
                 return Err(DriveRefused {
                     why: HostRefused::Memory,
                     next: start,
@@ -155,18 +200,23 @@ impl<L: Ledger> Shared<L> {
             let done = self
                 .held
                 .lock(rt)
-                .hold_run(pass, own, copies, MOST_IN_A_HOLD);
+                .answer_run(pass, frame, copies, MOST_IN_A_HOLD, output);
             gate.leave(rt, pass.caller(), turn);
-            let next = start + done.events as u16;
-            let reply = match done.last {
-                Ok(reply) => reply,
-                Err(why) => return Err(DriveRefused { why, next }),
+            let answer = match done.last {
+                Ok(answer) => answer,
+                Err(why) => {
+                    return Err(DriveRefused {
+                        why,
+                        next: start + done.events as u16,
+                    });
+                }
             };
-            let last = frame.with_start(next - 1);
-            let Some(next) = next_of(reply.parts().0) else {
-                return Ok((result_of(&last, &reply), reply));
+            let Some(next) = next_of(answer) else {
+                let last = restarted(rcx, start + done.events as u16 - 1);
+                return Ok((result_value::<Global>(last, answer), answer));
             };
-            frame = last.with_start(next);
+            let Some(left) = left else { unreachable!() };
+            frame = left.with_start(next);
         }
     }
 }

@@ -1,13 +1,13 @@
 // The settlement of a history with the passes' receipts.
-ghost use Rattle.std.specs.Prelude.{◌≡◌, ◌<◌, ◌≤◌, ◌+◌, [], IsTrue, false, ◌↔◌, IfErr, IfNone, IfOk};
-ghost use Rattle.std.specs.Prelude.{IfSome, None, OnOk, Option, Some, drop, length, reverse, slice_get};
+ghost use Rattle.std.specs.Prelude.{◌≡◌, ◌<◌, ◌≤◌, ◌+◌, [], IsTrue, true, ◌↔◌, IfErr, IfNone, IfOk};
+ghost use Rattle.std.specs.Prelude.{ℕ, IfSome, None, OnOk, Option, Some, drop, length, reverse, slice_get};
 ghost use Rattle.std.specs.Prelude.{slice_index_or, vec_len, vec_capacity, sum, All};
 ghost use Rattle.std.specs.BinaryHeap.{heap_items};
 ghost use Rattle.hv_history.specs.History.{entries};
 ghost use Rattle.hv_history.specs.Kept.{IsRun};
 ghost use Rattle.hv_history.specs.declared.entry.Entry.{Entry};
-ghost use Rattle.hv_shared.specs.Due.{AreHeap, IsDue, IsDueAfter, left_of, lefts_of};
-ghost use Rattle.hv_shared.specs.Merge.{AreDone, IsOf, SettlesAs, receipts_of, shares_of};
+ghost use Rattle.hv_shared.specs.Due.{AreHeap, AreOf, IsDue, IsDueAfter, left_of, lefts_of};
+ghost use Rattle.hv_shared.specs.Merge.{AreDone, IsOf, SettlesAs, next_is, receipts_of, shares_of};
 ghost use Rattle.hv_shared.specs.Receipts.{list_of};
 ghost use Rattle.hv_shared.specs.Settle.{IsFault, IsMadeOf, kept_of};
 
@@ -60,25 +60,24 @@ impl Rest {
         self.receipts.len() <= self.found
     }
 
-    // Whether the next receipt has the event and the reply at this place of a history.
-    fn agrees(&self, history: &History<Global>, at: usize) -> bool
-        requires { at < length (entries history.now) }
-        ensures { (entry : Entry Global) → slice_get (entries history.now) at ≡ Some entry
-            → (IsTrue result ↔ IsOf entry (left_of self.now)) }
+    // Passes the next receipts that are of the events of a history from a place on, under their numbers,
+    // which are below `until`. Returns how many.
+    fn advance(&mut self, history: &History<Global>, at: usize, until: u64) -> usize
+        requires place { at ≤ length (entries history.now) }
+        requires never { length (entries history.now) < NEVER }
+        ensures place { at + result ≤ length (entries history.now) }
+        ensures until { 0 < result → at + result < until }
+        ensures same { AreOf (at + 1) (drop at (entries history.now)) (left_of self.old) result }
+        ensures left { left_of self.new ≡ drop result (left_of self.old) }
+        ensures due { IsDueAfter (at + result) self.new }
+        ensures none { (entry : Entry Global) → slice_get (entries history.now) at ≡ Some entry → result ≡ 0
+            → at + 1 < until → next_is (at + 1) (left_of self.old) ≡ true → IsOf entry (left_of self.old)
+            → ⊥ }
     {
-        !self.is_empty() && self.receipts.is_of(self.found, history, at)
-    }
-
-    // Passes the next receipt, which is that of the event with this number.
-    fn advance(&mut self, number: u64)
-        requires { number < NEVER }
-        ensures left { left_of self.new ≡ drop 1 (left_of self.old) }
-        ensures due { IsDueAfter number self.new }
-    {
-        if self.found < self.receipts.len() {
-            self.found += 1;
-        }
-        self.due = Reverse(due_after(&self.receipts, self.found, number));
+        let count = self.receipts.run_of(self.found, history, at, until);
+        self.found += count;
+        self.due = Reverse(due_after(&self.receipts, self.found, (at + count) as u64));
+        count
     }
 }
 
@@ -121,21 +120,23 @@ fn take_apart<L: Ledger>(book: Book<L>, passes: Vec<Pass<L>>, rests: &mut Vec<Re
     book.audit(&mut all);
 }
 
-// Finds the receipt of the event at this place of a history: one rest alone has its number next, with the
-// event and the reply. What is left then decides.
+// Finds the receipts of the events from this place of a history on, as many as one rest has next, and returns
+// the place behind them. That rest alone has their numbers, with the events and the replies. What is left
+// then decides.
 fn find_next(
     heap: &mut BinaryHeap<Rest>,
     history: &History<Global>,
     at: usize,
-) -> Result<(), SettleFault>
+) -> Result<usize, SettleFault>
     requires place { at < length (entries history.now) }
-    requires never { at + 1 < NEVER }
+    requires never { length (entries history.now) < NEVER }
     requires heap { AreHeap (heap_items heap.old) }
     requires due { All (IsDueAfter at) (heap_items heap.old) }
+    ensures next { IfOk result (λ n. (at < n) × (n ≤ length (entries history.now))) }
     ensures heap { OnOk result (AreHeap (heap_items heap.new)) }
-    ensures due { OnOk result (All (IsDueAfter (at + 1)) (heap_items heap.new)) }
-    ensures found { OnOk result ((fault : Option SettleFault)
-        → SettlesAs (at + 1 + 1) (drop (at + 1) (entries history.now)) (lefts_of (heap_items heap.new)) fault
+    ensures due { IfOk result (λ n. All (IsDueAfter n) (heap_items heap.new)) }
+    ensures found { IfOk result (λ n. (fault : Option SettleFault)
+        → SettlesAs (n + 1) (drop n (entries history.now)) (lefts_of (heap_items heap.new)) fault
         → SettlesAs (at + 1) (drop at (entries history.now)) (lefts_of (heap_items heap.old)) fault) }
     ensures fault { IfErr result (λ f. SettlesAs (at + 1) (drop at (entries history.now))
         (lefts_of (heap_items heap.old)) (Some f)) }
@@ -147,27 +148,31 @@ fn find_next(
     if rest.due.0 != number {
         return Err(SettleFault::Missing);
     }
-    if is_due(heap, number) || !rest.agrees(history, at) {
+    let until = first_due(heap);
+    if until == number {
         return Err(SettleFault::Differs);
     }
-    rest.advance(number);
+    let count = rest.advance(history, at, until);
+    if count == 0 {
+        return Err(SettleFault::Differs);
+    }
     let Ok(()) = heap.push(rest) else {
         unreachable!()
     };
-    Ok(())
+    Ok(at + count)
 }
 
-// Whether the first of the heap is due at this number.
-fn is_due(heap: &BinaryHeap<Rest>, number: u64) -> bool
+// Returns the number at which the first of the heap is due, or `NEVER`.
+fn first_due(heap: &BinaryHeap<Rest>) -> u64
     requires { AreHeap (heap_items heap.now) }
-    ensures first { IsTrue result → (0 < length (heap_items heap.now))
-        × ((d : Rest) → (slice_index_or (heap_items heap.now) 0 d).due.0 ≡ number) }
-    ensures later { result ≡ false → All (λ rest. number ≤ rest.due.0) (heap_items heap.now)
-        → All (λ rest. number < rest.due.0) (heap_items heap.now) }
+    ensures all { All (λ rest. result ≤ rest.due.0) (heap_items heap.now) }
+    ensures least { (n : ℕ) → n ≤ NEVER → All (λ rest. n ≤ rest.due.0) (heap_items heap.now) → n ≤ result }
+    ensures first { result < NEVER → (0 < length (heap_items heap.now))
+        × ((d : Rest) → (slice_index_or (heap_items heap.now) 0 d).due.0 ≡ result) }
 {
     match heap.peek() {
-        Some(rest) => rest.due.0 == number,
-        None => false,
+        Some(rest) => rest.due.0,
+        None => NEVER,
     }
 }
 
@@ -180,9 +185,11 @@ fn first_fault(history: &History<Global>, rests: Vec<Rest>) -> Option<SettleFaul
         (Some f)) }
 {
     let mut heap = BinaryHeap::from(rests);
-    for at in 0..history.len() {
-        if let Err(fault) = find_next(&mut heap, history, at) {
-            return Some(fault);
+    let mut at = 0;
+    while at < history.len() {
+        match find_next(&mut heap, history, at) {
+            Ok(next) => at = next,
+            Err(fault) => return Some(fault),
         }
     }
     if are_empty(heap.as_slice()) {

@@ -16,13 +16,13 @@ answer-requires-clause-count g c =
     omega arith
 
 pub push_head-requires-clause-index : goal.push_head-requires-clause-index
-push_head-requires-clause-index g c = reply_index _ c.index-event.result.now _ _ c.self.invariant c.in-Ok.ensures c.in-Ok.answer c.answer.new.output refl
+push_head-requires-clause-index g c = reply_index _ c.index-event.result.now _ _ c.self.invariant c.in-Ok.ensures.step c.in-Ok.answer c.answer.new.output refl
 
 pub invariant_of-self-2 : goal.invariant_of-self-2
 invariant_of-self-2 g c =
     let h = c.restart-head.new.self in
     let event = head_is h.heads.items c.restart-head.result c.index-event.result.now (omega (arith, h.heads.ok.0, c.restart-head.ensures.there)) c.index-event.ensures in
-    longer _ c.index-event.result.now (reply_of c.in-Ok.answer c.answer.new.output) _ c.self.invariant c.in-Ok.ensures _
+    longer _ c.index-event.result.now (reply_of c.in-Ok.answer c.answer.new.output) _ c.self.invariant c.in-Ok.ensures.step _
     (c.push_head.ensures ∙ (λ i. (c.restart-head.ensures.same ∙ c.reserve.ensures.same) i ++ record { event = event i; reply = reply_of c.in-Ok.answer (c.as_slice.ensures.bytes i) } ∷ []))
     (room c.self.view_is c.self.invariant (c.if-is_full.ensures.1))
 
@@ -37,5 +37,5 @@ returns-clause-applied g c = λ last frame is call.
     let ends = subst (λ (es : List (Entry g.row.A.Denot)). slice_get es (length es - 1) ≡ Some last) was is in
     let asked : c.index-event.result.now ≡ element last.event.by (restart frame c.args.start) = sym event ∙ c.restart-head.ensures.head last frame ends call in
     rw (← c.self.view_is, ← asked)
-    (taken _ c.index-event.result.now (reply_of c.in-Ok.answer c.answer.new.output) _ c.self.invariant c.in-Ok.ensures _
+    (taken _ c.index-event.result.now (reply_of c.in-Ok.answer c.answer.new.output) _ c.self.invariant c.in-Ok.ensures.step _
     (c.push_head.ensures ∙ (λ i. (c.restart-head.ensures.same ∙ c.reserve.ensures.same) i ++ record { event = event i; reply = reply_of c.in-Ok.answer (c.as_slice.ensures.bytes i) } ∷ [])))

@@ -1,4 +1,4 @@
-use Rattle.std.proofs.Common.{reverse}
+use Rattle.std.proofs.Common.{arith, reverse}
 use Rattle.std.proofs.lemmas.List.Sorted.{All-permutation, IsPermutation-map, IsPermutation-reverse, IsPermutation-sym, IsPermutation-trans}
 use Rattle.std.specs.BinaryHeap.{heap_items}
 use Rattle.hv_history.specs.History.{entries}
@@ -16,4 +16,5 @@ loop-at-init c =
       settles = λ fault s. settles_permuted 1 (entries c.args.history.now) _ _ fault (IsPermutation-map left_of heap (reverse rests) back) s;
       heap = c.from-heap.ensures.2;
       due = All-permutation (IsDueAfter 0) rests heap moved c.requires.due;
+      within = omega arith;
     }

@@ -1,4 +1,4 @@
-use Rattle.std.proofs.Common.{◌+◌, Option, drop, All, reverse}
+use Rattle.std.proofs.Common.{◌+◌, ◌-◌, ◌≤◌, Option, drop, length, All, reverse}
 use Rattle.std.specs.BinaryHeap.{heap_items}
 use Rattle.hv_history.specs.History.{entries}
 use Rattle.hv_shared.specs.Due.{AreHeap, IsDueAfter, lefts_of}
@@ -13,4 +13,8 @@ invariant-loop-at l = record {
       → SettlesAs 1 (entries l.history) (lefts_of (reverse l.fn.rests.items)) fault;
   heap : AreHeap (heap_items l.heap);
   due : All (IsDueAfter l.at) (heap_items l.heap);
+  within : l.at ≤ length (entries l.history);
 }
+
+abbrev pub decreases-loop-at : goal.decreases-loop-at
+decreases-loop-at l = length (entries l.history) - l.at

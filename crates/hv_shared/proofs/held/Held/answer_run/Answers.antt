@@ -2,6 +2,7 @@ use Rattle.std.proofs.Common.{◌≡◌, ◌+◌, ◌++◌, ◌∙◌, ℕ, ap, 
 use Rattle.std.proofs.lemmas.Grind.{common_steps}
 use Rattle.hv_history.specs.History.{entries}
 use Rattle.hv_history.specs.Run.{element}
+use Rattle.hv_policy.specs.Parts.{reply_of}
 use Rattle.hv_shared.specs.PassValue.{PassValue}
 use Rattle.hv_shared.specs.Receipts.{list_of, numbered, room_in}
 use Rattle.hv_shared.specs.declared.receipts.Receipts.{Receipts}
@@ -9,7 +10,7 @@ use Rattle.hv_shared.proofs.Holding.{gained, held, tail_is}
 use Rattle.hv_shared.proofs.Copies.{first_copy, some_copies}
 use Rattle.hv_shared.proofs.Packed.{some_more}
 use Rattle.hv_shared.proofs.Numbers.{count, owned}
-use Rattle.hv_shared.proofs.held.Held.hold_run.Goals as goal
+use Rattle.hv_shared.proofs.held.Held.answer_run.Goals as goal
 
 pub swap_remove-first-requires : goal.swap_remove-first-requires
 swap_remove-first-requires g c =
@@ -19,9 +20,9 @@ swap_remove-first-requires g c =
 
 pub push_all-requires : goal.push_all-requires
 push_all-requires g c =
-    let run = c.apply_run-done in
+    let run = c.answer_run-done in
     let are = rw (sym c.pass.view_is) at c.requires.copies in
-    let is = gained _ _ _ _ c.self.inside.kept run.new.self c.args.copies.items run.ensures.run are run.result.last run.ensures.ran run.ensures.stopped in
+    let is = gained _ _ _ _ c.self.inside.kept run.new.self c.args.copies.items run.ensures.run are run.result.last (λ answer. reply_of answer run.new.output) run.ensures.ran run.ensures.stopped in
     let history = c.history-2.ensures.list ∙ is.history in
     let all = ap length history in
     let from : c.len-from.result ≡ length c.self.inside.kept.history = c.len-from.ensures ∙ ap length c.history.ensures.list in
@@ -42,9 +43,9 @@ push_all-requires g c =
 
 pub invariant_of-self : goal.invariant_of-self
 invariant_of-self g c =
-    let run = c.apply_run-done in
+    let run = c.answer_run-done in
     let are = rw (sym c.pass.view_is) at c.requires.copies in
-    let is = gained _ _ _ _ c.self.inside.kept run.new.self c.args.copies.items run.ensures.run are run.result.last run.ensures.ran run.ensures.stopped in
+    let is = gained _ _ _ _ c.self.inside.kept run.new.self c.args.copies.items run.ensures.run are run.result.last (λ answer. reply_of answer run.new.output) run.ensures.ran run.ensures.stopped in
     let all = ap length is.history in
     let many = is.many in
     let counted = c.self.invariant in
@@ -53,9 +54,9 @@ invariant_of-self g c =
 
 pub invariant_of-pass : goal.invariant_of-pass
 invariant_of-pass g c =
-    let run = c.apply_run-done in
+    let run = c.answer_run-done in
     let are = rw (sym c.pass.view_is) at c.requires.copies in
-    let is = gained _ _ _ _ c.self.inside.kept run.new.self c.args.copies.items run.ensures.run are run.result.last run.ensures.ran run.ensures.stopped in
+    let is = gained _ _ _ _ c.self.inside.kept run.new.self c.args.copies.items run.ensures.run are run.result.last (λ answer. reply_of answer run.new.output) run.ensures.ran run.ensures.stopped in
     let n = c.len-from.result + 1 in
     let all = entries c.history-2.result.now in
     let tail = tail_is all c.self.inside.kept.history is.more c.len-from.result (c.history-2.ensures.list ∙ is.history) (c.len-from.ensures ∙ ap length c.history.ensures.list) in
@@ -66,9 +67,9 @@ invariant_of-pass g c =
 
 pub returns-clause-held : goal.returns-clause-held
 returns-clause-held g c =
-    let run = c.apply_run-done in
+    let run = c.answer_run-done in
     let are = rw (sym c.pass.view_is) at c.requires.copies in
-    let is = gained _ _ _ _ c.self.inside.kept run.new.self c.args.copies.items run.ensures.run are run.result.last run.ensures.ran run.ensures.stopped in
+    let is = gained _ _ _ _ c.self.inside.kept run.new.self c.args.copies.items run.ensures.run are run.result.last (λ answer. reply_of answer run.new.output) run.ensures.ran run.ensures.stopped in
     let all = entries c.history-2.result.now in
     let told = c.push_all.ensures ∙ ap (λ (r : Receipts). list_of r ++ numbered (c.len-from.result + 1) (drop c.len-from.result all)) c.deref_mut.ensures.value in
     rw (sym c.pass.view_is, sym c.self.view_is)

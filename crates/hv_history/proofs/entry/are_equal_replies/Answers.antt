@@ -4,7 +4,7 @@ use Rattle.hv_policy.specs.Parts.{reply_of}
 use Rattle.hv_policy.specs.declared.answer.Answer.{Answer}
 use Rattle.hv_policy.specs.declared.answer.Answer.TheVariants.{Denied}
 use Rattle.hv_policy.specs.declared.rule.Rule.{Rule}
-use Rattle.hv_history.proofs.entry.EntryRef.is_answered_the_same.Goals as goal
+use Rattle.hv_history.proofs.entry.are_equal_replies.Goals as goal
 
 -- two denials by one rule with one status are the same where their counts are
 same_denied : (x y : Answer) (output other_output : List ℕ) (rule other : Rule) (status that : Status) (m n : ℕ)

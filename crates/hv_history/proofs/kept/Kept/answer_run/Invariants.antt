@@ -2,7 +2,7 @@ use Rattle.std.proofs.Common.{◌≤◌, ◌-◌}
 use Rattle.hv_policy.specs.Parts.{reply_of}
 use Rattle.hv_history.specs.Kept.{IsRun}
 use Rattle.hv_history.specs.Run.{HasRun}
-use Rattle.hv_history.proofs.kept.Kept.apply_run.Given as goal
+use Rattle.hv_history.proofs.kept.Kept.answer_run.Given as goal
 
 abbrev pub invariant-loop-next : goal.invariant-loop-next
 invariant-loop-next g l = record {
