@@ -45,31 +45,66 @@ boot 64 32 1 0x000000f700000044 100\n\
 
 const LIFE_GRAPH: &str = "\
 digraph hvpm {\n\
-\x20 node [fontname=\"Helvetica\" fontsize=10 shape=record];\n\
+\x20 graph [newrank=true style=rounded color=gray];\n\
+\x20 node [fontname=\"Helvetica\" fontsize=10 shape=box];\n\
 \x20 edge [fontname=\"Helvetica\" fontsize=9];\n\
-\x20 graph [style=rounded color=gray];\n\
 \x20 subgraph cluster_1 {\n\
-\x20   p1 [label=\"{partition 1|Active, depth 0|mask 0x000000f700000044|pages: 24 loose, 32 pooled, \
-8 in use}\"];\n\
-\x20   v1_0 [label=\"{vp 0|SINT 2 shows a message of port 5, 1 waiting|SINT 3 flags 9, 12|SINT 4 sho\
-ws no message, 1 waiting|pending 51, 48}\"];\n\
+\x20   p1 [label=\"partition 1\\nActive, depth 0\\nmask 0x000000f700000044\\n\
+pages: 24 loose, 32 pooled, 8 in use\" style=filled fillcolor=palegreen];\n\
+\x20   v1_0 [label=\"vp 0\\nSINT 2 shows a message of port 5, 1 waiting\\nSINT 3 flags 9, 12\\n\
+SINT 4 shows no message, 1 waiting\\npending 51, 48\"];\n\
 \x20   p1 -> v1_0 [arrowhead=none];\n\
-\x20   o1_5 [label=\"{port 5 for partition 2|messages to SINT 2 of vp 0|kept: 2}\" style=rounded];\n\
+\x20   o1_5 [label=\"port 5 for partition 2\\nmessages to SINT 2 of vp 0\\nkept: 2\" style=rounded];\n\
 \x20   o1_5 -> v1_0 [style=dotted];\n\
-\x20   o1_6 [label=\"{port 6 for partition 2|flags 8 to 15 of SINT 3 of any vp|set: 9, 12}\" style=r\
-ounded];\n\
+\x20   o1_6 [label=\"port 6 for partition 2\\nevent flags 8 to 15 of SINT 3 of any vp\\n\
+set: 9, 12\" style=rounded];\n\
 \x20 }\n\
 \x20 p1 -> p2;\n\
 \x20 subgraph cluster_2 {\n\
-\x20   p2 [label=\"{partition 2|Active, depth 1|mask 0x000000b200000000|pages: 0 loose, 8 pooled, 7 \
-in use}\"];\n\
-\x20   v2_0 [label=\"{vp 0}\"];\n\
+\x20   p2 [label=\"partition 2\\nActive, depth 1\\nmask 0x000000b200000000\\n\
+pages: 0 loose, 8 pooled, 7 in use\" style=filled fillcolor=palegreen];\n\
+\x20   v2_0 [label=\"vp 0\"];\n\
 \x20   p2 -> v2_0 [arrowhead=none];\n\
 \x20 }\n\
-\x20 p2 -> o1_5 [label=\"connection 7\" style=dashed constraint=false];\n\
+\x20 p2 -> o1_5 [label=\"connection 7: messages\" style=dashed];\n\
 \x20 g2_8 [label=\"port 9 of partition 1 is gone\" shape=plaintext];\n\
-\x20 p2 -> g2_8 [label=\"connection 8\" style=dashed constraint=false];\n\
-\x20 p2 -> o1_6 [label=\"connection 10\" style=dashed constraint=false];\n\
+\x20 p2 -> g2_8 [label=\"connection 8: messages\" style=dashed];\n\
+\x20 p2 -> o1_6 [label=\"connection 10: event flags\" style=dashed];\n\
+}\n\
+";
+
+// After four of the eight elements of the call that gives partition 2 its pages.
+const MIDWAY_GRAPH: &str = "\
+digraph hvpm {\n\
+\x20 graph [newrank=true style=rounded color=gray];\n\
+\x20 node [fontname=\"Helvetica\" fontsize=10 shape=box];\n\
+\x20 edge [fontname=\"Helvetica\" fontsize=9];\n\
+\x20 subgraph cluster_1 {\n\
+\x20   p1 [label=\"partition 1\\nActive, depth 0\\nmask 0x000000f700000044\\n\
+pages: 28 loose, 32 pooled, 6 in use\" style=filled fillcolor=palegreen];\n\
+\x20   v1_0 [label=\"vp 0\"];\n\
+\x20   p1 -> v1_0 [arrowhead=none];\n\
+\x20 }\n\
+\x20 p1 -> p2;\n\
+\x20 subgraph cluster_2 {\n\
+\x20   p2 [label=\"partition 2\\nActive, depth 1\\nmask 0x000000b200000000\\n\
+pages: 0 loose, 4 pooled, 0 in use\" style=filled fillcolor=palegreen];\n\
+\x20 }\n\
+}\n\
+";
+
+// Before the first event.
+const BOOT_GRAPH: &str = "\
+digraph hvpm {\n\
+\x20 graph [newrank=true style=rounded color=gray];\n\
+\x20 node [fontname=\"Helvetica\" fontsize=10 shape=box];\n\
+\x20 edge [fontname=\"Helvetica\" fontsize=9];\n\
+\x20 subgraph cluster_1 {\n\
+\x20   p1 [label=\"partition 1\\nActive, depth 0\\nmask 0x000000f700000044\\n\
+pages: 32 loose, 32 pooled, 4 in use\" style=filled fillcolor=palegreen];\n\
+\x20   v1_0 [label=\"vp 0\"];\n\
+\x20   p1 -> v1_0 [arrowhead=none];\n\
+\x20 }\n\
 }\n\
 ";
 
@@ -83,19 +118,19 @@ boot 32 12 1 0x000000f700000044 2\n\
 
 const FULL_GRAPH: &str = "\
 digraph hvpm {\n\
-\x20 node [fontname=\"Helvetica\" fontsize=10 shape=record];\n\
+\x20 graph [newrank=true style=rounded color=gray];\n\
+\x20 node [fontname=\"Helvetica\" fontsize=10 shape=box];\n\
 \x20 edge [fontname=\"Helvetica\" fontsize=9];\n\
-\x20 graph [style=rounded color=gray];\n\
 \x20 subgraph cluster_1 {\n\
-\x20   p1 [label=\"{partition 1|Active, depth 0|mask 0x000000f700000044|\
-pages: 20 loose, 12 pooled, 6 in use}\"];\n\
-\x20   v1_0 [label=\"{vp 0}\"];\n\
+\x20   p1 [label=\"partition 1\\nActive, depth 0\\nmask 0x000000f700000044\\n\
+pages: 20 loose, 12 pooled, 6 in use\" style=filled fillcolor=palegreen];\n\
+\x20   v1_0 [label=\"vp 0\"];\n\
 \x20   p1 -> v1_0 [arrowhead=none];\n\
 \x20 }\n\
 \x20 p1 -> p2;\n\
 \x20 subgraph cluster_2 {\n\
-\x20   p2 [label=\"{partition 2|Created, depth 1|mask 0x0000003000000044|\
-pages: 0 loose, 0 pooled, 0 in use}\"];\n\
+\x20   p2 [label=\"partition 2\\nCreated, depth 1\\nmask 0x0000003000000044\\n\
+pages: 0 loose, 0 pooled, 0 in use\" style=filled fillcolor=lightyellow];\n\
 \x20 }\n\
 }\n\
 ";
@@ -118,24 +153,34 @@ fn text_of(bytes: &[u8]) -> &str {
     str::from_utf8(bytes).unwrap_or("no UTF-8 text")
 }
 
-// Draws a script, and compares the output.
+// Draws the state of a script after so many events, or after all, and compares the output.
 fn assert_draws(
     rt: &impl Abort,
     alloc: Global,
     script: &[u8],
+    at: Option<u64>,
     exit: Exit,
     graph: &str,
     line: &str,
 ) {
     let mut out: Vec<u8> = Vec::new(alloc);
     let mut err: Vec<u8> = Vec::new(alloc);
-    let drawn = draw_text(alloc, script, &mut out, &mut err);
+    let drawn = draw_text(alloc, script, at, &mut out, &mut err);
     assert_eq!(rt; (drawn, text_of(&out), text_of(&err)), (exit, graph, line));
 }
 
 #[test]
 fn draws_all_that_there_is(rt: HostRuntime) {
-    assert_draws(&rt, rt.alloc(), LIFE, Exit::Done, LIFE_GRAPH, "");
+    assert_draws(&rt, rt.alloc(), LIFE, None, Exit::Done, LIFE_GRAPH, "");
+}
+
+#[test]
+fn draws_the_state_after_some_events(rt: HostRuntime) {
+    let alloc = rt.alloc();
+    assert_draws(&rt, alloc, LIFE, Some(0), Exit::Done, BOOT_GRAPH, "");
+    assert_draws(&rt, alloc, LIFE, Some(7), Exit::Done, MIDWAY_GRAPH, "");
+    assert_draws(&rt, alloc, LIFE, Some(u64::MAX), Exit::Done, LIFE_GRAPH, "");
+    assert_draws(&rt, alloc, FULL, Some(2), Exit::Done, FULL_GRAPH, "");
 }
 
 #[test]
@@ -144,6 +189,7 @@ fn draws_what_a_full_history_left(rt: HostRuntime) {
         &rt,
         rt.alloc(),
         FULL,
+        None,
         Exit::Host,
         FULL_GRAPH,
         "hvpm: history full\n",
@@ -157,6 +203,7 @@ fn draws_nothing_after_a_fault(rt: HostRuntime) {
         &rt,
         alloc,
         b"phase\n",
+        None,
         Exit::Script,
         "",
         "hvpm: line 1: no boot\n",
@@ -165,6 +212,7 @@ fn draws_nothing_after_a_fault(rt: HostRuntime) {
         &rt,
         alloc,
         b"boot 0 0 1 0 9\n",
+        Some(0),
         Exit::Script,
         "",
         "hvpm: boot refused: pages\n",
@@ -174,6 +222,6 @@ fn draws_nothing_after_a_fault(rt: HostRuntime) {
 #[test]
 fn tells_that_nothing_was_written(rt: HostRuntime) {
     let mut err: Vec<u8> = Vec::new(rt.alloc());
-    let exit = draw_text(rt.alloc(), LIFE, &mut Closed, &mut err);
+    let exit = draw_text(rt.alloc(), LIFE, None, &mut Closed, &mut err);
     assert_eq!(rt; (exit, text_of(&err)), (Exit::Host, "hvpm: write\n"));
 }
