@@ -9,7 +9,8 @@ _hvpm() {
         "") words="run check explain serve draw help --help --version" ;;
         run) words="--serial --table --help" ;;
         check) words="--prefix --no-rules --help" ;;
-        explain | serve | draw) words="--help" ;;
+        draw) words="--at --help" ;;
+        explain | serve) words="--help" ;;
         help) words="run check explain serve draw help" ;;
     esac
     mapfile -t COMPREPLY < <(compgen -W "$words" -- "$current")

@@ -16,4 +16,5 @@ complete -c hvpm -n '__fish_seen_subcommand_from run' -l serial -d 'Run the line
 complete -c hvpm -n '__fish_seen_subcommand_from run' -l table -d 'Print the table of partitions after the audit'
 complete -c hvpm -n '__fish_seen_subcommand_from check' -l prefix -d 'Take an audit that ends early'
 complete -c hvpm -n '__fish_seen_subcommand_from check' -l no-rules -d 'Compare no names of rules'
+complete -c hvpm -n '__fish_seen_subcommand_from draw' -x -l at -d 'Print the state after N events'
 complete -c hvpm -n '__fish_seen_subcommand_from help' -a 'run check explain serve draw help'

@@ -5,7 +5,7 @@ use Rattle.std.proofs.lemmas.List.{drop_all, length-map}
 use Rattle.std.proofs.lemmas.Option.{none-some, same_Some}
 use Rattle.hv_partition.specs.Partition.{PartitionState}
 use Rattle.hv_tree.specs.Rows.{HasDepth, Row, Rows, children}
-use Rattle.hv_draw.specs.Graph.{AreBlocks, HasBlock, HasBlocks, edge_text, name_text, node_text, opening_text, pages_text, rank_text, use_text}
+use Rattle.hv_draw.specs.Graph.{AreBlocks, HasBlock, HasBlocks, edge_text, fill_text, name_text, node_text, opening_text, pages_text, rank_text, use_text}
 
 dropped : {X : Type 0} (xs : List X) (i : ℕ) (x : X) → slice_get xs i ≡ Some x → drop i xs ≡ x ∷ drop (i + 1) xs
 dropped [] i x is = absurd (none-some x is)
@@ -54,23 +54,23 @@ pub four : (t0 t1 t2 t3 t4 a b c d : List ℕ) → t1 ≡ t0 ++ a → t2 ≡ t1 
 four t0 t1 t2 t3 t4 a b c d e1 e2 e3 e4 =
     e4 ∙ ap (λ (l : List ℕ). l ++ d) (three t0 t1 t2 t3 a b c e1 e2 e3) ∙ append_assoc t0 (a ++ b ++ c) d
 
--- eight parts behind a text
-parts : (old a b c d e f g h : List ℕ) → old ++ a ++ b ++ c ++ d ++ e ++ f ++ g ++ h ≡ old ++ ((a ++ b ++ c ++ d ++ e ++ f) ++ (g ++ h))
-parts [] a b c d e f g h = append_assoc (a ++ b ++ c ++ d ++ e ++ f) g h
-parts (x ∷ old) a b c d e f g h = ap (λ (l : List ℕ). x ∷ l) (parts old a b c d e f g h)
+-- nine parts behind a text
+parts : (old a b c d e f g h i : List ℕ) → old ++ a ++ b ++ c ++ d ++ e ++ f ++ g ++ h ++ i ≡ old ++ ((a ++ b ++ c ++ d ++ e ++ f ++ g) ++ (h ++ i))
+parts [] a b c d e f g h i = append_assoc (a ++ b ++ c ++ d ++ e ++ f ++ g) h i
+parts (x ∷ old) a b c d e f g h i = ap (λ (l : List ℕ). x ∷ l) (parts old a b c d e f g h i)
 
 -- a block is its edge, its node, what is inside and its end
-module _ (tree : Rows PartitionState) (id depth : ℕ) (row : Row PartitionState) (inside end t0 t1 t2 t3 t4 t5 t6 t7 t8 : List ℕ) where
+module _ (tree : Rows PartitionState) (id depth : ℕ) (row : Row PartitionState) (inside end t0 t1 t2 t3 t4 t5 t6 t7 t8 t9 : List ℕ) where
   pub block_of : HasDepth tree id depth → t1 ≡ t0 ++ edge_text row.0 id → t2 ≡ t1 ++ opening_text id → t3 ≡ t2 ++ name_text id row.1 → t4 ≡ t3 ++ rank_text depth row.1
-      → t5 ≡ t4 ++ pages_text row.1 → t6 ≡ t5 ++ use_text (length (children tree id)) row.1 → t7 ≡ t6 ++ inside → t8 ≡ t7 ++ end → HasBlock tree (id, row) t0 t8
-  block_of deep e1 e2 e3 e4 e5 e6 e7 e8 = record {
+      → t5 ≡ t4 ++ pages_text row.1 → t6 ≡ t5 ++ use_text (length (children tree id)) row.1 → t7 ≡ t6 ++ fill_text row.1 → t8 ≡ t7 ++ inside → t9 ≡ t8 ++ end → HasBlock tree (id, row) t0 t9
+  block_of deep e1 e2 e3 e4 e5 e6 e7 e8 e9 = record {
     own = node_text id depth (length (children tree id)) row ++ (inside ++ end);
     block = record { depth = depth; is_depth = deep; more = inside ++ end; all = refl };
-    added = e8 ∙ ap (λ (l : List ℕ). l ++ end) (e7 ∙ ap (λ (l : List ℕ). l ++ inside) (e6
+    added = e9 ∙ ap (λ (l : List ℕ). l ++ end) (e8 ∙ ap (λ (l : List ℕ). l ++ inside) (e7 ∙ ap (λ (l : List ℕ). l ++ fill_text row.1) (e6
         ∙ ap (λ (l : List ℕ). l ++ use_text (length (children tree id)) row.1) (e5
         ∙ ap (λ (l : List ℕ). l ++ pages_text row.1) (e4
         ∙ ap (λ (l : List ℕ). l ++ rank_text depth row.1) (e3
         ∙ ap (λ (l : List ℕ). l ++ name_text id row.1) (e2
-        ∙ ap (λ (l : List ℕ). l ++ opening_text id) e1))))))
-        ∙ parts t0 (edge_text row.0 id) (opening_text id) (name_text id row.1) (rank_text depth row.1) (pages_text row.1) (use_text (length (children tree id)) row.1) inside end;
+        ∙ ap (λ (l : List ℕ). l ++ opening_text id) e1)))))))
+        ∙ parts t0 (edge_text row.0 id) (opening_text id) (name_text id row.1) (rank_text depth row.1) (pages_text row.1) (use_text (length (children tree id)) row.1) (fill_text row.1) inside end;
   }

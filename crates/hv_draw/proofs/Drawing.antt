@@ -9,19 +9,19 @@ use Rattle.hv_run.specs.declared.failure.Exit.TheVariants.{Host, Script}
 use Rattle.hv_run.specs.declared.failure.Failure.{Failure}
 use Rattle.hv_script.specs.Script.{Said}
 use Rattle.hv_refine.specs.Room.{roomless}
+use Rattle.std.specs.FinMap.{keys}
 use Rattle.hv_tree.specs.Rows.{Rows}
 use Rattle.hv_draw.specs.Drawn.{HasDrawn, HasGraph, HasRun, IsGraph}
-use Rattle.hv_draw.specs.Graph.{HasBlocks}
+use Rattle.hv_draw.specs.Graph.{HasBlocks, head_text}
 
-pub drawn_of : (said : Said Global) (start kept : Kept Global) (old new : Option (List ℕ)) → start.config ≡ said.config → start.limit ≡ said.limit → start.history ≡ []
-    → HasRun said.lines start kept → IsRun kept → HasGraph kept old new → HasDrawn said old new
-drawn_of said start kept old new config limit none ran run drawn = record {
+pub drawn_of : (said : Said Global) (at : Option ℕ) (start kept : Kept Global) (old new : Option (List ℕ)) → start.config ≡ said.config → start.limit ≡ said.limit
+    → HasRun at said.lines start kept → IsRun kept → HasGraph kept old new → HasDrawn said at old new
+drawn_of said at start kept old new config limit ran run drawn = record {
   kept = kept;
   run = run;
   config = ran.config ∙ config;
   limit = ran.limit ∙ limit;
-  order = subst (AreInOrder 1 said.lines) (sym (ran.history ∙ ap (λ (l : List (Entry Global)). l ++ ran.own) none))
-      (subst (λ (l : List (Entry Global)). AreInOrder (length l + 1) said.lines ran.own) none ran.order);
+  order = ran.order;
   drawn = drawn;
 }
 
@@ -47,14 +47,14 @@ silent_host (Err failure) P host = λ script.
     cc
 
 -- the graph of what is kept, with what stands behind its blocks
-pub graph_of : (kept : Kept Global) (tree : Rows PartitionState) (t0 t1 t2 t3 links end : List ℕ) → roomless tree ≡ kept.machine.rows → HasBlocks tree t0 t1 → t2 ≡ t1 ++ links → t3 ≡ t2 ++ end
-    → IsGraph kept t3
-graph_of kept tree t0 t1 t2 t3 links end shown has e2 e3 = record {
+pub graph_of : (kept : Kept Global) (tree : Rows PartitionState) (count : ℕ) (t0 t1 t2 t3 links end : List ℕ) → roomless tree ≡ kept.machine.rows → count ≡ length (keys tree) → t0 ≡ head_text count
+    → HasBlocks tree t0 t1 → t2 ≡ t1 ++ links → t3 ≡ t2 ++ end → IsGraph kept t3
+graph_of kept tree count t0 t1 t2 t3 links end shown many head has e2 e3 = record {
   tree = tree;
   shown = shown;
-  before = t0;
   blocks = has.own;
   behind = links ++ end;
   are = has.blocks;
-  all = e3 ∙ ap (λ (l : List ℕ). l ++ end) (e2 ∙ ap (λ (l : List ℕ). l ++ links) has.added) ∙ append_assoc (t0 ++ has.own) links end;
+  all = e3 ∙ ap (λ (l : List ℕ). l ++ end) (e2 ∙ ap (λ (l : List ℕ). l ++ links) has.added) ∙ append_assoc (t0 ++ has.own) links end
+      ∙ ap (λ (l : List ℕ). l ++ has.own ++ (links ++ end)) (head ∙ ap head_text many);
 }

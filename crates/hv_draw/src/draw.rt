@@ -6,7 +6,7 @@ ghost use Rattle.hv_run.specs.Failure.{exit_of};
 ghost use Rattle.hv_script.specs.Reading.{said};
 ghost use Rattle.hv_draw.specs.Drawn.{HasDrawn, HasDrawnOf, HasGraph, IsGraph};
 
-use crate::graph::push_blocks;
+use crate::graph::{push_blocks, push_head};
 use crate::in_order::run_in_order;
 use crate::links::push_links;
 use crate::made::made_ports;
@@ -17,26 +17,25 @@ use hv_script::{Script, parse};
 use std::alloc::{AllocError, Global};
 use std::io::Write;
 
-// The head of the graph, before the partitions: its style.
-const HEAD: &[u8] = b"\
-digraph hvpm {\n\
-\x20 node [fontname=\"Helvetica\" fontsize=10 shape=record];\n\
-\x20 edge [fontname=\"Helvetica\" fontsize=9];\n\
-\x20 graph [style=rounded color=gray];\n\
-";
-
-/// Runs a script in order, and writes its last state as a graph for Graphviz to `out`.
+/// Runs a script in order, and writes its last state as a graph for Graphviz to `out`. With `at` it is the
+/// state after so many events, or after all if there are fewer.
 ///
 /// If not everything runs, the reason goes to `err`, in one line. After a fault of the script or a refused
 /// boot, nothing is written to `out`. If the host refuses an event, no later line is run, and the graph shows
 /// the state so far.
-pub fn draw_text<W: Write, E: Write>(alloc: Global, script: &[u8], out: &mut W, err: &mut E) -> Exit
-    ensures drawn { result ≡ Exit.Done → HasDrawnOf script.now (W.contents out.old) (W.contents out.new) }
+pub fn draw_text<W: Write, E: Write>(
+    alloc: Global,
+    script: &[u8],
+    at: Option<u64>,
+    out: &mut W,
+    err: &mut E,
+) -> Exit
+    ensures drawn { result ≡ Exit.Done → HasDrawnOf script.now at (W.contents out.old) (W.contents out.new) }
     ensures silent { result ≡ Exit.Script → out.new ≡ out.old }
     ensures no_usage { result ≢ Exit.Usage }
 {
     match parse(alloc, script) {
-        Ok(script) => finish(alloc, script, out, err),
+        Ok(script) => finish(alloc, script, at, out, err),
         Err(fault) => tell(Failure::from(fault), err),
     }
 }
@@ -45,22 +44,28 @@ pub fn draw_text<W: Write, E: Write>(alloc: Global, script: &[u8], out: &mut W, 
 fn finish<W: Write, E: Write>(
     alloc: Global,
     script: Script<Global>,
+    at: Option<u64>,
     out: &mut W,
     err: &mut E,
 ) -> Exit
-    ensures drawn { result ≡ Exit.Done → HasDrawn (said script) (W.contents out.old) (W.contents out.new) }
+    ensures drawn { result ≡ Exit.Done → HasDrawn (said script) at (W.contents out.old) (W.contents out.new) }
     ensures silent { result ≡ Exit.Script → out.new ≡ out.old }
     ensures no_usage { result ≢ Exit.Usage }
 {
-    match draw_script(alloc, script, out) {
+    match draw_script(alloc, script, at, out) {
         Ok(()) => Exit::Done,
         Err(failure) => tell(failure, err),
     }
 }
 
-// Runs a script's lines, and writes the graph of the state after them.
-fn draw_script<W: Write>(alloc: Global, script: Script<Global>, out: &mut W) -> Result<(), Failure>
-    ensures drawn { OnOk result (HasDrawn (said script) (W.contents out.old) (W.contents out.new)) }
+// Runs a script's lines up to this event, and writes the graph of the state after them.
+fn draw_script<W: Write>(
+    alloc: Global,
+    script: Script<Global>,
+    at: Option<u64>,
+    out: &mut W,
+) -> Result<(), Failure>
+    ensures drawn { OnOk result (HasDrawn (said script) at (W.contents out.old) (W.contents out.new)) }
     ensures silent { IfErr result (λ failure. exit_of failure ≡ Exit.Script → out.new ≡ out.old) }
 {
     let Script {
@@ -69,7 +74,7 @@ fn draw_script<W: Write>(alloc: Global, script: Script<Global>, out: &mut W) -> 
         lines,
     } = script;
     let mut kept = Kept::boot(alloc, config, limit)?;
-    let ran = run_in_order(&mut kept, lines);
+    let ran = run_in_order(&mut kept, lines, at);
     let drawn = write_graph(alloc, &kept, out);
     ended(ran, drawn)
 }
@@ -134,7 +139,7 @@ fn graph(alloc: Global, kept: &Kept<Global>) -> Result<Vec<u8>, AllocError>
     let mut links = Vec::new(alloc);
     push_links(&mut links, tree, &ids)?;
     let mut text = Vec::new(alloc);
-    push(&mut text, HEAD)?;
+    push_head(&mut text, ids.len())?;
     push_blocks(&mut text, tree, &ids, &made)?;
     push(&mut text, &links)?;
     push(&mut text, b"}\n")?;

@@ -3,8 +3,9 @@ ghost use Rattle.std.specs.Prelude.{◌≡◌, ◌++◌, IsSome, OnOk, Some};
 ghost use Rattle.std.specs.FinMap as map;
 ghost use Rattle.hv_partition.specs.Partition.{PartitionState};
 ghost use Rattle.hv_tree.specs.Rows.{Row};
-ghost use Rattle.hv_draw.specs.Graph.{HasBlock, HasBlocks, edge_text, name_text, opening_text, pages_text};
-ghost use Rattle.hv_draw.specs.Graph.{rank_text, use_text};
+ghost use Rattle.hv_draw.specs.Graph.{HasBlock, HasBlocks, color_text, direction_text, edge_text};
+ghost use Rattle.hv_draw.specs.Graph.{fill_text, head_text, name_text, opening_text, pages_text, rank_text};
+ghost use Rattle.hv_draw.specs.Graph.{use_text};
 ghost use Rattle.hv_text.specs.Table.{life_text};
 
 use crate::inside::push_inside;
@@ -14,6 +15,35 @@ use hv_defs::Life;
 use hv_partition::{PageKind, Partition};
 use hv_refine::Partitions;
 use std::alloc::{AllocError, Global};
+
+// The most partitions of a graph that runs from top to bottom.
+const DOWNWARD: usize = 8;
+
+/// Adds the head of a graph of this many partitions.
+pub(crate) fn push_head(text: &mut Vec<u8>, partitions: usize) -> Result<(), AllocError>
+    ensures { OnOk result (text.new.items ≡ text.old.items ++ head_text partitions) }
+{
+    push(
+        text,
+        b"digraph hvpm {\n  graph [newrank=true style=rounded color=gray];\n",
+    )?;
+    push_direction(text, partitions)?;
+    push(
+        text,
+        b"  node [fontname=\"Helvetica\" fontsize=10 shape=box];\n",
+    )?;
+    push(text, b"  edge [fontname=\"Helvetica\" fontsize=9];\n")
+}
+
+// Adds the direction of a graph of this many partitions, if it isn't from top to bottom.
+fn push_direction(text: &mut Vec<u8>, partitions: usize) -> Result<(), AllocError>
+    ensures { OnOk result (text.new.items ≡ text.old.items ++ direction_text partitions) }
+{
+    if partitions <= DOWNWARD {
+        return Ok(());
+    }
+    push(text, b"  rankdir=LR;\n")
+}
 
 /// Adds the block of each partition. These ids are those of all partitions.
 pub(crate) fn push_blocks(
@@ -60,6 +90,7 @@ fn push_block(
     push_rank(text, depth, partition)?;
     push_pages(text, partition)?;
     push_use(text, count, partition)?;
+    push_fill(text, partition)?;
     push(text, inside)?;
     push(text, b"  }\n")
 }
@@ -90,9 +121,9 @@ fn push_opening(text: &mut Vec<u8>, id: u64) -> Result<(), AllocError>
 fn push_name(text: &mut Vec<u8>, id: u64, partition: &Partition<Global>) -> Result<(), AllocError>
     ensures { OnOk result (text.new.items ≡ text.old.items ++ name_text id partition.now) }
 {
-    push(text, b" [label=\"{partition ")?;
+    push(text, b" [label=\"partition ")?;
     push_number(text, id)?;
-    push(text, b"|")?;
+    push(text, b"\\n")?;
     push(text, life_of(partition.life()))
 }
 
@@ -105,14 +136,14 @@ fn push_rank(
 {
     push(text, b", depth ")?;
     push_number(text, depth)?;
-    push(text, b"|mask 0x")?;
+    push(text, b"\\nmask 0x")?;
     push_hex_64(text, partition.mask().bits())
 }
 
 fn push_pages(text: &mut Vec<u8>, partition: &Partition<Global>) -> Result<(), AllocError>
     ensures { OnOk result (text.new.items ≡ text.old.items ++ pages_text partition.now) }
 {
-    push(text, b"|pages: ")?;
+    push(text, b"\\npages: ")?;
     push_number(text, partition.pages(PageKind::Loose).count())?;
     push(text, b" loose, ")?;
     push_number(text, partition.pages(PageKind::Pooled).count())
@@ -127,7 +158,16 @@ fn push_use(
 {
     push(text, b" pooled, ")?;
     push_number(text, partition.in_use(children))?;
-    push(text, b" in use}\"];\n")
+    push(text, b" in use\"")
+}
+
+// Adds the color of a partition's node.
+fn push_fill(text: &mut Vec<u8>, partition: &Partition<Global>) -> Result<(), AllocError>
+    ensures { OnOk result (text.new.items ≡ text.old.items ++ fill_text partition.now) }
+{
+    push(text, b" style=filled fillcolor=")?;
+    push(text, color_of(partition.life()))?;
+    push(text, b"];\n")
 }
 
 fn life_of(life: Life) -> &'static [u8]
@@ -137,5 +177,16 @@ fn life_of(life: Life) -> &'static [u8]
         Life::Created => b"Created",
         Life::Active => b"Active",
         Life::Finalized => b"Finalized",
+    }
+}
+
+// The colors differ in grey, too.
+fn color_of(life: Life) -> &'static [u8]
+    ensures { result.now ≡ color_text life }
+{
+    match life {
+        Life::Created => b"lightyellow",
+        Life::Active => b"palegreen",
+        Life::Finalized => b"gray60",
     }
 }

@@ -18,6 +18,9 @@ const VPS: u32 = 64;
 // The number of SINTs of a processor.
 pub const SINTS: u8 = 16;
 
+// The most numbers in a line of a label.
+const IN_LINE: usize = 16;
+
 /// Adds the nodes of the processors and the ports of the partition with this id, if it exists.
 pub(crate) fn push_inside(
     text: &mut Vec<u8>,
@@ -49,14 +52,14 @@ fn push_vp(
 ) -> Result<(), AllocError> {
     push(text, b"    ")?;
     push_vp_name(text, by)?;
-    push(text, b" [label=\"{vp ")?;
+    push(text, b" [label=\"vp ")?;
     push_number(text, u64::from(by.vp))?;
     for sint in 0..SINTS {
         push_messages(text, sint, vp, kept_at(by.part, sint, vp, made))?;
         push_flags(text, sint, &vp.flags(sint))?;
     }
     push_vectors(text, vp.pending())?;
-    push(text, b"}\"];\n    p")?;
+    push(text, b"\"];\n    p")?;
     push_number(text, by.part)?;
     push(text, b" -> ")?;
     push_vp_name(text, by)?;
@@ -94,7 +97,7 @@ fn push_messages(
     if kept == 0 {
         return Ok(());
     }
-    push(text, b"|SINT ")?;
+    push(text, b"\\nSINT ")?;
     push_number(text, u64::from(sint))?;
     let slot = vp.slot(sint);
     let waiting = if is_shown(&slot) {
@@ -125,7 +128,7 @@ fn push_flags(text: &mut Vec<u8>, sint: u8, flags: &[u8; 256]) -> Result<(), All
     if !flags.iter().any(|byte| *byte != 0) {
         return Ok(());
     }
-    push(text, b"|SINT ")?;
+    push(text, b"\\nSINT ")?;
     push_number(text, u64::from(sint))?;
     push(text, b" flags")?;
     push_set(text, flags, 0, 2048)
@@ -138,16 +141,31 @@ fn push_set(
     first: u16,
     count: u16,
 ) -> Result<(), AllocError> {
-    let mut some = false;
+    let mut told = 0usize;
     for flag in 0..2048u16 {
         let within = first <= flag && flag - first < count;
         if within && is_set(flags, flag) {
-            push(text, if some { b", " } else { b" " })?;
+            push_gap(text, told)?;
             push_number(text, u64::from(flag))?;
-            some = true;
+            told = told.saturating_add(1);
         }
     }
-    if some { Ok(()) } else { push(text, b" none") }
+    if told == 0 {
+        push(text, b" none")
+    } else {
+        Ok(())
+    }
+}
+
+// Adds what separates a number from those before it, of which there are so many.
+fn push_gap(text: &mut Vec<u8>, told: usize) -> Result<(), AllocError> {
+    if told == 0 {
+        return push(text, b" ");
+    }
+    if told % IN_LINE == 0 {
+        return push(text, b",\\n");
+    }
+    push(text, b", ")
 }
 
 // Returns whether a flag below 2,048 is set.
@@ -160,13 +178,16 @@ fn is_set(flags: &[u8; 256], flag: u16) -> bool {
 
 // Adds a row for the pending vectors, the highest first, if there are any.
 fn push_vectors(text: &mut Vec<u8>, pending: [u64; 4]) -> Result<(), AllocError> {
-    let mut some = false;
+    let mut told = 0usize;
     for below in 0..256usize {
         let vector = 255 - below;
         if pending[vector / 64] >> (vector % 64) & 1 == 1 {
-            push(text, if some { b", " } else { b"|pending " })?;
+            if told == 0 {
+                push(text, b"\\npending")?;
+            }
+            push_gap(text, told)?;
             push_number(text, vector as u64)?;
-            some = true;
+            told = told.saturating_add(1);
         }
     }
     Ok(())
@@ -196,7 +217,7 @@ fn push_port(
 ) -> Result<(), AllocError> {
     push(text, b"    ")?;
     push_port_name(text, id, number)?;
-    push(text, b" [label=\"{port ")?;
+    push(text, b" [label=\"port ")?;
     push_number(text, u64::from(number))?;
     push(text, b" for partition ")?;
     push_number(text, port.peer)?;
@@ -204,7 +225,7 @@ fn push_port(
         PortKind::Message => push_message_port(text, number, partition, port)?,
         PortKind::Event => push_event_port(text, partition, port)?,
     }
-    push(text, b"}\" style=rounded];\n")?;
+    push(text, b"\" style=rounded];\n")?;
     match port.vp {
         Aim::One(vp) if partition.vp(vp).is_some() => push_aim(
             text,
@@ -251,7 +272,7 @@ fn push_message_port(
     partition: &Partition<Global>,
     port: &Port,
 ) -> Result<(), AllocError> {
-    push(text, b"|messages to ")?;
+    push(text, b"\\nmessages to ")?;
     push_target(text, port)?;
     let mut kept = 0usize;
     for index in 0..VPS {
@@ -259,7 +280,7 @@ fn push_message_port(
             kept = kept.saturating_add(vp.of_port(number, port.born));
         }
     }
-    push(text, b"|kept: ")?;
+    push(text, b"\\nkept: ")?;
     push_number(text, kept as u64)
 }
 
@@ -269,7 +290,7 @@ fn push_event_port(
     partition: &Partition<Global>,
     port: &Port,
 ) -> Result<(), AllocError> {
-    push(text, b"|flags ")?;
+    push(text, b"\\nevent flags ")?;
     push_number(text, u64::from(port.base))?;
     push(text, b" to ")?;
     push_number(
@@ -278,7 +299,7 @@ fn push_event_port(
     )?;
     push(text, b" of ")?;
     push_target(text, port)?;
-    push(text, b"|set:")?;
+    push(text, b"\\nset:")?;
     push_set(text, &flags_of(partition, port), port.base, port.count)
 }
 

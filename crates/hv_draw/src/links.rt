@@ -2,6 +2,7 @@
 
 use crate::inside::push_port_name;
 use crate::text::{push, push_number};
+use hv_defs::PortKind;
 use hv_ports::Conn;
 use hv_refine::Partitions;
 use std::alloc::{AllocError, Global};
@@ -46,7 +47,15 @@ fn push_link(
     }
     push(text, b" [label=\"connection ")?;
     push_number(text, u64::from(number))?;
-    push(text, b"\" style=dashed constraint=false];\n")
+    push(text, kind_of(conn.kind))?;
+    push(text, b"\" style=dashed];\n")
+}
+
+fn kind_of(kind: PortKind) -> &'static [u8] {
+    match kind {
+        PortKind::Message => b": messages",
+        PortKind::Event => b": event flags",
+    }
 }
 
 // Returns whether the connection's port exists, with the birth that the connection keeps.

@@ -25,8 +25,13 @@ explain_line = with_rule (with_rule (new_app (codes "explain")) script_rule) (au
 abbrev pub serve_line : App
 serve_line = new_app (codes "serve")
 
+-- the option `--at N`
+abbrev pub at_rule : Rule
+at_rule = record (new_rule (codes "at")) { long = Some (codes "at"); value_names = 1 }
+
+-- `draw SCRIPT --at N`
 abbrev pub draw_line : App
-draw_line = with_rule (new_app (codes "draw")) script_rule
+draw_line = with_rule (with_rule (new_app (codes "draw")) script_rule) at_rule
 
 -- the whole command line
 abbrev pub program_line : App
@@ -39,7 +44,7 @@ pub data Asked : Type 0 where
   Check : (script audit : Text) (prefix rules : Bool) → Asked
   Explain : (script : Text) (audit : Option Text) → Asked
   Serve : Asked
-  Draw : (script : Text) → Asked
+  Draw : (script : Text) (at : Option Text) → Asked
 
 -- the request of a command
 abbrev pub asked_for : Command → Asked
@@ -47,7 +52,7 @@ asked_for (command.Run options) = Run options.script.now options.serial options.
 asked_for (command.Check script audit prefix rules) = Check script.now audit.now prefix rules
 asked_for (command.Explain script audit) = Explain script.now (option_map (λ name. name.now) audit)
 asked_for command.Serve = Serve
-asked_for (command.Draw script) = Draw script.now
+asked_for (command.Draw script at) = Draw script.now (option_map (λ number. number.now) at)
 
 -- what the arguments of each command ask for. A flag that was given has the value `true`
 abbrev pub script_in : List Row → Option Text
@@ -69,7 +74,7 @@ abbrev pub explain_by : List Row → Option Asked
 explain_by rows = option_map (λ script. Explain script (audit_in rows)) (script_in rows)
 
 abbrev pub draw_by : List Row → Option Asked
-draw_by rows = option_map Draw (script_in rows)
+draw_by rows = option_map (λ script. Draw script (first_of (codes "at") rows)) (script_in rows)
 
 -- what the subcommand of this name asks for with these arguments
 abbrev pub asked_by_rows : Text → List Row → Option Asked

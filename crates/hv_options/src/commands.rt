@@ -4,8 +4,9 @@ ghost use Rattle.clap.specs.Words.{app_of, first_of, found_of, rows_of, rule_of}
 ghost use Rattle.clap.specs.declared.builder.command.Command.TheViews.{out-Command as fields_of};
 ghost use Rattle.hv_options.specs.Options.{Explains, flag_rule};
 ghost use Rattle.hv_options.specs.Commands.{Asked, asked_by, asked_by_matches, asked_by_rows, asked_for};
-ghost use Rattle.hv_options.specs.Commands.{audit_rule, check_by, check_line, draw_by, draw_line, explain_by};
-ghost use Rattle.hv_options.specs.Commands.{explain_line, program_faults, program_line, run_by, serve_line};
+ghost use Rattle.hv_options.specs.Commands.{at_rule, audit_rule, check_by, check_line, draw_by, draw_line};
+ghost use Rattle.hv_options.specs.Commands.{explain_by, explain_line, program_faults, program_line, run_by};
+ghost use Rattle.hv_options.specs.Commands.{serve_line};
 
 use crate::command_line::{VERSION, flag, is_given, refusal, run_command, script_argument};
 use crate::usage::{Command, Options, Usage};
@@ -91,7 +92,19 @@ fn draw_command<'a>(alloc: Global) -> Result<Line<'a>, AllocError>
 {
     Line::new(alloc, "draw")
         .about("Runs a script, and prints the state at its end as a graph for Graphviz")
-        .arg(script_argument(alloc))
+        .arg(script_argument(alloc))?
+        .arg(at_option(alloc))
+}
+
+// The option `--at N`. Its value may be any text.
+fn at_option<'a>(alloc: Global) -> Arg<'a>
+    ensures rule { rule_of result ≡ at_rule }
+    ensures local { result.global ≡ false }
+{
+    Arg::new(alloc, "at")
+        .long("at")
+        .value_name("N")
+        .help("Print the state after N events")
 }
 
 fn audit_argument<'a>(alloc: Global, required: bool, help: &'a str) -> Arg<'a>
@@ -176,7 +189,8 @@ fn read_draw<'a>(own: &ArgMatches<'a>) -> Option<Command<'a>>
     ensures { option_map asked_for result ≡ draw_by (rows_of (found_of own.now)) }
 {
     let script = value_in(own, "SCRIPT")?;
-    Some(Command::Draw { script })
+    let at = value_in(own, "at");
+    Some(Command::Draw { script, at })
 }
 
 // The value of an argument, if it has one.

@@ -40,9 +40,11 @@ pub enum Command<'a> {
     },
     /// `serve`: answers each line of standard input at once.
     Serve,
-    /// `draw SCRIPT`: prints the state in which a script ends as a graph.
+    /// `draw SCRIPT [--at N]`: prints a state of a script as a graph.
     Draw {
         script: &'a str,
+        /// The number of events before that state, as it was written. Without one, it is the last state.
+        at: Option<&'a str>,
     },
 }
 

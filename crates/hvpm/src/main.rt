@@ -25,6 +25,9 @@ use std::rt::{Env, Files};
 use std::sync::Wait;
 use std::thread::Threads;
 
+// The error if a number of events isn't one.
+const NO_NUMBER: &str = "error: the N of --at isn't a number from 0 to 18446744073709551615\n";
+
 // The size of the output buffer in bytes, 16 times that of a block of an audit.
 const GATHERED: usize = 32_768;
 
@@ -81,7 +84,7 @@ fn perform<R: Files + Input + AllocGlobal + Threads + Wait + Sync, W: Write, E: 
             None => explain_named(rt, script, out, err),
         },
         Command::Serve => serve(rt.alloc(), rt.reader(), out, err),
-        Command::Draw { script } => draw_named(rt, script, out, err),
+        Command::Draw { script, at } => draw_named(rt, script, *at, out, err),
     }
 }
 
@@ -141,15 +144,26 @@ fn explain_named<R: Files + Input + AllocGlobal, W: Write, E: Write>(
     }
 }
 
-// Draws the final state of the script with this name.
+// Draws the final state of the script with this name, or the state after this number of events.
 fn draw_named<R: Files + Input + AllocGlobal, W: Write, E: Write>(
     rt: &R,
     script: &str,
+    at: Option<&str>,
     out: &mut W,
     err: &mut E,
 ) -> Exit {
+    let at = match at {
+        Some(word) => match word.parse::<u64>() {
+            Ok(number) => Some(number),
+            Err(_) => {
+                let _ = err.write_all(NO_NUMBER.as_bytes());
+                return Exit::Usage;
+            }
+        },
+        None => None,
+    };
     match read_named(rt, script) {
-        Ok(script) => draw_text(rt.alloc(), script.as_slice(), out, err),
+        Ok(script) => draw_text(rt.alloc(), script.as_slice(), at, out, err),
         Err(failure) => tell(failure, err),
     }
 }

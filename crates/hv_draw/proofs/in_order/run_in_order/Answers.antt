@@ -1,15 +1,17 @@
-use Rattle.std.proofs.Common.{◌≡◌, [], rules}
-use Rattle.hv_draw.proofs.Ran.{running_ends, running_first, running_more}
+use Rattle.std.proofs.Common.{◌∙◌, ap, arith, length, subst, ℕ}
+use Rattle.hv_draw.proofs.Ran.{AreMost, running_more, running_stops}
 use Rattle.hv_draw.proofs.in_order.run_in_order.Goals as goal
 
-pub loop-line-init : goal.loop-line-init
-loop-line-init c = running_first c.args.lines.items c.reverse.new.self.items c.args.kept.now c.reverse.ensures.items
+pub returns-then-most-eq0 : goal.returns-then-most-eq0
+returns-then-most-eq0 c =
+    let before = c.len.ensures ∙ ap length c.history.ensures.list in
+    let room = subst (λ (n : ℕ). AreMost c.args.at n c.events_to-most.result) before (record { none = c.events_to-most.ensures.none; some = c.events_to-most.ensures.some }) in
+    running_stops c.args.at c.args.lines.items c.loop-line.left.items c.pop.new.self.items c.in-Some.line c.args.kept.now c.loop-line.kept c.events_to-most.result c.in-Some.ensures.items room
+    c.if-most-eq0.true c.loop-line.invariant
 
 pub loop-line-preserved : goal.loop-line-preserved
 loop-line-preserved c =
-    running_more c.args.lines.items c.loop-line.left.items c.pop.new.self.items c.in-Some.line _ _ _ c.loop-line.invariant c.in-Some.ensures.items c.in_ok-perform.ensures
-
-pub returns : goal.returns
-returns c =
-    let none : c.loop-line.left.items ≡ [] = search rules in
-    running_ends c.args.lines.items c.loop-line.left.items c.args.kept.now c.loop-line.kept c.loop-line.invariant none
+    let before = c.len.ensures ∙ ap length c.history.ensures.list in
+    let room = subst (λ (n : ℕ). AreMost c.args.at n c.events_to-most.result) before (record { none = c.events_to-most.ensures.none; some = c.events_to-most.ensures.some }) in
+    running_more c.args.at c.args.lines.items c.loop-line.left.items c.pop.new.self.items c.in-Some.line c.args.kept.now c.loop-line.kept c.events_to-most.result c.in-Some.ensures.items room
+    c.perform.new.kept c.in_ok-perform.ensures (omega (arith, c.if-most-eq0.false)) c.loop-line.invariant
