@@ -23,7 +23,7 @@ impl<'a> CutLine<'a> {
         requires { place < KEPT }
         ensures { result ≡ number_at 64 self.now place }
     {
-        number(self.word(place)).ok_or(FaultKind::Number)
+        number_64(self.word(place)).ok_or(FaultKind::Number)
     }
 
     /// Returns the number of `bits` bits, fewer than 64, at a place.
@@ -63,7 +63,7 @@ pub fn decimal_32(word: &[u8]) -> Option<u32>
 }
 
 /// Reads a 64-bit number in decimal digits, or in `0x` and 1 to 16 hexadecimal digits of either case.
-pub fn number(word: &[u8]) -> Option<u64>
+pub fn number_64(word: &[u8]) -> Option<u64>
     ensures { result ≡ number_in 64 word.now }
 {
     match word {
@@ -73,13 +73,13 @@ pub fn number(word: &[u8]) -> Option<u64>
     }
 }
 
-/// Reads a number of fewer bits, in the forms of [`number`].
+/// Reads a number of fewer bits, in the forms of [`number_64`].
 pub fn number_in(word: &[u8], bits: u32) -> Option<u64>
     requires { bits < 64 }
     ensures number { result ≡ number_in bits word.now }
     ensures fits { IfSome result (λ number. number < 2 ^ bits) }
 {
-    fitting(number(word), bits)
+    fitting(number_64(word), bits)
 }
 
 // Returns a number if it fits `bits` bits.

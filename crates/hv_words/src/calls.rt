@@ -1,4 +1,6 @@
 // Calls with their names, fields and outputs, and accesses with their fields.
+ghost use Rattle.std.specs.Prelude.{◌≡◌};
+ghost use Rattle.hv_words.specs.Names.{call_name};
 
 use crate::names::{kind_name, property_name};
 use crate::outputs::number_at;
@@ -10,7 +12,9 @@ use hv_defs::{Aim, PortKind};
 use hv_policy::{Access, Property};
 
 /// The TLFS's name of a call.
-pub fn call_name(call: CallKind) -> &'static str {
+pub fn call_name(call: CallKind) -> &'static str
+    ensures { result.now ≡ call_name call }
+{
     match call {
         CallKind::CreatePartition => "HvCreatePartition",
         CallKind::InitializePartition => "HvInitializePartition",

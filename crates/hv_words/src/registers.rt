@@ -1,4 +1,6 @@
 // The names of registers.
+ghost use Rattle.std.specs.Prelude.{◌≡◌, ◌≤◌, option_map};
+ghost use Rattle.hv_words.specs.Names.{register_name};
 
 use crate::words::Words;
 use hv_vp::name_of_msr;
@@ -6,7 +8,10 @@ use hv_vp::name_of_msr;
 /// The name of the register with this number in a call, HV_REGISTER_NAME, or `None` if there is none.
 ///
 /// As an MSR it has the prefix `HV_X64_MSR_`.
-pub fn register_name(name: u32) -> Option<&'static str> {
+#[tactic(auto, unfolding(crate::specs::Names::register_name))]
+pub fn register_name(name: u32) -> Option<&'static str>
+    ensures { option_map (λ text. text.now) result ≡ register_name name }
+{
     match name {
         0x0002_0000..=0x0002_0011 => general_name(name),
         0x0009_0003 => Some("VP_INDEX"),
@@ -20,7 +25,13 @@ pub fn register_name(name: u32) -> Option<&'static str> {
     }
 }
 
-fn general_name(name: u32) -> Option<&'static str> {
+// The name of a general register.
+#[tactic(auto, unfolding(crate::specs::Names::register_name))]
+fn general_name(name: u32) -> Option<&'static str>
+    requires least { 0x20000 ≤ name }
+    requires most { name ≤ 0x20011 }
+    ensures { option_map (λ text. text.now) result ≡ register_name name }
+{
     match name {
         0x0002_0000 => Some("RAX"),
         0x0002_0001 => Some("RCX"),
@@ -44,7 +55,13 @@ fn general_name(name: u32) -> Option<&'static str> {
     }
 }
 
-fn sint_name(name: u32) -> Option<&'static str> {
+// The name of the register of a SINT.
+#[tactic(auto, unfolding(crate::specs::Names::register_name))]
+fn sint_name(name: u32) -> Option<&'static str>
+    requires least { 0xA0000 ≤ name }
+    requires most { name ≤ 0xA000F }
+    ensures { option_map (λ text. text.now) result ≡ register_name name }
+{
     match name {
         0x000A_0000 => Some("SINT0"),
         0x000A_0001 => Some("SINT1"),

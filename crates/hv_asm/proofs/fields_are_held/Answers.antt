@@ -1,0 +1,5 @@
+use Rattle.hv_asm.proofs.Held.{holds_list}
+use Rattle.hv_asm.proofs.fields_are_held.Goals as goal
+
+pub returns : goal.returns
+returns c = holds_list

@@ -1,0 +1,10 @@
+pub mod Frame
+pub mod Line
+pub mod List
+pub mod Made
+pub mod Meaning
+pub mod Names
+pub mod Printed
+pub mod Table
+pub mod Text
+pub mod Values

@@ -1,0 +1,85 @@
+// Assembling a text, from its bytes to the exit status.
+ghost use Rattle.std.specs.Prelude.{◌≡◌, ◌≢◌, ◌⊎◌, IfErr, IsErr, OnOk};
+ghost use Rattle.std.specs.Io.KnownBytes.{Appends, Keeps};
+ghost use Rattle.hv_asm.specs.Printed.{HasPrinted};
+ghost use Rattle.hv_asm.specs.Text.{script_meant};
+ghost use Rattle.hv_asm.specs.declared.fault.AsmFault.TheVariants as asm;
+ghost use Rattle.hv_run.specs.Failure.{exit_of};
+
+use crate::fault::{AsmError, AsmFault};
+use crate::text::assemble;
+use hv_run::{Exit, Failure, tell};
+use hv_script::{FaultKind, ScriptFault};
+use std::alloc::Global;
+use std::io::Write;
+
+/// Writes the script that a text means to `out`.
+///
+/// If it can't, the reason goes to `err`, in one line. After a fault of the text, nothing is written to
+/// `out`.
+pub fn asm_text<W: Write, E: Write>(alloc: Global, text: &[u8], out: &mut W, err: &mut E) -> Exit
+    ensures printed { result ≡ Exit.Done → HasPrinted text.now (W.contents out.old) (W.contents out.new) }
+    ensures fault { result ≡ Exit.Script → IsErr (script_meant text.now) }
+    ensures silent { result ≡ Exit.Script → out.new ≡ out.old }
+    ensures no_usage { result ≢ Exit.Usage }
+{
+    match assemble(alloc, text) {
+        Ok(script) => print(script.as_slice(), out, err),
+        Err(error) => tell_fault(error, err),
+    }
+}
+
+// Writes a whole script, or tells that it can't be written.
+fn print<W: Write, E: Write>(script: &[u8], out: &mut W, err: &mut E) -> Exit
+    ensures printed { result ≡ Exit.Done → Appends (W.contents out.old) (W.contents out.new) script.now }
+    ensures status { (result ≡ Exit.Done) ⊎ (result ≡ Exit.Host) }
+{
+    match put(script, out) {
+        Ok(()) => Exit::Done,
+        Err(failure) => tell(failure, err),
+    }
+}
+
+// Writes a whole text.
+fn put<W: Write>(text: &[u8], out: &mut W) -> Result<(), Failure>
+    ensures told { OnOk result (Appends (W.contents out.old) (W.contents out.new) text.now) }
+    ensures host { IfErr result (λ failure. exit_of failure ≡ Exit.Host) }
+{
+    match out.write_all(text) {
+        Ok(()) => flush(out),
+        Err(_) => Err(Failure::Write),
+    }
+}
+
+fn flush<W: Write>(out: &mut W) -> Result<(), Failure>
+    ensures bytes { Keeps (W.contents out.old) (W.contents out.new) }
+    ensures host { IfErr result (λ failure. exit_of failure ≡ Exit.Host) }
+{
+    match out.flush() {
+        Ok(()) => Ok(()),
+        Err(_) => Err(Failure::Write),
+    }
+}
+
+// Writes a fault to standard error, and returns its exit status.
+fn tell_fault<E: Write>(error: AsmError, err: &mut E) -> Exit
+    ensures script { result ≡ Exit.Script → error.kind ≢ asm.Script FaultKind.Memory }
+    ensures status { (result ≡ Exit.Script) ⊎ (result ≡ Exit.Host) }
+{
+    match error.kind {
+        AsmFault::Script(kind) => tell(
+            Failure::from(ScriptFault {
+                line: error.line,
+                kind,
+            }),
+            err,
+        ),
+        AsmFault::UnknownField
+        | AsmFault::MissingField
+        | AsmFault::FieldTwice
+        | AsmFault::NoFastForm => {
+            let _ = writeln!(err, "hvpm: {error}");
+            Exit::Script
+        }
+    }
+}
