@@ -13,7 +13,7 @@ use Rattle.hv_shared.specs.ByCaller.{receipts_by}
 use Rattle.hv_shared.specs.Drive.{entry_in}
 use Rattle.hv_shared.specs.Pass.{receipt}
 use Rattle.hv_shared.specs.declared.receipts.Receipt.{Receipt}
-use Rattle.hv_explain.specs.Written.{HasWritten, HasWrittenAll, HasWrittenElement}
+use Rattle.hv_explain.specs.Written.{HasWritten, HasWrittenAll, HasWrittenElement, Telling}
 use Rattle.hv_explain.proofs.Written.{told_then}
 
 abbrev pub IsBy : Caller → Entry Global → Type 0
@@ -51,19 +51,19 @@ elements_push by frame [] now reply is goes =
 elements_push by frame (e ∷ es) now reply is goes =
     (is.0, is.1, elements_push by (restart frame (start_of frame + 1)) es now reply is.2 goes)
 
-module _ (by : Caller) (old : Kept Global) (v : Option (List ℕ)) where
+module _ (tells : Telling) (by : Caller) (old : Kept Global) (v : Option (List ℕ)) where
   -- some elements of a call were told, and `now` is the frame that is to be asked after them
   pub record HasBegun (frame now : Frame Global) (new : Kept Global) (w : Option (List ℕ)) : Type 0 where
     pub before : List (Entry Global)
     pub elements : AreElements by frame before now
-    pub told : HasWritten before old new v w
+    pub told : HasWritten tells before old new v w
 
   elements_by : (frame : Frame Global) (es : List (Entry Global)) (now : Frame Global) → AreElements by frame es now → All (IsBy by) es
   elements_by frame [] now is = All-nil (IsBy by)
   elements_by frame (e ∷ es) now is = All-cons (IsBy by) e es (ap (λ x. x.by) is.0) (elements_by (restart frame (start_of frame + 1)) es now is.2)
 
   -- one element more, after which the call continues
-  pub begun_more : (frame now next : Frame Global) (n : ℕ) (mid new : Kept Global) (u w : Option (List ℕ)) → HasBegun frame now mid u → (told : HasWrittenElement by now (Some n) mid new u w)
+  pub begun_more : (frame now next : Frame Global) (n : ℕ) (mid new : Kept Global) (u w : Option (List ℕ)) → HasBegun frame now mid u → (told : HasWrittenElement tells by now (Some n) mid new u w)
       → next ≡ restart now n → HasBegun frame next new w
   begun_more frame now next n mid new u w begun told is =
       let goes = told.goes in
@@ -72,19 +72,19 @@ module _ (by : Caller) (old : Kept Global) (v : Option (List ℕ)) where
         before = begun.before ++ record { event = element by now; reply = told.reply } ∷ [];
         elements = subst (AreElements by frame (begun.before ++ record { event = element by now; reply = told.reply } ∷ [])) (sym (is ∙ ap (restart now) at))
             (elements_push by frame begun.before now told.reply begun.elements (subst (λ (k : ℕ). GoesOnAt k told.reply) at goes.1));
-        told = told_then begun.before (record { event = element by now; reply = told.reply } ∷ []) old mid new v u w begun.told told.told;
+        told = told_then tells begun.before (record { event = element by now; reply = told.reply } ∷ []) old mid new v u w begun.told told.told;
       }
 
   -- the last one
-  pub begun_ends : (frame now : Frame Global) (mid new : Kept Global) (u w : Option (List ℕ)) → HasBegun frame now mid u → HasWrittenElement by now None mid new u w
-      → HasWrittenAll by (Hypercall frame) old new v w
+  pub begun_ends : (frame now : Frame Global) (mid new : Kept Global) (u w : Option (List ℕ)) → HasBegun frame now mid u → HasWrittenElement tells by now None mid new u w
+      → HasWrittenAll tells by (Hypercall frame) old new v w
   begun_ends frame now mid new u w begun told =
       let last : Entry Global = record { event = element by now; reply = told.reply } in
       let all = elements_by frame begun.before now begun.elements in
       let n = 1 + length old.history in
       record {
         own = begun.before ++ last ∷ [];
-        told = told_then begun.before (last ∷ []) old mid new v u w begun.told told.told;
+        told = told_then tells begun.before (last ∷ []) old mid new v u w begun.told told.told;
         all = All-push (IsBy by) begun.before last all refl;
         whole = record {
           last = now;

@@ -3,39 +3,46 @@ use Rattle.std.proofs.Common.{◌≡◌, ℕ, ◌+◌, List, [], ◌∷◌, ◌+
 use Rattle.std.proofs.Common.{Global}
 use Rattle.std.specs.Io.KnownBytes.{Appends}
 use Rattle.std.proofs.KnownBytes.{Appends-trans}
-use Rattle.hv_history.specs.Kept.{HasGained, Kept}
+use Rattle.hv_effect.specs.Effect.{Tells}
+use Rattle.hv_effect.specs.declared.effect.Effect.{Effect}
+use Rattle.hv_history.proofs.Runs.{run_more}
+use Rattle.hv_history.specs.Kept.{HasGained, IsRun, Kept}
 use Rattle.hv_history.specs.declared.entry.Entry.{Entry}
+use Rattle.hv_machine.specs.IsFlat.{IsFlat}
+use Rattle.hv_policy.specs.Boot.{boot}
+use Rattle.hv_policy.specs.Flat.{Flat}
+use Rattle.hv_policy.specs.Step.{step}
+use Rattle.hv_policy.specs.declared.config.Config.{Config}
 use Rattle.hv_policy.specs.declared.event.Action.{Action}
 use Rattle.hv_policy.specs.declared.event.Caller.{Caller}
 use Rattle.hv_policy.specs.declared.reply.Reply.{Reply}
+use Rattle.hv_explain.specs.Written.{AreTold, HasHappened, HasPut, HasWritten, HasWrittenOne, Telling, entry_of, head_text, state_after}
 use Rattle.hv_words.specs.Words.{IsPlain}
-use Rattle.hv_explain.specs.Written.{AreTold, HasWritten, HasWrittenOne, head_text}
 
-told_append : (n : ℕ) (xs ys : List (Entry Global)) (s t : List ℕ) → AreTold n xs s → AreTold (n + length xs) ys t → AreTold n (xs ++ ys) (s ++ t)
-told_append n [] ys s t none told =
-    let at : n + 0 ≡ n = omega arith in
-    subst (AreTold n ys) (sym (ap (λ (l : List ℕ). l ++ t) none)) (subst (λ (k : ℕ). AreTold k ys t) at told)
-told_append n (e ∷ xs) ys s t first told =
-    let at : n + length (e ∷ xs) ≡ (n + 1) + length xs = omega arith in (
-      first.0,
-      first.1 ++ t,
-      first.2,
-      ap (λ (l : List ℕ). l ++ t) first.3 ∙ append_assoc (head_text n e.event.by ++ first.0 ++ codes "\n") first.1 t,
-      told_append (n + 1) xs ys first.1 t first.4 (subst (λ (k : ℕ). AreTold k ys t) at told),
-    )
+told_append : (tells : Telling) (config : Config) (past xs ys : List (Entry Global)) (s t : List ℕ) → AreTold tells config past xs s → AreTold tells config (past ++ xs) ys t
+    → AreTold tells config past (xs ++ ys) (s ++ t)
+told_append tells config past [] ys s t none told =
+    subst (AreTold tells config past ys) (sym (ap (λ (l : List ℕ). l ++ t) none)) (subst (λ (p : List (Entry Global)). AreTold tells config p ys t) (append-nil past) told)
+told_append tells config past (e ∷ xs) ys s t first told = (
+  first.0,
+  first.1 ++ t,
+  first.2,
+  ap (λ (l : List ℕ). l ++ t) first.3 ∙ append_assoc first.0 first.1 t,
+  told_append tells config (past ++ e ∷ []) xs ys first.1 t first.4 (subst (λ (p : List (Entry Global)). AreTold tells config p ys t) (sym (append_assoc past (e ∷ []) xs)) told),
+)
 
 -- more happened
-pub told_then : (xs ys : List (Entry Global)) (a b c : Kept Global) (u v w : Option (List ℕ)) → HasWritten xs a b u v → HasWritten ys b c v w → HasWritten (xs ++ ys) a c u w
-told_then xs ys a b c u v w first second =
-    let at : 1 + length b.history ≡ (1 + length a.history) + length xs = let e = ap length first.history in omega (arith, e, length-append a.history xs) in
-    record {
-      history = second.history ∙ ap (λ (l : List (Entry Global)). l ++ ys) first.history ∙ append_assoc a.history xs ys;
-      config = second.config ∙ first.config;
-      limit = second.limit ∙ first.limit;
-      text = first.text ++ second.text;
-      told = told_append (1 + length a.history) xs ys first.text second.text first.told (subst (λ (k : ℕ). AreTold k ys second.text) at second.told);
-      wrote = Appends-trans u v w first.text second.text first.wrote second.wrote;
-    }
+pub told_then : (tells : Telling) (xs ys : List (Entry Global)) (a b c : Kept Global) (u v w : Option (List ℕ)) → HasWritten tells xs a b u v → HasWritten tells ys b c v w
+    → HasWritten tells (xs ++ ys) a c u w
+told_then tells xs ys a b c u v w first second = record {
+  history = second.history ∙ ap (λ (l : List (Entry Global)). l ++ ys) first.history ∙ append_assoc a.history xs ys;
+  config = second.config ∙ first.config;
+  limit = second.limit ∙ first.limit;
+  text = first.text ++ second.text;
+  told = told_append tells a.config a.history xs ys first.text second.text first.told
+      (subst (λ (p : List (Entry Global)). AreTold tells a.config p ys second.text) first.history (subst (λ (k : Config). AreTold tells k b.history ys second.text) first.config second.told));
+  wrote = Appends-trans u v w first.text second.text first.wrote second.wrote;
+}
 
 -- the start of a line was written by three writes
 pub head_written : (u v w x : Option (List ℕ)) (number vp : ℕ) (by : Caller) → vp ≡ by.vp → Appends u v (decimal number ++ codes " ") → Appends v w (decimal by.part ++ codes ".")
@@ -54,21 +61,43 @@ pub ok_then : {T E : Type 0} (r : Result T E) (P Q : Type 0) → OnOk r P → (P
 ok_then (Ok value) P Q holds then = then holds
 ok_then (Err error) P Q holds then = tt
 
--- one event happened, and its line was written
-pub told_one : (by : Caller) (what : Action Global) (reply : Reply) (old new : Kept Global) (v w : Option (List ℕ)) (number : ℕ) (words : List ℕ)
-    → HasGained (record { by = by; what = what }) reply old new → number ≡ 1 + length old.history → IsPlain words → Appends v w (head_text number by ++ words ++ codes "\n")
-    → HasWrittenOne by what reply old new v w
-told_one by what reply old new v w number words gained counted plain wrote = record {
-  history = gained.history;
-  config = gained.config;
-  limit = gained.limit;
+-- the line of an explanation was written
+pub line_put : {T E : Type 0} (r : Result T E) (u v : Option (List ℕ)) (number : ℕ) (by : Caller) (words : List ℕ) → IsPlain words → OnOk r (Appends u v (head_text number by ++ words ++ codes "\n"))
+    → OnOk r (HasPut (λ text. (own : List ℕ) × IsPlain own × (text ≡ head_text number by ++ own ++ codes "\n")) u v)
+line_put (Ok value) u v number by words plain wrote = record {
   text = head_text number by ++ words ++ codes "\n";
-  told = (
-    words,
-    [],
-    plain,
-    ap (λ (k : ℕ). head_text k by ++ words ++ codes "\n") counted ∙ sym (append-nil (head_text (1 + length old.history) by ++ words ++ codes "\n")),
-    refl,
-  );
+  kind = (words, plain, refl);
   wrote = wrote;
 }
+line_put (Err error) u v number by words plain wrote = tt
+
+-- an event was taken, whose effect is that of its step
+pub happened : (by : Caller) (own what : Action Global) (told reply : Reply) (effect : Effect) (old new : Kept Global) → own ≡ what → reply ≡ told → IsRun old
+    → HasGained (record { by = by; what = own }) told old new → ((f : Flat) → IsFlat old.machine f → Tells effect f (step f (record { by = by; what = own })).0)
+    → HasHappened by what reply effect old new
+happened by own what told reply effect old new copied joined is gained tells =
+    let e : Entry Global = entry_of by own told in
+    let after : state_after new.config new.history ≡ (step (state_after old.config old.history) e.event).0 =
+    (λ i. state_after (gained.config i) (gained.history i)) ∙ run_more (boot old.config) old.history (e ∷ []) in
+    record {
+      gained = subst (λ (r : Reply). HasGained (record { by = by; what = what }) r old new) (sym joined)
+          (subst (λ (w : Action Global). HasGained (record { by = by; what = w }) told old new) copied gained);
+      step = subst (Tells effect (state_after old.config old.history)) (sym after) (tells _ is.machine);
+    }
+
+-- and the teller wrote of it
+pub told_one : (tells : Telling) (by : Caller) (what : Action Global) (reply : Reply) (effect : Effect) (old new : Kept Global) (v w : Option (List ℕ)) (number : ℕ)
+    → HasHappened by what reply effect old new → number ≡ length new.history → HasPut (tells number (entry_of by what reply) effect) v w → HasWrittenOne tells by what reply old new v w
+told_one tells by what reply effect old new v w number is counted put =
+    let e : Entry Global = entry_of by what reply in
+    let at : number ≡ 1 + length old.history = let n = ap length is.gained.history in omega (arith, counted, n, length-append old.history (e ∷ [])) in
+    let after : Tells effect (state_after old.config old.history) (state_after old.config (old.history ++ e ∷ [])) =
+    subst (Tells effect (state_after old.config old.history)) (λ i. state_after (is.gained.config i) (is.gained.history i)) is.step in
+    record {
+      history = is.gained.history;
+      config = is.gained.config;
+      limit = is.gained.limit;
+      text = put.text;
+      told = (put.text, [], record { effect = effect; step = after; told = subst (λ (k : ℕ). tells k e effect put.text) at put.kind }, sym (append-nil put.text), refl);
+      wrote = put.wrote;
+    }

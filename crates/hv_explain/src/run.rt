@@ -1,4 +1,4 @@
-// Explaining the lines of a script, one after another.
+// Running the lines of a script, one after another.
 ghost use Rattle.std.specs.Prelude.{◌≡◌, IfErr, IfOk, OnOk};
 ghost use Rattle.hv_history.specs.Kept.{IsRun};
 ghost use Rattle.hv_policy.specs.declared.event.Action.TheVariants.{Hypercall};
@@ -6,67 +6,68 @@ ghost use Rattle.hv_run.specs.Failure.{exit_of};
 ghost use Rattle.hv_explain.specs.Written.{HasWrittenAll, HasWrittenElement, HasWrittenLines};
 
 use crate::line::explain_event;
+use crate::teller::Teller;
 use hv_abi::Frame;
 use hv_history::{Kept, next_of};
 use hv_policy::{Action, Caller};
 use hv_run::{Exit, Failure};
 use hv_script::Line;
-use hv_words::Words;
 use std::alloc::Global;
 use std::io::Write;
 
-// Runs the lines of a script in order, and explains each event. It stops at the first event that the host
-// refuses, or whose line can't be written.
-pub fn explain_lines<W: Write>(
+// Runs the lines of a script in order, and lets the teller write about each event. It stops at the first
+// event that the host refuses, or whose text can't be written.
+pub fn explain_lines<T: Teller, W: Write>(
     kept: &mut Kept<Global>,
     lines: &[Line<Global>],
+    teller: &mut T,
     out: &mut W,
 ) -> Result<(), Failure>
-    ensures told { OnOk result (HasWrittenLines lines.now kept.old kept.new (W.contents out.old)
+    ensures told { OnOk result (HasWrittenLines T.tells lines.now kept.old kept.new (W.contents out.old)
         (W.contents out.new)) }
     ensures run { IsRun kept.new }
     ensures host { IfErr result (λ failure. exit_of failure ≡ Exit.Host) }
 {
     // Proof: the history is a run.
     let _history = kept.history();
-    let mut room = Words::new();
     for at in 0..lines.len() {
-        explain_line(kept, &lines[at], &mut room, out)?;
+        explain_line(kept, &lines[at], teller, out)?;
     }
     Ok(())
 }
 
 // Runs a line to its end: the elements of a hypercall one after another, or an access.
-fn explain_line<W: Write>(
+fn explain_line<T: Teller, W: Write>(
     kept: &mut Kept<Global>,
     line: &Line<Global>,
-    room: &mut Words,
+    teller: &mut T,
     out: &mut W,
 ) -> Result<(), Failure>
-    ensures told { OnOk result (HasWrittenAll line.now.by line.now.action kept.old kept.new
+    ensures told { OnOk result (HasWrittenAll T.tells line.now.by line.now.action kept.old kept.new
         (W.contents out.old)
         (W.contents out.new)) }
     ensures run { IsRun kept.new }
     ensures host { IfErr result (λ failure. exit_of failure ≡ Exit.Host) }
 {
     match line.action.as_access() {
-        Ok(_) => match explain_event(kept, line.by, &line.action, room, out) {
+        Ok(_) => match explain_event(kept, line.by, &line.action, teller, out) {
             Ok(_) => Ok(()),
             Err(failure) => Err(failure),
         },
-        Err(frame) => explain_call(kept, line.by, frame, room, out),
+        Err(frame) => explain_call(kept, line.by, frame, teller, out),
     }
 }
 
 // Runs a hypercall to its end, from the frame's start index on.
-fn explain_call<W: Write>(
+fn explain_call<T: Teller, W: Write>(
     kept: &mut Kept<Global>,
     by: Caller,
     frame: &Frame<Global>,
-    room: &mut Words,
+    teller: &mut T,
     out: &mut W,
 ) -> Result<(), Failure>
-    ensures told { OnOk result (HasWrittenAll by (Hypercall frame.now) kept.old kept.new (W.contents out.old)
+    ensures told { OnOk result (HasWrittenAll T.tells by (Hypercall frame.now) kept.old kept.new
+        (W.contents out.old)
         (W.contents out.new)) }
     ensures run { IsRun kept.new }
     ensures host { IfErr result (λ failure. exit_of failure ≡ Exit.Host) }
@@ -77,7 +78,7 @@ fn explain_call<W: Write>(
         return Err(Failure::Memory);
     };
     loop {
-        match explain_element(kept, by, &now, room, out) {
+        match explain_element(kept, by, &now, teller, out) {
             Ok(Some(next)) => now = now.with_start(next),
             Ok(None) => return Ok(()),
             Err(failure) => return Err(failure),
@@ -87,14 +88,14 @@ fn explain_call<W: Write>(
 
 // Runs the element of a hypercall at the frame's start index. Returns the index of the next element, if the
 // call continues.
-fn explain_element<W: Write>(
+fn explain_element<T: Teller, W: Write>(
     kept: &mut Kept<Global>,
     by: Caller,
     frame: &Frame<Global>,
-    room: &mut Words,
+    teller: &mut T,
     out: &mut W,
 ) -> Result<Option<u16>, Failure>
-    ensures told { IfOk result (λ next. HasWrittenElement by frame.now next kept.old kept.new
+    ensures told { IfOk result (λ next. HasWrittenElement T.tells by frame.now next kept.old kept.new
         (W.contents out.old) (W.contents out.new)) }
     ensures run { IsRun kept.new }
     ensures host { IfErr result (λ failure. exit_of failure ≡ Exit.Host) }
@@ -104,7 +105,7 @@ fn explain_element<W: Write>(
     let Ok(own) = frame.copy() else {
         return Err(Failure::Memory);
     };
-    match explain_event(kept, by, &Action::Hypercall(own), room, out) {
+    match explain_event(kept, by, &Action::Hypercall(own), teller, out) {
         Ok(reply) => Ok(next_of(reply.parts().0)),
         Err(failure) => Err(failure),
     }

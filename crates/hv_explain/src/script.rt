@@ -1,11 +1,13 @@
-// Explaining a script's text.
+// A script's text, from its first line to an exit status.
 ghost use Rattle.std.specs.Prelude.{◌≡◌, ◌≢◌, ◌<◌, length, IfErr, OnOk};
 ghost use Rattle.hv_run.specs.Failure.{exit_of};
 ghost use Rattle.hv_script.specs.Reading.{said};
 ghost use Rattle.hv_script.specs.declared.script.TheConstants.{MOST_BYTES as MOST};
-ghost use Rattle.hv_explain.specs.Written.{HasExplained, HasExplainedText};
+ghost use Rattle.hv_explain.specs.Written.{HasExplained, HasExplainedText, explains};
 
+use crate::explainer::Explainer;
 use crate::run::explain_lines;
+use crate::teller::Teller;
 use hv_history::Kept;
 use hv_run::{Exit, Failure, tell};
 use hv_script::{Script, parse};
@@ -23,46 +25,69 @@ pub fn explain_text<W: Write, E: Write>(
     out: &mut W,
     err: &mut E,
 ) -> Exit
-    ensures told { result ≡ Exit.Done → HasExplainedText script.now (W.contents out.old)
+    ensures told { result ≡ Exit.Done → HasExplainedText explains script.now (W.contents out.old)
+        (W.contents out.new) }
+    ensures long { MOST < length script.now → result ≡ Exit.Script }
+    ensures silent { result ≡ Exit.Script → out.new ≡ out.old }
+    ensures no_usage { result ≢ Exit.Usage }
+{
+    explain_with(alloc, &mut Explainer::new(), script, out, err)
+}
+
+/// Runs a script's lines in order, and lets the teller write about each event on `out`.
+///
+/// If not everything runs, the reason goes to `err`, as [`explain_text`] says.
+pub fn explain_with<T: Teller, W: Write, E: Write>(
+    alloc: Global,
+    teller: &mut T,
+    script: &[u8],
+    out: &mut W,
+    err: &mut E,
+) -> Exit
+    ensures told { result ≡ Exit.Done → HasExplainedText T.tells script.now (W.contents out.old)
         (W.contents out.new) }
     ensures long { MOST < length script.now → result ≡ Exit.Script }
     ensures silent { result ≡ Exit.Script → out.new ≡ out.old }
     ensures no_usage { result ≢ Exit.Usage }
 {
     match parse(alloc, script) {
-        Ok(script) => finish(alloc, script, out, err),
+        Ok(script) => finish(alloc, teller, script, out, err),
         Err(fault) => tell(Failure::from(fault), err),
     }
 }
 
-// Explains a script that has no fault, and writes the reason if not everything runs.
-fn finish<W: Write, E: Write>(
+// Runs a script that has no fault, and writes the reason if not everything runs.
+fn finish<T: Teller, W: Write, E: Write>(
     alloc: Global,
+    teller: &mut T,
     script: Script<Global>,
     out: &mut W,
     err: &mut E,
 ) -> Exit
-    ensures told { result ≡ Exit.Done → HasExplained (said script) (W.contents out.old) (W.contents out.new) }
+    ensures told { result ≡ Exit.Done → HasExplained T.tells (said script) (W.contents out.old)
+        (W.contents out.new) }
     ensures silent { result ≡ Exit.Script → out.new ≡ out.old }
     ensures no_usage { result ≢ Exit.Usage }
 {
-    match explain_script(alloc, &script, out) {
+    match explain_script(alloc, teller, &script, out) {
         Ok(()) => Exit::Done,
         Err(failure) => tell(failure, err),
     }
 }
 
-// Boots the script's machine, runs its lines and explains them.
-fn explain_script<W: Write>(
+// Boots the script's machine, and runs its lines.
+fn explain_script<T: Teller, W: Write>(
     alloc: Global,
+    teller: &mut T,
     script: &Script<Global>,
     out: &mut W,
 ) -> Result<(), Failure>
-    ensures told { OnOk result (HasExplained (said script.now) (W.contents out.old) (W.contents out.new)) }
+    ensures told { OnOk result (HasExplained T.tells (said script.now) (W.contents out.old)
+        (W.contents out.new)) }
     ensures silent { IfErr result (λ failure. exit_of failure ≡ Exit.Script → out.new ≡ out.old) }
 {
     let mut kept = Kept::boot(alloc, script.config, script.limit)?;
-    let told = explain_lines(&mut kept, script.lines.as_slice(), out);
+    let told = explain_lines(&mut kept, script.lines.as_slice(), teller, out);
     match (told, out.flush()) {
         (Ok(()), Ok(())) => Ok(()),
         (Ok(()), Err(_)) => Err(Failure::Write),

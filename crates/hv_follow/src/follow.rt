@@ -1,7 +1,8 @@
-// Explaining an audit, from both texts to an exit status.
+// The events of an audit, from both texts to an exit status.
 ghost use Rattle.std.specs.Prelude.{◌≡◌, ◌≢◌, ◌<◌, true, IfErr, IfOk, OnOk, length};
 ghost use Rattle.std.specs.Io.KnownBytes.{Appends};
 ghost use Rattle.hv_check.specs.Legal.{IsLegal, IsLegalOf};
+ghost use Rattle.hv_explain.specs.Written.{explains};
 ghost use Rattle.hv_follow.specs.Followed.{HasFollowed, HasFollowedText, IsFollowed};
 ghost use Rattle.hv_run.specs.Failure.{exit_of};
 ghost use Rattle.hv_run.specs.declared.failure.Exit.TheVariants as exit;
@@ -9,12 +10,11 @@ ghost use Rattle.hv_script.specs.Reading.{said};
 
 use crate::line::{behind_last, is_end};
 use hv_check::{Replay, check_text};
-use hv_explain::explain_event;
+use hv_explain::{Explainer, Teller, explain_event};
 use hv_history::Kept;
 use hv_policy::{BootRefused, Caller};
 use hv_run::{Exit, Failure, tell};
 use hv_script::{Script, parse, processor};
-use hv_words::Words;
 use std::alloc::Global;
 use std::io::Write;
 
@@ -29,7 +29,27 @@ pub fn follow_text<W: Write, E: Write>(
     out: &mut W,
     err: &mut E,
 ) -> Exit
-    ensures told { result ≡ Exit.Done → HasFollowedText script.now audit.now (W.contents out.old)
+    ensures told { result ≡ Exit.Done → HasFollowedText explains script.now audit.now (W.contents out.old)
+        (W.contents out.new) }
+    ensures legal { result ≡ Exit.Done → IsLegalOf true true script.now audit.now }
+    ensures illegal { result ≡ Exit.Script → IsLegalOf true true script.now audit.now → ⊥ }
+    ensures no_usage { result ≢ Exit.Usage }
+{
+    follow_with(alloc, &mut Explainer::new(), script, audit, out, err)
+}
+
+/// Takes the events of an audit in its order, and lets the teller write about each on `out`.
+///
+/// Otherwise it prints what [`follow_text`] does.
+pub fn follow_with<T: Teller, W: Write, E: Write>(
+    alloc: Global,
+    teller: &mut T,
+    script: &[u8],
+    audit: &[u8],
+    out: &mut W,
+    err: &mut E,
+) -> Exit
+    ensures told { result ≡ Exit.Done → HasFollowedText T.tells script.now audit.now (W.contents out.old)
         (W.contents out.new) }
     ensures legal { result ≡ Exit.Done → IsLegalOf true true script.now audit.now }
     ensures illegal { result ≡ Exit.Script → IsLegalOf true true script.now audit.now → ⊥ }
@@ -37,7 +57,7 @@ pub fn follow_text<W: Write, E: Write>(
 {
     let mut told: Vec<u8> = Vec::new(alloc);
     match check_text(alloc, script, audit, true, true, &mut told, err) {
-        Exit::Done => explain(alloc, script, audit, out, err),
+        Exit::Done => explain(alloc, teller, script, audit, out, err),
         exit => show(exit, &told, out, err),
     }
 }
@@ -57,21 +77,22 @@ fn show<W: Write, E: Write>(exit: Exit, told: &[u8], out: &mut W, err: &mut E) -
     exit
 }
 
-// Explains the events of a legal audit.
-fn explain<W: Write, E: Write>(
+// Tells of the events of a legal audit.
+fn explain<T: Teller, W: Write, E: Write>(
     alloc: Global,
+    teller: &mut T,
     script: &[u8],
     audit: &[u8],
     out: &mut W,
     err: &mut E,
 ) -> Exit
-    ensures told { result ≡ Exit.Done → HasFollowedText script.now audit.now (W.contents out.old)
+    ensures told { result ≡ Exit.Done → HasFollowedText T.tells script.now audit.now (W.contents out.old)
         (W.contents out.new) }
     ensures illegal { result ≡ Exit.Script → IsLegalOf true true script.now audit.now → ⊥ }
     ensures no_usage { result ≢ Exit.Usage }
 {
     match parse(alloc, script) {
-        Ok(script) => match follow(alloc, script, audit, out) {
+        Ok(script) => match follow(alloc, teller, script, audit, out) {
             Ok(()) => Exit::Done,
             Err(failure) => tell(failure, err),
         },
@@ -79,16 +100,17 @@ fn explain<W: Write, E: Write>(
     }
 }
 
-// Takes the events of an audit, and explains them. It fails at a line that isn't the policy's, which no legal
+// Takes the events of an audit, and tells of them. It fails at a line that isn't the policy's, which no legal
 // audit has.
-fn follow<W: Write>(
+fn follow<T: Teller, W: Write>(
     alloc: Global,
+    teller: &mut T,
     script: Script<Global>,
     audit: &[u8],
     out: &mut W,
 ) -> Result<(), Failure>
     ensures told { OnOk result
-        (HasFollowed (said script) audit.now (W.contents out.old) (W.contents out.new)) }
+        (HasFollowed T.tells (said script) audit.now (W.contents out.old) (W.contents out.new)) }
     ensures refused { IfErr result (λ failure. exit_of failure ≡ exit.Script
         → IsLegal true true (said script) audit.now → ⊥) }
 {
@@ -103,10 +125,9 @@ fn follow<W: Write>(
         Err(refused) => return Err(Failure::from(refused)),
     };
     let mut replay = Replay::new(alloc, lines);
-    let mut room = Words::new();
     let mut left = audit;
     while let Some(by) = caller_in(left) {
-        left = step(&mut kept, &mut replay, by, &mut room, left, out)?;
+        left = step(&mut kept, &mut replay, by, teller, left, out)?;
     }
     if !is_end(left, kept.history().len() as u64) {
         return Err(Failure::Differs);
@@ -117,16 +138,16 @@ fn follow<W: Write>(
     }
 }
 
-// Takes the next event of a processor, explains it, and returns the text after its line.
-fn step<'a, W: Write>(
+// Takes the next event of a processor, tells of it, and returns the text after its line.
+fn step<'a, T: Teller, W: Write>(
     kept: &mut Kept<Global>,
     replay: &mut Replay,
     by: Caller,
-    room: &mut Words,
+    teller: &mut T,
     text: &'a [u8],
     out: &mut W,
 ) -> Result<&'a [u8], Failure>
-    ensures followed { IfOk result (λ rest. IsFollowed kept.old kept.new text.now rest.now
+    ensures followed { IfOk result (λ rest. IsFollowed T.tells kept.old kept.new text.now rest.now
         (W.contents out.old)
         (W.contents out.new)) }
     ensures shorter { IfOk result (λ rest. length rest.now < length text.now) }
@@ -138,7 +159,7 @@ fn step<'a, W: Write>(
     let Some(action) = replay.next(by) else {
         return Err(Failure::Differs);
     };
-    let reply = explain_event(kept, by, action, room, out)?;
+    let reply = explain_event(kept, by, action, teller, out)?;
     replay.go_on(by, &reply);
     match behind_last(kept, text) {
         Some(rest) => Ok(rest),

@@ -1,10 +1,10 @@
 // An event and its answer.
 
 use crate::frames::{call_of, push_frame};
-use crate::rules::push_rule;
+use crate::rules::push_reason;
 use crate::tree::Tree;
 use hv_abi::{Frame, Status};
-use hv_policy::{Access, Action, Answer, Caller, Reply};
+use hv_policy::{Access, Action, Answer, Caller, Reply, Rule};
 use hv_words::{Words, push_access, push_access_output, push_call_output};
 use std::alloc::Global;
 
@@ -40,6 +40,13 @@ pub fn push_event(
             push_rule(words, tree, by, rule, what);
         }
     }
+}
+
+// Adds the name of the rule that refused an event, and the reason.
+fn push_rule(words: &mut Words, tree: &Tree, by: Caller, rule: Rule, what: &Action<Global>) {
+    words.text(rule.name());
+    words.text(": ");
+    push_reason(words, tree, by, rule, what);
 }
 
 fn push_status(words: &mut Words, status: Status) {

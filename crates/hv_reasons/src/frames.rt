@@ -5,7 +5,7 @@ use hv_calls::{Call, decode};
 use hv_words::{Words, call_name, push_call};
 use std::alloc::Global;
 
-// Returns the call of a frame, if P4 to P7 hold.
+/// Returns the call of a frame, if P4 to P7 hold.
 pub fn call_of(frame: &Frame<Global>) -> Option<Call<'_>> {
     match frame.check() {
         Ok(shape) => match decode(frame, &shape) {

@@ -18,10 +18,8 @@ use hv_policy::{Access, Action, Caller, Rule};
 use hv_words::{Words, sentence};
 use std::alloc::Global;
 
-// Adds a rule's name, its sentence and, in brackets, the values that decided.
-pub fn push_rule(words: &mut Words, tree: &Tree, by: Caller, rule: Rule, what: &Action<Global>) {
-    words.text(rule.name());
-    words.text(": ");
+/// Adds the sentence of a rule that refused an event and, in brackets, the values that decided.
+pub fn push_reason(words: &mut Words, tree: &Tree, by: Caller, rule: Rule, what: &Action<Global>) {
     words.text(sentence(rule));
     if has_values(rule) {
         words.text(" (");

@@ -6,7 +6,7 @@ use Rattle.hv_explain.proofs.run.explain_call.Given as goal
 
 abbrev pub invariant-loop-next : goal.invariant-loop-next
 invariant-loop-next g l = record {
-  so_far : HasBegun l.by l.fn.kept (g.W.Write.contents l.initial.out) l.frame l.now l.kept (g.W.Write.contents l.out);
+  so_far : HasBegun g.T.Teller.tells l.by l.fn.kept (g.W.Write.contents l.initial.out) l.frame l.now l.kept (g.W.Write.contents l.out);
   run : IsRun l.kept;
 }
 

@@ -14,8 +14,9 @@ loop-at-preserved g c =
     let more : take (at + 1) lines ≡ take at lines ++ line ∷ [] =
     ap (λ k. take k lines) next ∙ take-suc lines at line within ∙ ap (λ (l : Line Global). take at lines ++ l ∷ []) (sym c.index-lines-at.is) in
     record {
-      so_far = subst (λ (ls : List (Line Global)). HasWrittenLines ls c.args.kept.now c.explain_line.new.kept (g.W.Write.contents c.args.out.now) (g.W.Write.contents c.explain_line.new.out))
+      so_far = subst (λ (ls : List (Line Global)). HasWrittenLines g.T.Teller.tells ls c.args.kept.now c.explain_line.new.kept (g.W.Write.contents c.args.out.now)
+          (g.W.Write.contents c.explain_line.new.out))
           (sym more)
-          (lines_more c.args.kept.now _ (take at lines) line c.loop-at.kept _ _ _ c.loop-at.invariant.so_far c.in_ok-explain_line.ensures.told);
+          (lines_more g.T.Teller.tells c.args.kept.now _ (take at lines) line c.loop-at.kept _ _ _ c.loop-at.invariant.so_far c.in_ok-explain_line.ensures.told);
       run = c.in_ok-explain_line.ensures.run;
     }

@@ -3,7 +3,7 @@ use Rattle.hv_follow.proofs.Following.{SoFar}
 use Rattle.hv_follow.proofs.follow.follow.Given as goal
 
 abbrev pub invariant-loop-by : goal.invariant-loop-by
-invariant-loop-by g l = SoFar l.audit l.initial.kept (g.W.Write.contents l.initial.out) l.kept l.left (g.W.Write.contents l.out)
+invariant-loop-by g l = SoFar g.T.Teller.tells l.audit l.initial.kept (g.W.Write.contents l.initial.out) l.kept l.left (g.W.Write.contents l.out)
 
 abbrev pub decreases-loop-by : goal.decreases-loop-by
 decreases-loop-by g l = length l.left

@@ -1,5 +1,5 @@
 use Rattle.hv_explain.proofs.Written.{head_written, ok_then}
-use Rattle.hv_explain.proofs.line.put_head.Goals as goal
+use Rattle.hv_explain.proofs.explainer.put_head.Goals as goal
 
 pub returns : goal.returns
 returns g c =
