@@ -1,0 +1,5 @@
+mod Charted
+pub mod Joined
+mod Notes
+pub mod Parts
+pub mod Whole
