@@ -1,8 +1,6 @@
 -- A script that was run and drawn.
-use Rattle.std.proofs.Common.{◌≡◌, ℕ, ◌+◌, List, [], ◌++◌, length, sym, ap, ◌∙◌, subst, append_assoc, IfErr, IsOk, OnOk, Option, Result, Ok, Err, Global}
+use Rattle.std.proofs.Common.{◌≡◌, ℕ, List, ◌++◌, length, ap, ◌∙◌, append_assoc, IfErr, IsOk, OnOk, Option, Result, Ok, Err, Global}
 use Rattle.hv_history.specs.Kept.{IsRun, Kept}
-use Rattle.hv_history.specs.declared.entry.Entry.{Entry}
-use Rattle.hv_phases.specs.Lines.{AreInOrder}
 use Rattle.hv_partition.specs.Partition.{PartitionState}
 use Rattle.hv_run.specs.Failure.{exit_of}
 use Rattle.hv_run.specs.declared.failure.Exit.TheVariants.{Host, Script}

@@ -1,3 +1,4 @@
 mod Blocks
+mod Charting
 mod Drawing
 mod Ran

@@ -1,5 +1,5 @@
 -- The meaning of a drawing.
-use Rattle.std.specs.Prelude.{ℕ, ◌≡◌, ◌≤◌, ◌⊎◌, ◌+◌, List, [], ◌∷◌, ◌++◌, length, All, IfSome, Option, None}
+use Rattle.std.specs.Prelude.{ℕ, ◌≡◌, ◌≤◌, ◌⊎◌, ◌+◌, List, [], ◌∷◌, ◌++◌, length, All, Option, None}
 use Rattle.std.specs.Prelude.{Some, Ok}
 use Rattle.std.specs.FinMap.{entries, keys}
 use Rattle.std.specs.Io.KnownBytes.{Appends}

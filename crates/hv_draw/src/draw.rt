@@ -108,8 +108,8 @@ fn write_graph<W: Write>(alloc: Global, kept: &Kept<Global>, out: &mut W) -> Res
     }
 }
 
-// Writes a whole text.
-fn put<W: Write>(text: &[u8], out: &mut W) -> Result<(), Failure>
+/// Writes a whole text.
+pub(crate) fn put<W: Write>(text: &[u8], out: &mut W) -> Result<(), Failure>
     ensures told { OnOk result (Appends (W.contents out.old) (W.contents out.new) text.now) }
     ensures host { IfErr result (λ failure. exit_of failure ≡ Exit.Host) }
 {

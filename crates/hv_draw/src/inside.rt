@@ -168,8 +168,8 @@ fn push_gap(text: &mut Vec<u8>, told: usize) -> Result<(), AllocError> {
     push(text, b", ")
 }
 
-// Returns whether a flag below 2,048 is set.
-fn is_set(flags: &[u8; 256], flag: u16) -> bool {
+/// Returns whether a flag below 2,048 is set.
+pub(crate) fn is_set(flags: &[u8], flag: u16) -> bool {
     match flags.get(usize::from(flag / 8)) {
         Some(byte) => *byte >> (flag % 8) & 1 == 1,
         None => false,

@@ -1,18 +1,34 @@
-//! The state at the end of a script, as a graph for Graphviz: `hvpm draw SCRIPT`.
+//! The state at the end of a script, as a graph for Graphviz, and its run as a sequence chart: `hvpm draw`.
 //!
 //! [`draw_text`] runs the lines of a script in order and writes the graph. It has a cluster for each
 //! partition, by rising id, with a node for the partition, for each of its virtual processors and for each of
 //! its ports. An edge leads from each parent to its children, and from a partition to each port to which it
 //! is connected. `specs/Graph.antt` defines what the text promises: each partition has its node, with its
-//! life state, depth, mask and pages. The form of the graph is this project's own.
+//! life state, depth, mask and pages.
+//!
+//! [`sequence_text`] runs the lines and writes a sequence chart in SVG. It has a lane for each virtual
+//! processor that acts or is reached, and a row for each event that matters, from top to bottom: `charts` of
+//! `specs/Sequence.antt` says which. An arrow leads from the sender of a message or a signal to the processor
+//! that it reached. Both forms are this project's own.
 #![tactic(auto)]
 
+mod arrows;
+mod calls;
+mod chart;
 mod draw;
 mod graph;
+mod head;
 mod in_order;
 mod inside;
+mod lanes;
 mod links;
 mod made;
+mod notes;
+mod rowed;
+mod sequence;
+mod shapes;
 mod text;
+mod ways;
 
 pub use draw::draw_text;
+pub use sequence::sequence_text;

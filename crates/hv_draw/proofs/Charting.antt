@@ -1,0 +1,49 @@
+-- Texts that were written in parts.
+use Rattle.std.proofs.Common.{◌≡◌, ℕ, List, ◌++◌, sym, ap, ◌∙◌, subst, append_assoc, codes, decimal, Option}
+use Rattle.std.specs.Io.KnownBytes.{Appends}
+use Rattle.std.proofs.KnownBytes.{Appends-trans}
+use Rattle.hv_effect.specs.declared.effect.Effect.{Effect}
+use Rattle.hv_policy.specs.declared.event.Caller.{Caller}
+use Rattle.hv_policy.specs.declared.reply.Reply.{Reply}
+use Rattle.hv_draw.specs.Sequence.{IsChart, class_text, opening_text, reach_text, row_text}
+
+-- a chart is a head with its rows, and then its end
+pub chart_of : (head rows text whole : List ℕ) → text ≡ head ++ rows → whole ≡ text ++ codes "</svg>\n" → IsChart rows whole
+chart_of head rows text whole first second = record { head = head; is = second ∙ ap (λ (l : List ℕ). l ++ codes "</svg>\n") first }
+
+-- the beginning of a row was written by four writes
+pub opening_written : (u v w x y : Option (List ℕ)) (number vp : ℕ) (by : Caller) → vp ≡ by.vp → Appends u v (codes "<g id=\"e" ++ decimal number)
+    → Appends v w (codes "\" data-vp=\"" ++ decimal by.part) → Appends w x (codes "." ++ decimal vp) → Appends x y (codes "\" class=\"") → Appends u y (opening_text number by)
+unfolding opening_text
+opening_written u v w x y number vp by is first second third fourth =
+    let a = codes "<g id=\"e" ++ decimal number in
+    let q = codes "\" data-vp=\"" in
+    let p = decimal by.part in
+    let d = codes "." in
+    let c = codes "\" class=\"" in
+    let whole : (a ++ (q ++ p)) ++ (d ++ decimal vp) ≡ (a ++ q) ++ ((p ++ d) ++ decimal by.vp) =
+    ap (λ (k : ℕ). (a ++ (q ++ p)) ++ (d ++ decimal k)) is ∙ ap (λ (l : List ℕ). l ++ (d ++ decimal by.vp)) (sym (append_assoc a q p)) ∙ append_assoc (a ++ q) p (d ++ decimal by.vp)
+    ∙ ap (λ (l : List ℕ). (a ++ q) ++ l) (sym (append_assoc p d (decimal by.vp))) in
+    Appends-trans u x y ((a ++ q) ++ ((p ++ d) ++ decimal by.vp)) c
+    (subst (Appends u x) whole (Appends-trans u w x (a ++ (q ++ p)) (d ++ decimal vp) (Appends-trans u v w a (q ++ p) first second) third)) fourth
+
+-- a row was written by eight writes
+pub row_written : (s0 s1 s2 s3 s4 s5 s6 s7 s8 : Option (List ℕ)) (number : ℕ) (by : Caller) (reply : Reply) (effect : Effect) (own words own_shapes shapes : List ℕ) → own ≡ words → own_shapes ≡ shapes
+    → Appends s0 s1 (opening_text number by) → Appends s1 s2 (class_text reply) → Appends s2 s3 (reach_text effect) → Appends s3 s4 (codes "\"><title>") → Appends s4 s5 own
+    → Appends s5 s6 (codes "</title>") → Appends s6 s7 own_shapes → Appends s7 s8 (codes "</g>\n") → Appends s0 s8 (row_text number by reply effect words shapes)
+unfolding row_text
+row_written s0 s1 s2 s3 s4 s5 s6 s7 s8 number by reply effect own words own_shapes shapes is are w1 w2 w3 w4 w5 w6 w7 w8 =
+    let t1 = opening_text number by in
+    let t2 = t1 ++ class_text reply in
+    let t3 = t2 ++ reach_text effect in
+    let t4 = t3 ++ codes "\"><title>" in
+    let t5 = t4 ++ words in
+    let t6 = t5 ++ codes "</title>" in
+    let t7 = t6 ++ shapes in
+    let u2 = Appends-trans s0 s1 s2 t1 (class_text reply) w1 w2 in
+    let u3 = Appends-trans s0 s2 s3 t2 (reach_text effect) u2 w3 in
+    let u4 = Appends-trans s0 s3 s4 t3 (codes "\"><title>") u3 w4 in
+    let u5 = Appends-trans s0 s4 s5 t4 words u4 (subst (Appends s4 s5) is w5) in
+    let u6 = Appends-trans s0 s5 s6 t5 (codes "</title>") u5 w6 in
+    let u7 = Appends-trans s0 s6 s7 t6 shapes u6 (subst (Appends s6 s7) are w7) in
+    Appends-trans s0 s7 s8 t7 (codes "</g>\n") u7 w8

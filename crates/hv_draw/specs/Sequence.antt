@@ -1,0 +1,144 @@
+-- The text of a sequence chart.
+use Rattle.std.specs.Prelude.{ℕ, ◌≡◌, ◌++◌, ◌==◌, ◌||◌, List, [], codes, decimal, Bool, true, false, Option}
+use Rattle.std.specs.Prelude.{None, Some}
+use Rattle.std.specs.Io.KnownBytes.{Appends}
+use Rattle.std.specs.Option.{option_map_or}
+use Rattle.std.specs.declared.alloc.Global.{Global}
+use Rattle.hv_abi.specs.CallRow.{kind_of}
+use Rattle.hv_abi.specs.InputValue.{input_value}
+use Rattle.hv_abi.specs.declared.call_kind.CallKind.{CallKind}
+use Rattle.hv_abi.specs.declared.call_kind.CallKind.TheVariants as call
+use Rattle.hv_defs.specs.declared.registers.TheConstants.{EOM}
+use Rattle.hv_effect.specs.declared.effect.Effect.{Effect}
+use Rattle.hv_effect.specs.declared.effect.Effect.TheVariants as effect
+use Rattle.hv_explain.specs.Written.{HasExplainedText, Telling}
+use Rattle.hv_history.specs.declared.entry.Entry.{Entry}
+use Rattle.hv_policy.specs.Rule.{rule_name}
+use Rattle.hv_policy.specs.declared.event.Action.{Action}
+use Rattle.hv_policy.specs.declared.event.Action.TheVariants.{Hypercall, ReadMsr, WriteMsr, ReadSlot}
+use Rattle.hv_policy.specs.declared.event.Action.TheVariants.{ClearSlot, ReadFlags, ClearFlag, TakeInterrupt}
+use Rattle.hv_policy.specs.declared.event.Caller.{Caller}
+use Rattle.hv_policy.specs.declared.reply.Reply.{Reply}
+use Rattle.hv_policy.specs.declared.reply.Reply.TheVariants.{Served, More, Denied, Fault}
+use Rattle.hv_text.specs.Audit.{caller_text}
+use Rattle.hv_defs.specs.Registers.{name_of_msr}
+use Rattle.hv_words.specs.Words.{IsPlain}
+
+-- whether a call of this kind posts a message, signals, or makes or ends a partition, a processor, a port or
+-- a connection
+abbrev pub is_call_drawn : CallKind → Bool
+is_call_drawn call.CreatePartition = true
+is_call_drawn call.InitializePartition = true
+is_call_drawn call.FinalizePartition = true
+is_call_drawn call.DeletePartition = true
+is_call_drawn call.CreateVp = true
+is_call_drawn call.DeleteVp = true
+is_call_drawn call.CreatePort = true
+is_call_drawn call.DeletePort = true
+is_call_drawn call.ConnectPort = true
+is_call_drawn call.DisconnectPort = true
+is_call_drawn call.PostMessage = true
+is_call_drawn call.SignalEvent = true
+is_call_drawn call.GetPartitionProperty = false
+is_call_drawn call.SetPartitionProperty = false
+is_call_drawn call.GetPartitionId = false
+is_call_drawn call.GetNextChildPartition = false
+is_call_drawn call.DepositMemory = false
+is_call_drawn call.WithdrawMemory = false
+is_call_drawn call.GetMemoryBalance = false
+is_call_drawn call.GetVpRegisters = false
+is_call_drawn call.SetVpRegisters = false
+
+-- whether the model-specific register with this number is EOM
+abbrev pub is_eom : ℕ → Bool
+is_eom msr = option_map_or (λ name. name == EOM) (name_of_msr msr) false
+
+-- whether an event that asks for this has a row, whatever its effect is: such a call, or an access to a slot
+-- or to flags, a taken interrupt, or a write of EOM
+abbrev pub asks_row : Action Global → Bool
+asks_row (Hypercall frame) = option_map_or is_call_drawn (kind_of (input_value frame.rcx).call) false
+asks_row (ReadMsr msr) = false
+asks_row (WriteMsr msr value) = is_eom msr
+asks_row (ReadSlot sint) = true
+asks_row (ClearSlot sint) = true
+asks_row (ReadFlags sint) = true
+asks_row (ClearFlag sint flag) = true
+asks_row TakeInterrupt = true
+
+-- whether the effect is at one processor: a message, an event flag or a vector
+abbrev pub is_synic : Effect → Bool
+is_synic effect.Nothing = false
+is_synic (effect.Synic s) = true
+is_synic (effect.Page page owner pooled) = false
+is_synic (effect.Pages from to) = false
+is_synic (effect.Processor part vp) = false
+is_synic (effect.Partition part) = false
+
+-- whether an event has a row
+abbrev pub has_row : Action Global → Effect → Bool
+has_row what effect = asks_row what || is_synic effect
+
+-- the beginning of a row: the event's number and its processor
+unfoldable pub opening_text : ℕ → Caller → List ℕ
+opening_text number by = codes "<g id=\"e" ++ decimal number ++ codes "\" data-vp=\"" ++ caller_text by ++
+    codes "\" class=\""
+
+-- the class of a row: whether the event was served, or which rule refused it
+abbrev pub class_text : Reply → List ℕ
+class_text (Served output) = codes "served"
+class_text (More next output) = codes "served"
+class_text (Denied rule status reps) = codes "refused " ++ rule_name rule
+class_text (Fault rule) = codes "refused " ++ rule_name rule
+
+-- a class more if one more message waits
+abbrev pub waits_text : Option ℕ → List ℕ
+waits_text None = []
+waits_text (Some sint) = codes " waits"
+
+-- the processor at which an event changed a message, an event flag or a vector, if there is one
+abbrev pub reach_text : Effect → List ℕ
+reach_text effect.Nothing = []
+reach_text (effect.Synic s) = waits_text s.waiting ++ codes "\" data-at=\"" ++ decimal s.part ++ codes "." ++
+    decimal s.vp
+reach_text (effect.Page page owner pooled) = []
+reach_text (effect.Pages from to) = []
+reach_text (effect.Processor part vp) = []
+reach_text (effect.Partition part) = []
+
+-- the row of an event, with words about it and its shapes
+unfoldable pub row_text : ℕ → Caller → Reply → Effect → List ℕ → List ℕ → List ℕ
+row_text number by reply effect words shapes =
+    opening_text number by ++ class_text reply ++ reach_text effect ++ codes "\"><title>" ++ words ++ codes
+    "</title>" ++ shapes ++ codes "</g>\n"
+
+-- the text is the row of an event, which is one line
+pub record IsRow (number : ℕ) (e : Entry Global) (effect : Effect) (text : List ℕ) : Type 0 where
+  pub words : List ℕ
+  pub shapes : List ℕ
+  pub plain_words : IsPlain words
+  pub plain_shapes : IsPlain shapes
+  pub is : text ≡ row_text number e.event.by e.reply effect words shapes
+
+-- what a chart has of an event: its row, or nothing if it has none
+abbrev pub charts : Telling
+charts number e effect text =
+    (has_row e.event.what effect ≡ true → IsRow number e effect text) ×
+    (has_row e.event.what effect ≡ false → text ≡ [])
+
+-- the text is a chart with these rows: a head, the rows and an end
+pub record IsChart (rows text : List ℕ) : Type 0 where
+  pub head : List ℕ
+  pub is : text ≡ head ++ rows ++ codes "</svg>\n"
+
+-- the writer gets a chart with these rows
+pub record HasChart (rows : List ℕ) (before after : Option (List ℕ)) : Type 0 where
+  pub text : List ℕ
+  pub chart : IsChart rows text
+  pub wrote : Appends before after text
+
+-- the writer gets a chart of the run of the script with this text: the row of each event that has one, in
+-- order
+pub record HasSequence (script : List ℕ) (before after : Option (List ℕ)) : Type 0 where
+  pub rows : List ℕ
+  pub told : HasExplainedText charts script (Some []) (Some rows)
+  pub chart : HasChart rows before after

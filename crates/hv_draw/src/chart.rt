@@ -1,0 +1,193 @@
+// The rows of a sequence chart.
+ghost use Rattle.std.specs.Prelude.{◌++◌, decimal, OnOk};
+ghost use Rattle.std.specs.Io.KnownBytes.{Appends};
+ghost use Rattle.hv_words.specs.Words.{IsPlain};
+ghost use Rattle.hv_draw.specs.Sequence.{class_text, opening_text, reach_text, row_text, waits_text};
+
+use crate::arrows::push_arrow;
+use crate::lanes::Lanes;
+use crate::notes::push_note;
+use crate::rowed::has_row;
+use crate::shapes::{Place, push_number};
+use crate::ways::way_of;
+use hv_effect::Effect;
+use hv_explain::Teller;
+use hv_history::Kept;
+use hv_policy::{Action, Caller, Reply};
+use hv_reasons::push_event;
+use hv_refine::Partitions;
+use hv_words::Words;
+use itoa::Buffer;
+use std::alloc::{AllocError, Global};
+use std::io;
+use std::io::Write;
+
+/// Writes the row of each event that has one, in a line.
+#[derive(Drop)]
+pub(crate) struct Chart {
+    lanes: Lanes,
+    rows: u64,
+    words: Words,
+    shapes: Words,
+}
+
+impl Chart {
+    /// Creates a chart without rows.
+    pub(crate) fn new(alloc: Global) -> Chart {
+        Chart {
+            lanes: Lanes::new(alloc),
+            rows: 0,
+            words: Words::new(),
+            shapes: Words::new(),
+        }
+    }
+
+    /// The processors that have a lane.
+    pub(crate) fn lanes(&self) -> &[Caller] {
+        self.lanes.as_slice()
+    }
+
+    /// The number of rows.
+    pub(crate) fn rows(&self) -> u64 {
+        self.rows
+    }
+
+    // Draws the next row, of this event. These are the partitions after it.
+    fn draw(
+        &mut self,
+        tree: &Partitions<Global>,
+        number: u64,
+        by: Caller,
+        what: &Action<Global>,
+        reply: &Reply,
+        effect: &Effect,
+    ) -> Result<(), AllocError> {
+        let way = way_of(tree, by, what, reply);
+        let from = self.lanes.take(by)?;
+        let to = match way {
+            Some(way) => self.lanes.take(way.to)?,
+            None => from,
+        };
+        let place = Place::new(self.rows, from, to);
+        self.rows = self.rows.saturating_add(1);
+        self.shapes.clear();
+        push_number(&mut self.shapes, place, number);
+        match way {
+            Some(way) => push_arrow(&mut self.shapes, place, way, effect),
+            None => push_note(&mut self.shapes, place, by, what, reply, effect),
+        }
+        Ok(())
+    }
+}
+
+impl Teller for Chart {
+    ghost use Rattle.hv_draw.specs.Sequence.{charts};
+
+    ghost tells = { charts };
+
+    fn tell<W: Write>(
+        &mut self,
+        kept: &Kept<Global>,
+        number: u64,
+        by: Caller,
+        what: &Action<Global>,
+        reply: &Reply,
+        effect: &Effect,
+        out: &mut W,
+    ) -> io::Result<()> {
+        if !has_row(what, effect) {
+            return Ok(());
+        }
+        let tree = kept.machine().tree();
+        self.words.clear();
+        push_event(&mut self.words, tree, by, what, reply);
+        self.draw(tree, number, by, what, reply, effect)?;
+        put_row(out, number, by, reply, effect, &self.words, &self.shapes)
+    }
+}
+
+// Writes the row of an event, with these words about it and these shapes.
+fn put_row<W: Write>(
+    out: &mut W,
+    number: u64,
+    by: Caller,
+    reply: &Reply,
+    effect: &Effect,
+    words: &Words,
+    shapes: &Words,
+) -> io::Result<()>
+    ensures row { OnOk result (Appends (W.contents out.old) (W.contents out.new)
+        (row_text number by reply.now effect.now words.now shapes.now)) }
+    ensures words { IsPlain words.now }
+    ensures shapes { IsPlain shapes.now }
+{
+    let (words, shapes) = (words.as_slice(), shapes.as_slice());
+    put_opening(out, number, by)?;
+    put_class(out, reply)?;
+    put_reach(out, effect)?;
+    out.write_all(b"\"><title>")?;
+    out.write_all(words)?;
+    out.write_all(b"</title>")?;
+    out.write_all(shapes)?;
+    out.write_all(b"</g>\n")
+}
+
+// Writes the beginning of a row, up to its class.
+fn put_opening<W: Write>(out: &mut W, number: u64, by: Caller) -> io::Result<()>
+    ensures { OnOk result (Appends (W.contents out.old) (W.contents out.new) (opening_text number by)) }
+{
+    put_number(out, b"<g id=\"e", number)?;
+    put_number(out, b"\" data-vp=\"", by.part)?;
+    put_number(out, b".", u64::from(by.vp))?;
+    out.write_all(b"\" class=\"")
+}
+
+// Writes the class of a row: whether the event was served, or refused by which rule.
+fn put_class<W: Write>(out: &mut W, reply: &Reply) -> io::Result<()>
+    ensures { OnOk result (Appends (W.contents out.old) (W.contents out.new) (class_text reply.now)) }
+{
+    match reply {
+        Reply::Served(_) | Reply::More { .. } => out.write_all(b"served"),
+        Reply::Denied { rule, .. } | Reply::Fault { rule } => {
+            out.write_all(b"refused ")?;
+            out.write_all(rule.name().as_bytes())
+        }
+    }
+}
+
+// Writes at which processor a row's event changed something, and whether one more message waits there.
+fn put_reach<W: Write>(out: &mut W, effect: &Effect) -> io::Result<()>
+    ensures { OnOk result (Appends (W.contents out.old) (W.contents out.new) (reach_text effect.now)) }
+{
+    match effect {
+        Effect::Synic(synic) => {
+            put_waits(out, synic.waiting)?;
+            put_number(out, b"\" data-at=\"", synic.part)?;
+            put_number(out, b".", u64::from(synic.vp))
+        }
+        Effect::Nothing
+        | Effect::Page { .. }
+        | Effect::Pages { .. }
+        | Effect::Processor { .. }
+        | Effect::Partition { .. } => Ok(()),
+    }
+}
+
+// Writes a class more if one more message waits.
+fn put_waits<W: Write>(out: &mut W, waiting: Option<u8>) -> io::Result<()>
+    ensures { OnOk result (Appends (W.contents out.old) (W.contents out.new) (waits_text waiting)) }
+{
+    match waiting {
+        Some(_) => out.write_all(b" waits"),
+        None => Ok(()),
+    }
+}
+
+// Writes a mark and a number.
+fn put_number<W: Write>(out: &mut W, mark: &[u8], number: u64) -> io::Result<()>
+    ensures { OnOk result (Appends (W.contents out.old) (W.contents out.new) (mark.now ++ decimal number)) }
+{
+    let mut buffer = Buffer::new();
+    out.write_all(mark)?;
+    out.write_all(buffer.format(number).as_bytes())
+}
