@@ -6,16 +6,18 @@ _hvpm() {
         [[ $word == -* ]] || { command=$word; break; }
     done
     case $command in
-        "") words="run check explain serve draw help --help --version" ;;
+        "") words="run check explain trace serve draw asm help --help --version" ;;
         run) words="--serial --table --help" ;;
         check) words="--prefix --no-rules --help" ;;
-        draw) words="--at --help" ;;
-        explain | serve) words="--help" ;;
-        help) words="run check explain serve draw help" ;;
+        trace) words="--perfetto --help" ;;
+        serve) words="--json --help" ;;
+        draw) words="--at --sequence --help" ;;
+        explain | asm) words="--help" ;;
+        help) words="run check explain trace serve draw asm help" ;;
     esac
     mapfile -t COMPREPLY < <(compgen -W "$words" -- "$current")
     case $command in
-        run | check | explain | draw)
+        run | check | explain | trace | draw | asm)
             [[ $current == -* ]] || mapfile -t COMPREPLY < <(compgen -f -- "$current")
             ;;
     esac

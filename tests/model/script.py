@@ -1,4 +1,5 @@
 """Scripts and audits, as "Script" and "Audit" of docs/POLICY.md and docs/PROGRAM.md have them."""
+import json
 import re
 from functools import lru_cache
 from typing import NamedTuple
@@ -230,29 +231,61 @@ def run_serial(text, has_table):
     return Told(out, "history full", 3) if run.is_full else Told(out, "", 0)
 
 
-def serve(text):
-    """What `serve` tells of the lines on its standard input."""
+class Answer(NamedTuple):
+    """What a line of a session is answered: the lines of its events, then its fault or the table's lines."""
+
+    events: list = []
+    fault: str | None = None
+    table: list | None = None
+
+
+def answers(text):
+    """What a session answers to each line, and its number of events. After a last line feed comes an empty
+    line."""
     reader, run, out = Reader(), None, []
-    for at, line in enumerate(text.split("\n"), 1):
+    for line in text.split("\n"):
         words = [word for word in line.split(" ") if word]
         found = ("table",) if words[:1] == ["table"] else reader.read(line)
         if found == ("table",):
             found = table_fault(line, words, run) or found
+        answer = Answer()
         if isinstance(found, str):
-            out.append(f"fault: line {at}: {found}")
+            answer = Answer(fault=found)
         elif isinstance(found, Line):
-            out += run.lines(found)
-            if run.is_full:
-                out.append(f"fault: line {at}: history full")
+            events = list(run.lines(found))
+            answer = Answer(events, "history full" if run.is_full else None)
             run.is_full = False
         elif found == ("table",):
-            out += run.machine.table()
+            answer = Answer(table=list(run.machine.table()))
         elif found and found[0] == "boot":
             try:
                 run, reader.is_booted = Run(found[1:]), True
             except BootRefused as refused:
-                out.append(f"fault: line {at}: boot refused: {refused}")
-    return Told(joined([*out, f"events {run.events if run else 0}"]), "", 0)
+                answer = Answer(fault=f"boot refused: {refused}")
+        out.append(answer)
+    return out, run.events if run else 0
+
+
+def serve(text):
+    """What `serve` tells of the lines on its standard input."""
+    out, (told, events) = [], answers(text)
+    for at, answer in enumerate(told, 1):
+        out += answer.events
+        out += [f"fault: line {at}: {answer.fault}"] if answer.fault else answer.table or []
+    return Told(joined([*out, f"events {events}"]), "", 0)
+
+
+def serve_json(text):
+    """What `serve --json` tells of them."""
+    told, events = answers(text)
+    if not text or text.endswith("\n"):
+        told.pop()
+    out = [{"program": "hvpm", "version": "0.1.0"}]
+    for at, answer in enumerate(told, 1):
+        table = {} if answer.table is None else {"table": joined(answer.table)}
+        out.append({"line": at, "events": answer.events, "fault": answer.fault, **table})
+    out.append({"end": True, "events": events})
+    return Told(joined(json.dumps(line, separators=(",", ":")) for line in out), "", 0)
 
 
 def table_fault(line, words, run):

@@ -22,37 +22,58 @@ check_line = with_rule (with_rule (with_rule (with_rule (new_app (codes "check")
 abbrev pub explain_line : App
 explain_line = with_rule (with_rule (new_app (codes "explain")) script_rule) (audit_rule false)
 
+-- `trace SCRIPT AUDIT --perfetto`
+abbrev pub trace_line : App
+trace_line = with_rule (with_rule (with_rule (new_app (codes "trace")) script_rule) (audit_rule false))
+    (flag_rule (codes "perfetto"))
+
+-- `serve --json`
 abbrev pub serve_line : App
-serve_line = new_app (codes "serve")
+serve_line = with_rule (new_app (codes "serve")) (flag_rule (codes "json"))
 
 -- the option `--at N`
 abbrev pub at_rule : Rule
 at_rule = record (new_rule (codes "at")) { long = Some (codes "at"); value_names = 1 }
 
--- `draw SCRIPT --at N`
+-- `draw SCRIPT --at N --sequence`
 abbrev pub draw_line : App
-draw_line = with_rule (with_rule (new_app (codes "draw")) script_rule) at_rule
+draw_line = with_rule (with_rule (with_rule (new_app (codes "draw")) script_rule) at_rule)
+    (flag_rule (codes "sequence"))
+
+-- the argument FILE, which is required
+abbrev pub file_rule : Rule
+file_rule = record (new_rule (codes "FILE")) { required = true }
+
+-- `asm FILE`
+abbrev pub asm_line : App
+asm_line = with_rule (new_app (codes "asm")) file_rule
 
 -- the whole command line
 abbrev pub program_line : App
-program_line = with_subcommand (with_subcommand (with_subcommand (with_subcommand (with_subcommand bare_line
-    run_line.top) check_line.top) explain_line.top) serve_line.top) draw_line.top
+program_line = with_subcommand (with_subcommand (with_subcommand (with_subcommand (with_subcommand
+    (with_subcommand (with_subcommand bare_line run_line.top) check_line.top) explain_line.top)
+    trace_line.top) serve_line.top) draw_line.top) asm_line.top
 
 -- a request: a command, with the names of its files and its flags
 pub data Asked : Type 0 where
   Run : (script : Text) (serial table : Bool) → Asked
   Check : (script audit : Text) (prefix rules : Bool) → Asked
   Explain : (script : Text) (audit : Option Text) → Asked
-  Serve : Asked
-  Draw : (script : Text) (at : Option Text) → Asked
+  Trace : (script : Text) (audit : Option Text) (perfetto : Bool) → Asked
+  Serve : (json : Bool) → Asked
+  Draw : (script : Text) (at : Option Text) (sequence : Bool) → Asked
+  Asm : (file : Text) → Asked
 
 -- the request of a command
 abbrev pub asked_for : Command → Asked
 asked_for (command.Run options) = Run options.script.now options.serial options.table
 asked_for (command.Check script audit prefix rules) = Check script.now audit.now prefix rules
 asked_for (command.Explain script audit) = Explain script.now (option_map (λ name. name.now) audit)
-asked_for command.Serve = Serve
-asked_for (command.Draw script at) = Draw script.now (option_map (λ number. number.now) at)
+asked_for (command.Trace script audit perfetto) = Trace script.now (option_map (λ name. name.now) audit)
+    perfetto
+asked_for (command.Serve json) = Serve json
+asked_for (command.Draw script at sequence) = Draw script.now (option_map (λ number. number.now) at) sequence
+asked_for (command.Asm file) = Asm file.now
 
 -- what the arguments of each command ask for. A flag that was given has the value `true`
 abbrev pub script_in : List Row → Option Text
@@ -73,8 +94,19 @@ check_by rows = option_and_then (λ script. option_map (λ audit.
 abbrev pub explain_by : List Row → Option Asked
 explain_by rows = option_map (λ script. Explain script (audit_in rows)) (script_in rows)
 
+abbrev pub trace_by : List Row → Option Asked
+trace_by rows = option_map (λ script. Trace script (audit_in rows) (is_given (codes "perfetto") rows))
+    (script_in rows)
+
+abbrev pub serve_by : List Row → Asked
+serve_by rows = Serve (is_given (codes "json") rows)
+
 abbrev pub draw_by : List Row → Option Asked
-draw_by rows = option_map (λ script. Draw script (first_of (codes "at") rows)) (script_in rows)
+draw_by rows = option_map (λ script.
+    Draw script (first_of (codes "at") rows) (is_given (codes "sequence") rows)) (script_in rows)
+
+abbrev pub asm_by : List Row → Option Asked
+asm_by rows = option_map (λ file. Asm file) (first_of (codes "FILE") rows)
 
 -- what the subcommand of this name asks for with these arguments
 abbrev pub asked_by_rows : Text → List Row → Option Asked
@@ -82,8 +114,10 @@ asked_by_rows name rows =
     if bytes_eq name (codes "run") then run_by rows
     else (if bytes_eq name (codes "check") then check_by rows
     else (if bytes_eq name (codes "explain") then explain_by rows
-    else (if bytes_eq name (codes "serve") then Some Serve
-    else (if bytes_eq name (codes "draw") then draw_by rows else None))))
+    else (if bytes_eq name (codes "trace") then trace_by rows
+    else (if bytes_eq name (codes "serve") then Some (serve_by rows)
+    else (if bytes_eq name (codes "draw") then draw_by rows
+    else (if bytes_eq name (codes "asm") then asm_by rows else None))))))
 
 abbrev pub asked_by_entered : Option (Text × List Row) → Option Asked
 asked_by_entered entered = option_and_then (λ e. asked_by_rows e.0 e.1) entered

@@ -4,9 +4,10 @@ ghost use Rattle.clap.specs.Words.{app_of, first_of, found_of, rows_of, rule_of}
 ghost use Rattle.clap.specs.declared.builder.command.Command.TheViews.{out-Command as fields_of};
 ghost use Rattle.hv_options.specs.Options.{Explains, flag_rule};
 ghost use Rattle.hv_options.specs.Commands.{Asked, asked_by, asked_by_matches, asked_by_rows, asked_for};
-ghost use Rattle.hv_options.specs.Commands.{at_rule, audit_rule, check_by, check_line, draw_by, draw_line};
-ghost use Rattle.hv_options.specs.Commands.{explain_by, explain_line, program_faults, program_line, run_by};
-ghost use Rattle.hv_options.specs.Commands.{serve_line};
+ghost use Rattle.hv_options.specs.Commands.{asm_by, asm_line, at_rule, audit_rule, check_by, check_line};
+ghost use Rattle.hv_options.specs.Commands.{draw_by, draw_line, explain_by, explain_line, file_rule};
+ghost use Rattle.hv_options.specs.Commands.{program_faults, program_line, run_by, serve_by, serve_line};
+ghost use Rattle.hv_options.specs.Commands.{trace_by, trace_line};
 
 use crate::command_line::{VERSION, flag, is_given, refusal, run_command, script_argument};
 use crate::usage::{Command, Options, Usage};
@@ -40,7 +41,10 @@ fn program_line<'a>(alloc: Global) -> Result<Line<'a>, AllocError>
     let run = run_command(alloc)?;
     let check = check_command(alloc)?;
     let explain = explain_command(alloc)?;
+    let trace = trace_command(alloc)?;
+    let serve = serve_command(alloc)?;
     let draw = draw_command(alloc)?;
+    let asm = asm_command(alloc)?;
     Line::new(alloc, "hvpm")
         .version(VERSION)
         .about("Runs a script of hypercalls and accesses on a model of Hyper-V's partition manager")
@@ -48,8 +52,10 @@ fn program_line<'a>(alloc: Global) -> Result<Line<'a>, AllocError>
         .subcommand(run)?
         .subcommand(check)?
         .subcommand(explain)?
-        .subcommand(serve_command(alloc))?
-        .subcommand(draw)
+        .subcommand(trace)?
+        .subcommand(serve)?
+        .subcommand(draw)?
+        .subcommand(asm)
 }
 
 fn check_command<'a>(alloc: Global) -> Result<Line<'a>, AllocError>
@@ -78,12 +84,32 @@ fn explain_command<'a>(alloc: Global) -> Result<Line<'a>, AllocError>
         ))
 }
 
-// It has no arguments.
-fn serve_command<'a>(alloc: Global) -> Line<'a>
-    ensures shape { app_of result ≡ serve_line }
-    ensures local { (fields_of result).has_globals ≡ false }
+fn trace_command<'a>(alloc: Global) -> Result<Line<'a>, AllocError>
+    ensures shape { IfOk result (λ c. app_of c ≡ trace_line) }
+    ensures local { IfOk result (λ c. (fields_of c).has_globals ≡ false) }
 {
-    Line::new(alloc, "serve").about("Answers each line of standard input at once")
+    Line::new(alloc, "trace")
+        .about("Runs a script, and prints each event with its effect as JSON")
+        .arg(script_argument(alloc))?
+        .arg(audit_argument(
+            alloc,
+            false,
+            "An audit whose order the events take, or - for standard input",
+        ))?
+        .arg(flag(
+            alloc,
+            "perfetto",
+            "Print one trace for Perfetto or chrome://tracing",
+        ))
+}
+
+fn serve_command<'a>(alloc: Global) -> Result<Line<'a>, AllocError>
+    ensures shape { IfOk result (λ c. app_of c ≡ serve_line) }
+    ensures local { IfOk result (λ c. (fields_of c).has_globals ≡ false) }
+{
+    Line::new(alloc, "serve")
+        .about("Answers each line of standard input at once")
+        .arg(flag(alloc, "json", "Answer each line with one line of JSON"))
 }
 
 fn draw_command<'a>(alloc: Global) -> Result<Line<'a>, AllocError>
@@ -93,7 +119,31 @@ fn draw_command<'a>(alloc: Global) -> Result<Line<'a>, AllocError>
     Line::new(alloc, "draw")
         .about("Runs a script, and prints the state at its end as a graph for Graphviz")
         .arg(script_argument(alloc))?
-        .arg(at_option(alloc))
+        .arg(at_option(alloc))?
+        .arg(flag(
+            alloc,
+            "sequence",
+            "Print the messages and signals as a sequence chart in SVG",
+        ))
+}
+
+fn asm_command<'a>(alloc: Global) -> Result<Line<'a>, AllocError>
+    ensures shape { IfOk result (λ c. app_of c ≡ asm_line) }
+    ensures local { IfOk result (λ c. (fields_of c).has_globals ≡ false) }
+{
+    Line::new(alloc, "asm")
+        .about("Prints the script that a text with names of calls, fields and registers means")
+        .arg(file_argument(alloc))
+}
+
+// The text of `asm`, which can't be left out.
+fn file_argument<'a>(alloc: Global) -> Arg<'a>
+    ensures rule { rule_of result ≡ file_rule }
+    ensures local { result.global ≡ false }
+{
+    Arg::new(alloc, "FILE")
+        .required(true)
+        .help("The text's file, or - for standard input")
 }
 
 // The option `--at N`. Its value may be any text.
@@ -134,18 +184,15 @@ fn read<'a>(alloc: Global, matches: &ArgMatches<'a>) -> Result<Command<'a>, Usag
 fn read_named<'a>(name: &str, own: &ArgMatches<'a>) -> Option<Command<'a>>
     ensures { option_map asked_for result ≡ asked_by_rows name.now (rows_of (found_of own.now)) }
 {
-    if name == "run" {
-        read_run(own)
-    } else if name == "check" {
-        read_check(own)
-    } else if name == "explain" {
-        read_explain(own)
-    } else if name == "serve" {
-        Some(Command::Serve)
-    } else if name == "draw" {
-        read_draw(own)
-    } else {
-        None
+    match name {
+        "run" => read_run(own),
+        "check" => read_check(own),
+        "explain" => read_explain(own),
+        "trace" => read_trace(own),
+        "serve" => Some(read_serve(own)),
+        "draw" => read_draw(own),
+        "asm" => read_asm(own),
+        _ => None,
     }
 }
 
@@ -185,12 +232,45 @@ fn read_explain<'a>(own: &ArgMatches<'a>) -> Option<Command<'a>>
     Some(Command::Explain { script, audit })
 }
 
+fn read_trace<'a>(own: &ArgMatches<'a>) -> Option<Command<'a>>
+    ensures { option_map asked_for result ≡ trace_by (rows_of (found_of own.now)) }
+{
+    let script = value_in(own, "SCRIPT")?;
+    let audit = value_in(own, "AUDIT");
+    let perfetto = is_given(own, "perfetto");
+    Some(Command::Trace {
+        script,
+        audit,
+        perfetto,
+    })
+}
+
+fn read_serve<'a>(own: &ArgMatches<'a>) -> Command<'a>
+    ensures { asked_for result ≡ serve_by (rows_of (found_of own.now)) }
+{
+    Command::Serve {
+        json: is_given(own, "json"),
+    }
+}
+
 fn read_draw<'a>(own: &ArgMatches<'a>) -> Option<Command<'a>>
     ensures { option_map asked_for result ≡ draw_by (rows_of (found_of own.now)) }
 {
     let script = value_in(own, "SCRIPT")?;
     let at = value_in(own, "at");
-    Some(Command::Draw { script, at })
+    let sequence = is_given(own, "sequence");
+    Some(Command::Draw {
+        script,
+        at,
+        sequence,
+    })
+}
+
+fn read_asm<'a>(own: &ArgMatches<'a>) -> Option<Command<'a>>
+    ensures { option_map asked_for result ≡ asm_by (rows_of (found_of own.now)) }
+{
+    let file = value_in(own, "FILE")?;
+    Some(Command::Asm { file })
 }
 
 // The value of an argument, if it has one.

@@ -38,13 +38,30 @@ pub enum Command<'a> {
         script: &'a str,
         audit: Option<&'a str>,
     },
-    /// `serve`: answers each line of standard input at once.
-    Serve,
-    /// `draw SCRIPT [--at N]`: prints a state of a script as a graph.
+    /// `trace SCRIPT [AUDIT] [--perfetto]`: prints the events of a script with their effects as JSON, in the
+    /// order of an audit if one is named.
+    Trace {
+        script: &'a str,
+        audit: Option<&'a str>,
+        /// Whether it is one trace in the Chrome trace event form.
+        perfetto: bool,
+    },
+    /// `serve [--json]`: answers each line of standard input at once.
+    Serve {
+        /// Whether each answer is a line of JSON.
+        json: bool,
+    },
+    /// `draw SCRIPT [--at N] [--sequence]`: prints a state of a script as a graph.
     Draw {
         script: &'a str,
         /// The number of events before that state, as it was written. Without one, it is the last state.
         at: Option<&'a str>,
+        /// Whether the messages and signals are drawn in place of a state.
+        sequence: bool,
+    },
+    /// `asm FILE`: prints the script that a text with names means.
+    Asm {
+        file: &'a str,
     },
 }
 

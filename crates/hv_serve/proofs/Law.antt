@@ -27,6 +27,7 @@ use Rattle.hv_serve.proofs.Texts.{audited, drop_front, entries-append}
 use Rattle.hv_serve.specs.Law.{IsServed, done_in, is_done, script_in, told_in}
 use Rattle.hv_serve.specs.Meant.{Asks, Meant, Reads, asks_table, meant, table_line}
 use Rattle.hv_serve.specs.Session.{AreTurns, Becomes, HasCome, HasDone, IsBooted, IsTurn, Served, Turn, answer_of, answers_in, end_text, history_of, kept_of, lines_in, new_text, read_of}
+use Rattle.hv_serve.specs.declared.form.Form.TheVariants.{Text}
 use Rattle.hv_serve.specs.declared.outcome.Outcome.{Outcome}
 use Rattle.hv_serve.specs.declared.outcome.Outcome.TheVariants.{Done, Table, Fault, Boot, Host}
 
@@ -175,15 +176,16 @@ shape : (t : Bool) (turn : Turn) (rest : List Turn) → is_done turn.outcome ≡
 shape t turn rest same = ap (λ (b : Bool). if b then turn ∷ rest else rest) same
 
 -- the answer of a line that is done is the audit's lines of what it adds
-answer_is : (number : ℕ) (before mid : Option Served) (turn : Turn) (own : List (Entry Global)) → turn.answer ≡ answer_of number (length (history_of (kept_of before))) turn.outcome (kept_of mid) →
+answer_is : (number : ℕ) (before mid : Option Served) (turn : Turn) (own : List (Entry Global)) → turn.answer ≡ answer_of Text number (length (history_of (kept_of before))) turn.outcome (kept_of mid)
+    →
     turn.outcome ≡ Done
     → history_of (kept_of mid) ≡ history_of (kept_of before) ++ own → turn.answer ≡ entries_text (length (history_of (kept_of before)) + 1) own
 answer_is number before mid turn own answer done grown =
     let k = length (history_of (kept_of before)) in
-    answer ∙ ap (λ (o : Outcome). answer_of number k o (kept_of mid)) done ∙ append-nil (new_text k (kept_of mid))
+    answer ∙ ap (λ (o : Outcome). answer_of Text number k o (kept_of mid)) done ∙ append-nil (new_text k (kept_of mid))
     ∙ ap (entries_text (k + 1)) (ap (drop k) grown ∙ drop_front (history_of (kept_of before)) own)
 
-comes-then : (number : ℕ) (before mid after : Option Served) (turn : Turn) (rest : List Turn) → IsTurn number before turn mid → turn.outcome ≡ Done → Comes mid rest after
+comes-then : (number : ℕ) (before mid after : Option Served) (turn : Turn) (rest : List Turn) → IsTurn Text number before turn mid → turn.outcome ≡ Done → Comes mid rest after
     → Comes before (turn ∷ rest) after
 comes-then number before mid after turn rest is done more =
     let becomes : Becomes before (meant (read_of before) turn.line) Done mid = subst (λ (o : Outcome). Becomes before (meant (read_of before) turn.line) o mid) done
@@ -207,7 +209,8 @@ comes-then number before mid after turn rest is done more =
 abbrev WasServed : Turn → Type 0
 WasServed turn = IsServed turn.outcome
 
-comes : (number : ℕ) (before : Option Served) (turns : List Turn) (after : Option Served) → IsRunOf before → AreTurns number before turns after → All WasServed turns → Comes before (done_in turns)
+comes : (number : ℕ) (before : Option Served) (turns : List Turn) (after : Option Served) → IsRunOf before → AreTurns Text number before turns after → All WasServed turns
+    → Comes before (done_in turns)
     after
 comes number before [] after run none all = subst (Comes before []) (sym none) (comes-nothing before run)
 comes number before (turn ∷ turns) after run some all =
@@ -229,7 +232,7 @@ all_if : (t : Bool) (turn : Turn) (rest : List Turn) → IsOne turn.line → All
 all_if true turn rest one ones = All-cons IsOne turn.line (lines_in rest) one ones
 all_if false turn rest one ones = ones
 
-ones : (number : ℕ) (before : Option Served) (turns : List Turn) (after : Option Served) → AreTurns number before turns after → All IsOne (lines_in (done_in turns))
+ones : (number : ℕ) (before : Option Served) (turns : List Turn) (after : Option Served) → AreTurns Text number before turns after → All IsOne (lines_in (done_in turns))
 ones number before [] after none = All-nil IsOne
 ones number before (turn ∷ turns) after some =
     all_if (is_done turn.outcome) turn (done_in turns) some.1.one (ones (number + 1) some.0 turns after some.2)
@@ -251,7 +254,7 @@ scripted text lines read most cut same =
     ∙ ap (λ (r : Result (Option (SoFar Global)) ScriptFault). r >>= (λ (r : Option (SoFar Global)). said_by r)) same
 
 -- the lines that were done are a script, and what they were answered is its audit
-pub serial : (turns : List Turn) (now : Served) → AreTurns 1 None turns (Some now) → All WasServed turns → length (script_in turns) ≤ MOST_BYTES
+pub serial : (turns : List Turn) (now : Served) → AreTurns Text 1 None turns (Some now) → All WasServed turns → length (script_in turns) ≤ MOST_BYTES
     → (old new : Option (List ℕ)) → Appends old new (told_in turns ++ end_text (length now.kept.history)) → HasWritten (script_in turns) true false old new
 serial turns now are served most old new told =
     let all = comes 1 None turns (Some now) tt are served in
@@ -295,7 +298,7 @@ all_served (turn ∷ turns) all =
     All-cons WasServed turn turns (served_if turn.outcome (All-head WasDone turn turns all)) (all_served turns (All-tail WasDone turn turns all))
 
 -- all that was written is, where all lines were done
-pub whole : (text : List ℕ) (turns : List Turn) (now : Served) → AreTurns 1 None turns (Some now) → All WasDone turns → length text ≤ MOST_BYTES → text ≡ join_with_byte 10 (lines_in turns)
+pub whole : (text : List ℕ) (turns : List Turn) (now : Served) → AreTurns Text 1 None turns (Some now) → All WasDone turns → length text ≤ MOST_BYTES → text ≡ join_with_byte 10 (lines_in turns)
     → (old new : Option (List ℕ)) → Appends old new (answers_in turns ++ end_text (length now.kept.history)) → HasWritten text true false old new
 whole text turns now are all most is old new told =
     let same = all_done turns all in

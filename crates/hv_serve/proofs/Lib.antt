@@ -3,10 +3,12 @@ pub mod Becoming
 pub mod Benches
 pub mod Law
 pub mod Lines
+pub mod Objects
 pub mod Order
 pub mod Reading
 pub mod Says
 pub mod Sent
+pub mod Strings
 pub mod Takes
 pub mod Texts
 pub mod Turning

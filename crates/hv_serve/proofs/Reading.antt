@@ -1,7 +1,9 @@
 -- A line as it comes in.
-use Rattle.std.proofs.Common.{◌≡◌, ◌≢◌, ◌≤◌, ◌<◌, ℕ, List, [], ◌∷◌, ◌++◌, length, refl, sym, ap, ◌∙◌, subst, arith, append-nil, length-append, Bool, true, false, Option, Some, None}
+use Rattle.std.proofs.Common.{◌≡◌, ◌≢◌, ◌==◌, ◌≤◌, ◌<◌, ◌&&◌, not, is_some, ℕ, suc, List, [], ◌∷◌, ◌++◌, length, refl, sym, ap, ◌∙◌, subst, arith, append-nil, length-append, Bool, true, false}
+use Rattle.std.proofs.Common.{Option, Some, None}
 use Rattle.std.specs.Io.KnownBytes.{Consumes, IsAtEnd}
 use Rattle.std.proofs.KnownBytes.{Consumes-nil, Consumes-trans}
+use Rattle.std.proofs.lemmas.Bool.Decides.{nat_tests}
 use Rattle.std.proofs.lemmas.List.Elements.{All-nil, All-push}
 use Rattle.hv_script.specs.declared.fault.FaultKind.{FaultKind}
 use Rattle.hv_script.specs.declared.fault.FaultKind.TheVariants.{Long, Memory}
@@ -58,11 +60,23 @@ pub keeps_byte : (bytes kept next : List ℕ) (byte : ℕ) → next ≡ kept ++ 
 keeps_byte bytes kept next byte pushed room are =
     (pushed ∙ ap (λ (l : List ℕ). l ++ byte ∷ []) are.0, omega (arith, ap length are.0, length-append bytes (byte ∷ []), room))
 
-pub loses_byte : (bytes kept next : List ℕ) (byte : ℕ) → MOST_BYTES ≤ length kept → AreKept bytes kept None → AreKept (bytes ++ byte ∷ []) next (Some Long)
-loses_byte bytes kept next byte full are = λ _. (refl, omega (arith, ap length are.0, length-append bytes (byte ∷ []), full))
+not_none : (bytes : List ℕ) (byte : ℕ) → bytes ++ byte ∷ [] ≢ []
+not_none bytes byte = λ none. let count = ap length none in omega (arith, length-append bytes (byte ∷ []))
 
-pub lacks_memory : (bytes next : List ℕ) → AreKept bytes next (Some Memory)
-lacks_memory bytes next = λ apart. absurd (apart refl)
+pub loses_byte : (bytes kept next : List ℕ) (byte : ℕ) → MOST_BYTES ≤ length kept → AreKept bytes kept None → AreKept (bytes ++ byte ∷ []) next (Some Long)
+loses_byte bytes kept next byte full are = (not_none bytes byte, λ _. (refl, omega (arith, ap length are.0, length-append bytes (byte ∷ []), full)))
+
+pub lacks_memory : (bytes next : List ℕ) (byte : ℕ) → AreKept (bytes ++ byte ∷ []) next (Some Memory)
+lacks_memory bytes next byte = (not_none bytes byte, λ apart. absurd (apart refl))
 
 pub still_lost : (bytes kept next : List ℕ) (byte : ℕ) (kind : FaultKind) → AreKept bytes kept (Some kind) → AreKept (bytes ++ byte ∷ []) next (Some kind)
-still_lost bytes kept next byte kind are = λ apart. let is = are apart in (is.0, (let more = is.1 in omega (arith, length-append bytes (byte ∷ []))))
+still_lost bytes kept next byte kind are = (not_none bytes byte, λ apart. let is = are.1 apart in (is.0, (let more = is.1 in omega (arith, length-append bytes (byte ∷ [])))))
+
+-- the last line has no bytes
+pub is_none : (bytes line : List ℕ) (lost : Option FaultKind) → AreKept bytes line lost → (not (is_some lost) && (length line == 0)) ≡ (length bytes == 0)
+is_none bytes line None are = ap (λ (l : List ℕ). length l == 0) are.0
+is_none [] line (Some kind) are = absurd (are.0 refl)
+is_none (byte ∷ bytes) line (Some kind) are = some (length bytes)
+  where
+    some : (n : ℕ) → false ≡ (suc n == 0)
+    some n = grind (arith, nat_tests)

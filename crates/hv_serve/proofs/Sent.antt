@@ -1,5 +1,5 @@
 -- What went out, part by part.
-use Rattle.std.proofs.Common.{ℕ, List, ◌++◌, Option, Result, Ok, Err, OnOk}
+use Rattle.std.proofs.Common.{ℕ, List, ◌++◌, Option}
 use Rattle.std.specs.Io.KnownBytes.{Appends}
 use Rattle.std.proofs.KnownBytes.{Appends-trans}
 
@@ -8,8 +8,3 @@ three a b c d u v w p q r = Appends-trans a c d (u ++ v) w (Appends-trans a b c 
 
 pub five : (a b c d e f : Option (List ℕ)) (u v w x y : List ℕ) → Appends a b u → Appends b c v → Appends c d w → Appends d e x → Appends e f y → Appends a f (u ++ v ++ w ++ x ++ y)
 five a b c d e f u v w x y p q r s t = Appends-trans a e f (u ++ v ++ w ++ x) y (Appends-trans a d e (u ++ v ++ w) x (three a b c d u v w p q r) s) t
-
--- what holds in any case
-pub in_any : {T F : Type 0} (r : Result T F) (P : Type 0) → P → OnOk r P
-in_any (Ok value) P holds = holds
-in_any (Err failure) P holds = tt

@@ -1,5 +1,5 @@
 -- How a line is taken, from its bytes to its answer.
-use Rattle.std.proofs.Common.{◌≡◌, ◌≢◌, ◌==◌, ◌≤◌, ℕ, false, List, length, refl, sym, ap, ◌∙◌, subst, arith, Option, Some, None, Result, Ok, Err, codes}
+use Rattle.std.proofs.Common.{◌≡◌, ◌≢◌, ◌==◌, ◌≤◌, ℕ, Bool, false, List, [], length, if◌then◌else◌, refl, sym, ap, ◌∙◌, subst, arith, Option, Some, None, Result, Ok, Err, codes}
 use Rattle.std.specs.Io.KnownBytes.{Appends}
 use Rattle.hv_script.specs.Cursor.{line_of, words_read}
 use Rattle.hv_script.specs.Line.{◌>>=◌}
@@ -15,8 +15,9 @@ use Rattle.hv_serve.specs.Bench.{HasBecome, HasTaken, IsBench, IsToldAs, StandsF
 use Rattle.hv_serve.specs.Input.{AreKept, HasLine}
 use Rattle.hv_serve.specs.Meant.{Meant, meant}
 use Rattle.hv_serve.specs.Session.{Served, answer_of, history_of, kept_of, read_of}
-use Rattle.hv_serve.specs.Turned.{HasTurned}
+use Rattle.hv_serve.specs.Turned.{HasTurned, is_silent}
 use Rattle.hv_serve.specs.declared.bench.Bench.{Bench}
+use Rattle.hv_serve.specs.declared.form.Form.{Form}
 use Rattle.hv_serve.specs.declared.input.LineEnd.{LineEnd}
 use Rattle.hv_serve.specs.declared.outcome.Outcome.{Outcome}
 
@@ -61,22 +62,25 @@ kept_line old new before bytes line result stands one kept taken =
 pub lost_line : (bench : Option Bench) (before : Option Served) (bytes kept : List ℕ) (kind : FaultKind) → StandsFor bench before → AreKept bytes kept (Some kind)
     → HasTaken before (meant (read_of before) bytes) bench (Err kind)
 lost_line bench before bytes kept kind stands lost =
-    (stands, λ apart. long_says (read_of before) bytes (lost apart).1 ∙ ap Err (sym (lost apart).0))
+    (stands, λ apart. long_says (read_of before) bytes (lost.1 apart).1 ∙ ap Err (sym (lost.1 apart).0))
 
--- the line of a number, read, done and answered
-pub turned : (number count : ℕ) (before : Option Served) (old new : Option Bench) (line : List ℕ) (end : LineEnd) (input rest from to : Option (List ℕ)) (outcome told : Outcome)
-    → StandsFor old before → (came : HasLine line end input rest) → HasBecome before (meant (read_of before) came.bytes) outcome new → count ≡ length (history_of (kept_in old))
-    → IsToldAs outcome told → Appends from to (answer_of number count told (kept_in new)) → HasTurned number before end.last new input rest from to
-turned number count before old new line end input rest from to outcome told stands came has counted told_as went =
+-- the line of a number, read, done and answered, unless it has no answer
+pub turned : (form : Form) (number count : ℕ) (before : Option Served) (old new : Option Bench) (line : List ℕ) (end : LineEnd) (input rest from to : Option (List ℕ)) (outcome told : Outcome)
+    (silent : Bool)
+    → StandsFor old before → (came : HasLine line end input rest) → silent ≡ is_silent form end.last came.bytes → HasBecome before (meant (read_of before) came.bytes) outcome new
+    → count ≡ length (history_of (kept_in old)) → IsToldAs outcome told → Appends from to (if silent then [] else answer_of form number count told (kept_in new))
+    → HasTurned form number before end.last new input rest from to
+turned form number count before old new line end input rest from to outcome told silent stands came is has counted told_as went =
     let become = told_becomes before (meant (read_of before) came.bytes) new outcome told has told_as in
     let counts : count ≡ length (history_of (kept_of before)) = counted ∙ ap (λ k. length (history_of k)) (same_kept old before stands) in
-    let answer : answer_of number count told (kept_in new) ≡ answer_of number (length (history_of (kept_of before))) told (kept_of become.after) =
-    ap (λ (n : ℕ). answer_of number n told (kept_in new)) counts ∙ ap (answer_of number (length (history_of (kept_of before))) told) (same_kept new become.after become.stands) in
+    let now : List ℕ = answer_of form number (length (history_of (kept_of before))) told (kept_of become.after) in
+    let answer : answer_of form number count told (kept_in new) ≡ now =
+    ap (λ (n : ℕ). answer_of form number n told (kept_in new)) counts ∙ ap (answer_of form number (length (history_of (kept_of before))) told) (same_kept new become.after become.stands) in
     record {
-      turn = record { line = came.bytes; outcome = told; answer = answer_of number (length (history_of (kept_of before))) told (kept_of become.after) };
+      turn = record { line = came.bytes; outcome = told; answer = now };
       after = become.after;
       stands = become.stands;
       is = record { one = came.one; becomes = become.becomes; answer = refl };
       ended = came.ended;
-      told = subst (Appends from to) answer went;
+      told = subst (λ (s : Bool). Appends from to (if s then [] else now)) is (subst (λ (a : List ℕ). Appends from to (if silent then [] else a)) answer went);
     }

@@ -24,7 +24,7 @@ pub audited : (es : List (Entry Global)) → entries_text 1 es ++ end_text (leng
 unfolding audit_text end_text
 audited es = ended (entries_text 1 es) (codes "events ") (decimal (length es)) (codes "\n")
 
-get_drop : {X : Type 0} (b : ℕ) (es : List X) (k : ℕ) → slice_get (drop b es) k ≡ slice_get es (b + k)
+pub get_drop : {X : Type 0} (b : ℕ) (es : List X) (k : ℕ) → slice_get (drop b es) k ≡ slice_get es (b + k)
 get_drop zero es k = ap (slice_get es) (omega arith)
 get_drop (suc b) [] k = refl
 get_drop (suc b) (e ∷ es) k =

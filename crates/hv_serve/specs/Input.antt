@@ -12,10 +12,11 @@ abbrev pub IsNext : Option ℕ → Option (List ℕ) → Option (List ℕ) → T
 IsNext None old new = Consumes old new [] × IsAtEnd new
 IsNext (Some byte) old new = Consumes old new (byte ∷ [])
 
--- these bytes of a line were kept, unless they are more than a script may have, or memory ran out
+-- these bytes of a line were kept. They are lost if they are more than a script may have, or if there is no
+-- memory for one of them
 abbrev pub AreKept : List ℕ → List ℕ → Option FaultKind → Type 0
 AreKept bytes kept None = (kept ≡ bytes) × (length bytes ≤ MOST_BYTES)
-AreKept bytes kept (Some kind) = kind ≢ Memory → (kind ≡ Long) × (MOST_BYTES < length bytes)
+AreKept bytes kept (Some kind) = (bytes ≢ []) × (kind ≢ Memory → (kind ≡ Long) × (MOST_BYTES < length bytes))
 
 -- these bytes were read, and then the input's end, or a line feed
 abbrev pub HasEnded : Bool → List ℕ → Option (List ℕ) → Option (List ℕ) → Type 0

@@ -1,6 +1,7 @@
 pub mod Acts
 pub mod Bench
 pub mod Input
+pub mod Json
 pub mod Law
 pub mod Meant
 pub mod Outcome

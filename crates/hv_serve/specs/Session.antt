@@ -1,6 +1,6 @@
 -- A session: its lines, the outcome of each, and the answer to each.
-use Rattle.std.specs.Prelude.{ℕ, ◌≡◌, ◌≢◌, ◌⊎◌, ◌↔◌, ◌+◌, ◌++◌, List, [], ◌∷◌, length, drop, map, codes}
-use Rattle.std.specs.Prelude.{decimal, All, IfSome, Option, Some, None, Result, Ok, Err}
+use Rattle.std.specs.Prelude.{ℕ, ◌≡◌, ◌≢◌, ◌⊎◌, ◌↔◌, ◌==◌, ◌+◌, ◌++◌, List, [], ◌∷◌, length, drop, map, codes}
+use Rattle.std.specs.Prelude.{decimal, All, IfSome, Option, Some, None, Result, Ok, Err, if◌then◌else◌}
 use Rattle.std.specs.Io.KnownBytes.{Appends}
 use Rattle.std.specs.List.{join_with_byte}
 use Rattle.std.specs.declared.alloc.Global.{Global}
@@ -20,8 +20,11 @@ use Rattle.hv_shared.specs.ByCaller.{receipts_by}
 use Rattle.hv_text.specs.Audit.{entries_text}
 use Rattle.hv_text.specs.Table.{table_text}
 use Rattle.hv_threads.specs.Perform.{IsStopped}
+use Rattle.hv_serve.specs.Json.{end_object, events_value, greeting_text, object_text}
 use Rattle.hv_serve.specs.Meant.{Asks, Meant, Reads, meant}
 use Rattle.hv_serve.specs.Outcome.{fault_text}
+use Rattle.hv_serve.specs.declared.form.Form.{Form}
+use Rattle.hv_serve.specs.declared.form.Form.TheVariants.{Text, Json}
 use Rattle.hv_serve.specs.declared.outcome.Outcome.{Outcome}
 use Rattle.hv_serve.specs.declared.outcome.Outcome.TheVariants.{Done, Table, Fault, Boot, Host}
 
@@ -131,9 +134,12 @@ abbrev pub new_text : ℕ → Option (Kept Global) → List ℕ
 new_text before now = entries_text (before + 1) (drop before (history_of now))
 
 -- the answer to the line with this number, before which this number of events had happened: the audit's lines
--- of the entries that it adds, then the table that it asks for, or why it wasn't done
-abbrev pub answer_of : ℕ → ℕ → Outcome → Option (Kept Global) → List ℕ
-answer_of number before outcome now = new_text before now ++ told_of number outcome now
+-- of the entries that it adds, then the table that it asks for, or why it wasn't done. In JSON all of them
+-- stand in one object
+abbrev pub answer_of : Form → ℕ → ℕ → Outcome → Option (Kept Global) → List ℕ
+answer_of Text number before outcome now = new_text before now ++ told_of number outcome now
+answer_of Json number before outcome now = object_text number
+    (events_value (before + 1) (drop before (history_of now))) outcome (table_of now)
 
 -- a line without its line feed, its outcome, and the answer to it
 pub record Turn : Type 0 where
@@ -142,17 +148,18 @@ pub record Turn : Type 0 where
   pub answer : List ℕ
 
 -- the line with this number, with its outcome and its answer
-pub record IsTurn (number : ℕ) (before : Option Served) (turn : Turn) (after : Option Served) : Type 0 where
+pub record IsTurn (form : Form) (number : ℕ) (before : Option Served) (turn : Turn) (after : Option Served) :
+    Type 0 where
   pub one : All (λ byte. byte ≢ 10) turn.line
   pub becomes : Becomes before (meant (read_of before) turn.line) turn.outcome after
-  pub answer : turn.answer ≡ answer_of number (length (history_of (kept_of before))) turn.outcome
+  pub answer : turn.answer ≡ answer_of form number (length (history_of (kept_of before))) turn.outcome
       (kept_of after)
 
 -- the lines one after another. The first one has this number
-abbrev pub AreTurns : ℕ → Option Served → List Turn → Option Served → Type 0
-AreTurns number before [] after = after ≡ before
-AreTurns number before (turn ∷ turns) after = (mid : Option Served) × IsTurn number before turn mid × AreTurns
-    (number + 1) mid turns after
+abbrev pub AreTurns : Form → ℕ → Option Served → List Turn → Option Served → Type 0
+AreTurns form number before [] after = after ≡ before
+AreTurns form number before (turn ∷ turns) after = (mid : Option Served) × IsTurn form number before turn mid
+    × AreTurns form (number + 1) mid turns after
 
 -- the lines, and their answers one after another
 abbrev pub lines_in : List Turn → List (List ℕ)
@@ -166,11 +173,24 @@ answers_in (turn ∷ turns) = turn.answer ++ answers_in turns
 unfoldable pub end_text : ℕ → List ℕ
 end_text count = codes "events " ++ decimal count ++ codes "\n"
 
--- the input consists of these lines, with a line feed between each two. The writer gets their answers, and
--- then the number of events
-pub record HasServed (input old new : Option (List ℕ)) : Type 0 where
+-- the lines that have an answer in JSON: each, but not the last one if it is empty. That is no line of the
+-- input, but its end after a line feed
+abbrev pub answered : List Turn → List Turn
+answered [] = []
+answered (turn ∷ []) = if length turn.line == 0 then [] else turn ∷ []
+answered (turn ∷ next ∷ turns) = turn ∷ answered (next ∷ turns)
+
+-- what the writer gets for these lines: their answers, and then the number of events. In JSON the program
+-- names itself first
+abbrev pub told_by : Form → List Turn → ℕ → List ℕ
+told_by Text turns count = answers_in turns ++ end_text count
+told_by Json turns count = greeting_text ++ answers_in (answered turns) ++ end_object count
+
+-- the input consists of these lines, with a line feed between each two, and the writer gets what they are
+-- answered
+pub record HasServed (form : Form) (input old new : Option (List ℕ)) : Type 0 where
   pub turns : List Turn
   pub now : Option Served
-  pub served : AreTurns 1 None turns now
+  pub served : AreTurns form 1 None turns now
   pub whole : IfSome input (λ text. text ≡ join_with_byte 10 (lines_in turns))
-  pub told : Appends old new (answers_in turns ++ end_text (length (history_of (kept_of now))))
+  pub told : Appends old new (told_by form turns (length (history_of (kept_of now))))

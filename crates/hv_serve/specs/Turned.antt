@@ -1,20 +1,39 @@
 -- A session in progress. Only contracts of private functions cite these words.
-use Rattle.std.specs.Prelude.{ℕ, ◌≡◌, ◌+◌, ◌++◌, List, [], ◌∷◌, length, Bool, Option, None}
+use Rattle.std.specs.Prelude.{ℕ, ◌≡◌, ◌==◌, ◌+◌, ◌++◌, List, [], ◌∷◌, length, if◌then◌else◌}
+use Rattle.std.specs.Prelude.{Bool, true, false, Option, None}
 use Rattle.std.specs.Io.KnownBytes.{Appends, Consumes}
 use Rattle.hv_serve.specs.Bench.{StandsFor}
 use Rattle.hv_serve.specs.Input.{HasEnded}
-use Rattle.hv_serve.specs.Session.{AreTurns, IsTurn, Served, Turn, answers_in}
+use Rattle.hv_serve.specs.Json.{end_object, greeting_text}
+use Rattle.hv_serve.specs.Session.{AreTurns, IsTurn, Served, Turn, answers_in, end_text}
 use Rattle.hv_serve.specs.declared.bench.Bench.{Bench}
+use Rattle.hv_serve.specs.declared.form.Form.{Form}
+use Rattle.hv_serve.specs.declared.form.Form.TheVariants.{Text, Json}
+
+-- what the writer gets before all answers, and after them
+abbrev pub greeting : Form → List ℕ
+greeting Text = []
+greeting Json = greeting_text
+
+abbrev pub closing : Form → ℕ → List ℕ
+closing Text count = end_text count
+closing Json count = end_object count
+
+-- a line has no answer. It is the last one, or not
+abbrev pub is_silent : Form → Bool → List ℕ → Bool
+is_silent Text last line = false
+is_silent Json false line = false
+is_silent Json true line = length line == 0
 
 -- the line with this number was read and answered. It was the last one, or not
-pub record HasTurned (number : ℕ) (before : Option Served) (last : Bool) (bench : Option Bench)
+pub record HasTurned (form : Form) (number : ℕ) (before : Option Served) (last : Bool) (bench : Option Bench)
     (input rest old new : Option (List ℕ)) : Type 0 where
   pub turn : Turn
   pub after : Option Served
   pub stands : StandsFor bench after
-  pub is : IsTurn number before turn after
+  pub is : IsTurn form number before turn after
   pub ended : HasEnded last turn.line input rest
-  pub told : Appends old new turn.answer
+  pub told : Appends old new (if is_silent form last turn.line then [] else turn.answer)
 
 -- the lines of the input, each with its line feed
 abbrev pub closed : List Turn → List ℕ
@@ -22,11 +41,12 @@ closed [] = []
 closed (turn ∷ turns) = turn.line ++ (10 ∷ []) ++ closed turns
 
 -- the lines before the one with this number were read and answered
-pub record IsServing (number : ℕ) (bench : Option Bench) (input rest old new : Option (List ℕ)) : Type 0 where
+pub record IsServing (form : Form) (number : ℕ) (bench : Option Bench)
+    (input rest old new : Option (List ℕ)) : Type 0 where
   pub turns : List Turn
   pub now : Option Served
   pub stands : StandsFor bench now
-  pub served : AreTurns 1 None turns now
+  pub served : AreTurns form 1 None turns now
   pub count : number ≡ length turns + 1
   pub taken : Consumes input rest (closed turns)
   pub told : Appends old new (answers_in turns)

@@ -9,8 +9,12 @@ ghost use Rattle.hv_text.specs.Audit.{entries_text, entry_text};
 ghost use Rattle.hv_serve.specs.Bench.{IsToldAs, kept_in};
 ghost use Rattle.hv_serve.specs.Outcome.{fault_text};
 ghost use Rattle.hv_serve.specs.Session.{answer_of, end_text, history_of, new_text, table_of, told_of};
+ghost use Rattle.hv_serve.specs.Turned.{closing, greeting};
+ghost use Rattle.hv_serve.specs.declared.form.Form.TheVariants.{Text};
 
 use crate::bench::Bench;
+use crate::form::Form;
+use crate::json::put_json;
 use crate::outcome::Outcome;
 use hv_history::{EntryRef, HostRefused, Kept};
 use hv_run::Failure;
@@ -22,6 +26,8 @@ use std::io::Write;
 // Writes the answer to the line with this number, before which this number of events had happened, and
 // flushes it. Returns the outcome of the line, which is out of memory if there is no memory for the table.
 pub(crate) fn put_answer<W: Write>(
+    alloc: Global,
+    form: Form,
     out: &mut W,
     bench: &Option<Bench>,
     before: usize,
@@ -29,12 +35,43 @@ pub(crate) fn put_answer<W: Write>(
     outcome: Outcome,
 ) -> Result<Outcome, Failure>
     ensures { IfOk result (λ told. IsToldAs outcome told × Appends (W.contents out.old) (W.contents out.new)
-        (answer_of number before told (kept_in bench.now))) }
+        (answer_of form number before told (kept_in bench.now))) }
 {
-    put_new(out, bench, before)?;
-    let told = put_outcome(out, bench, number, outcome)?;
+    let told = put_in(alloc, form, out, bench, before, number, outcome)?;
     out.flush().map_err(|_| Failure::Write)?;
     Ok(told)
+}
+
+fn put_in<W: Write>(
+    alloc: Global,
+    form: Form,
+    out: &mut W,
+    bench: &Option<Bench>,
+    before: usize,
+    number: u64,
+    outcome: Outcome,
+) -> Result<Outcome, Failure>
+    ensures { IfOk result (λ told. IsToldAs outcome told × Appends (W.contents out.old) (W.contents out.new)
+        (answer_of form number before told (kept_in bench.now))) }
+{
+    match form {
+        Form::Text => put_text(out, bench, before, number, outcome),
+        Form::Json => put_json(alloc, out, bench, before, number, outcome),
+    }
+}
+
+fn put_text<W: Write>(
+    out: &mut W,
+    bench: &Option<Bench>,
+    before: usize,
+    number: u64,
+    outcome: Outcome,
+) -> Result<Outcome, Failure>
+    ensures { IfOk result (λ told. IsToldAs outcome told × Appends (W.contents out.old) (W.contents out.new)
+        (answer_of Text number before told (kept_in bench.now))) }
+{
+    put_new(out, bench, before)?;
+    put_outcome(out, bench, number, outcome)
 }
 
 // Returns the number of events.
@@ -47,15 +84,40 @@ pub(crate) fn events_of(bench: &Option<Bench>) -> usize
     }
 }
 
-// Writes the number of events, as an audit ends, and flushes it.
-pub(crate) fn put_end<W: Write>(out: &mut W, bench: &Option<Bench>) -> Result<(), Failure>
-    ensures { OnOk result (Appends (W.contents out.old) (W.contents out.new)
-        (end_text (length (history_of (kept_in bench.now))))) }
+// Writes what comes before all answers, and flushes it.
+pub(crate) fn put_greeting<W: Write>(out: &mut W, form: Form) -> Result<(), Failure>
+    ensures { OnOk result (Appends (W.contents out.old) (W.contents out.new) (greeting form)) }
 {
-    put_bytes(out, b"events ")?;
-    put_decimal(out, events_of(bench) as u64)?;
-    put_bytes(out, b"\n")?;
+    match form {
+        Form::Text => Ok(()),
+        Form::Json => {
+            put_bytes(out, b"{\"program\":\"hvpm\",\"version\":\"0.1.0\"}\n")?;
+            out.flush().map_err(|_| Failure::Write)
+        }
+    }
+}
+
+// Writes the number of events, after all answers, and flushes it.
+pub(crate) fn put_end<W: Write>(
+    out: &mut W,
+    form: Form,
+    bench: &Option<Bench>,
+) -> Result<(), Failure>
+    ensures { OnOk result (Appends (W.contents out.old) (W.contents out.new)
+        (closing form (length (history_of (kept_in bench.now))))) }
+{
+    put_count(out, form, events_of(bench) as u64)?;
     out.flush().map_err(|_| Failure::Write)
+}
+
+#[tactic(auto, unfolding(crate::specs::Session::end_text, crate::specs::Json::end_object))]
+fn put_count<W: Write>(out: &mut W, form: Form, count: u64) -> Result<(), Failure>
+    ensures { OnOk result (Appends (W.contents out.old) (W.contents out.new) (closing form count)) }
+{
+    match form {
+        Form::Text => put_number(out, b"events ", count, b"\n"),
+        Form::Json => put_number(out, b"{\"end\":true,\"events\":", count, b"}\n"),
+    }
 }
 
 // Writes the audit's lines of the events after the first `before`.
@@ -135,23 +197,29 @@ fn put_fault<W: Write>(out: &mut W, number: u64, outcome: Outcome) -> Result<Out
     ensures text { OnOk result (Appends (W.contents out.old) (W.contents out.new)
         (fault_text number outcome)) }
 {
-    put_bytes(out, b"fault: line ")?;
-    put_decimal(out, number)?;
-    put_bytes(out, b": ")?;
+    put_number(out, b"fault: line ", number, b": ")?;
     put_bytes(out, outcome.text().as_bytes())?;
     put_bytes(out, b"\n")?;
     Ok(outcome)
 }
 
-// Writes a number in decimal.
-fn put_decimal<W: Write>(out: &mut W, number: u64) -> Result<(), Failure>
-    ensures { OnOk result (Appends (W.contents out.old) (W.contents out.new) (decimal number)) }
+// Writes a number in decimal, between two texts.
+pub(crate) fn put_number<W: Write>(
+    out: &mut W,
+    before: &[u8],
+    number: u64,
+    after: &[u8],
+) -> Result<(), Failure>
+    ensures { OnOk result (Appends (W.contents out.old) (W.contents out.new)
+        (before.now ++ decimal number ++ after.now)) }
 {
     let mut buffer = Buffer::new();
-    put_bytes(out, buffer.format(number).as_bytes())
+    put_bytes(out, before)?;
+    put_bytes(out, buffer.format(number).as_bytes())?;
+    put_bytes(out, after)
 }
 
-fn put_bytes<W: Write>(out: &mut W, bytes: &[u8]) -> Result<(), Failure>
+pub(crate) fn put_bytes<W: Write>(out: &mut W, bytes: &[u8]) -> Result<(), Failure>
     ensures { OnOk result (Appends (W.contents out.old) (W.contents out.new) bytes.now) }
 {
     out.write_all(bytes).map_err(|_| Failure::Write)

@@ -1,10 +1,12 @@
-// A session compared with a run of a script.
+// A session compared with a run of a script, and its answers in JSON.
 ghost use Rattle.std.specs.Prelude.{◌≡◌, ◌≤◌, ◌++◌, ℕ, List, Option, Some, None, All, length, true, false};
 ghost use Rattle.std.specs.Io.KnownBytes.{Appends};
 ghost use Rattle.hv_run.specs.Written.{HasWritten};
 ghost use Rattle.hv_script.specs.declared.script.TheConstants.{MOST_BYTES as MOST};
+ghost use Rattle.hv_serve.specs.Json.{IsOneLine};
 ghost use Rattle.hv_serve.specs.Law.{IsServed, is_done, script_in, told_in};
 ghost use Rattle.hv_serve.specs.Session.{AreTurns, HasServed, Served, Turn, end_text, history_of};
+ghost use Rattle.hv_serve.specs.declared.form.Form.TheVariants.{Text, Json};
 
 /// A session writes what a serial run writes.
 ///
@@ -13,11 +15,17 @@ ghost use Rattle.hv_serve.specs.Session.{AreTurns, HasServed, Served, Turn, end_
 /// them change nothing. A session in which all lines were done therefore wrote what a serial run of its whole
 /// input writes.
 pub fn a_session_is_a_serial_run()
-    ensures done { (turns : List Turn) (now : Served) → AreTurns 1 None turns (Some now)
+    ensures done { (turns : List Turn) (now : Served) → AreTurns Text 1 None turns (Some now)
         → All (λ turn. IsServed turn.outcome) turns → length (script_in turns) ≤ MOST
         → (old new : Option (List ℕ)) → Appends old new (told_in turns ++ end_text (length now.kept.history))
         → HasWritten (script_in turns) true false old new }
-    ensures whole { (text : List ℕ) (old new : Option (List ℕ)) (session : HasServed (Some text) old new)
+    ensures whole { (text : List ℕ) (old new : Option (List ℕ)) (session : HasServed Text (Some text) old new)
         (now : Served) → session.now ≡ Some now → All (λ turn. is_done turn.outcome ≡ true) session.turns
         → length text ≤ MOST → HasWritten text true false old new }
+{}
+
+/// Each answer in JSON is one line.
+pub fn an_answer_in_json_is_one_line()
+    ensures { (turns : List Turn) (now : Option Served) → AreTurns Json 1 None turns now
+        → All (λ turn. IsOneLine turn.answer) turns }
 {}

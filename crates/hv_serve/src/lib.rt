@@ -3,18 +3,22 @@
 //! [`serve`] reads lines from a reader and writes the answers to a writer, flushed line by line. A line means
 //! what it means in a script. The answer to an action is its lines of the audit. The answer to a line `table`
 //! is the table of partitions. The answer to a line that has a fault, or that the host refuses, is one line
-//! that says why. `specs/Session.antt` defines the answers. [`a_session_is_a_serial_run`] says that the
-//! answers to the lines without fault are the audit of a serial run of these lines as a script.
+//! that says why. In JSON each answer is one line. `specs/Session.antt` and `specs/Json.antt` define the
+//! answers. [`a_session_is_a_serial_run`] says that the answers to the lines without fault are the audit of a
+//! serial run of these lines as a script.
 #![tactic(auto)]
 
 mod answer;
 mod bench;
 mod calls;
+mod form;
 mod input;
+mod json;
 mod laws;
 mod outcome;
 mod session;
 
-pub use laws::a_session_is_a_serial_run;
+pub use form::Form;
+pub use laws::{a_session_is_a_serial_run, an_answer_in_json_is_one_line};
 pub use outcome::Outcome;
 pub use session::serve;

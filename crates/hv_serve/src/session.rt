@@ -1,17 +1,19 @@
 // A session, from its first line to its last.
-ghost use Rattle.std.specs.Prelude.{◌≡◌, ◌≢◌, Option, IfOk, OnOk};
+ghost use Rattle.std.specs.Prelude.{◌≡◌, ◌≢◌, ℕ, List, Option, IfOk, OnOk};
 ghost use Rattle.hv_serve.specs.Bench.{StandsFor};
+ghost use Rattle.hv_serve.specs.Input.{AreKept};
 ghost use Rattle.hv_serve.specs.Session.{HasServed, Served};
-ghost use Rattle.hv_serve.specs.Turned.{HasTurned};
+ghost use Rattle.hv_serve.specs.Turned.{HasTurned, is_silent};
 
-use crate::answer::{events_of, put_answer, put_end};
+use crate::answer::{events_of, put_answer, put_end, put_greeting};
 use crate::bench::{Bench, take_line};
+use crate::form::Form;
 use crate::input::{LineEnd, read_line};
 use hv_run::{Exit, Failure, tell};
 use std::alloc::Global;
 use std::io::{BufReader, Read, Write};
 
-/// Serves the lines of a reader until it ends.
+/// Serves the lines of a reader until it ends, with answers in this form.
 ///
 /// For each line it does what the line asks for, writes the answer and flushes it, and only then reads the
 /// next line. At the end it writes the number of events, as an audit ends. If it ends early, it writes the
@@ -20,18 +22,22 @@ use std::io::{BufReader, Read, Write};
 ///
 /// The answer to a line that has a fault, or that the host refuses, is `fault: line N: TEXT`, and serving
 /// continues.
+///
+/// In JSON the program first names itself in one line. Then each line has an answer of one line, and so has
+/// the number of events.
 pub fn serve<R: Read + Drop, W: Write, E: Write>(
     alloc: Global,
     reader: R,
+    form: Form,
     out: &mut W,
     err: &mut E,
 ) -> Exit
-    ensures served { result ≡ Exit.Done → HasServed (R.remaining reader) (W.contents out.old)
+    ensures served { result ≡ Exit.Done → HasServed form (R.remaining reader) (W.contents out.old)
         (W.contents out.new) }
     ensures no_usage { result ≢ Exit.Usage }
 {
     match BufReader::new(alloc, reader) {
-        Ok(mut reader) => match serve_lines(alloc, &mut reader, out) {
+        Ok(mut reader) => match serve_lines(alloc, &mut reader, form, out) {
             Ok(()) => Exit::Done,
             Err(failure) => tell(failure, err),
         },
@@ -40,14 +46,21 @@ pub fn serve<R: Read + Drop, W: Write, E: Write>(
 }
 
 // Serves the lines of a reader until it ends.
-fn serve_lines<R: Read, W: Write>(alloc: Global, reader: &mut R, out: &mut W) -> Result<(), Failure>
-    ensures { OnOk result (HasServed (R.remaining reader.old) (W.contents out.old) (W.contents out.new)) }
+fn serve_lines<R: Read, W: Write>(
+    alloc: Global,
+    reader: &mut R,
+    form: Form,
+    out: &mut W,
+) -> Result<(), Failure>
+    ensures { OnOk result (HasServed form (R.remaining reader.old) (W.contents out.old)
+        (W.contents out.new)) }
 {
+    put_greeting(out, form)?;
     let mut bench = None;
     let mut line = Vec::new(alloc);
     for number in 1..u64::MAX {
-        if serve_line(alloc, &mut bench, &mut line, number, reader, out)? {
-            return put_end(out, &bench);
+        if serve_line(alloc, &mut bench, &mut line, number, reader, form, out)? {
+            return put_end(out, form, &bench);
         }
     }
     Err(Failure::Unreadable)
@@ -60,15 +73,29 @@ fn serve_line<R: Read, W: Write>(
     line: &mut Vec<u8>,
     number: u64,
     reader: &mut R,
+    form: Form,
     out: &mut W,
 ) -> Result<bool, Failure>
-    ensures { (before : Option Served) → StandsFor bench.old before → IfOk result (λ last. HasTurned number
-        before last bench.new (R.remaining reader.old) (R.remaining reader.new) (W.contents out.old)
+    ensures { (before : Option Served) → StandsFor bench.old before → IfOk result (λ last. HasTurned form
+        number before last bench.new (R.remaining reader.old) (R.remaining reader.new) (W.contents out.old)
         (W.contents out.new)) }
 {
-    let LineEnd { last, lost } = read_line(reader, line)?;
+    let end = read_line(reader, line)?;
     let before = events_of(bench);
-    let outcome = take_line(alloc, bench, line, lost);
-    put_answer(out, bench, before, number, outcome)?;
-    Ok(last)
+    let outcome = take_line(alloc, bench, line, end.lost);
+    if is_silent(form, end, line) {
+        return Ok(end.last);
+    }
+    put_answer(alloc, form, out, bench, before, number, outcome)?;
+    Ok(end.last)
+}
+
+// Returns whether a line has no answer: in JSON, the end of the input after a line feed.
+fn is_silent(form: Form, end: LineEnd, line: &[u8]) -> bool
+    ensures { (bytes : List ℕ) → AreKept bytes line.now end.lost → result ≡ is_silent form end.last bytes }
+{
+    match form {
+        Form::Text => false,
+        Form::Json => end.last && end.lost.is_none() && line.is_empty(),
+    }
 }

@@ -3,7 +3,7 @@
 use crate::sessions::{Flushed, text_of};
 use hv_run::Exit;
 use hv_script::FaultKind;
-use hv_serve::{Outcome, serve};
+use hv_serve::{Form, Outcome, serve};
 use std::alloc::Global;
 use std::io;
 use std::io::{ErrorKind, Read, Write};
@@ -14,9 +14,19 @@ use std::test::Fail;
 type Shown<'a> = (Exit, &'a str, &'a str);
 
 fn assert_shown<R: Read + Drop>(rt: &impl Abort, alloc: Global, reader: R, wanted: Shown<'_>) {
+    assert_shown_as(rt, alloc, reader, Form::Text, wanted);
+}
+
+fn assert_shown_as<R: Read + Drop>(
+    rt: &impl Abort,
+    alloc: Global,
+    reader: R,
+    form: Form,
+    wanted: Shown<'_>,
+) {
     let mut out = Flushed::new(alloc);
     let mut err: Vec<u8> = Vec::new(alloc);
-    let exit = serve(alloc, reader, &mut out, &mut err);
+    let exit = serve(alloc, reader, form, &mut out, &mut err);
     assert_eq!(rt; (exit, text_of(&out.bytes), text_of(&err)), wanted);
 }
 
@@ -41,6 +51,37 @@ fn line_ends(rt: HostRuntime) {
         ),
     );
 }
+
+// In JSON the bytes after the last line feed are a line, unless there are none.
+#[test]
+fn last_lines(rt: HostRuntime) {
+    for (text, wanted) in [
+        ("", JSON_NONE),
+        ("\n", JSON_ONE),
+        ("#", JSON_ONE),
+        ("#\n", JSON_ONE),
+        ("#\n\n", JSON_TWO),
+        ("\n#", JSON_TWO),
+    ] {
+        let wanted = (Exit::Done, wanted, "");
+        assert_shown_as(&rt, rt.alloc(), text.as_bytes(), Form::Json, wanted);
+    }
+}
+
+const JSON_NONE: &str = r#"{"program":"hvpm","version":"0.1.0"}
+{"end":true,"events":0}
+"#;
+
+const JSON_ONE: &str = r#"{"program":"hvpm","version":"0.1.0"}
+{"line":1,"events":[],"fault":null}
+{"end":true,"events":0}
+"#;
+
+const JSON_TWO: &str = r#"{"program":"hvpm","version":"0.1.0"}
+{"line":1,"events":[],"fault":null}
+{"line":2,"events":[],"fault":null}
+{"end":true,"events":0}
+"#;
 
 // A line that is longer than the longest script is refused, and the next one is served. A line of that length
 // is read.
@@ -127,11 +168,13 @@ impl Write for Failing {
 // An answer that cannot be written ends the session.
 #[test]
 fn failed_output(rt: HostRuntime) {
-    for writes in 0..4 {
-        let mut out = Failing { writes };
-        let mut err: Vec<u8> = Vec::new(rt.alloc());
-        let exit = serve(rt.alloc(), SESSION, &mut out, &mut err);
-        assert_eq!(rt; (exit, text_of(&err)), (Exit::Host, "hvpm: write\n"));
+    for (form, most) in [(Form::Text, 4), (Form::Json, 80)] {
+        for writes in 0..most {
+            let mut out = Failing { writes };
+            let mut err: Vec<u8> = Vec::new(rt.alloc());
+            let exit = serve(rt.alloc(), SESSION, form, &mut out, &mut err);
+            assert_eq!(rt; (exit, text_of(&err)), (Exit::Host, "hvpm: write\n"));
+        }
     }
 }
 

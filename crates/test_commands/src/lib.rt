@@ -11,4 +11,6 @@ mod explained;
 #[cfg(test)]
 mod graphs;
 #[cfg(test)]
+mod objects;
+#[cfg(test)]
 mod sessions;

@@ -1,7 +1,7 @@
 // Sessions line by line: the text of each answer, and that each is flushed before the next line is read.
 
 use hv_run::Exit;
-use hv_serve::serve;
+use hv_serve::{Form, serve};
 use std::alloc::Global;
 use std::io;
 use std::io::{ErrorKind, Write};
@@ -53,8 +53,8 @@ fn mark(out: &Flushed, at: usize) -> usize {
     }
 }
 
-// The bytes written between the previous flush and this one.
-fn answer_at(out: &Flushed, at: usize) -> &str {
+/// Returns the text written between the previous flush and this one, counted from 0.
+pub fn answer_at(out: &Flushed, at: usize) -> &str {
     let from = if at == 0 { 0 } else { mark(out, at - 1) };
     text_between(&out.bytes, from, mark(out, at))
 }
@@ -67,18 +67,24 @@ fn text_between(bytes: &[u8], from: usize, to: usize) -> &str {
     }
 }
 
-// Serves these lines, each with its answer. After the last line feed comes an empty line, which has no
-// answer, and then the count.
-fn assert_served(rt: &impl Abort, alloc: Global, lines: &[(&str, &str)], end: &str) {
+/// Serves the lines of these rows, each with a line feed, and returns what was written.
+pub fn serve_rows(rt: &impl Abort, alloc: Global, form: Form, rows: &[(&str, &str)]) -> Flushed {
     let mut text: Vec<u8> = Vec::new(alloc);
-    for (line, _) in lines {
+    for (line, _) in rows {
         assert!(rt; text.extend_from_slice(line.as_bytes()).is_ok());
         assert!(rt; text.push(b'\n').is_ok());
     }
     let mut out = Flushed::new(alloc);
     let mut err: Vec<u8> = Vec::new(alloc);
-    let exit = serve(alloc, text.as_slice(), &mut out, &mut err);
+    let exit = serve(alloc, text.as_slice(), form, &mut out, &mut err);
     assert_eq!(rt; (exit, text_of(&err)), (Exit::Done, ""));
+    out
+}
+
+// Serves these lines, each with its answer. After the last line feed comes an empty line, which has no
+// answer, and then the count.
+fn assert_served(rt: &impl Abort, alloc: Global, lines: &[(&str, &str)], end: &str) {
+    let out = serve_rows(rt, alloc, Form::Text, lines);
     assert_eq!(rt; out.marks.len(), lines.len() + 2);
     for at in 0..lines.len() {
         assert_eq!(rt; answer_at(&out, at), lines[at].1);

@@ -1,15 +1,15 @@
-use Rattle.std.proofs.Common.{◌≡◌, ◌∙◌, codes, decimal, subst}
+use Rattle.std.proofs.Common.{◌≡◌, ◌∙◌, ◌++◌, codes, decimal, subst}
 use Rattle.std.specs.Io.KnownBytes.{Appends}
 use Rattle.hv_serve.specs.Outcome.{fault_text, why_text}
-use Rattle.hv_serve.proofs.Sent.{five}
+use Rattle.hv_serve.proofs.Sent.{three}
 use Rattle.hv_serve.proofs.answer.put_fault.Goals as goal
 
 pub returns-clause-text : goal.returns-clause-text
 unfolding fault_text
 returns-clause-text g c =
-    let fourth = g.W.Write.contents c.put_bytes-2.new.out in
-    let fifth = g.W.Write.contents c.put_bytes-3.new.out in
+    let second = g.W.Write.contents c.put_number.new.out in
+    let third = g.W.Write.contents c.put_bytes.new.out in
     let why : c.as_bytes.result.now ≡ why_text c.args.outcome = c.as_bytes.ensures.value ∙ c.text.ensures in
-    five (g.W.Write.contents c.args.out.now) (g.W.Write.contents c.put_bytes.new.out) (g.W.Write.contents c.put_decimal.new.out) fourth fifth (g.W.Write.contents c.put_bytes-4.new.out)
-    (codes "fault: line ") (decimal c.args.number) (codes ": ") (why_text c.args.outcome) (codes "\n")
-    c.in_ok-put_bytes.ensures c.in_ok-put_decimal.ensures c.in_ok-put_bytes-2.ensures (subst (Appends fourth fifth) why c.in_ok-put_bytes-3.ensures) c.in_ok-put_bytes-4.ensures
+    three (g.W.Write.contents c.args.out.now) second third (g.W.Write.contents c.put_bytes-2.new.out) (codes "fault: line " ++ decimal c.args.number ++ codes ": ") (why_text c.args.outcome)
+    (codes "\n")
+    c.in_ok-put_number.ensures (subst (Appends second third) why c.in_ok-put_bytes.ensures) c.in_ok-put_bytes-2.ensures

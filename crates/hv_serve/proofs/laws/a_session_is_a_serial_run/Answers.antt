@@ -1,6 +1,7 @@
 use Rattle.std.proofs.Common.{subst, length, ◌++◌, None, Option}
 use Rattle.std.specs.Io.KnownBytes.{Appends}
 use Rattle.hv_serve.specs.Session.{AreTurns, Served, answers_in, end_text, history_of, kept_of}
+use Rattle.hv_serve.specs.declared.form.Form.TheVariants.{Text}
 use Rattle.hv_serve.proofs.Law.{serial, whole}
 use Rattle.hv_serve.proofs.laws.a_session_is_a_serial_run.Goals as goal
 
@@ -9,5 +10,5 @@ returns-clause-done c = serial
 
 pub returns-clause-whole : goal.returns-clause-whole
 returns-clause-whole c = λ text old new session now is all most.
-    whole text session.turns now (subst (AreTurns 1 None session.turns) is session.served) all most session.whole old new
+    whole text session.turns now (subst (AreTurns Text 1 None session.turns) is session.served) all most session.whole old new
     (subst (λ (s : Option Served). Appends old new (answers_in session.turns ++ end_text (length (history_of (kept_of s))))) is session.told)

@@ -5,7 +5,7 @@ use Rattle.hv_serve.proofs.Turning.{served_all, serving_next, serving_none}
 use Rattle.hv_serve.proofs.session.serve_lines.Goals as goal
 
 pub loop-number-init : goal.loop-number-init
-loop-number-init g c = serving_none _ _
+loop-number-init g c = serving_none c.args.form _ _
 
 pub loop-number-preserved : goal.loop-number-preserved
 loop-number-preserved g c =
@@ -16,8 +16,8 @@ loop-number-preserved g c =
     let rest = g.R.Read.remaining c.serve_line.new.reader in
     let between = g.W.Write.contents c.loop-number.out in
     let new = g.W.Write.contents c.serve_line.new.out in
-    serving_next number c.loop-number.bench bench (g.R.Read.remaining c.args.reader.now) mid rest (g.W.Write.contents c.args.out.now) between new is
-    (subst (λ (last : Bool). HasTurned number is.now last bench mid rest between new) c.if-branch.false (c.in_ok-serve_line.ensures is.now is.stands))
+    serving_next c.args.form number c.loop-number.bench bench (g.R.Read.remaining c.args.reader.now) mid rest (g.W.Write.contents c.put_greeting.new.out) between new is
+    (subst (λ (last : Bool). HasTurned c.args.form number is.now last bench mid rest between new) c.if-branch.false (c.in_ok-serve_line.ensures is.now is.stands))
 
 pub returns-then-branch : goal.returns-then-branch
 returns-then-branch g c =
@@ -29,6 +29,7 @@ returns-then-branch g c =
     let between = g.W.Write.contents c.loop-number.out in
     let new = g.W.Write.contents c.serve_line.new.out in
     on_ok_weaker c.put_end.result
-    (served_all number c.loop-number.bench bench (g.R.Read.remaining c.args.reader.now) mid rest (g.W.Write.contents c.args.out.now) between new is (g.W.Write.contents c.put_end.new.out)
-    (subst (λ (last : Bool). HasTurned number is.now last bench mid rest between new) c.if-branch.true (c.in_ok-serve_line.ensures is.now is.stands)))
+    (served_all c.args.form number c.loop-number.bench bench (g.R.Read.remaining c.args.reader.now) mid rest (g.W.Write.contents c.put_greeting.new.out) between new is
+    (g.W.Write.contents c.args.out.now) (g.W.Write.contents c.put_end.new.out) c.in_ok-put_greeting.ensures
+    (subst (λ (last : Bool). HasTurned c.args.form number is.now last bench mid rest between new) c.if-branch.true (c.in_ok-serve_line.ensures is.now is.stands)))
     c.put_end.ensures

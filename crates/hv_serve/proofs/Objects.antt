@@ -1,0 +1,139 @@
+-- An answer in JSON is one line.
+use Rattle.std.proofs.Common.{◌≡◌, ◌≢◌, ◌==◌, ◌%◌, ◌/◌, ℕ, zero, suc, ◌+◌, Bool, true, false, not, ◌&&◌, cond, List, [], ◌∷◌, ◌++◌, length, refl, sym, ap, ◌∙◌, subst, arith, append_assoc, codes}
+use Rattle.std.proofs.Common.{decimal, drop, Option, All, nat_lt}
+use Rattle.std.proofs.Common.{Global}
+use Rattle.std.specs.Fmt.{digit_glyph, digits, digits_onto}
+use Rattle.std.specs.List.{list_all}
+use Rattle.std.proofs.lemmas.Bool.{false≢true}
+use Rattle.std.proofs.lemmas.Bool.Decides.{nat_tests}
+use Rattle.std.proofs.lemmas.List.Elements.{All-cons, All-nil}
+use Rattle.std.proofs.lemmas.List.Folds.{list_all-append}
+use Rattle.hv_history.specs.declared.entry.Entry.{Entry}
+use Rattle.hv_text.specs.Audit.{entry_text}
+use Rattle.hv_serve.specs.Json.{IsOneLine, all_escaped, escaped, events_value, fault_value, more_events, object_text, string_of, table_member}
+use Rattle.hv_serve.specs.Outcome.{why_text}
+use Rattle.hv_serve.specs.Session.{AreTurns, Served, Turn, history_of, kept_of, table_of}
+use Rattle.hv_serve.specs.declared.form.Form.TheVariants.{Json}
+use Rattle.hv_serve.specs.declared.outcome.Outcome.{Outcome}
+use Rattle.hv_serve.specs.declared.outcome.Outcome.TheVariants.{Done, Table, Fault, Boot, Host}
+
+abbrev in_line : ℕ → Bool
+in_line byte = not (byte == 10)
+
+-- none of the bytes is a line feed
+abbrev Fits : List ℕ → Type 0
+Fits text = list_all in_line text ≡ true
+
+both : (a b : Bool) → a ≡ true → b ≡ true → (a && b) ≡ true
+both true b first second = second
+both false b first second = absurd (false≢true first)
+
+first_of : (a b : Bool) → (a && b) ≡ true → a ≡ true
+first_of true b is = refl
+first_of false b is = is
+
+second_of : (a b : Bool) → (a && b) ≡ true → b ≡ true
+second_of true b is = is
+second_of false b is = absurd (false≢true is)
+
+join : (a b : List ℕ) → Fits a → Fits b → Fits (a ++ b)
+join a b first second = list_all-append in_line a b ∙ both (list_all in_line a) (list_all in_line b) first second
+
+apart : (byte : ℕ) → in_line byte ≡ true → byte ≢ 10
+apart byte is = λ same. let no : in_line byte ≡ false = ap in_line same in false≢true (sym no ∙ is)
+
+all_apart : (text : List ℕ) → Fits text → All (λ byte. byte ≢ 10) text
+all_apart [] fits = All-nil (λ byte. byte ≢ 10)
+all_apart (byte ∷ text) fits =
+    All-cons (λ byte. byte ≢ 10) byte text (apart byte (first_of (in_line byte) (list_all in_line text) fits)) (all_apart text (second_of (in_line byte) (list_all in_line text) fits))
+
+-- numbers
+glyph_fits : (t : Bool) (d : ℕ) → in_line (cond t (48 + d) (87 + d)) ≡ true
+glyph_fits true d = grind (arith, nat_tests)
+glyph_fits false d = grind (arith, nat_tests)
+
+chosen : (t : Bool) (a b : List ℕ) → Fits a → Fits b → Fits (cond t a b)
+chosen true a b first second = first
+chosen false a b first second = second
+
+digits_fit : (k n : ℕ) (acc : List ℕ) → Fits acc → Fits (digits_onto k 10 false n acc)
+digits_fit zero n acc fits = fits
+digits_fit (suc k) n acc fits =
+    let glyph : ℕ = digit_glyph false (n % 10) in
+    let more : Fits (glyph ∷ acc) = both (in_line glyph) (list_all in_line acc) (glyph_fits (nat_lt (n % 10) 10) (n % 10)) fits in
+    chosen (n / 10 == 0) (glyph ∷ acc) (digits_onto k 10 false (n / 10) (glyph ∷ acc)) more (digits_fit k (n / 10) (glyph ∷ acc) more)
+
+decimal_fits : (n : ℕ) → Fits (decimal n)
+unfolding digits
+decimal_fits n = digits_fit 64 n [] refl
+
+-- strings
+escaped_fits : (byte : ℕ) → Fits (escaped byte)
+escaped_fits byte = at (byte == 10) refl (byte == 34) (byte == 92)
+  where
+    at : (t : Bool) → (byte == 10) ≡ t → (u v : Bool) → Fits (cond t (codes "\\n") (cond u (codes "\\\"") (cond v (codes "\\\\") (byte ∷ []))))
+    at true is u v = refl
+    at false is true v = refl
+    at false is false true = refl
+    at false is false false = both (in_line byte) true (ap not is) refl
+
+all_fit : (text : List ℕ) → Fits (all_escaped text)
+all_fit [] = refl
+all_fit (byte ∷ text) = join (escaped byte) (all_escaped text) (escaped_fits byte) (all_fit text)
+
+string_fits : (text : List ℕ) → Fits (string_of text)
+string_fits text = join (codes "\"" ++ all_escaped text) (codes "\"") (join (codes "\"") (all_escaped text) refl (all_fit text)) refl
+
+more_fit : (number : ℕ) (es : List (Entry Global)) → Fits (more_events number es)
+more_fit number [] = refl
+more_fit number (e ∷ es) =
+    let text : List ℕ = string_of (entry_text number e) in
+    join (codes "," ++ text) (more_events (number + 1) es) (join (codes ",") text refl (string_fits (entry_text number e))) (more_fit (number + 1) es)
+
+events_fit : (number : ℕ) (es : List (Entry Global)) → Fits (events_value number es)
+events_fit number [] = refl
+events_fit number (e ∷ es) = join (string_of (entry_text number e)) (more_events (number + 1) es) (string_fits (entry_text number e)) (more_fit (number + 1) es)
+
+fault_fits : (outcome : Outcome) → Fits (fault_value outcome)
+fault_fits Done = refl
+fault_fits Table = refl
+fault_fits (Fault kind) = string_fits (why_text (Fault kind))
+fault_fits (Boot why) = string_fits (why_text (Boot why))
+fault_fits (Host why) = string_fits (why_text (Host why))
+
+member_fits : (outcome : Outcome) (table : List ℕ) → Fits (table_member outcome table)
+member_fits Done table = refl
+member_fits Table table = join (codes ",\"table\":") (string_of table) refl (string_fits table)
+member_fits (Fault kind) table = refl
+member_fits (Boot why) table = refl
+member_fits (Host why) table = refl
+
+object_one : (number : ℕ) (events : List ℕ) (outcome : Outcome) (table : List ℕ) → Fits events → IsOneLine (object_text number events outcome table)
+unfolding object_text
+object_one number events outcome table fits =
+    let a : List ℕ = codes "{\"line\":" ++ decimal number in
+    let b : List ℕ = a ++ codes ",\"events\":[" in
+    let c : List ℕ = b ++ events in
+    let d : List ℕ = c ++ codes "],\"fault\":" in
+    let e : List ℕ = d ++ fault_value outcome in
+    let f : List ℕ = e ++ table_member outcome table in
+    let a_fits : Fits a = join (codes "{\"line\":") (decimal number) refl (decimal_fits number) in
+    let c_fits : Fits c = join b events (join a (codes ",\"events\":[") a_fits refl) fits in
+    let e_fits : Fits e = join d (fault_value outcome) (join c (codes "],\"fault\":") c_fits refl) (fault_fits outcome) in
+    let f_fits : Fits f = join e (table_member outcome table) e_fits (member_fits outcome table) in
+    record {
+      line = f ++ codes "}";
+      is = sym (append_assoc f (codes "}") (codes "\n"));
+      one = all_apart (f ++ codes "}") (join f (codes "}") f_fits refl);
+    }
+
+-- each answer in JSON is one line
+pub answers_one : (number : ℕ) (before : Option Served) (turns : List Turn) (now : Option Served) → AreTurns Json number before turns now → All (λ turn. IsOneLine turn.answer) turns
+answers_one number before [] now none = All-nil (λ turn. IsOneLine turn.answer)
+answers_one number before (turn ∷ turns) now some =
+    let after = kept_of some.0 in
+    let count = length (history_of (kept_of before)) in
+    let events : List (Entry Global) = drop count (history_of after) in
+    All-cons (λ turn. IsOneLine turn.answer) turn turns
+    (subst IsOneLine (sym some.1.answer) (object_one number (events_value (count + 1) events) turn.outcome (table_of after) (events_fit (count + 1) events)))
+    (answers_one (number + 1) some.0 turns now some.2)

@@ -1,0 +1,69 @@
+-- The answer to a line in JSON.
+use Rattle.std.specs.Prelude.{ℕ, ◌≡◌, ◌≢◌, ◌==◌, ◌+◌, ◌++◌, List, [], ◌∷◌, All, if◌then◌else◌, codes, decimal}
+use Rattle.hv_history.specs.declared.entry.Entry.{Entry}
+use Rattle.hv_text.specs.Audit.{entry_text}
+use Rattle.hv_serve.specs.Outcome.{why_text}
+use Rattle.hv_serve.specs.declared.outcome.Outcome.{Outcome}
+use Rattle.hv_serve.specs.declared.outcome.Outcome.TheVariants.{Done, Table, Fault, Boot, Host}
+
+-- a byte in a string: a line feed, a quotation mark and a backslash are escaped
+abbrev pub escaped : ℕ → List ℕ
+escaped byte =
+    if byte == 10 then codes "\\n"
+    else (if byte == 34 then codes "\\\"" else (if byte == 92 then codes "\\\\" else byte ∷ []))
+
+abbrev pub all_escaped : List ℕ → List ℕ
+all_escaped [] = []
+all_escaped (byte ∷ text) = escaped byte ++ all_escaped text
+
+-- a text as a string
+abbrev pub string_of : List ℕ → List ℕ
+string_of text = codes "\"" ++ all_escaped text ++ codes "\""
+
+-- the audit's lines of entries, numbered from this number on, as strings: each after a comma
+abbrev pub more_events : {A : Type 0} → ℕ → List (Entry A) → List ℕ
+more_events number [] = []
+more_events number (entry ∷ entries) =
+    codes "," ++ string_of (entry_text number entry) ++ more_events (number + 1) entries
+
+-- and with a comma between each two
+abbrev pub events_value : {A : Type 0} → ℕ → List (Entry A) → List ℕ
+events_value number [] = []
+events_value number (entry ∷ entries) =
+    string_of (entry_text number entry) ++ more_events (number + 1) entries
+
+-- why the line wasn't done, or null
+abbrev pub fault_value : Outcome → List ℕ
+fault_value Done = codes "null"
+fault_value Table = codes "null"
+fault_value (Fault kind) = string_of (why_text (Fault kind))
+fault_value (Boot why) = string_of (why_text (Boot why))
+fault_value (Host why) = string_of (why_text (Host why))
+
+-- the member for the table, if the line asks for it
+abbrev pub table_member : Outcome → List ℕ → List ℕ
+table_member Done table = []
+table_member Table table = codes ",\"table\":" ++ string_of table
+table_member (Fault kind) table = []
+table_member (Boot why) table = []
+table_member (Host why) table = []
+
+-- the object that answers the line with this number, with its events, its outcome and the table
+unfoldable pub object_text : ℕ → List ℕ → Outcome → List ℕ → List ℕ
+object_text number events outcome table =
+    codes "{\"line\":" ++ decimal number ++ codes ",\"events\":[" ++ events ++ codes "],\"fault\":"
+    ++ fault_value outcome ++ table_member outcome table ++ codes "}\n"
+
+-- the line before all answers
+abbrev pub greeting_text : List ℕ
+greeting_text = codes "{\"program\":\"hvpm\",\"version\":\"0.1.0\"}\n"
+
+-- the number of events, after all answers
+unfoldable pub end_object : ℕ → List ℕ
+end_object count = codes "{\"end\":true,\"events\":" ++ decimal count ++ codes "}\n"
+
+-- the text is one line
+pub record IsOneLine (text : List ℕ) : Type 0 where
+  pub line : List ℕ
+  pub is : text ≡ line ++ codes "\n"
+  pub one : All (λ byte. byte ≢ 10) line

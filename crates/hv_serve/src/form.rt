@@ -1,0 +1,10 @@
+// The form of the answers.
+
+/// The form of the answers.
+#[derive(Clone, Copy, PartialEq, Eq, Debug)]
+pub enum Form {
+    /// Lines of the audit and of the table. A line may have no answer.
+    Text,
+    /// One line of JSON for each line.
+    Json,
+}

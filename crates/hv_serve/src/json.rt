@@ -1,0 +1,205 @@
+// Writing the answer to a line in JSON.
+ghost use Rattle.std.specs.Prelude.{◌≡◌, ◌+◌, ◌≤◌, ◌<◌, ◌++◌, [], IfOk, OnOk, Some, ℕ, List, codes, drop};
+ghost use Rattle.std.specs.Prelude.{length, if◌then◌else◌};
+ghost use Rattle.std.specs.Io.KnownBytes.{Appends};
+ghost use Rattle.hv_defs.specs.declared.sizes.TheConstants.{REPS_END};
+ghost use Rattle.hv_history.specs.History.{entry_by};
+ghost use Rattle.hv_policy.specs.Parts.{next_in, reply_of};
+ghost use Rattle.hv_text.specs.Audit.{entry_text};
+ghost use Rattle.hv_serve.specs.Bench.{IsToldAs, kept_in};
+ghost use Rattle.hv_serve.specs.Json.{all_escaped, escaped, events_value, fault_value};
+ghost use Rattle.hv_serve.specs.Json.{object_text, string_of, table_member};
+ghost use Rattle.hv_serve.specs.Session.{answer_of, history_of, table_of};
+ghost use Rattle.hv_serve.specs.declared.form.Form.TheVariants.{Json};
+
+use crate::answer::{put_bytes, put_number};
+use crate::bench::Bench;
+use crate::outcome::Outcome;
+use hv_history::{EntryRef, HostRefused, Kept};
+use hv_run::Failure;
+use hv_text::{LINE, Scratch, audit_line, table};
+use std::alloc::Global;
+use std::io::Write;
+
+// Writes the object that answers a line. The table is built in memory first, since it stands behind the
+// fault. Returns the outcome of the line, which is out of memory if there is no memory for the table.
+pub(crate) fn put_json<W: Write>(
+    alloc: Global,
+    out: &mut W,
+    bench: &Option<Bench>,
+    before: usize,
+    number: u64,
+    outcome: Outcome,
+) -> Result<Outcome, Failure>
+    ensures { IfOk result (λ told. IsToldAs outcome told × Appends (W.contents out.old) (W.contents out.new)
+        (answer_of Json number before told (kept_in bench.now))) }
+{
+    let mut table = Vec::new(alloc);
+    let told = take_table(&mut table, bench, outcome);
+    match put_object(out, bench, before, number, told, &table) {
+        Ok(()) => Ok(told),
+        Err(failure) => Err(failure),
+    }
+}
+
+// Adds the table of the current state, if the line asks for it.
+fn take_table(text: &mut Vec<u8>, bench: &Option<Bench>, outcome: Outcome) -> Outcome
+    requires { text.old.items ≡ [] }
+    ensures told { IsToldAs outcome result }
+    ensures text { result ≡ Outcome.Table → text.new.items ≡ table_of (kept_in bench.now) }
+{
+    match outcome {
+        Outcome::Done | Outcome::Fault(_) | Outcome::Boot(_) | Outcome::Host(_) => outcome,
+        Outcome::Table => match bench {
+            None => Outcome::Table,
+            Some(bench) => add_table(text, bench),
+        },
+    }
+}
+
+fn add_table(text: &mut Vec<u8>, bench: &Bench) -> Outcome
+    requires { text.old.items ≡ [] }
+    ensures told { IsToldAs Outcome.Table result }
+    ensures text { result ≡ Outcome.Table → text.new.items ≡ table_of (Some bench.now.kept) }
+{
+    // Proof: the history is a run.
+    let _history = bench.kept.history();
+    match table(text, &bench.kept) {
+        Ok(()) => Outcome::Table,
+        Err(_) => Outcome::Host(HostRefused::Memory),
+    }
+}
+
+// Writes the object that answers a line with this outcome.
+fn put_object<W: Write>(
+    out: &mut W,
+    bench: &Option<Bench>,
+    before: usize,
+    number: u64,
+    outcome: Outcome,
+    table: &[u8],
+) -> Result<(), Failure>
+    ensures { OnOk result (Appends (W.contents out.old) (W.contents out.new) (object_text number
+        (events_value (before + 1) (drop before (history_of (kept_in bench.now)))) outcome table.now)) }
+{
+    put_number(out, b"{\"line\":", number, b",\"events\":[")?;
+    put_events(out, bench, before)?;
+    put_bytes(out, b"],\"fault\":")?;
+    put_why(out, outcome)?;
+    put_table(out, outcome, table)?;
+    put_bytes(out, b"}\n")
+}
+
+// Writes the events after the first `before`.
+fn put_events<W: Write>(out: &mut W, bench: &Option<Bench>, before: usize) -> Result<(), Failure>
+    ensures { OnOk result (Appends (W.contents out.old) (W.contents out.new)
+        (events_value (before + 1) (drop before (history_of (kept_in bench.now))))) }
+{
+    match bench {
+        None => Ok(()),
+        Some(bench) => put_entries(out, &bench.kept, before),
+    }
+}
+
+fn put_entries<W: Write>(out: &mut W, kept: &Kept<Global>, before: usize) -> Result<(), Failure>
+    ensures { OnOk result (Appends (W.contents out.old) (W.contents out.new)
+        (events_value (before + 1) (drop before kept.now.history))) }
+{
+    // Proof: a history's length fits 32 bits.
+    let _limit = kept.limit();
+    let history = kept.history();
+    for at in before..history.len() {
+        put_entry(out, at == before, at as u64 + 1, &history.entry(at))?;
+    }
+    Ok(())
+}
+
+// Writes the audit's line of the event with this number, after a comma unless it is the first.
+fn put_entry<W: Write>(
+    out: &mut W,
+    first: bool,
+    number: u64,
+    entry: &EntryRef<'_>,
+) -> Result<(), Failure>
+    requires most { length entry.now.output.now ≤ 256 }
+    requires index { next_in (reply_of entry.now.answer []) < REPS_END }
+    ensures { OnOk result (Appends (W.contents out.old) (W.contents out.new)
+        ((if first then [] else codes ",")
+        ++ string_of (entry_text number (entry_by {A = Global} entry.now)))) }
+{
+    let mut scratch = Scratch::new();
+    let mut buffer = [0; LINE];
+    let len = audit_line::<Global>(&mut scratch, &mut buffer, number, entry);
+    put_bytes(out, comma(first).as_bytes())?;
+    put_string(out, unended(&buffer[..len]))
+}
+
+// Returns a line without its line feed.
+fn unended(line: &[u8]) -> &[u8]
+    ensures { (text : List ℕ) → line.now ≡ text ++ codes "\n" → result.now ≡ text }
+{
+    &line[..line.len().saturating_sub(1)]
+}
+
+// Returns what stands before an element of a list.
+fn comma(first: bool) -> &'static str
+    ensures { result.now ≡ (if first then [] else codes ",") }
+{
+    if first { "" } else { "," }
+}
+
+// Writes why the line wasn't done, or `null`.
+fn put_why<W: Write>(out: &mut W, outcome: Outcome) -> Result<(), Failure>
+    ensures { OnOk result (Appends (W.contents out.old) (W.contents out.new) (fault_value outcome)) }
+{
+    match outcome {
+        Outcome::Done | Outcome::Table => put_bytes(out, b"null"),
+        Outcome::Fault(_) | Outcome::Boot(_) | Outcome::Host(_) => {
+            put_string(out, outcome.text().as_bytes())
+        }
+    }
+}
+
+// Writes the member for the table, if the line asks for it.
+fn put_table<W: Write>(out: &mut W, outcome: Outcome, table: &[u8]) -> Result<(), Failure>
+    ensures { OnOk result (Appends (W.contents out.old) (W.contents out.new)
+        (table_member outcome table.now)) }
+{
+    match outcome {
+        Outcome::Done | Outcome::Fault(_) | Outcome::Boot(_) | Outcome::Host(_) => Ok(()),
+        Outcome::Table => {
+            put_bytes(out, b",\"table\":")?;
+            put_string(out, table)
+        }
+    }
+}
+
+// Writes a text as a string.
+fn put_string<W: Write>(out: &mut W, text: &[u8]) -> Result<(), Failure>
+    ensures { OnOk result (Appends (W.contents out.old) (W.contents out.new) (string_of text.now)) }
+{
+    put_bytes(out, b"\"")?;
+    put_escaped(out, text)?;
+    put_bytes(out, b"\"")
+}
+
+fn put_escaped<W: Write>(out: &mut W, text: &[u8]) -> Result<(), Failure>
+    ensures { OnOk result (Appends (W.contents out.old) (W.contents out.new) (all_escaped text.now)) }
+{
+    for at in 0..text.len() {
+        put_byte(out, text[at])?;
+    }
+    Ok(())
+}
+
+// Writes a byte of a string.
+fn put_byte<W: Write>(out: &mut W, byte: u8) -> Result<(), Failure>
+    ensures { OnOk result (Appends (W.contents out.old) (W.contents out.new) (escaped byte)) }
+{
+    match byte {
+        b'\n' => put_bytes(out, b"\\n"),
+        b'"' => put_bytes(out, b"\\\""),
+        b'\\' => put_bytes(out, b"\\\\"),
+        _ => put_bytes(out, &[byte]),
+    }
+}

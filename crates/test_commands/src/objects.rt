@@ -1,0 +1,105 @@
+// Sessions in JSON: the text of each answer, one line for each line of input.
+
+use crate::sessions::{Flushed, answer_at, serve_rows};
+use hv_serve::Form;
+use std::alloc::Global;
+use std::process::Abort;
+
+const GREETING: &str = r#"{"program":"hvpm","version":"0.1.0"}"#;
+
+// Serves these lines, each with its answer without the line feed. The greeting comes first, and then each
+// answer, flushed one by one.
+fn assert_json(rt: &impl Abort, alloc: Global, rows: &[(&str, &str)], end: &str) {
+    let out = serve_rows(rt, alloc, Form::Json, rows);
+    assert_eq!(rt; out.marks.len(), rows.len() + 2);
+    assert_line(rt, &out, 0, GREETING);
+    for at in 0..rows.len() {
+        assert_line(rt, &out, at + 1, rows[at].1);
+    }
+    assert_line(rt, &out, rows.len() + 1, end);
+}
+
+// What was written before this flush is one line, with this text.
+fn assert_line(rt: &impl Abort, out: &Flushed, at: usize, wanted: &str) {
+    assert_eq!(rt; answer_at(out, at).strip_suffix('\n'), Some(wanted));
+}
+
+// Each line has one answer: lines that do nothing, faults, tables, and events.
+#[test]
+fn one_answer_for_each_line(rt: HostRuntime) {
+    let rows = [
+        ("", r#"{"line":1,"events":[],"fault":null}"#),
+        ("# \u{e9} \"", r#"{"line":2,"events":[],"fault":null}"#),
+        ("table", r#"{"line":3,"events":[],"fault":"no boot"}"#),
+        (
+            "boot 32 33 1 0 9",
+            r#"{"line":4,"events":[],"fault":"boot refused: pool"}"#,
+        ),
+        (
+            "boot 32 12 1 0x000000f700000044 9",
+            r#"{"line":5,"events":[],"fault":null}"#,
+        ),
+        ("phase", r#"{"line":6,"events":[],"fault":null}"#),
+        (
+            "1.0 call 0x46 0 0 -",
+            "{\"line\":7,\"events\":[\"1 1.0 call 0000000000000046 ok 0000000000000000 0100000000000000\"],\
+             \"fault\":null}",
+        ),
+        (
+            "1.0 call 0x46 0 0",
+            r#"{"line":8,"events":[],"fault":"word count"}"#,
+        ),
+        (
+            "1.1 interrupt",
+            r#"{"line":9,"events":["2 1.1 interrupt fault P3"],"fault":null}"#,
+        ),
+        ("\"", r#"{"line":10,"events":[],"fault":"bad processor"}"#),
+        (
+            "table",
+            "{\"line\":11,\"events\":[],\"fault\":null,\"table\":\"partition 1 parent - Active mask 000000f\
+             700000044 loose 20 pooled 12 inuse 4 vps 1 ports 0 connections 0\\npages 32\\n\"}",
+        ),
+        ("table 1", r#"{"line":12,"events":[],"fault":"word count"}"#),
+    ];
+    assert_json(&rt, rt.alloc(), &rows, r#"{"end":true,"events":2}"#);
+}
+
+// The elements of a rep call are in one answer, also those before the history is full.
+#[test]
+fn rep_calls(rt: HostRuntime) {
+    let rows = [
+        (
+            "boot 32 12 1 0x000000f700000044 6",
+            r#"{"line":1,"events":[],"fault":null}"#,
+        ),
+        (
+            "1.0 call 0x40 0 0 -",
+            "{\"line\":2,\"events\":[\"1 1.0 call 0000000000000040 ok 0000000000000000 0200000000000000\"],\
+             \"fault\":null}",
+        ),
+        (
+            "1.0 call 0x0000000300000048 0 0 02000000000000000c000000000000000d000000000000000e000000000000\
+             00",
+            "{\"line\":3,\"events\":[\"2 1.0 call 0000000300000048 more 0000000100000000 -\",\"3 1.0 call 0\
+             001000300000048 more 0000000200000000 -\",\"4 1.0 call 0002000300000048 ok 0000000300000000 -\
+             \"],\"fault\":null}",
+        ),
+        (
+            "1.0 call 0x0000000300000049 0 0 0200000000000000",
+            "{\"line\":4,\"events\":[\"5 1.0 call 0000000300000049 more 0000000100000000 0c00000000000000\"\
+             ,\"6 1.0 call 0001000300000049 more 0000000200000000 0d00000000000000\"],\"fault\":\"history f\
+             ull\"}",
+        ),
+        (
+            "1.0 interrupt",
+            r#"{"line":5,"events":[],"fault":"history full"}"#,
+        ),
+    ];
+    assert_json(&rt, rt.alloc(), &rows, r#"{"end":true,"events":6}"#);
+}
+
+// A session without a boot line has no events.
+#[test]
+fn no_boot(rt: HostRuntime) {
+    assert_json(&rt, rt.alloc(), &[], r#"{"end":true,"events":0}"#);
+}
