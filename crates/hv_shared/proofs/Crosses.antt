@@ -63,7 +63,7 @@ module _ (T : RattleType) (g : Ledger.Ghosts T.Denot) where
   held-send =
       view_send (InHeld.the_row T g) _ _ _ _
       (recorded_send (InHeld.the_field T g).row _ _ (InHeld.the_type T g).to_one
-      (struct_send (shape (InHeld.the_type T g)) (kept-send, (book.the_send T g, tt))))
+      (struct_send (shape (InHeld.the_type T g)) (kept-send, (book.the_send T g, (search (crosses, sendable) depth 60 fits 20000, tt)))))
 
   pub shared-sync : IsSync (Shared.the_row T g)
   shared-sync =

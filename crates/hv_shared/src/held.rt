@@ -17,10 +17,9 @@ ghost use Rattle.hv_shared.specs.Pass.{HasReceipt, IsAsBefore};
 ghost use Rattle.hv_shared.specs.Receipts.{list_of};
 ghost use Rattle.hv_shared.specs.Shared.{AreOpened};
 
-use crate::drive::MOST_IN_A_HOLD;
 use crate::receipts::Receipts;
 use hv_abi::{Bytes, Frame};
-use hv_history::{Answer, HostRefused, Kept, RunAnswered, RunDone};
+use hv_history::{HostRefused, Kept, RunAnswered, RunDone};
 use hv_policy::{Action, Caller, Event, Output, Reply};
 use std::alloc::{AllocError, Global};
 use std::marker::Model;
@@ -67,6 +66,8 @@ impl<L: Ledger> Model for Pass<L> {
 pub struct Held<L: Ledger> {
     kept: Kept<Global>,
     count: Book<L>,
+    // The output of the last event, and room for the next one's.
+    output: Output,
 }
 
 impl<L: Ledger> Model for Held<L> {
@@ -161,13 +162,12 @@ impl<L: Ledger> Pass<L> {
         ensures { IfOk result (λ pass. (pass.caller ≡ caller) × (pass.receipts ≡ []) × (pass.share ≡ 0)) }
     {
         let receipts = Box::new(alloc, Receipts::new(alloc))?;
-        let spare = Vec::with_capacity(alloc, MOST_IN_A_HOLD as usize)?;
         Ok(Pass {
             caller,
             receipts,
             share,
             copies: Vec::new(alloc),
-            spare,
+            spare: Vec::new(alloc),
         })
     }
 
@@ -205,11 +205,18 @@ impl<L: Ledger> Held<L> {
             };
             passes.push_reserved(pass);
         }
-        Ok((Held { kept, count }, passes))
+        let held = Held {
+            kept,
+            count,
+            output: Output::new(),
+        };
+        Ok((held, passes))
     }
 
     /// Applies an event by the pass's caller and keeps its receipt, for which there is room. The copy is
     /// equal to the event, and becomes the receipt's.
+    // Inlined: messages in bench/largest.sh.
+    #[inline(always)]
     pub fn hold(
         &mut self,
         pass: &mut Pass<L>,
@@ -240,43 +247,16 @@ impl<L: Ledger> Held<L> {
         ensures result { (frame : Frame Global) → event.what ≡ Hypercall frame → IfOk result HasResult }
         ensures next { IfOk result (λ r. GoesOn event.what r) }
     {
-        let mut output = Output::new();
-        match self.answer(pass, event, copy, &mut output) {
-            Ok(answer) => Ok(Reply::of(answer, output.as_slice())),
-            Err(why) => Err(why),
-        }
-    }
-
-    // Applies an event as `hold` does, and returns the answer. The output replaces what `output` has.
-    // Inlined: messages in bench/largest.sh.
-    #[inline(always)]
-    pub(crate) fn answer(
-        &mut self,
-        pass: &mut Pass<L>,
-        event: Event<Global>,
-        copy: Event<Global>,
-        output: &mut Output,
-    ) -> Result<Answer, HostRefused>
-        requires by { event.by ≡ pass.old.caller }
-        requires copy { copy ≡ event }
-        requires room { 1 ≤ pass.old.room }
-        ensures held { IfOk result (λ answer. HasHeldOne event (reply_of answer output.new) self.old self.new
-            pass.old pass.new) }
-        ensures run { IsRun self.new.kept }
-        ensures full { IsErrOf result HostRefused.HistoryFull
-            ↔ (length self.old.kept.history ≡ self.old.kept.limit) }
-        ensures refused { OnErr result (self.new ≡ self.old) }
-        ensures pass { OnErr result (pass.new ≡ pass.old) }
-    {
-        output.clear();
-        match self.kept.answer(event, output) {
+        self.output.clear();
+        match self.kept.answer(event, &mut self.output) {
             Ok((answer, _)) => {
                 self.count.add(&mut pass.share, 1);
                 // proof: a history's length fits 32 bits.
                 let _limit = self.kept.limit();
                 let number = self.kept.history().len() as u32;
-                pass.receipts.push(number, copy, answer, output.as_slice());
-                Ok(answer)
+                let output = self.output.as_slice();
+                pass.receipts.push(number, copy, answer, output);
+                Ok(Reply::of(answer, output))
             }
             Err(why) => Err(why),
         }
@@ -287,6 +267,8 @@ impl<L: Ledger> Held<L> {
     /// start index, then at each next one, up to `most` of them or to the last element. There is only one for
     /// a simple call, or if P4 or P5 denies the frame. The copies of the elements that happen become the
     /// receipts'.
+    // Inlined: calls for the own id in bench/largest.sh.
+    #[inline(always)]
     pub fn hold_run(
         &mut self,
         pass: &mut Pass<L>,
@@ -306,42 +288,11 @@ impl<L: Ledger> Held<L> {
         ensures full { IfErr result.last (λ why. (why ≡ HostRefused.HistoryFull)
             ↔ (length self.new.kept.history ≡ self.new.kept.limit)) }
     {
-        let mut output = Output::new();
-        let RunAnswered { events, last } = self.answer_run(pass, frame, copies, most, &mut output);
-        let last = match last {
-            Ok(answer) => Ok(Reply::of(answer, output.as_slice())),
-            Err(why) => Err(why),
-        };
-        RunDone { events, last }
-    }
-
-    // Applies elements of a call as `hold_run` does, and returns the answer to the last. Its output replaces
-    // what `output` has.
-    // Inlined: calls for the own id in bench/largest.sh.
-    #[inline(always)]
-    pub(crate) fn answer_run(
-        &mut self,
-        pass: &mut Pass<L>,
-        frame: Frame<Global>,
-        copies: Vec<Event<Global>>,
-        most: u32,
-        output: &mut Output,
-    ) -> RunAnswered
-        requires some { 0 < most }
-        requires copies { AreCopies pass.old.caller frame most copies.items }
-        requires room { vec_len copies ≤ pass.old.room }
-        ensures held { HasHeld self.old self.new pass.old pass.new }
-        ensures ran { IfOk result.last (λ answer. HasRun pass.old.caller frame (reply_of answer output.new)
-            result.events most self.old.kept self.new.kept) }
-        ensures stopped { OnErr result.last (HasStopped pass.old.caller frame result.events most self.old.kept
-            self.new.kept) }
-        ensures run { IsRun self.new.kept }
-        ensures full { IfErr result.last (λ why. (why ≡ HostRefused.HistoryFull)
-            ↔ (length self.new.kept.history ≡ self.new.kept.limit)) }
-    {
         let from = self.kept.history().len();
-        let done = self.kept.answer_run(pass.caller, frame, most, output);
-        self.count.add(&mut pass.share, u64::from(done.events));
+        let RunAnswered { events, last } = self
+            .kept
+            .answer_run(pass.caller, frame, most, &mut self.output);
+        self.count.add(&mut pass.share, u64::from(events));
         // proof: a history's length fits 32 bits.
         let _limit = self.kept.limit();
         let mut copies = copies;
@@ -349,7 +300,11 @@ impl<L: Ledger> Held<L> {
         pass.receipts.push_all(self.kept.history(), from, first);
         spare_lists(&mut copies, &mut pass.spare);
         pass.copies = copies;
-        done
+        let last = match last {
+            Ok(answer) => Ok(Reply::of(answer, self.output.as_slice())),
+            Err(why) => Err(why),
+        };
+        RunDone { events, last }
     }
 
     fn into_parts(self) -> (Kept<Global>, Book<L>)
@@ -360,8 +315,12 @@ impl<L: Ledger> Held<L> {
     }
 }
 
-// Takes the copies that no receipt took apart, and keeps their input lists as far as there is room.
+// Takes the copies that no receipt took apart, and keeps their input lists. Without room for them, they are
+// freed.
 fn spare_lists(copies: &mut Vec<Event<Global>>, spare: &mut Vec<Bytes<Global>>) {
+    if spare.reserve(copies.len()).is_err() {
+        return;
+    }
     while let Some(copy) = copies.pop() {
         if let Action::Hypercall(frame) = copy.what {
             if spare.len() < spare.capacity() {

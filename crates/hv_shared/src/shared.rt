@@ -13,8 +13,8 @@ use crate::drive::{DriveRefused, MOST_IN_A_HOLD, prepare};
 use crate::gate::Gate;
 use crate::held::{Held, Pass, Rest};
 use hv_abi::{Frame, InputValue, ResultValue, restarted};
-use hv_history::{Answer, HostRefused, Kept, next_of};
-use hv_policy::{Action, Caller, Config, Event, Output, Reply, result_value};
+use hv_history::{HostRefused, Kept, RunDone, next_of};
+use hv_policy::{Action, Caller, Config, Event, Reply, result_value};
 use std::alloc::Global;
 use std::marker::Model;
 use std::sync::ledger::{Blank, Ledger};
@@ -100,29 +100,6 @@ impl<L: Ledger> Shared<L> {
         ensures result { (frame : CallFrame Global) → what ≡ Hypercall frame → IfOk result HasResult }
         ensures next { IfOk result (λ r. GoesOn what r) }
     {
-        let mut output = Output::new();
-        match self.answer(rt, pass, gate, what, &mut output) {
-            Ok(answer) => Ok(Reply::of(answer, output.as_slice())),
-            Err(why) => Err(why),
-        }
-    }
-
-    // Applies one event as `call` does, and returns the answer. The output replaces what `output` has.
-    fn answer<R: Wait, G: Gate>(
-        &self,
-        rt: &R,
-        pass: &mut Pass<L>,
-        gate: &G,
-        what: Action<Global>,
-        output: &mut Output,
-    ) -> Result<Answer, HostRefused>
-        ensures called { IfOk result (λ answer. HasCalled what (reply_of answer output.new) pass.old
-            pass.new) }
-        ensures refused { OnErr result (IsAsBefore pass.old pass.new) }
-        ensures result { (frame : CallFrame Global) → what ≡ Hypercall frame
-            → IfOk result (λ answer. HasResult (reply_of answer output.new)) }
-        ensures next { IfOk result (λ answer. GoesOn what (reply_of answer output.new)) }
-    {
         let by = pass.caller();
         let event = Event { by, what };
         let Ok(copy) = event.copy() else {
@@ -133,7 +110,7 @@ impl<L: Ledger> Shared<L> {
         }
         let turn = pass.receipts().len() as u64;
         gate.enter(rt, by, turn);
-        let told = self.held.lock(rt).answer(pass, event, copy, output);
+        let told = self.held.lock(rt).hold(pass, event, copy);
         gate.leave(rt, by, turn);
         told
     }
@@ -165,26 +142,6 @@ impl<L: Ledger> Shared<L> {
         ensures driven { IfOk result (λ r. HasDriven frame r.0 r.1 pass.old pass.new) }
         ensures refused { IfErr result (λ e. HasStopped frame e.next pass.old pass.new) }
     {
-        let mut output = Output::new();
-        match self.answer_call(rt, pass, gate, frame, &mut output) {
-            Ok((value, answer)) => Ok((value, Reply::of(answer, output.as_slice()))),
-            Err(refused) => Err(refused),
-        }
-    }
-
-    // Drives a hypercall as `drive` does, and returns its result value and the answer to its last event. The
-    // output of that event replaces what `output` has.
-    fn answer_call<R: Wait, G: Gate>(
-        &self,
-        rt: &R,
-        pass: &mut Pass<L>,
-        gate: &G,
-        frame: Frame<Global>,
-        output: &mut Output,
-    ) -> Result<(ResultValue, Answer), DriveRefused>
-        ensures driven { IfOk result (λ r. HasDriven frame r.0 (reply_of r.1 output.new) pass.old pass.new) }
-        ensures refused { IfErr result (λ e. HasStopped frame e.next pass.old pass.new) }
-    {
         let mut frame = frame;
         loop {
             let rcx = frame.rcx;
@@ -197,23 +154,24 @@ impl<L: Ledger> Shared<L> {
             };
             let turn = pass.receipts().len() as u64;
             gate.enter(rt, pass.caller(), turn);
-            let done = self
+            let RunDone { events, last } = self
                 .held
                 .lock(rt)
-                .answer_run(pass, frame, copies, MOST_IN_A_HOLD, output);
+                .hold_run(pass, frame, copies, MOST_IN_A_HOLD);
             gate.leave(rt, pass.caller(), turn);
-            let answer = match done.last {
-                Ok(answer) => answer,
+            let reply = match last {
+                Ok(reply) => reply,
                 Err(why) => {
                     return Err(DriveRefused {
                         why,
-                        next: start + done.events as u16,
+                        next: start + events as u16,
                     });
                 }
             };
+            let (answer, _) = reply.parts();
             let Some(next) = next_of(answer) else {
-                let last = restarted(rcx, start + done.events as u16 - 1);
-                return Ok((result_value::<Global>(last, answer), answer));
+                let last = restarted(rcx, start + events as u16 - 1);
+                return Ok((result_value::<Global>(last, answer), reply));
             };
             let Some(left) = left else { unreachable!() };
             frame = left.with_start(next);

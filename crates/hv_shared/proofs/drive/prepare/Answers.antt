@@ -1,6 +1,5 @@
 use Rattle.std.proofs.Common.{rules, ◌≡◌, ◌+◌, ◌<◌, ◌++◌, ◌∷◌, [], ◌∙◌, ℕ, ap, sym, subst, length, vec_len, Global}
 use Rattle.hv_abi.specs.CallRow.{kind_of}
-use Rattle.hv_abi.specs.declared.frame.Frame.{Frame}
 use Rattle.hv_abi.specs.declared.input_value.InputValue.{InputValue}
 use Rattle.hv_defs.specs.Bits.{bits}
 use Rattle.hv_history.specs.Run.{element, restart, start_of}

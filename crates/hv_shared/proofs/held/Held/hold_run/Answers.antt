@@ -10,7 +10,7 @@ use Rattle.hv_shared.proofs.Holding.{gained, held, tail_is}
 use Rattle.hv_shared.proofs.Copies.{first_copy, some_copies}
 use Rattle.hv_shared.proofs.Packed.{some_more}
 use Rattle.hv_shared.proofs.Numbers.{count, owned}
-use Rattle.hv_shared.proofs.held.Held.answer_run.Goals as goal
+use Rattle.hv_shared.proofs.held.Held.hold_run.Goals as goal
 
 pub swap_remove-first-requires : goal.swap_remove-first-requires
 swap_remove-first-requires g c =
@@ -20,7 +20,7 @@ swap_remove-first-requires g c =
 
 pub push_all-requires : goal.push_all-requires
 push_all-requires g c =
-    let run = c.answer_run-done in
+    let run = c.answer_run-events in
     let are = rw (sym c.pass.view_is) at c.requires.copies in
     let is = gained _ _ _ _ c.self.inside.kept run.new.self c.args.copies.items run.ensures.run are run.result.last (λ answer. reply_of answer run.new.output) run.ensures.ran run.ensures.stopped in
     let history = c.history-2.ensures.list ∙ is.history in
@@ -43,7 +43,7 @@ push_all-requires g c =
 
 pub invariant_of-self : goal.invariant_of-self
 invariant_of-self g c =
-    let run = c.answer_run-done in
+    let run = c.answer_run-events in
     let are = rw (sym c.pass.view_is) at c.requires.copies in
     let is = gained _ _ _ _ c.self.inside.kept run.new.self c.args.copies.items run.ensures.run are run.result.last (λ answer. reply_of answer run.new.output) run.ensures.ran run.ensures.stopped in
     let all = ap length is.history in
@@ -54,7 +54,7 @@ invariant_of-self g c =
 
 pub invariant_of-pass : goal.invariant_of-pass
 invariant_of-pass g c =
-    let run = c.answer_run-done in
+    let run = c.answer_run-events in
     let are = rw (sym c.pass.view_is) at c.requires.copies in
     let is = gained _ _ _ _ c.self.inside.kept run.new.self c.args.copies.items run.ensures.run are run.result.last (λ answer. reply_of answer run.new.output) run.ensures.ran run.ensures.stopped in
     let n = c.len-from.result + 1 in
@@ -67,7 +67,7 @@ invariant_of-pass g c =
 
 pub returns-clause-held : goal.returns-clause-held
 returns-clause-held g c =
-    let run = c.answer_run-done in
+    let run = c.answer_run-events in
     let are = rw (sym c.pass.view_is) at c.requires.copies in
     let is = gained _ _ _ _ c.self.inside.kept run.new.self c.args.copies.items run.ensures.run are run.result.last (λ answer. reply_of answer run.new.output) run.ensures.ran run.ensures.stopped in
     let all = entries c.history-2.result.now in
